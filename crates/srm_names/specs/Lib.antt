@@ -1,0 +1,6 @@
+pub mod FullName
+pub mod Histories
+pub mod Names
+pub mod NameOrder
+pub mod PageFeeds
+pub mod Examples

@@ -1,0 +1,28 @@
+//! The limits of a session, in one place.
+
+/// Members of a session. They have the numbers from 0 to one below this.
+pub const MEMBERS: u8 = 32;
+
+/// Pages in one member's table.
+pub const PAGES: u8 = 8;
+
+/// Drawops of a stream. They have the numbers from 1 to this.
+pub const DRAWOPS: u32 = 65_536;
+
+/// Bytes of a body, at most.
+pub const BODY: u16 = 1_024;
+
+/// The greatest moment, in microseconds: 2^48.
+pub const MOMENT: u64 = 281_474_976_710_656;
+
+/// Messages that a lane holds.
+pub const LANE_MESSAGES: u32 = 64;
+
+/// Strokes that the well holds.
+pub const WELL_STROKES: u32 = 64;
+
+/// Pens that write into the well.
+pub const PENS: u8 = 4;
+
+/// Viewers of the board, at most.
+pub const VIEWERS: u8 = 8;

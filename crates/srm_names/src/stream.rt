@@ -1,0 +1,11 @@
+//! Streams.
+
+use crate::member::Member;
+use crate::page::Page;
+
+/// The drawops of one source on one page.
+#[derive(Clone, Copy, Debug, PartialEq, Eq, PartialOrd, Ord)]
+pub struct Stream {
+    pub source: Member,
+    pub page: Page,
+}
