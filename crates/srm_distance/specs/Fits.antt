@@ -1,0 +1,16 @@
+-- What is kept fits a list of calls: it is what the definitions say of them.
+use Rattle.std.specs.Prelude.{◌≡◌, ℕ, ◌<◌, List, [], ◌∷◌, ◌++◌, length, Some, slice_get}
+use Rattle.srm_names.specs.declared.limits.TheConstants.{MEMBERS}
+use Rattle.srm_distance.specs.Calls.{Call}
+use Rattle.srm_distance.specs.Peers.{peer_of}
+use Rattle.srm_distance.specs.Content.{Content}
+
+pub record Fits (me : ℕ) (calls : List Call) (d : Content) : Type 0 where
+  pub me_is : d.me ≡ me
+  pub size : length d.peers ≡ MEMBERS
+  pub each : (b : ℕ) → b < MEMBERS → slice_get d.peers b ≡ Some (peer_of calls b)
+
+-- one more call: whose distances these are stays, and what fitted the calls so far fits them with this one
+pub record Adds (call : Call) (old new : Content) : Type 0 where
+  pub me_stays : new.me ≡ old.me
+  pub fits : (me : ℕ) (calls : List Call) → Fits me calls old → Fits me (calls ++ call ∷ []) new

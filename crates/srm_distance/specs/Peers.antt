@@ -1,0 +1,13 @@
+-- What is kept of one member.
+use Rattle.std.specs.Prelude.{ℕ, List, if◌then◌else◌, Option, None, option_map}
+use Rattle.srm_names.specs.declared.echo.Echo.{Echo}
+use Rattle.srm_distance.specs.declared.peer.Peer.{Peer}
+use Rattle.srm_distance.specs.Calls.{Call}
+use Rattle.srm_distance.specs.Distance.{newest}
+use Rattle.srm_distance.specs.Echoes.{latest, is_forgotten, echo_of}
+
+abbrev pub peer_of : List Call → ℕ → Peer
+peer_of calls b = record { returned = newest calls b; report = latest calls b; forgotten = is_forgotten calls b }
+
+abbrev pub echo_at : ℕ → ℕ → Peer → Option Echo
+echo_at now b peer = if peer.forgotten then None else option_map (echo_of now b) peer.report

@@ -1,0 +1,114 @@
+//! Distances and echoes, by the session messages heard so far.
+
+ghost use Rattle.std.specs.Prelude.{◌≡◌, ◌≢◌, ◌≤◌, ◌<◌, ◌↔◌, ℕ, List, [], ◌∷◌, ◌++◌, IfOk, IfSome};
+ghost use Rattle.srm_distance.specs.Calls.{Call, Heard, Forgot};
+ghost use Rattle.srm_distance.specs.Distance.{distance};
+ghost use Rattle.srm_distance.specs.Echoes.{echo_to, echoes_due, AreSpellable, CanBeSent};
+ghost use Rattle.srm_distance.specs.Fits.{Fits, Adds};
+
+use crate::limits::LONGEST_DISTANCE;
+use crate::peer::Peer;
+use srm_names::{Echo, MEMBERS, MOMENT, Member};
+use std::alloc::{AllocError, Global};
+use std::marker::Model;
+
+/// What a member knows of the others by their session messages. All moments, times and distances are in
+/// microseconds; a moment is that of this member's own clock, but for the moment at which another member sent.
+#[derive(Debug, Drop)]
+pub struct Distances {
+    me: Member,
+    peers: [Peer; MEMBERS as usize],
+}
+
+impl Model for Distances {
+    ghost use Rattle.srm_distance.specs.Content.{Content, content_of, AreSentWithin};
+
+    ghost Value = { Content };
+
+    ghost view = { content_of };
+
+    ghost invariant = { AreSentWithin };
+}
+
+impl Distances {
+    /// What this member knows before any session message.
+    pub fn new(me: Member) -> Distances
+        ensures fits { Fits me [] result }
+    {
+        Distances {
+            me,
+            peers: [Peer::unknown(); MEMBERS as usize],
+        }
+    }
+
+    /// A session message of `from` was heard at `now`. It was sent at `sent`, by its sender's clock, at most
+    /// [`MOMENT`]. `echo` is its echo for this member, if it has one: when the echoed message was sent, and how long
+    /// `from` had it by then.
+    ///
+    /// The echo counts, and the distance is then by it, where it is of a newer message than each that counted before
+    /// and not of a moment after `now`. The message is the one to echo where it is newer than each of `from` before. A
+    /// message that was sent at 0 is a message like any other.
+    pub fn heard_session(&mut self, from: Member, sent: u64, echo: Option<(u64, u64)>, now: u64)
+        requires { sent ≤ MOMENT }
+        ensures { Adds (Heard from sent echo now) self.old self.new }
+    {
+        let place = from.index();
+        self.peers[place] = self.peers[place].after_session(sent, echo, now);
+    }
+
+    /// A member left: no more echoes to it. The distance to it stays.
+    pub fn forget(&mut self, member: Member)
+        ensures { Adds (Forgot member) self.old self.new }
+    {
+        let place = member.index();
+        self.peers[place] = self.peers[place].after_forget();
+    }
+
+    /// The echoes that are owed at a moment, in order of member: to each other member that was heard and isn't
+    /// forgotten that of its newest session message, with the time since this was heard, 0 where that is to come.
+    /// They are at most 31. Only want of memory refuses it.
+    pub fn echoes(&self, alloc: Global, now: u64) -> Result<Vec<Echo>, AllocError>
+        ensures value { IfOk result (λ echoes. (me : ℕ) (calls : List Call) → Fits me calls self.now
+            → echoes.items ≡ echoes_due calls me now) }
+        ensures range { IfOk result (λ echoes. AreSpellable self.now.me now echoes.items) }
+    {
+        let me = self.me.number();
+        // Room for all of them at once: no push takes memory.
+        let mut echoes = Vec::with_capacity(alloc, usize::from(MEMBERS - 1))?;
+        for number in 0..MEMBERS {
+            if number == me {
+                continue;
+            }
+            if let Some(echo) = self.echo_to(number, now) {
+                echoes.push(echo)?;
+            }
+        }
+        Ok(echoes)
+    }
+
+    /// The echo that is owed to another member at a moment, by the member's number.
+    fn echo_to(&self, number: u8, now: u64) -> Option<Echo>
+        requires member { number < MEMBERS }
+        requires other { number ≢ self.now.me }
+        ensures value { (me : ℕ) (calls : List Call) → Fits me calls self.now
+            → result ≡ echo_to calls me now number }
+        ensures member { IfSome result (λ echo. echo.member ≡ number) }
+        ensures range { IfSome result (CanBeSent self.now.me now) }
+    {
+        let member = Member::new(number)?;
+        self.peers[member.index()].echo(member, now)
+    }
+
+    /// The distance to a member: 0 to this member itself, and to another 1 to 10,000,000; before an echo of it counted
+    /// [`FIRST_DISTANCE`](crate::FIRST_DISTANCE).
+    pub fn distance(&self, member: Member) -> u64
+        ensures value { (me : ℕ) (calls : List Call) → Fits me calls self.now → result ≡ distance calls me member }
+        ensures to_oneself { (result ≡ 0) ↔ (member ≡ self.now.me) }
+        ensures longest { result ≤ LONGEST_DISTANCE }
+    {
+        if member == self.me {
+            return 0;
+        }
+        self.peers[member.index()].distance()
+    }
+}

@@ -1,0 +1,83 @@
+//! What is kept of one member.
+
+ghost use Rattle.std.specs.Prelude.{◌≡◌, ◌≤◌, ℕ, List, [], ◌∷◌, ◌++◌};
+ghost use Rattle.srm_distance.specs.Calls.{Call, Heard, Forgot};
+
+use crate::limits::FIRST_DISTANCE;
+use crate::report::Report;
+use crate::returned::Returned;
+use srm_names::{Echo, MOMENT, Member};
+
+/// What is kept of one member: the echo that tells its distance, the session message to echo, and whether it was
+/// forgotten.
+#[derive(Clone, Copy, Debug)]
+pub(crate) struct Peer {
+    returned: Option<Returned>,
+    report: Option<Report>,
+    forgotten: bool,
+}
+
+impl Peer {
+    ghost use Rattle.srm_distance.specs.Distance.{newest, estimate};
+    ghost use Rattle.srm_distance.specs.Echoes.{SentWithin};
+    ghost use Rattle.srm_distance.specs.Peers.{peer_of, echo_at};
+
+    /// A member of which nothing was heard.
+    pub(crate) fn unknown() -> Peer
+        ensures fits { (b : ℕ) → result ≡ peer_of [] b }
+        ensures range { SentWithin result.report }
+    {
+        Peer {
+            returned: None,
+            report: None,
+            forgotten: false,
+        }
+    }
+
+    /// What is kept after one more session message of the member.
+    pub(crate) fn after_session(self, sent: u64, echo: Option<(u64, u64)>, now: u64) -> Peer
+        requires { sent ≤ MOMENT }
+        ensures fits { (calls : List Call) (b : ℕ) → self ≡ peer_of calls b
+            → result ≡ peer_of (calls ++ Heard b sent echo now ∷ []) b }
+        ensures range { SentWithin self.report → SentWithin result.report }
+    {
+        Peer {
+            returned: Returned::newer(self.returned, echo, now),
+            report: Report::newer(self.report, sent, now),
+            forgotten: self.forgotten,
+        }
+    }
+
+    /// What is kept after the member left.
+    #[tactic(auto, using(crate::proofs::Steps::peer_of_forgot))]
+    pub(crate) fn after_forget(self) -> Peer
+        ensures fits { (calls : List Call) (b : ℕ) → self ≡ peer_of calls b
+            → result ≡ peer_of (calls ++ Forgot b ∷ []) b }
+        ensures range { SentWithin self.report → SentWithin result.report }
+    {
+        Peer {
+            forgotten: true,
+            ..self
+        }
+    }
+
+    /// The echo that is owed to the member at a moment.
+    pub(crate) fn echo(self, member: Member, now: u64) -> Option<Echo>
+        ensures { result ≡ echo_at now member self }
+    {
+        if self.forgotten {
+            return None;
+        }
+        Some(self.report?.echo(member, now))
+    }
+
+    /// The distance to the member, in microseconds: 1 to 10,000,000.
+    pub(crate) fn distance(self) -> u64
+        ensures { result ≡ estimate self.returned }
+    {
+        match self.returned {
+            None => FIRST_DISTANCE,
+            Some(returned) => returned.distance(),
+        }
+    }
+}
