@@ -1,0 +1,9 @@
+pub mod Loop
+pub mod Masks
+pub mod Lengths
+pub mod Rising
+pub mod Readers
+pub mod FieldLaws
+pub mod ListLaws
+pub mod ContentLaws
+pub mod JudgingLaws

@@ -1,0 +1,66 @@
+-- Reading values one after the other, as a loop does.
+use Rattle.std.proofs.Common.{◌≡◌, ℕ, suc, ◌-◌, ◌+◌, ◌≤◌, ◌<◌, List, [], ◌∷◌, ◌++◌, length, Ok, Err, Option, Some, None, refl, sym, ap, ◌∙◌, append_assoc, arith}
+use Rattle.std.specs.Prelude.{slice_get}
+use Rattle.std.proofs.Math.Seq.{get_or-append_seam}
+use Rattle.std.proofs.lemmas.List.{append-nil, length-append}
+use Rattle.std.proofs.lemmas.Option.{slice_get-get_or}
+use Rattle.srm_codec.specs.declared.fault.DecodeFault.{DecodeFault}
+use Rattle.srm_codec.specs.Judging.{◌>>=◌, Read, items_at}
+
+-- the last one of a list
+abbrev pub newest : {X : Type 0} → List X → Option X
+newest xs = slice_get xs (length xs - 1)
+
+newest-snoc : {X : Type 0} (xs : List X) (x : X) → newest (xs ++ x ∷ []) ≡ Some x
+newest-snoc xs x =
+    let n : length (xs ++ x ∷ []) - 1 ≡ length xs = omega (arith, length-append xs (x ∷ [])) in
+    ap (slice_get (xs ++ x ∷ [])) n
+    ∙ slice_get-get_or (xs ++ x ∷ []) (length xs) x (omega (arith, length-append xs (x ∷ [])))
+    ∙ ap Some (get_or-append_seam xs x [] x)
+
+-- what was read before, and what is still read
+abbrev pub with_front : {X : Type 0} → List X → Read (List X) → Read (List X)
+with_front front read = read >>= λ x. Ok (front ++ x.0, x.1)
+
+-- A loop has read the first of these values, has these bytes left, and room for the others.
+pub record IsReading {X : Type 0} (item : Option X → List ℕ → Read X) (count done capacity : ℕ) (front : List X) (rest bytes : List ℕ) : Type 0 where
+  pub read : with_front front (items_at item (count - done) (newest front) rest) ≡ items_at item count None bytes
+  pub room : length front + (count - done) ≤ capacity
+
+regroup : {X : Type 0} (front : List X) (x : X) (read : Read (List X)) → with_front front (read >>= λ xs. Ok (x ∷ xs.0, xs.1)) ≡ with_front (front ++ x ∷ []) read
+regroup front x (Ok xs) = ap (λ ys. Ok (ys, xs.1)) (sym (append_assoc front (x ∷ []) xs.0))
+regroup front x (Err f) = refl
+
+pub starts : {X : Type 0} (item : Option X → List ℕ → Read X) (count capacity : ℕ) (bytes : List ℕ) → capacity ≡ count → IsReading item count 0 capacity [] bytes bytes
+starts {X = X} item count capacity bytes e = record { read = whole (items_at item (count - 0) None bytes) ∙ ap (λ n. items_at item n None bytes) (omega arith); room = omega arith }
+  where
+    whole : (read : Read (List X)) → with_front [] read ≡ read
+    whole (Ok x) = refl
+    whole (Err f) = refl
+
+pub goes_on : {X : Type 0} (item : Option X → List ℕ → Read X) (count done capacity larger : ℕ) (front : List X) (rest bytes : List ℕ) (x : X) (after : List ℕ)
+    → capacity ≤ larger → done < count → item (newest front) rest ≡ Ok (x, after) → IsReading item count done capacity front rest bytes → IsReading item count (done + 1) larger (front ++ x ∷ []) after bytes
+unfolding items_at
+goes_on item count done capacity larger front rest bytes x after le lt h so_far =
+    let k : count - done ≡ suc (count - (done + 1)) = omega arith in
+    let one : with_front front (items_at item (count - done) (newest front) rest) ≡ with_front (front ++ x ∷ []) (items_at item (count - (done + 1)) (Some x) after) = rw (k, h) (regroup front x (items_at item (count - (done + 1)) (Some x) after)) in
+    record {
+      read = ap (λ o. with_front (front ++ x ∷ []) (items_at item (count - (done + 1)) o after)) (newest-snoc front x) ∙ sym one ∙ so_far.read;
+      room = omega (arith, so_far.room, length-append front (x ∷ []));
+    }
+
+pub stops : {X : Type 0} (item : Option X → List ℕ → Read X) (count done capacity : ℕ) (front : List X) (rest bytes : List ℕ) (fault : DecodeFault)
+    → done < count → item (newest front) rest ≡ Err fault → IsReading item count done capacity front rest bytes → items_at item count None bytes ≡ Err fault
+unfolding items_at
+stops item count done capacity front rest bytes fault lt h so_far =
+    let k : count - done ≡ suc (count - (done + 1)) = omega arith in
+    let one : with_front front (items_at item (count - done) (newest front) rest) ≡ Err fault = rw (k, h) refl in
+    sym so_far.read ∙ one
+
+pub is_done : {X : Type 0} (item : Option X → List ℕ → Read X) (count done capacity : ℕ) (front : List X) (rest bytes : List ℕ)
+    → count ≤ done → IsReading item count done capacity front rest bytes → items_at item count None bytes ≡ Ok (front, rest)
+unfolding items_at
+is_done item count done capacity front rest bytes le so_far =
+    let k : count - done ≡ 0 = omega arith in
+    let one : with_front front (items_at item (count - done) (newest front) rest) ≡ Ok (front, rest) = rw k (ap (λ ys. Ok (ys, rest)) (append-nil front)) in
+    sym so_far.read ∙ one

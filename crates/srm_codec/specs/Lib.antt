@@ -1,0 +1,5 @@
+pub mod Spelling
+pub mod Judging
+pub mod Reading
+pub mod Laws
+pub mod Examples

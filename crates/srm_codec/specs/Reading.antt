@@ -1,0 +1,25 @@
+-- What a reader of bytes answers, against a definition that reads from a list.
+use Rattle.std.specs.Prelude.{◌≡◌, ◌⊎◌, ℕ, List, Result, Ok, Err}
+use Rattle.srm_codec.specs.declared.fault.DecodeFault.{DecodeFault}
+use Rattle.srm_codec.specs.declared.fault.DecodeFault.TheVariants.{Memory}
+use Rattle.srm_codec.specs.Judging.{Read}
+
+-- The answer, with these bytes left, is what reading gives.
+abbrev pub IsRead : {A : Type 0} → Result A DecodeFault → List ℕ → Read A → Type 0
+IsRead (Ok x) rest read = read ≡ Ok (x, rest)
+IsRead (Err fault) rest read = read ≡ Err fault
+
+-- The same, of an answer that is seen by a view.
+abbrev pub IsReadBy : {A B : Type 0} → (A → B) → Result A DecodeFault → List ℕ → Read B → Type 0
+IsReadBy view (Ok x) rest read = read ≡ Ok (view x, rest)
+IsReadBy view (Err fault) rest read = read ≡ Err fault
+
+-- The answer, with these bytes left, is what reading gives, unless memory ran out.
+abbrev pub IsReadUnless : {A : Type 0} → Result A DecodeFault → List ℕ → Read A → Type 0
+IsReadUnless (Ok x) rest read = read ≡ Ok (x, rest)
+IsReadUnless (Err fault) rest read = (read ≡ Err fault) ⊎ (fault ≡ Memory)
+
+-- The answer is what judging gives, unless memory ran out.
+abbrev pub IsJudged : {A : Type 0} → Result A DecodeFault → Result A DecodeFault → Type 0
+IsJudged (Ok x) judged = judged ≡ Ok x
+IsJudged (Err fault) judged = (judged ≡ Err fault) ⊎ (fault ≡ Memory)

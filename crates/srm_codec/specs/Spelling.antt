@@ -1,0 +1,123 @@
+-- What names datagrams, which datagrams have a spelling, and the one spelling of each.
+use Rattle.std.specs.Prelude.{◌≡◌, ℕ, zero, suc, ◌+◌, ◌*◌, ◌^◌, ◌<◌, ◌≤◌, ◌/◌, ◌%◌, ◌==◌, Bool, true, false, List, [], ◌∷◌, ◌++◌, length, map, nat_lt, slice_index, if◌then◌else◌}
+use Rattle.std.specs.List.{flat_map, AllByRecursion}
+use Rattle.std.specs.Int.{w16, w32, w64, to_be_bytes}
+use Rattle.srm_names.specs.declared.limits.TheConstants.{MEMBERS, DRAWOPS, BODY, MOMENT}
+use Rattle.srm_names.specs.declared.page.Page.{Page}
+use Rattle.srm_names.specs.declared.drawop.Drawop.{Drawop}
+use Rattle.srm_names.specs.declared.echo.Echo.{Echo}
+use Rattle.srm_names.specs.FullName.{FullName}
+use Rattle.srm_names.specs.Names.{named, ascending, stream_below}
+use Rattle.srm_codec.specs.declared.datagram.Datagram.{Datagram}
+use Rattle.srm_codec.specs.declared.datagram.Datagram.TheVariants.{Data, Request, Repair, Session}
+
+abbrev pub sender_of : Datagram → ℕ
+sender_of (Data drawop) = drawop.name.stream.source
+sender_of (Request sender name mask) = sender
+sender_of (Repair sender drawop) = sender
+sender_of (Session sender sent farewell shown rows echoes) = sender
+
+-- the numbers of the bits that are set in a mask of this many bits, with 0 for the lowest
+unfoldable pub bits_set : ℕ → ℕ → List ℕ
+bits_set zero mask = []
+bits_set (suc k) mask = (if mask % 2 == 1 then 0 ∷ [] else []) ++ map (λ bit. bit + 1) (bits_set k (mask / 2))
+
+-- the names that a request asks for, in order
+abbrev pub asked_by : FullName → ℕ → List FullName
+asked_by name mask = name ∷ map (λ bit. named name.stream (name.number + 1 + bit)) (bits_set 32 mask)
+
+-- the names that a datagram names, in order
+abbrev pub names_in : Datagram → List FullName
+names_in (Data drawop) = drawop.name ∷ []
+names_in (Request sender name mask) = asked_by name mask
+names_in (Repair sender drawop) = drawop.name ∷ []
+names_in (Session sender sent farewell shown rows echoes) = rows
+
+-- what has a spelling
+abbrev pub is_page : Page → Type 0
+is_page p = (p.creator < MEMBERS) × (p.number < 2 ^ 16)
+
+abbrev pub is_name : FullName → Type 0
+is_name n = (n.stream.source < MEMBERS) × is_page n.stream.page × (1 ≤ n.number) × (n.number ≤ DRAWOPS)
+
+abbrev pub is_drawop : Drawop → Type 0
+is_drawop d = is_name d.name × (d.stamp ≤ MOMENT) × (length d.body ≤ BODY)
+
+abbrev pub is_echo : Echo → Type 0
+is_echo e = (e.member < MEMBERS) × (e.t1 ≤ MOMENT) × (e.delay ≤ MOMENT)
+
+abbrev pub row_below : FullName → FullName → Bool
+row_below a b = stream_below a.stream b.stream
+
+abbrev pub echo_below : Echo → Echo → Bool
+echo_below a b = nat_lt a.member b.member
+
+-- rows rise by stream, and in a farewell the source of each is the sender
+pub record AreRows (farewell : Bool) (sender : ℕ) (rows : List FullName) : Type 0 where
+  pub few : length rows < 2 ^ 8
+  pub names : AllByRecursion is_name rows
+  pub rising : ascending row_below rows ≡ true
+  pub sources : AllByRecursion (λ row. farewell ≡ true → row.stream.source ≡ sender) rows
+
+-- echoes rise by member
+pub record AreEchoes (echoes : List Echo) : Type 0 where
+  pub few : length echoes < 2 ^ 8
+  pub each : AllByRecursion is_echo echoes
+  pub rising : ascending echo_below echoes ≡ true
+
+abbrev pub IsSpellable : Datagram → Type 0
+IsSpellable (Data drawop) = is_drawop drawop
+IsSpellable (Request sender name mask) = (sender < MEMBERS) × (mask < 2 ^ 32) × AllByRecursion is_name (asked_by name mask)
+IsSpellable (Repair sender drawop) = (sender < MEMBERS) × is_drawop drawop
+IsSpellable (Session sender sent farewell shown rows echoes) =
+    (sender < MEMBERS) × (sent ≤ MOMENT) × is_page shown × AreRows farewell sender rows × AreEchoes echoes
+
+-- the fields
+unfoldable pub head : ℕ → ℕ → ℕ → ℕ → List ℕ
+head version kind session sender = 0x53 ∷ 0x52 ∷ version ∷ kind ∷ (to_be_bytes w32 session ++ sender ∷ [])
+
+unfoldable pub page_bytes : Page → List ℕ
+page_bytes p = p.creator ∷ to_be_bytes w16 p.number
+
+unfoldable pub name_bytes : FullName → List ℕ
+name_bytes n = n.stream.source ∷ (page_bytes n.stream.page ++ to_be_bytes w32 n.number)
+
+unfoldable pub drawop_bytes : Drawop → List ℕ
+drawop_bytes d = name_bytes d.name ++ to_be_bytes w64 d.stamp ++ to_be_bytes w16 (length d.body) ++ d.body
+
+unfoldable pub echo_bytes : Echo → List ℕ
+echo_bytes e = e.member ∷ (to_be_bytes w64 e.t1 ++ to_be_bytes w64 e.delay)
+
+-- a request for one name is spelled as in version 1, one for several with its mask as in version 2
+unfoldable pub request_bytes : ℕ → ℕ → FullName → ℕ → List ℕ
+request_bytes session sender name mask =
+    if mask == 0 then head 1 2 session sender ++ name_bytes name
+    else head 2 2 session sender ++ name_bytes name ++ to_be_bytes w32 mask
+
+abbrev pub flag : Bool → ℕ
+flag true = 1
+flag false = 0
+
+unfoldable pub spelling : ℕ → Datagram → List ℕ
+spelling session (Data drawop) = head 1 1 session drawop.name.stream.source ++ drawop_bytes drawop
+spelling session (Request sender name mask) = request_bytes session sender name mask
+spelling session (Repair sender drawop) = head 1 3 session sender ++ drawop_bytes drawop
+spelling session (Session sender sent farewell shown rows echoes) =
+    head 1 4 session sender ++ to_be_bytes w64 sent ++ flag farewell ∷ page_bytes shown
+    ++ length rows ∷ flat_map name_bytes rows ++ length echoes ∷ flat_map echo_bytes echoes
+
+-- each is a byte
+abbrev pub AreBytes : List ℕ → Type 0
+AreBytes bytes = (i : ℕ) → slice_index bytes i < 256
+
+-- The bytes are the fields of the datagram for this session, and nothing after them.
+pub record Spells (session : ℕ) (datagram : Datagram) (bytes : List ℕ) : Type 0 where
+  pub fits : IsSpellable datagram
+  pub text : bytes ≡ spelling session datagram
+
+-- how many bytes the spelling of a datagram has, in any session
+abbrev pub length_of : Datagram → ℕ
+length_of (Data drawop) = 27 + length drawop.body
+length_of (Request sender name mask) = if mask == 0 then 17 else 21
+length_of (Repair sender drawop) = 27 + length drawop.body
+length_of (Session sender sent farewell shown rows echoes) = 23 + 8 * length rows + 17 * length echoes

@@ -1,0 +1,85 @@
+//! What members send.
+
+ghost use Rattle.std.specs.Prelude.{◌≡◌, IfOk};
+
+use srm_names::{Drawop, Echo, Items, Member, Name, Page};
+use std::alloc::{AllocError, Global};
+
+/// What one member sends to the others.
+#[derive(Debug, Drop, PartialEq, Eq)]
+pub enum Datagram {
+    /// A new drawop, from its source.
+    Data(Drawop),
+    /// Asks for `name`, and for the number `1 + k` above it for each bit `k` of the mask.
+    Request {
+        sender: Member,
+        name: Name,
+        mask: u32,
+    },
+    /// A held drawop, from any member that holds it.
+    Repair {
+        sender: Member,
+        drawop: Drawop,
+    },
+    /// What a member knows of the page it shows, and when it heard the others. A farewell is its last one.
+    Session {
+        sender: Member,
+        /// The moment in microseconds at which it was sent, by the sender's clock.
+        sent: u64,
+        farewell: bool,
+        shown: Page,
+        /// Of each stream the greatest number known, in order of stream.
+        rows: Items<Name>,
+        /// Of each member the newest session message heard, in order of member.
+        echoes: Items<Echo>,
+    },
+}
+
+impl Datagram {
+    ghost use Rattle.srm_codec.specs.Spelling.{sender_of};
+
+    /// The member that sends it.
+    pub fn sender(&self) -> Member
+        ensures { result ≡ sender_of self.now }
+    {
+        match self {
+            Datagram::Data(drawop) => drawop.name.source(),
+            Datagram::Request { sender, .. }
+            | Datagram::Repair { sender, .. }
+            | Datagram::Session { sender, .. } => *sender,
+        }
+    }
+
+    /// An equal datagram, over the same bytes of a body. Only want of memory refuses it.
+    pub fn copy(&self, alloc: Global) -> Result<Datagram, AllocError>
+        ensures { IfOk result (λ copy. copy ≡ self.now) }
+    {
+        match self {
+            Datagram::Data(drawop) => Ok(Datagram::Data(drawop.copy()?)),
+            Datagram::Request { sender, name, mask } => Ok(Datagram::Request {
+                sender: *sender,
+                name: *name,
+                mask: *mask,
+            }),
+            Datagram::Repair { sender, drawop } => Ok(Datagram::Repair {
+                sender: *sender,
+                drawop: drawop.copy()?,
+            }),
+            Datagram::Session {
+                sender,
+                sent,
+                farewell,
+                shown,
+                rows,
+                echoes,
+            } => Ok(Datagram::Session {
+                sender: *sender,
+                sent: *sent,
+                farewell: *farewell,
+                shown: *shown,
+                rows: Items::new(Vec::from_slice(alloc, rows.as_slice())?),
+                echoes: Items::new(Vec::from_slice(alloc, echoes.as_slice())?),
+            }),
+        }
+    }
+}

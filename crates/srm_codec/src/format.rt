@@ -1,0 +1,40 @@
+//! The numbers of the format.
+
+/// The first two bytes of each datagram: `SR`.
+pub const MAGIC: u16 = 0x5352;
+
+/// The version of all datagrams but packed requests.
+pub const PLAIN: u8 = 1;
+
+/// The version of a request for several names.
+pub const PACKED: u8 = 2;
+
+/// The kind of a new drawop.
+pub const DATA: u8 = 1;
+
+/// The kind of a request.
+pub const REQUEST: u8 = 2;
+
+/// The kind of a repair.
+pub const REPAIR: u8 = 3;
+
+/// The kind of a session message.
+pub const SESSION: u8 = 4;
+
+/// Bytes of the head: magic, version, kind, session and sender.
+pub const HEAD_BYTES: usize = 9;
+
+/// Bytes of a name, and of a row.
+pub const NAME_BYTES: usize = 8;
+
+/// Bytes of a mask.
+pub const MASK_BYTES: usize = 4;
+
+/// Bytes of a drawop but its body: name, stamp and length.
+pub const DRAWOP_BYTES: usize = 18;
+
+/// Bytes of a session message between its head and its rows and echoes: sent, flags, shown page and the two counts.
+pub const REPORT_BYTES: usize = 14;
+
+/// Bytes of an echo.
+pub const ECHO_BYTES: usize = 17;

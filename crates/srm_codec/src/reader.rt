@@ -1,0 +1,228 @@
+//! The fields of a datagram, read one after the other.
+
+ghost use Rattle.std.specs.Prelude.{◌≡◌, ◌==◌, ◌<◌, length, MatchResult, true, false};
+ghost use Rattle.std.specs.Int.{w8, w16, w32, w64};
+ghost use Rattle.srm_codec.specs.declared.fault.DecodeFault.TheVariants.{Length};
+ghost use Rattle.srm_codec.specs.Judging.{front_at, number_at, magic_at, version_at, kind_at, session_at, member_at, moment_at, page_at, source_at, stream_at, name_at, body_at, flag_at};
+ghost use Rattle.srm_codec.specs.Reading.{IsRead, IsReadBy};
+
+use crate::fault::DecodeFault;
+use crate::format::{DATA, MAGIC, PACKED, PLAIN, REQUEST, SESSION};
+use srm_names::{BODY, MOMENT, Member, Name, Page, Stream};
+use std::marker::Model;
+
+/// The bytes that are still to be read. Contracts see them.
+#[derive(Drop)]
+pub struct Reader<'a> {
+    rest: &'a [u8],
+}
+
+impl<'a> Model for Reader<'a> {
+    ghost use Rattle.std.specs.Prelude.{ℕ, List};
+
+    ghost Value = { List ℕ };
+
+    ghost view = { λ r. r.rest.now };
+}
+
+impl<'a> Reader<'a> {
+    pub fn new(bytes: &'a [u8]) -> Reader<'a>
+        ensures { result ≡ bytes.now }
+    {
+        Reader { rest: bytes }
+    }
+
+    #[tactic(auto, unfolding(crate::specs::Judging::front_at))]
+    fn front<const N: usize>(&mut self) -> Result<[u8; N], DecodeFault>
+        ensures { IsRead result self.new (front_at N self.old) }
+    {
+        let Some((front, rest)) = self.rest.split_first_chunk() else {
+            return Err(DecodeFault::Short);
+        };
+        self.rest = rest;
+        Ok(*front)
+    }
+
+    pub fn u8(&mut self) -> Result<u8, DecodeFault>
+        ensures { IsRead result self.new (number_at w8 self.old) }
+    {
+        let front: [u8; 1] = self.front()?;
+        Ok(front[0])
+    }
+
+    fn u16(&mut self) -> Result<u16, DecodeFault>
+        ensures { IsRead result self.new (number_at w16 self.old) }
+    {
+        let front = self.front()?;
+        Ok(u16::from_be_bytes(front))
+    }
+
+    pub fn u32(&mut self) -> Result<u32, DecodeFault>
+        ensures { IsRead result self.new (number_at w32 self.old) }
+    {
+        let front = self.front()?;
+        Ok(u32::from_be_bytes(front))
+    }
+
+    fn u64(&mut self) -> Result<u64, DecodeFault>
+        ensures { IsRead result self.new (number_at w64 self.old) }
+    {
+        let front = self.front()?;
+        Ok(u64::from_be_bytes(front))
+    }
+
+    #[tactic(auto, unfolding(crate::specs::Judging::magic_at))]
+    pub fn magic(&mut self) -> Result<(), DecodeFault>
+        ensures { IsReadBy (λ _. MAGIC) result self.new (magic_at self.old) }
+    {
+        let magic = self.u16()?;
+        if magic == MAGIC {
+            Ok(())
+        } else {
+            Err(DecodeFault::Magic)
+        }
+    }
+
+    #[tactic(auto, unfolding(crate::specs::Judging::version_at))]
+    pub fn version(&mut self) -> Result<u8, DecodeFault>
+        ensures { IsRead result self.new (version_at self.old) }
+    {
+        let version = self.u8()?;
+        if version == PLAIN || version == PACKED {
+            Ok(version)
+        } else {
+            Err(DecodeFault::Version)
+        }
+    }
+
+    #[tactic(auto, unfolding(crate::specs::Judging::kind_at))]
+    pub fn kind(&mut self, version: u8) -> Result<u8, DecodeFault>
+        ensures { IsRead result self.new (kind_at version self.old) }
+    {
+        let kind = self.u8()?;
+        if kind == REQUEST || version == PLAIN && DATA <= kind && kind <= SESSION {
+            Ok(kind)
+        } else {
+            Err(DecodeFault::Kind)
+        }
+    }
+
+    #[tactic(auto, unfolding(crate::specs::Judging::session_at))]
+    pub fn session(&mut self, session: u32) -> Result<(), DecodeFault>
+        ensures { IsReadBy (λ _. session) result self.new (session_at session self.old) }
+    {
+        let number = self.u32()?;
+        if number == session {
+            Ok(())
+        } else {
+            Err(DecodeFault::Session)
+        }
+    }
+
+    #[tactic(auto, unfolding(crate::specs::Judging::member_at))]
+    pub fn member(&mut self) -> Result<Member, DecodeFault>
+        ensures { IsRead result self.new (member_at self.old) }
+    {
+        let number = self.u8()?;
+        Member::new(number).ok_or(DecodeFault::Member)
+    }
+
+    #[tactic(auto, unfolding(crate::specs::Judging::moment_at))]
+    pub fn moment(&mut self) -> Result<u64, DecodeFault>
+        ensures { IsRead result self.new (moment_at self.old) }
+    {
+        let moment = self.u64()?;
+        if moment <= MOMENT {
+            Ok(moment)
+        } else {
+            Err(DecodeFault::Number)
+        }
+    }
+
+    #[tactic(auto, unfolding(crate::specs::Judging::page_at))]
+    pub fn page(&mut self) -> Result<Page, DecodeFault>
+        ensures { IsRead result self.new (page_at self.old) }
+    {
+        let creator = self.member()?;
+        let number = self.u16()?;
+        Ok(Page { creator, number })
+    }
+
+    /// A source, which where one is wanted is that one.
+    #[tactic(auto, unfolding(crate::specs::Judging::source_at))]
+    fn source(&mut self, wanted: Option<Member>) -> Result<Member, DecodeFault>
+        ensures { IsRead result self.new (source_at wanted self.old) }
+    {
+        let source = self.member()?;
+        match wanted {
+            Some(wanted) if source != wanted => Err(DecodeFault::Source),
+            _ => Ok(source),
+        }
+    }
+
+    /// A stream that comes after the one of the last row, where there is one.
+    #[tactic(auto, unfolding(crate::specs::Judging::any_stream_at, crate::specs::Judging::stream_at))]
+    fn stream(&mut self, wanted: Option<Member>, last: Option<Name>) -> Result<Stream, DecodeFault>
+        ensures { IsRead result self.new (stream_at wanted last self.old) }
+    {
+        let source = self.source(wanted)?;
+        let page = self.page()?;
+        let stream = Stream { source, page };
+        match last {
+            Some(row) if row.stream() >= stream => Err(DecodeFault::Order),
+            _ => Ok(stream),
+        }
+    }
+
+    /// A name, of the wanted source, after the last row.
+    #[tactic(auto, unfolding(crate::specs::Judging::number_in_stream_at, crate::specs::Judging::name_at))]
+    pub fn name(&mut self, wanted: Option<Member>, last: Option<Name>) -> Result<Name, DecodeFault>
+        ensures { IsRead result self.new (name_at wanted last self.old) }
+    {
+        let stream = self.stream(wanted, last)?;
+        let number = self.u32()?;
+        Name::new(stream.source, stream.page, number).ok_or(DecodeFault::Number)
+    }
+
+    #[tactic(auto, unfolding(crate::specs::Judging::front_at, crate::specs::Judging::size_at, crate::specs::Judging::body_at))]
+    pub fn body(&mut self) -> Result<&'a [u8], DecodeFault>
+        ensures { IsReadBy (λ body. body.now) result self.new (body_at self.old) }
+    {
+        let size = self.u16()?;
+        if BODY < size {
+            return Err(DecodeFault::Length);
+        }
+        let size = usize::from(size);
+        if self.rest.len() < size {
+            return Err(DecodeFault::Short);
+        }
+        let (body, rest) = self.rest.split_at(size);
+        self.rest = rest;
+        Ok(body)
+    }
+
+    /// Whether the farewell's flag is set.
+    #[tactic(auto, unfolding(crate::specs::Judging::flag_at))]
+    pub fn flag(&mut self) -> Result<bool, DecodeFault>
+        ensures { IsRead result self.new (flag_at self.old) }
+    {
+        let flags = self.u8()?;
+        if flags <= 1 {
+            Ok(flags == 1)
+        } else {
+            Err(DecodeFault::Flags)
+        }
+    }
+
+    /// Nothing follows.
+    pub fn end(&self) -> Result<(), DecodeFault>
+        ensures { MatchResult result (λ _. (length self.now == 0) ≡ true)
+            (λ fault. ((length self.now == 0) ≡ false) × (fault ≡ Length)) }
+    {
+        if self.rest.is_empty() {
+            Ok(())
+        } else {
+            Err(DecodeFault::Length)
+        }
+    }
+}

@@ -1,0 +1,51 @@
+//! Why a script isn't run to its end.
+
+use std::alloc::AllocError;
+use std::io;
+use std::io::Write;
+use thiserror::Error;
+
+/// Why a script isn't run to its end. Its text is the line that standard error gets.
+#[derive(Debug, Drop, PartialEq, Eq, Error)]
+pub enum Fault {
+    /// Standard input can't be read.
+    #[error("srm: input")]
+    Input,
+    /// The input has more bytes than a script may have.
+    #[error("input too long")]
+    TooLong,
+    /// The first bad line, by its number from 1.
+    #[error("line {0}: bad")]
+    BadLine(u64),
+    /// Standard output can't be written.
+    #[error("srm: output")]
+    Output,
+    #[error("srm: memory")]
+    Memory,
+}
+
+impl Fault {
+    /// Prints the fault on standard error, and answers the status that the program ends with.
+    pub fn tell<E: Write>(&self, err: &mut E) -> u8 {
+        // Where this can't be written there is nobody left to tell.
+        let _ = writeln!(err, "{self}");
+        match self {
+            Fault::Input | Fault::TooLong | Fault::BadLine(_) | Fault::Output => 1,
+            Fault::Memory => 4,
+        }
+    }
+
+    /// The fault of a write to standard output.
+    pub fn of_output(error: io::Error) -> Fault {
+        match error.kind() {
+            io::ErrorKind::OutOfMemory => Fault::Memory,
+            _ => Fault::Output,
+        }
+    }
+}
+
+impl From<AllocError> for Fault {
+    fn from(_error: AllocError) -> Fault {
+        Fault::Memory
+    }
+}

@@ -1,0 +1,19 @@
+//! Reading standard input.
+
+use crate::fault::Fault;
+use std::alloc::Global;
+use std::io::{ErrorKind, Read};
+
+/// Bytes of an input, at most.
+const INPUT: usize = 1_000_000;
+
+/// Reads to the end. Refused is an input that can't be read, or that is longer than a script may be.
+pub fn read_input<I: Read>(alloc: Global, reader: &mut I) -> Result<Vec<u8>, Fault> {
+    let mut bytes = Vec::new(alloc);
+    match reader.take(INPUT as u64 + 1).read_to_end(&mut bytes) {
+        Ok(_) if bytes.len() > INPUT => Err(Fault::TooLong),
+        Ok(_) => Ok(bytes),
+        Err(error) if error.kind() == ErrorKind::OutOfMemory => Err(Fault::Memory),
+        Err(_) => Err(Fault::Input),
+    }
+}

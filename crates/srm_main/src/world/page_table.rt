@@ -1,0 +1,75 @@
+//! The pages of one member, each in its slot.
+
+ghost use Rattle.std.specs.Prelude.{◌≡◌, [], ◌∷◌, not, false, slice_get, IfOk, OnOk, OnErr};
+ghost use Rattle.std.specs.List.{list_any};
+ghost use Rattle.srm_names.specs.Names.{first_page, same_page};
+ghost use Rattle.srm_main.specs.PageTables.{lacks_room, with_page};
+
+use srm_names::{Member, PAGES, Page};
+use std::alloc::{AllocError, Global};
+use std::marker::Model;
+
+/// At most eight pages, each once, by slot. Contracts see the list.
+#[derive(Drop)]
+pub struct PageTable {
+    pages: Vec<Page>,
+}
+
+impl Model for PageTable {
+    ghost use Rattle.std.specs.Prelude.{List};
+    ghost use Rattle.srm_names.specs.declared.page.Page.{Page as APage};
+    ghost use Rattle.srm_main.specs.PageTables.{IsTable};
+
+    ghost Value = { List APage };
+
+    ghost view = { λ t. t.pages.items };
+
+    ghost invariant = { λ t. IsTable t.pages.items };
+}
+
+impl PageTable {
+    /// The table with the first page alone.
+    pub fn new(alloc: Global) -> Result<PageTable, AllocError>
+        ensures { IfOk result (λ table. table ≡ first_page ∷ []) }
+    {
+        let first = Page {
+            creator: Member::new(0).unwrap(),
+            number: 0,
+        };
+        let mut pages = Vec::new(alloc);
+        pages.push(first)?;
+        Ok(PageTable { pages })
+    }
+
+    /// The page of a slot.
+    pub fn get(&self, slot: u8) -> Option<Page>
+        ensures { result ≡ slice_get self.now slot }
+    {
+        self.pages.get(usize::from(slot)).copied()
+    }
+
+    /// Whether a page is in the table, or finds room there.
+    pub fn has_room(&self, page: &Page) -> bool
+        ensures { result ≡ not (lacks_room self.now page.now) }
+    {
+        holds(&self.pages, page) || self.pages.len() < usize::from(PAGES)
+    }
+
+    /// Adds a page, unless it is there. Want of memory changes nothing.
+    pub fn add(&mut self, page: Page) -> Result<(), AllocError>
+        requires { lacks_room self.old page ≡ false }
+        ensures ok { OnOk result (self.new ≡ with_page self.old page) }
+        ensures err { OnErr result (self.new ≡ self.old) }
+    {
+        if !holds(&self.pages, &page) {
+            self.pages.push(page)?;
+        }
+        Ok(())
+    }
+}
+
+fn holds(pages: &[Page], page: &Page) -> bool
+    ensures { result ≡ list_any (λ other. same_page other page.now) pages.now }
+{
+    pages.iter().any(|other| other == page)
+}
