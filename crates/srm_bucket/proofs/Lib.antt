@@ -1,0 +1,7 @@
+pub mod Windows
+pub mod Parting
+pub mod Steps
+pub mod Highest
+pub mod Going
+pub mod Popping
+mod Forbids

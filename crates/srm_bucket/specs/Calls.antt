@@ -1,0 +1,15 @@
+-- The calls that change a bucket, and what went.
+use Rattle.std.specs.Prelude.{ℕ, Option}
+use Rattle.srm_bucket.specs.declared.class.Class.{Class}
+use Rattle.srm_bucket.specs.declared.item.Item.{Item}
+
+-- an item, and its class
+pub record Classed (T : Type 0) : Type 0 where
+  pub class : Class
+  pub item : Item T
+
+pub data Call (T : Type 0) : Type 0 where
+  Handed : (entry : Classed T) → Call T
+  Refilled : (now : ℕ) → Call T
+  -- a pop at a moment, with the item that went in it, if one did
+  Popped : (now : ℕ) (went : Option (Classed T)) → Call T

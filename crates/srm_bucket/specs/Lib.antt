@@ -1,0 +1,9 @@
+pub mod Calls
+pub mod Classes
+pub mod Tokens
+pub mod Ticks
+pub mod Waiting
+pub mod Law
+pub mod Content
+pub mod Fits
+pub mod Examples

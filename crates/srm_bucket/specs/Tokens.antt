@@ -1,0 +1,30 @@
+-- The tokens that are kept.
+use Rattle.std.specs.Prelude.{ℕ, ◌+◌, ◌*◌, ◌-◌, ◌≤◌, ◌<◌, min, max}
+use Rattle.srm_names.specs.declared.limits.TheConstants.{MOMENT}
+use Rattle.srm_bucket.specs.declared.limits.TheConstants.{MILLIONTHS, LEAST_RATE, GREATEST_RATE, LEAST_DEPTH, GREATEST_DEPTH}
+use Rattle.srm_bucket.specs.declared.tokens.Tokens.{Tokens}
+
+-- what so many bytes cost, in millionths of a byte
+abbrev pub cost_of : ℕ → ℕ
+cost_of bytes = bytes * MILLIONTHS
+
+-- the tokens at a moment; a moment below the last one counts as the last
+abbrev pub refilled : ℕ → Tokens → Tokens
+refilled now t = record t { level = min (cost_of t.depth) (t.level + t.rate * (now - t.last)); last = max t.last now }
+
+abbrev pub spent : ℕ → Tokens → Tokens
+spent bytes t = record t { level = t.level - cost_of bytes }
+
+pub record AreInRange (t : Tokens) : Type 0 where
+  pub least_rate : LEAST_RATE ≤ t.rate
+  pub greatest_rate : t.rate ≤ GREATEST_RATE
+  pub least_depth : LEAST_DEPTH ≤ t.depth
+  pub greatest_depth : t.depth ≤ GREATEST_DEPTH
+  pub level : t.level ≤ cost_of t.depth
+  pub last : t.last ≤ MOMENT
+
+-- the first moment, from the last one on, at which there are tokens for so many bytes
+pub record IsFirstMoment (t : Tokens) (bytes moment : ℕ) : Type 0 where
+  pub not_before : t.last ≤ moment
+  pub covered : cost_of bytes ≤ (refilled moment t).level
+  pub no_sooner : (m : ℕ) → t.last ≤ m → m < moment → (refilled m t).level < cost_of bytes

@@ -1,0 +1,120 @@
+//! The bucket: what is handed in waits until the rate lets it go.
+
+ghost use Rattle.std.specs.Prelude.{◌≡◌, ◌≤◌, ◌<◌, ◌+◌, ℕ, List, [], length, OnOk, OnErr, IsOk, OnSome, IfSome};
+ghost use Rattle.srm_bucket.specs.Calls.{Call, Handed, Refilled};
+ghost use Rattle.srm_bucket.specs.Classes.{left};
+ghost use Rattle.srm_bucket.specs.Waiting.{HasLength, count_of};
+ghost use Rattle.srm_bucket.specs.Fits.{Fits, Stays, Adds, Pops, Waits};
+
+use crate::class::Class;
+use crate::item::Item;
+use crate::limits::{
+    GREATEST_DEPTH, GREATEST_LENGTH, GREATEST_RATE, LEAST_DEPTH, LEAST_LENGTH, LEAST_RATE,
+};
+use crate::queues::Queues;
+use crate::tokens::Tokens;
+use srm_names::MOMENT;
+use std::alloc::{AllocError, Global};
+use std::marker::Model;
+
+/// What a member may send at a moment, by its rate, and the items that wait. Moments are in microseconds, at most
+/// [`MOMENT`]; one below the last of [`refill`](Bucket::refill) and [`pop`](Bucket::pop) counts as the last.
+#[derive(Debug, Drop)]
+pub struct Bucket<T> {
+    tokens: Tokens,
+    queues: Queues<T>,
+}
+
+impl<T> Model for Bucket<T> {
+    ghost use Rattle.srm_bucket.specs.Content.{Content, content_of, IsInRange};
+
+    ghost Value = { Content T };
+
+    ghost view = { content_of };
+
+    ghost invariant = { IsInRange };
+}
+
+impl<T> Bucket<T> {
+    /// A bucket that is full at moment 0, and in which nothing waits. The rate is in bytes a second, 1 to 100,000,000;
+    /// the depth in bytes, 1,051 to 1,000,000. It takes no memory.
+    pub fn new(alloc: Global, rate: u32, depth: u32) -> Bucket<T>
+        requires least_rate { LEAST_RATE ≤ rate }
+        requires greatest_rate { rate ≤ GREATEST_RATE }
+        requires least_depth { LEAST_DEPTH ≤ depth }
+        requires greatest_depth { depth ≤ GREATEST_DEPTH }
+        ensures { let calls : List (Call T) = [] in Fits rate depth calls result }
+    {
+        Bucket {
+            tokens: Tokens::full(rate, depth),
+            queues: Queues::new(alloc),
+        }
+    }
+
+    /// Makes room for more items, of whatever classes: after an `Ok` so many calls of [`hand`](Bucket::hand) are not
+    /// refused. What waits stays. Only want of memory refuses it, and not where there is room already.
+    pub fn room(&mut self, items: usize) -> Result<(), AllocError>
+        ensures stays { Stays self.old self.new }
+        ensures ok { OnOk result (items ≤ self.new.waiting.room) }
+        ensures not_refused { items ≤ self.old.waiting.room → IsOk result }
+        ensures room { self.old.waiting.room ≤ self.new.waiting.room }
+    {
+        self.queues.reserve(items)
+    }
+
+    /// Hands in an item, of 1 to 1,051 bytes: it waits behind those of its class. Only want of memory refuses it; what
+    /// waits then stays, and the item is dropped.
+    pub fn hand(&mut self, class: Class, item: Item<T>) -> Result<(), AllocError>
+    where
+        T: Drop,
+        requires least { LEAST_LENGTH ≤ item.length }
+        requires greatest { item.length ≤ GREATEST_LENGTH }
+        ensures ok { OnOk result (Adds (Handed (record { class = class; item = item })) self.old self.new) }
+        ensures err { OnErr result (Stays self.old self.new) }
+        ensures not_refused { 0 < self.old.waiting.room → IsOk result }
+        ensures room { self.old.waiting.room ≤ self.new.waiting.room + 1 }
+    {
+        self.queues.push(class, item)
+    }
+
+    /// A moment has come: the time since the last one brings tokens, up to the depth.
+    pub fn refill(&mut self, now: u64)
+        requires { now ≤ MOMENT }
+        ensures adds { Adds (Refilled now) self.old self.new }
+        ensures room { self.old.waiting.room ≤ self.new.waiting.room }
+    {
+        self.tokens.refill(now);
+    }
+
+    /// What goes at a moment, after a refill: the first item of the highest class that waits, where there are tokens
+    /// for it, and else nothing, even if an item of a lower class would fit. What goes costs its length.
+    pub fn pop(&mut self, now: u64) -> Option<Item<T>>
+        requires { now ≤ MOMENT }
+        ensures pops { Pops now self.old result self.new }
+        ensures range { IfSome result HasLength }
+        ensures fewer { OnSome result (count_of self.new.waiting + 1 ≡ count_of self.old.waiting) }
+        ensures room { self.old.waiting.room ≤ self.new.waiting.room }
+    {
+        self.tokens.refill(now);
+        let length = self.queues.next_length()?;
+        if !self.tokens.spend(length) {
+            return None;
+        }
+        self.queues.pop()
+    }
+
+    /// The first moment, from the last one on, at which the next item can go; `None` where nothing waits.
+    pub fn wait_until(&self) -> Option<u64>
+        ensures { Waits self.now result }
+    {
+        let length = self.queues.next_length()?;
+        Some(self.tokens.first_moment(length))
+    }
+
+    /// How many items of a class wait.
+    pub fn waiting(&self, class: Class) -> usize
+        ensures { (rate depth : ℕ) (calls : List (Call T)) → Fits rate depth calls self.now → result ≡ length (left calls class) }
+    {
+        self.queues.len(class)
+    }
+}
