@@ -1,0 +1,235 @@
+-- One more call, in what the definitions say and in what a store has.
+use Rattle.std.proofs.Common.{◌≡◌, ◌≢◌, ℕ, ◌+◌, ◌<◌, ◌≤◌, ◌⊎◌, List, [], ◌∷◌, ◌++◌, Option, Some, None, Bool, true, false, ◌&&◌, max, length, refl, sym, ap, ◌∙◌, subst, arith, inl, inr}
+use Rattle.std.specs.Prelude.{◌==◌, ◌||◌, nat_lt, map, cond, if◌then◌else◌}
+use Rattle.std.specs.List.{list_any, flat_map}
+use Rattle.std.specs.Option.{option_or}
+use Rattle.std.proofs.lemmas.Bool.{false≢true, eq-eqb, ne_eqb, cases_eq}
+use Rattle.std.proofs.lemmas.Bool.Decides.{nat_tests}
+use Rattle.std.proofs.lemmas.List.{map-append, length-append}
+use Rattle.std.proofs.lemmas.List.Folds.{find-append, list_any-append}
+use Rattle.std.proofs.lemmas.List.Concat.{flat_map-append}
+use Rattle.srm_names.specs.declared.limits.TheConstants.{PAGES, MEMBERS}
+use Rattle.srm_names.specs.declared.page.Page.{Page}
+use Rattle.srm_names.specs.declared.stream.Stream.{Stream}
+use Rattle.srm_names.specs.declared.drawop.Drawop.{Drawop}
+use Rattle.srm_names.specs.FullName.{FullName}
+use Rattle.srm_names.specs.Histories.{or_else, greatest, firsts}
+use Rattle.srm_names.specs.Names.{first_page, same_page, same_stream, same_name}
+use Rattle.srm_names.proofs.Same.{same_stream-is, same_stream-itself, same_name-is}
+use Rattle.srm_names.proofs.Snoc.{firsts-snoc, first_of-snoc, or_else-none}
+use Rattle.srm_store.specs.Held.{has_name, held_at, number_in, known, page_of_drawop, page_of_name, pages_named, overflows}
+use Rattle.srm_store.specs.Finals.{Settling, rows_for, rows_of, rows_kept, FinalsContent, SameFinals, Settles}
+use Rattle.srm_store.specs.Places.{place_at}
+use Rattle.srm_store.specs.Rows.{RowContent}
+use Rattle.srm_store.specs.Tables.{TableContent, is_in, slot_of, row_at, drawop_at, each_once, IsNewTable, SameTable, TableGains, TableLearns}
+use Rattle.srm_store.specs.Stores.{StoreContent}
+use Rattle.srm_store.specs.Fits.{Fits, StillFits}
+use Rattle.srm_store.proofs.Placing.{place_at-blank}
+use Rattle.srm_store.proofs.Slots.{is_in-with_page, slot_of-in, slot_of-absent}
+use Rattle.srm_store.proofs.Pages.{length-included, each_once-firsts, is_in-firsts, once_with}
+
+-- a name among drawops
+option_or-is : {X : Type 0} (a b : Option X) → option_or a b ≡ or_else a b
+option_or-is None b = refl
+option_or-is (Some x) b = refl
+
+held_more : (inserted : List Drawop) (d : Drawop) (n : FullName) → held_at (inserted ++ d ∷ []) n ≡ (if same_name d.name n then or_else (held_at inserted n) (Some d) else held_at inserted n)
+held_more inserted d n = find-append (has_name n) inserted (d ∷ []) ∙ option_or-is (held_at inserted n) (cond (same_name d.name n) (Some d) None) ∙ go (same_name d.name n)
+  where
+    go : (b : Bool) → or_else (held_at inserted n) (cond b (Some d) None) ≡ (if b then or_else (held_at inserted n) (Some d) else held_at inserted n)
+    go true = refl
+    go false = or_else-none (held_at inserted n)
+
+eqb-flip : (a b : ℕ) → (a == b) ≡ (b == a)
+eqb-flip a b = go (cases_eq a b)
+  where
+    go : ((a ≡ b) ⊎ (a ≢ b)) → (a == b) ≡ (b == a)
+    go (inl e) = eq-eqb a b e ∙ sym (eq-eqb b a (sym e))
+    go (inr ne) = ne_eqb a b ne ∙ sym (ne_eqb b a (λ e. ne (sym e)))
+
+name_here : (a n : FullName) → n.stream ≡ a.stream → same_name a n ≡ (n.number == a.number)
+name_here a n e =
+    let same : same_stream a.stream n.stream ≡ true = ap (same_stream a.stream) e ∙ same_stream-itself a.stream in
+    ap (λ b. b && (a.number == n.number)) same ∙ eqb-flip a.number n.number
+
+name_elsewhere : (a n : FullName) → same_stream n.stream a.stream ≡ false → same_name a n ≡ false
+name_elsewhere a n other = go (same_name a n) refl
+  where
+    go : (b : Bool) → same_name a n ≡ b → b ≡ false
+    go false e = refl
+    go true e = absurd (false≢true (sym other ∙ ap (λ (m : FullName). same_stream n.stream m.stream) (same_name-is a n e) ∙ same_stream-itself n.stream))
+
+gains_at : (d : Drawop) (old new : TableContent) → TableGains d old new → (n : FullName) → n.stream.source < MEMBERS → drawop_at new n ≡ (if same_name d.name n then or_else (drawop_at old n) (Some d) else drawop_at old n)
+gains_at d old new g n lt = go (same_stream n.stream d.name.stream) refl
+  where
+    go : (b : Bool) → same_stream n.stream d.name.stream ≡ b → drawop_at new n ≡ (if same_name d.name n then or_else (drawop_at old n) (Some d) else drawop_at old n)
+    go true e =
+        let s = same_stream-is n.stream d.name.stream e in
+        rw (name_here d.name n s) (subst (λ (u : Stream). place_at (row_at new u).places n.number ≡ (if n.number == d.name.number then or_else (place_at (row_at old u).places n.number) (Some d) else place_at (row_at old u).places n.number)) (sym s) (g.row.each n.number))
+    go false e = rw (name_elsewhere d.name n e) ((g.others n.stream lt e).each n.number)
+
+gains_known : (d : Drawop) (old new : TableContent) → TableGains d old new → (s : Stream) → s.source < MEMBERS → (row_at new s).known ≡ (row_at old s).known
+gains_known d old new g s lt = go (same_stream s d.name.stream) refl
+  where
+    go : (b : Bool) → same_stream s d.name.stream ≡ b → (row_at new s).known ≡ (row_at old s).known
+    go true e = subst (λ u. (row_at new u).known ≡ (row_at old u).known) (sym (same_stream-is s d.name.stream e)) g.row.known
+    go false e = (g.others s lt e).known
+
+learns_at : (a : FullName) (old new : TableContent) → TableLearns a old new → (n : FullName) → n.stream.source < MEMBERS → drawop_at new n ≡ drawop_at old n
+learns_at a old new g n lt = go (same_stream n.stream a.stream) refl
+  where
+    go : (b : Bool) → same_stream n.stream a.stream ≡ b → drawop_at new n ≡ drawop_at old n
+    go true e = subst (λ u. place_at (row_at new u).places n.number ≡ place_at (row_at old u).places n.number) (sym (same_stream-is n.stream a.stream e)) (ap (λ (r : RowContent). place_at r.places n.number) g.row)
+    go false e = (g.others n.stream lt e).each n.number
+
+pub learns_known : (a : FullName) (old new : TableContent) → TableLearns a old new → (s : Stream) → s.source < MEMBERS → (row_at new s).known ≡ (if same_stream s a.stream then max (row_at old s).known a.number else (row_at old s).known)
+learns_known a old new g s lt = go (same_stream s a.stream) refl
+  where
+    go : (b : Bool) → same_stream s a.stream ≡ b → (row_at new s).known ≡ (if b then max (row_at old s).known a.number else (row_at old s).known)
+    go true e = subst (λ u. (row_at new u).known ≡ max (row_at old u).known a.number) (sym (same_stream-is s a.stream e)) (ap (λ (r : RowContent). r.known) g.row)
+    go false e = (g.others s lt e).known
+
+-- the greatest number, and one more
+pub greatest-append : (xs ys : List ℕ) → greatest (xs ++ ys) ≡ max (greatest xs) (greatest ys)
+greatest-append [] ys = omega arith
+greatest-append (x ∷ xs) ys = rw (greatest-append xs ys) (omega arith)
+
+known_more : (shown : List FullName) (a : FullName) (s : Stream) → known (shown ++ a ∷ []) s ≡ (if same_stream s a.stream then max (known shown s) a.number else known shown s)
+known_more shown a s = ap greatest (flat_map-append (number_in s) shown (a ∷ [])) ∙ greatest-append (flat_map (number_in s) shown) _ ∙ go (same_stream s a.stream)
+  where
+    go : (b : Bool) → max (known shown s) (greatest ((if b then a.number ∷ [] else []) ++ [])) ≡ (if b then max (known shown s) a.number else known shown s)
+    go true = omega arith
+    go false = omega arith
+
+-- the pages that were named
+any_front : {X : Type 0} (p : X → Bool) (xs ys : List X) (y : X) → list_any p ((xs ++ y ∷ []) ++ ys) ≡ list_any p (xs ++ ys) || p y
+any_front p xs ys y = rw (list_any-append p (xs ++ y ∷ []) ys, list_any-append p xs (y ∷ []), list_any-append p xs ys) (go (list_any p xs) (p y) (list_any p ys))
+  where
+    go : (a b c : Bool) → ((a || (b || false)) || c) ≡ ((a || c) || b)
+    go true b c = refl
+    go false true true = refl
+    go false true false = refl
+    go false false true = refl
+    go false false false = refl
+
+any_back : {X : Type 0} (p : X → Bool) (xs ys : List X) (y : X) → list_any p (xs ++ (ys ++ y ∷ [])) ≡ list_any p (xs ++ ys) || p y
+any_back p xs ys y = rw (list_any-append p xs (ys ++ y ∷ []), list_any-append p ys (y ∷ []), list_any-append p xs ys) (go (list_any p xs) (list_any p ys) (p y))
+  where
+    go : (a b c : Bool) → (a || (b || (c || false))) ≡ ((a || b) || c)
+    go true b c = refl
+    go false true c = refl
+    go false false true = refl
+    go false false false = refl
+
+or_assoc : (a b c : Bool) → (a || (b || c)) ≡ ((a || b) || c)
+or_assoc true b c = refl
+or_assoc false b c = refl
+
+pages_inserted : (inserted : List Drawop) (shown : List FullName) (d : Drawop) (p : Page) → is_in (pages_named (inserted ++ d ∷ []) shown) p ≡ is_in (pages_named inserted shown) p || same_page d.name.stream.page p
+pages_inserted inserted shown d p =
+    ap (λ ps. same_page first_page p || is_in (ps ++ map page_of_name shown) p) (map-append page_of_drawop inserted (d ∷ []))
+    ∙ ap (λ b. same_page first_page p || b) (any_front (λ q. same_page q p) (map page_of_drawop inserted) (map page_of_name shown) d.name.stream.page)
+    ∙ or_assoc (same_page first_page p) (is_in (map page_of_drawop inserted ++ map page_of_name shown) p) (same_page d.name.stream.page p)
+
+pages_shown : (inserted : List Drawop) (shown : List FullName) (n : FullName) (p : Page) → is_in (pages_named inserted (shown ++ n ∷ [])) p ≡ is_in (pages_named inserted shown) p || same_page n.stream.page p
+pages_shown inserted shown n p =
+    ap (λ ps. same_page first_page p || is_in (map page_of_drawop inserted ++ ps) p) (map-append page_of_name shown (n ∷ []))
+    ∙ ap (λ b. same_page first_page p || b) (any_back (λ q. same_page q p) (map page_of_drawop inserted) (map page_of_name shown) n.stream.page)
+    ∙ or_assoc (same_page first_page p) (is_in (map page_of_drawop inserted ++ map page_of_name shown) p) (same_page n.stream.page p)
+
+-- a page has no slot left exactly where it would be one too many
+module _ {inserted : List Drawop} {shown : List FullName} {settled : List Settling} {s : StoreContent} (h : Fits inserted shown settled s) (few : length s.table.pages ≤ PAGES) (p : Page) where
+  count : length (firsts same_page (pages_named inserted shown)) ≡ length s.table.pages
+  count =
+      let up = length-included s.table.pages (firsts same_page (pages_named inserted shown)) h.once (λ q there. is_in-firsts (pages_named inserted shown) q ∙ sym (h.pages q) ∙ there) in
+      let down = length-included (firsts same_page (pages_named inserted shown)) s.table.pages (each_once-firsts (pages_named inserted shown)) (λ q there. h.pages q ∙ sym (is_in-firsts (pages_named inserted shown) q) ∙ there) in
+      omega arith
+
+  counted : (b : Bool) → is_in s.table.pages p ≡ b → overflows inserted shown p ≡ nat_lt PAGES (if b then length s.table.pages else length s.table.pages + 1)
+  counted b e =
+      ap (λ ps. nat_lt PAGES (length ps)) (firsts-snoc same_page (pages_named inserted shown) p ∙ ap (λ (x : Bool). if x then firsts same_page (pages_named inserted shown) else firsts same_page (pages_named inserted shown) ++ p ∷ []) (sym (h.pages p) ∙ e))
+      ∙ go b
+    where
+      go : (b : Bool) → nat_lt PAGES (length (if b then firsts same_page (pages_named inserted shown) else firsts same_page (pages_named inserted shown) ++ p ∷ [])) ≡ nat_lt PAGES (if b then length s.table.pages else length s.table.pages + 1)
+      go true = ap (nat_lt PAGES) count
+      go false = let e : length (firsts same_page (pages_named inserted shown) ++ p ∷ []) ≡ length s.table.pages + 1 = omega (arith, length-append (firsts same_page (pages_named inserted shown)) (p ∷ []), count) in ap (nat_lt PAGES) e
+
+  pub full_overflows : slot_of s.table.pages p ≡ PAGES → overflows inserted shown p ≡ true
+  full_overflows full = go (is_in s.table.pages p) refl
+    where
+      go : (b : Bool) → is_in s.table.pages p ≡ b → overflows inserted shown p ≡ true
+      go true e = absurd (omega (arith, slot_of-in s.table.pages p e))
+      go false e = counted false e ∙ (let past : PAGES < length s.table.pages + 1 = omega (arith, slot_of-absent s.table.pages p e) in grind (arith, nat_tests))
+
+  pub overflows_full : overflows inserted shown p ≡ true → slot_of s.table.pages p ≡ PAGES
+  overflows_full over = go (is_in s.table.pages p) refl
+    where
+      go : (b : Bool) → is_in s.table.pages p ≡ b → slot_of s.table.pages p ≡ PAGES
+      go true e = let past : nat_lt PAGES (length s.table.pages) ≡ true = sym (counted true e) ∙ over in absurd (grind (arith, nat_tests))
+      go false e = let past : nat_lt PAGES (length s.table.pages + 1) ≡ true = sym (counted false e) ∙ over in let at = slot_of-absent s.table.pages p e in grind (arith, nat_tests)
+
+-- the calls
+pub fits_new : (t : TableContent) (f : FinalsContent) (s : StoreContent) → s.table ≡ t → s.finals ≡ f → IsNewTable t → ((m : ℕ) → rows_kept f m ≡ None) → Fits [] [] [] s
+fits_new t f s ts fs new none = record {
+  pages = λ p. ap (λ (x : TableContent). is_in x.pages p) ts ∙ ap (λ ps. is_in ps p) new.pages;
+  once = ap (λ (x : TableContent). each_once x.pages) ts ∙ ap each_once new.pages;
+  held = λ n lt. ap (λ x. drawop_at x n) ts ∙ (new.rows n.stream lt).each n.number ∙ place_at-blank n.number;
+  known = λ stream lt. ap (λ x. (row_at x stream).known) ts ∙ (new.rows stream lt).known;
+  rows = λ m. ap (λ x. rows_kept x m) fs ∙ none m;
+}
+
+module _ {inserted : List Drawop} {shown : List FullName} {settled : List Settling} (old new : StoreContent) (h : Fits inserted shown settled old) where
+  pub fits_gains : (d : Drawop) → TableGains d old.table new.table → new.finals ≡ old.finals → Fits (inserted ++ d ∷ []) shown settled new
+  fits_gains d g f = record {
+    pages = λ p. ap (λ ps. is_in ps p) g.pages ∙ is_in-with_page old.table.pages d.name.stream.page p ∙ ap (λ b. b || same_page d.name.stream.page p) (h.pages p) ∙ sym (pages_inserted inserted shown d p);
+    once = ap each_once g.pages ∙ once_with old.table.pages d.name.stream.page h.once;
+    held = λ n lt. gains_at d old.table new.table g n lt ∙ ap (λ o. if same_name d.name n then or_else o (Some d) else o) (h.held n lt) ∙ sym (held_more inserted d n);
+    known = λ stream lt. gains_known d old.table new.table g stream lt ∙ h.known stream lt;
+    rows = λ m. ap (λ x. rows_kept x m) f ∙ h.rows m;
+  }
+
+  pub fits_learns : (a : FullName) → TableLearns a old.table new.table → new.finals ≡ old.finals → Fits inserted (shown ++ a ∷ []) settled new
+  fits_learns a g f = record {
+    pages = λ p. ap (λ ps. is_in ps p) g.pages ∙ is_in-with_page old.table.pages a.stream.page p ∙ ap (λ b. b || same_page a.stream.page p) (h.pages p) ∙ sym (pages_shown inserted shown a p);
+    once = ap each_once g.pages ∙ once_with old.table.pages a.stream.page h.once;
+    held = λ n lt. learns_at a old.table new.table g n lt ∙ h.held n lt;
+    known = λ stream lt. learns_known a old.table new.table g stream lt ∙ ap (λ k. if same_stream stream a.stream then max k a.number else k) (h.known stream lt) ∙ sym (known_more shown a stream);
+    rows = λ m. ap (λ x. rows_kept x m) f ∙ h.rows m;
+  }
+
+  pub fits_same : SameTable old.table new.table → SameFinals old.finals new.finals → Fits inserted shown settled new
+  fits_same t f = record {
+    pages = λ p. ap (λ ps. is_in ps p) t.pages ∙ h.pages p;
+    once = ap each_once t.pages ∙ h.once;
+    held = λ n lt. (t.rows n.stream lt).each n.number ∙ h.held n lt;
+    known = λ stream lt. (t.rows stream lt).known ∙ h.known stream lt;
+    rows = λ m. f.each m ∙ h.rows m;
+  }
+
+  pub fits_settled : (member : ℕ) (rows : List FullName) → new.table ≡ old.table → Settles member rows old.finals new.finals → Fits inserted shown (settled ++ record { member = member; rows = rows } ∷ []) new
+  fits_settled member rows t f = record {
+    pages = λ p. ap (λ (x : TableContent). is_in x.pages p) t ∙ h.pages p;
+    once = ap (λ (x : TableContent). each_once x.pages) t ∙ h.once;
+    held = λ n lt. ap (λ x. drawop_at x n) t ∙ h.held n lt;
+    known = λ stream lt. ap (λ x. (row_at x stream).known) t ∙ h.known stream lt;
+    rows = λ m. f.each m ∙ ap (λ o. if m == member then or_else o (Some rows) else o) (h.rows m) ∙ sym (rows_more m);
+  }
+    where
+      choose : (m : ℕ) (b : Bool) → or_else (rows_of settled m) (if b then Some rows else None) ≡ (if b then or_else (rows_of settled m) (Some rows) else rows_of settled m)
+      choose m true = refl
+      choose m false = or_else-none (rows_of settled m)
+
+      rows_more : (m : ℕ) → rows_of (settled ++ record { member = member; rows = rows } ∷ []) m ≡ (if m == member then or_else (rows_of settled m) (Some rows) else rows_of settled m)
+      rows_more m = first_of-snoc (rows_for m) settled (record { member = member; rows = rows }) ∙ ap (λ b. or_else (rows_of settled m) (if b then Some rows else None)) (eqb-flip member m) ∙ choose m (m == member)
+
+pub same_table : (t : TableContent) → SameTable t t
+same_table t = record { pages = refl; rows = λ s lt. record { each = λ n. refl; known = refl } }
+
+pub same_finals : (f : FinalsContent) → SameFinals f f
+same_finals f = record { each = λ m. refl }
+
+pub still_fits_on : (a b c : StoreContent) → StillFits a b → StillFits b c → StillFits a c
+still_fits_on a b c h k = record { each = λ inserted shown settled f. k.each inserted shown settled (h.each inserted shown settled f) }
+
+pub still_fits : (s : StoreContent) → StillFits s s
+still_fits s = record { each = λ inserted shown settled h. h }

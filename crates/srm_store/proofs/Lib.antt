@@ -1,0 +1,9 @@
+pub mod Placing
+pub mod Unheld
+pub mod Slots
+pub mod Tabling
+pub mod Pages
+pub mod Fitting
+pub mod Reading
+pub mod Rooming
+pub mod Faults

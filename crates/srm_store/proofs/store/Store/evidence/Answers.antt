@@ -1,0 +1,51 @@
+use Rattle.std.proofs.Common.{refl, sym, subst, ap, arith, ◌∙◌, ◌++◌, ◌≡◌, ℕ, ◌-◌, true}
+use Rattle.srm_names.specs.declared.stream.Stream.{Stream}
+use Rattle.srm_store.specs.Fits.{Fits}
+use Rattle.srm_store.specs.Inside.{store_of}
+use Rattle.srm_store.specs.Stores.{StoreContent, StaysReady}
+use Rattle.srm_store.specs.Held.{names_after, overflows}
+use Rattle.srm_store.specs.Rows.{RowContent, row_unheld}
+use Rattle.srm_store.specs.declared.fault.StoreFault.TheVariants.{Memory}
+use Rattle.srm_store.proofs.Faults.{err_is, same_fault, no_page_limit}
+use Rattle.srm_store.specs.Tables.{slot_of}
+use Rattle.srm_store.proofs.Fitting.{fits_learns, full_overflows, overflows_full}
+use Rattle.srm_store.proofs.Reading.{newly_here}
+use Rattle.srm_store.proofs.Rooming.{ready_learns}
+use Rattle.srm_store.proofs.store.Store.evidence.Goals as goal
+
+pub returns-in_err-slot_for-clause-limit : goal.returns-in_err-slot_for-clause-limit
+returns-in_err-slot_for-clause-limit c = λ inserted shown settled h.
+    let fits = subst (Fits inserted shown settled) (sym c.self.view_is) h in
+    let full : overflows inserted shown c.args.name.stream.page ≡ true = full_overflows fits c.in_err-slot_for.ensures.few c.args.name.stream.page (ap (λ (s : Stream). slot_of c.self.inside.table.pages s.page) (sym c.stream-stream.ensures) ∙ c.in_err-slot_for.ensures.limit.0 refl) in
+    (λ e. full, λ over. err_is c.from_residual.result _ c.from_residual.ensures.1 ∙ same_fault _ _ c.in_err-slot_for.ensures.full)
+
+pub returns-in_err-reserve-clause-limit : goal.returns-in_err-reserve-clause-limit
+returns-in_err-reserve-clause-limit c = λ inserted shown settled h.
+    let fits = subst (Fits inserted shown settled) (sym c.self.view_is) h in
+    let page = ap (λ (s : Stream). slot_of c.self.inside.table.pages s.page) c.stream-stream.ensures in (
+      λ e. absurd (no_page_limit c.from_residual-in_err-reserve.result (err_is c.from_residual-in_err-reserve.result Memory c.from_residual-in_err-reserve.ensures.1) e),
+      λ over. absurd (omega (arith, overflows_full fits c.in_ok-slot_for.ensures.few c.args.name.stream.page over, page, c.in_ok-slot_for.ensures.value, c.in_ok-slot_for.ensures.below)),
+    )
+
+pub returns-clause-fits : goal.returns-clause-fits
+returns-clause-fits c = λ inserted shown settled h. fits_learns (store_of c.self.inside) _ (subst (Fits inserted shown settled) (sym c.self.view_is) h) c.args.name c.learn.ensures.learns refl
+
+pub returns-clause-answer : goal.returns-clause-answer
+returns-clause-answer c = λ inserted shown settled h.
+    c.in_ok-names.ensures.ok
+    ∙ ap (λ ns. ns ++ row_unheld c.row-2.result.now (names_after c.stream-stream.result c.known-known.result c.saturating_sub-count.result)) (c.in_ok-reserve.ensures.items ∙ c.take-list.ensures.items)
+    ∙ newly_here h (record { table = c.self.inside.table; is = ap (λ (s : StoreContent). s.table) c.self.view_is; row_is = c.row-2.ensures.value; source = c.row-2.ensures.source })
+    c.known-known.result c.saturating_sub-count.result c.args.name c.stream-stream.ensures
+    (c.known-known.ensures.value ∙ ap (λ (x : RowContent). x.known) (c.row.ensures.value ∙ sym c.row-2.ensures.value))
+    (c.saturating_sub-count.ensures ∙ ap (λ (k : ℕ). k - c.known-known.result) c.number.ensures.value)
+
+pub returns-clause-limit : goal.returns-clause-limit
+returns-clause-limit c = λ inserted shown settled h.
+    let fits = subst (Fits inserted shown settled) (sym c.self.view_is) h in
+    let page = ap (λ (s : Stream). slot_of c.self.inside.table.pages s.page) c.stream-stream.ensures in
+    (λ e. absurd (cc), λ over. absurd (omega (arith, overflows_full fits c.in_ok-slot_for.ensures.few c.args.name.stream.page over, page, c.in_ok-slot_for.ensures.value, c.in_ok-slot_for.ensures.below)))
+
+pub returns-clause-ready : goal.returns-clause-ready
+returns-clause-ready c =
+    let after : StoreContent = record { table = c.learn.new.self; rooms = c.take-list.new.self; finals = c.self.inside.finals } in
+    subst (λ (s : StoreContent). StaysReady s after) c.self.view_is (ready_learns (store_of c.self.inside) after c.args.name c.learn.ensures.learns c.learn.ensures.still c.take-list.ensures.others)

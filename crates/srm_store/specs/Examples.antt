@@ -1,0 +1,86 @@
+-- The definitions at worked examples.
+use Rattle.std.specs.Prelude.{◌≡◌, ℕ, true, false, [], ◌∷◌, map, Some, None, List, refl}
+use Rattle.srm_names.specs.declared.stream.Stream.{Stream}
+use Rattle.srm_names.specs.declared.drawop.Drawop.{Drawop}
+use Rattle.srm_names.specs.FullName.{FullName}
+use Rattle.srm_names.specs.Names.{named}
+use Rattle.srm_store.specs.declared.insert.Insert.TheVariants.{Fresh, Known, Conflict}
+use Rattle.srm_store.specs.Held.{held_at, is_held, is_missing, insert_answer, known, missing, newly_missing, released, overflows}
+use Rattle.srm_store.specs.Finals.{Settling, final}
+
+abbrev on_page : ℕ → ℕ → Stream
+on_page source number = record { source = source; page = record { creator = 0; number = number } }
+
+abbrev s : Stream
+s = on_page 0 0
+
+abbrev drawn : ℕ → ℕ → Drawop
+drawn number byte = record { name = named s number; stamp = 7; body = byte ∷ [] }
+
+-- evidence of 3, then 2 is inserted, then evidence of 4
+all_three : newly_missing [] [] (named s 3) ≡ named s 1 ∷ named s 2 ∷ named s 3 ∷ []
+all_three = refl
+
+the_fourth : newly_missing (drawn 2 1 ∷ []) (named s 3 ∷ []) (named s 4) ≡ named s 4 ∷ []
+the_fourth = refl
+
+not_the_held_one : newly_missing (drawn 2 1 ∷ []) [] (named s 3) ≡ named s 1 ∷ named s 3 ∷ []
+not_the_held_one = refl
+
+nothing_new : newly_missing [] (named s 3 ∷ []) (named s 2) ≡ []
+nothing_new = refl
+
+the_missing : missing (drawn 2 1 ∷ []) (named s 3 ∷ named s 4 ∷ []) s ≡ named s 1 ∷ named s 3 ∷ named s 4 ∷ []
+the_missing = refl
+
+three_is_missing : is_missing (drawn 2 1 ∷ []) (named s 3 ∷ []) (named s 3) ≡ true
+three_is_missing = refl
+
+the_greatest_known : known (named s 4 ∷ named (on_page 1 0) 9 ∷ named s 3 ∷ []) s ≡ 4
+the_greatest_known = refl
+
+-- release stops at the gap, and goes on once it is filled
+none_before_the_gap : released (drawn 2 1 ∷ []) s ≡ []
+none_before_the_gap = refl
+
+both : released (drawn 2 1 ∷ drawn 1 2 ∷ drawn 4 3 ∷ []) s ≡ drawn 1 2 ∷ drawn 2 1 ∷ []
+both = refl
+
+-- the first drawop of a name stays
+the_first_stays : held_at (drawn 2 1 ∷ drawn 2 9 ∷ []) (named s 2) ≡ Some (drawn 2 1)
+the_first_stays = refl
+
+two_is_held : is_held (drawn 2 1 ∷ []) (named s 2) ≡ true
+two_is_held = refl
+
+fresh : insert_answer (drawn 1 1) (held_at (drawn 2 1 ∷ []) (named s 1)) ≡ Fresh
+fresh = refl
+
+the_same_again : insert_answer (drawn 2 1) (held_at (drawn 2 1 ∷ []) (named s 2)) ≡ Known
+the_same_again = refl
+
+another_body : insert_answer (drawn 2 9) (held_at (drawn 2 1 ∷ []) (named s 2)) ≡ Conflict
+another_body = refl
+
+-- the first page and seven more fill a table
+abbrev seven : List FullName
+seven = map (λ k. named (on_page 0 k) 1) (1 ∷ 2 ∷ 3 ∷ 4 ∷ 5 ∷ 6 ∷ 7 ∷ [])
+
+a_ninth : overflows [] seven (record { creator = 0; number = 8 }) ≡ true
+a_ninth = refl
+
+one_of_the_eight : overflows [] seven (record { creator = 0; number = 7 }) ≡ false
+one_of_the_eight = refl
+
+-- a settled member goes as far as its rows of the first settling
+abbrev settled : List Settling
+settled = record { member = 0; rows = named s 3 ∷ [] } ∷ record { member = 0; rows = named s 9 ∷ [] } ∷ []
+
+its_row : final settled s ≡ Some 3
+its_row = refl
+
+no_row : final settled (on_page 0 1) ≡ Some 0
+no_row = refl
+
+not_settled : final settled (on_page 1 0) ≡ None
+not_settled = refl

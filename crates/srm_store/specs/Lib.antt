@@ -1,0 +1,10 @@
+pub mod Held
+pub mod Finals
+pub mod Places
+pub mod Rows
+pub mod Tables
+pub mod Rooms
+pub mod Stores
+pub mod Fits
+pub mod Inside
+pub mod Examples

@@ -1,0 +1,203 @@
+//! What a member holds and knows.
+
+ghost use Rattle.std.specs.Prelude.{◌≡◌, ◌≢◌, ◌≤◌, ◌↔◌, true, List, [], ◌∷◌, ◌++◌, length, IfOk, OnOk, OnErr, IfSome, IsOk};
+ghost use Rattle.std.specs.Option.{option_copied};
+ghost use Rattle.srm_names.specs.declared.drawop.Drawop.{Drawop as ADrawop};
+ghost use Rattle.srm_names.specs.FullName.{FullName};
+ghost use Rattle.srm_store.specs.declared.fault.StoreFault.TheVariants.{PageLimit, Memory};
+ghost use Rattle.srm_store.specs.Held.{held_at, is_held, known, missing, newly_missing, released, insert_answer, overflows};
+ghost use Rattle.srm_store.specs.Finals.{Settling, final};
+ghost use Rattle.srm_store.specs.Stores.{IsReady, IsReadyToSettle, AreReady, StaysReady};
+ghost use Rattle.srm_store.specs.Fits.{Fits, StillFits};
+
+use crate::fault::StoreFault;
+use crate::finals::Finals;
+use crate::insert::Insert;
+use crate::rooms::Rooms;
+use crate::table::Table;
+use srm_names::{DRAWOPS, Drawop, Member, Name, Stream};
+use std::alloc::{AllocError, Global};
+use std::marker::Model;
+
+/// What a member holds and knows: the first drawop of each name that was inserted, how far each stream is known to
+/// exist, and how far the streams of those that left go.
+///
+/// It has rows for at most eight pages: the first page from the start, each further one once it is named.
+#[derive(Drop)]
+pub struct Store {
+    alloc: Global,
+    table: Table,
+    rooms: Rooms,
+    finals: Finals,
+}
+
+impl Model for Store {
+    ghost use Rattle.srm_store.specs.Stores.{StoreContent};
+
+    ghost Value = { StoreContent };
+
+    ghost use Rattle.srm_store.specs.Inside.{store_of};
+
+    ghost view = { store_of };
+}
+
+impl Store {
+    /// An empty store. Only want of memory refuses it.
+    pub fn new(alloc: Global) -> Result<Store, AllocError>
+        ensures { IfOk result (Fits [] [] []) }
+    {
+        Ok(Store {
+            alloc,
+            table: Table::new(alloc)?,
+            rooms: Rooms::new(alloc),
+            finals: Finals::new(alloc)?,
+        })
+    }
+
+    /// Makes room, so that one insert and one evidence of each of these names, and one settling with all of them, aren't
+    /// refused for memory. Nothing that is held or known changes; the room of the call before is given up. Only want of
+    /// memory refuses it.
+    pub fn room(&mut self, names: &[Name]) -> Result<(), StoreFault>
+        ensures kept { StillFits self.old self.new }
+        ensures ready { OnOk result (AreReady names.now self.new) }
+        ensures err { OnErr result (result ≡ Err Memory) }
+    {
+        self.rooms.clear();
+        self.finals.room(names.len())?;
+        for name in names {
+            self.room_for(*name)?;
+        }
+        Ok(())
+    }
+
+    /// Makes room for one insert and one evidence of a name.
+    fn room_for(&mut self, name: Name) -> Result<(), AllocError>
+        ensures kept { StillFits self.old self.new }
+        ensures ok { OnOk result (IsReady name self.new) }
+        ensures ready { StaysReady self.old self.new }
+        ensures settling { self.new.finals ≡ self.old.finals }
+    {
+        self.table.make_places(name)?;
+        let known = self.table.row(name.stream()).known();
+        self.rooms
+            .make(name, name.number().saturating_sub(known) as usize)
+    }
+
+    /// Holds a drawop, unless one of its name is held, and says what it found. What is known to exist doesn't change.
+    ///
+    /// [`StoreFault::PageLimit`] where its page would be the ninth; [`StoreFault::Memory`].
+    pub fn insert(&mut self, drawop: Drawop) -> Result<Insert, StoreFault>
+        ensures fits { OnOk result ((inserted : List ADrawop) (shown : List FullName) (settled : List Settling) → Fits inserted shown settled self.old
+            → Fits (inserted ++ drawop ∷ []) shown settled self.new) }
+        ensures answer { IfOk result (λ answer. (inserted : List ADrawop) (shown : List FullName) (settled : List Settling) → Fits inserted shown settled self.old
+            → answer ≡ insert_answer drawop (held_at inserted drawop.name)) }
+        ensures err { OnErr result (StillFits self.old self.new) }
+        ensures limit { (inserted : List ADrawop) (shown : List FullName) (settled : List Settling) → Fits inserted shown settled self.old
+            → ((result ≡ Err PageLimit) ↔ (overflows inserted shown drawop.name.stream.page ≡ true)) }
+        ensures room { IsReady drawop.name self.old → result ≢ Err Memory }
+        ensures ready { StaysReady self.old self.new }
+        ensures settling { self.new.finals ≡ self.old.finals }
+    {
+        self.table.insert(drawop)
+    }
+
+    /// A name is known to exist, and all lower numbers of its stream. Answers the names that are newly missing, in order.
+    /// What is held doesn't change. It takes a step for each number that is newly known.
+    ///
+    /// [`StoreFault::PageLimit`] where its page would be the ninth; [`StoreFault::Memory`].
+    pub fn evidence(&mut self, name: Name) -> Result<Vec<Name>, StoreFault>
+        ensures fits { OnOk result ((inserted : List ADrawop) (shown : List FullName) (settled : List Settling) → Fits inserted shown settled self.old
+            → Fits inserted (shown ++ name ∷ []) settled self.new) }
+        ensures answer { IfOk result (λ names. (inserted : List ADrawop) (shown : List FullName) (settled : List Settling) → Fits inserted shown settled self.old
+            → names.items ≡ newly_missing inserted shown name) }
+        ensures err { OnErr result (StillFits self.old self.new) }
+        ensures limit { (inserted : List ADrawop) (shown : List FullName) (settled : List Settling) → Fits inserted shown settled self.old
+            → ((result ≡ Err PageLimit) ↔ (overflows inserted shown name.stream.page ≡ true)) }
+        ensures room { IsReady name self.old → result ≢ Err Memory }
+        ensures ready { StaysReady self.old self.new }
+        ensures settling { self.new.finals ≡ self.old.finals }
+    {
+        let stream = name.stream();
+        self.table.slot_for(stream.page)?;
+        let known = self.table.row(stream).known();
+        let count = name.number().saturating_sub(known);
+        let mut list = self.rooms.take(name, count as usize);
+        list.reserve(count as usize)?;
+        let names = self
+            .table
+            .row(stream)
+            .add_unheld(list, &stream, known, count)?;
+        self.table.learn(name);
+        Ok(names)
+    }
+
+    /// The missing names of a stream, in order: those that are known to exist and aren't held. It takes a step for each
+    /// number that is known. Only want of memory refuses it.
+    pub fn missing(&self, stream: Stream) -> Result<Vec<Name>, StoreFault>
+        ensures value { IfOk result (λ names. (inserted : List ADrawop) (shown : List FullName) (settled : List Settling) → Fits inserted shown settled self.now
+            → names.items ≡ missing inserted shown stream) }
+        ensures err { OnErr result (result ≡ Err Memory) }
+    {
+        let row = self.table.row(stream);
+        let names = row.add_unheld(Vec::new(self.alloc), &stream, 0, row.known())?;
+        Ok(names)
+    }
+
+    /// Whether a drawop of this name is held. Takes no memory.
+    pub fn holds(&self, name: Name) -> bool
+        ensures { (inserted : List ADrawop) (shown : List FullName) (settled : List Settling) → Fits inserted shown settled self.now
+            → result ≡ is_held inserted name }
+    {
+        self.table.row(name.stream()).holds(name.number())
+    }
+
+    /// The drawop that is held under this name. Takes no memory.
+    pub fn get(&self, name: Name) -> Option<&Drawop>
+        ensures { (inserted : List ADrawop) (shown : List FullName) (settled : List Settling) → Fits inserted shown settled self.now
+            → option_copied result ≡ held_at inserted name }
+    {
+        self.table.row(name.stream()).get(name.number())
+    }
+
+    /// The greatest number of a stream that is known to exist, or 0. Takes no memory.
+    pub fn known(&self, stream: Stream) -> u32
+        ensures value { (inserted : List ADrawop) (shown : List FullName) (settled : List Settling) → Fits inserted shown settled self.now
+            → result ≡ known shown stream }
+        ensures last { result ≤ DRAWOPS }
+    {
+        self.table.row(stream).known()
+    }
+
+    /// How many drawops of a stream may be released: those from number 1 to the one in front of the first gap. Takes no
+    /// memory.
+    pub fn released(&self, stream: Stream) -> u32
+        ensures value { (inserted : List ADrawop) (shown : List FullName) (settled : List Settling) → Fits inserted shown settled self.now
+            → result ≡ length (released inserted stream) }
+        ensures last { result ≤ DRAWOPS }
+    {
+        self.table.row(stream).released()
+    }
+
+    /// A member left, and its streams go as far as these rows say, which are rows of that member. A second settling of a
+    /// member keeps the first. Only want of memory refuses it.
+    pub fn settle_final(&mut self, member: Member, rows: &[Name]) -> Result<(), StoreFault>
+        ensures fits { OnOk result ((inserted : List ADrawop) (shown : List FullName) (settled : List Settling) → Fits inserted shown settled self.old
+            → Fits inserted shown (settled ++ record { member = member; rows = rows.now } ∷ []) self.new) }
+        ensures err { OnErr result (StillFits self.old self.new) }
+        ensures refusal { OnErr result (result ≡ Err Memory) }
+        ensures room { IsReadyToSettle (length rows.now) self.old → IsOk result }
+        ensures ready { StaysReady self.old self.new }
+    {
+        self.finals.settle(member, rows)?;
+        Ok(())
+    }
+
+    /// The last number of a stream, where its source was settled: 0 where it has no row. Takes no memory.
+    pub fn final_of(&self, stream: Stream) -> Option<u32>
+        ensures value { (inserted : List ADrawop) (shown : List FullName) (settled : List Settling) → Fits inserted shown settled self.now
+            → result ≡ final settled stream }
+        ensures last { IfSome result (λ number. number ≤ DRAWOPS) }
+    {
+        self.finals.final_of(stream)
+    }
+}

@@ -1,0 +1,177 @@
+//! The rows of all streams.
+
+ghost use Rattle.std.specs.Prelude.{◌≡◌, ◌≢◌, ◌≤◌, ◌<◌, ◌+◌, ◌*◌, ◌↔◌, OnOk, IfOk, OnErr, IsErr, length, vec_capacity};
+ghost use Rattle.srm_names.specs.Names.{first_page};
+ghost use Rattle.srm_store.specs.Held.{insert_answer};
+ghost use Rattle.srm_store.specs.declared.fault.StoreFault.TheVariants.{PageLimit, Memory};
+ghost use Rattle.srm_store.specs.Tables.{row_at, drawop_at, slot_of, with_page, IsNewTable, SameTable, TableGains, TableLearns, HasPlaceFor, StillHasPlaces};
+
+use crate::fault::StoreFault;
+use crate::insert::Insert;
+use crate::row::Row;
+use srm_names::{Drawop, MEMBERS, Member, Name, PAGES, Page, Stream};
+use std::alloc::{AllocError, Global};
+use std::marker::Model;
+
+/// Rows in the table: one for each source in each slot, and one more of each, which are never written and answer for
+/// pages that have no slot.
+const ROWS: usize = (PAGES as usize + 1) * MEMBERS as usize;
+
+/// The rows of all streams, by page slot and source. A row is found by looking through the pages, of which there are at
+/// most [`PAGES`], and by its place.
+#[derive(Drop)]
+pub struct Table {
+    /// The pages by slot, in the order in which they were named.
+    pages: Vec<Page>,
+    /// The rows, slot after slot. Those behind the last page are blank.
+    rows: Vec<Row>,
+}
+
+impl Model for Table {
+    ghost use Rattle.srm_store.specs.Tables.{TableContent};
+
+    ghost Value = { TableContent };
+
+    ghost use Rattle.srm_store.specs.Inside.{table_of, TableIsRight};
+
+    ghost view = { table_of };
+
+    ghost invariant = { TableIsRight };
+}
+
+impl Table {
+    /// A table with the first page, in which nothing is held or known.
+    pub fn new(alloc: Global) -> Result<Table, AllocError>
+        ensures { IfOk result IsNewTable }
+    {
+        let mut pages = Vec::with_capacity(alloc, PAGES as usize)?;
+        pages.push(first_page())?;
+        let mut rows = Vec::with_capacity(alloc, ROWS)?;
+        for _row in 0..ROWS {
+            rows.push(Row::new(alloc))?;
+        }
+        Ok(Table { pages, rows })
+    }
+
+    /// The slot of a page: the one after the last, where it has none.
+    fn slot(&self, page: Page) -> usize
+        ensures value { result ≡ slot_of self.now.pages page }
+        ensures last { result ≤ PAGES }
+        ensures few { length self.now.pages ≤ PAGES }
+    {
+        for (slot, named) in self.pages.iter().enumerate() {
+            if *named == page {
+                return slot;
+            }
+        }
+        self.pages.len()
+    }
+
+    /// The slot that a page has, or gets when it is named.
+    pub fn slot_for(&self, page: Page) -> Result<usize, StoreFault>
+        ensures value { IfOk result (λ slot. slot ≡ slot_of self.now.pages page) }
+        ensures below { IfOk result (λ slot. slot < PAGES) }
+        ensures full { OnErr result (result ≡ Err PageLimit) }
+        ensures limit { IsErr result ↔ (slot_of self.now.pages page ≡ PAGES) }
+        ensures few { length self.now.pages ≤ PAGES }
+    {
+        let slot = self.slot(page);
+        if slot == PAGES as usize {
+            return Err(StoreFault::PageLimit);
+        }
+        Ok(slot)
+    }
+
+    /// The row of a stream. That of a page without a slot is blank.
+    pub fn row(&self, stream: Stream) -> &Row
+        ensures value { result.now ≡ row_at self.now stream }
+        ensures source { stream.source < MEMBERS }
+    {
+        let slot = self.slot(stream.page);
+        &self.rows[place(slot, stream.source)]
+    }
+
+    /// Holds a drawop, unless one of its name is held.
+    pub fn insert(&mut self, drawop: Drawop) -> Result<Insert, StoreFault>
+        ensures answer { IfOk result (λ answer. answer ≡ insert_answer drawop (drawop_at self.old drawop.name)) }
+        ensures ok { OnOk result (TableGains drawop self.old self.new) }
+        ensures err { OnErr result (SameTable self.old self.new) }
+        ensures still { StillHasPlaces self.old self.new }
+        ensures limit { (result ≡ Err PageLimit) ↔ (slot_of self.old.pages drawop.name.stream.page ≡ PAGES) }
+        ensures again { HasPlaceFor drawop.name self.old → result ≢ Err Memory }
+        ensures source { drawop.name.stream.source < MEMBERS }
+        ensures few { length self.old.pages ≤ PAGES }
+    {
+        let stream = drawop.name.stream();
+        let slot = self.slot_for(stream.page)?;
+        let answer = self.rows[place(slot, stream.source)].insert(drawop)?;
+        seat(&mut self.pages, slot, stream.page);
+        Ok(answer)
+    }
+
+    /// A name is known to exist, and all lower ones of its stream.
+    pub fn learn(&mut self, name: Name)
+        requires { slot_of self.old.pages name.stream.page < PAGES }
+        ensures learns { TableLearns name self.old self.new }
+        ensures still { StillHasPlaces self.old self.new }
+    {
+        let stream = name.stream();
+        let slot = self.slot(stream.page);
+        self.rows[place(slot, stream.source)].know(name.number());
+        seat(&mut self.pages, slot, stream.page);
+    }
+
+    /// Makes a place for the drawop of a name, wherever its row is or comes to be: a page without a slot may get any of
+    /// those that are left.
+    pub fn make_places(&mut self, name: Name) -> Result<(), AllocError>
+        ensures same { SameTable self.old self.new }
+        ensures still { StillHasPlaces self.old self.new }
+        ensures ok { OnOk result (HasPlaceFor name self.new) }
+    {
+        let stream = name.stream();
+        let first = self.slot(stream.page);
+        let end = if first < self.pages.len() {
+            first + 1
+        } else {
+            PAGES as usize
+        };
+        let source = stream.source.index();
+        let number = name.number();
+        for slot in first..end {
+            self.rows[slot * MEMBERS as usize + source].make_place(number)?;
+        }
+        Ok(())
+    }
+}
+
+/// The page that each table has from the start.
+fn first_page() -> Page
+    ensures { result ≡ first_page }
+{
+    Page {
+        creator: Member::new(0).unwrap(),
+        number: 0,
+    }
+}
+
+/// The place of a row.
+fn place(slot: usize, source: Member) -> usize
+    requires { slot ≤ PAGES }
+    ensures value { result ≡ slot * MEMBERS + source }
+    ensures source { source < MEMBERS }
+{
+    slot * MEMBERS as usize + source.index()
+}
+
+/// A page that was named is in the table.
+fn seat(pages: &mut Vec<Page>, slot: usize, page: Page)
+    requires at { slot ≡ slot_of pages.old.items page }
+    requires below { slot < PAGES }
+    requires few { PAGES ≤ vec_capacity pages.old }
+    ensures items { pages.new.items ≡ with_page pages.old.items page }
+    ensures few { PAGES ≤ vec_capacity pages.new }
+{
+    if slot == pages.len() {
+        pages.push(page).unwrap();
+    }
+}
