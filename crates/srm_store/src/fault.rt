@@ -11,10 +11,10 @@ use thiserror::Error;
 pub enum StoreFault {
     /// The call names a page that isn't in the table, and the table has no slot left.
     #[error("the table has no slot for another page")]
-    PageLimit,
+    PageLimit = 1,
     /// Memory ran out.
     #[error("out of memory")]
-    Memory,
+    Memory = 2,
 }
 
 impl From<AllocError> for StoreFault {
