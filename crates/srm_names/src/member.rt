@@ -6,7 +6,7 @@ use crate::limits::MEMBERS;
 use std::marker::Model;
 
 /// A member of the session, by its number: 0 to 31. Contracts see the number.
-#[derive(Clone, Copy, Debug, PartialEq, Eq, PartialOrd, Ord)]
+#[derive(Clone, Copy, Debug, PartialEq, Eq, PartialOrd, Ord, Hash)]
 pub struct Member {
     number: u8,
 }

@@ -13,7 +13,7 @@ use std::marker::Model;
 /// The name of a drawop: its stream and its number there, from 1 to 65,536. A name is never given to another drawop.
 ///
 /// Names are in order of source, page creator, page number and number; `<` and `cmp` are in this order.
-#[derive(Clone, Copy, Debug, PartialEq, Eq, PartialOrd, Ord)]
+#[derive(Clone, Copy, Debug, PartialEq, Eq, PartialOrd, Ord, Hash)]
 pub struct Name {
     stream: Stream,
     number: u32,
