@@ -1,0 +1,129 @@
+-- Lists of arms: their names, their plans, and how they are drawn.
+use Rattle.std.proofs.Common.{◌≡◌, ℕ, zero, suc, ◌+◌, ◌<◌, List, [], ◌∷◌, ◌++◌, map, length, get_or, take, Option, Some, None, Bool, true, false, ◌||◌, cond, refl, sym, ap, subst, ◌∙◌, arith}
+use Rattle.std.specs.Prelude.{if◌then◌else◌, option_map, find, is_some}
+use Rattle.std.specs.List.{list_any, AllByRecursion}
+use Rattle.std.proofs.lemmas.List.{take_more}
+use Rattle.srm_names.specs.FullName.{FullName}
+use Rattle.srm_names.specs.Histories.{or_else, last_of}
+use Rattle.srm_names.specs.Names.{same_name, name_below, ascending, among}
+use Rattle.srm_names.proofs.Same.{same_name-is}
+use Rattle.srm_names.proofs.Orders.{stands_once, and_right}
+use Rattle.srm_timers.specs.declared.arm.Arm.{Arm}
+use Rattle.srm_timers.specs.declared.timed.Timed.{Timed}
+use Rattle.srm_timers.specs.Arms.{Plan, Setting, plan_of, setting, arm_name, arm_names, arm_of, ArmsAre, AreDrawn}
+use Rattle.srm_timers.specs.Ends.{timed_at, arm_end, is_short, AreShort}
+use Rattle.srm_timers.specs.Places.{names_of, moment_among, is_timed}
+
+pub same_itself : (n : FullName) → same_name n n ≡ true
+same_itself n = grind arith
+
+-- one more arm that is drawn
+pub drawn_more : {W : Type 0} (draw : W → ℕ × W) (low high : Arm → ℕ) (from mid to : W) (arms : List Arm) (a : Arm)
+    → AreDrawn draw low high from arms mid → AreDrawn draw low high mid (a ∷ []) to → AreDrawn draw low high from (arms ++ a ∷ []) to
+drawn_more draw low high from mid to [] a h k = subst (λ w. AreDrawn draw low high w (a ∷ []) to) h k
+drawn_more draw low high from mid to (b ∷ arms) a h k = (h.0, drawn_more draw low high (draw from).1 mid to arms a h.1 k)
+
+all_more : {X : Type 0} (P : X → Type 0) (xs : List X) (x : X) → AllByRecursion P xs → P x → AllByRecursion P (xs ++ x ∷ [])
+all_more P [] x all here = (here, tt)
+all_more P (y ∷ xs) x all here = (all.0, all_more P xs x all.1 here)
+
+pub short_more : (arms : List Arm) (a : Arm) → AreShort arms → is_short a → AreShort (arms ++ a ∷ [])
+short_more arms a h here = record { each = all_more is_short arms a h.each here }
+
+map_more : {X Y : Type 0} (f : X → Y) (xs : List X) (x : X) → map f (xs ++ x ∷ []) ≡ map f xs ++ f x ∷ []
+map_more f [] x = refl
+map_more f (y ∷ xs) x = ap (λ ys. f y ∷ ys) (map_more f xs x)
+
+-- one more element of a list that is gone through
+pub map_take : {X Y : Type 0} (f : X → Y) (xs : List X) (i : ℕ) (x : X) → i < length xs → x ≡ get_or xs i x → map f (take (i + 1) xs) ≡ map f (take i xs) ++ f x ∷ []
+map_take f xs i x lt is = ap (map f) (take_more xs i x lt) ∙ map_more f (take i xs) (get_or xs i x) ∙ ap (λ y. map f (take i xs) ++ f y ∷ []) (sym is)
+
+-- one more arm that is planned
+pub plans_more : (f : FullName → Plan) (names : List FullName) (i : ℕ) (n : FullName) (arms arms' : List Arm) (a : Arm) → i < length names → n ≡ get_or names i n
+    → map plan_of arms ≡ map f (take i names) → arms' ≡ arms ++ a ∷ [] → plan_of a ≡ f n → map plan_of arms' ≡ map f (take (i + 1) names)
+plans_more f names i n arms arms' a lt is h items here =
+    ap (map plan_of) items ∙ map_more plan_of arms a ∙ ap (λ ps. ps ++ plan_of a ∷ []) h ∙ ap (λ p. map f (take i names) ++ p ∷ []) here ∙ sym (map_take f names i n lt is)
+
+-- arms by plan have the names that are planned
+pub planned_names : (f : FullName → Plan) → ((n : FullName) → (f n).name ≡ n) → (names : List FullName) (arms : List Arm) → map plan_of arms ≡ map f names → arm_names arms ≡ names
+planned_names f own [] [] e = refl
+planned_names f own [] (a ∷ arms) e = cc
+planned_names f own (n ∷ names) [] e = cc
+planned_names f own (n ∷ names) (a ∷ arms) e =
+    let head : plan_of a ≡ f n = cc in
+    let tail : map plan_of arms ≡ map f names = cc in
+    ap (λ m. m ∷ arm_names arms) (ap (λ (p : Plan). p.name) head ∙ own n) ∙ ap (λ ms. n ∷ ms) (planned_names f own names arms tail)
+
+-- and, by name, the settings that are planned
+setting_if : (n m : FullName) (a : Arm) (f : FullName → Plan) (b rest : Bool) (found : Option Arm) → same_name n m ≡ b → setting a ≡ (f m).setting
+    → option_map setting found ≡ (if rest then Some (f n).setting else None)
+    → option_map setting (cond b (Some a) found) ≡ (if b || rest then Some (f n).setting else None)
+setting_if n m a f true rest found same is more = ap Some (is ∙ ap (λ k. (f k).setting) (sym (same_name-is n m same)))
+setting_if n m a f false rest found same is more = more
+
+pub planned_settings : (f : FullName → Plan) → ((n : FullName) → (f n).name ≡ n) → (names : List FullName) (arms : List Arm) → map plan_of arms ≡ map f names → (n : FullName)
+    → option_map setting (arm_of n arms) ≡ (if among names n then Some (f n).setting else None)
+planned_settings f own [] [] e n = refl
+planned_settings f own [] (a ∷ arms) e n = cc
+planned_settings f own (m ∷ names) [] e n = cc
+planned_settings f own (m ∷ names) (a ∷ arms) e n =
+    let head : plan_of a ≡ f m = cc in
+    let tail : map plan_of arms ≡ map f names = cc in
+    let name : a.name ≡ m = ap (λ (p : Plan). p.name) head ∙ own m in
+    setting_if n m a f (same_name n a.name) (among names n) (arm_of n arms) (ap (same_name n) (sym name)) (ap (λ (p : Plan). p.setting) head) (planned_settings f own names arms tail n)
+    ∙ ap (λ k. if same_name n k || among names n then Some (f n).setting else None) name
+
+-- arms by plan are exactly those planned
+pub planned_are : (f : FullName → Plan) (settings : FullName → Option Setting) (names : List FullName) (arms : List Arm) → ((n : FullName) → (f n).name ≡ n)
+    → ascending name_below names ≡ true → map plan_of arms ≡ map f names → ((n : FullName) → (if among names n then Some (f n).setting else None) ≡ settings n) → ArmsAre settings arms
+planned_are f settings names arms own rising e is = record {
+  in_order = ap (ascending name_below) (planned_names f own names arms e) ∙ rising;
+  exact = λ n. planned_settings f own names arms e n ∙ is n;
+}
+
+pub ascending_tail : (n : FullName) (names : List FullName) → ascending name_below (n ∷ names) ≡ true → ascending name_below names ≡ true
+ascending_tail n [] h = refl
+ascending_tail n (m ∷ names) h = and_right (name_below n m) (ascending name_below (m ∷ names)) h
+
+none_found : (n : FullName) (arms : List Arm) → among (arm_names arms) n ≡ false → arm_of n arms ≡ None
+none_found n [] h = refl
+none_found n (a ∷ arms) h = go (same_name n a.name) h (none_found n arms)
+  where
+    go : (b : Bool) → (b || among (arm_names arms) n) ≡ false → (among (arm_names arms) n ≡ false → arm_of n arms ≡ None) → cond b (Some a) (arm_of n arms) ≡ None
+    go true h more = cc
+    go false h more = more h
+
+-- where names rise, the last arm of a name is the one that is found first
+module _ {C V : Type 0} (tell : FullName → C → Option V) (make : Arm → C) (value : Arm → V)
+    (tells : (n : FullName) (a : Arm) → tell n (make a) ≡ (if same_name n a.name then Some (value a) else None)) where
+  pick : (n : FullName) (a : Arm) (arms : List Arm) (b : Bool) → same_name n a.name ≡ b → ascending name_below (arm_names (a ∷ arms)) ≡ true
+      → (there : Bool) → among (arm_names arms) n ≡ there
+      → or_else (option_map value (arm_of n arms)) (if b then Some (value a) else None) ≡ option_map value (cond b (Some a) (arm_of n arms))
+  pick n a arms true same rising true is = absurd (stands_once a.name (arm_names arms) rising (ap (among (arm_names arms)) (sym (same_name-is n a.name same)) ∙ is))
+  pick n a arms true same rising false is = ap (λ o. or_else (option_map value o) (Some (value a))) (none_found n arms is)
+  pick n a arms false same rising there is = or_none (option_map value (arm_of n arms))
+    where
+      or_none : (o : Option V) → or_else o None ≡ o
+      or_none None = refl
+      or_none (Some v) = refl
+
+  pub last_arms : (n : FullName) (arms : List Arm) → ascending name_below (arm_names arms) ≡ true → last_of (tell n) (map make arms) ≡ option_map value (arm_of n arms)
+  last_arms n [] rising = refl
+  last_arms n (a ∷ arms) rising =
+      ap (λ o. or_else o (tell n (make a))) (last_arms n arms (ascending_tail a.name (arm_names arms) rising))
+      ∙ ap (or_else (option_map value (arm_of n arms))) (tells n a)
+      ∙ pick n a arms (same_name n a.name) refl rising (among (arm_names arms) n) refl
+
+-- the ends of arms as moments
+pub moments_names : (now : ℕ) (arms : List Arm) → names_of (map (timed_at now) arms) ≡ arm_names arms
+moments_names now [] = refl
+moments_names now (a ∷ arms) = ap (λ ns. a.name ∷ ns) (moments_names now arms)
+
+pub moments_of : (now : ℕ) (arms : List Arm) (n : FullName) → moment_among (map (timed_at now) arms) n ≡ option_map (arm_end now) (arm_of n arms)
+moments_of now [] n = refl
+moments_of now (a ∷ arms) n = go (same_name n a.name) (moments_of now arms n)
+  where
+    go : (b : Bool) → option_map (λ (t : Timed). t.moment) (find (is_timed n) (map (timed_at now) arms)) ≡ option_map (arm_end now) (arm_of n arms)
+        → option_map (λ (t : Timed). t.moment) (cond b (Some (timed_at now a)) (find (is_timed n) (map (timed_at now) arms))) ≡ option_map (arm_end now) (cond b (Some a) (arm_of n arms))
+    go true more = refl
+    go false more = more

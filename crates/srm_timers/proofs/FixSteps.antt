@@ -1,0 +1,334 @@
+-- One more call, in the repair timers.
+use Rattle.std.proofs.Common.{◌≡◌, ℕ, ◌+◌, ◌*◌, ◌<◌, ◌≤◌, List, [], ◌∷◌, ◌++◌, map, length, get_or, take, Option, Some, None, Bool, true, false, cond, refl, sym, ap, subst, ◌∙◌, append_assoc, arith}
+use Rattle.std.specs.Prelude.{if◌then◌else◌, option_map, nat_le, nat_lt, ◌||◌, ◌&&◌, not, unwrap_or, is_some, option_to_list}
+use Rattle.std.specs.List.{list_any}
+use Rattle.std.proofs.lemmas.List.{append-nil}
+use Rattle.std.proofs.lemmas.Bool.Decides.{nat_tests}
+use Rattle.srm_names.specs.FullName.{FullName}
+use Rattle.srm_names.specs.Histories.{last_of, first_of, or_else}
+use Rattle.srm_names.specs.Names.{same_name, name_below, ascending, among, AreExactly}
+use Rattle.srm_names.proofs.Same.{same_name-is}
+use Rattle.srm_names.proofs.Snoc.{last_of-snoc, last_of-append, first_of-snoc, list_any-snoc}
+use Rattle.srm_timers.specs.declared.arm.Arm.{Arm}
+use Rattle.srm_timers.specs.declared.arm.Armed.{Armed}
+use Rattle.srm_timers.specs.declared.by_name.Place.{Place}
+use Rattle.srm_timers.specs.Arms.{Plan, plan_of, end_of, ran_out, arm_names, arm_of}
+use Rattle.srm_timers.specs.Deadlines.{has_come}
+use Rattle.srm_timers.specs.Distances.{distance_to}
+use Rattle.srm_timers.specs.Ends.{EndContent, arm_end, SetsEnds}
+use Rattle.srm_timers.specs.Timers.{armed_at}
+use Rattle.srm_timers.specs.Places.{value_at, Keeps, Sets, IsLeast}
+use Rattle.srm_timers.specs.AskCalls.{flat}
+use Rattle.srm_timers.specs.FixCalls.{FixCall, Asked, SetFix, Repaired, asker_by, asked_first, first_asker, ran_by, fix_timer, is_off_by, is_off, is_free, sets_fix, hold_end, repair_by, repairs, FixFits, FixContent, FixStays, FixAdds, FixRepairs, FixDue, FixNext, FixIsFree, FixFirstAsker, FixAnswers, fix_plan, FixHolds, FixPlace, FixPlaces}
+use Rattle.srm_timers.proofs.Arming.{same_itself, last_arms, map_take}
+use Rattle.srm_timers.proofs.AskSteps.{if_same, flat_set, ends_set, due_ran_out, first_end}
+
+or_none : {X : Type 0} (o : Option X) → or_else o None ≡ o
+or_none None = refl
+or_none (Some x) = refl
+
+or_false : (b : Bool) → (b || false) ≡ b
+or_false true = refl
+or_false false = refl
+
+asked_first-snoc : (calls : List FixCall) (c : FixCall) (n : FullName) → asked_first (calls ++ c ∷ []) n ≡ or_else (asked_first calls n) (asker_by n c)
+asked_first-snoc calls c n = first_of-snoc (asker_by n) calls c
+
+-- calls that name no asker change none
+asked_first-append : (calls more : List FixCall) (n : FullName) → first_of (asker_by n) more ≡ None → asked_first (calls ++ more) n ≡ asked_first calls n
+asked_first-append [] more n e = e
+asked_first-append (c ∷ calls) more n e = ap (or_else (asker_by n c)) (asked_first-append calls more n e)
+
+no_asker-sets : (now : ℕ) (arms : List Arm) (n : FullName) → first_of (asker_by n) (sets_fix now arms) ≡ None
+no_asker-sets now [] n = refl
+no_asker-sets now (a ∷ arms) n = no_asker-sets now arms n
+
+no_asker-repairs : (now : ℕ) (dist : List ℕ) (calls : List FixCall) (names : List FullName) (n : FullName) → first_of (asker_by n) (repairs now dist calls names) ≡ None
+no_asker-repairs now dist calls [] n = refl
+no_asker-repairs now dist calls (m ∷ names) n = no_asker-repairs now dist calls names n
+
+-- calls that hold no name off leave it as it was
+is_off-append : (calls more : List FixCall) (n : FullName) (now : ℕ) → list_any (is_off_by n now) more ≡ false → is_off (calls ++ more) n now ≡ is_off calls n now
+is_off-append [] more n now e = e
+is_off-append (c ∷ calls) more n now e = ap (λ b. is_off_by n now c || b) (is_off-append calls more n now e)
+
+none_off-sets : (m : ℕ) (arms : List Arm) (n : FullName) (now : ℕ) → list_any (is_off_by n now) (sets_fix m arms) ≡ false
+none_off-sets m [] n now = refl
+none_off-sets m (a ∷ arms) n now = none_off-sets m arms n now
+
+fix_timer-asked : (calls : List FixCall) (name : FullName) (from : ℕ) (n : FullName) → fix_timer (calls ++ Asked name from ∷ []) n ≡ fix_timer calls n
+fix_timer-asked calls name from n = ap flat (last_of-snoc (ran_by n) calls (Asked name from))
+
+fix_timer-sets : (calls : List FixCall) (now : ℕ) (arms : List Arm) (n : FullName) → ascending name_below (arm_names arms) ≡ true
+    → fix_timer (calls ++ sets_fix now arms) n ≡ or_else (option_map (armed_at now) (arm_of n arms)) (fix_timer calls n)
+fix_timer-sets calls now arms n rising =
+    ap flat (last_of-append (ran_by n) calls (sets_fix now arms) ∙ ap (λ o. or_else o (last_of (ran_by n) calls)) (last_arms ran_by (SetFix now) (λ a. Some (armed_at now a)) (λ m a. refl) n arms rising))
+    ∙ flat_set now (arm_of n arms) (last_of (ran_by n) calls)
+
+flat_ran : (b : Bool) (o : Option Armed) (last : Option (Option Armed)) → flat (or_else (if b then Some o else None) last) ≡ (if b then o else flat last)
+flat_ran true o last = refl
+flat_ran false o last = refl
+
+fix_timer-repaired : (calls : List FixCall) (name : FullName) (until : ℕ) (n : FullName)
+    → fix_timer (calls ++ Repaired name until ∷ []) n ≡ (if same_name n name then None else fix_timer calls n)
+fix_timer-repaired calls name until n = ap flat (last_of-snoc (ran_by n) calls (Repaired name until)) ∙ flat_ran (same_name n name) None (last_of (ran_by n) calls)
+
+is_off-asked : (calls : List FixCall) (name : FullName) (from : ℕ) (n : FullName) (now : ℕ) → is_off (calls ++ Asked name from ∷ []) n now ≡ is_off calls n now
+is_off-asked calls name from n now = list_any-snoc (is_off_by n now) calls (Asked name from) ∙ or_false (is_off calls n now)
+
+is_off-repaired : (calls : List FixCall) (name : FullName) (until : ℕ) (n : FullName) (now : ℕ)
+    → is_off (calls ++ Repaired name until ∷ []) n now ≡ is_off calls n now || same_name n name && nat_lt now until
+is_off-repaired calls name until n now = list_any-snoc (is_off_by n now) calls (Repaired name until)
+
+-- who asked is noted, with the askers as they are then
+fits_asked : (d1 d2 : ℕ) (calls : List FixCall) (name : FullName) (from : ℕ) (a b : FixContent) → FixFits d1 d2 calls a → b.d1 ≡ a.d1 → b.d2 ≡ a.d2
+    → b.ends ≡ a.ends → b.holds ≡ a.holds → ((n : FullName) → value_at b.askers n ≡ or_else (value_at a.askers n) (if same_name n name then Some from else None))
+    → FixFits d1 d2 (calls ++ Asked name from ∷ []) b
+fits_asked d1 d2 calls name from a b h p q ends holds askers = record {
+  d1_is = p ∙ h.d1_is;
+  d2_is = q ∙ h.d2_is;
+  askers = λ n. askers n ∙ ap (λ o. or_else o (if same_name n name then Some from else None)) (h.askers n) ∙ sym (asked_first-snoc calls (Asked name from) n);
+  ends = λ n. ap (λ (e : EndContent). value_at e.places n) ends ∙ h.ends n ∙ sym (ap (option_map end_of) (fix_timer-asked calls name from n));
+  holds = λ n now. ap (λ e. nat_lt now (unwrap_or (value_at e n) 0)) holds ∙ h.holds n now ∙ sym (is_off-asked calls name from n now);
+}
+
+new_asker : (name : FullName) (from : ℕ) (n : FullName) (f : FullName → Option ℕ) → f name ≡ None → (b : Bool) → same_name n name ≡ b
+    → (if b then Some from else f n) ≡ or_else (f n) (if b then Some from else None)
+new_asker name from n f none true same = sym (ap (λ o. or_else o (Some from)) (ap f (same_name-is n name same) ∙ none))
+new_asker name from n f none false other = sym (or_none (f n))
+
+old_asker : (name : FullName) (from : ℕ) (n : FullName) (f : FullName → Option ℕ) → is_some (f name) ≡ true → (b : Bool) → same_name n name ≡ b
+    → f n ≡ or_else (f n) (if b then Some from else None)
+old_asker name from n f some true same = go (f n) (ap (λ m. is_some (f m)) (same_name-is n name same) ∙ some)
+  where
+    go : (o : Option ℕ) → is_some o ≡ true → o ≡ or_else o (Some from)
+    go (Some x) e = refl
+    go None e = cc
+old_asker name from n f some false other = sym (or_none (f n))
+
+pub fits_first : (d1 d2 : ℕ) (calls : List FixCall) (name : FullName) (from : ℕ) (a b : FixContent) → FixFits d1 d2 calls a → b.d1 ≡ a.d1 → b.d2 ≡ a.d2
+    → b.ends ≡ a.ends → b.holds ≡ a.holds → value_at a.askers name ≡ None → Sets name (Some from) a.askers b.askers
+    → FixFits d1 d2 (calls ++ Asked name from ∷ []) b
+fits_first d1 d2 calls name from a b h p q ends holds none sets =
+    fits_asked d1 d2 calls name from a b h p q ends holds (λ n. sets.each n ∙ new_asker name from n (value_at a.askers) none (same_name n name) refl)
+
+pub fits_later : (d1 d2 : ℕ) (calls : List FixCall) (name : FullName) (from : ℕ) (a : FixContent) → FixFits d1 d2 calls a
+    → is_some (value_at a.askers name) ≡ true → FixFits d1 d2 (calls ++ Asked name from ∷ []) a
+fits_later d1 d2 calls name from a h some =
+    fits_asked d1 d2 calls name from a a h refl refl refl refl (λ n. old_asker name from n (value_at a.askers) some (same_name n name) refl)
+
+-- timers are set
+pub fits_sets_fix : (d1 d2 : ℕ) (calls : List FixCall) (now : ℕ) (arms : List Arm) (a b : FixContent) → FixFits d1 d2 calls a → b.d1 ≡ a.d1 → b.d2 ≡ a.d2
+    → b.askers ≡ a.askers → b.holds ≡ a.holds → ascending name_below (arm_names arms) ≡ true → SetsEnds now arms a.ends.places b.ends.places
+    → FixFits d1 d2 (calls ++ sets_fix now arms) b
+fits_sets_fix d1 d2 calls now arms a b h p q askers holds rising ends = record {
+  d1_is = p ∙ h.d1_is;
+  d2_is = q ∙ h.d2_is;
+  askers = λ n. ap (λ e. value_at e n) askers ∙ h.askers n ∙ sym (asked_first-append calls (sets_fix now arms) n (no_asker-sets now arms n));
+  ends = λ n. ends.each n ∙ ap (or_else (option_map (arm_end now) (arm_of n arms))) (h.ends n) ∙ ends_set now (arm_of n arms) (fix_timer calls n)
+      ∙ sym (ap (option_map end_of) (fix_timer-sets calls now arms n rising));
+  holds = λ n t. ap (λ e. nat_lt t (unwrap_or (value_at e n) 0)) holds ∙ h.holds n t ∙ sym (is_off-append calls (sets_fix now arms) n t (none_off-sets now arms n t));
+}
+
+-- one end is set
+pub ends_one : (now : ℕ) (arm : Arm) (old new : List (Place ℕ)) → Sets arm.name (Some (now + arm.wait)) old new → SetsEnds now (arm ∷ []) old new
+ends_one now arm old new h = record { each = λ n. h.each n ∙ go (same_name n arm.name) (value_at old n) }
+  where
+    go : (b : Bool) (o : Option ℕ) → (if b then Some (now + arm.wait) else o) ≡ or_else (option_map (arm_end now) (cond b (Some arm) None)) o
+    go true o = refl
+    go false o = refl
+
+map_if : {X Y : Type 0} (f : X → Y) (b : Bool) (o p : Option X) → option_map f (if b then o else p) ≡ (if b then option_map f o else option_map f p)
+map_if f true o p = refl
+map_if f false o p = refl
+
+-- a repair was heard or handed out
+fits_ended : (d1 d2 : ℕ) (calls : List FixCall) (name : FullName) (until : ℕ) (a b : FixContent) → FixFits d1 d2 calls a → b.d1 ≡ a.d1 → b.d2 ≡ a.d2
+    → b.askers ≡ a.askers → Sets name None a.ends.places b.ends.places
+    → ((n : FullName) (now : ℕ) → nat_lt now (unwrap_or (value_at b.holds n) 0) ≡ nat_lt now (unwrap_or (value_at a.holds n) 0) || same_name n name && nat_lt now until)
+    → FixFits d1 d2 (calls ++ Repaired name until ∷ []) b
+fits_ended d1 d2 calls name until a b h p q askers ends holds = record {
+  d1_is = p ∙ h.d1_is;
+  d2_is = q ∙ h.d2_is;
+  askers = λ n. ap (λ e. value_at e n) askers ∙ h.askers n ∙ sym (asked_first-append calls (Repaired name until ∷ []) n refl);
+  ends = λ n. ends.each n ∙ if_same (same_name n name) _ _ _ (h.ends n)
+      ∙ sym (ap (option_map end_of) (fix_timer-repaired calls name until n) ∙ map_if end_of (same_name n name) _ _);
+  holds = λ n t. holds n t ∙ ap (λ b. b || same_name n name && nat_lt t until) (h.holds n t) ∙ sym (is_off-repaired calls name until n t);
+}
+
+longer : (name : FullName) (until : ℕ) (f : FullName → Option ℕ) → unwrap_or (f name) 0 < until → (n : FullName) (now : ℕ) (b : Bool) → same_name n name ≡ b
+    → nat_lt now (unwrap_or (if b then Some until else f n) 0) ≡ nat_lt now (unwrap_or (f n) 0) || b && nat_lt now until
+longer name until f less n now true same = let e : unwrap_or (f n) 0 ≡ unwrap_or (f name) 0 = ap (λ m. unwrap_or (f m) 0) (same_name-is n name same) in go (unwrap_or (f n) 0) (omega arith)
+  where
+    go : (old : ℕ) → old < until → nat_lt now until ≡ nat_lt now old || nat_lt now until
+    go old less = grind (arith, nat_tests)
+longer name until f less n now false other = sym (or_false (nat_lt now (unwrap_or (f n) 0)))
+
+as_long : (name : FullName) (until : ℕ) (f : FullName → Option ℕ) → until ≤ unwrap_or (f name) 0 → (n : FullName) (now : ℕ) (b : Bool) → same_name n name ≡ b
+    → nat_lt now (unwrap_or (f n) 0) ≡ nat_lt now (unwrap_or (f n) 0) || b && nat_lt now until
+as_long name until f more n now true same = let e : unwrap_or (f n) 0 ≡ unwrap_or (f name) 0 = ap (λ m. unwrap_or (f m) 0) (same_name-is n name same) in go (unwrap_or (f n) 0) (omega arith)
+  where
+    go : (old : ℕ) → until ≤ old → nat_lt now old ≡ nat_lt now old || nat_lt now until
+    go old more = grind (arith, nat_tests)
+as_long name until f more n now false other = sym (or_false (nat_lt now (unwrap_or (f n) 0)))
+
+pub fits_longer : (d1 d2 : ℕ) (calls : List FixCall) (name : FullName) (until : ℕ) (a b : FixContent) → FixFits d1 d2 calls a → b.d1 ≡ a.d1 → b.d2 ≡ a.d2
+    → b.askers ≡ a.askers → Sets name None a.ends.places b.ends.places → unwrap_or (value_at a.holds name) 0 < until → Sets name (Some until) a.holds b.holds
+    → FixFits d1 d2 (calls ++ Repaired name until ∷ []) b
+fits_longer d1 d2 calls name until a b h p q askers ends less holds =
+    fits_ended d1 d2 calls name until a b h p q askers ends (λ n now. ap (λ o. nat_lt now (unwrap_or o 0)) (holds.each n) ∙ longer name until (value_at a.holds) less n now (same_name n name) refl)
+
+pub fits_as_long : (d1 d2 : ℕ) (calls : List FixCall) (name : FullName) (until : ℕ) (a b : FixContent) → FixFits d1 d2 calls a → b.d1 ≡ a.d1 → b.d2 ≡ a.d2
+    → b.askers ≡ a.askers → Sets name None a.ends.places b.ends.places → until ≤ unwrap_or (value_at a.holds name) 0 → b.holds ≡ a.holds
+    → FixFits d1 d2 (calls ++ Repaired name until ∷ []) b
+fits_as_long d1 d2 calls name until a b h p q askers ends more holds =
+    fits_ended d1 d2 calls name until a b h p q askers ends (λ n now. ap (λ e. nat_lt now (unwrap_or (value_at e n) 0)) holds ∙ as_long name until (value_at a.holds) more n now (same_name n name) refl)
+
+-- nothing changes
+pub fix_stays : (a b : FixContent) → b.d1 ≡ a.d1 → b.d2 ≡ a.d2 → Keeps a.ends.places b.ends.places → Keeps a.askers b.askers → Keeps a.holds b.holds → FixStays a b
+fix_stays a b p q ends askers holds = record {
+  each = λ d1 d2 calls h. record {
+    d1_is = p ∙ h.d1_is;
+    d2_is = q ∙ h.d2_is;
+    askers = λ n. askers.each n ∙ h.askers n;
+    ends = λ n. ends.each n ∙ h.ends n;
+    holds = λ n now. ap (λ o. nat_lt now (unwrap_or o 0)) (holds.each n) ∙ h.holds n now;
+  };
+}
+
+some_map : (o : Option Armed) → is_some (option_map end_of o) ≡ is_some o
+some_map None = refl
+some_map (Some a) = refl
+
+-- whether a request sets the timer of a name
+pub free_is : (d1 d2 : ℕ) (calls : List FixCall) (a : FixContent) (n : FullName) (now : ℕ) → FixFits d1 d2 calls a
+    → (not (is_some (value_at a.ends.places n)) && not (nat_lt now (unwrap_or (value_at a.holds n) 0))) ≡ is_free calls n now
+free_is d1 d2 calls a n now h =
+    ap (λ o. not (is_some o) && not (nat_lt now (unwrap_or (value_at a.holds n) 0))) (h.ends n)
+    ∙ ap (λ b. not b && not (nat_lt now (unwrap_or (value_at a.holds n) 0))) (some_map (fix_timer calls n))
+    ∙ ap (λ b. not (is_some (fix_timer calls n)) && not b) (h.holds n now)
+
+-- one more name of those that are repaired in one call
+pub repairs_more : (d1 d2 now : ℕ) (dist : List ℕ) (calls : List FixCall) (names : List FullName) (i : ℕ) (n : FullName) (b : FixContent) → i < length names → n ≡ get_or names i n
+    → FixFits d1 d2 ((calls ++ repairs now dist calls (take i names)) ++ repair_by now dist (calls ++ repairs now dist calls (take i names)) n ∷ []) b
+    → FixFits d1 d2 (calls ++ repairs now dist calls (take (i + 1) names)) b
+repairs_more d1 d2 now dist calls names i n b lt is h =
+    subst (λ cs. FixFits d1 d2 cs b)
+    (append_assoc calls (repairs now dist calls (take i names)) _
+    ∙ ap (λ (o : Option ℕ). calls ++ (repairs now dist calls (take i names) ++ Repaired n (now + 3 * distance_to dist (unwrap_or o n.stream.source)) ∷ []))
+    (asked_first-append calls (repairs now dist calls (take i names)) n (no_asker-repairs now dist calls (take i names) n))
+    ∙ ap (λ cs. calls ++ cs) (sym (map_take (repair_by now dist calls) names i n lt is)))
+    h
+
+pub fix_stays_on : (a b c : FixContent) → FixStays a b → FixStays b c → FixStays a c
+fix_stays_on a b c p q = record { each = λ d1 d2 calls h. q.each d1 d2 calls (p.each d1 d2 calls h) }
+
+pub fix_holds_on : (a b c : FixContent) → FixHolds a b → FixHolds b c → FixHolds a c
+fix_holds_on a b c p q = record {
+  each = λ n h. q.each n (p.each n h);
+  ends = record { places = λ n h. q.ends.places n (p.ends.places n h); room = omega (arith, p.ends.room, q.ends.room) };
+}
+
+-- a place for the one name
+pub one_place : (a : FixContent) (name : FullName) → FixPlace a name → FixPlaces (name ∷ []) a
+one_place a name h = record { each = λ n at. go n (same_name n name) refl at }
+  where
+    go : (n : FullName) (b : Bool) → same_name n name ≡ b → (b || false) ≡ true → FixPlace a n
+    go n true same at = subst (FixPlace a) (sym (same_name-is n name same)) h
+    go n false same at = cc
+
+pub one_placed : (a : FixContent) (name : FullName) → FixPlaces (name ∷ []) a → FixPlace a name
+one_placed a name h = h.each name (ap (λ b. b || false) (same_itself name))
+
+-- a request sets a timer, or doesn't
+pub answered : (b told : Bool) (p q : Plan) → b ≡ true → b ≡ told → p ≡ q → Some p ≡ (if told then Some q else None)
+answered b told p q sets is same = ap Some same ∙ ap (λ t. if t then Some q else None) (sym sets ∙ is)
+
+pub unanswered : (b told : Bool) (q : Plan) → b ≡ false → b ≡ told → None ≡ (if told then Some q else None)
+unanswered b told q none is = ap (λ t. if t then Some q else None) (sym none ∙ is)
+
+-- the same, for every list of calls
+pub note_first : (name : FullName) (from : ℕ) (a b : FixContent) → b.d1 ≡ a.d1 → b.d2 ≡ a.d2 → b.ends ≡ a.ends → b.holds ≡ a.holds → value_at a.askers name ≡ None
+    → Sets name (Some from) a.askers b.askers → FixAdds (Asked name from ∷ []) a b
+note_first name from a b p q ends holds none sets = record { each = λ d1 d2 calls h. fits_first d1 d2 calls name from a b h p q ends holds none sets }
+
+pub note_later : (name : FullName) (from : ℕ) (a : FixContent) → is_some (value_at a.askers name) ≡ true → FixAdds (Asked name from ∷ []) a a
+note_later name from a some = record { each = λ d1 d2 calls h. fits_later d1 d2 calls name from a h some }
+
+pub set_adds_fix : (now : ℕ) (arm : Arm) (a b : FixContent) → b.d1 ≡ a.d1 → b.d2 ≡ a.d2 → b.askers ≡ a.askers → b.holds ≡ a.holds
+    → Sets arm.name (Some (now + arm.wait)) a.ends.places b.ends.places → FixAdds (SetFix now arm ∷ []) a b
+set_adds_fix now arm a b p q askers holds ends = record { each = λ d1 d2 calls h. fits_sets_fix d1 d2 calls now (arm ∷ []) a b h p q askers holds refl (ends_one now arm a.ends.places b.ends.places ends) }
+
+pub sets_adds_fix : (now : ℕ) (arms : List Arm) (a b : FixContent) → b.d1 ≡ a.d1 → b.d2 ≡ a.d2 → b.askers ≡ a.askers → b.holds ≡ a.holds
+    → ascending name_below (arm_names arms) ≡ true → SetsEnds now arms a.ends.places b.ends.places → FixAdds (sets_fix now arms) a b
+sets_adds_fix now arms a b p q askers holds rising ends = record { each = λ d1 d2 calls h. fits_sets_fix d1 d2 calls now arms a b h p q askers holds rising ends }
+
+pub repaired_longer : (name : FullName) (until kept : ℕ) (a b : FixContent) → b.d1 ≡ a.d1 → b.d2 ≡ a.d2 → b.askers ≡ a.askers → Sets name None a.ends.places b.ends.places
+    → kept ≡ unwrap_or (value_at a.holds name) 0 → kept < until → Sets name (Some until) a.holds b.holds → FixAdds (Repaired name until ∷ []) a b
+repaired_longer name until kept a b p q askers ends is less holds = record {
+  each = λ d1 d2 calls h. fits_longer d1 d2 calls name until a b h p q askers ends (subst (λ k. k < until) is less) holds;
+}
+
+pub repaired_as_long : (name : FullName) (until kept : ℕ) (a b : FixContent) → b.d1 ≡ a.d1 → b.d2 ≡ a.d2 → b.askers ≡ a.askers → Sets name None a.ends.places b.ends.places
+    → kept ≡ unwrap_or (value_at a.holds name) 0 → until ≤ kept → b.holds ≡ a.holds → FixAdds (Repaired name until ∷ []) a b
+repaired_as_long name until kept a b p q askers ends is more holds = record {
+  each = λ d1 d2 calls h. fits_as_long d1 d2 calls name until a b h p q askers ends (subst (λ k. until ≤ k) is more) holds;
+}
+
+pub is_free_is : (name : FullName) (now : ℕ) (a : FixContent) (runs off : Bool) → runs ≡ is_some (value_at a.ends.places name) → off ≡ nat_lt now (unwrap_or (value_at a.holds name) 0)
+    → FixIsFree name now a (not runs && not off)
+is_free_is name now a runs off runs_is off_is = record {
+  each = λ d1 d2 calls h. ap (λ b. not b && not off) runs_is ∙ ap (λ b. not (is_some (value_at a.ends.places name)) && not b) off_is ∙ free_is d1 d2 calls a name now h;
+}
+
+pub first_is : (name : FullName) (a : FixContent) (member : ℕ) → member ≡ unwrap_or (value_at a.askers name) name.stream.source → FixFirstAsker name a member
+first_is name a member is = record { each = λ d1 d2 calls h. is ∙ ap (λ o. unwrap_or o name.stream.source) (h.askers name) }
+
+pub fix_due_is : (now : ℕ) (a : FixContent) (names : List FullName) → AreExactly (λ n. has_come now (value_at a.ends.places n)) names → FixDue now a names
+fix_due_is now a names due = record { each = λ d1 d2 calls h. due_ran_out now a.ends.places (fix_timer calls) names h.ends due }
+
+-- a repair, by the distance to the one who asked first
+pub repairs_one : (now : ℕ) (dist : List ℕ) (name : FullName) (distance member : ℕ) (a b : FixContent) → FixFirstAsker name a member → distance ≡ distance_to dist member
+    → FixAdds (Repaired name (now + 3 * distance) ∷ []) a b → FixRepairs now dist (name ∷ []) a b
+repairs_one now dist name distance member a b first is adds = record {
+  each = λ d1 d2 calls h.
+      subst (λ d. FixFits d1 d2 (calls ++ Repaired name (now + 3 * d) ∷ []) b) (is ∙ ap (distance_to dist) (first.each d1 d2 calls h)) (adds.each d1 d2 calls h);
+}
+
+pub repairs_after : (now : ℕ) (dist : List ℕ) (names names' : List FullName) (a b c : FixContent) → FixStays a b → names ≡ names' → FixRepairs now dist names b c → FixRepairs now dist names' a c
+repairs_after now dist names names' a b c stays is repairs =
+    subst (λ names. FixRepairs now dist names a c) is (record { each = λ d1 d2 calls h. repairs.each d1 d2 calls (stays.each d1 d2 calls h) })
+
+pub repairs_none : (now : ℕ) (dist : List ℕ) (a : FixContent) → FixRepairs now dist [] a a
+repairs_none now dist a = record { each = λ d1 d2 calls h. subst (λ cs. FixFits d1 d2 cs a) (sym (append-nil calls)) h }
+
+pub repairs_next : (now : ℕ) (dist : List ℕ) (names : List FullName) (i : ℕ) (n : FullName) (a b c : FixContent) → i < length names → n ≡ get_or names i n
+    → FixRepairs now dist (take i names) a b → FixRepairs now dist (n ∷ []) b c → FixRepairs now dist (take (i + 1) names) a c
+repairs_next now dist names i n a b c lt is so_far next = record {
+  each = λ d1 d2 calls h. repairs_more d1 d2 now dist calls names i n c lt is (next.each d1 d2 _ (so_far.each d1 d2 calls h));
+}
+
+-- a request: who asked, and its arm
+pub asked_sets : (name : FullName) (from now : ℕ) (arm : Arm) (a b c d : FixContent) → FixStays a b → FixAdds (Asked name from ∷ []) b c → FixAdds (SetFix now arm ∷ []) c d
+    → FixAdds (Asked name from ∷ SetFix now arm ∷ []) a d
+asked_sets name from now arm a b c d stays asked set = record {
+  each = λ d1 d2 calls h. subst (λ cs. FixFits d1 d2 cs d) (append_assoc calls (Asked name from ∷ []) (SetFix now arm ∷ [])) (set.each d1 d2 _ (asked.each d1 d2 calls (stays.each d1 d2 calls h)));
+}
+
+pub asked_alone : (name : FullName) (from : ℕ) (a b c : FixContent) → FixStays a b → FixAdds (Asked name from ∷ []) b c → FixAdds (Asked name from ∷ []) a c
+asked_alone name from a b c stays asked = record { each = λ d1 d2 calls h. asked.each d1 d2 calls (stays.each d1 d2 calls h) }
+
+pub answers_with : (name : FullName) (distance now : ℕ) (held free : Bool) (arm : Arm) (a b : FixContent) → FixStays a b → FixIsFree name now b free → (held && free) ≡ true
+    → plan_of arm ≡ fix_plan name distance → FixAnswers name distance held now a (Some arm)
+answers_with name distance now held free arm a b stays is sets plan = record {
+  each = λ d1 d2 calls h. answered (held && free) _ _ _ sets (ap (λ f. held && f) (is.each d1 d2 calls (stays.each d1 d2 calls h))) plan;
+}
+
+pub answers_not : (name : FullName) (distance now : ℕ) (held free : Bool) (a b : FixContent) → FixStays a b → FixIsFree name now b free → (held && free) ≡ false
+    → FixAnswers name distance held now a None
+answers_not name distance now held free a b stays is sets = record {
+  each = λ d1 d2 calls h. unanswered (held && free) _ _ sets (ap (λ f. held && f) (is.each d1 d2 calls (stays.each d1 d2 calls h)));
+}
+
+pub fix_next_is : (a : FixContent) (moment : Option ℕ) → IsLeast a.ends.places moment → FixNext a moment
+fix_next_is a moment least = record { each = λ d1 d2 calls h. first_end a.ends.places (fix_timer calls) moment h.ends least }

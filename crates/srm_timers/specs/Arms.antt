@@ -1,0 +1,85 @@
+-- Arms: their ends, their ignore moments, with which setting they are made, and how their waits are drawn.
+use Rattle.std.specs.Prelude.{◌≡◌, ℕ, ◌==◌, ◌+◌, ◌-◌, ◌*◌, ◌/◌, ◌%◌, ◌^◌, ◌≤◌, min, nat_le, Bool, true, false, ◌||◌, List, [], ◌∷◌, map, find, if◌then◌else◌, Option, Some, None, option_map, IsNone, IfSome}
+use Rattle.std.specs.List.{AllByRecursion}
+use Rattle.srm_names.specs.FullName.{FullName}
+use Rattle.srm_names.specs.Names.{same_name, name_below, ascending}
+use Rattle.srm_timers.specs.declared.limits.TheConstants.{EXPONENT}
+use Rattle.srm_timers.specs.declared.arm.Arm.{Arm}
+use Rattle.srm_timers.specs.declared.arm.Armed.{Armed}
+use Rattle.srm_timers.specs.declared.arm.ArmKind.{ArmKind}
+use Rattle.srm_timers.specs.declared.arm.ArmKind.TheVariants.{Ask, Fix}
+
+abbrev pub same_kind : ArmKind → ArmKind → Bool
+same_kind Ask Ask = true
+same_kind Fix Fix = true
+same_kind _ _ = false
+
+-- when the timer runs out
+abbrev pub end_of : Armed → ℕ
+end_of a = a.set + a.arm.wait
+
+-- a request that is heard before this moment changes nothing
+abbrev pub ignored_until : Armed → ℕ
+ignored_until a = a.set + a.arm.wait / 2
+
+abbrev pub ran_out : ℕ → Option Armed → Bool
+ran_out now None = false
+ran_out now (Some a) = nat_le (end_of a) now
+
+-- the exponent of the arm after this one
+abbrev pub next_exponent : Armed → ℕ
+next_exponent a = min EXPONENT (a.arm.exponent + 1)
+
+-- the exponent with which a request that is heard arms again, where it isn't ignored
+abbrev pub backs_off : ℕ → Option Armed → Option ℕ
+backs_off now None = None
+backs_off now (Some a) = if (a.arm.exponent == 0) || nat_le (ignored_until a) now then Some (next_exponent a) else None
+
+-- an arm but for its name and its wait
+pub record Setting : Type 0 where
+  pub kind : ArmKind
+  pub exponent : ℕ
+  pub distance : ℕ
+
+abbrev pub setting : Arm → Setting
+setting a = record { kind = a.kind; exponent = a.exponent; distance = a.distance }
+
+-- an arm but for its wait
+pub record Plan : Type 0 where
+  pub name : FullName
+  pub setting : Setting
+
+abbrev pub plan_of : Arm → Plan
+plan_of a = record { name = a.name; setting = setting a }
+
+abbrev pub arm_name : Arm → FullName
+arm_name a = a.name
+
+abbrev pub arm_names : List Arm → List FullName
+arm_names arms = map arm_name arms
+
+abbrev pub arm_of : FullName → List Arm → Option Arm
+arm_of n arms = find (λ a. same_name n a.name) arms
+
+-- the arms have exactly these settings, by name, and stand in order of name
+pub record ArmsAre (settings : FullName → Option Setting) (arms : List Arm) : Type 0 where
+  pub in_order : ascending name_below (arm_names arms) ≡ true
+  pub exact : (n : FullName) → option_map setting (arm_of n arms) ≡ settings n
+
+-- the ends of the interval from which the wait of an arm is drawn, by the two settings of its kind
+abbrev pub low_of : ℕ → Arm → ℕ
+low_of first a = 2 ^ a.exponent * first * a.distance
+
+abbrev pub high_of : ℕ → ℕ → Arm → ℕ
+high_of first second a = 2 ^ a.exponent * (first + second) * a.distance
+
+-- The waits of the arms are drawn from a source, one word an arm, in order, each between its ends; `to` is the source after them.
+abbrev pub AreDrawn : {W : Type 0} → (W → ℕ × W) → (low high : Arm → ℕ) → W → List Arm → W → Type 0
+AreDrawn draw low high from [] to = to ≡ from
+AreDrawn draw low high from (a ∷ arms) to = (a.wait ≡ low a + (draw from).0 % (high a - low a + 1)) × AreDrawn draw low high (draw from).1 arms to
+
+-- the first of the timers runs out at this moment, and none runs where there is none
+pub record RunsOutFirst (timer : FullName → Option Armed) (moment : Option ℕ) : Type 0 where
+  pub none : IsNone moment → (n : FullName) → timer n ≡ None
+  pub least : IfSome moment (λ t. (n : FullName) → IfSome (timer n) (λ a. t ≤ end_of a))
+  pub is_one : IfSome moment (λ t. (n : FullName) × (option_map end_of (timer n) ≡ Some t))

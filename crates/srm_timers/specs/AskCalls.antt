@@ -1,0 +1,140 @@
+-- The request timers, by the calls so far.
+use Rattle.std.specs.Prelude.{◌≡◌, ℕ, ◌≤◌, true, List, [], ◌∷◌, ◌++◌, map, length, if◌then◌else◌, Option, Some, None, option_map}
+use Rattle.srm_names.specs.FullName.{FullName}
+use Rattle.srm_names.specs.Histories.{last_of}
+use Rattle.srm_names.specs.Names.{same_name, among, AreExactly}
+use Rattle.srm_timers.specs.declared.arm.Arm.{Arm}
+use Rattle.srm_timers.specs.declared.arm.Armed.{Armed}
+use Rattle.srm_timers.specs.declared.arm.ArmKind.TheVariants.{Ask}
+use Rattle.srm_timers.specs.declared.by_name.Place.{Place}
+use Rattle.srm_timers.specs.declared.limits.TheConstants.{TIMER_SETTING}
+use Rattle.srm_timers.specs.Arms.{Setting, Plan, ArmsAre, RunsOutFirst, end_of, ran_out, next_exponent, backs_off}
+use Rattle.srm_timers.specs.Distances.{distance_to}
+use Rattle.srm_timers.specs.Ends.{EndContent, HaveRoom, KeepsRoom}
+use Rattle.srm_timers.specs.Places.{value_at, has_place}
+
+-- what an Asks keeps
+pub record AskContent : Type 0 where
+  pub c1 : ℕ
+  pub c2 : ℕ
+  pub ends : EndContent
+  pub timers : List (Place Armed)
+  -- detect can answer so many arms without memory
+  pub list : ℕ
+
+-- a timer that was set, with its arm, or a name that was gained
+pub data AskCall : Type 0 where
+  Set : (now : ℕ) (arm : Arm) → AskCall
+  Gained : (name : FullName) → AskCall
+
+-- what the call says of the name's timer: that it runs, that it is gone, or nothing
+abbrev pub told_by : FullName → AskCall → Option (Option Armed)
+told_by n (Set now arm) = if same_name n arm.name then Some (Some (record { set = now; arm = arm })) else None
+told_by n (Gained name) = if same_name n name then Some None else None
+
+abbrev pub flat : {X : Type 0} → Option (Option X) → Option X
+flat None = None
+flat (Some o) = o
+
+-- the timer of a name
+abbrev pub ask_timer : List AskCall → FullName → Option Armed
+ask_timer calls n = flat (last_of (told_by n) calls)
+
+-- these arms were made at a moment, one after another
+abbrev pub sets : ℕ → List Arm → List AskCall
+sets now arms = map (Set now) arms
+
+abbrev pub ask_setting : ℕ → ℕ → Setting
+ask_setting exponent distance = record { kind = Ask; exponent = exponent; distance = distance }
+
+abbrev pub ask_plan : FullName → ℕ → ℕ → Plan
+ask_plan name distance exponent = record { name = name; setting = ask_setting exponent distance }
+
+-- the exponent of a name that is found missing: one more where a request for it was heard
+abbrev pub first_exponent : List FullName → FullName → ℕ
+first_exponent asked n = if among asked n then 1 else 0
+
+-- how a name is armed that is among those found missing
+abbrev pub found_setting : (names asked : List FullName) → List ℕ → FullName → Option Setting
+found_setting names asked dist n = if among names n then Some (ask_setting (first_exponent asked n) (distance_to dist n.stream.source)) else None
+
+abbrev pub found_plan : (asked : List FullName) → List ℕ → FullName → Plan
+found_plan asked dist n = ask_plan n (distance_to dist n.stream.source) (first_exponent asked n)
+
+abbrev pub again_setting : ℕ → Armed → Setting
+again_setting distance timer = ask_setting (next_exponent timer) distance
+
+abbrev pub again_exponent : Option Armed → ℕ
+again_exponent None = 0
+again_exponent (Some a) = next_exponent a
+
+-- how a name that has a timer is armed again
+abbrev pub again_plan : List ℕ → (FullName → Option Armed) → FullName → Plan
+again_plan dist timer n = ask_plan n (distance_to dist n.stream.source) (again_exponent (timer n))
+
+-- how a name is armed again whose timer ran out
+abbrev pub due_setting : ℕ → List ℕ → (FullName → Option Armed) → FullName → Option Setting
+due_setting now dist timer n = if ran_out now (timer n) then option_map (again_setting (distance_to dist n.stream.source)) (timer n) else None
+
+pub record AskFits (c1 c2 : ℕ) (calls : List AskCall) (a : AskContent) : Type 0 where
+  pub c1_is : a.c1 ≡ c1
+  pub c2_is : a.c2 ≡ c2
+  pub timers : (n : FullName) → value_at a.timers n ≡ ask_timer calls n
+
+-- what fits goes on to fit, with these calls added
+pub record AskAdds (more : List AskCall) (old new : AskContent) : Type 0 where
+  pub each : (c1 c2 : ℕ) (calls : List AskCall) → AskFits c1 c2 calls old → AskFits c1 c2 (calls ++ more) new
+
+-- the names are those whose timers ran out, in order of name
+pub record AskDue (now : ℕ) (a : AskContent) (names : List FullName) : Type 0 where
+  pub each : (c1 c2 : ℕ) (calls : List AskCall) → AskFits c1 c2 calls a → AreExactly (λ n. ran_out now (ask_timer calls n)) names
+
+-- the arms are those of the names that were found missing, in order of name
+pub record AskedFirst (names asked : List FullName) (dist : List ℕ) (arms : List Arm) : Type 0 where
+  pub are : ArmsAre (found_setting names asked dist) arms
+
+-- the arms are those of the timers that ran out, set again, in order of name
+pub record AskedAgain (now : ℕ) (dist : List ℕ) (a : AskContent) (arms : List Arm) : Type 0 where
+  pub each : (c1 c2 : ℕ) (calls : List AskCall) → AskFits c1 c2 calls a → ArmsAre (due_setting now dist (ask_timer calls)) arms
+
+-- the exponent with which a request for the name, heard now, arms it again, and none where it is ignored or no timer runs
+pub record AskBacksOff (name : FullName) (now : ℕ) (a : AskContent) (exponent : Option ℕ) : Type 0 where
+  pub each : (c1 c2 : ℕ) (calls : List AskCall) → AskFits c1 c2 calls a → exponent ≡ backs_off now (ask_timer calls name)
+
+-- the exponent with which the name is armed again where its timer ran out, and none where no timer runs
+pub record AskRuns (name : FullName) (a : AskContent) (exponent : Option ℕ) : Type 0 where
+  pub each : (c1 c2 : ℕ) (calls : List AskCall) → AskFits c1 c2 calls a → exponent ≡ option_map next_exponent (ask_timer calls name)
+
+-- when the first timer runs out
+pub record AskNext (a : AskContent) (moment : Option ℕ) : Type 0 where
+  pub each : (c1 c2 : ℕ) (calls : List AskCall) → AskFits c1 c2 calls a → RunsOutFirst (ask_timer calls) moment
+
+-- what fits goes on to fit the same
+pub record AskStays (old new : AskContent) : Type 0 where
+  pub each : (c1 c2 : ℕ) (calls : List AskCall) → AskFits c1 c2 calls old → AskFits c1 c2 calls new
+
+-- none of the names has a timer
+pub record HaveNoTimer (names : List FullName) (a : AskContent) : Type 0 where
+  pub each : (n : FullName) → among names n ≡ true → value_at a.timers n ≡ None
+
+-- the timers of these names can be set in one call without memory
+pub record AskReady (names : List FullName) (a : AskContent) : Type 0 where
+  pub ends : HaveRoom names a.ends
+  pub timers : (n : FullName) → among names n ≡ true → has_place a.timers n ≡ true
+
+-- and be answered in a list without memory
+pub record DetectReady (names : List FullName) (a : AskContent) : Type 0 where
+  pub set : AskReady names a
+  pub list : length names ≤ a.list
+
+-- whatever could be set without memory still can
+pub record AskHolds (old new : AskContent) : Type 0 where
+  pub ends : KeepsRoom old.ends new.ends
+  pub timers : (n : FullName) → has_place old.timers n ≡ true → has_place new.timers n ≡ true
+
+-- what holds of each Asks: settings in range, an end for each timer, and an empty list for the next answer
+pub record AskIsRight (a : AskContent) (list : List Arm) : Type 0 where
+  pub c1 : a.c1 ≤ TIMER_SETTING
+  pub c2 : a.c2 ≤ TIMER_SETTING
+  pub ends : (n : FullName) → value_at a.ends.places n ≡ option_map end_of (value_at a.timers n)
+  pub empty : list ≡ []

@@ -1,0 +1,46 @@
+-- The moments at which timers run out, and room to set several in one call.
+use Rattle.std.specs.Prelude.{◌≡◌, ℕ, ◌+◌, ◌≤◌, true, List, map, length, Option, option_map}
+use Rattle.std.specs.List.{AllByRecursion}
+use Rattle.srm_names.specs.FullName.{FullName}
+use Rattle.srm_names.specs.Histories.{or_else}
+use Rattle.srm_names.specs.Names.{among}
+use Rattle.srm_timers.specs.declared.arm.Arm.{Arm}
+use Rattle.srm_timers.specs.declared.timed.Timed.{Timed}
+use Rattle.srm_timers.specs.declared.by_name.Place.{Place}
+use Rattle.srm_timers.specs.declared.limits.TheConstants.{LONGEST_WAIT}
+use Rattle.srm_timers.specs.Arms.{arm_of}
+use Rattle.srm_timers.specs.Places.{value_at, has_place}
+
+-- what an Ends keeps
+pub record EndContent : Type 0 where
+  pub places : List (Place ℕ)
+  -- so many can be set in one call without memory
+  pub room : ℕ
+
+abbrev pub arm_end : ℕ → Arm → ℕ
+arm_end now a = now + a.wait
+
+-- the end of an arm that is set at a moment
+abbrev pub timed_at : ℕ → Arm → Timed
+timed_at now a = record { name = a.name; moment = arm_end now a }
+
+-- the arms run from now on
+pub record SetsEnds (now : ℕ) (arms : List Arm) (old new : List (Place ℕ)) : Type 0 where
+  pub each : (n : FullName) → value_at new n ≡ or_else (option_map (arm_end now) (arm_of n arms)) (value_at old n)
+
+abbrev pub is_short : Arm → Type 0
+is_short a = a.wait ≤ LONGEST_WAIT
+
+-- no wait is longer than any can be
+pub record AreShort (arms : List Arm) : Type 0 where
+  pub each : AllByRecursion is_short arms
+
+-- the ends of the names can be set in one call without memory
+pub record HaveRoom (names : List FullName) (ends : EndContent) : Type 0 where
+  pub places : (n : FullName) → among names n ≡ true → has_place ends.places n ≡ true
+  pub room : length names ≤ ends.room
+
+-- whatever has a place, or room, still has it
+pub record KeepsRoom (old new : EndContent) : Type 0 where
+  pub places : (n : FullName) → has_place old.places n ≡ true → has_place new.places n ≡ true
+  pub room : old.room ≤ new.room

@@ -1,0 +1,149 @@
+-- The repair timers, by the calls so far.
+use Rattle.std.specs.Prelude.{◌≡◌, ℕ, ◌+◌, ◌*◌, ◌≤◌, Bool, true, false, not, ◌&&◌, nat_lt, List, ◌++◌, map, if◌then◌else◌, Option, Some, None, option_map, unwrap_or, is_some}
+use Rattle.std.specs.List.{list_any}
+use Rattle.srm_names.specs.FullName.{FullName}
+use Rattle.srm_names.specs.Histories.{last_of, first_of}
+use Rattle.srm_names.specs.Names.{same_name, among, AreExactly}
+use Rattle.srm_timers.specs.declared.arm.Arm.{Arm}
+use Rattle.srm_timers.specs.declared.arm.Armed.{Armed}
+use Rattle.srm_timers.specs.declared.arm.ArmKind.TheVariants.{Fix}
+use Rattle.srm_timers.specs.declared.by_name.Place.{Place}
+use Rattle.srm_timers.specs.declared.limits.TheConstants.{TIMER_SETTING}
+use Rattle.srm_timers.specs.Arms.{Setting, Plan, RunsOutFirst, plan_of, end_of, ran_out}
+use Rattle.srm_timers.specs.AskCalls.{flat}
+use Rattle.srm_timers.specs.Distances.{distance_to}
+use Rattle.srm_timers.specs.Ends.{EndContent, HaveRoom, KeepsRoom}
+use Rattle.srm_timers.specs.Places.{value_at, has_place}
+
+-- what a Fixes keeps
+pub record FixContent : Type 0 where
+  pub d1 : ℕ
+  pub d2 : ℕ
+  pub ends : EndContent
+  pub askers : List (Place ℕ)
+  pub holds : List (Place ℕ)
+
+-- a request that was heard, a timer that was set, with its arm, or a repair that holds the name off until a moment
+pub data FixCall : Type 0 where
+  Asked : (name : FullName) (from : ℕ) → FixCall
+  SetFix : (now : ℕ) (arm : Arm) → FixCall
+  Repaired : (name : FullName) (until : ℕ) → FixCall
+
+abbrev pub asker_by : FullName → FixCall → Option ℕ
+asker_by n (Asked name from) = if same_name n name then Some from else None
+asker_by n (SetFix now arm) = None
+asker_by n (Repaired name until) = None
+
+-- who asked for the name first
+abbrev pub asked_first : List FixCall → FullName → Option ℕ
+asked_first calls n = first_of (asker_by n) calls
+
+-- who asked for the name first, else its source
+abbrev pub first_asker : List FixCall → FullName → ℕ
+first_asker calls n = unwrap_or (asked_first calls n) n.stream.source
+
+abbrev pub ran_by : FullName → FixCall → Option (Option Armed)
+ran_by n (Asked name from) = None
+ran_by n (SetFix now arm) = if same_name n arm.name then Some (Some (record { set = now; arm = arm })) else None
+ran_by n (Repaired name until) = if same_name n name then Some None else None
+
+-- the repair timer that runs
+abbrev pub fix_timer : List FixCall → FullName → Option Armed
+fix_timer calls n = flat (last_of (ran_by n) calls)
+
+abbrev pub is_off_by : FullName → ℕ → FixCall → Bool
+is_off_by n now (Asked name from) = false
+is_off_by n now (SetFix m arm) = false
+is_off_by n now (Repaired name until) = same_name n name && nat_lt now until
+
+-- whether the name is held off
+abbrev pub is_off : List FixCall → FullName → ℕ → Bool
+is_off calls n now = list_any (is_off_by n now) calls
+
+-- whether a request for the name sets its timer, where it is held: none runs, and the name isn't held off
+abbrev pub is_free : List FixCall → FullName → ℕ → Bool
+is_free calls n now = not (is_some (fix_timer calls n)) && not (is_off calls n now)
+
+-- these arms were made at a moment, one after another
+abbrev pub sets_fix : ℕ → List Arm → List FixCall
+sets_fix now arms = map (SetFix now) arms
+
+-- until when a repair at a moment holds the name off: for three distances to the one who asked for it first
+abbrev pub hold_end : ℕ → List ℕ → List FixCall → FullName → ℕ
+hold_end now dist calls n = now + 3 * distance_to dist (first_asker calls n)
+
+abbrev pub repair_by : ℕ → List ℕ → List FixCall → FullName → FixCall
+repair_by now dist calls n = Repaired n (hold_end now dist calls n)
+
+-- these names were repaired at a moment, one after another
+abbrev pub repairs : ℕ → List ℕ → List FixCall → List FullName → List FixCall
+repairs now dist calls names = map (repair_by now dist calls) names
+
+abbrev pub fix_setting : ℕ → Setting
+fix_setting distance = record { kind = Fix; exponent = 0; distance = distance }
+
+abbrev pub fix_plan : FullName → ℕ → Plan
+fix_plan name distance = record { name = name; setting = fix_setting distance }
+
+pub record FixFits (d1 d2 : ℕ) (calls : List FixCall) (a : FixContent) : Type 0 where
+  pub d1_is : a.d1 ≡ d1
+  pub d2_is : a.d2 ≡ d2
+  pub askers : (n : FullName) → value_at a.askers n ≡ asked_first calls n
+  pub ends : (n : FullName) → value_at a.ends.places n ≡ option_map end_of (fix_timer calls n)
+  pub holds : (n : FullName) (now : ℕ) → nat_lt now (unwrap_or (value_at a.holds n) 0) ≡ is_off calls n now
+
+-- what fits goes on to fit, with these calls added
+pub record FixAdds (more : List FixCall) (old new : FixContent) : Type 0 where
+  pub each : (d1 d2 : ℕ) (calls : List FixCall) → FixFits d1 d2 calls old → FixFits d1 d2 (calls ++ more) new
+
+-- with the repairs of these names added, made at a moment
+pub record FixRepairs (now : ℕ) (dist : List ℕ) (names : List FullName) (old new : FixContent) : Type 0 where
+  pub each : (d1 d2 : ℕ) (calls : List FixCall) → FixFits d1 d2 calls old → FixFits d1 d2 (calls ++ repairs now dist calls names) new
+
+-- the names are those whose timers ran out, in order of name
+pub record FixDue (now : ℕ) (a : FixContent) (names : List FullName) : Type 0 where
+  pub each : (d1 d2 : ℕ) (calls : List FixCall) → FixFits d1 d2 calls a → AreExactly (λ n. ran_out now (fix_timer calls n)) names
+
+-- whether a request for the name sets its timer, where it is held
+pub record FixIsFree (name : FullName) (now : ℕ) (a : FixContent) (free : Bool) : Type 0 where
+  pub each : (d1 d2 : ℕ) (calls : List FixCall) → FixFits d1 d2 calls a → free ≡ is_free calls name now
+
+pub record FixFirstAsker (name : FullName) (a : FixContent) (member : ℕ) : Type 0 where
+  pub each : (d1 d2 : ℕ) (calls : List FixCall) → FixFits d1 d2 calls a → member ≡ first_asker calls name
+
+-- a request of the name that is held, or isn't, is answered by such an arm
+pub record FixAnswers (name : FullName) (distance : ℕ) (held : Bool) (now : ℕ) (a : FixContent) (arm : Option Arm) : Type 0 where
+  pub each : (d1 d2 : ℕ) (calls : List FixCall) → FixFits d1 d2 calls a
+      → option_map plan_of arm ≡ (if held && is_free calls name now then Some (fix_plan name distance) else None)
+
+-- when the first timer runs out
+pub record FixNext (a : FixContent) (moment : Option ℕ) : Type 0 where
+  pub each : (d1 d2 : ℕ) (calls : List FixCall) → FixFits d1 d2 calls a → RunsOutFirst (fix_timer calls) moment
+
+-- what fits goes on to fit the same
+pub record FixStays (old new : FixContent) : Type 0 where
+  pub each : (d1 d2 : ℕ) (calls : List FixCall) → FixFits d1 d2 calls old → FixFits d1 d2 calls new
+
+-- a request for the name, and a repair of it, need no memory
+pub record FixPlace (a : FixContent) (n : FullName) : Type 0 where
+  pub ends : has_place a.ends.places n ≡ true
+  pub askers : has_place a.askers n ≡ true
+  pub holds : has_place a.holds n ≡ true
+
+pub record FixPlaces (names : List FullName) (a : FixContent) : Type 0 where
+  pub each : (n : FullName) → among names n ≡ true → FixPlace a n
+
+-- nor does setting the timers of all these names in one call
+pub record FixReady (names : List FullName) (a : FixContent) : Type 0 where
+  pub places : FixPlaces names a
+  pub ends : HaveRoom names a.ends
+
+-- whatever needed no memory needs none
+pub record FixHolds (old new : FixContent) : Type 0 where
+  pub each : (n : FullName) → FixPlace old n → FixPlace new n
+  pub ends : KeepsRoom old.ends new.ends
+
+-- what holds of each Fixes: settings in range
+pub record FixIsRight (a : FixContent) : Type 0 where
+  pub d1 : a.d1 ≤ TIMER_SETTING
+  pub d2 : a.d2 ≤ TIMER_SETTING

@@ -1,0 +1,159 @@
+-- The definitions of arms and timers at worked examples.
+use Rattle.std.specs.Prelude.{◌≡◌, ℕ, ◌+◌, true, false, List, [], ◌∷◌, map, Option, Some, None, option_map, refl}
+use Rattle.srm_names.specs.FullName.{FullName}
+use Rattle.srm_names.specs.Names.{first_page, named}
+use Rattle.srm_timers.specs.declared.arm.Arm.{Arm}
+use Rattle.srm_timers.specs.declared.arm.Armed.{Armed}
+use Rattle.srm_timers.specs.declared.arm.ArmKind.TheVariants.{Ask, Fix}
+use Rattle.srm_timers.specs.Arms.{same_kind, end_of, ignored_until, ran_out, next_exponent, backs_off, setting, plan_of, arm_of, arm_names, low_of, high_of, AreDrawn}
+use Rattle.srm_timers.specs.Draws.{draw_listed}
+use Rattle.srm_timers.specs.Distances.{distance_to}
+use Rattle.srm_timers.specs.Timers.{armed_at}
+use Rattle.srm_timers.specs.AskCalls.{Set, Gained, ask_timer, sets, ask_setting, found_setting, due_setting}
+use Rattle.srm_timers.specs.FixCalls.{Asked, SetFix, Repaired, asked_first, first_asker, fix_timer, is_off, is_free, hold_end, repairs}
+
+abbrev name : ℕ → FullName
+name number = named (record { source = 0; page = first_page }) number
+
+abbrev ask : ℕ → ℕ → ℕ → ℕ → Arm
+ask number exponent distance wait = record { kind = Ask; name = name number; exponent = exponent; distance = distance; wait = wait }
+
+abbrev fix : ℕ → ℕ → ℕ → Arm
+fix number distance wait = record { kind = Fix; name = name number; exponent = 0; distance = distance; wait = wait }
+
+-- a wait of 5 that was set at 10: the half is rounded down
+abbrev odd : Armed
+odd = armed_at 10 (ask 1 1 1 5)
+
+runs_out_at_15 : end_of odd ≡ 15
+runs_out_at_15 = refl
+
+ignored_before_12 : ignored_until odd ≡ 12
+ignored_before_12 = refl
+
+not_at_14 : ran_out 14 (Some odd) ≡ false
+not_at_14 = refl
+
+at_15 : ran_out 15 (Some odd) ≡ true
+at_15 = refl
+
+none_runs_out : ran_out 15 None ≡ false
+none_runs_out = refl
+
+ignored_at_11 : backs_off 11 (Some odd) ≡ None
+ignored_at_11 = refl
+
+heard_at_12 : backs_off 12 (Some odd) ≡ Some 2
+heard_at_12 = refl
+
+-- exponent 0 has no ignore moment
+heard_at_once : backs_off 10 (Some (armed_at 10 (ask 1 0 1 4))) ≡ Some 1
+heard_at_once = refl
+
+none_to_back_off : backs_off 12 None ≡ None
+none_to_back_off = refl
+
+seven_and_one : next_exponent (armed_at 0 (ask 1 7 1 0)) ≡ 8
+seven_and_one = refl
+
+eight_stays : next_exponent (armed_at 0 (ask 1 8 1 0)) ≡ 8
+eight_stays = refl
+
+asks_differ_from_fixes : same_kind Ask Fix ≡ false
+asks_differ_from_fixes = refl
+
+-- the ends of intervals
+first_low : low_of 2 (ask 1 0 100000 0) ≡ 200000
+first_low = refl
+
+first_high : high_of 2 2 (ask 1 0 100000 0) ≡ 400000
+first_high = refl
+
+last_low : low_of 2 (ask 1 8 100000 0) ≡ 51200000
+last_low = refl
+
+repair_low : low_of 1 (fix 1 100000 0) ≡ 100000
+repair_low = refl
+
+repair_high : high_of 1 1 (fix 1 100000 0) ≡ 200000
+repair_high = refl
+
+-- the last word of the interval, and the one past it
+drawn_in_order : AreDrawn draw_listed (low_of 2) (high_of 2 2) (200000 ∷ 200001 ∷ 7 ∷ []) (ask 1 0 100000 400000 ∷ ask 2 0 100000 200000 ∷ []) (7 ∷ [])
+drawn_in_order = (refl, (refl, refl))
+
+none_drawn : AreDrawn draw_listed (low_of 2) (high_of 2 2) (5 ∷ []) [] (5 ∷ [])
+none_drawn = refl
+
+setting_of_the_second : option_map setting (arm_of (name 2) (ask 1 0 100000 200000 ∷ ask 2 1 100000 400000 ∷ [])) ≡ Some (ask_setting 1 100000)
+setting_of_the_second = refl
+
+their_names : arm_names (ask 1 0 100000 200000 ∷ ask 2 1 100000 400000 ∷ []) ≡ name 1 ∷ name 2 ∷ []
+their_names = refl
+
+its_plan : plan_of (ask 1 0 7 9) ≡ record { name = name 1; setting = ask_setting 0 7 }
+its_plan = refl
+
+to_member_1 : distance_to (7 ∷ 9 ∷ []) 1 ≡ 9
+to_member_1 = refl
+
+-- names that are found missing, one of them asked for
+asked_one_more : found_setting (name 1 ∷ name 2 ∷ []) (name 2 ∷ []) (100000 ∷ []) (name 2) ≡ Some (ask_setting 1 100000)
+asked_one_more = refl
+
+not_asked : found_setting (name 1 ∷ name 2 ∷ []) (name 2 ∷ []) (100000 ∷ []) (name 1) ≡ Some (ask_setting 0 100000)
+not_asked = refl
+
+not_found : found_setting (name 1 ∷ name 2 ∷ []) (name 3 ∷ []) (100000 ∷ []) (name 3) ≡ None
+not_found = refl
+
+-- timers, by the calls so far
+set_again : ask_timer (Set 10 (ask 1 0 1 4) ∷ Set 12 (ask 2 0 1 4) ∷ Set 14 (ask 1 1 1 8) ∷ []) (name 1) ≡ Some (armed_at 14 (ask 1 1 1 8))
+set_again = refl
+
+gained : ask_timer (Set 10 (ask 1 0 1 4) ∷ Gained (name 1) ∷ []) (name 1) ≡ None
+gained = refl
+
+found_after_it_was_gained : ask_timer (Gained (name 1) ∷ sets 12 (ask 1 0 1 4 ∷ ask 2 0 1 3 ∷ [])) (name 2) ≡ Some (armed_at 12 (ask 2 0 1 3))
+found_after_it_was_gained = refl
+
+due_again : due_setting 14 (1 ∷ []) (ask_timer (Set 10 (ask 1 0 1 4) ∷ [])) (name 1) ≡ Some (ask_setting 1 1)
+due_again = refl
+
+not_due_yet : due_setting 13 (1 ∷ []) (ask_timer (Set 10 (ask 1 0 1 4) ∷ [])) (name 1) ≡ None
+not_due_yet = refl
+
+-- repairs
+the_first_asks : first_asker (Asked (name 1) 3 ∷ Asked (name 1) 4 ∷ []) (name 1) ≡ 3
+the_first_asks = refl
+
+nobody_asked : first_asker (Asked (name 2) 3 ∷ []) (name 1) ≡ 0
+nobody_asked = refl
+
+a_repair_runs : fix_timer (Asked (name 1) 1 ∷ SetFix 5000000 (fix 1 100000 100000) ∷ []) (name 1) ≡ Some (armed_at 5000000 (fix 1 100000 100000))
+a_repair_runs = refl
+
+cancelled : fix_timer (SetFix 5000000 (fix 1 100000 100000) ∷ Repaired (name 1) 5399999 ∷ []) (name 1) ≡ None
+cancelled = refl
+
+off_before : is_off (Repaired (name 1) 5399999 ∷ []) (name 1) 5399998 ≡ true
+off_before = refl
+
+not_off_at : is_off (Repaired (name 1) 5399999 ∷ []) (name 1) 5399999 ≡ false
+not_off_at = refl
+
+-- the longer one holds off
+off_by_the_longer : is_off (Repaired (name 1) 500 ∷ Repaired (name 1) 400 ∷ []) (name 1) 450 ≡ true
+off_by_the_longer = refl
+
+not_free : is_free (SetFix 5000000 (fix 1 100000 100000) ∷ []) (name 1) 6000000 ≡ false
+not_free = refl
+
+free_again : is_free (SetFix 5000000 (fix 1 100000 100000) ∷ Repaired (name 1) 5399999 ∷ []) (name 1) 5399999 ≡ true
+free_again = refl
+
+three_distances : hold_end 5099999 (7 ∷ 100000 ∷ []) (Asked (name 1) 1 ∷ []) (name 1) ≡ 5399999
+three_distances = refl
+
+both_are_held_off : repairs 10 (5 ∷ 7 ∷ []) (Asked (name 1) 1 ∷ []) (name 1 ∷ name 2 ∷ []) ≡ Repaired (name 1) 31 ∷ Repaired (name 2) 25 ∷ []
+both_are_held_off = refl

@@ -1,0 +1,133 @@
+//! Moments in order.
+
+ghost use Rattle.std.specs.Prelude.{◌≡◌, ℕ, ◌≤◌, ◌<◌, ◌+◌, [], ◌∷◌, Bool, true, length, slice_get, if◌then◌else◌, OnOk, IfOk, IfSome, All};
+ghost use Rattle.std.specs.List.{list_any};
+ghost use Rattle.srm_names.specs.FullName.{FullName};
+ghost use Rattle.srm_names.specs.Names.{among, ascending, name_below, same_name, AreExactly};
+ghost use Rattle.srm_timers.specs.Agenda.{of_name, timed_for, is_due, timed_among};
+ghost use Rattle.srm_timers.specs.Places.{names_of};
+
+use crate::timed::Timed;
+use srm_names::Name;
+use std::alloc::{AllocError, Global};
+use std::marker::Model;
+
+/// Names with moments, in order of moment and then of name: what is due first stands in front.
+#[derive(Drop)]
+pub(crate) struct Agenda {
+    pairs: Vec<Timed>,
+}
+
+impl Model for Agenda {
+    ghost use Rattle.std.specs.Prelude.{IsSorted};
+    ghost use Rattle.std.specs.Vec.{vec_capacity};
+    ghost use Rattle.srm_timers.specs.Agenda.{Agenda as TheAgenda, timed_order};
+
+    ghost Value = { TheAgenda };
+
+    ghost view = { λ a. record { pairs = a.pairs.items; capacity = vec_capacity a.pairs } };
+
+    ghost invariant = { λ a. IsSorted timed_order a.pairs.items };
+}
+
+impl Agenda {
+    /// Nothing stands there.
+    pub(crate) fn new(alloc: Global) -> Agenda
+        ensures { result.pairs ≡ [] }
+    {
+        Agenda {
+            pairs: Vec::new(alloc),
+        }
+    }
+
+    /// Makes room for so many names in all.
+    pub(crate) fn reserve(&mut self, names: usize) -> Result<(), AllocError>
+        ensures pairs { self.new.pairs ≡ self.old.pairs }
+        ensures room { self.old.capacity ≤ self.new.capacity }
+        ensures ok { OnOk result (names ≤ self.new.capacity) }
+    {
+        self.pairs.reserve(names.saturating_sub(self.pairs.len()))
+    }
+
+    /// The first of all.
+    #[tactic(auto, using(crate::proofs::Dues::first_least))]
+    pub(crate) fn first(&self) -> Option<Timed>
+        ensures value { result ≡ slice_get self.now.pairs 0 }
+        ensures least { IfSome result (λ first. All (λ t. first.moment ≤ t.moment) self.now.pairs) }
+    {
+        self.pairs.first().copied()
+    }
+
+    /// Puts in a name that doesn't stand there.
+    pub(crate) fn insert(&mut self, timed: Timed)
+        requires absent { of_name timed.name self.old.pairs ≡ [] }
+        requires room { length self.old.pairs < self.old.capacity }
+        ensures each { (n : FullName) → of_name n self.new.pairs ≡ (if same_name n timed.name then timed ∷ [] else of_name n self.old.pairs) }
+        ensures room { self.old.capacity ≤ self.new.capacity }
+    {
+        let place = self.pairs.partition_point(|pair| *pair < timed);
+        let _ = self.pairs.insert(place, timed);
+    }
+
+    /// Takes out a name that stands there with its moment, if it has one.
+    pub(crate) fn remove(&mut self, name: Name, moment: Option<u64>)
+        requires there { of_name name self.old.pairs ≡ timed_for name moment }
+        ensures each { (n : FullName) → of_name n self.new.pairs ≡ (if same_name n name then [] else of_name n self.old.pairs) }
+        ensures room { self.old.capacity ≤ self.new.capacity }
+    {
+        let Some(moment) = moment else { return };
+        if let Ok(place) = self.pairs.binary_search(&Timed { moment, name }) {
+            let _ = self.pairs.remove(place);
+        }
+    }
+
+    /// Takes out all that stands there of these names, which rise.
+    pub(crate) fn remove_all(&mut self, moments: &[Timed])
+        requires rising { ascending name_below (names_of moments.now) ≡ true }
+        ensures each { (n : FullName) → of_name n self.new.pairs ≡ (if among (names_of moments.now) n then [] else of_name n self.old.pairs) }
+        ensures room { self.old.capacity ≤ self.new.capacity }
+    {
+        self.pairs.retain(|pair| !is_named(moments, pair.name));
+    }
+
+    /// Puts in names that don't stand there and rise.
+    pub(crate) fn extend(&mut self, moments: &[Timed])
+        requires rising { ascending name_below (names_of moments.now) ≡ true }
+        requires once { (n : FullName) → length (of_name n self.old.pairs) ≤ 1 }
+        requires absent { (n : FullName) → among (names_of moments.now) n ≡ true → of_name n self.old.pairs ≡ [] }
+        requires room { length self.old.pairs + length moments.now ≤ self.old.capacity }
+        ensures each { (n : FullName) → of_name n self.new.pairs ≡ timed_among moments.now n (of_name n self.old.pairs) }
+        ensures room { self.old.capacity ≤ self.new.capacity }
+    {
+        let _ = self.pairs.extend_from_slice(moments);
+        self.pairs.sort_unstable();
+    }
+
+    /// The names whose moment has come, in order of name, where each stands there at most once.
+    pub(crate) fn due(&self, now: u64) -> Result<Vec<Name>, AllocError>
+        requires once { (n : FullName) → length (of_name n self.now.pairs) ≤ 1 }
+        ensures { IfOk result (λ names. AreExactly (λ n. list_any (is_due now) (of_name n self.now.pairs)) names.items) }
+    {
+        let count = self.pairs.partition_point(|pair| pair.moment <= now);
+        let mut names = names_of(*self.pairs.allocator(), &self.pairs[..count])?;
+        names.sort_unstable();
+        Ok(names)
+    }
+}
+
+/// The names, in the order in which they stand.
+pub(crate) fn names_of(alloc: Global, pairs: &[Timed]) -> Result<Vec<Name>, AllocError>
+    ensures { IfOk result (λ names. names.items ≡ names_of pairs.now) }
+{
+    pairs.iter().map(|pair| pair.name).collect(alloc)
+}
+
+/// Whether a name is one of these, which rise.
+fn is_named(moments: &[Timed], name: Name) -> bool
+    requires rising { ascending name_below (names_of moments.now) ≡ true }
+    ensures { result ≡ among (names_of moments.now) name }
+{
+    moments
+        .binary_search_by_key(&name, |timed| timed.name)
+        .is_ok()
+}

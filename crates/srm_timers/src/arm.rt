@@ -1,0 +1,33 @@
+//! Timers that were set.
+
+use srm_names::Name;
+
+/// What a timer is for.
+#[derive(Clone, Copy, Debug, PartialEq, Eq)]
+pub enum ArmKind {
+    /// To ask for a drawop that is missing.
+    Ask,
+    /// To answer a request with the drawop.
+    Fix,
+}
+
+/// A timer that was set.
+#[derive(Clone, Copy, Debug, PartialEq, Eq)]
+pub struct Arm {
+    pub kind: ArmKind,
+    /// The drawop that it is about.
+    pub name: Name,
+    /// How often the wait was doubled: 0 to 8, and 0 for a repair.
+    pub exponent: u8,
+    /// The distance that the wait is drawn by, in microseconds.
+    pub distance: u64,
+    /// Microseconds from when the timer was set until it runs out.
+    pub wait: u64,
+}
+
+/// A timer, and the moment in microseconds at which it was set.
+#[derive(Clone, Copy, Debug, PartialEq, Eq)]
+pub struct Armed {
+    pub set: u64,
+    pub arm: Arm,
+}

@@ -1,0 +1,394 @@
+//! When a member asks for what it misses.
+
+ghost use Rattle.std.specs.Prelude.{◌≡◌, ℕ, ◌≤◌, ◌++◌, List, [], ◌∷◌, true, map, length, option_map, option_to_list, vec_capacity, IfOk, OnOk, OnErr, IsOk, IfSome, IsSome};
+ghost use Rattle.srm_names.specs.FullName.{FullName};
+ghost use Rattle.srm_names.specs.Names.{among, ascending, name_below};
+ghost use Rattle.srm_timers.specs.Arms.{backs_off, next_exponent, plan_of, arm_names, low_of, high_of, AreDrawn};
+ghost use Rattle.srm_timers.specs.AskCalls.{AskCall, Gained, ask_timer, sets, ask_plan, first_exponent, found_plan, again_plan, AskFits, AskAdds, AskBacksOff, AskRuns, AskNext, AskDue, AskedFirst, AskedAgain, AskStays, HaveNoTimer, AskReady, DetectReady, AskHolds};
+ghost use Rattle.srm_timers.specs.Distances.{distance_to, AreDistances};
+ghost use Rattle.srm_timers.specs.Ends.{AreShort};
+ghost use Rattle.srm_timers.specs.Places.{value_at, has_place};
+
+use crate::arm::{Arm, ArmKind, Armed};
+use crate::by_name::ByName;
+use crate::deadlines::Deadlines;
+use crate::distance::distance_in;
+use crate::ends::Ends;
+use crate::fault::TimerFault;
+use crate::limits::{DISTANCE, EXPONENT, LONGEST_WAIT, TIMER_SETTING};
+use crate::timers::{arm_at, set_timers};
+use crate::wait::draw_wait;
+use crate::words::Words;
+use srm_names::{MOMENT, Name};
+use std::alloc::{AllocError, Global};
+use std::marker::Model;
+use std::mem;
+
+#[cfg(test)]
+mod tests;
+
+/// The request timers that run: one for each name that is missing.
+///
+/// A call that answers [`TimerFault::Memory`] has changed nothing and taken no word. Moments are microseconds, at most
+/// 2^48, and distances microseconds, at most 10,000,000.
+#[derive(Drop)]
+pub struct Asks<D: Deadlines> {
+    alloc: Global,
+    c1: u8,
+    c2: u8,
+    ends: Ends<D>,
+    timers: ByName<Armed>,
+    /// Empty, with room for what `detect` answers next.
+    list: Vec<Arm>,
+}
+
+impl<D: Deadlines> Model for Asks<D> {
+    ghost use Rattle.std.specs.Prelude.{vec_capacity};
+    ghost use Rattle.srm_timers.specs.AskCalls.{AskContent, AskIsRight};
+
+    ghost Value = { AskContent };
+
+    ghost view = { λ a. record { c1 = a.c1; c2 = a.c2; ends = a.ends; timers = a.timers; list = vec_capacity a.list } };
+
+    ghost invariant = { λ a. AskIsRight (record { c1 = a.c1; c2 = a.c2; ends = a.ends; timers = a.timers; list = vec_capacity a.list }) a.list.items };
+}
+
+impl<D: Deadlines> Asks<D> {
+    /// No timers. The first wait for a name lies between `c1` and `c1 + c2` distances to its source.
+    pub fn new(alloc: Global, deadlines: D, c1: u8, c2: u8) -> Self
+        requires empty { D.places deadlines ≡ [] }
+        requires c1 { c1 ≤ TIMER_SETTING }
+        requires c2 { c2 ≤ TIMER_SETTING }
+        ensures { AskFits c1 c2 [] result }
+    {
+        Asks {
+            alloc,
+            c1,
+            c2,
+            ends: Ends::new(alloc, deadlines),
+            timers: ByName::new(alloc),
+            list: Vec::new(alloc),
+        }
+    }
+
+    /// Makes room, so that `detect` of these names isn't refused, once, nor needs `set_all` memory for them. No timer
+    /// changes. Only want of memory refuses it.
+    pub fn room(&mut self, names: &[Name]) -> Result<(), TimerFault>
+        ensures kept { AskStays self.old self.new }
+        ensures held { AskHolds self.old self.new }
+        ensures list { self.old.list ≤ self.new.list }
+        ensures ready { OnOk result (DetectReady names.now self.new) }
+    {
+        self.room_to_set(names)?;
+        self.list.reserve(names.len())?;
+        Ok(())
+    }
+
+    /// Makes room to set the timers of these names in one call.
+    #[tactic(auto, using(crate::proofs::AskSteps::stays_kept, crate::proofs::AskSteps::keeps_self))]
+    fn room_to_set(&mut self, names: &[Name]) -> Result<(), AllocError>
+        ensures kept { AskStays self.old self.new }
+        ensures timers { (n : FullName) → value_at self.new.timers n ≡ value_at self.old.timers n }
+        ensures c1 { self.new.c1 ≡ self.old.c1 }
+        ensures c2 { self.new.c2 ≡ self.old.c2 }
+        ensures list { self.new.list ≡ self.old.list }
+        ensures held { AskHolds self.old self.new }
+        ensures ok { OnOk result (AskReady names.now self.new) }
+        ensures again { AskReady names.now self.old → IsOk result }
+    {
+        self.ends.room(names)?;
+        self.timers.room(names)
+    }
+
+    /// The empty list for an answer, with room for so many arms.
+    #[tactic(auto, using(crate::proofs::AskSteps::stays_kept, crate::proofs::AskSteps::keeps_self))]
+    fn take_list(&mut self, count: usize) -> Result<Vec<Arm>, AllocError>
+        ensures same { self.new ≡ record self.old { list = self.new.list } }
+        ensures kept { AskStays self.old self.new }
+        ensures empty { IfOk result (λ list. list.items ≡ []) }
+        ensures capacity { IfOk result (λ list. count ≤ vec_capacity list) }
+        ensures again { count ≤ self.old.list → IsOk result }
+    {
+        self.list.reserve(count)?;
+        Ok(mem::replace(&mut self.list, Vec::new(self.alloc)))
+    }
+
+    /// Names were found missing, which rise and have no timer: their timers are set. The exponent is 1 for a name
+    /// among `asked`, those for which a request was heard, and else 0. Only want of memory refuses it, and then for
+    /// all of the names.
+    #[tactic(auto, using(crate::proofs::AskSteps::sets_after, crate::proofs::AskSteps::found_rise))]
+    pub fn detect<W: Words>(
+        &mut self,
+        names: &[Name],
+        asked: &[Name],
+        dist: &[u64],
+        now: u64,
+        words: &mut W,
+    ) -> Result<Vec<Arm>, TimerFault>
+        requires rising { ascending name_below names.now ≡ true }
+        requires fresh { HaveNoTimer names.now self.old }
+        requires distances { AreDistances dist.now }
+        requires now { now ≤ MOMENT }
+        ensures fits { IfOk result (λ arms. AskAdds (sets now arms.items) self.old self.new) }
+        ensures arms { IfOk result (λ arms. AskedFirst names.now asked.now dist.now arms.items) }
+        ensures drawn { IfOk result (λ arms. AreDrawn W.draw (low_of self.old.c1) (high_of self.old.c1 self.old.c2) words.old arms.items words.new) }
+        ensures kept { OnErr result (AskStays self.old self.new) }
+        ensures undrawn { OnErr result (words.new ≡ words.old) }
+        ensures held { AskHolds self.old self.new }
+        ensures room { DetectReady names.now self.old → IsOk result }
+    {
+        self.room_to_set(names)?;
+        let list = self.take_list(names.len())?;
+        let arms = self.found(list, names, asked, dist, words);
+        self.set_all(now, &arms);
+        Ok(arms)
+    }
+
+    /// Adds the arms of names that were found missing to an empty list that has room for them.
+    fn found<W: Words>(
+        &self,
+        mut arms: Vec<Arm>,
+        names: &[Name],
+        asked: &[Name],
+        dist: &[u64],
+        words: &mut W,
+    ) -> Vec<Arm>
+        requires empty { arms.items ≡ [] }
+        requires room { length names.now ≤ vec_capacity arms }
+        requires rising { ascending name_below names.now ≡ true }
+        requires distances { AreDistances dist.now }
+        ensures arms { AskedFirst names.now asked.now dist.now result.items }
+        ensures plans { map plan_of result.items ≡ map (found_plan asked.now dist.now) names.now }
+        ensures drawn { AreDrawn W.draw (low_of self.now.c1) (high_of self.now.c1 self.now.c2) words.old result.items words.new }
+        ensures short { AreShort result.items }
+    {
+        for name in names {
+            let exponent = first_exponent(asked, *name);
+            let arm = self.arm(*name, exponent, distance_in(dist, name.source()), words);
+            arms.push(arm).unwrap();
+        }
+        arms
+    }
+
+    /// A request for a name was heard: its timer is set again, one exponent higher, unless none runs or the request
+    /// comes before the timer's ignore moment. Takes no memory.
+    pub fn heard_request<W: Words>(
+        &mut self,
+        name: Name,
+        dist: &[u64],
+        now: u64,
+        words: &mut W,
+    ) -> Option<Arm>
+        requires distances { AreDistances dist.now }
+        requires now { now ≤ MOMENT }
+        ensures fits { AskAdds (sets now (option_to_list result)) self.old self.new }
+        ensures arm { (c1 c2 : ℕ) (calls : List AskCall) → AskFits c1 c2 calls self.old
+            → option_map plan_of result ≡ option_map (ask_plan name (distance_to dist.now name.stream.source)) (backs_off now (ask_timer calls name)) }
+        ensures drawn { AreDrawn W.draw (low_of self.old.c1) (high_of self.old.c1 self.old.c2) words.old (option_to_list result) words.new }
+        ensures held { AskHolds self.old self.new }
+        ensures list { self.new.list ≡ self.old.list }
+    {
+        let _ = &self.ends;
+        let exponent = self.backs_off(name, now)?;
+        let arm = self.arm(name, exponent, distance_in(dist, name.source()), words);
+        self.set(now, &arm);
+        Some(arm)
+    }
+
+    /// A name was gained: its timer is gone. Takes no memory.
+    #[tactic(auto, using(crate::proofs::AskSteps::gained_adds))]
+    pub fn gained(&mut self, name: Name)
+        ensures fits { AskAdds (Gained name ∷ []) self.old self.new }
+        ensures held { AskHolds self.old self.new }
+        ensures list { self.new.list ≡ self.old.list }
+    {
+        self.ends.clear(name);
+        self.timers.clear(name);
+    }
+
+    /// The names whose timers have run out, in order of name: those that `due` would set again. Only want of memory
+    /// refuses it.
+    #[tactic(auto, using(crate::proofs::AskSteps::due_is))]
+    pub fn pending(&self, now: u64) -> Result<Vec<Name>, TimerFault>
+        ensures { IfOk result (λ names. AskDue now self.now names.items) }
+    {
+        Ok(self.ends.due(now)?)
+    }
+
+    /// The timers that have run out are set again, each one exponent higher; their names are the ones to ask for now.
+    /// Only want of memory refuses it.
+    #[tactic(auto, using(crate::proofs::AskSteps::sets_after, crate::proofs::AskSteps::asked_again, crate::proofs::AskSteps::again_rise))]
+    pub fn due<W: Words>(
+        &mut self,
+        now: u64,
+        dist: &[u64],
+        words: &mut W,
+    ) -> Result<Vec<Arm>, TimerFault>
+        requires distances { AreDistances dist.now }
+        requires now { now ≤ MOMENT }
+        ensures fits { IfOk result (λ arms. AskAdds (sets now arms.items) self.old self.new) }
+        ensures arms { IfOk result (λ arms. AskedAgain now dist.now self.old arms.items) }
+        ensures drawn { IfOk result (λ arms. AreDrawn W.draw (low_of self.old.c1) (high_of self.old.c1 self.old.c2) words.old arms.items words.new) }
+        ensures kept { OnErr result (AskStays self.old self.new) }
+        ensures undrawn { OnErr result (words.new ≡ words.old) }
+        ensures held { AskHolds self.old self.new }
+        ensures list { self.new.list ≡ self.old.list }
+    {
+        let names = self.ends.due(now)?;
+        self.room_to_set(&names)?;
+        let list = Vec::with_capacity(self.alloc, names.len())?;
+        let arms = self.again(list, &names, dist, words);
+        self.set_all(now, &arms);
+        Ok(arms)
+    }
+
+    /// Adds the arms with which names that have a timer are armed again to an empty list that has room for them.
+    fn again<W: Words>(
+        &self,
+        mut arms: Vec<Arm>,
+        names: &[Name],
+        dist: &[u64],
+        words: &mut W,
+    ) -> Vec<Arm>
+        requires empty { arms.items ≡ [] }
+        requires room { length names.now ≤ vec_capacity arms }
+        requires timers { (n : FullName) → among names.now n ≡ true → IsSome (value_at self.now.timers n) }
+        requires distances { AreDistances dist.now }
+        ensures plans { map plan_of result.items ≡ map (again_plan dist.now (value_at self.now.timers)) names.now }
+        ensures drawn { AreDrawn W.draw (low_of self.now.c1) (high_of self.now.c1 self.now.c2) words.old result.items words.new }
+        ensures short { AreShort result.items }
+    {
+        for name in names {
+            let exponent = self.runs(*name).unwrap();
+            let arm = self.arm(*name, exponent, distance_in(dist, name.source()), words);
+            arms.push(arm).unwrap();
+        }
+        arms
+    }
+
+    /// The least moment at which a timer runs out. Takes no memory.
+    #[tactic(auto, using(crate::proofs::AskSteps::next_is))]
+    pub fn next(&self) -> Option<u64>
+        ensures { AskNext self.now result }
+    {
+        self.ends.next()
+    }
+
+    /// The exponent with which a request for a name, heard now, arms it again: `None` where it is ignored, or no timer
+    /// runs. Takes no memory.
+    #[tactic(auto, using(crate::proofs::AskSteps::backs_off_is))]
+    pub fn backs_off(&self, name: Name, now: u64) -> Option<u8>
+        ensures so_far { AskBacksOff name now self.now result }
+        ensures value { result ≡ backs_off now (value_at self.now.timers name) }
+        ensures range { IfSome result (λ exponent. exponent ≤ EXPONENT) }
+    {
+        backed_off(self.timers.get(name), now)
+    }
+
+    /// The exponent with which a name is armed again whose timer ran out: `None` where no timer runs. Takes no memory.
+    #[tactic(auto, using(crate::proofs::AskSteps::runs_is))]
+    pub fn runs(&self, name: Name) -> Option<u8>
+        ensures so_far { AskRuns name self.now result }
+        ensures value { result ≡ option_map next_exponent (value_at self.now.timers name) }
+        ensures range { IfSome result (λ exponent. exponent ≤ EXPONENT) }
+    {
+        exponent_after(self.timers.get(name))
+    }
+
+    /// Draws the wait of an arm, by one word. No timer is set.
+    pub fn arm<W: Words>(&self, name: Name, exponent: u8, distance: u64, words: &mut W) -> Arm
+        requires exponent { exponent ≤ EXPONENT }
+        requires distance { distance ≤ DISTANCE }
+        ensures plan { plan_of result ≡ ask_plan name distance exponent }
+        ensures drawn { AreDrawn W.draw (low_of self.now.c1) (high_of self.now.c1 self.now.c2) words.old (result ∷ []) words.new }
+        ensures short { result.wait ≤ LONGEST_WAIT }
+    {
+        let wait = draw_wait(self.c1, self.c2, exponent, distance, words);
+        Arm {
+            kind: ArmKind::Ask,
+            name,
+            exponent,
+            distance,
+            wait,
+        }
+    }
+
+    /// One timer runs from now on.
+    #[tactic(auto, using(crate::proofs::AskSteps::set_adds))]
+    fn set(&mut self, now: u64, arm: &Arm)
+        requires timers { has_place self.old.timers arm.now.name ≡ true }
+        requires ends { has_place self.old.ends.places arm.now.name ≡ true }
+        requires now { now ≤ MOMENT }
+        requires short { arm.now.wait ≤ LONGEST_WAIT }
+        ensures fits { AskAdds (sets now (arm.now ∷ [])) self.old self.new }
+        ensures held { AskHolds self.old self.new }
+        ensures list { self.new.list ≡ self.old.list }
+    {
+        self.ends.set(arm.name, now + arm.wait);
+        self.timers.set(arm.name, Some(arm_at(now, *arm)));
+    }
+
+    /// These timers run from now on: arms of requests, whose names rise, with room for them. Takes no memory.
+    #[tactic(auto, using(crate::proofs::AskSteps::sets_adds))]
+    pub fn set_all(&mut self, now: u64, arms: &[Arm])
+        requires rising { ascending name_below (arm_names arms.now) ≡ true }
+        requires ready { AskReady (arm_names arms.now) self.old }
+        requires now { now ≤ MOMENT }
+        requires short { AreShort arms.now }
+        ensures fits { AskAdds (sets now arms.now) self.old self.new }
+        ensures held { AskHolds self.old self.new }
+        ensures list { self.new.list ≡ self.old.list }
+    {
+        self.ends.set_all(now, arms);
+        set_timers(&mut self.timers, now, arms);
+    }
+}
+
+/// The exponent of a name that was found missing.
+fn first_exponent(asked: &[Name], name: Name) -> u8
+    ensures value { result ≡ first_exponent asked.now name }
+    ensures range { result ≤ EXPONENT }
+{
+    if is_among(asked, name) { 1 } else { 0 }
+}
+
+/// Whether a name is one of these.
+fn is_among(names: &[Name], name: Name) -> bool
+    ensures { result ≡ among names.now name }
+{
+    names.iter().any(|other| name == *other)
+}
+
+/// The exponent of the arm after this one.
+fn after(armed: Armed) -> u8
+    ensures value { result ≡ next_exponent armed }
+    ensures range { result ≤ EXPONENT }
+{
+    if armed.arm.exponent >= EXPONENT {
+        EXPONENT
+    } else {
+        armed.arm.exponent + 1
+    }
+}
+
+/// The exponent of the arm after this timer, if it runs.
+fn exponent_after(timer: Option<Armed>) -> Option<u8>
+    ensures value { result ≡ option_map next_exponent timer }
+    ensures range { IfSome result (λ exponent. exponent ≤ EXPONENT) }
+{
+    Some(after(timer?))
+}
+
+/// The exponent of the arm after a request that isn't ignored.
+fn backed_off(timer: Option<Armed>, now: u64) -> Option<u8>
+    ensures value { result ≡ backs_off now timer }
+    ensures range { IfSome result (λ exponent. exponent ≤ EXPONENT) }
+{
+    let armed = timer?;
+    let ignored_until = u128::from(armed.set) + u128::from(armed.arm.wait / 2);
+    if armed.arm.exponent == 0 || ignored_until <= u128::from(now) {
+        Some(after(armed))
+    } else {
+        None
+    }
+}

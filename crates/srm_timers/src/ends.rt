@@ -1,0 +1,134 @@
+//! The moments at which timers run out.
+
+ghost use Rattle.std.specs.Prelude.{◌≡◌, ◌≤◌, ◌+◌, ◌++◌, true, map, length, vec_len, vec_capacity, Some, None, IfOk, OnOk, IsOk};
+ghost use Rattle.srm_names.specs.Names.{AreExactly, ascending, name_below};
+ghost use Rattle.srm_timers.specs.Arms.{arm_names};
+ghost use Rattle.srm_timers.specs.Deadlines.{has_come};
+ghost use Rattle.srm_timers.specs.Ends.{timed_at, SetsEnds, AreShort, HaveRoom, KeepsRoom};
+ghost use Rattle.srm_timers.specs.Places.{value_at, has_place, Keeps, Sets, IsLeast, HasPlaces};
+
+use crate::arm::Arm;
+use crate::deadlines::Deadlines;
+use crate::timed::Timed;
+use srm_names::{MOMENT, Name};
+use std::alloc::{AllocError, Global};
+use std::marker::Model;
+
+/// Deadlines, and an empty list with room to hand over several at once.
+#[derive(Drop)]
+pub(crate) struct Ends<D: Deadlines> {
+    deadlines: D,
+    moments: Vec<Timed>,
+}
+
+impl<D: Deadlines> Model for Ends<D> {
+    ghost use Rattle.std.specs.Prelude.{◌≡◌, [], vec_capacity};
+    ghost use Rattle.srm_timers.specs.Ends.{EndContent};
+
+    ghost Value = { EndContent };
+
+    ghost view = { λ e. record { places = D.places e.deadlines; room = vec_capacity e.moments } };
+
+    ghost invariant = { λ e. e.moments.items ≡ [] };
+}
+
+impl<D: Deadlines> Ends<D> {
+    pub fn new(alloc: Global, deadlines: D) -> Self
+        ensures { result.places ≡ D.places deadlines }
+    {
+        Ends {
+            deadlines,
+            moments: Vec::new(alloc),
+        }
+    }
+
+    /// Makes room to set each of these names by itself. No moment changes.
+    pub fn make_places(&mut self, names: &[Name]) -> Result<(), AllocError>
+        ensures kept { Keeps self.old.places self.new.places }
+        ensures held { KeepsRoom self.old self.new }
+        ensures ok { OnOk result (HasPlaces names.now self.new.places) }
+        ensures again { HasPlaces names.now self.old.places → IsOk result }
+    {
+        self.deadlines.room(names)
+    }
+
+    /// Makes room to set all these names in one call. No moment changes.
+    pub fn room(&mut self, names: &[Name]) -> Result<(), AllocError>
+        ensures kept { Keeps self.old.places self.new.places }
+        ensures held { KeepsRoom self.old self.new }
+        ensures ok { OnOk result (HaveRoom names.now self.new) }
+        ensures again { HaveRoom names.now self.old → IsOk result }
+    {
+        self.deadlines.room(names)?;
+        self.moments.reserve(names.len())
+    }
+
+    pub fn get(&self, name: Name) -> Option<u64>
+        ensures { result ≡ value_at self.now.places name }
+    {
+        self.deadlines.get(name)
+    }
+
+    /// One timer runs until a moment.
+    pub fn set(&mut self, name: Name, moment: u64)
+        requires { has_place self.old.places name ≡ true }
+        ensures sets { Sets name (Some moment) self.old.places self.new.places }
+        ensures held { KeepsRoom self.old self.new }
+    {
+        self.deadlines.set(name, moment);
+    }
+
+    /// These timers run from now on.
+    pub fn set_all(&mut self, now: u64, arms: &[Arm])
+        requires rising { ascending name_below (arm_names arms.now) ≡ true }
+        requires room { HaveRoom (arm_names arms.now) self.old }
+        requires now { now ≤ MOMENT }
+        requires short { AreShort arms.now }
+        ensures sets { SetsEnds now arms.now self.old.places self.new.places }
+        ensures held { KeepsRoom self.old self.new }
+    {
+        add_moments(&mut self.moments, now, arms);
+        self.deadlines.set_all(&self.moments);
+        self.moments.clear();
+    }
+
+    pub fn clear(&mut self, name: Name)
+        ensures sets { Sets name None self.old.places self.new.places }
+        ensures held { KeepsRoom self.old self.new }
+    {
+        self.deadlines.clear(name);
+    }
+
+    /// The names whose moment has come, in order of name.
+    pub fn due(&self, now: u64) -> Result<Vec<Name>, AllocError>
+        ensures { IfOk result (λ names. AreExactly (λ n. has_come now (value_at self.now.places n)) names.items) }
+    {
+        self.deadlines.due(now)
+    }
+
+    /// The least moment.
+    pub fn next(&self) -> Option<u64>
+        ensures { IsLeast self.now.places result }
+    {
+        self.deadlines.next()
+    }
+}
+
+/// Adds the ends of arms that are set now.
+fn add_moments(moments: &mut Vec<Timed>, now: u64, arms: &[Arm])
+    requires room { vec_len moments.old + length arms.now ≤ vec_capacity moments.old }
+    requires now { now ≤ MOMENT }
+    requires short { AreShort arms.now }
+    ensures items { moments.new.items ≡ moments.old.items ++ map (timed_at now) arms.now }
+    ensures capacity { vec_capacity moments.old ≤ vec_capacity moments.new }
+{
+    for arm in arms {
+        let moment = now + arm.wait;
+        moments
+            .push(Timed {
+                name: arm.name,
+                moment,
+            })
+            .unwrap();
+    }
+}

@@ -1,0 +1,323 @@
+//! When a member answers others.
+
+ghost use Rattle.std.specs.Prelude.{◌≡◌, ◌≤◌, ◌+◌, ◌*◌, [], ◌∷◌, true, not, ◌&&◌, option_to_list, IfOk, OnOk, OnErr, IsOk};
+ghost use Rattle.srm_names.specs.Names.{ascending, name_below};
+ghost use Rattle.srm_timers.specs.Arms.{plan_of, arm_names, low_of, high_of, AreDrawn};
+ghost use Rattle.srm_timers.specs.FixCalls.{Asked, Repaired, sets_fix, fix_plan, FixFits, FixAdds, FixRepairs, FixDue, FixNext, FixIsFree, FixFirstAsker, FixAnswers, FixStays, FixPlace, FixPlaces, FixReady, FixHolds};
+ghost use Rattle.srm_timers.specs.Distances.{distance_to, AreDistances};
+ghost use Rattle.srm_timers.specs.Ends.{HaveRoom, AreShort};
+
+use crate::arm::{Arm, ArmKind};
+use crate::by_name::ByName;
+use crate::deadlines::Deadlines;
+use crate::distance::distance_in;
+use crate::ends::Ends;
+use crate::fault::TimerFault;
+use crate::limits::{DISTANCE, LONGEST_WAIT, TIMER_SETTING};
+use crate::wait::draw_wait;
+use crate::words::Words;
+use srm_names::{MOMENT, Member, Name};
+use std::alloc::{AllocError, Global};
+use std::marker::Model;
+
+#[cfg(test)]
+mod tests;
+
+/// The repair timers that run, who asked first for each name, and until when names are held off.
+///
+/// A call that answers [`TimerFault::Memory`] has changed nothing and taken no word. Moments are microseconds, at most
+/// 2^48, and distances microseconds, at most 10,000,000.
+#[derive(Drop)]
+pub struct Fixes<D: Deadlines> {
+    d1: u8,
+    d2: u8,
+    ends: Ends<D>,
+    askers: ByName<Member>,
+    holds: ByName<u64>,
+}
+
+impl<D: Deadlines> Model for Fixes<D> {
+    ghost use Rattle.srm_timers.specs.FixCalls.{FixContent, FixIsRight};
+
+    ghost Value = { FixContent };
+
+    ghost view = { λ a. record { d1 = a.d1; d2 = a.d2; ends = a.ends; askers = a.askers; holds = a.holds } };
+
+    ghost invariant = { λ a. FixIsRight (record { d1 = a.d1; d2 = a.d2; ends = a.ends; askers = a.askers; holds = a.holds }) };
+}
+
+impl<D: Deadlines> Fixes<D> {
+    /// No timers. A wait lies between `d1` and `d1 + d2` distances to the member that asks.
+    pub fn new(alloc: Global, deadlines: D, d1: u8, d2: u8) -> Self
+        requires empty { D.places deadlines ≡ [] }
+        requires d1 { d1 ≤ TIMER_SETTING }
+        requires d2 { d2 ≤ TIMER_SETTING }
+        ensures { FixFits d1 d2 [] result }
+    {
+        Fixes {
+            d1,
+            d2,
+            ends: Ends::new(alloc, deadlines),
+            askers: ByName::new(alloc),
+            holds: ByName::new(alloc),
+        }
+    }
+
+    /// Makes room, so that no call on one of these names is refused, nor needs `set_all` memory for them. Nothing else
+    /// changes. Only want of memory refuses it.
+    pub fn room(&mut self, names: &[Name]) -> Result<(), TimerFault>
+        ensures kept { FixStays self.old self.new }
+        ensures held { FixHolds self.old self.new }
+        ensures ready { OnOk result (FixReady names.now self.new) }
+    {
+        self.make_places(names)?;
+        self.ends.room(names)?;
+        Ok(())
+    }
+
+    /// Makes room for calls on a name.
+    #[tactic(auto, using(crate::proofs::FixSteps::one_place, crate::proofs::FixSteps::one_placed))]
+    fn make_place(&mut self, name: Name) -> Result<(), AllocError>
+        ensures kept { FixStays self.old self.new }
+        ensures held { FixHolds self.old self.new }
+        ensures d1 { self.new.d1 ≡ self.old.d1 }
+        ensures d2 { self.new.d2 ≡ self.old.d2 }
+        ensures ok { OnOk result (FixPlace self.new name) }
+        ensures again { FixPlace self.old name → IsOk result }
+    {
+        self.make_places(&[name])
+    }
+
+    /// Makes room for calls on one name each.
+    #[tactic(auto, using(crate::proofs::FixSteps::fix_stays, crate::proofs::AskSteps::keeps_self))]
+    fn make_places(&mut self, names: &[Name]) -> Result<(), AllocError>
+        ensures kept { FixStays self.old self.new }
+        ensures held { FixHolds self.old self.new }
+        ensures d1 { self.new.d1 ≡ self.old.d1 }
+        ensures d2 { self.new.d2 ≡ self.old.d2 }
+        ensures ok { OnOk result (FixPlaces names.now self.new) }
+        ensures again { FixPlaces names.now self.old → IsOk result }
+    {
+        self.ends.make_places(names)?;
+        self.askers.room(names)?;
+        self.holds.room(names)
+    }
+
+    /// A request for a name was heard. The first member that asks for a name is noted, whether the name is held or not.
+    /// A timer is set where the name is held, no timer of it runs and it isn't held off. Only want of memory refuses it.
+    #[tactic(auto, using(crate::proofs::FixSteps::asked_sets, crate::proofs::FixSteps::asked_alone, crate::proofs::FixSteps::answers_with, crate::proofs::FixSteps::answers_not))]
+    pub fn heard_request<W: Words>(
+        &mut self,
+        name: Name,
+        from: Member,
+        held: bool,
+        dist: &[u64],
+        now: u64,
+        words: &mut W,
+    ) -> Result<Option<Arm>, TimerFault>
+        requires distances { AreDistances dist.now }
+        requires now { now ≤ MOMENT }
+        ensures fits { IfOk result (λ arm. FixAdds (Asked name from ∷ sets_fix now (option_to_list arm)) self.old self.new) }
+        ensures arm { IfOk result (FixAnswers name (distance_to dist.now from) held now self.old) }
+        ensures drawn { IfOk result (λ arm. AreDrawn W.draw (low_of self.old.d1) (high_of self.old.d1 self.old.d2) words.old (option_to_list arm) words.new) }
+        ensures kept { OnErr result (FixStays self.old self.new) }
+        ensures undrawn { OnErr result (words.new ≡ words.old) }
+        ensures held { FixHolds self.old self.new }
+        ensures room { FixPlace self.old name → IsOk result }
+    {
+        self.make_place(name)?;
+        let answers = both(held, self.is_free(name, now));
+        self.note(name, from);
+        if answers {
+            let arm = self.arm(name, distance_in(dist, from), words);
+            self.set(now, &arm);
+            Ok(Some(arm))
+        } else {
+            Ok(None)
+        }
+    }
+
+    /// A repair of a name was heard: its timer is gone, and it is held off for three distances to the member that asked
+    /// for it first, else to its source, unless a repair before holds it off for longer. Only want of memory refuses it.
+    #[tactic(auto, using(crate::proofs::FixSteps::repairs_after))]
+    pub fn heard_repair(&mut self, name: Name, dist: &[u64], now: u64) -> Result<(), TimerFault>
+        requires distances { AreDistances dist.now }
+        requires now { now ≤ MOMENT }
+        ensures fits { OnOk result (FixRepairs now dist.now (name ∷ []) self.old self.new) }
+        ensures kept { OnErr result (FixStays self.old self.new) }
+        ensures held { FixHolds self.old self.new }
+        ensures room { FixPlace self.old name → IsOk result }
+    {
+        self.make_place(name)?;
+        self.hold_off(name, dist, now);
+        Ok(())
+    }
+
+    /// The names whose timers have run out, in order of name: those that `due` would hand out. Only want of memory
+    /// refuses it.
+    #[tactic(auto, using(crate::proofs::FixSteps::fix_due_is))]
+    pub fn pending(&self, now: u64) -> Result<Vec<Name>, TimerFault>
+        ensures { IfOk result (λ names. FixDue now self.now names.items) }
+    {
+        Ok(self.ends.due(now)?)
+    }
+
+    /// The names whose timers have run out, in order of name, to be repaired now: their timers are gone, and they are
+    /// held off as where a repair of them was heard. Only want of memory refuses it.
+    #[tactic(auto, using(crate::proofs::FixSteps::fix_due_is, crate::proofs::FixSteps::repairs_after))]
+    pub fn due(&mut self, now: u64, dist: &[u64]) -> Result<Vec<Name>, TimerFault>
+        requires distances { AreDistances dist.now }
+        requires now { now ≤ MOMENT }
+        ensures fits { IfOk result (λ names. FixRepairs now dist.now names.items self.old self.new) }
+        ensures names { IfOk result (λ names. FixDue now self.old names.items) }
+        ensures kept { OnErr result (FixStays self.old self.new) }
+        ensures held { FixHolds self.old self.new }
+    {
+        let names = self.ends.due(now)?;
+        self.make_places(&names)?;
+        self.hold_all_off(&names, dist, now);
+        Ok(names)
+    }
+
+    /// Names are repaired now.
+    #[tactic(auto, using(crate::proofs::FixSteps::repairs_none, crate::proofs::FixSteps::repairs_next, crate::proofs::FixSteps::fix_holds_on))]
+    fn hold_all_off(&mut self, names: &[Name], dist: &[u64], now: u64)
+        requires places { FixPlaces names.now self.old }
+        requires distances { AreDistances dist.now }
+        requires now { now ≤ MOMENT }
+        ensures fits { FixRepairs now dist.now names.now self.old self.new }
+        ensures held { FixHolds self.old self.new }
+    {
+        for name in names {
+            self.hold_off(*name, dist, now);
+        }
+    }
+
+    /// A name is repaired now.
+    #[tactic(auto, using(crate::proofs::FixSteps::repairs_one))]
+    fn hold_off(&mut self, name: Name, dist: &[u64], now: u64)
+        requires place { FixPlace self.old name }
+        requires distances { AreDistances dist.now }
+        requires now { now ≤ MOMENT }
+        ensures fits { FixRepairs now dist.now (name ∷ []) self.old self.new }
+        ensures held { FixHolds self.old self.new }
+    {
+        let distance = distance_in(dist, self.first_asker(name));
+        self.repaired(name, distance, now);
+    }
+
+    /// The least moment at which a timer runs out. Takes no memory.
+    #[tactic(auto, using(crate::proofs::FixSteps::fix_next_is))]
+    pub fn next(&self) -> Option<u64>
+        ensures { FixNext self.now result }
+    {
+        self.ends.next()
+    }
+
+    /// Whether a request for a name that is held, heard now, sets its timer: none runs, and the name isn't held off.
+    /// Takes no memory.
+    #[tactic(auto, using(crate::proofs::FixSteps::is_free_is))]
+    pub fn is_free(&self, name: Name, now: u64) -> bool
+        ensures { FixIsFree name now self.now result }
+    {
+        let runs = self.ends.get(name).is_some();
+        let off = now < self.holds.get(name).unwrap_or(0);
+        neither(runs, off)
+    }
+
+    /// Who asked for a name first, else its source. Takes no memory.
+    #[tactic(auto, using(crate::proofs::FixSteps::first_is))]
+    pub fn first_asker(&self, name: Name) -> Member
+        ensures { FixFirstAsker name self.now result }
+    {
+        match self.askers.get(name) {
+            Some(member) => member,
+            None => name.source(),
+        }
+    }
+
+    /// Notes who asked for a name, unless one asked before. Takes no memory.
+    #[tactic(auto, using(crate::proofs::FixSteps::note_first, crate::proofs::FixSteps::note_later))]
+    pub fn note(&mut self, name: Name, from: Member)
+        requires { FixPlace self.old name }
+        ensures fits { FixAdds (Asked name from ∷ []) self.old self.new }
+        ensures held { FixHolds self.old self.new }
+        ensures d1 { self.new.d1 ≡ self.old.d1 }
+        ensures d2 { self.new.d2 ≡ self.old.d2 }
+    {
+        if self.askers.get(name).is_none() {
+            self.askers.set(name, Some(from));
+        }
+    }
+
+    /// Draws the wait of an arm, by one word. No timer is set.
+    pub fn arm<W: Words>(&self, name: Name, distance: u64, words: &mut W) -> Arm
+        requires { distance ≤ DISTANCE }
+        ensures plan { plan_of result ≡ fix_plan name distance }
+        ensures drawn { AreDrawn W.draw (low_of self.now.d1) (high_of self.now.d1 self.now.d2) words.old (result ∷ []) words.new }
+        ensures short { result.wait ≤ LONGEST_WAIT }
+    {
+        let wait = draw_wait(self.d1, self.d2, 0, distance, words);
+        Arm {
+            kind: ArmKind::Fix,
+            name,
+            exponent: 0,
+            distance,
+            wait,
+        }
+    }
+
+    /// One timer runs from now on.
+    #[tactic(auto, using(crate::proofs::FixSteps::set_adds_fix))]
+    fn set(&mut self, now: u64, arm: &Arm)
+        requires place { FixPlace self.old arm.now.name }
+        requires now { now ≤ MOMENT }
+        requires short { arm.now.wait ≤ LONGEST_WAIT }
+        ensures fits { FixAdds (sets_fix now (arm.now ∷ [])) self.old self.new }
+        ensures held { FixHolds self.old self.new }
+    {
+        self.ends.set(arm.name, now + arm.wait);
+    }
+
+    /// These timers run from now on: arms of repairs, whose names rise, with room for them. Takes no memory.
+    #[tactic(auto, using(crate::proofs::FixSteps::sets_adds_fix))]
+    pub fn set_all(&mut self, now: u64, arms: &[Arm])
+        requires rising { ascending name_below (arm_names arms.now) ≡ true }
+        requires room { HaveRoom (arm_names arms.now) self.old.ends }
+        requires now { now ≤ MOMENT }
+        requires short { AreShort arms.now }
+        ensures fits { FixAdds (sets_fix now arms.now) self.old self.new }
+        ensures held { FixHolds self.old self.new }
+    {
+        self.ends.set_all(now, arms);
+    }
+
+    /// A repair of a name was heard or is handed out: its timer is gone, and it is held off for three of these
+    /// distances, unless a repair before holds it off for longer. Takes no memory.
+    #[tactic(auto, using(crate::proofs::FixSteps::repaired_longer, crate::proofs::FixSteps::repaired_as_long))]
+    pub fn repaired(&mut self, name: Name, distance: u64, now: u64)
+        requires place { FixPlace self.old name }
+        requires distance { distance ≤ DISTANCE }
+        requires now { now ≤ MOMENT }
+        ensures fits { FixAdds (Repaired name (now + 3 * distance) ∷ []) self.old self.new }
+        ensures held { FixHolds self.old self.new }
+    {
+        let until = now + 3 * distance;
+        self.ends.clear(name);
+        if self.holds.get(name).unwrap_or(0) < until {
+            self.holds.set(name, Some(until));
+        }
+    }
+}
+
+fn neither(a: bool, b: bool) -> bool
+    ensures { result ≡ (not a && not b) }
+{
+    !a && !b
+}
+
+fn both(a: bool, b: bool) -> bool
+    ensures { result ≡ (a && b) }
+{
+    a && b
+}

@@ -1,0 +1,87 @@
+//! What tests start from.
+
+ghost use Rattle.std.specs.Prelude.{◌≡◌, ◌≤◌, List};
+ghost use Rattle.srm_names.specs.FullName.{FullName};
+ghost use Rattle.srm_names.specs.Names.{first_page, named};
+ghost use Rattle.srm_timers.specs.AskCalls.{HaveNoTimer};
+ghost use Rattle.srm_timers.specs.Distances.{AreDistances};
+
+use crate::{Arm, ArmKind, Asks, DISTANCE, Fixes, Listed, Scanned, TIMER_SETTING};
+use srm_names::{Member, Name, Page};
+use std::alloc::Global;
+use std::process::Abort;
+
+pub(crate) fn member(rt: &impl Abort, number: u8) -> Member {
+    Member::new(number).expect(rt, "a member")
+}
+
+/// A name of member 0 on the first page.
+pub(crate) fn name(rt: &impl Abort, number: u32) -> Name
+    ensures { result ≡ named (record { source = 0; page = first_page }) number }
+{
+    let source = Member::new(0).expect(rt, "a source");
+    let page = Page {
+        creator: source,
+        number: 0,
+    };
+    Name::new(source, page, number).expect(rt, "a number")
+}
+
+/// Each member is as far away.
+pub(crate) fn all_at(distance: u64) -> [u64; 32]
+    requires { distance ≤ DISTANCE }
+    ensures { AreDistances result }
+{
+    [distance; 32]
+}
+
+/// Member 1 is near, and all others are far away.
+pub(crate) fn near_and_far(near: u64, far: u64) -> [u64; 32]
+    requires near { near ≤ DISTANCE }
+    requires far { far ≤ DISTANCE }
+    ensures { AreDistances result }
+{
+    let mut dist = [far; 32];
+    dist[1] = near;
+    dist
+}
+
+/// These words, and then 0.
+pub(crate) fn words(rt: &impl Abort, alloc: Global, words: &[u64]) -> Listed {
+    Listed::new(words.to_vec(alloc).expect(rt, "memory"))
+}
+
+/// No name is missing.
+#[tactic(auto, using(crate::proofs::Starting::nothing_known))]
+pub(crate) fn no_asks(alloc: Global, c1: u8, c2: u8) -> Asks<Scanned>
+    requires c1 { c1 ≤ TIMER_SETTING }
+    requires c2 { c2 ≤ TIMER_SETTING }
+    ensures { (names : List FullName) → HaveNoTimer names result }
+{
+    Asks::new(alloc, Scanned::new(alloc), c1, c2)
+}
+
+/// No repair was asked for.
+pub(crate) fn no_fixes(alloc: Global) -> Fixes<Scanned> {
+    Fixes::new(alloc, Scanned::new(alloc), 1, 1)
+}
+
+pub(crate) fn ask(name: Name, exponent: u8, distance: u64, wait: u64) -> Arm {
+    Arm {
+        kind: ArmKind::Ask,
+        name,
+        exponent,
+        distance,
+        wait,
+    }
+}
+
+pub(crate) fn fix(name: Name, distance: u64, wait: u64) -> Arm {
+    Arm {
+        kind: ArmKind::Fix,
+        name,
+        exponent: 0,
+        distance,
+        wait,
+    }
+}

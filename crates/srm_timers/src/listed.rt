@@ -1,0 +1,45 @@
+//! Words of a list.
+
+ghost use Rattle.std.specs.Prelude.{◌≡◌};
+
+use crate::words::Words;
+use std::marker::Model;
+
+/// The words of a list, and then 0 for ever. Contracts see the words that are left.
+#[derive(Debug, Drop)]
+pub struct Listed {
+    words: Vec<u64>,
+    next: usize,
+}
+
+impl Model for Listed {
+    ghost use Rattle.std.specs.Prelude.{ℕ, List, drop};
+
+    ghost Value = { List ℕ };
+
+    ghost view = { λ l. drop l.next l.words.items };
+}
+
+impl Listed {
+    pub fn new(words: Vec<u64>) -> Listed
+        ensures { result ≡ words.items }
+    {
+        Listed { words, next: 0 }
+    }
+}
+
+impl Words for Listed {
+    ghost use Rattle.srm_timers.specs.Draws.{draw_listed};
+
+    ghost draw = { draw_listed };
+
+    fn word(&mut self) -> u64 {
+        if self.next < self.words.len() {
+            let word = self.words[self.next];
+            self.next += 1;
+            word
+        } else {
+            0
+        }
+    }
+}

@@ -1,0 +1,47 @@
+//! Words of a generator.
+
+ghost use Rattle.std.specs.Prelude.{◌≡◌};
+ghost use Rattle.rand_core.specs.Pcg32Seed.{pcg32_seed};
+ghost use Rattle.rand_pcg.specs.Pcg.{pcg64_of_seed};
+
+use crate::words::Words;
+use rand_core::SeedableRng;
+use rand_core::utils::NextWord;
+use rand_pcg::Lcg128Xsl64;
+use std::marker::Model;
+
+/// The words of a generator that a number starts: of PCG XSL RR 128/64, in its order. Contracts see the generator's
+/// state and increment.
+#[derive(Debug, Drop)]
+pub struct Pcg {
+    generator: Lcg128Xsl64,
+}
+
+impl Model for Pcg {
+    ghost use Rattle.rand_pcg.specs.Lcg.{Lcg};
+
+    ghost Value = { Lcg };
+
+    ghost view = { λ p. p.generator };
+}
+
+impl Pcg {
+    /// The generator that `seed_from_u64` makes of the number.
+    pub fn new(start: u64) -> Pcg
+        ensures { result ≡ pcg64_of_seed (pcg32_seed 32 start) }
+    {
+        Pcg {
+            generator: Lcg128Xsl64::seed_from_u64(start),
+        }
+    }
+}
+
+impl Words for Pcg {
+    ghost use Rattle.rand_pcg.specs.Pcg.{pcg64};
+
+    ghost draw = { pcg64 };
+
+    fn word(&mut self) -> u64 {
+        self.generator.next_word()
+    }
+}

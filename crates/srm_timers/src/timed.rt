@@ -1,0 +1,10 @@
+//! Names with moments.
+
+use srm_names::Name;
+
+/// A name with a moment, in microseconds. `<` and `cmp` go by the moment and then by the name.
+#[derive(Clone, Copy, Debug, PartialEq, Eq, PartialOrd, Ord)]
+pub struct Timed {
+    pub moment: u64,
+    pub name: Name,
+}
