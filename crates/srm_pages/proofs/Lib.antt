@@ -1,0 +1,8 @@
+pub mod BoardSteps
+pub mod Dealing
+pub mod Drawings
+pub mod Feeds
+pub mod InkSteps
+pub mod LaneSteps
+pub mod Taps
+pub mod Views

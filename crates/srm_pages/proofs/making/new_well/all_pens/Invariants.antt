@@ -1,0 +1,15 @@
+use Rattle.std.proofs.Common.{◌≡◌, [], true, vec_len}
+use Rattle.std.specs.Arc.{arc_value}
+use Rattle.crossbeam_queue.specs.Passes.{view as knows, IsPassOf}
+use Rattle.srm_pages.specs.Ends.{AreNewPens}
+use Rattle.srm_pages.proofs.making.new_well.all_pens.Given as goal
+
+abbrev pub invariant-loop-place : goal.invariant-loop-place
+invariant-loop-place l = record {
+  queue : IsPassOf (arc_value l.ink).queue l.reader;
+  reads : (knows l.reader).reads ≡ true;
+  made : (knows l.reader).made ≡ l.place;
+  received : (knows l.reader).received ≡ [];
+  count : vec_len l.pens ≡ l.place;
+  new : AreNewPens (arc_value l.ink).queue.table.shared.table_id l.pens.items;
+}

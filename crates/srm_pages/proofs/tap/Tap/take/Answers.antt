@@ -1,0 +1,31 @@
+use Rattle.std.proofs.Common.{◌≡◌, true, [], ◌∷◌, ◌+◌, length, sym, ap, ◌∙◌, subst, length-append}
+use Rattle.srm_names.specs.PageFeeds.{is_page_feed}
+use Rattle.srm_pages.specs.declared.lane.LaneView.{LaneView}
+use Rattle.srm_pages.specs.Seats.{Counts}
+use Rattle.srm_pages.proofs.LaneSteps.{takes}
+use Rattle.srm_pages.proofs.Taps.{counts_taken}
+use Rattle.srm_pages.proofs.tap.Tap.take.Goals as goal
+
+pub recv_as-requires-clause-rule : goal.recv_as-requires-clause-rule
+recv_as-requires-clause-rule g c = (takes _ _ c.self.invariant.1, λ _ _ _ _. tt)
+
+-- what the take and the mark made
+counted : (g : _) → (c : goal.After-self-in-Ok-1 g) → Counts c.mark.new.self.seat c.mark.new.self.slot c.recv_as.new.pass.me.0.client.taken
+counted g c =
+    let i = c.self.invariant in
+    let took = c.in-Ok.ensures.rule in
+    counts_taken _ _ c.self.inside.pass.me.0.client.taken _ c.in-Ok.msg _ c.mark.ensures i.4 (c.next_count-count.ensures ∙ ap (λ n. n + 1) i.2) (ap (λ (v : LaneView). v.taken) took.0) took.1
+
+pub invariant_of-self : goal.invariant_of-self
+invariant_of-self g c =
+    let i = c.self.invariant in
+    let took = c.in-Ok.ensures.rule in (
+      c.in-Ok.ensures.channel.0,
+      ap (λ (v : LaneView). v.takes) took.0 ∙ i.1,
+      c.next_count-count.ensures ∙ ap (λ n. n + 1) i.2 ∙ sym (ap (λ (v : LaneView). length v.taken) took.0 ∙ length-append _ (c.in-Ok.msg ∷ [])),
+      subst (λ (v : LaneView). is_page_feed v.taken ≡ true) (sym took.0) took.1,
+      counted g c,
+    )
+
+pub returns-after-matches-clause-counted : goal.returns-after-matches-clause-counted
+returns-after-matches-clause-counted g c = counted g c

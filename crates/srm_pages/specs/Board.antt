@@ -1,0 +1,58 @@
+-- The rule of the board.
+use Rattle.std.specs.Prelude.{◌≡◌, ◌≢◌, ℕ, ◌*◌, ◌+◌, ◌/◌, ◌%◌, ◌^◌, ◌<◌, ◌≤◌, Bool, true, false, List, length, replicate, slice_index, slice_set}
+use mathlib.Core.Option.{some}
+use lib.ListN.{get_elem?}
+use Rattle.atomic_table.specs.Table.{State, Me, Step}
+use Rattle.srm_names.specs.declared.limits.TheConstants.{MEMBERS, PAGES}
+use Rattle.srm_pages.specs.declared.board.BoardView.{BoardView}
+
+-- how many words a slot has, one for its count and one for each member, and how many there are
+abbrev pub stride : ℕ
+stride = 1 + MEMBERS
+
+abbrev pub words_of_board : ℕ
+words_of_board = PAGES * stride
+
+abbrev pub board_view : Bool → ℕ → Bool → ℕ → List ℕ → BoardView
+board_view taps slot deals next seen = record { taps = taps; slot = slot; deals = deals; next = next; seen = seen }
+
+-- every word as it is at first
+unfoldable pub zeros : List ℕ
+zeros = replicate words_of_board 0
+
+-- the first seat, which cuts off the seats of the taps in the order of their slots, and else only looks
+abbrev pub dealer : BoardView
+dealer = board_view false 0 true 0 zeros
+
+abbrev pub watcher : BoardView
+watcher = board_view false 0 false 0 zeros
+
+-- after the number n was seen in the word i, or stored there
+abbrev pub noted : BoardView → ℕ → ℕ → BoardView
+noted v i n = board_view v.taps v.slot v.deals v.next (slice_set v.seen i n)
+
+-- What a seat has seen of a word is at most the word. The words of a slot are what the seat of its tap has. One seat deals, the first
+pub record FitsBoard (seat : ℕ → ℕ) (dealt : ℕ) (words : List ℕ) (id : ℕ) (v : BoardView) : Type 0 where
+  pub sized : length v.seen ≡ words_of_board
+  pub bound : (i : ℕ) → slice_index v.seen i ≤ slice_index words i
+  pub tap : v.taps ≡ true → (seat v.slot ≡ id) × (v.slot < dealt)
+  pub exact : v.taps ≡ true → (i : ℕ) → i / stride ≡ v.slot → slice_index v.seen i ≡ slice_index words i
+  pub dealer : v.deals ≡ true → (id ≡ 0) × (v.next ≡ dealt)
+
+-- The numbers of drawops fit a u32, and the words of slots that have no tap yet are 0
+pub record BoardHolds (words : List ℕ) (views : List BoardView) : Type 0 where
+  pub seat : ℕ → ℕ
+  pub dealt : ℕ
+  pub sized : length words ≡ words_of_board
+  pub narrow : (i : ℕ) → i % stride ≢ 0 → slice_index words i < 2 ^ 32
+  pub blank : (i : ℕ) → dealt ≤ i / stride → slice_index words i ≡ 0
+  pub fits : (id : ℕ) (v : BoardView) → get_elem? views id ≡ some v → FitsBoard seat dealt words id v
+
+abbrev pub BoardState : State ℕ BoardView → Type 0
+BoardState s = BoardHolds s.words s.views
+
+abbrev pub Raised : Step ℕ → Me ℕ BoardView → ℕ → Me ℕ BoardView → Type 0
+Raised s m n r = (r ≡ (noted m.0 s.word n, m.1)) × (slice_index r.0.seen s.word ≡ n)
+
+abbrev pub Looked : Step ℕ → Me ℕ BoardView → ℕ → Me ℕ BoardView → Type 0
+Looked s m n r = (r ≡ (noted m.0 s.word n, m.1)) × (slice_index r.0.seen s.word ≡ n) × (slice_index m.0.seen s.word ≤ n) × (s.word % stride ≢ 0 → n < 2 ^ 32)

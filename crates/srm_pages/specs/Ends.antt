@@ -1,0 +1,88 @@
+-- What contracts see of the ends of lanes and of the well.
+use Rattle.std.specs.Prelude.{◌≡◌, ℕ, ◌-◌, Bool, false, List, [], ◌∷◌, ◌++◌, length, slice_get, Some, Result, Ok, Err}
+use Rattle.std.specs.List.{All}
+use Rattle.atomic_table.specs.Seated.{TableId}
+use Rattle.atomic_table.specs.declared.badge.Badge.{Badge}
+use Rattle.crossbeam_channel.specs.declared.flavors.array.Key.{Key}
+use Rattle.crossbeam_channel.specs.Claims.{Pass}
+use Rattle.srm_names.specs.declared.limits.TheConstants.{LANE_MESSAGES, PAGES}
+use Rattle.srm_names.specs.declared.page_msg.PageMsg.{PageMsg}
+use Rattle.srm_pages.specs.declared.lane.LaneView.{LaneView}
+use Rattle.srm_pages.specs.declared.stroke.Stroke.{Stroke}
+use Rattle.srm_pages.specs.declared.tap.Ended.{Ended}
+use Rattle.srm_pages.specs.declared.tap.Ended.TheVariants.{Closed}
+use Rattle.srm_pages.specs.Seats.{Sight, new_sight}
+
+-- Which lane it is: the two tables of its channel
+pub record LaneId : Type 0 where
+  pub stamps : TableId
+  pub messages : Badge (Key PageMsg)
+
+abbrev pub lane_of : Pass PageMsg LaneView → LaneId
+lane_of p = record { stamps = p.table_id; messages = p.me.0.of }
+
+-- what the feeder has put, how many of these it has seen taken, whether a message came back, the slot, the lane and the board
+pub record FeedView : Type 0 where
+  pub put : List PageMsg
+  pub seen : ℕ
+  pub lost : Bool
+  pub slot : ℕ
+  pub lane : LaneId
+  pub board : TableId
+
+-- what a lane holds, less what was put and not yet seen taken
+abbrev pub credit_of : FeedView → ℕ
+credit_of f = LANE_MESSAGES - (length f.put - f.seen)
+
+-- what the tap has taken, what its seat at the board has in each word, the slot, the lane and the board
+pub record TapView : Type 0 where
+  pub taken : List PageMsg
+  pub seat : List ℕ
+  pub slot : ℕ
+  pub lane : LaneId
+  pub board : TableId
+
+-- what both ends of a lane knew last
+pub record SettledView : Type 0 where
+  pub put : List PageMsg
+  pub taken : List PageMsg
+
+abbrev pub IsNewFeed : TableId → ℕ → FeedView → Type 0
+IsNewFeed board slot f = (f.put ≡ []) × (f.seen ≡ 0) × (f.lost ≡ false) × (f.slot ≡ slot) × (f.board ≡ board)
+
+abbrev pub IsNewTap : TableId → ℕ → TapView → Type 0
+IsNewTap board slot t = (t.taken ≡ []) × (t.slot ≡ slot) × (t.board ≡ board)
+
+-- two new ends of the lane of a slot
+abbrev pub AreNewEnds : TableId → ℕ → FeedView → TapView → Type 0
+AreNewEnds board slot f t = IsNewFeed board slot f × IsNewTap board slot t × (f.lane ≡ t.lane)
+
+-- the k-th feed and the k-th tap are new ends of the lane of slot k
+pub record AreNewLanes (board : TableId) (feeds : List FeedView) (taps : List TapView) : Type 0 where
+  pub each : (k : ℕ) (f : FeedView) (t : TapView) → slice_get feeds k ≡ Some f → slice_get taps k ≡ Some t → AreNewEnds board k f t
+
+-- as many feeds and taps as there are slots, and as many viewers as asked for, all at one board
+abbrev pub AreLanes : ℕ → List FeedView → List TapView → List Sight → Type 0
+AreLanes asked feeds taps viewers =
+    (board : TableId) × (length feeds ≡ PAGES) × (length taps ≡ PAGES) × AreNewLanes board feeds taps
+    × (length viewers ≡ asked) × All (λ v. v ≡ new_sight board) viewers
+
+-- at Ok the message stands behind those taken, at Err nothing changed, and the lane is at its end
+abbrev pub TookOrEnded : Result PageMsg Ended → TapView → TapView → Type 0
+TookOrEnded (Ok x) old new = new ≡ record old { taken = old.taken ++ x ∷ []; seat = new.seat }
+TookOrEnded (Err e) old new = (e ≡ Closed) × (new ≡ old)
+
+-- what the well's reader received, and which well it is
+pub record WellView : Type 0 where
+  pub received : List Stroke
+  pub well : TableId
+
+-- the pen's place among all, what it sent, and into which well
+pub record PenView : Type 0 where
+  pub place : ℕ
+  pub sent : List Stroke
+  pub well : TableId
+
+-- the k-th pen is of place k, writes into this well, and sent nothing
+abbrev pub AreNewPens : TableId → List PenView → Type 0
+AreNewPens well pens = (k : ℕ) (p : PenView) → slice_get pens k ≡ Some p → p ≡ record { place = k; sent = []; well = well }

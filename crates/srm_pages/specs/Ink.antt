@@ -1,0 +1,41 @@
+-- The rule of the well.
+use Rattle.std.specs.Prelude.{◌≡◌, ℕ, ◌+◌, ◌<◌, ◌≤◌, ◌==◌, Bool, true, false, List, [], ◌∷◌, ◌++◌, if◌then◌else◌}
+use mathlib.Core.Option.{some}
+use lib.ListN.{get_elem?}
+use Rattle.srm_pages.specs.declared.stroke.Stroke.{Stroke}
+use Rattle.srm_pages.specs.declared.ink.InkView.{InkView}
+
+abbrev pub ink_view : Bool → List Stroke → ℕ → Bool → ℕ → List Stroke → InkView
+ink_view reads received made writes pen sent = record { reads = reads; received = received; made = made; writes = writes; pen = pen; sent = sent }
+
+abbrev pub reader : InkView
+reader = ink_view true [] 0 false 0 []
+
+abbrev pub new_pen : ℕ → InkView
+new_pen place = ink_view false [] 0 true place []
+
+abbrev pub one_more : InkView → InkView
+one_more v = ink_view v.reads v.received (v.made + 1) v.writes v.pen v.sent
+
+-- the strokes of one pen, in order
+abbrev pub strokes_of : ℕ → List Stroke → List Stroke
+strokes_of p [] = []
+strokes_of p (x ∷ xs) = if p == x.pen then x ∷ strokes_of p xs else strokes_of p xs
+
+-- A pen has what it sent, which is its part of what was received and then what the well holds. The reader has what was received
+pub record FitsInk (seat : ℕ → ℕ) (made : ℕ) (received items : List Stroke) (id : ℕ) (v : InkView) : Type 0 where
+  pub pen : v.writes ≡ true → (seat v.pen ≡ id) × (v.pen < made) × (v.sent ≡ strokes_of v.pen (received ++ items))
+  pub reader : v.reads ≡ true → (id ≡ 0) × (v.received ≡ received) × (v.made ≡ made)
+
+pub record InkHolds (items : List Stroke) (views : List InkView) : Type 0 where
+  pub seat : ℕ → ℕ
+  pub made : ℕ
+  pub received : List Stroke
+  pub blank : (p : ℕ) → made ≤ p → strokes_of p (received ++ items) ≡ []
+  pub fits : (id : ℕ) (v : InkView) → get_elem? views id ≡ some v → FitsInk seat made received items id v
+
+abbrev pub Writes : InkView → Stroke → InkView → Type 0
+Writes v x w = w ≡ ink_view v.reads v.received v.made v.writes v.pen (v.sent ++ x ∷ [])
+
+abbrev pub Reads : InkView → Stroke → InkView → Type 0
+Reads v x w = w ≡ ink_view v.reads (v.received ++ x ∷ []) v.made v.writes v.pen v.sent

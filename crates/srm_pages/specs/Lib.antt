@@ -1,0 +1,7 @@
+pub mod Board
+pub mod Drawing
+pub mod Ends
+pub mod Examples
+pub mod Ink
+pub mod Lane
+pub mod Seats

@@ -1,0 +1,81 @@
+//! The board: words that each tap raises and that feeds and viewers read, with no lock.
+//!
+//! The words of a slot stand side by side: how many messages its tap took, and then for each member the number of the last drawop
+//! taken.
+
+use atomic_table::{Play, Seat, Split, Table, TableRule};
+use srm_names::{MEMBERS, PAGES};
+use std::alloc::Global;
+use std::collections::LinkedList;
+
+/// How many words a slot has: one for the count, and one for each member.
+pub const STRIDE: usize = 1 + MEMBERS as usize;
+
+/// How many words there are.
+pub const WORDS: usize = PAGES as usize * STRIDE;
+
+/// What a seat knows: whether it is a tap's and of which slot, whether it deals the slots from `next` on, and the number that it
+/// has last seen of each word. No value of it is made.
+pub struct BoardView {
+    pub taps: bool,
+    pub slot: u64,
+    pub deals: bool,
+    pub next: u64,
+    pub seen: LinkedList<u64>,
+}
+
+/// The rule of the board.
+pub struct Rising;
+
+impl TableRule<u8, BoardView, ()> for Rising {
+    ghost use Rattle.srm_pages.specs.Board.{dealer, BoardState};
+
+    ghost holds = { λ _. BoardState };
+
+    ghost first = { λ _. dealer };
+}
+
+/// Cuts off the seat of the next slot's tap.
+pub struct NextTap;
+
+impl Split<BoardView> for NextTap {
+    ghost use Rattle.std.specs.Prelude.{◌+◌, true, false};
+    ghost use Rattle.srm_pages.specs.Board.{board_view, zeros};
+
+    ghost left = { λ v. board_view v.taps v.slot v.deals (v.next + 1) v.seen };
+
+    ghost right = { λ v. board_view true v.next false 0 zeros };
+}
+
+/// Cuts off the seat of one who only looks.
+pub struct Watcher;
+
+impl Split<BoardView> for Watcher {
+    ghost use Rattle.srm_pages.specs.Board.{watcher};
+
+    ghost left = { λ v. v };
+
+    ghost right = { λ v. watcher };
+}
+
+/// What a store tells its tap: the word is the number stored.
+pub struct Raises;
+
+impl Play<u8, BoardView> for Raises {
+    ghost use Rattle.srm_pages.specs.Board.{Raised};
+
+    ghost then = { Raised };
+}
+
+/// What a load tells: the number found, which is no less than the one seen before.
+pub struct Looks;
+
+impl Play<u8, BoardView> for Looks {
+    ghost use Rattle.srm_pages.specs.Board.{Looked};
+
+    ghost then = { Looked };
+}
+
+pub(crate) type Board = Table<u8, BoardView, (), Rising, Global>;
+
+pub(crate) type BoardSeat = Seat<u8, BoardView>;

@@ -1,0 +1,76 @@
+//! The one who deals the seats of a new board.
+
+ghost use Rattle.std.specs.Prelude.{◌≡◌, ◌+◌, ◌<◌, IfOk, OnOk};
+ghost use Rattle.srm_names.specs.declared.limits.TheConstants.{PAGES};
+ghost use Rattle.srm_pages.specs.Seats.{new_mark, new_sight};
+
+use crate::board::{Board, BoardSeat, NextTap, WORDS, Watcher};
+use crate::lookout::Lookout;
+use crate::marker::Marker;
+use std::alloc::{AllocError, Global};
+use std::marker::Model;
+use std::sync::Arc;
+
+/// The first seat of a board, from which all others are cut. Contracts see which slot's tap is next.
+#[derive(Drop)]
+pub struct Dealer {
+    board: Arc<Board, Global>,
+    seat: BoardSeat,
+}
+
+impl Model for Dealer {
+    ghost use Rattle.srm_pages.specs.Seats.{Deal};
+
+    ghost Value = { Deal };
+
+    ghost use Rattle.std.specs.Prelude.{◌≡◌, true};
+    ghost use Rattle.std.specs.Arc.{arc_value};
+    ghost use Rattle.srm_pages.specs.Board.{words_of_board, zeros};
+
+    ghost view = { λ d. record { next = d.seat.me.0.next; board = d.seat.table_id } };
+
+    ghost invariant = { λ d. (d.seat.table_id ≡ (arc_value d.board).shared.table_id) × (d.seat.table_id.words ≡ words_of_board)
+        × (d.seat.me.0.deals ≡ true) × (d.seat.me.0.seen ≡ zeros) };
+}
+
+impl Dealer {
+    /// Makes a board whose words are all 0.
+    pub fn new(alloc: Global) -> Result<Dealer, AllocError>
+        ensures { IfOk result (λ d. d.next ≡ 0) }
+    {
+        let (table, seat) = Board::of_words(alloc, &[0; WORDS], &())?;
+        Ok(Dealer {
+            board: Arc::new(alloc, table)?,
+            seat,
+        })
+    }
+
+    /// The seat of the next slot's tap.
+    pub fn marker(&mut self, slot: u8) -> Result<Marker, AllocError>
+        requires { (slot ≡ self.old.next) × (slot < PAGES) }
+        ensures dealer { OnOk result (self.new ≡ record self.old { next = self.old.next + 1 }) }
+        ensures marker { IfOk result (λ m. m ≡ new_mark slot self.old.board) }
+    {
+        let board = Arc::try_clone(&self.board)?;
+        let seat = self.board.shared.split_seat::<NextTap>(&mut self.seat);
+        Ok(Marker { board, seat, slot })
+    }
+
+    /// The seat of one who only looks.
+    pub fn lookout(&mut self) -> Result<Lookout, AllocError>
+        ensures dealer { self.new ≡ self.old }
+        ensures lookout { IfOk result (λ l. l ≡ new_sight self.old.board) }
+    {
+        let board = Arc::try_clone(&self.board)?;
+        let seat = self.board.shared.split_seat::<Watcher>(&mut self.seat);
+        Ok(Lookout { board, seat })
+    }
+
+    /// This seat itself as the last one, which deals no more.
+    pub fn into_lookout(self) -> Lookout
+        ensures { result ≡ new_sight self.board }
+    {
+        let Dealer { board, seat } = self;
+        Lookout { board, seat }
+    }
+}

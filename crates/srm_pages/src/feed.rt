@@ -1,0 +1,104 @@
+//! The feeder's end of a lane.
+ghost use Rattle.std.specs.Prelude.{◌≡◌, ◌+◌, ◌<◌, ◌≤◌, [], ◌∷◌, ◌++◌, true, OnOk, IfErr};
+ghost use Rattle.srm_names.specs.PageFeeds.{is_page_feed};
+ghost use Rattle.srm_pages.specs.Ends.{credit_of};
+
+use crate::board::STRIDE;
+use crate::lane::{LanePass, Putting, Sender};
+use crate::lookout::Lookout;
+use srm_names::{LANE_MESSAGES, PageMsg};
+use std::marker::Model;
+use std::sync::Wait;
+
+/// The feeder's end of a lane, with the token that has what was put.
+#[derive(Drop)]
+pub struct Feed {
+    pub(crate) sender: Sender,
+    pub(crate) pass: LanePass,
+    pub(crate) lookout: Lookout,
+    pub(crate) slot: u8,
+    pub(crate) count: u64,
+    pub(crate) lost: bool,
+}
+
+impl Model for Feed {
+    ghost use Rattle.srm_pages.specs.Ends.{FeedView, lane_of};
+    ghost use Rattle.srm_pages.specs.Seats.{taken_word};
+
+    ghost Value = { FeedView };
+
+    ghost use Rattle.std.specs.Prelude.{◌≡◌, ◌<◌, true, length, slice_index};
+    ghost use Rattle.crossbeam_channel.specs.Claims.{view as knows, IsSeatAt};
+    ghost use Rattle.crossbeam_channel.specs.Ends.{sends_on};
+    ghost use Rattle.srm_names.specs.declared.limits.TheConstants.{PAGES};
+
+    ghost view = { λ f. record {
+      put = (knows f.pass).put;
+      seen = slice_index f.lookout.seen (taken_word f.slot);
+      lost = f.lost;
+      slot = f.slot;
+      lane = lane_of f.pass;
+      board = f.lookout.board;
+    } };
+
+    ghost invariant = { λ f. IsSeatAt (sends_on f.sender) f.pass × ((knows f.pass).puts ≡ true) × (f.count ≡ length (knows f.pass).put) × (f.slot < PAGES) };
+}
+
+impl Feed {
+    pub fn slot(&self) -> u8
+        ensures { result ≡ self.now.slot }
+    {
+        self.slot
+    }
+
+    /// Whether a message came back, since the tap is gone.
+    pub fn is_lost(&self) -> bool
+        ensures { result ≡ self.now.lost }
+    {
+        self.lost
+    }
+
+    /// How many messages may be put: what a lane holds less what was put and not yet seen taken. What was seen never goes back. It neither
+    /// waits nor takes memory.
+    pub fn credit(&mut self) -> u32
+        ensures credit { result ≡ credit_of self.new }
+        ensures rises { self.old.seen ≤ self.new.seen }
+        ensures same { self.new ≡ record self.old { seen = self.new.seen } }
+    {
+        let seen = self.lookout.look(usize::from(self.slot) * STRIDE);
+        u64::from(LANE_MESSAGES).saturating_sub(self.count.saturating_sub(seen)) as u32
+    }
+
+    /// Puts a message, which is to continue the page feed. It comes back if the tap is gone, and the feed is then marked as lost.
+    pub fn put<R: Wait>(&mut self, rt: &R, msg: PageMsg) -> Result<(), PageMsg>
+        requires credit { 0 < credit_of self.old }
+        requires feed { is_page_feed (self.old.put ++ msg ∷ []) ≡ true }
+        ensures ok { OnOk result (self.new ≡ record self.old { put = self.old.put ++ msg ∷ [] }) }
+        ensures err { IfErr result (λ back. (back ≡ msg) × (self.new ≡ record self.old { lost = true })) }
+    {
+        let count = next_count(rt, self.count);
+        match self.sender.send_as::<Putting, R>(rt, &mut self.pass, msg) {
+            Ok(()) => {
+                self.count = count;
+                Ok(())
+            }
+            Err(failed) => {
+                self.lost = true;
+                Err(failed.into_inner())
+            }
+        }
+    }
+}
+
+// The count after the next message. It waits for ever where there is none, since no lane carries so many.
+pub(crate) fn next_count<R: Wait>(rt: &R, count: u64) -> u64
+    ensures { result ≡ count + 1 }
+{
+    match count.checked_add(1) {
+        Some(next) => next,
+        None => {
+            for _ in rt.forever() {}
+            unreachable!()
+        }
+    }
+}

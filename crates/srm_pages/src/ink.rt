@@ -1,0 +1,77 @@
+//! The rule of the well: the part of a pen in what was received and then what the well holds is what that pen sent.
+
+use crate::stroke::Stroke;
+use crossbeam_queue::protocol::{Lesson, Outcome, Protocol, Split};
+use crossbeam_queue::{Pass, RuledArrayQueue};
+use std::collections::LinkedList;
+use std::sync::atomic::AtomicU64;
+
+/// What a pass knows: the reader what it received and how many pens were made, a pen its place and what it sent. No value of it is
+/// made.
+pub struct InkView {
+    pub reads: bool,
+    pub received: LinkedList<Stroke>,
+    pub made: u64,
+    pub writes: bool,
+    pub pen: u64,
+    pub sent: LinkedList<Stroke>,
+}
+
+/// The rule of the well.
+pub struct ByPen;
+
+impl Protocol<Stroke, InkView> for ByPen {
+    ghost use Rattle.srm_pages.specs.Ink.{InkHolds, reader};
+
+    ghost holds = { InkHolds };
+
+    ghost first = { reader };
+}
+
+/// Cuts off the next pen's pass.
+pub struct NextPen;
+
+impl Split<InkView> for NextPen {
+    ghost use Rattle.srm_pages.specs.Ink.{one_more, new_pen};
+
+    ghost left = { one_more };
+
+    ghost right = { λ v. new_pen v.made };
+}
+
+/// What a push tells: the stroke stands behind those sent before.
+pub struct Writing;
+
+impl Outcome<Stroke, InkView> for Writing {
+    ghost use Rattle.srm_pages.specs.Ink.{Writes};
+
+    ghost then = { Writes };
+}
+
+impl Lesson<Stroke, InkView> for Writing {
+    ghost fact = { λ v items. Unit {0} };
+}
+
+/// What a pop tells: the stroke stands behind those received before.
+pub struct Reading;
+
+impl Outcome<Stroke, InkView> for Reading {
+    ghost use Rattle.srm_pages.specs.Ink.{Reads};
+
+    ghost then = { Reads };
+}
+
+impl Lesson<Stroke, InkView> for Reading {
+    ghost fact = { λ v items. Unit {0} };
+}
+
+pub(crate) type StrokeQueue = RuledArrayQueue<Stroke, InkView, ByPen>;
+
+pub(crate) type InkPass = Pass<Stroke, InkView>;
+
+/// What the well and its pens share: the strokes under way, and how many pens aren't done.
+#[derive(Drop)]
+pub struct Ink {
+    pub(crate) queue: StrokeQueue,
+    pub(crate) open: AtomicU64,
+}

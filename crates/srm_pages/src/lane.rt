@@ -1,0 +1,87 @@
+//! A lane: a bounded channel of messages, whose rule is that what was put is what was taken and then what the lane holds.
+ghost use Rattle.std.specs.Prelude.{◌≡◌, true, false, [], ◌∷◌, ◌++◌};
+
+use crossbeam_channel::protocol::{Join, Lesson, Outcome, Protocol, Split};
+use crossbeam_channel::{Pass, RuledReceiver, RuledSender};
+use srm_names::PageMsg;
+use std::collections::LinkedList;
+
+/// What a pass knows: whether it puts and what it has put, whether it takes and what it has taken. No value of it is made.
+pub struct LaneView {
+    pub puts: bool,
+    pub takes: bool,
+    pub put: LinkedList<PageMsg>,
+    pub taken: LinkedList<PageMsg>,
+}
+
+/// The rule of a lane.
+pub struct PageFeed;
+
+impl Protocol<PageMsg, LaneView> for PageFeed {
+    ghost use Rattle.std.specs.Prelude.{true, []};
+    ghost use Rattle.srm_pages.specs.Lane.{lane_view, LaneHolds};
+
+    ghost holds = { LaneHolds };
+
+    ghost first = { lane_view true true [] [] };
+}
+
+/// The cut of the first pass into the feeder's and the tap's, and their join.
+pub struct Ends;
+
+impl Split<LaneView> for Ends {
+    ghost use Rattle.std.specs.Prelude.{true, false, []};
+    ghost use Rattle.srm_pages.specs.Lane.{lane_view};
+
+    ghost left = { λ v. lane_view true false v.put [] };
+
+    ghost right = { λ v. lane_view false true [] v.taken };
+}
+
+impl Join<LaneView> for Ends {
+    ghost use Rattle.std.specs.Prelude.{true, false, []};
+    ghost use Rattle.srm_pages.specs.Lane.{lane_view};
+
+    ghost both = { λ v w. lane_view true true v.put w.taken };
+
+    ghost spent = { lane_view false false [] [] };
+}
+
+/// What a put tells: the message stands behind those put before.
+pub struct Putting;
+
+impl Outcome<PageMsg, LaneView> for Putting {
+    ghost use Rattle.srm_pages.specs.Lane.{Puts};
+
+    ghost then = { Puts };
+}
+
+impl Lesson<PageMsg, LaneView> for Putting {
+    ghost fact = { λ v items. Unit {0} };
+}
+
+/// What a take tells: the message stands behind those taken before, and they are a page feed.
+pub struct Taking;
+
+impl Outcome<PageMsg, LaneView> for Taking {
+    ghost use Rattle.srm_pages.specs.Lane.{Takes};
+
+    ghost then = { Takes };
+}
+
+impl Lesson<PageMsg, LaneView> for Taking {
+    ghost fact = { λ v items. Unit {0} };
+}
+
+/// What both ends together learn: what was put is what was taken, and then what the lane holds.
+pub struct Total;
+
+impl Lesson<PageMsg, LaneView> for Total {
+    ghost fact = { λ v items. v.put ≡ v.taken ++ items };
+}
+
+pub(crate) type Sender = RuledSender<PageMsg, LaneView, PageFeed>;
+
+pub(crate) type Receiver = RuledReceiver<PageMsg, LaneView, PageFeed>;
+
+pub(crate) type LanePass = Pass<PageMsg, LaneView>;

@@ -1,0 +1,34 @@
+//! What the rules of the lane, the board and the well mean at every moment.
+ghost use Rattle.std.specs.Prelude.{◌≡◌, ℕ, ◌/◌, ◌≤◌, List, ◌++◌, true, slice_index};
+ghost use mathlib.Core.Option.{some};
+ghost use lib.ListN.{get_elem?};
+ghost use Rattle.srm_names.specs.declared.page_msg.PageMsg.{PageMsg};
+ghost use Rattle.srm_names.specs.PageFeeds.{is_page_feed};
+ghost use Rattle.srm_pages.specs.declared.board.BoardView.{BoardView};
+ghost use Rattle.srm_pages.specs.declared.lane.LaneView.{LaneView};
+ghost use Rattle.srm_pages.specs.declared.ink.InkView.{InkView};
+ghost use Rattle.srm_pages.specs.declared.stroke.Stroke.{Stroke};
+ghost use Rattle.srm_pages.specs.Board.{BoardHolds, stride};
+ghost use Rattle.srm_pages.specs.Lane.{LaneHolds};
+ghost use Rattle.srm_pages.specs.Ink.{InkHolds, strokes_of};
+
+/// What the feeder has put is what the tap has taken and then what the lane holds, and a page feed.
+pub fn lane_keeps_its_rule()
+    ensures { (items : List PageMsg) (views : List LaneView) → LaneHolds items views
+        → (i j : ℕ) (f t : LaneView) → get_elem? views i ≡ some f → f.puts ≡ true → get_elem? views j ≡ some t → t.takes ≡ true
+        → (f.put ≡ t.taken ++ items) × (is_page_feed f.put ≡ true) }
+{}
+
+/// A slot's words are what its tap's seat has, and what any other has seen of them is at most that.
+pub fn board_keeps_its_rule()
+    ensures { (words : List ℕ) (views : List BoardView) → BoardHolds words views
+        → (i j : ℕ) (t v : BoardView) → get_elem? views i ≡ some t → t.taps ≡ true → get_elem? views j ≡ some v
+        → (w : ℕ) → w / stride ≡ t.slot → (slice_index t.seen w ≡ slice_index words w) × (slice_index v.seen w ≤ slice_index t.seen w) }
+{}
+
+/// The part of a pen in what was received and then what the well holds is what the pen sent.
+pub fn well_keeps_its_rule()
+    ensures { (items : List Stroke) (views : List InkView) → InkHolds items views
+        → (i j : ℕ) (p r : InkView) → get_elem? views i ≡ some p → p.writes ≡ true → get_elem? views j ≡ some r → r.reads ≡ true
+        → p.sent ≡ strokes_of p.pen (r.received ++ items) }
+{}

@@ -1,0 +1,43 @@
+//! One who only looks at the board.
+
+ghost use Rattle.std.specs.Prelude.{◌≡◌, ◌≢◌, ◌%◌, ◌^◌, ◌<◌, ◌≤◌, slice_index, slice_set};
+ghost use Rattle.srm_pages.specs.Board.{stride, words_of_board};
+
+use crate::board::{Board, BoardSeat, Looks};
+use std::alloc::Global;
+use std::marker::Model;
+use std::sync::Arc;
+
+/// A seat at the board that only looks. Contracts see what it last saw in each word.
+#[derive(Drop)]
+pub struct Lookout {
+    pub(crate) board: Arc<Board, Global>,
+    pub(crate) seat: BoardSeat,
+}
+
+impl Model for Lookout {
+    ghost use Rattle.srm_pages.specs.Seats.{Sight};
+
+    ghost Value = { Sight };
+
+    ghost use Rattle.std.specs.Prelude.{◌≡◌};
+    ghost use Rattle.std.specs.Arc.{arc_value};
+    ghost use Rattle.srm_pages.specs.Board.{words_of_board};
+
+    ghost view = { λ l. record { seen = l.seat.me.0.seen; board = l.seat.table_id } };
+
+    ghost invariant = { λ l. (l.seat.table_id ≡ (arc_value l.board).shared.table_id) × (l.seat.table_id.words ≡ words_of_board) };
+}
+
+impl Lookout {
+    /// The number in a word, which is never below one seen there before.
+    pub fn look(&mut self, word: usize) -> u64
+        requires { word < words_of_board }
+        ensures seen { self.new ≡ record self.old { seen = slice_set self.old.seen word result } }
+        ensures there { slice_index self.new.seen word ≡ result }
+        ensures rises { slice_index self.old.seen word ≤ result }
+        ensures narrow { word % stride ≢ 0 → result < 2 ^ 32 }
+    {
+        self.board.shared.load::<Looks>(&mut self.seat, word)
+    }
+}

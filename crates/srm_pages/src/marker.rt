@@ -1,0 +1,71 @@
+//! The one who raises the words of a slot.
+
+ghost use Rattle.std.specs.Prelude.{◌≡◌, ◌≢◌, ◌/◌, ◌%◌, ◌^◌, ◌<◌, ◌≤◌, slice_index, slice_set};
+ghost use Rattle.srm_pages.specs.Board.{stride, words_of_board};
+ghost use Rattle.srm_pages.specs.Seats.{Marks, MayMark};
+
+use crate::board::{Board, BoardSeat, Raises, STRIDE};
+use srm_names::PageMsg;
+use std::alloc::Global;
+use std::marker::Model;
+use std::sync::Arc;
+
+/// The seat of a slot's tap at the board. Contracts see what it stored in each word.
+#[derive(Drop)]
+pub struct Marker {
+    pub(crate) board: Arc<Board, Global>,
+    pub(crate) seat: BoardSeat,
+    pub(crate) slot: u8,
+}
+
+impl Model for Marker {
+    ghost use Rattle.srm_pages.specs.Seats.{Mark};
+
+    ghost Value = { Mark };
+
+    ghost use Rattle.std.specs.Prelude.{◌≡◌, ◌<◌, true};
+    ghost use Rattle.std.specs.Arc.{arc_value};
+    ghost use Rattle.srm_names.specs.declared.limits.TheConstants.{PAGES};
+    ghost use Rattle.srm_pages.specs.Board.{words_of_board};
+
+    ghost view = { λ m. record { seat = m.seat.me.0.seen; slot = m.slot; board = m.seat.table_id } };
+
+    ghost invariant = { λ m. (m.seat.table_id ≡ (arc_value m.board).shared.table_id) × (m.seat.table_id.words ≡ words_of_board)
+        × (m.seat.me.0.taps ≡ true) × (m.seat.me.0.slot ≡ m.slot) × (m.slot < PAGES) };
+}
+
+impl Marker {
+    pub fn slot(&self) -> u8
+        ensures { result ≡ self.now.slot }
+    {
+        self.slot
+    }
+
+    /// Stores how many messages were taken with this one, and then the number of a drawop. So the words count the list of the taken
+    /// messages, whatever list they counted before.
+    #[tactic(auto, using(crate::proofs::Taps::marks_message, crate::proofs::Taps::marks_stroke))]
+    pub fn mark(&mut self, msg: &PageMsg, count: u64)
+        requires { MayMark self.old msg.now count }
+        ensures { Marks self.old msg.now count self.new }
+    {
+        let first = usize::from(self.slot) * STRIDE;
+        self.raise(first, count);
+        if let PageMsg::Draw(drawop) = msg {
+            let member = drawop.name.source().index();
+            self.raise(first + (member + 1), u64::from(drawop.name.number()));
+        }
+    }
+
+    // Stores a number that isn't below the one there.
+    fn raise(&mut self, word: usize, number: u64)
+        requires mine { (word < words_of_board) × (word / stride ≡ self.old.slot) }
+        requires rises { slice_index self.old.seat word ≤ number }
+        requires narrow { word % stride ≢ 0 → number < 2 ^ 32 }
+        ensures seat { self.new ≡ record self.old { seat = slice_set self.old.seat word number } }
+        ensures there { slice_index self.new.seat word ≡ number }
+    {
+        self.board
+            .shared
+            .store::<Raises>(&mut self.seat, word, number);
+    }
+}

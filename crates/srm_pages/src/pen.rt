@@ -1,0 +1,78 @@
+//! The pens' ends of the well.
+
+ghost use Rattle.std.specs.Prelude.{◌≡◌, [], ◌∷◌, ◌++◌, OnOk, IfErr};
+
+use crate::ink::{Ink, InkPass, Writing};
+use crate::stroke::Stroke;
+use std::alloc::Global;
+use std::marker::Model;
+use std::sync::atomic::Ordering;
+use std::sync::{Arc, Wait};
+
+/// A pen, with the token that has what it sent. Contracts see its place and that list.
+#[derive(Drop)]
+pub struct Pen {
+    pub(crate) ink: Arc<Ink, Global>,
+    pub(crate) pass: InkPass,
+    pub(crate) place: u8,
+}
+
+impl Model for Pen {
+    ghost use Rattle.srm_pages.specs.Ends.{PenView};
+
+    ghost Value = { PenView };
+
+    ghost use Rattle.std.specs.Prelude.{◌≡◌, true};
+    ghost use Rattle.std.specs.Arc.{arc_value};
+    ghost use Rattle.crossbeam_queue.specs.Passes.{view as knows, IsPassOf};
+
+    ghost view = { λ p. record { place = p.place; sent = (knows p.pass).sent; well = p.pass.table_id } };
+
+    ghost invariant = { λ p. IsPassOf (arc_value p.ink).queue p.pass × ((knows p.pass).writes ≡ true) × ((knows p.pass).pen ≡ p.place) };
+}
+
+/// A pen that is done. Contracts see it as the pen, with what it sent. No bytes are kept of that.
+#[derive(Drop)]
+pub struct Inked {
+    pass: InkPass,
+    place: u8,
+}
+
+impl Model for Inked {
+    ghost use Rattle.srm_pages.specs.Ends.{PenView};
+
+    ghost Value = { PenView };
+
+    ghost use Rattle.crossbeam_queue.specs.Passes.{view as knows};
+
+    ghost view = { λ i. record { place = i.place; sent = (knows i.pass).sent; well = i.pass.table_id } };
+}
+
+impl Pen {
+    /// Its place among all pens, from 0.
+    pub fn place(&self) -> u8
+        ensures { result ≡ self.now.place }
+    {
+        self.place
+    }
+
+    /// Sends a stroke, whose `pen` is this pen's place. It comes back if the well was full, and then nothing changed.
+    pub fn stroke<R: Wait>(&mut self, rt: &R, stroke: Stroke) -> Result<(), Stroke>
+        requires { stroke.pen ≡ self.old.place }
+        ensures ok { OnOk result (self.new ≡ record self.old { sent = self.old.sent ++ stroke ∷ [] }) }
+        ensures err { IfErr result (λ back. (back ≡ stroke) × (self.new ≡ self.old)) }
+    {
+        self.ink
+            .queue
+            .push_as::<Writing, R>(rt, &mut self.pass, stroke)
+    }
+
+    /// The pen is done, and answers what it sent. The node may leave once all pens are.
+    pub fn done(self) -> Inked
+        ensures { result ≡ self }
+    {
+        let Pen { ink, pass, place } = self;
+        ink.open.fetch_sub(1, Ordering::SeqCst);
+        Inked { pass, place }
+    }
+}

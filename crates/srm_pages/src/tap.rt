@@ -1,0 +1,85 @@
+//! The tap's end of a lane.
+
+ghost use Rattle.std.specs.Prelude.{◌≡◌, true};
+ghost use Rattle.srm_names.specs.PageFeeds.{is_page_feed};
+ghost use Rattle.srm_pages.specs.Ends.{TookOrEnded};
+ghost use Rattle.srm_pages.specs.Seats.{Counts};
+
+use crate::feed::next_count;
+use crate::lane::{LanePass, Receiver, Taking};
+use crate::marker::Marker;
+use srm_names::PageMsg;
+use std::marker::Model;
+use std::sync::Wait;
+
+/// Why no message came.
+#[derive(Clone, Copy, PartialEq, Eq, Debug)]
+pub enum Ended {
+    /// `Close` was taken, or the feed is gone and the lane was empty.
+    Closed,
+    /// Never answered.
+    Broken,
+}
+
+/// The tap's end of a lane, with the token that has what was taken.
+#[derive(Drop)]
+pub struct Tap {
+    pub(crate) receiver: Receiver,
+    pub(crate) pass: LanePass,
+    pub(crate) marker: Marker,
+    pub(crate) count: u64,
+    pub(crate) closed: bool,
+}
+
+impl Model for Tap {
+    ghost use Rattle.srm_pages.specs.Ends.{TapView, lane_of};
+    ghost use Rattle.srm_pages.specs.Seats.{Counts};
+
+    ghost Value = { TapView };
+
+    ghost use Rattle.std.specs.Prelude.{◌≡◌, true, length};
+    ghost use Rattle.crossbeam_channel.specs.Claims.{view as knows, IsSeatAt};
+    ghost use Rattle.crossbeam_channel.specs.Ends.{receives_on};
+    ghost use Rattle.srm_names.specs.PageFeeds.{is_page_feed};
+
+    ghost view = { λ t. record {
+      taken = (knows t.pass).taken;
+      seat = t.marker.seat;
+      slot = t.marker.slot;
+      lane = lane_of t.pass;
+      board = t.marker.board;
+    } };
+
+    ghost invariant = { λ t. IsSeatAt (receives_on t.receiver) t.pass × ((knows t.pass).takes ≡ true) × (t.count ≡ length (knows t.pass).taken)
+        × (is_page_feed (knows t.pass).taken ≡ true) × Counts t.marker.seat t.marker.slot (knows t.pass).taken };
+}
+
+impl Tap {
+    pub fn slot(&self) -> u8
+        ensures { result ≡ self.now.slot }
+    {
+        self.marker.slot()
+    }
+
+    /// Takes the next message, and then stores at the board how many were taken, and for a drawop its number. Ended changes nothing.
+    #[tactic(auto, using(crate::proofs::Taps::may_mark))]
+    pub fn take<R: Wait>(&mut self, rt: &R) -> Result<PageMsg, Ended>
+        ensures taken { TookOrEnded result self.old self.new }
+        ensures feed { is_page_feed self.new.taken ≡ true }
+        ensures counted { Counts self.new.seat self.new.slot self.new.taken }
+    {
+        if self.closed {
+            return Err(Ended::Closed);
+        }
+        let count = next_count(rt, self.count);
+        match self.receiver.recv_as::<Taking, R>(rt, &mut self.pass) {
+            Ok(msg) => {
+                self.marker.mark(&msg, count);
+                self.count = count;
+                self.closed = matches!(msg, PageMsg::Close);
+                Ok(msg)
+            }
+            Err(_) => Err(Ended::Closed),
+        }
+    }
+}

@@ -1,0 +1,38 @@
+//! One who looks at the board.
+
+ghost use Rattle.std.specs.Prelude.{◌≡◌, ◌<◌, ◌≤◌, slice_index, slice_set};
+ghost use Rattle.srm_names.specs.declared.limits.TheConstants.{PAGES};
+ghost use Rattle.srm_pages.specs.Seats.{shown_word};
+
+use crate::board::STRIDE;
+use crate::lookout::Lookout;
+use srm_names::Member;
+use std::marker::Model;
+
+/// One who looks at the board, in a thread of its own. Contracts see what it last saw in each word.
+#[derive(Drop)]
+pub struct Viewer {
+    pub(crate) lookout: Lookout,
+}
+
+impl Model for Viewer {
+    ghost use Rattle.srm_pages.specs.Seats.{Sight};
+
+    ghost Value = { Sight };
+
+    ghost view = { λ v. v.lookout };
+}
+
+impl Viewer {
+    /// The number of the last drawop of the member that was taken in the slot, 0 where there is none. It never falls. It neither
+    /// waits nor takes memory.
+    pub fn look(&mut self, slot: u8, member: Member) -> u32
+        requires { slot < PAGES }
+        ensures seen { self.new ≡ record self.old { seen = slice_set self.old.seen (shown_word slot member) result } }
+        ensures there { slice_index self.new.seen (shown_word slot member) ≡ result }
+        ensures rises { slice_index self.old.seen (shown_word slot member) ≤ result }
+    {
+        let word = usize::from(slot) * STRIDE + (member.index() + 1);
+        self.lookout.look(word) as u32
+    }
+}
