@@ -5,3 +5,4 @@ pub mod Highest
 pub mod Going
 pub mod Popping
 mod Forbids
+pub mod Mapping

@@ -12,7 +12,7 @@ use Rattle.srm_bucket.specs.Tokens.{cost_of}
 use Rattle.srm_bucket.specs.Ticks.{Pop, Tick, moment_of, last_moment, popped_in, popped_at, pops, cost, alone, parted, ticks, level, IsWithin}
 use Rattle.srm_bucket.specs.Law.{GoesRight, BucketLaw, level_at}
 use Rattle.srm_bucket.specs.Waiting.{Waiting, queue}
-use Rattle.srm_bucket.proofs.Windows.{level-later, within-later, level-spent, within-spent}
+use Rattle.srm_bucket.proofs.Windows.{level-later, within-later, level-spent, within-spent, spent-within}
 use Rattle.srm_bucket.proofs.Parting.{level-parted, within-parted, parted-within}
 
 pub last-snoc : {T : Type 0} (calls : List (Call T)) (c : Call T) → last_moment (calls ++ c ∷ []) ≡ max (last_moment calls) (moment_of c)
@@ -96,3 +96,13 @@ within-popped {T = T} rate depth calls now went within le =
     subst (λ ps. IsWithin rate depth m (parted ps)) (sym (pops-snoc calls (Popped now went)))
     (within-parted rate depth m (pops calls ++ p ∷ [])
     (subst (IsWithin rate depth m) (sym (one_more (pops calls) p)) (within-spent rate depth (map alone (pops calls)) (alone p) before le_alone)))
+
+-- what went had its tokens
+pub popped-within : {T : Type 0} (rate depth : ℕ) (calls : List (Call T)) (now : ℕ) (went : Option (Classed T))
+    → IsWithin rate depth (max (last_moment calls) now) (ticks (calls ++ Popped now went ∷ [])) → cost went ≤ level_at rate depth calls now
+popped-within {T = T} rate depth calls now went within =
+    let m : ℕ = max (last_moment calls) now in
+    let p : Pop T = record { moment = m; went = went } in
+    let apart : IsWithin rate depth m (map alone (pops calls) ++ alone p ∷ []) =
+    subst (IsWithin rate depth m) (one_more (pops calls) p) (parted-within rate depth m (pops calls ++ p ∷ []) (subst (λ ps. IsWithin rate depth m (parted ps)) (pops-snoc calls (Popped now went)) within)) in
+    subst (λ n. cost went ≤ n) (sym (level-parted rate depth m (pops calls))) (spent-within rate depth (map alone (pops calls)) (alone p) apart)

@@ -52,3 +52,17 @@ within-spent rate depth [] t within le = (omega arith, omega arith, tt)
 within-spent rate depth (u ∷ ts) t within le =
     let more : charge (ts ++ t ∷ []) ≡ charge ts + t.cost = charge-snoc ts t in
     (within.0, omega (arith, within.1), within-spent rate depth ts t within.2 (omega arith))
+
+-- where the tick is within the allowance, there were tokens for it
+pub spent-within : (rate depth : ℕ) (ts : List Tick) (t : Tick) → IsWithin rate depth t.moment (ts ++ t ∷ []) → t.cost ≤ level rate depth t.moment ts
+spent-within rate depth [] t within =
+    let none : rate * (t.moment - t.moment) ≡ 0 = nothing_gained rate t.moment t.moment (omega arith) in
+    let k : t.cost + 0 ≤ allowance rate depth t.moment t.moment = within.1 in
+    omega arith
+spent-within rate depth (u ∷ ts) t within =
+    let rest : t.cost ≤ level rate depth t.moment ts = spent-within rate depth ts t within.2 in
+    let more : charge (ts ++ t ∷ []) ≡ charge ts + t.cost = charge-snoc ts t in
+    fits (allowance rate depth u.moment t.moment) u.cost (charge ts) (charge (ts ++ t ∷ [])) (level rate depth t.moment ts) t.cost more within.1 rest
+  where
+    fits : (a first gone more rest cost : ℕ) → more ≡ gone + cost → first + more ≤ a → cost ≤ rest → cost ≤ min (a - (first + gone)) rest
+    fits a first gone more rest cost e f r = omega arith

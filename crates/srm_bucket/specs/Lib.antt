@@ -1,4 +1,5 @@
 pub mod Calls
+pub mod Mapping
 pub mod Classes
 pub mod Tokens
 pub mod Ticks

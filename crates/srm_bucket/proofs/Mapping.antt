@@ -1,0 +1,176 @@
+-- The law of calls over some values is that of the calls read as over others: it speaks of classes, lengths and moments alone.
+use Rattle.std.proofs.Common.{◌≡◌, ℕ, zero, suc, ◌+◌, ◌<◌, ◌≤◌, ◌==◌, max, Bool, true, false, List, [], ◌∷◌, ◌++◌, map, length, drop, refl, ap, sym, ◌∙◌, subst}
+use Rattle.std.specs.Prelude.{Option, Some, None, if◌then◌else◌, option_map, is_some, IfSome, ◌&&◌}
+use Rattle.std.specs.Bool.{OnTrue}
+use Rattle.std.specs.List.{flat_map, AllByRecursion}
+use Rattle.std.proofs.lemmas.List.{map-append}
+use Rattle.srm_names.specs.Histories.{Step, steps, steps_after, or_else, greatest}
+use Rattle.srm_bucket.specs.declared.class.Class.{Class}
+use Rattle.srm_bucket.specs.declared.class.Class.TheVariants.{Shown, New, Other}
+use Rattle.srm_bucket.specs.declared.item.Item.{Item}
+use Rattle.srm_bucket.specs.Calls.{Classed, Call, Handed, Refilled, Popped}
+use Rattle.srm_bucket.specs.Mapping.{read_item, read_classed, read_call}
+use Rattle.srm_bucket.specs.Classes.{rank, in_class, handed_in, gone_in, handed, gone, left, first_in, first_of_highest, next_of}
+use Rattle.srm_bucket.specs.Ticks.{Tick, moment_of, last_moment, Pop, popped_in, popped_at, pops, cost, alone, joined, parted, ticks, IsWithin, level}
+use Rattle.srm_bucket.specs.Law.{went_in, ends_tick, lets_nothing_go, IsPrefixOf, NoneHigher, level_at, GoesRight, BucketLaw}
+
+abbrev read_pop : {T U : Type 0} → (T → U) → Pop T → Pop U
+read_pop f p = record { moment = p.moment; went = option_map (read_classed f) p.went }
+
+module _ {T U : Type 0} (f : T → U) where
+  in_class-read : (class : Class) (o : Option (Classed T)) → in_class class (option_map (read_classed f) o) ≡ map (read_item f) (in_class class o)
+  in_class-read class None = refl
+  in_class-read class (Some c) = go (rank c.class == rank class)
+    where
+      go : (b : Bool) → (if b then read_item f c.item ∷ [] else []) ≡ map (read_item f) (if b then c.item ∷ [] else [])
+      go true = refl
+      go false = refl
+
+  handed_in-read : (class : Class) (call : Call T) → handed_in class (read_call f call) ≡ map (read_item f) (handed_in class call)
+  handed_in-read class (Handed c) = in_class-read class (Some c)
+  handed_in-read class (Refilled now) = refl
+  handed_in-read class (Popped now went) = refl
+
+  gone_in-read : (class : Class) (call : Call T) → gone_in class (read_call f call) ≡ map (read_item f) (gone_in class call)
+  gone_in-read class (Handed c) = refl
+  gone_in-read class (Refilled now) = refl
+  gone_in-read class (Popped now went) = in_class-read class went
+
+  flat_map-read : (h : Call U → List (Item U)) (k : Call T → List (Item T)) → ((call : Call T) → h (read_call f call) ≡ map (read_item f) (k call)) → (calls : List (Call T)) → flat_map h (map (read_call f) calls) ≡ map (read_item f) (flat_map k calls)
+  flat_map-read h k same [] = refl
+  flat_map-read h k same (call ∷ calls) =
+      ap (λ xs. xs ++ flat_map h (map (read_call f) calls)) (same call) ∙ ap (λ xs. map (read_item f) (k call) ++ xs) (flat_map-read h k same calls)
+      ∙ sym (map-append (read_item f) (k call) (flat_map k calls))
+
+  handed-read : (class : Class) (calls : List (Call T)) → handed class (map (read_call f) calls) ≡ map (read_item f) (handed class calls)
+  handed-read class calls = flat_map-read (handed_in class) (handed_in class) (handed_in-read class) calls
+
+  gone-read : (class : Class) (calls : List (Call T)) → gone class (map (read_call f) calls) ≡ map (read_item f) (gone class calls)
+  gone-read class calls = flat_map-read (gone_in class) (gone_in class) (gone_in-read class) calls
+
+  length-read : (xs : List (Item T)) → length (map (read_item f) xs) ≡ length xs
+  length-read [] = refl
+  length-read (x ∷ xs) = ap suc (length-read xs)
+
+  drop-read : (n : ℕ) (xs : List (Item T)) → drop n (map (read_item f) xs) ≡ map (read_item f) (drop n xs)
+  drop-read zero xs = refl
+  drop-read (suc n) [] = refl
+  drop-read (suc n) (x ∷ xs) = drop-read n xs
+
+  left-read : (class : Class) (calls : List (Call T)) → left (map (read_call f) calls) class ≡ map (read_item f) (left calls class)
+  left-read class calls =
+      ap (λ n. drop n (handed class (map (read_call f) calls))) (ap length (gone-read class calls) ∙ length-read (gone class calls))
+      ∙ ap (drop (length (gone class calls))) (handed-read class calls) ∙ drop-read (length (gone class calls)) (handed class calls)
+
+  first_in-read : (class : Class) (xs : List (Item T)) → first_in class (map (read_item f) xs) ≡ option_map (read_classed f) (first_in class xs)
+  first_in-read class [] = refl
+  first_in-read class (x ∷ xs) = refl
+
+  else-read : (a b : Option (Classed T)) → or_else (option_map (read_classed f) a) (option_map (read_classed f) b) ≡ option_map (read_classed f) (or_else a b)
+  else-read None b = refl
+  else-read (Some c) b = refl
+
+  next_of-read : (calls : List (Call T)) → next_of (map (read_call f) calls) ≡ option_map (read_classed f) (next_of calls)
+  next_of-read calls =
+      ap (λ xs. or_else (first_in Shown xs) (or_else (first_in New (left (map (read_call f) calls) New)) (first_in Other (left (map (read_call f) calls) Other)))) (left-read Shown calls)
+      ∙ ap (λ xs. or_else (first_in Shown (map (read_item f) (left calls Shown))) (or_else (first_in New xs) (first_in Other (left (map (read_call f) calls) Other)))) (left-read New calls)
+      ∙ ap (λ xs. or_else (first_in Shown (map (read_item f) (left calls Shown))) (or_else (first_in New (map (read_item f) (left calls New))) (first_in Other xs))) (left-read Other calls)
+      ∙ ap (λ o. or_else o (or_else (first_in New (map (read_item f) (left calls New))) (first_in Other (map (read_item f) (left calls Other))))) (first_in-read Shown (left calls Shown))
+      ∙ ap (λ o. or_else (option_map (read_classed f) (first_in Shown (left calls Shown))) (or_else o (first_in Other (map (read_item f) (left calls Other))))) (first_in-read New (left calls New))
+      ∙ ap (λ o. or_else (option_map (read_classed f) (first_in Shown (left calls Shown))) (or_else (option_map (read_classed f) (first_in New (left calls New))) o)) (first_in-read Other (left calls Other))
+      ∙ ap (or_else (option_map (read_classed f) (first_in Shown (left calls Shown)))) (else-read (first_in New (left calls New)) (first_in Other (left calls Other)))
+      ∙ else-read (first_in Shown (left calls Shown)) (or_else (first_in New (left calls New)) (first_in Other (left calls Other)))
+
+  moment_of-read : (call : Call T) → moment_of (read_call f call) ≡ moment_of call
+  moment_of-read (Handed c) = refl
+  moment_of-read (Refilled now) = refl
+  moment_of-read (Popped now went) = refl
+
+  last_moment-read : (calls : List (Call T)) → last_moment (map (read_call f) calls) ≡ last_moment calls
+  last_moment-read [] = refl
+  last_moment-read (call ∷ calls) = ap (λ n. max n (last_moment (map (read_call f) calls))) (moment_of-read call) ∙ ap (max (moment_of call)) (last_moment-read calls)
+
+  popped_in-read : (before : List (Call T)) (call : Call T) → popped_in (map (read_call f) before) (read_call f call) ≡ map (read_pop f) (popped_in before call)
+  popped_in-read before (Handed c) = refl
+  popped_in-read before (Refilled now) = refl
+  popped_in-read before (Popped now went) = ap (λ n. record { moment = max n now; went = option_map (read_classed f) went } ∷ []) (last_moment-read before)
+
+  pops_after-read : (before calls : List (Call T)) → flat_map popped_at (steps_after (map (read_call f) before) (map (read_call f) calls)) ≡ map (read_pop f) (flat_map popped_at (steps_after before calls))
+  pops_after-read before [] = refl
+  pops_after-read before (call ∷ calls) =
+      ap (λ ps. ps ++ flat_map popped_at (steps_after (map (read_call f) before ++ read_call f call ∷ []) (map (read_call f) calls))) (popped_in-read before call)
+      ∙ ap (λ w. map (read_pop f) (popped_in before call) ++ flat_map popped_at (steps_after w (map (read_call f) calls))) (sym (map-append (read_call f) before (call ∷ [])))
+      ∙ ap (λ ps. map (read_pop f) (popped_in before call) ++ ps) (pops_after-read (before ++ call ∷ []) calls)
+      ∙ sym (map-append (read_pop f) (popped_in before call) (flat_map popped_at (steps_after (before ++ call ∷ []) calls)))
+
+  cost-read : (o : Option (Classed T)) → cost (option_map (read_classed f) o) ≡ cost o
+  cost-read None = refl
+  cost-read (Some c) = refl
+
+  some-read : (o : Option (Classed T)) → is_some (option_map (read_classed f) o) ≡ is_some o
+  some-read None = refl
+  some-read (Some c) = refl
+
+  joined-read : (p : Pop T) (ts : List Tick) → joined (read_pop f p) ts ≡ joined p ts
+  joined-read p [] = ap (λ n. record { moment = p.moment; cost = n } ∷ []) (cost-read p.went)
+  joined-read p (t ∷ ts) = rw (some-read p.went, cost-read p.went) refl
+
+  parted-read : (ps : List (Pop T)) → parted (map (read_pop f) ps) ≡ parted ps
+  parted-read [] = refl
+  parted-read (p ∷ ps) = ap (joined (read_pop f p)) (parted-read ps) ∙ joined-read p (parted ps)
+
+  ticks-read : (calls : List (Call T)) → ticks (map (read_call f) calls) ≡ ticks calls
+  ticks-read calls = ap parted (pops_after-read [] calls) ∙ parted-read (pops calls)
+
+  ends-read : (call : Call T) → ends_tick (read_call f call) ≡ ends_tick call
+  ends-read (Handed c) = refl
+  ends-read (Refilled now) = refl
+  ends-read (Popped now None) = refl
+  ends-read (Popped now (Some c)) = refl
+
+  none_higher-read : (before : List (Call T)) (c : Classed T) → NoneHigher before c → NoneHigher (map (read_call f) before) (read_classed f c)
+  none_higher-read before c none class l = gone-read class before ∙ ap (map (read_item f)) (none class l) ∙ sym (handed-read class before)
+
+  highest-read : (before : List (Call T)) (o : Option (Classed T)) → IfSome o (NoneHigher before) → IfSome (option_map (read_classed f) o) (NoneHigher (map (read_call f) before))
+  highest-read before None none = tt
+  highest-read before (Some c) none = none_higher-read before c none
+
+  went-read : (call : Call T) → went_in (read_call f call) ≡ option_map (read_classed f) (went_in call)
+  went-read (Handed c) = refl
+  went-read (Refilled now) = refl
+  went-read (Popped now went) = refl
+
+  less-read : (most : ℕ) (o : Option (Classed T)) → IfSome o (λ c. most < cost (Some c)) → IfSome (option_map (read_classed f) o) (λ c. most < cost (Some c))
+  less-read most None l = tt
+  less-read most (Some c) l = l
+
+  on_true : (b : Bool) (P Q : Type 0) → (P → Q) → OnTrue b P → OnTrue b Q
+  on_true true P Q step p = step p
+  on_true false P Q step p = tt
+
+  goes-read : (rate depth : ℕ) (before upto : List (Call T)) (call : Call T) → GoesRight rate depth before upto call → GoesRight rate depth (map (read_call f) before) (map (read_call f) upto) (read_call f call)
+  goes-read rate depth before upto call right = record {
+    in_order = λ class. (let (rest, e) = right.in_order class in (
+      map (read_item f) rest,
+      ap (λ xs. xs ++ map (read_item f) rest) (gone-read class upto) ∙ sym (map-append (read_item f) (gone class upto) rest) ∙ ap (map (read_item f)) e ∙ sym (handed-read class upto),
+    ));
+    highest_first = subst (λ o. IfSome o (NoneHigher (map (read_call f) before))) (sym (went-read call)) (highest-read before (went_in call) right.highest_first);
+    not_too_much = rw (last_moment-read upto, ticks-read upto) right.not_too_much;
+    all_that_may = subst (λ b. OnTrue b (IfSome (next_of (map (read_call f) upto)) (λ c. level_at rate depth (map (read_call f) upto) (last_moment (map (read_call f) upto)) < cost (Some c)))) (sym (ends-read call))
+        (on_true (ends_tick call) _ _ (λ l. subst (λ o. IfSome o (λ c. level_at rate depth (map (read_call f) upto) (last_moment (map (read_call f) upto)) < cost (Some c))) (sym (next_of-read upto))
+        (subst (λ n. IfSome (option_map (read_classed f) (next_of upto)) (λ c. n < cost (Some c))) (sym (level-read rate depth upto)) (less-read (level_at rate depth upto (last_moment upto)) (next_of upto) l))) right.all_that_may);
+  }
+    where
+      level-read : (rate depth : ℕ) (cs : List (Call T)) → level_at rate depth (map (read_call f) cs) (last_moment (map (read_call f) cs)) ≡ level_at rate depth cs (last_moment cs)
+      level-read rate depth cs = rw (last_moment-read cs, ticks-read cs) refl
+
+  law_after-read : (rate depth : ℕ) (before calls : List (Call T)) → AllByRecursion (λ s. GoesRight rate depth s.before (s.before ++ s.this ∷ []) s.this) (steps_after before calls)
+      → AllByRecursion (λ s. GoesRight rate depth s.before (s.before ++ s.this ∷ []) s.this) (steps_after (map (read_call f) before) (map (read_call f) calls))
+  law_after-read rate depth before [] all = tt
+  law_after-read rate depth before (call ∷ calls) all = (
+    subst (λ w. GoesRight rate depth (map (read_call f) before) w (read_call f call)) (map-append (read_call f) before (call ∷ [])) (goes-read rate depth before (before ++ call ∷ []) call all.0),
+    subst (λ w. AllByRecursion (λ s. GoesRight rate depth s.before (s.before ++ s.this ∷ []) s.this) (steps_after w (map (read_call f) calls))) (map-append (read_call f) before (call ∷ [])) (law_after-read rate depth (before ++ call ∷ []) calls all.1),
+  )
+
+  pub law-read : (rate depth : ℕ) (calls : List (Call T)) → BucketLaw rate depth calls → BucketLaw rate depth (map (read_call f) calls)
+  law-read rate depth calls law = law_after-read rate depth [] calls law
