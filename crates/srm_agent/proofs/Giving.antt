@@ -1,0 +1,100 @@
+-- The entry of a give.
+use Rattle.std.proofs.Common.{◌≡◌, ℕ, zero, suc, ◌<◌, ◌==◌, Bool, true, false, ◌&&◌, List, [], ◌∷◌, ◌++◌, length, refl, ap, sym, ◌∙◌, subst, inl, inr, arith}
+use Rattle.std.specs.Prelude.{Option, Some, None, slice_get, slice_set, if◌then◌else◌}
+use Rattle.std.specs.List.{list_all, cons_option}
+use Rattle.std.proofs.lemmas.Bool.{and_parts, cases_eq, eq-eqb, ne_eqb}
+use Rattle.std.proofs.lemmas.List.{append-nil}
+use Rattle.std.proofs.lemmas.Option.{none-some, same_Some}
+use Rattle.srm_names.specs.declared.limits.TheConstants.{PAGES}
+use Rattle.srm_names.specs.declared.page_msg.PageMsg.{PageMsg}
+use Rattle.srm_names.specs.Histories.{Step, steps}
+use Rattle.srm_names.specs.PageFeeds.{continues, is_page_feed}
+use Rattle.srm_names.proofs.Snoc.{steps-snoc, list_all-append}
+use Rattle.srm_agent.specs.declared.entry.Entry.{Entry}
+use Rattle.srm_agent.specs.declared.entry.Input.TheVariants.{Gave}
+use Rattle.srm_agent.specs.declared.entry.Verdict.TheVariants.{Done}
+use Rattle.srm_agent.specs.Configs.{Config}
+use Rattle.srm_agent.specs.Entries.{slots, last_moment}
+use Rattle.srm_agent.specs.Giving.{given, given_in, GiveRight}
+use Rattle.srm_agent.specs.Feeds.{FeedContent, FeedFits}
+use Rattle.srm_agent.specs.Contents.{Content}
+use Rattle.srm_agent.specs.Fits.{Fits, FeedsFit}
+use Rattle.srm_agent.specs.Noting.{Enters, still_entry}
+use Rattle.srm_agent.proofs.Feeding.{feeds_right, fed_gives, given-snoc}
+use Rattle.srm_agent.proofs.Running.{slots-same}
+use Rattle.srm_agent.proofs.Still.{MayFollow, SameParts, still_fits, same_feeds}
+use Rattle.srm_agent.proofs.Entering.{of_member, stays_at}
+
+continues_last : (g : List PageMsg) (m : PageMsg) → is_page_feed (g ++ m ∷ []) ≡ true → continues g m ≡ true
+continues_last g m fed =
+    let all : list_all (λ (s : Step PageMsg). continues s.before s.this) (steps g ++ record { before = g; this = m } ∷ []) ≡ true = subst (λ w. list_all (λ (s : Step PageMsg). continues s.before s.this) w ≡ true) (steps-snoc g m) fed in
+    let parts = and_parts (list_all (λ (s : Step PageMsg). continues s.before s.this) (steps g)) _ (sym (list_all-append (λ (s : Step PageMsg). continues s.before s.this) (steps g) (record { before = g; this = m } ∷ [])) ∙ all) in
+    (and_parts (continues g m) true parts.1).0
+
+-- what may be given continues the feed of its slot
+pub give_continues : {W : Type 0} (c : Config) (made : ℕ) (past : List Entry) (a : Content W) (j : ℕ) (m : PageMsg) → Fits c made past a → GiveRight c past j (Some m) → continues (given past j) m ≡ true
+give_continues c made past a j m h right =
+    let fed = feeds_right c made past h.run in
+    continues_last (given past j) m (fed_gives c past (slice_get (slots past) j) (given past j) m fed.tells right (fed.feeds j)).fed
+
+may_give : {W : Type 0} (c : Config) (made : ℕ) (past : List Entry) (a : Content W) (j : ℕ) (m : Option PageMsg) → Fits c made past a → GiveRight c past j m → MayFollow c made past a.last (Gave j) Done m a.state
+may_give c made past a j m h right = record { unheard = refl; undrawn = refl; unticked = refl; moment_right = h.last; verdict_right = refl; message_right = right; state_right = h.state }
+
+not_given : (j slot : ℕ) → given_in j (Gave slot) None ≡ None
+not_given j slot = go (j == slot) None refl
+  where
+    go : (b : Bool) (o : Option PageMsg) → o ≡ None → (if b then o else None) ≡ None
+    go true o e = e
+    go false o e = refl
+
+pub gives_nothing : {W : Type 0} (a : Content W) (slot : ℕ) (e : Entry) → e ≡ still_entry a.config.me a.last (Gave slot) Done None a.state
+    → ((c : Config) (made : ℕ) (past : List Entry) → Fits c made past a → GiveRight c past slot None) → Enters None (Gave slot) a a e
+gives_nothing a slot e is right = record {
+  input_is = ap (λ (x : Entry). x.input) is;
+  moment_is = ap (λ (x : Entry). x.moment) is;
+  fits = λ c made past h. of_member c made past a a e (λ me. still_entry me a.last (Gave slot) Done None a.state) h is
+      (still_fits c made past a a a.last (Gave slot) Done None a.state h (may_give c made past a slot None h (right c made past h))
+      (record { config = refl; store = refl; distances = refl; asks = refl; fixes = refl; bucket = refl; due = refl }) refl (stays_at a.last) refl
+      (h.pages ∙ sym (slots-same past _ refl)) (same_feeds past _ a.feeds (λ j. not_given j slot) h.feeds));
+}
+
+set_there : {X : Type 0} (xs : List X) (i : ℕ) (x y : X) → slice_get (slice_set xs i x) i ≡ Some y → x ≡ y
+set_there [] i x y e = absurd (none-some y e)
+set_there (z ∷ zs) zero x y e = same_Some x y e
+set_there (z ∷ zs) (suc i) x y e = set_there zs i x y e
+
+set_elsewhere : {X : Type 0} (xs : List X) (i : ℕ) (x : X) (j : ℕ) → (j ≡ i → ⊥) → slice_get (slice_set xs i x) j ≡ slice_get xs j
+set_elsewhere [] i x j other = refl
+set_elsewhere (z ∷ zs) zero x zero other = absurd (other refl)
+set_elsewhere (z ∷ zs) zero x (suc j) other = refl
+set_elsewhere (z ∷ zs) (suc i) x zero other = refl
+set_elsewhere (z ∷ zs) (suc i) x (suc j) other = set_elsewhere zs i x j (λ e. other (ap suc e))
+
+-- the feeds with one message more in a slot
+feeds_more : (past : List Entry) (e : Entry) (feeds : List FeedContent) (slot i : ℕ) (f : FeedContent) (m : PageMsg) → e.input ≡ Gave slot → e.effects.message ≡ Some m → i ≡ slot → FeedsFit past feeds
+    → FeedFits (given past slot ++ m ∷ []) f → FeedsFit (past ++ e ∷ []) (slice_set feeds i f)
+feeds_more past e feeds slot i f m input message at h more = record { each = each }
+  where
+    given_then : (j : ℕ) (b : Bool) → (j == slot) ≡ b → given (past ++ e ∷ []) j ≡ given past j ++ cons_option (if b then Some m else None) []
+    given_then j b q = given-snoc past e j ∙ rw (input, message, q) refl
+
+    each : (j : ℕ) (x : FeedContent) → slice_get (slice_set feeds i f) j ≡ Some x → FeedFits (given (past ++ e ∷ []) j) x
+    each j x there = elim (cases_eq j i) [
+      | inl same ↦ subst (λ g. FeedFits g x) (sym (given_then j true (eq-eqb j slot (same ∙ at))))
+          (subst (λ w. FeedFits (given past j ++ m ∷ []) w) (set_there feeds i f x (subst (λ k. slice_get (slice_set feeds i f) k ≡ Some x) same there))
+          (subst (λ k. FeedFits (given past k ++ m ∷ []) f) (sym (same ∙ at)) more))
+      | inr other ↦ subst (λ g. FeedFits g x) (sym (given_then j false (ne_eqb j slot (λ k. other (k ∙ sym at))) ∙ append-nil (given past j))) (h.each j x (sym (set_elsewhere feeds i f j other) ∙ there))
+    ]
+
+pub gives_message : {W : Type 0} (a : Content W) (slot i : ℕ) (m : PageMsg) (f : FeedContent) (e : Entry) → e ≡ still_entry a.config.me a.last (Gave slot) Done (Some m) a.state → i ≡ slot
+    → ((c : Config) (made : ℕ) (past : List Entry) → Fits c made past a → GiveRight c past slot (Some m))
+    → ((c : Config) (made : ℕ) (past : List Entry) → Fits c made past a → FeedFits (given past slot ++ m ∷ []) f)
+    → Enters None (Gave slot) a (record a { feeds = slice_set a.feeds i f }) e
+gives_message a slot i m f e is at right more = record {
+  input_is = ap (λ (x : Entry). x.input) is;
+  moment_is = ap (λ (x : Entry). x.moment) is;
+  fits = λ c made past h. of_member c made past a (record a { feeds = slice_set a.feeds i f }) e (λ me. still_entry me a.last (Gave slot) Done (Some m) a.state) h is
+      (still_fits c made past a (record a { feeds = slice_set a.feeds i f }) a.last (Gave slot) Done (Some m) a.state h (may_give c made past a slot (Some m) h (right c made past h))
+      (record { config = refl; store = refl; distances = refl; asks = refl; fixes = refl; bucket = refl; due = refl }) refl (stays_at a.last) refl
+      (h.pages ∙ sym (slots-same past _ refl)) (feeds_more past _ a.feeds slot i f m refl refl at h.feeds (more c made past h)));
+}

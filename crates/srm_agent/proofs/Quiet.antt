@@ -1,0 +1,195 @@
+-- An entry that hears nothing, draws nothing, arms nothing and sends nothing: what it leaves as it was.
+use Rattle.std.proofs.Common.{◌≡◌, ℕ, ◌+◌, max, Bool, true, false, not, ◌&&◌, ◌||◌, List, [], ◌∷◌, ◌++◌, map, refl, ap, sym, ◌∙◌, subst, arith}
+use Rattle.std.specs.Prelude.{Option, Some, None, option_map, option_to_list, is_some, nat_lt, if◌then◌else◌, unwrap_or, find}
+use Rattle.std.specs.List.{flat_map, filter_map, list_any, AllByRecursion, cons_option}
+use Rattle.std.proofs.lemmas.List.{append-nil, map-append}
+use Rattle.std.proofs.lemmas.List.Elements.{filter_map-append}
+use Rattle.srm_names.specs.declared.page.Page.{Page}
+use Rattle.srm_names.specs.declared.drawop.Drawop.{Drawop}
+use Rattle.srm_names.specs.FullName.{FullName}
+use Rattle.srm_names.specs.Histories.{Step, steps, or_else, last_of, first_of}
+use Rattle.srm_names.specs.Names.{among, same_name}
+use Rattle.srm_names.proofs.Snoc.{steps-snoc, last_of-snoc, first_of-snoc, or_else-none}
+use Rattle.srm_names.proofs.Lists.{at_parts}
+use Rattle.srm_codec.specs.declared.datagram.Datagram.{Datagram}
+use Rattle.srm_store.specs.Finals.{Settling}
+use Rattle.srm_timers.specs.declared.arm.Arm.{Arm}
+use Rattle.srm_timers.specs.declared.arm.ArmKind.{ArmKind}
+use Rattle.srm_timers.specs.declared.arm.ArmKind.TheVariants.{Ask, Fix}
+use Rattle.srm_timers.specs.declared.arm.Armed.{Armed}
+use Rattle.srm_timers.specs.AskCalls.{AskContent}
+use Rattle.srm_timers.specs.FixCalls.{FixContent}
+use Rattle.srm_timers.specs.Arms.{Setting, setting}
+use Rattle.srm_bucket.specs.Calls.{Call}
+use Rattle.srm_bucket.specs.Content.{Content as BucketContent}
+use Rattle.srm_agent.specs.declared.entry.Entry.{Entry}
+use Rattle.srm_agent.specs.declared.out.Outgoing.{Outgoing}
+use Rattle.srm_agent.specs.Configs.{Config}
+use Rattle.srm_agent.specs.Entries.{heard, ticked, held, held_by, drawops_in, shown_by, shown_to_exist, drawn, is_missing, is_held, known}
+use Rattle.srm_agent.specs.Distances.{distance, distance_calls, calls_in, calls_of}
+use Rattle.srm_agent.specs.Timers.{arm_of, arm_in, last_ask, fix_running, held_off, holds_off, asker, asker_in, asks_for, repaired, repairs_in, ask_exponent, ask_setting, fix_setting, setting_of, ArmsRight, TimersRight}
+use Rattle.srm_agent.specs.Verdicts.{settlings, settling_of, drawn_in, stream_on}
+use Rattle.srm_agent.specs.Sessions.{session_due, pause_after, session_pause, is_session, charged, ending, EndsWith, SessionRight}
+use Rattle.srm_agent.specs.Bucket.{Going, GoesRight, entries_of, bucket_calls, calls_by, handed_by, answers_in, data_item}
+use Rattle.srm_agent.specs.Fits.{TimersFit, BucketFits, shown_if}
+use Rattle.srm_agent.proofs.Adding.{flat_map-snoc, last_ask-snoc, fix_running-snoc, held_off-snoc}
+use Rattle.srm_agent.proofs.Showing.{held-snoc, shown-snoc, shown_quiet, drawn-snoc}
+use Rattle.srm_agent.proofs.Arming.{ask_at}
+use Rattle.srm_agent.proofs.Cutting.{bucket_calls-append}
+
+pub record Quiet (e : Entry) : Type 0 where
+  pub unheard : heard e ≡ None
+  pub drawn : e.effects.drawn ≡ None
+  pub arms : e.effects.arms ≡ []
+  pub asks : e.effects.asks ≡ []
+  pub fixes : e.effects.fixes ≡ []
+  pub outs : e.effects.outs ≡ []
+  pub unticked : ticked e ≡ false
+
+held_by_none : (e : Entry) → Quiet e → held_by e ≡ []
+held_by_none e q = ap (λ o. option_to_list o ++ drawops_in (heard e)) q.drawn ∙ ap drawops_in q.unheard
+
+pub same_held : (past : List Entry) (e : Entry) → Quiet e → held (past ++ e ∷ []) ≡ held past
+same_held past e q = held-snoc past e ∙ ap (λ ds. held past ++ ds) (held_by_none e q) ∙ append-nil (held past)
+
+pub same_shown : (past : List Entry) (e : Entry) → Quiet e → shown_to_exist (past ++ e ∷ []) ≡ shown_to_exist past
+same_shown past e q = shown-snoc past e ∙ ap (λ ns. shown_to_exist past ++ ns) (shown_quiet e (q.unheard, q.drawn)) ∙ append-nil (shown_to_exist past)
+
+pub same_drawn : (past : List Entry) (e : Entry) → Quiet e → drawn (past ++ e ∷ []) ≡ drawn past
+same_drawn past e q = drawn-snoc past e ∙ ap (λ o. drawn past ++ option_to_list o) q.drawn ∙ append-nil (drawn past)
+
+pub same_settlings : (past : List Entry) (e : Entry) → Quiet e → settlings (past ++ e ∷ []) ≡ settlings past
+same_settlings past e q =
+    filter_map-append (λ (x : Entry). settling_of (heard x)) past (e ∷ []) ∙ ap (λ o. settlings past ++ cons_option (settling_of o) []) q.unheard ∙ append-nil (settlings past)
+
+pub same_distances : (me : ℕ) (past : List Entry) (e : Entry) → Quiet e → distance_calls me (past ++ e ∷ []) ≡ distance_calls me past
+same_distances me past e q =
+    flat_map-snoc (calls_in me) past e ∙ ap (λ o. distance_calls me past ++ calls_of me e.moment o) q.unheard ∙ append-nil (distance_calls me past)
+
+pub same_missing : (past : List Entry) (e : Entry) (n : FullName) → Quiet e → is_missing (past ++ e ∷ []) n ≡ is_missing past n
+same_missing past e n q = rw (same_held past e q, same_shown past e q) refl
+
+-- timers
+
+no_arm : (kind : ArmKind) (n : FullName) (e : Entry) → Quiet e → arm_in kind n e ≡ None
+no_arm kind n e q = rw q.arms refl
+
+pub same_last_ask : (past : List Entry) (e : Entry) (n : FullName) → Quiet e → last_ask (past ++ e ∷ []) n ≡ last_ask past n
+same_last_ask past e n q = last_ask-snoc past e n ∙ ap (λ o. or_else o (last_ask past n)) (no_arm Ask n e q)
+
+not_repaired : (e : Entry) (n : FullName) → Quiet e → repaired n e ≡ false
+not_repaired e n q = ap (λ o. repairs_in n o || among e.effects.fixes n) q.unheard ∙ ap (λ ns. among ns n) q.fixes
+
+same_fix : (past : List Entry) (e : Entry) (n : FullName) → Quiet e → fix_running (past ++ e ∷ []) n ≡ fix_running past n
+same_fix past e n q =
+    fix_running-snoc past e n ∙ ap (λ (b : Bool). if b then None else or_else (arm_in Fix n e) (fix_running past n)) (not_repaired e n q)
+    ∙ ap (λ o. or_else o (fix_running past n)) (no_arm Fix n e q)
+
+not_asked : (n : FullName) (e : Entry) → Quiet e → asker n e ≡ None
+not_asked n e q = ap (asker_in n) q.unheard
+
+same_asker : (past : List Entry) (e : Entry) (n : FullName) → Quiet e → first_of (asker n) (past ++ e ∷ []) ≡ first_of (asker n) past
+same_asker past e n q = first_of-snoc (asker n) past e ∙ ap (or_else (first_of (asker n) past)) (not_asked n e q) ∙ or_else-none (first_of (asker n) past)
+
+or_no : (b : Bool) → (b || false) ≡ b
+or_no true = refl
+or_no false = refl
+
+same_off : (me : ℕ) (past : List Entry) (e : Entry) (n : FullName) (now : ℕ) → Quiet e → held_off me (past ++ e ∷ []) n now ≡ held_off me past n now
+same_off me past e n now q =
+    held_off-snoc me past e n now ∙ ap (λ b. held_off me past n now || b) (none (repaired n e) _ (not_repaired e n q)) ∙ or_no (held_off me past n now)
+  where
+    none : (b c : Bool) → b ≡ false → (b && c) ≡ false
+    none false c e = refl
+    none true c e = absurd (cc)
+
+pub timers_stay : (c : Config) (past : List Entry) (e : Entry) (a : AskContent) (f : FixContent) → Quiet e → TimersFit c past a f → TimersFit c (past ++ e ∷ []) a f
+timers_stay c past e a f q h = record {
+  ask_calls = h.ask_calls;
+  asks = h.asks;
+  ask_timers = λ n. h.ask_timers n ∙ sym (ap (λ b. shown_if b (last_ask (past ++ e ∷ []) n)) (same_missing past e n q) ∙ ap (shown_if (is_missing past n)) (same_last_ask past e n q));
+  fix_calls = h.fix_calls;
+  fixes = h.fixes;
+  fix_timers = λ n. h.fix_timers n ∙ sym (same_fix past e n q);
+  askers = λ n. h.askers n ∙ sym (same_asker past e n q);
+  offs = λ n now. h.offs n now ∙ sym (same_off c.me past e n now q);
+}
+
+-- the bucket
+
+abbrev still : Entry → Going
+still e = record { entry = e; goes = [] }
+
+no_calls : (me : ℕ) (gs : List Going) (e : Entry) → Quiet e → calls_by me (record { before = gs; this = still e }) ≡ []
+no_calls me gs e q = rw (q.drawn, q.asks, q.fixes, q.unticked) refl
+
+same_calls : (me : ℕ) (gs : List Going) (e : Entry) → Quiet e → bucket_calls me (gs ++ still e ∷ []) ≡ bucket_calls me gs
+same_calls me gs e q =
+    bucket_calls-append me gs (still e ∷ []) ∙ ap (λ cs. bucket_calls me gs ++ (cs ++ [])) (no_calls me gs e q) ∙ append-nil (bucket_calls me gs)
+
+goes_more : (gs : List Going) (x : Going) → AllByRecursion GoesRight (steps gs) → GoesRight (record { before = gs; this = x }) → AllByRecursion GoesRight (steps (gs ++ x ∷ []))
+goes_more gs x all right = subst (λ w. AllByRecursion GoesRight w) (sym (steps-snoc gs x)) (more GoesRight (steps gs) _ all right)
+  where
+    more : (R : Step Going → Type 0) (xs : List (Step Going)) (y : Step Going) → AllByRecursion R xs → R y → AllByRecursion R (xs ++ y ∷ [])
+    more R [] y all r = (r, tt)
+    more R (x ∷ xs) y all r = (all.0, more R xs y all.1 r)
+
+quiet_goes : (gs : List Going) (e : Entry) → Quiet e → GoesRight (record { before = gs; this = still e })
+quiet_goes gs e q = record { same = rw q.outs refl; at_ticks = rw q.unticked refl }
+
+pub bucket_stays : (c : Config) (past : List Entry) (e : Entry) (b : BucketContent Outgoing) → Quiet e → BucketFits c past b → BucketFits c (past ++ e ∷ []) b
+bucket_stays c past e b q h = record {
+  goings = h.goings ++ still e ∷ [];
+  entries = map-append (λ (g : Going). g.entry) h.goings (still e ∷ []) ∙ ap (λ es. es ++ e ∷ []) h.entries;
+  goes = goes_more h.goings (still e) h.goes (quiet_goes h.goings e q);
+  calls = h.calls;
+  read = h.read ∙ sym (same_calls c.me h.goings e q);
+  fits = h.fits;
+}
+
+-- the session message
+
+no_pause : (c : Config) (past : List Entry) (e : Entry) → Quiet e → pause_after c (record { before = past; this = e }) ≡ None
+no_pause c past e q = rw q.outs refl
+
+pub same_due : (c : Config) (made : ℕ) (past : List Entry) (e : Entry) → Quiet e → session_due c made (past ++ e ∷ []) ≡ session_due c made past
+same_due c made past e q =
+    ap (λ o. unwrap_or o (made + 1000000))
+    (ap (last_of (pause_after c)) (steps-snoc past e) ∙ last_of-snoc (pause_after c) (steps past) (record { before = past; this = e })
+    ∙ ap (λ o. or_else o (last_of (pause_after c) (steps past))) (no_pause c past e q))
+
+-- the entry is one that those before it allow
+
+no_setting : (me : ℕ) (past : List Entry) (e : Entry) (n : FullName) → Quiet e → setting_of me past e n ≡ None
+no_setting me past e n q = go (is_held past n) refl
+  where
+    nothing : (b : Bool) (o : Option Setting) → o ≡ None → (if b then o else None) ≡ None
+    nothing true o e = e
+    nothing false o e = refl
+
+    fix : fix_setting me past e n ≡ None
+    fix = nothing (is_held past n && not (is_some (fix_running past n)) && not (held_off me past n e.moment)) _ (rw (not_asked n e q) refl)
+
+    exponent : (b : Bool) → is_missing past n ≡ b → ask_exponent past e n ≡ None
+    exponent true m = rw (m, not_asked n e q, q.asks) refl
+    exponent false m = rw (m, same_missing past e n q, m) refl
+
+    go : (b : Bool) → is_held past n ≡ b → setting_of me past e n ≡ None
+    go true h = ap (λ (b : Bool). if b then fix_setting me past e n else ask_setting me past e n) h ∙ fix
+    go false h = ap (λ (b : Bool). if b then fix_setting me past e n else ask_setting me past e n) h ∙ ap (option_map (ask_at me (past ++ e ∷ []) n)) (exponent (is_missing past n) refl)
+
+pub no_arms : (c : Config) (past : List Entry) (e : Entry) → Quiet e → ArmsRight c past e
+no_arms c past e q = record {
+  in_order = rw q.arms refl;
+  exact = λ n. ap (λ (as_ : List Arm). option_map setting (arm_of n as_)) q.arms ∙ sym (no_setting c.me past e n q);
+  waits = rw q.arms tt;
+}
+
+pub no_timers : (past : List Entry) (e : Entry) → Quiet e → TimersRight past e
+no_timers past e q = record {
+  asks = record { in_order = rw q.asks refl; exact = λ n. rw (q.asks, q.unticked) refl };
+  fixes = record { in_order = rw q.fixes refl; exact = λ n. rw (q.fixes, q.unticked) refl };
+}
+
+pub no_session : (c : Config) (made : ℕ) (past : List Entry) (e : Entry) → Quiet e → SessionRight c made past e
+no_session c made past e q = let none : ending c made past e ≡ None = rw q.unticked refl in subst (EndsWith c past e) (sym none) (rw q.outs refl)

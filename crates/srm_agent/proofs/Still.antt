@@ -1,0 +1,105 @@
+-- An agent after an entry without effects.
+use Rattle.std.proofs.Common.{◌≡◌, ℕ, ◌≤◌, max, Bool, true, false, List, [], ◌∷◌, ◌++◌, refl, ap, sym, ◌∙◌, subst, arith}
+use Rattle.std.specs.Prelude.{Option, Some, None, unwrap_or, option_to_list, slice_get, if◌then◌else◌}
+use Rattle.std.specs.List.{filter_map, cons_option, AllByRecursion}
+use Rattle.std.proofs.lemmas.List.{append-nil}
+use Rattle.srm_names.specs.declared.page.Page.{Page}
+use Rattle.srm_names.specs.declared.page_msg.PageMsg.{PageMsg}
+use Rattle.srm_names.specs.Histories.{greatest, steps}
+use Rattle.srm_codec.specs.Spelling.{is_drawop}
+use Rattle.srm_store.specs.Fits as store
+use Rattle.srm_distance.specs.Fits as distances
+use Rattle.srm_agent.specs.declared.entry.AgentState.{AgentState}
+use Rattle.srm_agent.specs.declared.entry.Entry.{Entry}
+use Rattle.srm_agent.specs.declared.entry.Input.{Input}
+use Rattle.srm_agent.specs.declared.entry.Verdict.{Verdict}
+use Rattle.srm_agent.specs.Configs.{Config}
+use Rattle.srm_agent.specs.Entries.{done_input, heard_in, page_shown, pages_in, is_tick, takes_moment, clock_of, state, shown, slots, last_moment, held, shown_to_exist}
+use Rattle.srm_agent.specs.Distances.{distance_calls}
+use Rattle.srm_agent.specs.Verdicts.{VerdictRight, settlings, drawn_in, stream_on}
+use Rattle.srm_agent.specs.Sessions.{session_due}
+use Rattle.srm_agent.specs.Giving.{given, given_in, MessageRight}
+use Rattle.srm_agent.specs.Runs.{EntryRight, MomentRight, drawop_due, state_due}
+use Rattle.srm_agent.specs.Feeds.{FeedContent, FeedFits}
+use Rattle.srm_agent.specs.Contents.{Content}
+use Rattle.srm_agent.specs.Fits.{Fits, FeedsFit}
+use Rattle.srm_agent.specs.Noting.{still_entry}
+use Rattle.srm_agent.proofs.Feeding.{given-snoc}
+use Rattle.srm_agent.proofs.Showing.{state-snoc}
+use Rattle.srm_agent.proofs.Running.{steps_more, last_moment-snoc, shown-page-snoc, slots-same, slots-one}
+use Rattle.srm_agent.proofs.Quiet.{Quiet, same_held, same_shown, same_drawn, same_settlings, same_distances, same_missing, timers_stay, bucket_stays, same_due, no_arms, no_timers, no_session}
+
+-- what an entry without effects may be, after these entries
+pub record MayFollow (c : Config) (made : ℕ) (past : List Entry) (moment : ℕ) (input : Input) (verdict : Verdict) (message : Option PageMsg) (after : AgentState) : Type 0 where
+  pub unheard : heard_in (done_input verdict input) ≡ None
+  pub undrawn : drawop_due c past moment (done_input verdict input) ≡ None
+  pub unticked : is_tick input ≡ false
+  pub moment_right : MomentRight c made past (still_entry c.me moment input verdict message after)
+  pub verdict_right : VerdictRight c past input verdict
+  pub message_right : MessageRight c past input message
+  pub state_right : after ≡ state_due (state past) false (done_input verdict input)
+
+quiet : (c : Config) (made : ℕ) (past : List Entry) (moment : ℕ) (input : Input) (verdict : Verdict) (message : Option PageMsg) (after : AgentState)
+    → MayFollow c made past moment input verdict message after → Quiet (still_entry c.me moment input verdict message after)
+quiet c made past moment input verdict message after m = record { unheard = m.unheard; drawn = refl; arms = refl; asks = refl; fixes = refl; outs = refl; unticked = m.unticked }
+
+pub still_right : (c : Config) (made : ℕ) (past : List Entry) (moment : ℕ) (input : Input) (verdict : Verdict) (message : Option PageMsg) (after : AgentState)
+    → MayFollow c made past moment input verdict message after → EntryRight c made (record { before = past; this = still_entry c.me moment input verdict message after })
+still_right c made past moment input verdict message after m =
+    let q = quiet c made past moment input verdict message after m in
+    record {
+      member = refl;
+      moment = m.moment_right;
+      verdict = m.verdict_right;
+      drawn = sym m.undrawn;
+      arms = no_arms c past _ q;
+      timers = no_timers past _ q;
+      senders = tt;
+      spelled = tt;
+      read = rw m.unheard tt;
+      session = no_session c made past _ q;
+      message = m.message_right;
+      state = m.state_right;
+    }
+
+-- all but the state, the last moment, the page shown, the pages and the feeds are as they were
+pub record SameParts {W : Type 0} (a b : Content W) : Type 0 where
+  pub config : b.config ≡ a.config
+  pub store : b.store ≡ a.store
+  pub distances : b.distances ≡ a.distances
+  pub asks : b.asks ≡ a.asks
+  pub fixes : b.fixes ≡ a.fixes
+  pub bucket : b.bucket ≡ a.bucket
+  pub due : b.due ≡ a.due
+
+pub still_fits : {W : Type 0} (c : Config) (made : ℕ) (past : List Entry) (a b : Content W) (moment : ℕ) (input : Input) (verdict : Verdict) (message : Option PageMsg) (after : AgentState)
+    → Fits c made past a → MayFollow c made past moment input verdict message after → SameParts a b → b.state ≡ after
+    → b.last ≡ max a.last (greatest (clock_of verdict (still_entry c.me moment input verdict message after)))
+    → b.showing ≡ unwrap_or (page_shown (done_input verdict input)) a.showing
+    → b.pages ≡ slots (past ++ still_entry c.me moment input verdict message after ∷ [])
+    → FeedsFit (past ++ still_entry c.me moment input verdict message after ∷ []) b.feeds
+    → Fits c made (past ++ still_entry c.me moment input verdict message after ∷ []) b
+still_fits c made past a b moment input verdict message after h m same is_state is_last is_showing is_pages feeds =
+    let q = quiet c made past moment input verdict message after m in
+    record {
+      run = steps_more (EntryRight c made) past _ h.run (still_right c made past moment input verdict message after m);
+      config = same.config ∙ h.config;
+      state = is_state ∙ sym (state-snoc past _);
+      last = is_last ∙ ap (λ n. max n (greatest (clock_of verdict (still_entry c.me moment input verdict message after)))) h.last ∙ sym (last_moment-snoc made past _);
+      showing = is_showing ∙ ap (unwrap_or (page_shown (done_input verdict input))) h.showing ∙ sym (shown-page-snoc past _);
+      pages = is_pages;
+      feeds = feeds;
+      store = rw (same.store, same_held past _ q, same_shown past _ q, same_settlings past _ q) h.store;
+      distances = rw (same.distances, same_distances c.me past _ q) h.distances;
+      timers = rw (same.asks, same.fixes) (timers_stay c past _ a.asks a.fixes q h.timers);
+      bucket = rw same.bucket (bucket_stays c past _ a.bucket q h.bucket);
+      due = same.due ∙ h.due ∙ sym (same_due c made past _ q);
+      own = λ page. rw (same_drawn past _ q, same_shown past _ q) (h.own page);
+      spelled = rw (same_held past _ q) h.spelled;
+    }
+
+-- where no message is given the feeds stay
+pub same_feeds : (past : List Entry) (e : Entry) (feeds : List FeedContent) → ((j : ℕ) → given_in j e.input e.effects.message ≡ None) → FeedsFit past feeds → FeedsFit (past ++ e ∷ []) feeds
+same_feeds past e feeds none h = record {
+  each = λ j f at. subst (λ g. FeedFits g f) (sym (given-snoc past e j ∙ ap (λ o. given past j ++ cons_option o []) (none j) ∙ append-nil (given past j))) (h.each j f at);
+}

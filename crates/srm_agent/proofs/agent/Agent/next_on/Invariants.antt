@@ -1,0 +1,13 @@
+use Rattle.std.proofs.Common.{◌≡◌, ◌<◌, ℕ, List, Some, false}
+use Rattle.srm_names.specs.declared.page_msg.PageMsg.{PageMsg}
+use Rattle.srm_agent.specs.declared.entry.Entry.{Entry}
+use Rattle.srm_agent.specs.Configs.{Config}
+use Rattle.srm_agent.specs.Feeds.{FeedFits}
+use Rattle.srm_agent.specs.Fits.{Fits}
+use Rattle.srm_agent.specs.Giving.{has_more}
+use Rattle.srm_agent.proofs.agent.Agent.next_on.Given as goal
+
+abbrev pub invariant-loop-number : goal.invariant-loop-number
+invariant-loop-number g l = record {
+  none : (c : Config) (made : ℕ) (past : List Entry) (given : List PageMsg) → Fits c made past l.fn.self → FeedFits given l.fn.feed → (source : ℕ) → source < l.number → has_more past given (Some l.fn.page) source ≡ false;
+}

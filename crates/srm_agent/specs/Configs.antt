@@ -1,0 +1,30 @@
+-- The settings of one member, as contracts see them.
+use Rattle.std.specs.Prelude.{ℕ, ◌<◌, ◌≤◌}
+use Rattle.srm_names.specs.declared.limits.TheConstants.{MEMBERS}
+use Rattle.srm_bucket.specs.declared.limits.TheConstants.{LEAST_RATE, GREATEST_RATE, LEAST_DEPTH, GREATEST_DEPTH}
+use Rattle.srm_timers.specs.declared.limits.TheConstants.{TIMER_SETTING}
+
+-- The roster is the members below `members`. The rate is in bytes a second, the depth in bytes; a request waits from c1 to
+-- c1 + c2 distances, a repair from d1 to d1 + d2.
+pub record Config : Type 0 where
+  pub me : ℕ
+  pub members : ℕ
+  pub session : ℕ
+  pub rate : ℕ
+  pub depth : ℕ
+  pub c1 : ℕ
+  pub c2 : ℕ
+  pub d1 : ℕ
+  pub d2 : ℕ
+
+pub record IsConfig (c : Config) : Type 0 where
+  pub in_roster : c.me < c.members
+  pub members : c.members ≤ MEMBERS
+  pub least_rate : LEAST_RATE ≤ c.rate
+  pub greatest_rate : c.rate ≤ GREATEST_RATE
+  pub least_depth : LEAST_DEPTH ≤ c.depth
+  pub greatest_depth : c.depth ≤ GREATEST_DEPTH
+  pub c1 : c.c1 ≤ TIMER_SETTING
+  pub c2 : c.c2 ≤ TIMER_SETTING
+  pub d1 : c.d1 ≤ TIMER_SETTING
+  pub d2 : c.d2 ≤ TIMER_SETTING

@@ -1,0 +1,51 @@
+-- What an agent keeps.
+use Rattle.std.specs.Prelude.{◌≡◌, ℕ, ◌≤◌, List, length}
+use Rattle.srm_names.specs.declared.limits.TheConstants.{MOMENT, PAGES}
+use Rattle.srm_names.specs.declared.page.Page.{Page}
+use Rattle.srm_store.specs.Stores.{StoreContent}
+use Rattle.srm_distance.specs.Content.{Content as DistancesContent}
+use Rattle.srm_timers.specs.AskCalls.{AskContent}
+use Rattle.srm_timers.specs.FixCalls.{FixContent}
+use Rattle.srm_bucket.specs.Content.{Content as BucketContent}
+use Rattle.srm_agent.specs.declared.entry.AgentState.{AgentState}
+use Rattle.srm_agent.specs.declared.out.Outgoing.{Outgoing}
+use Rattle.srm_agent.specs.declared.agent.Agent.TheInside.{Inside}
+use Rattle.srm_agent.specs.Configs.{Config}
+use Rattle.srm_agent.specs.Feeds.{FeedContent}
+
+pub record Content (W : Type 0) : Type 0 where
+  pub config : Config
+  pub words : W
+  pub state : AgentState
+  pub last : ℕ
+  pub showing : Page
+  pub pages : List Page
+  pub feeds : List FeedContent
+  pub store : StoreContent
+  pub distances : DistancesContent
+  pub asks : AskContent
+  pub fixes : FixContent
+  pub bucket : BucketContent Outgoing
+  pub due : ℕ
+
+abbrev pub content_of : {W : Type 0} → Inside W → Content W
+content_of a = record {
+  config = a.config;
+  words = a.words;
+  state = a.state;
+  last = a.last;
+  showing = a.showing;
+  pages = a.pages;
+  feeds = a.feeds.items;
+  store = a.store;
+  distances = a.distances;
+  asks = a.asks;
+  fixes = a.fixes;
+  bucket = a.bucket;
+  due = a.due;
+}
+
+-- a slot has a feed, whether it has a page or not
+pub record IsWhole {W : Type 0} (a : Inside W) : Type 0 where
+  pub last : a.last ≤ MOMENT
+  pub feeds : length a.feeds.items ≡ PAGES

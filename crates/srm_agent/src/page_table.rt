@@ -1,0 +1,87 @@
+//! The pages of one member, each in its slot.
+
+ghost use Rattle.std.specs.Prelude.{◌≡◌, [], ◌∷◌, not, false, slice_get, length, IfOk};
+ghost use Rattle.std.specs.List.{list_any};
+ghost use Rattle.srm_names.specs.Names.{first_page, same_page};
+ghost use Rattle.srm_agent.specs.PageTables.{lacks_room, with_page};
+
+use srm_names::{Member, PAGES, Page};
+use std::alloc::{AllocError, Global};
+use std::marker::Model;
+
+/// At most eight pages, each once, by slot. Contracts see the list.
+#[derive(Drop)]
+pub struct PageTable {
+    /// It has room for all eight from the start, so that no page is refused for memory.
+    pages: Vec<Page>,
+}
+
+impl Model for PageTable {
+    ghost use Rattle.std.specs.Prelude.{List};
+    ghost use Rattle.srm_names.specs.declared.page.Page.{Page as APage};
+    ghost use Rattle.srm_agent.specs.PageTables.{IsRoomyTable};
+
+    ghost Value = { List APage };
+
+    ghost view = { λ t. t.pages.items };
+
+    ghost invariant = { IsRoomyTable };
+}
+
+impl PageTable {
+    /// The table with the first page alone. Only want of memory refuses it.
+    pub fn new(alloc: Global) -> Result<PageTable, AllocError>
+        ensures { IfOk result (λ table. table ≡ first_page ∷ []) }
+    {
+        let mut pages = Vec::with_capacity(alloc, usize::from(PAGES))?;
+        pages.push(first_page())?;
+        Ok(PageTable { pages })
+    }
+
+    /// The pages, by slot.
+    pub fn as_slice(&self) -> &[Page]
+        ensures { result.now ≡ self.now }
+    {
+        self.pages.as_slice()
+    }
+
+    /// The page of a slot.
+    pub fn get(&self, slot: u8) -> Option<Page>
+        ensures { result ≡ slice_get self.now slot }
+    {
+        self.pages.get(usize::from(slot)).copied()
+    }
+
+    /// Whether a page is in the table, or finds room there.
+    pub fn has_room(&self, page: &Page) -> bool
+        ensures { result ≡ not (lacks_room self.now page.now) }
+    {
+        holds(&self.pages, page) || self.pages.len() < usize::from(PAGES)
+    }
+
+    /// Adds a page, unless it is there. It takes no memory.
+    pub fn add(&mut self, page: Page)
+        requires { lacks_room self.old page ≡ false }
+        ensures { self.new ≡ with_page self.old page }
+    {
+        if !holds(&self.pages, &page) {
+            self.pages.push(page).unwrap();
+        }
+    }
+}
+
+fn holds(pages: &[Page], page: &Page) -> bool
+    ensures { result ≡ list_any (λ other. same_page other page.now) pages.now }
+{
+    pages.iter().any(|other| other == page)
+}
+
+/// The page that each member has from the start.
+pub fn first_page() -> Page
+    ensures { result ≡ first_page }
+{
+    Page {
+        creator: Member::new(0).unwrap(),
+        number: 0,
+    }
+}
