@@ -1,0 +1,26 @@
+-- All that holds of an honest run, and of the run of one member.
+use Rattle.srm_agent.proofs.Given.{gives_law}
+use Rattle.srm_agent.proofs.Responding.{response_law}
+use Rattle.srm_agent.specs.Runs.{IsMemberRun}
+use Rattle.srm_world.specs.Traces.{Trace, Journal, IsRun, IsHonest}
+use Rattle.srm_world.specs.Claims.{IsLawful, IsLawfulJournal}
+use Rattle.srm_world.proofs.Members.{responds_each, gives_each}
+use Rattle.srm_world.proofs.Taking.{takes_law}
+use Rattle.srm_world.proofs.Resting.{rest_law}
+
+pub lawful : (t : Trace) → IsRun t → IsHonest t.entries → IsLawful t
+lawful t run honest = record {
+  run = run;
+  honest = honest;
+  takes = takes_law t run honest;
+  rest = rest_law t run honest;
+  responds = responds_each t run;
+  gives = gives_each t run;
+}
+
+pub lawful_journal : (j : Journal) → IsMemberRun j.start.config j.start.made j.entries → IsLawfulJournal j
+lawful_journal j run = record {
+  run = run;
+  responds = response_law j.start.config j.start.made j.entries run;
+  gives = gives_law j.start.config j.start.made j.entries run;
+}

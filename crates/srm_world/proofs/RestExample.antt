@@ -1,0 +1,236 @@
+-- An honest run of two members that are at rest, after one drawop and a report of each: the premises of the law of rest can be met.
+use Rattle.std.proofs.Common.{◌≡◌, ℕ, ◌<◌, Bool, true, false, ◌&&◌, List, [], ◌∷◌, ◌++◌, map, refl, ap, sym, ◌∙◌, subst, arith, lit<, lit≤}
+use Rattle.std.specs.Prelude.{Some, None, option_map, nat_lt, if◌then◌else◌}
+use Rattle.std.specs.List.{AllByRecursion}
+use Rattle.srm_names.specs.declared.stream.Stream.{Stream}
+use Rattle.srm_names.specs.FullName.{FullName}
+use Rattle.srm_names.specs.Histories.{steps, greatest}
+use Rattle.srm_names.specs.Names.{first_page, named, same_page, same_stream}
+use Rattle.srm_names.proofs.Same.{same_stream-is}
+use Rattle.srm_codec.specs.declared.datagram.Datagram.{Datagram}
+use Rattle.srm_codec.specs.declared.datagram.Datagram.TheVariants.{Data, Session}
+use Rattle.srm_codec.specs.Spelling.{IsSpellable}
+use Rattle.srm_bucket.specs.declared.class.Class.{Class}
+use Rattle.srm_bucket.specs.declared.class.Class.TheVariants.{Shown, New, Other}
+use Rattle.srm_bucket.specs.Calls.{Classed, Call, Handed, Popped}
+use Rattle.srm_bucket.specs.Classes.{rank, handed, gone}
+use Rattle.srm_bucket.specs.Law.{IsPrefixOf, BucketLaw, GoesRight as CallRight}
+use Rattle.srm_agent.specs.Configs.{Config}
+use Rattle.srm_agent.specs.declared.entry.Entry.{Entry}
+use Rattle.srm_agent.specs.declared.entry.AgentState.TheVariants.{Active}
+use Rattle.srm_agent.specs.declared.entry.Input.TheVariants.{Drew, Heard, Ticked}
+use Rattle.srm_agent.specs.Entries.{shown, known, is_missing, released}
+use Rattle.srm_agent.specs.Sessions.{row_due, row_at, if_positive, ReportRight}
+use Rattle.srm_agent.specs.Bucket.{Going, classed, bucket_calls}
+use Rattle.srm_agent.specs.Verdicts.{stream_on}
+use Rattle.srm_agent.specs.Runs.{EntryRight, IsMemberRun}
+use Rattle.srm_world.specs.Traces.{Trace, of_member, IsHonest, IsRun}
+use Rattle.srm_world.specs.Claims.{AtRest}
+use Rattle.srm_agent.proofs.Plain.{zeros, one, config, plain, idle, idle_right, one_spelled, row_spelled, right, one_held, none_missing_in, missing_none, one_of}
+
+abbrev draws : Entry
+draws = plain 0 1 (Drew first_page (97 ∷ [])) (Some one) [] None Active
+
+abbrev report_of_0 : Datagram
+report_of_0 = Session 0 1000000 false first_page (named zeros 1 ∷ []) []
+
+abbrev sends : Entry
+sends = plain 0 1000000 Ticked None (Data one ∷ report_of_0 ∷ []) None Active
+
+abbrev hears : Entry
+hears = plain 1 1000100 (Heard (Data one)) None [] None Active
+
+abbrev hears_report : Entry
+hears_report = plain 1 1000200 (Heard report_of_0) None [] None Active
+
+abbrev report_of_1 : Datagram
+report_of_1 = Session 1 1000500 false first_page (named zeros 1 ∷ []) (record { member = 0; t1 = 1000000; delay = 300 } ∷ [])
+
+abbrev answers : Entry
+answers = plain 1 1000500 Ticked None (report_of_1 ∷ []) None Active
+
+abbrev hears_back : Entry
+hears_back = plain 0 1000600 (Heard report_of_1) None [] None Active
+
+abbrev entries : List Entry
+entries = draws ∷ sends ∷ hears ∷ hears_report ∷ answers ∷ hears_back ∷ []
+
+report_of_0_spelled : IsSpellable report_of_0
+report_of_0_spelled = (lit< tt, lit≤ tt, (lit< tt, lit< tt), record { few = lit< tt; names = (row_spelled, tt); rising = refl; sources = ((λ e. refl), tt) }, record { few = lit< tt; each = tt; rising = refl })
+
+report_of_1_spelled : IsSpellable report_of_1
+report_of_1_spelled = (
+  lit< tt,
+  lit≤ tt,
+  (lit< tt, lit< tt),
+  record { few = lit< tt; names = (row_spelled, tt); rising = refl; sources = ((λ e. absurd (grind arith)), tt) },
+  record { few = lit< tt; each = ((lit< tt, lit≤ tt, lit≤ tt), tt); rising = refl },
+)
+
+-- neither misses anything at any time
+
+one_known : (n : FullName) → same_stream n.stream zeros ≡ false → greatest (one_of (same_stream n.stream zeros) ++ []) ≡ 0
+one_known n e = ap (λ b. greatest (one_of b ++ [])) e
+
+twice_known : (n : FullName) → same_stream n.stream zeros ≡ false → greatest (one_of (same_stream n.stream zeros) ++ (one_of (same_stream n.stream zeros) ++ [])) ≡ 0
+twice_known n e = ap (λ b. greatest (one_of b ++ (one_of b ++ []))) e
+
+missing_drawn : (n : FullName) → is_missing (draws ∷ []) n ≡ false
+missing_drawn n = none_missing_in (draws ∷ []) one_held one_known n
+
+missing_sent : (n : FullName) → is_missing (draws ∷ sends ∷ []) n ≡ false
+missing_sent n = none_missing_in (draws ∷ sends ∷ []) one_held one_known n
+
+missing_told : (n : FullName) → is_missing (draws ∷ sends ∷ hears_back ∷ []) n ≡ false
+missing_told n = none_missing_in (draws ∷ sends ∷ hears_back ∷ []) one_held twice_known n
+
+missing_heard : (n : FullName) → is_missing (hears ∷ []) n ≡ false
+missing_heard n = none_missing_in (hears ∷ []) one_held one_known n
+
+missing_reported : (n : FullName) → is_missing (hears ∷ hears_report ∷ []) n ≡ false
+missing_reported n = none_missing_in (hears ∷ hears_report ∷ []) one_held twice_known n
+
+missing_answered : (n : FullName) → is_missing (hears ∷ hears_report ∷ answers ∷ []) n ≡ false
+missing_answered n = none_missing_in (hears ∷ hears_report ∷ answers ∷ []) one_held twice_known n
+
+-- the rows of the reports are those due
+rows_right : (c : Config) (before : List Entry) (now : ℕ) → (row_at (named zeros 1 ∷ []) zeros ≡ row_due c before false zeros) → ((s : Stream) → same_stream s zeros ≡ false → known before s ≡ 0)
+    → ReportRight c before now false (named zeros 1 ∷ [])
+rows_right c before now here there = record { in_order = refl; exact = λ s. go s (same_stream s zeros) refl }
+  where
+    empty : (b : Bool) → (if b then if_positive 0 else None) ≡ None
+    empty true = refl
+    empty false = refl
+
+    go : (s : Stream) (b : Bool) → same_stream s zeros ≡ b → row_at (named zeros 1 ∷ []) s ≡ row_due c before false s
+    go s true e = subst (λ (x : Stream). row_at (named zeros 1 ∷ []) x ≡ row_due c before false x) (sym (same_stream-is s zeros e)) here
+    go s false e =
+        ap (λ b. option_map (λ (n : FullName). n.number) (if b then Some (named zeros 1) else None)) e
+        ∙ sym (ap (λ k. if same_page s.page (shown before) && nat_lt s.source c.members then if_positive k else None) (there s e) ∙ empty (same_page s.page (shown before) && nat_lt s.source c.members))
+
+-- the member that drew
+
+each_0 : AllByRecursion (EntryRight (config 0) 0) (steps (draws ∷ sends ∷ hears_back ∷ []))
+each_0 = (
+  right (config 0) 0 [] 0 1 (Drew first_page (97 ∷ [])) (Some one) [] None Active missing_none missing_drawn (λ n. refl) (λ n. refl) refl (lit≤ tt) refl refl tt tt tt refl refl refl,
+  (
+    right (config 0) 0 (draws ∷ []) 0 1000000 Ticked None (Data one ∷ report_of_0 ∷ []) None Active missing_drawn missing_sent (λ n. refl) (λ n. refl) refl (lit≤ tt) refl refl
+        (refl, (refl, tt)) (one_spelled, (report_of_0_spelled, tt)) tt
+        (report_of_0, refl, (refl, refl, refl, refl, refl, rows_right (config 0) (draws ∷ []) 1000000 refl (λ s e. ap (λ b. greatest (one_of b ++ [])) e))) refl refl,
+    (right (config 0) 0 (draws ∷ sends ∷ []) 0 1000600 (Heard report_of_1) None [] None Active missing_sent missing_told (λ n. refl) (λ n. refl) refl (lit≤ tt) (refl, refl) refl tt tt report_of_1_spelled refl refl refl, tt),
+  ),
+)
+
+abbrev one_data : Classed Datagram
+one_data = classed New (Data one)
+
+abbrev goings_0 : List Going
+goings_0 = idle draws ∷ record { entry = sends; goes = one_data ∷ [] } ∷ idle hears_back ∷ []
+
+abbrev handed_one : List (Call Datagram)
+handed_one = Handed one_data ∷ []
+
+abbrev went_one : List (Call Datagram)
+went_one = handed_one ++ Popped 1000000 (Some one_data) ∷ []
+
+law_0 : BucketLaw 8000 4204 (bucket_calls 0 goings_0)
+law_0 = (hands, (goes, (ends, tt)))
+  where
+    hands : CallRight 8000 4204 [] handed_one (Handed one_data)
+    hands = record { in_order = λ class. (handed class handed_one, refl); highest_first = tt; not_too_much = tt; all_that_may = tt }
+
+    all_gone : (class : Class) → IsPrefixOf (gone class went_one) (handed class went_one)
+    all_gone Shown = ([], refl)
+    all_gone New = ([], refl)
+    all_gone Other = ([], refl)
+
+    none_higher : (class : Class) → rank class < 2 → gone class handed_one ≡ handed class handed_one
+    none_higher Shown l = refl
+    none_higher New l = absurd (omega arith)
+    none_higher Other l = absurd (omega arith)
+
+    goes : CallRight 8000 4204 handed_one went_one (Popped 1000000 (Some one_data))
+    goes = record { in_order = all_gone; highest_first = none_higher; not_too_much = (lit≤ tt, lit≤ tt, tt); all_that_may = tt }
+
+    ends : CallRight 8000 4204 went_one (went_one ++ Popped 1000000 None ∷ []) (Popped 1000000 None)
+    ends = record { in_order = all_gone; highest_first = tt; not_too_much = (lit≤ tt, lit≤ tt, tt); all_that_may = tt }
+
+run_0 : IsMemberRun (config 0) 0 (of_member 0 entries)
+run_0 = record { each = each_0; bucket = (goings_0, refl, (idle_right refl, (record { same = refl; at_ticks = tt }, (idle_right refl, tt))), law_0) }
+
+-- the member that heard of it
+
+each_1 : AllByRecursion (EntryRight (config 1) 0) (steps (hears ∷ hears_report ∷ answers ∷ []))
+each_1 = (
+  right (config 1) 0 [] 1 1000100 (Heard (Data one)) None [] None Active missing_none missing_heard (λ n. refl) (λ n. refl) refl (lit≤ tt) (refl, refl) refl tt tt one_spelled refl refl refl,
+  (
+    right (config 1) 0 (hears ∷ []) 1 1000200 (Heard report_of_0) None [] None Active missing_heard missing_reported (λ n. refl) (λ n. refl) refl (lit≤ tt) (refl, refl) refl tt tt report_of_0_spelled refl refl refl,
+    (
+      right (config 1) 0 (hears ∷ hears_report ∷ []) 1 1000500 Ticked None (report_of_1 ∷ []) None Active missing_reported missing_answered (λ n. refl) (λ n. refl) refl (lit≤ tt) refl refl
+          (refl, tt) (report_of_1_spelled, tt) tt
+          (report_of_1, refl, (refl, refl, refl, refl, refl, rows_right (config 1) (hears ∷ hears_report ∷ []) 1000500 refl (λ s e. ap (λ b. greatest (one_of b ++ (one_of b ++ []))) e))) refl refl,
+      tt,
+    ),
+  ),
+)
+
+law_1 : BucketLaw 8000 4204 (bucket_calls 1 (map idle (hears ∷ hears_report ∷ answers ∷ [])))
+law_1 = (record { in_order = λ class. ([], refl); highest_first = tt; not_too_much = (lit≤ tt, lit≤ tt, tt); all_that_may = tt }, tt)
+
+run_1 : IsMemberRun (config 1) 0 (of_member 1 entries)
+run_1 = record { each = each_1; bucket = (map idle (hears ∷ hears_report ∷ answers ∷ []), refl, (idle_right refl, (idle_right refl, (idle_right refl, tt))), law_1) }
+
+-- both
+
+abbrev pub trace : Trace
+trace = record { starts = record { config = config 0; made = 0 } ∷ record { config = config 1; made = 0 } ∷ []; entries = entries }
+
+pub run : IsRun trace
+run = record {
+  roster = record { places = ((refl, refl), ((refl, refl), tt)); session = ((refl, (refl, tt)), ((refl, (refl, tt)), tt)) };
+  inside = (lit< tt, (lit< tt, (lit< tt, (lit< tt, (lit< tt, (lit< tt, tt))))));
+  each = (run_0, (run_1, tt));
+}
+
+pub honest : IsHonest trace.entries
+honest = (tt, (tt, ((0, lit< tt, refl), ((1, lit< tt, refl), (tt, ((2, lit< tt, refl), tt))))))
+
+once_or_twice : (b : Bool) → greatest (one_of b ++ []) ≡ greatest (one_of b ++ (one_of b ++ []))
+once_or_twice true = refl
+once_or_twice false = refl
+
+pub at_rest : AtRest trace.entries 0 1 first_page
+at_rest = record {
+  one = record {
+    report = report_of_1;
+    before = draws ∷ sends ∷ hears ∷ hears_report ∷ [];
+    sending = answers;
+    after = hears_back ∷ [];
+    split = refl;
+    of_k = refl;
+    sent = (0, lit< tt, refl);
+    is_report = (refl, refl, refl);
+    came = (0, lit< tt, refl);
+    same = λ source. refl;
+  };
+  other = record {
+    report = report_of_0;
+    before = draws ∷ [];
+    sending = sends;
+    after = hears ∷ hears_report ∷ answers ∷ hears_back ∷ [];
+    split = refl;
+    of_k = refl;
+    sent = (1, lit< tt, refl);
+    is_report = (refl, refl, refl);
+    came = (1, lit< tt, refl);
+    same = λ source. once_or_twice (same_stream (stream_on source first_page) zeros);
+  };
+  one_complete = λ n e. missing_told n;
+  other_complete = λ n e. missing_answered n;
+}
+
+pub agreed : released (of_member 0 trace.entries) zeros ≡ one ∷ []
+agreed = refl
+
+pub agreed_too : released (of_member 1 trace.entries) zeros ≡ one ∷ []
+agreed_too = refl

@@ -1,0 +1,195 @@
+-- An honest run in which one member draws, sends and leaves, and the other hears it all, gives it and has it taken: the
+-- premises of the law on takes can be met, and those of 'the whole' too.
+use Rattle.std.proofs.Common.{◌≡◌, ◌==◌, ◌<◌, Bool, true, false, List, [], ◌∷◌, ◌++◌, map, refl, ap, sym, arith, lit<, lit≤}
+use Rattle.std.specs.Prelude.{Option, Some, None, IfSome, if◌then◌else◌, option_map}
+use Rattle.std.specs.List.{AllByRecursion}
+use Rattle.srm_names.specs.declared.stream.Stream.{Stream}
+use Rattle.srm_names.specs.declared.page_msg.PageMsg.{PageMsg}
+use Rattle.srm_names.specs.declared.page_msg.PageMsg.TheVariants.{Open, Draw, Left}
+use Rattle.srm_names.specs.FullName.{FullName}
+use Rattle.srm_names.specs.Histories.{steps, greatest}
+use Rattle.srm_names.specs.Names.{first_page, named, same_stream}
+use Rattle.srm_names.proofs.Same.{same_stream-is}
+use Rattle.srm_codec.specs.declared.datagram.Datagram.{Datagram}
+use Rattle.srm_codec.specs.declared.datagram.Datagram.TheVariants.{Data, Session}
+use Rattle.srm_codec.specs.Spelling.{IsSpellable}
+use Rattle.srm_bucket.specs.declared.class.Class.{Class}
+use Rattle.srm_bucket.specs.declared.class.Class.TheVariants.{Shown, New, Other}
+use Rattle.srm_bucket.specs.Calls.{Classed, Call, Handed, Popped}
+use Rattle.srm_bucket.specs.Classes.{rank, handed, gone}
+use Rattle.srm_bucket.specs.Law.{IsPrefixOf, BucketLaw, GoesRight as CallRight}
+use Rattle.srm_agent.specs.declared.entry.Entry.{Entry}
+use Rattle.srm_agent.specs.declared.entry.AgentState.TheVariants.{Active, Leaving, Gone}
+use Rattle.srm_agent.specs.declared.entry.Input.{Input}
+use Rattle.srm_agent.specs.declared.entry.Input.TheVariants.{Drew, Heard, Ticked, AskedLeave, Gave, Took}
+use Rattle.srm_agent.specs.Entries.{heard_in, is_missing, state}
+use Rattle.srm_agent.specs.Timers.{asker, fix_running}
+use Rattle.srm_agent.specs.Verdicts.{VerdictRight}
+use Rattle.srm_agent.specs.Sessions.{SessionRight, ReportRight, row_at, row_due, if_positive}
+use Rattle.srm_agent.specs.Bucket.{Going, GoesRight, classed, bucket_calls}
+use Rattle.srm_agent.specs.Giving.{MessageRight}
+use Rattle.srm_agent.specs.Runs.{EntryRight, IsMemberRun, MomentRight, drawop_due, state_due}
+use Rattle.srm_agent.specs.declared.entry.Verdict.TheVariants.{Done}
+use Rattle.srm_world.specs.Traces.{Trace, taken_by, IsRun, IsHonest}
+use Rattle.srm_agent.proofs.Plain.{zeros, one, config, plain, idle, idle_right, one_spelled, row_spelled, neither, right, one_held, none_missing_in, missing_none, one_of}
+
+abbrev draws : Entry
+draws = plain 0 1 (Drew first_page (97 ∷ [])) (Some one) [] None Active
+
+abbrev sends : Entry
+sends = plain 0 4 Ticked None (Data one ∷ []) None Active
+
+abbrev asks_leave : Entry
+asks_leave = plain 0 20 AskedLeave None [] None Leaving
+
+abbrev farewell : Datagram
+farewell = Session 0 21 true first_page (named zeros 1 ∷ []) []
+
+farewell_spelled : IsSpellable farewell
+farewell_spelled = (lit< tt, lit≤ tt, (lit< tt, lit< tt), record { few = lit< tt; names = (row_spelled, tt); rising = refl; sources = ((λ e. refl), tt) }, record { few = lit< tt; each = tt; rising = refl })
+
+abbrev parts : Entry
+parts = plain 0 21 Ticked None (farewell ∷ []) None Gone
+
+abbrev hears : Entry
+hears = plain 1 30 (Heard (Data one)) None [] None Active
+
+abbrev hears_parting : Entry
+hears_parting = plain 1 31 (Heard farewell) None [] None Active
+
+abbrev gives : PageMsg → Entry
+gives m = plain 1 31 (Gave 0) None [] (Some m) Active
+
+abbrev takes : PageMsg → Entry
+takes m = plain 1 31 (Took 0) None [] (Some m) Active
+
+abbrev opens : PageMsg
+opens = Open first_page
+
+missing_drawn : (n : FullName) → is_missing (draws ∷ []) n ≡ false
+missing_drawn n = none_missing_in (draws ∷ []) one_held (λ n e. ap (λ b. greatest (one_of b ++ [])) e) n
+
+missing_told : (n : FullName) → is_missing (hears ∷ hears_parting ∷ []) n ≡ false
+missing_told n = none_missing_in (hears ∷ hears_parting ∷ []) one_held (λ n e. ap (λ b. greatest (one_of b ++ (one_of b ++ []))) e) n
+
+-- the member that draws and leaves
+
+row_right : (s : Stream) → row_at (named zeros 1 ∷ []) s ≡ row_due (config 0) (draws ∷ sends ∷ asks_leave ∷ []) true s
+row_right s = which (same_stream s zeros) refl
+  where
+    which : (b : Bool) → same_stream s zeros ≡ b
+        → option_map (λ (n : FullName). n.number) (if b then Some (named zeros 1) else None) ≡ (if s.source == 0 then if_positive (greatest (one_of b ++ [])) else None)
+    which true e = ap (λ (t : Stream). if t.source == 0 then Some 1 else None) (sym (same_stream-is s zeros e))
+    which false e = neither (s.source == 0)
+
+report_right : ReportRight (config 0) (draws ∷ sends ∷ asks_leave ∷ []) 21 true (named zeros 1 ∷ [])
+report_right = record { in_order = refl; exact = row_right }
+
+abbrev first_run : List Entry
+first_run = draws ∷ sends ∷ asks_leave ∷ parts ∷ []
+
+first_each : AllByRecursion (EntryRight (config 0) 0) (steps first_run)
+first_each = (
+  right (config 0) 0 [] 0 1 (Drew first_page (97 ∷ [])) (Some one) [] None Active missing_none missing_drawn (λ n. refl) (λ n. refl) refl (lit≤ tt) refl refl tt tt tt refl refl refl,
+  (
+    right (config 0) 0 (draws ∷ []) 0 4 Ticked None (Data one ∷ []) None Active missing_drawn missing_drawn (λ n. refl) (λ n. refl) refl (lit≤ tt) refl refl (refl, tt) (one_spelled, tt) tt refl refl refl,
+    (
+      right (config 0) 0 (draws ∷ sends ∷ []) 0 20 AskedLeave None [] None Leaving missing_drawn missing_drawn (λ n. refl) (λ n. refl) refl (lit≤ tt) refl refl tt tt tt refl refl refl,
+      (
+        right (config 0) 0 (draws ∷ sends ∷ asks_leave ∷ []) 0 21 Ticked None (farewell ∷ []) None Gone missing_drawn missing_drawn (λ n. refl) (λ n. refl) refl (lit≤ tt) refl refl (refl, tt) (farewell_spelled, tt) tt
+            (farewell, refl, (refl, refl, refl, refl, refl, report_right)) refl refl,
+        tt,
+      ),
+    ),
+  ),
+)
+
+abbrev one_data : Classed Datagram
+one_data = classed New (Data one)
+
+abbrev goings : List Going
+goings = idle draws ∷ record { entry = sends; goes = one_data ∷ [] } ∷ idle asks_leave ∷ idle parts ∷ []
+
+abbrev handed_one : List (Call Datagram)
+handed_one = Handed one_data ∷ []
+
+abbrev went_one : List (Call Datagram)
+went_one = handed_one ++ Popped 4 (Some one_data) ∷ []
+
+first_law : BucketLaw 8000 4204 (bucket_calls 0 goings)
+first_law = (hands, (goes, (ends, (ends_too, tt))))
+  where
+    hands : CallRight 8000 4204 [] handed_one (Handed one_data)
+    hands = record { in_order = λ class. (handed class handed_one, refl); highest_first = tt; not_too_much = tt; all_that_may = tt }
+
+    all_gone : (class : Class) → IsPrefixOf (gone class went_one) (handed class went_one)
+    all_gone Shown = ([], refl)
+    all_gone New = ([], refl)
+    all_gone Other = ([], refl)
+
+    none_higher : (class : Class) → rank class < 2 → gone class handed_one ≡ handed class handed_one
+    none_higher Shown l = refl
+    none_higher New l = absurd (omega arith)
+    none_higher Other l = absurd (omega arith)
+
+    goes : CallRight 8000 4204 handed_one went_one (Popped 4 (Some one_data))
+    goes = record { in_order = all_gone; highest_first = none_higher; not_too_much = (lit≤ tt, lit≤ tt, tt); all_that_may = tt }
+
+    ends : CallRight 8000 4204 went_one (went_one ++ Popped 4 None ∷ []) (Popped 4 None)
+    ends = record { in_order = all_gone; highest_first = tt; not_too_much = (lit≤ tt, lit≤ tt, tt); all_that_may = tt }
+
+    ends_too : CallRight 8000 4204 (went_one ++ Popped 4 None ∷ []) (went_one ++ Popped 4 None ∷ Popped 21 None ∷ []) (Popped 21 None)
+    ends_too = record { in_order = all_gone; highest_first = tt; not_too_much = (lit≤ tt, lit≤ tt, (lit≤ tt, lit≤ tt, tt)); all_that_may = tt }
+
+first_goes : AllByRecursion GoesRight (steps goings)
+first_goes = (idle_right refl, (record { same = refl; at_ticks = tt }, (idle_right refl, (idle_right refl, tt))))
+
+first_right : IsMemberRun (config 0) 0 first_run
+first_right = record { each = first_each; bucket = (goings, refl, first_goes, first_law) }
+
+-- the member that hears, gives and has it taken
+
+abbrev second_run : List Entry
+second_run = hears ∷ hears_parting ∷ gives opens ∷ gives (Draw one) ∷ gives (Left 0) ∷ takes opens ∷ takes (Draw one) ∷ takes (Left 0) ∷ []
+
+abbrev before_gives : List Entry
+before_gives = hears ∷ hears_parting ∷ []
+
+abbrev before_takes : List Entry
+before_takes = before_gives ++ gives opens ∷ gives (Draw one) ∷ gives (Left 0) ∷ []
+
+-- an entry of it at moment 31
+later : (before : List Entry) (input : Input) (message : Option PageMsg) → ((n : FullName) → is_missing before n ≡ false)
+    → ((n : FullName) → is_missing (before ++ plain 1 31 input None [] message Active ∷ []) n ≡ false)
+    → ((n : FullName) → asker n (plain 1 31 input None [] message Active) ≡ None) → ((n : FullName) → fix_running before n ≡ None) → MomentRight (config 1) 0 before (plain 1 31 input None [] message Active)
+    → VerdictRight (config 1) before input Done → None ≡ drawop_due (config 1) before 31 (Some input) → IfSome (heard_in (Some input)) IsSpellable
+    → SessionRight (config 1) 0 before (plain 1 31 input None [] message Active) → MessageRight (config 1) before input message → Active ≡ state_due (state before) false (Some input)
+    → EntryRight (config 1) 0 (record { before = before; this = plain 1 31 input None [] message Active })
+later before input message p1 p2 p3 p4 p5 p6 p7 read p8 p9 p10 = right (config 1) 0 before 1 31 input None [] message Active p1 p2 p3 p4 refl p5 p6 p7 tt tt read p8 p9 p10
+
+second_each : AllByRecursion (EntryRight (config 1) 0) (steps second_run)
+second_each = (right (config 1) 0 [] 1 30 (Heard (Data one)) None [] None Active missing_none missing_drawn (λ n. refl) (λ n. refl) refl (lit≤ tt) (refl, refl) refl tt tt one_spelled refl refl refl, (later (hears ∷ []) (Heard farewell) None missing_drawn missing_told (λ n. refl) (λ n. refl) (lit≤ tt) (refl, refl) refl farewell_spelled refl refl refl, (later before_gives (Gave 0) (Some opens) missing_told missing_told (λ n. refl) (λ n. refl) refl refl refl tt refl (refl, refl) refl, (later (before_gives ++ gives opens ∷ []) (Gave 0) (Some (Draw one)) missing_told missing_told (λ n. refl) (λ n. refl) refl refl refl tt refl (refl, refl, refl) refl, (later (before_gives ++ gives opens ∷ gives (Draw one) ∷ []) (Gave 0) (Some (Left 0)) missing_told missing_told (λ n. refl) (λ n. refl) refl refl refl tt refl (refl, refl, refl) refl, (later before_takes (Took 0) (Some opens) missing_told missing_told (λ n. refl) (λ n. refl) refl refl refl tt refl refl refl, (later (before_takes ++ takes opens ∷ []) (Took 0) (Some (Draw one)) missing_told missing_told (λ n. refl) (λ n. refl) refl refl refl tt refl refl refl, (later (before_takes ++ takes opens ∷ takes (Draw one) ∷ []) (Took 0) (Some (Left 0)) missing_told missing_told (λ n. refl) (λ n. refl) refl refl refl tt refl refl refl, tt))))))))
+
+second_right : IsMemberRun (config 1) 0 second_run
+second_right = record {
+  each = second_each;
+  bucket = (map idle second_run, refl, (idle_right refl, (idle_right refl, (idle_right refl, (idle_right refl, (idle_right refl, (idle_right refl, (idle_right refl, (idle_right refl, tt)))))))), tt);
+}
+
+-- both
+
+abbrev pub trace : Trace
+trace = record { starts = record { config = config 0; made = 0 } ∷ record { config = config 1; made = 0 } ∷ []; entries = first_run ++ second_run }
+
+pub run : IsRun trace
+run = record {
+  roster = record { places = ((refl, refl), ((refl, refl), tt)); session = ((refl, (refl, tt)), ((refl, (refl, tt)), tt)) };
+  inside = (lit< tt, (lit< tt, (lit< tt, (lit< tt, (lit< tt, (lit< tt, (lit< tt, (lit< tt, (lit< tt, (lit< tt, (lit< tt, (lit< tt, tt))))))))))));
+  each = (first_right, (second_right, tt));
+}
+
+pub honest : IsHonest trace.entries
+honest = (tt, (tt, (tt, (tt, ((0, lit< tt, refl), ((1, lit< tt, refl), (tt, (tt, (tt, (tt, (tt, (tt, tt))))))))))))
+
+pub took : taken_by trace.entries 1 0 ≡ opens ∷ Draw one ∷ Left 0 ∷ []
+took = refl

@@ -1,0 +1,287 @@
+-- The definitions at both stored scripts, and at what is skipped.
+use Rattle.std.specs.Prelude.{◌≡◌, ℕ, List, [], ◌∷◌, ◌++◌, map, take, Some, None, refl}
+use Rattle.std.proofs.Common.{lit<}
+use Rattle.srm_names.specs.declared.page.Page.{Page}
+use Rattle.srm_names.specs.declared.page_msg.PageMsg.TheVariants.{Open, Draw, Left}
+use Rattle.srm_names.specs.Names.{first_page, named}
+use Rattle.srm_names.specs.PageFeeds.{drawops_of}
+use Rattle.srm_codec.specs.declared.datagram.Datagram.TheVariants.{Data, Repair}
+use Rattle.srm_agent.specs.declared.entry.Entry.{Entry}
+use Rattle.srm_agent.specs.declared.entry.Input.{Input}
+use Rattle.srm_agent.specs.declared.entry.Input.TheVariants.{Heard, Noise, Ticked, Showed, AskedLeave, Gave, Took}
+use Rattle.srm_agent.specs.Entries.{sent}
+use Rattle.srm_agent.specs.Giving.{given}
+use Rattle.srm_agent.specs.Sample.{in_roster, zeros, a, b, c, draws, hears, ticks, gives, takes, ask_arm}
+use Rattle.srm_agent.specs.FirstScript as first
+use Rattle.srm_agent.specs.SecondScript as second
+use Rattle.srm_world.specs.declared.event.Event.{Event}
+use Rattle.srm_world.specs.declared.event.Event.TheVariants as events
+use Rattle.srm_world.specs.declared.start.Start.{Start}
+use Rattle.srm_world.specs.Traces.{of_member, drawn_by, taken_by, IsHonest}
+use Rattle.srm_world.specs.Events.{member_of, moment_in, moment_of, asked, last_of_member, IsEntryOf, Follows}
+
+abbrev start : ℕ → ℕ → Start
+start members me = record { config = in_roster me members 4204; made = 0 }
+
+abbrev two : List Start
+two = map (start 2) (0 ∷ 1 ∷ [])
+
+abbrev three : List Start
+three = map (start 3) (0 ∷ 1 ∷ 2 ∷ [])
+
+-- the entry that an event leaves, by its member, its input and its moment
+is : {starts : List Start} {es : List Entry} {event : Event} {input : Input} {e : Entry} → e.member ≡ member_of event → e.input ≡ input
+    → e.moment ≡ moment_of (last_of_member starts es (member_of event)) (moment_in event) → IsEntryOf starts es event input e
+is p q r = record { member = p; input_is = q; moment = r }
+
+-- the first script: late, out of order and twice
+abbrev three_drawn : List Event
+three_drawn = events.Draw 0 1 first_page (97 ∷ []) ∷ events.Draw 0 2 first_page (98 ∷ []) ∷ events.Draw 0 3 first_page (99 ∷ []) ∷ events.Tick 0 4 ∷ []
+
+abbrev first_events : List Event
+first_events = three_drawn ++ events.Deliver 1 10 2 ∷ events.Deliver 1 11 0 ∷ events.Deliver 1 12 0 ∷ events.Deliver 1 13 1
+    ∷ map (events.Give 1) (0 ∷ 0 ∷ 0 ∷ 0 ∷ 0 ∷ []) ++ map (events.Take 1) (0 ∷ 0 ∷ 0 ∷ 0 ∷ 0 ∷ [])
+
+abbrev first_trace : List Entry
+first_trace = first.member_0 ++ first.member_1
+
+first_follows : Follows two [] first_events first_trace
+first_follows = (
+  take 1 first_trace,
+  (draws 0 1 a, is refl refl refl, refl),
+  (
+    take 2 first_trace,
+    (draws 0 2 b, is refl refl refl, refl),
+    (
+      take 3 first_trace,
+      (draws 0 3 c, is refl refl refl, refl),
+      (
+        take 4 first_trace,
+        (ticks 0 4 [] [] [] (Data a ∷ Data b ∷ Data c ∷ []), is refl refl refl, refl),
+        (
+          take 5 first_trace,
+          (hears 1 10 (Data c) (ask_arm 1 0 200000 ∷ ask_arm 2 0 200000 ∷ []), is refl refl refl, refl),
+          (
+            take 6 first_trace,
+            (hears 1 11 (Data a) [], is refl refl refl, refl),
+            (
+              take 7 first_trace,
+              (hears 1 12 (Data a) [], is refl refl refl, refl),
+              (
+                take 8 first_trace,
+                (hears 1 13 (Data b) [], is refl refl refl, refl),
+                (
+                  take 9 first_trace,
+                  (gives 1 13 (Some (Open first_page)), is refl refl refl, refl),
+                  (
+                    take 10 first_trace,
+                    (gives 1 13 (Some (Draw a)), is refl refl refl, refl),
+                    (
+                      take 11 first_trace,
+                      (gives 1 13 (Some (Draw b)), is refl refl refl, refl),
+                      (
+                        take 12 first_trace,
+                        (gives 1 13 (Some (Draw c)), is refl refl refl, refl),
+                        (
+                          take 13 first_trace,
+                          (gives 1 13 None, is refl refl refl, refl),
+                          (
+                            take 14 first_trace,
+                            (takes 1 13 (Some (Open first_page)), is refl refl refl, refl),
+                            (
+                              take 15 first_trace,
+                              (takes 1 13 (Some (Draw a)), is refl refl refl, refl),
+                              (
+                                take 16 first_trace,
+                                (takes 1 13 (Some (Draw b)), is refl refl refl, refl),
+                                (
+                                  take 17 first_trace,
+                                  (takes 1 13 (Some (Draw c)), is refl refl refl, refl),
+                                  (
+                                    take 18 first_trace,
+                                    (takes 1 13 None, is refl refl refl, refl),
+                                    refl,
+                                  ),
+                                ),
+                              ),
+                            ),
+                          ),
+                        ),
+                      ),
+                    ),
+                  ),
+                ),
+              ),
+            ),
+          ),
+        ),
+      ),
+    ),
+  ),
+)
+
+first_own_entries : map (λ m. of_member m first_trace) (0 ∷ 1 ∷ 2 ∷ []) ≡ first.member_0 ∷ first.member_1 ∷ [] ∷ []
+first_own_entries = refl
+
+first_sent : sent first_trace ≡ Data a ∷ Data b ∷ Data c ∷ []
+first_sent = refl
+
+first_is_honest : IsHonest first_trace
+first_is_honest = (tt, (tt, (tt, (tt, ((2, lit< tt, refl), ((0, lit< tt, refl), ((0, lit< tt, refl), ((1, lit< tt, refl), (tt, (tt, (tt, (tt, (tt, (tt, (tt, (tt, (tt, (tt, tt))))))))))))))))))
+
+all_was_taken : drawops_of 0 (taken_by first_trace 1 0) ≡ drawn_by first_trace 0 first_page
+all_was_taken = refl
+
+-- the second script: a source leaves, and what was lost comes from a third member
+abbrev second_events : List Event
+second_events = three_drawn ++ events.Leave 0 20 ∷ events.Tick 0 21 ∷ events.Deliver 2 30 0 ∷ events.Deliver 2 31 1 ∷ events.Deliver 2 32 2
+    ∷ events.Deliver 1 30 0 ∷ events.Deliver 1 31 2 ∷ events.Deliver 1 32 3 ∷ events.Give 1 0 ∷ events.Give 1 0 ∷ events.Give 1 0
+    ∷ events.Tick 1 200030 ∷ events.Tick 1 200031 ∷ events.Deliver 2 100 4 ∷ events.Tick 2 100099 ∷ events.Tick 2 100100 ∷ events.Deliver 1 200100 5
+    ∷ map (events.Give 1) (0 ∷ 0 ∷ 0 ∷ 0 ∷ [])
+
+abbrev second_trace : List Entry
+second_trace = second.member_0 ++ second.heard_by_2 ++ second.before_repair
+    ++ second.asked_of_2 ∷ ticks 2 100099 [] [] [] [] ∷ second.repairs ∷ second.repaired_at_1 ∷ second.given_late
+
+second_follows : Follows three [] second_events second_trace
+second_follows = (
+  take 1 second_trace,
+  (draws 0 1 a, is refl refl refl, refl),
+  (
+    take 2 second_trace,
+    (draws 0 2 b, is refl refl refl, refl),
+    (
+      take 3 second_trace,
+      (draws 0 3 c, is refl refl refl, refl),
+      (
+        take 4 second_trace,
+        (second.sends, is refl refl refl, refl),
+        (
+          take 5 second_trace,
+          (second.asks_leave, is refl refl refl, refl),
+          (
+            take 6 second_trace,
+            (second.parts, is refl refl refl, refl),
+            (
+              take 7 second_trace,
+              (hears 2 30 (Data a) [], is refl refl refl, refl),
+              (
+                take 8 second_trace,
+                (hears 2 31 (Data b) [], is refl refl refl, refl),
+                (
+                  take 9 second_trace,
+                  (hears 2 32 (Data c) [], is refl refl refl, refl),
+                  (
+                    take 10 second_trace,
+                    (hears 1 30 (Data a) [], is refl refl refl, refl),
+                    (
+                      take 11 second_trace,
+                      (hears 1 31 (Data c) (ask_arm 2 0 200000 ∷ []), is refl refl refl, refl),
+                      (
+                        take 12 second_trace,
+                        (hears 1 32 second.farewell [], is refl refl refl, refl),
+                        (
+                          take 13 second_trace,
+                          (gives 1 32 (Some (Open first_page)), is refl refl refl, refl),
+                          (
+                            take 14 second_trace,
+                            (gives 1 32 (Some (Draw a)), is refl refl refl, refl),
+                            (
+                              take 15 second_trace,
+                              (gives 1 32 None, is refl refl refl, refl),
+                              (
+                                take 16 second_trace,
+                                (ticks 1 200030 [] [] [] [], is refl refl refl, refl),
+                                (
+                                  take 17 second_trace,
+                                  (ticks 1 200031 (named zeros 2 ∷ []) [] (ask_arm 2 1 400000 ∷ []) (second.asks_b ∷ []), is refl refl refl, refl),
+                                  (
+                                    take 18 second_trace,
+                                    (second.asked_of_2, is refl refl refl, refl),
+                                    (
+                                      take 19 second_trace,
+                                      (ticks 2 100099 [] [] [] [], is refl refl refl, refl),
+                                      (
+                                        take 20 second_trace,
+                                        (second.repairs, is refl refl refl, refl),
+                                        (
+                                          take 21 second_trace,
+                                          (second.repaired_at_1, is refl refl refl, refl),
+                                          (
+                                            take 22 second_trace,
+                                            (gives 1 200100 (Some (Draw b)), is refl refl refl, refl),
+                                            (
+                                              take 23 second_trace,
+                                              (gives 1 200100 (Some (Draw c)), is refl refl refl, refl),
+                                              (
+                                                take 24 second_trace,
+                                                (gives 1 200100 (Some (Left 0)), is refl refl refl, refl),
+                                                (
+                                                  take 25 second_trace,
+                                                  (gives 1 200100 None, is refl refl refl, refl),
+                                                  refl,
+                                                ),
+                                              ),
+                                            ),
+                                          ),
+                                        ),
+                                      ),
+                                    ),
+                                  ),
+                                ),
+                              ),
+                            ),
+                          ),
+                        ),
+                      ),
+                    ),
+                  ),
+                ),
+              ),
+            ),
+          ),
+        ),
+      ),
+    ),
+  ),
+)
+
+second_own_entries : map (λ m. of_member m second_trace) (0 ∷ 1 ∷ 2 ∷ []) ≡ second.member_0 ∷ second.member_1 ∷ second.member_2 ∷ []
+second_own_entries = refl
+
+second_sent : sent second_trace ≡ Data a ∷ Data b ∷ Data c ∷ second.farewell ∷ second.asks_b ∷ Repair 2 b ∷ []
+second_sent = refl
+
+second_is_honest : IsHonest second_trace
+second_is_honest = (tt, (tt, (tt, (tt, (tt, (tt, ((0, lit< tt, refl), ((1, lit< tt, refl), ((2, lit< tt, refl), ((0, lit< tt, refl), ((2, lit< tt, refl), ((3, lit< tt, refl), (tt, (tt, (tt, (tt, (tt, ((4, lit< tt, refl), (tt, (tt, ((5, lit< tt, refl), (tt, (tt, (tt, (tt, tt)))))))))))))))))))))))))
+
+given_is_drawn : drawops_of 0 (given (of_member 1 second_trace) 0) ≡ drawn_by second_trace 0 first_page
+given_is_drawn = refl
+
+-- what events ask, and which are skipped: no such member, no such datagram yet, no such slot
+abbrev other_page : Page
+other_page = record { creator = 1; number = 0 }
+
+asked_after : map (asked two first_trace) (events.Show 0 50 other_page ∷ events.Leave 1 50 ∷ events.Tick 1 50 ∷ events.Deliver 1 50 2 ∷ events.Give 1 7 ∷ events.Take 0 7 ∷ [])
+    ≡ Some (Showed other_page) ∷ Some AskedLeave ∷ Some Ticked ∷ Some (Heard (Data c)) ∷ Some (Gave 7) ∷ Some (Took 7) ∷ []
+asked_after = refl
+
+skipped : map (asked two first_trace) (events.Tick 2 50 ∷ events.Deliver 2 50 0 ∷ events.Deliver 1 50 3 ∷ events.Give 1 8 ∷ events.Take 1 8 ∷ []) ≡ None ∷ None ∷ None ∷ None ∷ None ∷ []
+skipped = refl
+
+not_sent_yet : asked two [] (events.Deliver 1 5 0) ≡ None
+not_sent_yet = refl
+
+skipping_follows : Follows two [] (events.Deliver 1 5 0 ∷ []) []
+skipping_follows = ([], refl, refl)
+
+-- a datagram that comes to a gone member is noise
+noise : asked three second_trace (events.Deliver 0 50 5) ≡ Some Noise
+noise = refl
+
+-- a moment before the last one counts as the last
+moments : map (λ m. last_of_member three second_trace m) (0 ∷ 1 ∷ 2 ∷ []) ≡ 21 ∷ 200100 ∷ 100100 ∷ []
+moments = refl
+
+moments_that_count : map (moment_of 21) (Some 22 ∷ Some 5 ∷ None ∷ []) ≡ 22 ∷ 21 ∷ 21 ∷ []
+moments_that_count = refl

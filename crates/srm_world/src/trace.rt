@@ -1,0 +1,38 @@
+//! What several members did.
+
+ghost use Rattle.std.specs.Prelude.{◌≡◌};
+
+use crate::start::Start;
+use srm_agent::Entry;
+use std::marker::Model;
+
+/// How the members of one session began, and what they did, in one order. Contracts see it as a record.
+#[derive(Debug, Drop)]
+pub struct Trace {
+    starts: Vec<Start>,
+    entries: Vec<Entry>,
+}
+
+impl Model for Trace {
+    ghost use Rattle.srm_world.specs.Traces.{Trace as Content};
+
+    ghost Value = { Content };
+
+    ghost view = { λ t. record { starts = t.starts.items; entries = t.entries.items } };
+}
+
+impl Trace {
+    /// How the members began, in order of their numbers.
+    pub fn starts(&self) -> &[Start]
+        ensures { result.now ≡ self.now.starts }
+    {
+        self.starts.as_slice()
+    }
+
+    /// The entries of all members, oldest first.
+    pub fn entries(&self) -> &[Entry]
+        ensures { result.now ≡ self.now.entries }
+    {
+        self.entries.as_slice()
+    }
+}
