@@ -1,10 +1,11 @@
 -- One more drawop of a drawing.
 use Rattle.std.proofs.Common.{◌≡◌, ℕ, ◌+◌, ◌||◌, ◌&&◌, Bool, true, false, not, List, [], ◌∷◌, ◌++◌, length, Some, refl, sym, ap, ◌∙◌, subst, eq-eqb, arith}
+use Rattle.std.specs.Prelude.{is_some}
 use Rattle.std.specs.List.{list_any}
 use Rattle.srm_names.specs.declared.drawop.Drawop.{Drawop}
 use Rattle.srm_names.specs.declared.page.Page.{Page}
 use Rattle.srm_names.specs.declared.page_msg.PageMsg.{PageMsg}
-use Rattle.srm_names.specs.declared.page_msg.PageMsg.TheVariants.{Open, Draw, Close}
+use Rattle.srm_names.specs.declared.page_msg.PageMsg.TheVariants.{Open, Draw, Left, Close}
 use Rattle.srm_names.specs.Histories.{or_else}
 use Rattle.srm_names.specs.PageFeeds.{is_page_feed, continues, page_opened, is_open_at, leaves, is_close, drawops_of}
 use Rattle.srm_names.proofs.Same.{same_page-itself}
@@ -44,3 +45,14 @@ drawing_starts p m l e = subst (λ (k : List PageMsg). IsDrawing p m 0 (k ++ Ope
 -- a page feed with no end may be closed
 pub drawing_closes : (p : Page) (m n : ℕ) (l : List PageMsg) → IsDrawing p m n l → is_page_feed (l ++ Close ∷ []) ≡ true
 drawing_closes p m n l is = is_page_feed-snoc l Close is.feed (ap not is.is_open)
+
+all_three : (a b c : Bool) → a ≡ true → b ≡ false → c ≡ false → (a && not b && not c) ≡ true
+all_three a b c d e f = grind arith
+
+-- and its member may leave it before
+pub drawing_leaves : (p : Page) (m n : ℕ) (l : List PageMsg) → IsDrawing p m n l → is_page_feed (l ++ Left m ∷ []) ≡ true
+drawing_leaves p m n l is = is_page_feed-snoc l (Left m) is.feed (all_three _ _ _ (ap is_some is.page_is) is.is_open is.stays)
+
+pub left_closes : (p : Page) (m n : ℕ) (l k : List PageMsg) → IsDrawing p m n l → k ≡ l ++ Left m ∷ [] → is_page_feed (k ++ Close ∷ []) ≡ true
+left_closes p m n l k is e = subst (λ (x : List PageMsg). is_page_feed (x ++ Close ∷ []) ≡ true) (sym e)
+    (is_page_feed-snoc (l ++ Left m ∷ []) Close (drawing_leaves p m n l is) (ap not (list_any-snoc is_close l (Left m) ∙ ap (λ b. b || false) is.is_open)))

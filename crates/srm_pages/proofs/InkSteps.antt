@@ -1,26 +1,29 @@
 -- Each step keeps the rule of the well.
 use Rattle.std.proofs.Common.{◌≡◌, ◌≢◌, ℕ, ◌+◌, ◌<◌, Bool, true, false, true≢false, cond, eqb, eq-eqb, ne_eqb, List, [], ◌∷◌, ◌++◌, length, set, sym, refl, ap, ◌∙◌, subst, ⊎_elim, append_assoc, append-nil, arith}
-use Rattle.crossbeam_queue.specs.Fifo.{Pushes, Pops, Forks}
+use mathlib.Core.Option.{some}
+use lib.ListN.{get_elem?}
+use Rattle.atomic_table.proofs.Lists.{at_set}
+use Rattle.crossbeam_queue.specs.Fifo.{Pushes, Pops, Forks, Merges, Learns}
 use Rattle.srm_pages.specs.declared.stroke.Stroke.{Stroke}
 use Rattle.srm_pages.specs.declared.ink.InkView.{InkView}
-use Rattle.srm_pages.specs.Ink.{ink_view, reader, new_pen, one_more, strokes_of, FitsInk, InkHolds, Writes, Reads}
-use Rattle.srm_pages.proofs.Views.{all_set, all_one, snoc_cases}
+use Rattle.srm_pages.specs.Ink.{ink_view, reader, new_pen, one_more, with_pen, spent, reader_of, pen_of, strokes_of, KnowsPart, FitsInk, InkHolds, Writes, Reads}
+use Rattle.srm_pages.proofs.Views.{All, all_set, all_one, snoc_cases}
 
 pick_append : (b : Bool) (x : Stroke) (l r m : List Stroke) → r ≡ l ++ m → cond b (x ∷ r) r ≡ cond b (x ∷ l) l ++ m
 pick_append true x l r m e = ap (λ k. x ∷ k) e
 pick_append false x l r m e = e
 
-pub strokes_of-append : (p : ℕ) (l m : List Stroke) → strokes_of p (l ++ m) ≡ strokes_of p l ++ strokes_of p m
-strokes_of-append p [] m = refl
-strokes_of-append p (x ∷ l) m = pick_append (eqb p x.pen) x (strokes_of p l) (strokes_of p (l ++ m)) (strokes_of p m) (strokes_of-append p l m)
+pub part_of_both : (p : ℕ) (l m : List Stroke) → strokes_of p (l ++ m) ≡ strokes_of p l ++ strokes_of p m
+part_of_both p [] m = refl
+part_of_both p (x ∷ l) m = pick_append (eqb p x.pen) x (strokes_of p l) (strokes_of p (l ++ m)) (strokes_of p m) (part_of_both p l m)
 
 mine_more : (p : ℕ) (l items : List Stroke) (x : Stroke) → p ≡ x.pen → strokes_of p (l ++ (items ++ x ∷ [])) ≡ strokes_of p (l ++ items) ++ x ∷ []
 mine_more p l items x e =
-    ap (strokes_of p) (sym (append_assoc l items (x ∷ []))) ∙ strokes_of-append p (l ++ items) (x ∷ []) ∙ ap (λ b. strokes_of p (l ++ items) ++ cond b (x ∷ []) []) (eq-eqb p x.pen e)
+    ap (strokes_of p) (sym (append_assoc l items (x ∷ []))) ∙ part_of_both p (l ++ items) (x ∷ []) ∙ ap (λ b. strokes_of p (l ++ items) ++ cond b (x ∷ []) []) (eq-eqb p x.pen e)
 
 others_same : (p : ℕ) (l items : List Stroke) (x : Stroke) → p ≢ x.pen → strokes_of p (l ++ (items ++ x ∷ [])) ≡ strokes_of p (l ++ items)
 others_same p l items x ne =
-    ap (strokes_of p) (sym (append_assoc l items (x ∷ []))) ∙ strokes_of-append p (l ++ items) (x ∷ []) ∙ ap (λ b. strokes_of p (l ++ items) ++ cond b (x ∷ []) []) (ne_eqb p x.pen ne) ∙ append-nil (strokes_of p (l ++ items))
+    ap (strokes_of p) (sym (append_assoc l items (x ∷ []))) ∙ part_of_both p (l ++ items) (x ∷ []) ∙ ap (λ b. strokes_of p (l ++ items) ++ cond b (x ∷ []) []) (ne_eqb p x.pen ne) ∙ append-nil (strokes_of p (l ++ items))
 
 off : false ≡ true → ⊥
 off e = true≢false (sym e)
@@ -104,5 +107,65 @@ next_pen id v may items views h at =
             pen = λ _. (here, (let q = me.2 in omega arith), sym (h.blank v.made (let q = me.2 in omega arith)));
             reader = λ d. absurd (off d);
           })
+          (snoc_cases (set views id left) right u j e);
+    }
+
+-- the reader takes in the pass of a pen
+pub joins : (id : ℕ) (v : InkView) (other : ℕ) (u : InkView) → v.reads ≡ true → u.writes ≡ true → Merges InkHolds id v other u (with_pen v u) spent
+joins id v other u may writes items views h at two at' =
+    let both = with_pen v u in
+    let my = h.fits id v at in
+    let vs : List InkView = set views id both in
+    let was : get_elem? views other ≡ some u = ⊎_elim (λ x. absurd (two x.0)) (λ x. x.1) (at_set views id other both u at') in
+    let its = (h.fits other u was).pen writes in
+    let seat : ℕ → ℕ = λ k. cond (eqb k u.pen) id (h.seat k) in
+    let here : seat u.pen ≡ id = ap (λ b. cond b id (h.seat u.pen)) (eq-eqb u.pen u.pen refl) in
+    let before : (k : ℕ) → k ≢ u.pen → seat k ≡ h.seat k = (λ k ne. ap (λ b. cond b id (h.seat k)) (ne_eqb k u.pen ne)) in
+    let Now : ℕ → InkView → Type 0 = λ j w. j ≢ other → FitsInk seat h.made h.received items j w in
+    let now : All Now vs = all_set Now views id both (λ _. record { pen = λ _. (here, its.1, its.2); reader = my.reader })
+    (λ j w _ e apart. let f = h.fits j w e in record {
+      pen = λ d. let own = f.pen d in (before w.pen (λ (q : w.pen ≡ u.pen). apart (sym own.0 ∙ ap h.seat q ∙ its.0)) ∙ own.0, own.1, own.2);
+      reader = f.reader;
+    }) in
+    record {
+      seat = seat;
+      made = h.made;
+      received = h.received;
+      blank = h.blank;
+      fits = all_set (FitsInk seat h.made h.received items) vs other spent record { pen = λ d. absurd (off d); reader = λ d. absurd (off d) } (λ j w apart e. now j w e apart);
+    }
+
+-- and learns what the pen's part is
+pub learns_part : (id : ℕ) (v : InkView) → v.reads ≡ true → v.writes ≡ true → Learns InkHolds id v (KnowsPart v)
+learns_part id v may writes items views h at =
+    let my = h.fits id v at in
+    record { sent = (my.pen writes).2 ∙ part_of_both v.pen h.received items ∙ ap (λ l. strokes_of v.pen l ++ strokes_of v.pen items) (sym (my.reader may).1) }
+
+-- and gives the pen's pass back
+pub parts : (id : ℕ) (v : InkView) → v.reads ≡ true → v.writes ≡ true → Forks InkHolds id v (reader_of v) (pen_of v)
+parts id v may writes items views h at =
+    let my = h.fits id v at in
+    let its = my.pen writes in
+    let left = reader_of v in
+    let right = pen_of v in
+    let count = length (set views id left) in
+    let seat : ℕ → ℕ = λ k. cond (eqb k v.pen) count (h.seat k) in
+    let here : seat v.pen ≡ count = ap (λ b. cond b count (h.seat v.pen)) (eq-eqb v.pen v.pen refl) in
+    let before : (k : ℕ) → k ≢ v.pen → seat k ≡ h.seat k = (λ k ne. ap (λ b. cond b count (h.seat k)) (ne_eqb k v.pen ne)) in
+    record {
+      seat = seat;
+      made = h.made;
+      received = h.received;
+      blank = h.blank;
+      fits = λ j u e. ⊎_elim
+          (all_set (FitsInk seat h.made h.received items) views id left
+          record { pen = λ d. absurd (off d); reader = my.reader }
+          (λ k w apart f. let own = h.fits k w f in record {
+            pen = λ d. let mine = own.pen d in (before w.pen (λ (q : w.pen ≡ v.pen). apart (sym mine.0 ∙ ap h.seat q ∙ its.0)) ∙ mine.0, mine.1, mine.2);
+            reader = own.reader;
+          })
+          j u)
+          (λ (t : (j ≡ count) × (right ≡ u)). subst (λ (y : ℕ × InkView). FitsInk seat h.made h.received items y.0 y.1) (λ i. (sym t.0 i, t.1 i))
+          record { pen = λ _. (here, its.1, its.2); reader = λ d. absurd (off d) })
           (snoc_cases (set views id left) right u j e);
     }

@@ -11,15 +11,16 @@ use Rattle.srm_pages.specs.declared.lane.LaneView.{LaneView}
 use Rattle.srm_pages.specs.declared.stroke.Stroke.{Stroke}
 use Rattle.srm_pages.specs.declared.tap.Ended.{Ended}
 use Rattle.srm_pages.specs.declared.tap.Ended.TheVariants.{Closed}
-use Rattle.srm_pages.specs.Seats.{Sight, new_sight}
+use Rattle.srm_pages.specs.Seats.{Sight, Counts, new_sight}
 
--- Which lane it is: the two tables of its channel
+-- Which lane it is, by the two tables of its channel, and how many messages it holds at most
 pub record LaneId : Type 0 where
   pub stamps : TableId
   pub messages : Badge (Key PageMsg)
+  pub capacity : ℕ
 
-abbrev pub lane_of : Pass PageMsg LaneView → LaneId
-lane_of p = record { stamps = p.table_id; messages = p.me.0.of }
+abbrev pub lane_of : Pass PageMsg LaneView → ℕ → LaneId
+lane_of p capacity = record { stamps = p.table_id; messages = p.me.0.of; capacity = capacity }
 
 -- what the feeder has put, how many of these it has seen taken, whether a message came back, the slot, the lane and the board
 pub record FeedView : Type 0 where
@@ -48,10 +49,10 @@ pub record SettledView : Type 0 where
   pub taken : List PageMsg
 
 abbrev pub IsNewFeed : TableId → ℕ → FeedView → Type 0
-IsNewFeed board slot f = (f.put ≡ []) × (f.seen ≡ 0) × (f.lost ≡ false) × (f.slot ≡ slot) × (f.board ≡ board)
+IsNewFeed board slot f = (f.put ≡ []) × (f.seen ≡ 0) × (f.lost ≡ false) × (f.slot ≡ slot) × (f.board ≡ board) × (f.lane.capacity ≡ LANE_MESSAGES)
 
 abbrev pub IsNewTap : TableId → ℕ → TapView → Type 0
-IsNewTap board slot t = (t.taken ≡ []) × (t.slot ≡ slot) × (t.board ≡ board)
+IsNewTap board slot t = (t.taken ≡ []) × (t.slot ≡ slot) × (t.board ≡ board) × Counts t.seat slot []
 
 -- two new ends of the lane of a slot
 abbrev pub AreNewEnds : TableId → ℕ → FeedView → TapView → Type 0

@@ -1,5 +1,5 @@
 -- The definitions at worked examples.
-use Rattle.std.specs.Prelude.{◌≡◌, ℕ, false, List, [], ◌∷◌, length, replicate, slice_index, refl}
+use Rattle.std.specs.Prelude.{◌≡◌, ℕ, false, List, [], ◌∷◌, ◌++◌, length, replicate, slice_index, Ok, Err, refl}
 use Rattle.atomic_table.specs.Seated.{TableId}
 use Rattle.srm_names.specs.declared.drawop.Drawop.{Drawop}
 use Rattle.srm_names.specs.declared.page_msg.PageMsg.{PageMsg}
@@ -7,9 +7,10 @@ use Rattle.srm_names.specs.declared.page_msg.PageMsg.TheVariants.{Open, Draw, Cl
 use Rattle.srm_names.specs.Names.{first_page, named}
 use Rattle.srm_names.specs.PageFeeds.{drawops_of}
 use Rattle.srm_pages.specs.declared.stroke.Stroke.{Stroke}
+use Rattle.srm_pages.specs.declared.tap.Ended.TheVariants.{Closed, Broken}
 use Rattle.srm_pages.specs.Board.{words_of_board}
-use Rattle.srm_pages.specs.Ends.{FeedView, LaneId, credit_of}
-use Rattle.srm_pages.specs.Ink.{strokes_of}
+use Rattle.srm_pages.specs.Ends.{FeedView, TapView, LaneId, TookOrEnded, credit_of}
+use Rattle.srm_pages.specs.Ink.{strokes_of, SentIs}
 use Rattle.srm_pages.specs.Seats.{taken_word, shown_word}
 
 -- The board has a word for each slot's count and one for each slot and member.
@@ -31,24 +32,49 @@ last_count = refl
 last_member : shown_word 7 31 ≡ 263
 last_member = refl
 
--- After the page was opened and member 1 drew twice, three were taken and two of them are shown.
-abbrev drawop : ℕ → Drawop
-drawop number = record { name = named (record { source = 1; page = first_page }) number; stamp = 0; body = [] }
+-- After the page was opened and a member drew twice, three were taken and two of them are shown.
+abbrev drawop : ℕ → ℕ → Drawop
+drawop source number = record { name = named (record { source = source; page = first_page }) number; stamp = 0; body = [] }
 
-abbrev two_drawn : List PageMsg
-two_drawn = Open first_page ∷ Draw (drawop 1) ∷ Draw (drawop 2) ∷ []
+abbrev two_drawn : ℕ → List PageMsg
+two_drawn source = Open first_page ∷ Draw (drawop source 1) ∷ Draw (drawop source 2) ∷ []
 
 abbrev seat : List ℕ
-seat = 3 ∷ 0 ∷ 2 ∷ []
+seat = 3 ∷ 0 ∷ 2 ∷ replicate 261 0
 
-three_taken : slice_index seat (taken_word 0) ≡ length two_drawn
+seat_is_whole : length seat ≡ words_of_board
+seat_is_whole = refl
+
+three_taken : slice_index seat (taken_word 0) ≡ length (two_drawn 1)
 three_taken = refl
 
-two_shown : slice_index seat (shown_word 0 1) ≡ length (drawops_of 1 two_drawn)
+two_shown : slice_index seat (shown_word 0 1) ≡ length (drawops_of 1 (two_drawn 1))
 two_shown = refl
 
-none_of_another : slice_index seat (shown_word 0 31) ≡ length (drawops_of 31 two_drawn)
+none_of_another : slice_index seat (shown_word 0 31) ≡ length (drawops_of 31 (two_drawn 1))
 none_of_another = refl
+
+none_in_another_slot : slice_index seat (taken_word 7) ≡ 0
+none_in_another_slot = refl
+
+-- The same of the last member in the last slot.
+abbrev last_seat : List ℕ
+last_seat = replicate 231 0 ++ 3 ∷ replicate 31 0 ++ 2 ∷ []
+
+last_seat_is_whole : length last_seat ≡ words_of_board
+last_seat_is_whole = refl
+
+three_taken_last : slice_index last_seat (taken_word 7) ≡ length (two_drawn 31)
+three_taken_last = refl
+
+two_shown_last : slice_index last_seat (shown_word 7 31) ≡ length (drawops_of 31 (two_drawn 31))
+two_shown_last = refl
+
+none_of_the_first : slice_index last_seat (shown_word 7 0) ≡ length (drawops_of 0 (two_drawn 31))
+none_of_the_first = refl
+
+none_in_the_slot_before : slice_index last_seat (shown_word 6 31) ≡ 0
+none_in_the_slot_before = refl
 
 -- Credit is the room of a lane less what is under way, as far as the feed has seen.
 module _ (lane : LaneId) (board : TableId) where
@@ -67,6 +93,27 @@ module _ (lane : LaneId) (board : TableId) where
   all_taken : credit_of (feed 100 100) ≡ 64
   all_taken = refl
 
+  -- more than was put is never seen taken; there the room is whole
+  more_seen : credit_of (feed 3 5) ≡ 64
+  more_seen = refl
+
+-- A take adds its message and may raise words of its seat. At the end, which is always Closed, nothing changes.
+module _ (lane : LaneId) (board : TableId) where
+  abbrev tap : List PageMsg → List ℕ → TapView
+  tap taken words = record { taken = taken; seat = words; slot = 0; lane = lane; board = board }
+
+  takes_close : TookOrEnded (Ok Close) (tap (two_drawn 1) seat) (tap (two_drawn 1 ++ Close ∷ []) (4 ∷ 0 ∷ 2 ∷ replicate 261 0))
+  takes_close = refl
+
+  ends : TookOrEnded (Err Closed) (tap (two_drawn 1) seat) (tap (two_drawn 1) seat)
+  ends = (refl, refl)
+
+  ended_changes_nothing : (old new : TapView) → TookOrEnded (Err Closed) old new → new ≡ old
+  ended_changes_nothing old new end = end.1
+
+  never_broken : (old new : TapView) → TookOrEnded (Err Broken) old new → Broken ≡ Closed
+  never_broken old new end = end.0
+
 -- The part of a pen keeps its order.
 abbrev stroke : ℕ → ℕ → Stroke
 stroke pen mark = record { pen = pen; page = first_page; body = mark ∷ [] }
@@ -76,3 +123,10 @@ of_pen_two = refl
 
 of_pen_one : strokes_of 1 (stroke 2 7 ∷ stroke 0 8 ∷ []) ≡ []
 of_pen_one = refl
+
+-- What pen 2 sent is its part of what was received, and then of what the well holds.
+two_sent : SentIs 2 (stroke 2 7 ∷ stroke 2 9 ∷ []) (stroke 2 7 ∷ stroke 0 8 ∷ []) (stroke 1 5 ∷ stroke 2 9 ∷ [])
+two_sent = refl
+
+all_received : SentIs 0 (stroke 0 8 ∷ []) (stroke 2 7 ∷ stroke 0 8 ∷ []) []
+all_received = refl

@@ -17,10 +17,31 @@ new_pen place = ink_view false [] 0 true place []
 abbrev pub one_more : InkView → InkView
 one_more v = ink_view v.reads v.received (v.made + 1) v.writes v.pen v.sent
 
+-- a reader with a pen beside it, what is left of that pen's own pass, and the two parted again
+abbrev pub with_pen : InkView → InkView → InkView
+with_pen reader pen = ink_view reader.reads reader.received reader.made pen.writes pen.pen pen.sent
+
+abbrev pub spent : InkView
+spent = ink_view false [] 0 false 0 []
+
+abbrev pub reader_of : InkView → InkView
+reader_of v = ink_view v.reads v.received v.made false 0 []
+
+abbrev pub pen_of : InkView → InkView
+pen_of v = ink_view false [] 0 v.writes v.pen v.sent
+
 -- the strokes of one pen, in order
 abbrev pub strokes_of : ℕ → List Stroke → List Stroke
 strokes_of p [] = []
 strokes_of p (x ∷ xs) = if p == x.pen then x ∷ strokes_of p xs else strokes_of p xs
+
+-- what a pen sent is its part of what was received, and then its part of what the well holds
+abbrev pub SentIs : ℕ → List Stroke → List Stroke → List Stroke → Type 0
+SentIs pen sent received held = sent ≡ strokes_of pen received ++ strokes_of pen held
+
+-- the same of a reader with a pen beside it
+pub record KnowsPart (v : InkView) (held : List Stroke) : Type 0 where
+  pub sent : SentIs v.pen v.sent v.received held
 
 -- A pen has what it sent, which is its part of what was received and then what the well holds. The reader has what was received
 pub record FitsInk (seat : ℕ → ℕ) (made : ℕ) (received items : List Stroke) (id : ℕ) (v : InkView) : Type 0 where

@@ -22,6 +22,7 @@ pub struct Feed {
 }
 
 impl Model for Feed {
+    ghost use Rattle.crossbeam_channel.specs.Ends.{sends_on, ruled_capacity};
     ghost use Rattle.srm_pages.specs.Ends.{FeedView, lane_of};
     ghost use Rattle.srm_pages.specs.Seats.{taken_word};
 
@@ -29,7 +30,6 @@ impl Model for Feed {
 
     ghost use Rattle.std.specs.Prelude.{◌≡◌, ◌<◌, true, length, slice_index};
     ghost use Rattle.crossbeam_channel.specs.Claims.{view as knows, IsSeatAt};
-    ghost use Rattle.crossbeam_channel.specs.Ends.{sends_on};
     ghost use Rattle.srm_names.specs.declared.limits.TheConstants.{PAGES};
 
     ghost view = { λ f. record {
@@ -37,7 +37,7 @@ impl Model for Feed {
       seen = slice_index f.lookout.seen (taken_word f.slot);
       lost = f.lost;
       slot = f.slot;
-      lane = lane_of f.pass;
+      lane = lane_of f.pass (ruled_capacity (sends_on f.sender));
       board = f.lookout.board;
     } };
 

@@ -1,7 +1,7 @@
 //! The rule of the well: the part of a pen in what was received and then what the well holds is what that pen sent.
 
 use crate::stroke::Stroke;
-use crossbeam_queue::protocol::{Lesson, Outcome, Protocol, Split};
+use crossbeam_queue::protocol::{Join, Lesson, Outcome, Protocol, Split};
 use crossbeam_queue::{Pass, RuledArrayQueue};
 use std::collections::LinkedList;
 use std::sync::atomic::AtomicU64;
@@ -37,6 +37,34 @@ impl Split<InkView> for NextPen {
     ghost left = { one_more };
 
     ghost right = { λ v. new_pen v.made };
+}
+
+/// A pen that is done beside the reader, and the cut that parts them again.
+pub struct Beside;
+
+impl Join<InkView> for Beside {
+    ghost use Rattle.srm_pages.specs.Ink.{with_pen, spent};
+
+    ghost both = { with_pen };
+
+    ghost spent = { spent };
+}
+
+impl Split<InkView> for Beside {
+    ghost use Rattle.srm_pages.specs.Ink.{reader_of, pen_of};
+
+    ghost left = { reader_of };
+
+    ghost right = { pen_of };
+}
+
+/// What the reader and a pen beside it learn: what the pen sent is its part of what was received, and then of what the well holds.
+pub struct PartOfPen;
+
+impl Lesson<Stroke, InkView> for PartOfPen {
+    ghost use Rattle.srm_pages.specs.Ink.{KnowsPart};
+
+    ghost fact = { KnowsPart };
 }
 
 /// What a push tells: the stroke stands behind those sent before.

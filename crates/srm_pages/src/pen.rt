@@ -1,8 +1,10 @@
 //! The pens' ends of the well.
 
-ghost use Rattle.std.specs.Prelude.{◌≡◌, [], ◌∷◌, ◌++◌, OnOk, IfErr};
+ghost use Rattle.std.specs.Prelude.{◌≡◌, [], ◌∷◌, ◌++◌, true, OnOk, IfErr};
+ghost use Rattle.crossbeam_queue.specs.Passes.{view as knows, IsPassOf, IsSamePass};
+ghost use Rattle.srm_pages.specs.Ink.{Writes};
 
-use crate::ink::{Ink, InkPass, Writing};
+use crate::ink::{Ink, InkPass, StrokeQueue, Writing};
 use crate::stroke::Stroke;
 use std::alloc::Global;
 use std::marker::Model;
@@ -34,8 +36,8 @@ impl Model for Pen {
 /// A pen that is done. Contracts see it as the pen, with what it sent. No bytes are kept of that.
 #[derive(Drop)]
 pub struct Inked {
-    pass: InkPass,
-    place: u8,
+    pub(crate) pass: InkPass,
+    pub(crate) place: u8,
 }
 
 impl Model for Inked {
@@ -43,9 +45,12 @@ impl Model for Inked {
 
     ghost Value = { PenView };
 
+    ghost use Rattle.std.specs.Prelude.{◌≡◌, [], true};
     ghost use Rattle.crossbeam_queue.specs.Passes.{view as knows};
 
     ghost view = { λ i. record { place = i.place; sent = (knows i.pass).sent; well = i.pass.table_id } };
+
+    ghost invariant = { λ i. (i.pass.me.1 ≡ []) × ((knows i.pass).writes ≡ true) × ((knows i.pass).pen ≡ i.place) };
 }
 
 impl Pen {
@@ -62,9 +67,7 @@ impl Pen {
         ensures ok { OnOk result (self.new ≡ record self.old { sent = self.old.sent ++ stroke ∷ [] }) }
         ensures err { IfErr result (λ back. (back ≡ stroke) × (self.new ≡ self.old)) }
     {
-        self.ink
-            .queue
-            .push_as::<Writing, R>(rt, &mut self.pass, stroke)
+        push(rt, &self.ink.queue, &mut self.pass, stroke)
     }
 
     /// The pen is done, and answers what it sent. The node may leave once all pens are.
@@ -75,4 +78,21 @@ impl Pen {
         ink.open.fetch_sub(1, Ordering::SeqCst);
         Inked { pass, place }
     }
+}
+
+// Pushes a stroke by the pass of its pen.
+#[tactic(auto, using(crate::proofs::InkSteps::writes))]
+fn push<R: Wait>(
+    rt: &R,
+    queue: &StrokeQueue,
+    pass: &mut InkPass,
+    stroke: Stroke,
+) -> Result<(), Stroke>
+    requires pass { IsPassOf queue.now pass.old × ((knows pass.old).writes ≡ true) }
+    requires own { stroke.pen ≡ (knows pass.old).pen }
+    ensures same { IsSamePass pass.old pass.new }
+    ensures ok { OnOk result (Writes (knows pass.old) stroke (knows pass.new)) }
+    ensures err { IfErr result (λ back. (back ≡ stroke) × (knows pass.new ≡ knows pass.old)) }
+{
+    queue.push_as::<Writing, R>(rt, pass, stroke)
 }

@@ -32,6 +32,7 @@ pub struct Tap {
 }
 
 impl Model for Tap {
+    ghost use Rattle.crossbeam_channel.specs.Ends.{receives_on, ruled_capacity};
     ghost use Rattle.srm_pages.specs.Ends.{TapView, lane_of};
     ghost use Rattle.srm_pages.specs.Seats.{Counts};
 
@@ -39,14 +40,13 @@ impl Model for Tap {
 
     ghost use Rattle.std.specs.Prelude.{◌≡◌, true, length};
     ghost use Rattle.crossbeam_channel.specs.Claims.{view as knows, IsSeatAt};
-    ghost use Rattle.crossbeam_channel.specs.Ends.{receives_on};
     ghost use Rattle.srm_names.specs.PageFeeds.{is_page_feed};
 
     ghost view = { λ t. record {
       taken = (knows t.pass).taken;
       seat = t.marker.seat;
       slot = t.marker.slot;
-      lane = lane_of t.pass;
+      lane = lane_of t.pass (ruled_capacity (receives_on t.receiver));
       board = t.marker.board;
     } };
 

@@ -1,8 +1,12 @@
 //! The reader's end of the well.
 
-ghost use Rattle.std.specs.Prelude.{◌≡◌, [], ◌∷◌, ◌++◌, MatchOption};
+ghost use Rattle.std.specs.Prelude.{◌≡◌, [], ◌∷◌, ◌++◌, true, List, MatchOption};
+ghost use Rattle.srm_pages.specs.declared.stroke.Stroke.{Stroke};
+ghost use Rattle.srm_pages.specs.Ink.{KnowsPart, SentIs};
+ghost use Rattle.crossbeam_queue.specs.Passes.{view as knows, IsPassOf};
 
-use crate::ink::{Ink, InkPass, Reading};
+use crate::ink::{Beside, Ink, InkPass, PartOfPen, Reading, StrokeQueue};
+use crate::pen::Inked;
 use crate::stroke::Stroke;
 use std::alloc::Global;
 use std::marker::Model;
@@ -32,14 +36,43 @@ impl Model for Well {
 
 impl Well {
     /// Receives the front stroke. None comes only if the well was empty, and then nothing changed.
+    #[tactic(auto, using(crate::proofs::InkSteps::reads))]
     pub fn next<R: Wait>(&mut self, rt: &R) -> Option<Stroke>
         ensures { MatchOption result (self.new ≡ self.old) (λ x. self.new ≡ record self.old { received = self.old.received ++ x ∷ [] }) }
     {
         self.ink.queue.pop_as::<Reading, R>(rt, &mut self.pass)
     }
 
+    /// Puts a pen that is done beside the reader, and gives it back. What it sent is its part of what was received and then its part of
+    /// what the well still holds. So what was received of a pen is a prefix of what it sent, in order, with nothing lost or doubled.
+    /// The pen is one of this well. It neither waits nor takes memory, and changes nothing.
+    #[tactic(auto, using(crate::proofs::InkSteps::joins, crate::proofs::InkSteps::parts))]
+    pub fn settle(&mut self, inked: Inked) -> Inked
+        requires { inked.well ≡ self.old.well }
+        ensures same { self.new ≡ self.old }
+        ensures pen { result ≡ inked }
+        ensures part { (held : List Stroke) × SentIs result.place result.sent self.new.received held }
+    {
+        let Inked { pass, place } = inked;
+        self.ink.queue.absorb::<Beside>(&mut self.pass, pass);
+        learn_part(&self.ink.queue, &mut self.pass);
+        let pass = self.ink.queue.another::<Beside>(&mut self.pass);
+        Inked { pass, place }
+    }
+
     /// Whether all pens said that they are done. A plain count, on which no contract rests.
     pub fn is_done(&self) -> bool {
         self.ink.open.load(Ordering::SeqCst) == 0
     }
+}
+
+// What the reader learns of the pen beside it.
+#[tactic(auto, using(crate::proofs::InkSteps::learns_part))]
+fn learn_part(queue: &StrokeQueue, pass: &mut InkPass)
+    requires pass { IsPassOf queue.now pass.old }
+    requires both { ((knows pass.old).reads ≡ true) × ((knows pass.old).writes ≡ true) }
+    ensures same { IsPassOf queue.now pass.new × (pass.new.table_id ≡ pass.old.table_id) × (knows pass.new ≡ knows pass.old) }
+    ensures part { (held : List Stroke) × KnowsPart (knows pass.new) held }
+{
+    queue.learn_as::<PartOfPen>(pass);
 }

@@ -1,21 +1,24 @@
 //! How the lanes and the board are made.
 
-ghost use Rattle.std.specs.Prelude.{◌≡◌, ◌+◌, ◌<◌, ◌≤◌, vec_len, IfOk, OnOk, All};
-ghost use Rattle.srm_names.specs.declared.limits.TheConstants.{PAGES, VIEWERS};
+ghost use Rattle.std.specs.Prelude.{◌≡◌, ◌+◌, ◌<◌, ◌≤◌, true, [], vec_len, IfOk, OnOk, All};
+ghost use Rattle.crossbeam_channel.specs.Claims.{view as knows, IsSeatAt};
+ghost use Rattle.crossbeam_channel.specs.Ends.{sends_on, receives_on, ruled_capacity};
+ghost use Rattle.srm_names.specs.declared.limits.TheConstants.{LANE_MESSAGES, PAGES, VIEWERS};
 ghost use Rattle.srm_pages.specs.Board.{zeros};
 ghost use Rattle.srm_pages.specs.Ends.{AreLanes, AreNewEnds, AreNewLanes};
+ghost use Rattle.srm_pages.specs.Lane.{lane_view};
 ghost use Rattle.srm_pages.specs.Seats.{new_mark, new_sight};
 
 use crate::dealer::Dealer;
 use crate::ends;
 use crate::feed::Feed;
-use crate::lane::{Ends, LaneView, PageFeed};
+use crate::lane::{Ends, LanePass, Receiver, Sender};
 use crate::lookout::Lookout;
 use crate::marker::Marker;
 use crate::tap::Tap;
 use crate::viewer::Viewer;
 use crossbeam_channel::bounded_with;
-use srm_names::{LANE_MESSAGES, PAGES, PageMsg};
+use srm_names::{LANE_MESSAGES, PAGES};
 use std::alloc::{AllocError, Global};
 
 /// Makes the board and a lane for each slot, with as many viewers as asked for. Only want of memory refuses it.
@@ -88,10 +91,7 @@ fn lane(alloc: Global, marker: Marker, lookout: Lookout) -> Result<(Feed, Tap), 
     requires { (marker.seat ≡ zeros) × (lookout ≡ new_sight marker.board) }
     ensures { IfOk result (λ e. AreNewEnds marker.board marker.slot e.0 e.1) }
 {
-    let (sender, receiver, mut pass) = bounded_with::<PageMsg, LaneView, PageFeed, Global>(
-        alloc,
-        LANE_MESSAGES as usize,
-    )?;
+    let (sender, receiver, mut pass) = channel(alloc)?;
     let last = sender.another::<Ends>(&mut pass);
     let feed = Feed {
         sender,
@@ -109,4 +109,12 @@ fn lane(alloc: Global, marker: Marker, lookout: Lookout) -> Result<(Feed, Tap), 
         closed: false,
     };
     Ok((feed, tap))
+}
+
+// The channel of a lane, and its first pass.
+#[tactic(auto, using(crate::proofs::LaneSteps::begins))]
+fn channel(alloc: Global) -> Result<(Sender, Receiver, LanePass), AllocError>
+    ensures { IfOk result (λ r. (receives_on r.1 ≡ sends_on r.0) × (ruled_capacity (sends_on r.0) ≡ LANE_MESSAGES) × IsSeatAt (sends_on r.0) r.2 × (knows r.2 ≡ lane_view true true [] [])) }
+{
+    bounded_with(alloc, LANE_MESSAGES as usize)
 }

@@ -15,6 +15,7 @@ use std::sync::Arc;
 use std::sync::atomic::AtomicU64;
 
 /// Makes the well and its pens, the k-th of place k, with nothing sent or received. Only want of memory refuses it.
+#[tactic(auto, using(crate::proofs::InkSteps::begins))]
 pub fn well(alloc: Global) -> Result<(ends::Well, Vec<Pen>), AllocError>
     ensures well { IfOk result (λ r. r.0.received ≡ []) }
     ensures pens { IfOk result (λ r. (vec_len r.1 ≡ PENS) × AreNewPens r.0.well r.1.items) }
@@ -32,6 +33,7 @@ pub fn well(alloc: Global) -> Result<(ends::Well, Vec<Pen>), AllocError>
 }
 
 // Cuts the pens off the reader's pass.
+#[tactic(auto, using(crate::proofs::InkSteps::next_pen))]
 fn all_pens(
     alloc: Global,
     ink: &Arc<Ink, Global>,

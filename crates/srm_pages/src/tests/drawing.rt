@@ -103,6 +103,16 @@ pub fn put_close<R: Wait>(rt: &R, feed: &mut Feed, page: &Page, member: Member, 
     put_next(rt, feed, PageMsg::Close)
 }
 
+/// Puts that the member left, and then `Close`. Whether both went in.
+pub fn put_ending<R: Wait>(rt: &R, feed: &mut Feed, page: &Page, member: Member, count: u32) -> bool
+    requires { IsDrawing page.now member count feed.old.put }
+{
+    if !put_next(rt, feed, PageMsg::Left(member)) {
+        return false;
+    }
+    put_next(rt, feed, PageMsg::Close)
+}
+
 /// Takes so many messages. The number says how many came.
 pub fn take_all<R: Wait>(rt: &R, mut tap: Tap, count: u32) -> (Tap, u32)
     ensures { result.0.lane ≡ tap.lane }

@@ -3,7 +3,9 @@
 ghost use Rattle.std.specs.Prelude.{◌≡◌, ◌<◌, [], ◌∷◌, ◌++◌};
 ghost use Rattle.srm_names.specs.declared.limits.TheConstants.{PAGES};
 
-use crate::tests::drawing::{new_ends, page_of, put_close, put_drawing, put_open, take_all};
+use crate::tests::drawing::{
+    new_ends, page_of, put_close, put_drawing, put_ending, put_open, take_all,
+};
 use crate::*;
 use srm_names::{LANE_MESSAGES, Member, PAGES, PageMsg, VIEWERS};
 use std::alloc::{AllocError, Global};
@@ -82,6 +84,44 @@ fn the_last_member_is_shown_in_the_last_slot(rt: HostRuntime) -> Result<(), Fail
     assert_eq!(rt; viewer.look(7, source), 2);
     assert_eq!(rt; viewer.look(6, source), 0);
     assert_eq!(rt; viewer.look(7, member(&rt, 30)), 0);
+    Ok(())
+}
+
+/// What one viewer sees before the source draws and after a worker took `Open` and so many drawops and joined, and between the two
+/// how many messages the worker took.
+fn looked_around<R: Threads + Wait + Copy + Send + 'static>(
+    rt: R,
+    alloc: Global,
+    source: Member,
+    count: u8,
+) -> Result<Option<(u32, u32, u32)>, AllocError> {
+    let (mut feed, tap, mut viewers) = new_ends(alloc, 1, 0)?;
+    let Some(mut viewer) = viewers.pop() else {
+        return Ok(None);
+    };
+    let before = viewer.look(0, source);
+    let worker = thread::spawn(&rt, move || take_all(&rt, tap, u32::from(count) + 1))?;
+    let puts = put_drawing(&rt, &mut feed, &page_of(source), source, u32::from(count));
+    let (_tap, taken) = worker.join(&rt);
+    let after = viewer.look(0, source);
+    Ok(if puts {
+        Some((before, taken, after))
+    } else {
+        None
+    })
+}
+
+#[test]
+fn one_viewer_sees_the_number_rise(rt: HostRuntime) -> Result<(), Fail> {
+    let seen = looked_around(rt, rt.alloc(), member(&rt, 0), 2)?;
+    assert_eq!(rt; seen, Some((0, 3, 2)));
+    Ok(())
+}
+
+#[test]
+fn more_go_through_a_lane_than_it_holds(rt: HostRuntime) -> Result<(), Fail> {
+    let seen = looked_around(rt, rt.alloc(), member(&rt, 0), 199)?;
+    assert_eq!(rt; seen, Some((0, 200, 199)));
     Ok(())
 }
 
@@ -166,5 +206,32 @@ fn nothing_is_taken_after_close(rt: HostRuntime) -> Result<(), Fail> {
     // The feed still stands, so a tap that waited would not come back.
     assert!(rt; matches!(tap.take(&rt), Err(Ended::Closed)));
     assert!(rt; !feed.is_lost());
+    Ok(())
+}
+
+/// Whether `Open`, `Left` and `Close` went in.
+fn put_leaving<R: Wait>(rt: &R, feed: &mut Feed, source: Member) -> bool
+    requires { feed.old.put ≡ [] }
+{
+    let page = page_of(source);
+    if !put_drawing(rt, feed, &page, source, 0) {
+        return false;
+    }
+    put_ending(rt, feed, &page, source, 0)
+}
+
+#[test]
+fn a_page_is_opened_left_and_closed(rt: HostRuntime) -> Result<(), Fail> {
+    let (mut feed, mut tap, _) = new_ends(rt.alloc(), 0, 0)?;
+    let source = member(&rt, 5);
+    assert!(rt; put_leaving(&rt, &mut feed, source));
+    let taken = [tap.take(&rt), tap.take(&rt), tap.take(&rt)];
+    let page = page_of(source);
+    let wanted = [
+        Ok(PageMsg::Open(page)),
+        Ok(PageMsg::Left(source)),
+        Ok(PageMsg::Close),
+    ];
+    assert_eq!(rt; taken, wanted);
     Ok(())
 }

@@ -125,7 +125,7 @@ fn there_are_four_pens_in_order(rt: HostRuntime) -> Result<(), Fail> {
 /// The pen of place 0.
 fn first_pen(pens: &mut Vec<Pen>, well: &ends::Well) -> Pen
     requires { (0 < vec_len pens.old) × AreNewPens well.now.well pens.old.items }
-    ensures { result.place ≡ 0 }
+    ensures { (result.place ≡ 0) × (result.well ≡ well.now.well) }
 {
     pens.remove(0)
 }
@@ -133,7 +133,7 @@ fn first_pen(pens: &mut Vec<Pen>, well: &ends::Well) -> Pen
 /// Whether a stroke of the first pen goes in.
 fn goes_in<R: Wait>(rt: &R, pen: &mut Pen) -> Option<bool>
     requires { pen.old.place ≡ 0 }
-    ensures { pen.new.place ≡ 0 }
+    ensures { (pen.new.place ≡ 0) × (pen.new.well ≡ pen.old.well) }
 {
     let stroke = stroke_of(0, 0)?;
     Some(pen.stroke(rt, stroke).is_ok())
@@ -158,5 +158,56 @@ fn filled<R: Wait>(rt: &R, alloc: Global) -> Result<Option<(u32, bool)>, AllocEr
 #[test]
 fn a_full_well_gives_a_stroke_back(rt: HostRuntime) -> Result<(), Fail> {
     assert_eq!(rt; filled(&rt, rt.alloc())?, Some((64, true)));
+    Ok(())
+}
+
+/// A pen sends three strokes and is done, two of them are received, and the pen is put beside these. What went in, what came before
+/// that and what came after.
+fn settled_midway<R: Wait>(
+    rt: &R,
+    alloc: Global,
+) -> Result<([Option<bool>; 3], [bool; 2], [bool; 2]), AllocError> {
+    let (mut well, mut pens) = well(alloc)?;
+    let mut pen = first_pen(&mut pens, &well);
+    let sent = [
+        goes_in(rt, &mut pen),
+        goes_in(rt, &mut pen),
+        goes_in(rt, &mut pen),
+    ];
+    let before = [well.next(rt).is_some(), well.next(rt).is_some()];
+    let inked = well.settle(pen.done());
+    let after = [well.next(rt).is_some(), well.next(rt).is_some()];
+    let _inked = well.settle(inked);
+    Ok((sent, before, after))
+}
+
+#[test]
+fn the_well_goes_on_after_settling(rt: HostRuntime) -> Result<(), Fail> {
+    assert_eq!(rt;
+        settled_midway(&rt, rt.alloc())?,
+        ([Some(true); 3], [true, true], [true, false])
+    );
+    Ok(())
+}
+
+/// Whether all pens are done, as the well says at first and after each of them.
+fn said_of_each(alloc: Global) -> Result<Vec<bool>, AllocError> {
+    let (well, pens) = well(alloc)?;
+    let mut said = Vec::new(alloc);
+    said.push(well.is_done())?;
+    for pen in pens {
+        let _inked = pen.done();
+        said.push(well.is_done())?;
+    }
+    Ok(said)
+}
+
+#[test]
+fn all_are_done_after_the_last_pen(rt: HostRuntime) -> Result<(), Fail> {
+    let said = said_of_each(rt.alloc())?;
+    assert_eq!(rt;
+        said.as_slice(),
+        [false, false, false, false, true].as_slice()
+    );
     Ok(())
 }

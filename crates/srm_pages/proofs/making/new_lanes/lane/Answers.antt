@@ -1,14 +1,12 @@
 use Rattle.std.proofs.Common.{◌≡◌, true, ℕ, List, [], length, get_or, refl, sym, ap, ◌∙◌, subst}
 use Rattle.crossbeam_channel.specs.Claims.{IsSeatAt}
+use Rattle.crossbeam_channel.specs.Ends.{ruled_capacity}
 use Rattle.srm_names.specs.PageFeeds.{is_page_feed}
 use Rattle.srm_pages.specs.declared.lane.LaneView.{LaneView}
 use Rattle.srm_pages.specs.Seats.{Sight, Counts, taken_word}
-use Rattle.srm_pages.proofs.LaneSteps.{begins, forks}
+use Rattle.srm_pages.proofs.LaneSteps.{forks}
 use Rattle.srm_pages.proofs.BoardSteps.{zeros_at}
 use Rattle.srm_pages.proofs.making.new_lanes.lane.Goals as goal
-
-pub bounded_with-requires-clause-rule : goal.bounded_with-requires-clause-rule
-bounded_with-requires-clause-rule c = begins
 
 pub another-last-requires-clause-rule : goal.another-last-requires-clause-rule
 another-last-requires-clause-rule c = let e = c.in_ok-sender.ensures.3 in forks _ _ (ap (λ (v : LaneView). v.puts) e) (ap (λ (v : LaneView). v.takes) e)
@@ -36,7 +34,8 @@ returns c =
         refl,
         c.slot.ensures,
         ap (λ (s : Sight). s.board) sight,
+        e.1,
       ),
-      (ap (λ (v : LaneView). v.taken) a.rule.1 ∙ ap (λ (v : LaneView). v.taken) e.3, refl, refl),
-      λ i. record { stamps = (a.channel.0.0 ∙ sym a.channel.2.0) i; messages = (a.channel.0.1 ∙ sym a.channel.2.1) i },
+      (ap (λ (v : LaneView). v.taken) a.rule.1 ∙ ap (λ (v : LaneView). v.taken) e.3, refl, refl, subst (λ (l : List ℕ). Counts l c.args.marker.slot []) (sym c.requires.0) (record { all = zeros_at _; of_member = λ member small. zeros_at _ })),
+      λ i. record { stamps = (a.channel.0.0 ∙ sym a.channel.2.0) i; messages = (a.channel.0.1 ∙ sym a.channel.2.1) i; capacity = ap ruled_capacity (sym e.0) i },
     )
