@@ -3,7 +3,8 @@ use Rattle.std.specs.Prelude.{ℕ, ◌==◌, ◌-◌, ◌/◌, max, min, nat_le,
 use Rattle.std.specs.List.{filter_map}
 use Rattle.srm_names.specs.Histories.{first_best}
 use Rattle.srm_distance.specs.declared.returned.Returned.{Returned}
-use Rattle.srm_distance.specs.declared.limits.TheConstants.{FIRST_DISTANCE, SHORTEST_DISTANCE, LONGEST_DISTANCE}
+use Rattle.srm_names.specs.declared.limits.TheConstants.{LONGEST_DISTANCE}
+use Rattle.srm_distance.specs.declared.limits.TheConstants.{FIRST_DISTANCE, SHORTEST_DISTANCE}
 use Rattle.srm_distance.specs.Calls.{Call, Heard, Forgot}
 
 -- An echo that is heard at t4. It doesn't count where its own moment is still to come.

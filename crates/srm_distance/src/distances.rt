@@ -6,9 +6,8 @@ ghost use Rattle.srm_distance.specs.Distance.{distance};
 ghost use Rattle.srm_distance.specs.Echoes.{echo_to, echoes_due, AreSpellable, CanBeSent};
 ghost use Rattle.srm_distance.specs.Fits.{Fits, Adds};
 
-use crate::limits::LONGEST_DISTANCE;
 use crate::peer::Peer;
-use srm_names::{Echo, MEMBERS, MOMENT, Member};
+use srm_names::{Echo, LONGEST_DISTANCE, MEMBERS, MOMENT, Member};
 use std::alloc::{AllocError, Global};
 use std::marker::Model;
 

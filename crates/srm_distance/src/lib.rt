@@ -17,4 +17,4 @@ mod returned;
 mod tests;
 
 pub use distances::Distances;
-pub use limits::{FIRST_DISTANCE, LONGEST_DISTANCE, SHORTEST_DISTANCE};
+pub use limits::{FIRST_DISTANCE, SHORTEST_DISTANCE};

@@ -3,7 +3,8 @@
 ghost use Rattle.std.specs.Prelude.{◌≡◌, ℕ, List, [], ◌∷◌, ◌++◌};
 ghost use Rattle.srm_distance.specs.Calls.{Call, Heard};
 
-use crate::limits::{LONGEST_DISTANCE, SHORTEST_DISTANCE};
+use crate::limits::SHORTEST_DISTANCE;
+use srm_names::LONGEST_DISTANCE;
 
 /// An echo of one of this member's own session messages. Moments and times are in microseconds.
 #[derive(Clone, Copy, Debug)]

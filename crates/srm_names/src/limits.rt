@@ -15,6 +15,9 @@ pub const BODY: u16 = 1_024;
 /// The greatest moment, in microseconds: 2^48.
 pub const MOMENT: u64 = 281_474_976_710_656;
 
+/// The longest distance to a member, in microseconds.
+pub const LONGEST_DISTANCE: u64 = 10_000_000;
+
 /// Messages that a lane holds.
 pub const LANE_MESSAGES: u32 = 64;
 

@@ -10,7 +10,7 @@ use Rattle.srm_names.proofs.Same.{same_name-is}
 use Rattle.srm_names.proofs.Orders.{stands_once, and_right}
 use Rattle.srm_timers.specs.declared.arm.Arm.{Arm}
 use Rattle.srm_timers.specs.declared.timed.Timed.{Timed}
-use Rattle.srm_timers.specs.Arms.{Plan, Setting, plan_of, setting, arm_name, arm_names, arm_of, ArmsAre, AreDrawn}
+use Rattle.srm_timers.specs.Arms.{Plan, Setting, plan_of, setting, arm_name, arm_names, arm_of, ArmsAre, AreDrawn, IsAsk, AreAsks, IsFix, AreFixes}
 use Rattle.srm_timers.specs.Ends.{timed_at, arm_end, is_short, AreShort}
 use Rattle.srm_timers.specs.Places.{names_of, moment_among, is_timed}
 
@@ -29,6 +29,12 @@ all_more P (y ∷ xs) x all here = (all.0, all_more P xs x all.1 here)
 
 pub short_more : (arms : List Arm) (a : Arm) → AreShort arms → is_short a → AreShort (arms ++ a ∷ [])
 short_more arms a h here = record { each = all_more is_short arms a h.each here }
+
+pub asks_more : (arms : List Arm) (a : Arm) → AreAsks arms → IsAsk a → AreAsks (arms ++ a ∷ [])
+asks_more arms a h here = record { each = all_more IsAsk arms a h.each here }
+
+pub fixes_more : (arms : List Arm) (a : Arm) → AreFixes arms → IsFix a → AreFixes (arms ++ a ∷ [])
+fixes_more arms a h here = record { each = all_more IsFix arms a h.each here }
 
 map_more : {X Y : Type 0} (f : X → Y) (xs : List X) (x : X) → map f (xs ++ x ∷ []) ≡ map f xs ++ f x ∷ []
 map_more f [] x = refl

@@ -1,5 +1,5 @@
 -- One more call, in the request timers.
-use Rattle.std.proofs.Common.{◌≡◌, ℕ, ◌+◌, ◌≤◌, List, [], ◌∷◌, ◌++◌, map, Option, Some, None, Bool, true, false, cond, refl, sym, ap, subst, ◌∙◌}
+use Rattle.std.proofs.Common.{◌≡◌, ℕ, ◌+◌, ◌≤◌, List, [], ◌∷◌, ◌++◌, map, length, Option, Some, None, Bool, true, false, cond, refl, sym, ap, subst, ◌∙◌}
 use Rattle.std.specs.Prelude.{if◌then◌else◌, option_map, nat_le, IsNone, IsSome, IfSome, find, ◌||◌}
 use Rattle.srm_names.specs.FullName.{FullName}
 use Rattle.srm_names.specs.Histories.{last_of, or_else}
@@ -153,6 +153,27 @@ placed (p ∷ places) n h = go (is_at n p) h (placed places n)
     go true h more = refl
     go false h more = more h
 
+-- the timers that ran out can be set again where there is room for so many
+come_some : (now : ℕ) (o : Option ℕ) → has_come now o ≡ true → IsSome o
+come_some now None e = cc
+come_some now (Some t) e = refl
+
+end_some : (o : Option Armed) → IsSome (option_map end_of o) → IsSome o
+end_some None h = h
+end_some (Some a) h = refl
+
+pub due_runs : (now : ℕ) (places : List (Place ℕ)) (timers : List (Place Armed)) (n : FullName) → value_at places n ≡ option_map end_of (value_at timers n) → has_come now (value_at places n) ≡ true → IsSome (value_at timers n)
+due_runs now places timers n right come = end_some (value_at timers n) (subst IsSome right (come_some now (value_at places n) come))
+
+pub due_ready : (now : ℕ) (dist : List ℕ) (timer : FullName → Option Armed) (names : List FullName) (arms arms' : List Arm) (places : List (Place ℕ)) (a : AskContent)
+    → ((n : FullName) → value_at places n ≡ option_map end_of (value_at a.timers n)) → AreExactly (λ n. has_come now (value_at places n)) names → a.ends.places ≡ places → length names ≤ a.ends.room
+    → map plan_of arms ≡ map (again_plan dist timer) names → arms' ≡ arms → AskReady (arm_names arms') a
+due_ready now dist timer names arms arms' places a right due same room plans is =
+    subst (λ ns. AskReady ns a) (sym (ap arm_names is ∙ planned_names (again_plan dist timer) (λ n. refl) names arms plans)) (record {
+      ends = record { places = λ n at. ap (λ ps. has_place ps n) same ∙ placed places n (come_some now (value_at places n) (sym (due.exact n) ∙ at)); room = room };
+      timers = λ n at. placed a.timers n (due_runs now places a.timers n (right n) (sym (due.exact n) ∙ at));
+    })
+
 pub backs_off_runs : (now i : ℕ) (o : Option Armed) → backs_off now o ≡ Some i → IsSome o
 backs_off_runs now i None e = cc
 backs_off_runs now i (Some a) e = refl
@@ -178,6 +199,10 @@ set_adds now arm armed a b p q is timers =
 pub sets_after : (now : ℕ) (arms arms' : List Arm) (a b c : AskContent) → AskStays a b → arms ≡ arms' → AskAdds (sets now arms) b c → AskAdds (sets now arms') a c
 sets_after now arms arms' a b c stays is adds =
     subst (λ arms. AskAdds (sets now arms) a c) is (record { each = λ c1 c2 calls h. adds.each c1 c2 calls (stays.each c1 c2 calls h) })
+
+-- the same where the timers are as they were
+pub sets_then : (now : ℕ) (arms arms' : List Arm) (a b c : AskContent) → b.c1 ≡ a.c1 → b.c2 ≡ a.c2 → b.timers ≡ a.timers → arms ≡ arms' → AskAdds (sets now arms) b c → AskAdds (sets now arms') a c
+sets_then now arms arms' a b c p q same is adds = sets_after now arms arms' a b c (stays_kept a b p q (subst (Keeps a.timers) (sym same) (keeps_self a.timers))) is adds
 
 pub due_is : (now : ℕ) (a : AskContent) (names : List FullName) → ((n : FullName) → value_at a.ends.places n ≡ option_map end_of (value_at a.timers n))
     → AreExactly (λ n. has_come now (value_at a.ends.places n)) names → AskDue now a names
@@ -213,11 +238,6 @@ found_ready dist names asked arms arms' a b list plans is ready same =
 pub again_rise : (dist : List ℕ) (timer : FullName → Option Armed) (names : List FullName) (arms arms' : List Arm) → map plan_of arms ≡ map (again_plan dist timer) names → arms' ≡ arms
     → ascending name_below names ≡ true → ascending name_below (arm_names arms') ≡ true
 again_rise dist timer names arms arms' plans is rising = ap (λ list. ascending name_below (arm_names list)) is ∙ ap (ascending name_below) (planned_names (again_plan dist timer) (λ n. refl) names arms plans) ∙ rising
-
-pub again_ready : (dist : List ℕ) (timer : FullName → Option Armed) (names : List FullName) (arms arms' : List Arm) (a : AskContent) → map plan_of arms ≡ map (again_plan dist timer) names → arms' ≡ arms
-    → AskReady names a → AskReady (arm_names arms') a
-again_ready dist timer names arms arms' a plans is ready =
-    subst (λ ns. AskReady ns a) (sym (ap arm_names is ∙ planned_names (again_plan dist timer) (λ n. refl) names arms plans)) ready
 
 pub backs_off_is : (name : FullName) (now : ℕ) (a : AskContent) (exponent : Option ℕ) → exponent ≡ backs_off now (value_at a.timers name) → AskBacksOff name now a exponent
 backs_off_is name now a exponent is = record { each = λ c1 c2 calls h. is ∙ ap (backs_off now) (h.timers name) }

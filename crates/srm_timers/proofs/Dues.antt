@@ -8,7 +8,6 @@ use Rattle.std.specs.List.Sorted.{IsPermutation, IsSorted, IsSortedBy, IsPartiti
 use Rattle.std.specs.Ordering.{is_lt}
 use Rattle.std.proofs.lemmas.Bool.{and_parts, cases_lt}
 use Rattle.std.proofs.lemmas.Cmp.{tied_itself}
-use Rattle.std.proofs.lemmas.List.{get_or_default}
 use Rattle.std.proofs.lemmas.List.Sorted.{searchable_from_sorted, list_any-IsPermutation}
 use Rattle.srm_names.specs.FullName.{FullName}
 use Rattle.srm_names.specs.Names.{same_name, name_below, ascending, among, AreExactly}
@@ -18,7 +17,6 @@ use Rattle.srm_timers.specs.declared.timed.Timed.{Timed}
 use Rattle.srm_timers.specs.Places.{is_timed, names_of}
 use Rattle.srm_timers.specs.Agenda.{of_name, is_due, name_order}
 use Rattle.srm_timers.proofs.Agendas.{same_count}
-use Rattle.srm_timers.proofs.Moments.{named_at}
 use Rattle.srm_timers.proofs.Order.{ascending_tail}
 use Rattle.srm_timers.proofs.Orders.{IsInOrder, moments_rise, name_total, name_equal, name_lt_is}
 use Rattle.srm_timers.proofs.Same.{same_itself, same_flip}
@@ -41,45 +39,64 @@ not_above a b below = name_lt_is b a ∙ go (name_below b a) refl
     go false e = refl
     go true e = absurd (let k : true ≡ false = sym (names_in_order.transitive a b a below e) ∙ names_in_order.irreflexive a in cc)
 
-pub names_sorted : (xs : List Timed) → ascending name_below (names_of xs) ≡ true → IsSortedBy (λ (a b : Timed). is_lt (name_order a.name b.name)) xs
-names_sorted [] asc k d low high = absurd (omega arith)
-names_sorted (x ∷ []) asc k d low high = absurd (omega arith)
-names_sorted (x ∷ y ∷ xs) asc zero d low high = not_above x.name y.name (and_parts (name_below x.name y.name) (ascending name_below (names_of (y ∷ xs))) asc).0
-names_sorted (x ∷ y ∷ xs) asc (suc j) d low high =
-    ap (λ m. is_lt (name_order (get_or (x ∷ y ∷ xs) m d).name (get_or (y ∷ xs) j d).name)) (let e : suc j + 1 ≡ suc (j + 1) = omega arith in e)
-    ∙ names_sorted (y ∷ xs) (and_parts (name_below x.name y.name) (ascending name_below (names_of (y ∷ xs))) asc).1 j d (omega arith) (omega arith)
+map_itself : {X : Type 0} (xs : List X) → map (λ x. x) xs ≡ xs
+map_itself [] = refl
+map_itself (x ∷ xs) = ap (λ ys. x ∷ ys) (map_itself xs)
 
-stands_at : (xs : List Timed) (n : FullName) → among (names_of xs) n ≡ true → (k : ℕ) × (k < length xs) × ((d : Timed) → (get_or xs k d).name ≡ n)
-stands_at [] n e = absurd (let k : false ≡ true = e in cc)
-stands_at (x ∷ xs) n e = go (same_name n x.name) refl (stands_at xs n) e
-  where
-    go : (b : Bool) → same_name n x.name ≡ b → (among (names_of xs) n ≡ true → (k : ℕ) × (k < length xs) × ((d : Timed) → (get_or xs k d).name ≡ n)) → (b || among (names_of xs) n) ≡ true
-        → (k : ℕ) × (k < length (x ∷ xs)) × ((d : Timed) → (get_or (x ∷ xs) k d).name ≡ n)
-    go true f more h = (0, omega arith, λ d. sym (same_name-is n x.name f))
-    go false f more h = let (k, l, at) = more h in (suc k, omega arith, at)
+-- a search for a name in a list whose names rise
+module _ {X : Type 0} (key : X → FullName) where
+  names_sorted : (xs : List X) → ascending name_below (map key xs) ≡ true → IsSortedBy (λ (a b : X). is_lt (name_order (key a) (key b))) xs
+  names_sorted [] asc k d low high = absurd (omega arith)
+  names_sorted (x ∷ []) asc k d low high = absurd (omega arith)
+  names_sorted (x ∷ y ∷ xs) asc zero d low high = not_above (key x) (key y) (and_parts (name_below (key x) (key y)) (ascending name_below (map key (y ∷ xs))) asc).0
+  names_sorted (x ∷ y ∷ xs) asc (suc j) d low high =
+      ap (λ m. is_lt (name_order (key (get_or (x ∷ y ∷ xs) m d)) (key (get_or (y ∷ xs) j d)))) (let e : suc j + 1 ≡ suc (j + 1) = omega arith in e)
+      ∙ names_sorted (y ∷ xs) (and_parts (name_below (key x) (key y)) (ascending name_below (map key (y ∷ xs))) asc).1 j d (omega arith) (omega arith)
+
+  stands_at : (xs : List X) (n : FullName) → among (map key xs) n ≡ true → (k : ℕ) × (k < length xs) × ((d : X) → key (get_or xs k d) ≡ n)
+  stands_at [] n e = absurd (let k : false ≡ true = e in cc)
+  stands_at (x ∷ xs) n e = go (same_name n (key x)) refl (stands_at xs n) e
+    where
+      go : (b : Bool) → same_name n (key x) ≡ b → (among (map key xs) n ≡ true → (k : ℕ) × (k < length xs) × ((d : X) → key (get_or xs k d) ≡ n)) → (b || among (map key xs) n) ≡ true
+          → (k : ℕ) × (k < length (x ∷ xs)) × ((d : X) → key (get_or (x ∷ xs) k d) ≡ n)
+      go true f more h = (0, omega arith, λ d. sym (same_name-is n (key x) f))
+      go false f more h = let (k, l, at) = more h in (suc k, omega arith, at)
+
+  found_among : (xs : List X) (i : ℕ) (d : X) → i < length xs → among (map key xs) (key (get_or xs i d)) ≡ true
+  found_among [] i d lt = absurd (omega arith)
+  found_among (x ∷ xs) zero d lt = ap (λ b. b || among (map key xs) (key x)) (same_itself (key x))
+  found_among (x ∷ xs) (suc i) d lt = right (same_name (key (get_or xs i d)) (key x)) _ (found_among xs i d (omega arith))
+    where
+      right : (a b : Bool) → b ≡ true → (a || b) ≡ true
+      right true b e = refl
+      right false b e = e
+
+  pub is_found_by : (xs : List X) (n : FullName) (d : X) (r : Result ℕ ℕ) → ascending name_below (map key xs) ≡ true → IsSearchInRange r (length xs) → IsBinarySearchResult (λ (x : X). name_order (key x) n) xs r
+      → is_ok r ≡ among (map key xs) n
+  is_found_by xs n d (Ok i) asc within found = sym (subst (λ m. among (map key xs) m ≡ true) (name_equal (key (get_or xs i d)) n (found d)) (found_among xs i d within))
+  is_found_by xs n d (Err i) asc within found = go (among (map key xs) n) refl
+    where
+      go : (b : Bool) → among (map key xs) n ≡ b → false ≡ b
+      go false e = refl
+      go true e =
+          let (k, lt, at) = stands_at xs n e in
+          let parts = found (searchable_from_sorted name_total key xs n (names_sorted xs asc)) in
+          let same : name_order (key (get_or xs k d)) n ≡ Equal = ap (λ m. name_order m n) (at d) ∙ tied_itself name_total n in
+          elim (cases_lt k i) [
+            | inl before ↦ (let less : name_order (key (get_or xs k d)) n ≡ Less = parts.0 k d (omega arith) before in absurd (cc))
+            | inr after ↦ (let more : name_order (key (get_or xs k d)) n ≡ Greater = parts.1 k d after lt in absurd (cc))
+          ]
 
 pub is_named_by : (xs : List Timed) (n : FullName) (r : Result ℕ ℕ) → ascending name_below (names_of xs) ≡ true → IsSearchInRange r (length xs) → IsBinarySearchResult (λ (t : Timed). name_order t.name n) xs r → is_ok r ≡ among (names_of xs) n
-is_named_by xs n (Ok i) asc within found =
-    let d : Timed = record { moment = 0; name = n } in
-    sym (subst (λ m. among (names_of xs) m ≡ true) (name_equal (get_or xs i d).name n (found d)) (named_at xs i (get_or xs i d) within (get_or_default xs i d (get_or xs i d) within)))
-is_named_by xs n (Err i) asc within found = go (among (names_of xs) n) refl
-  where
-    go : (b : Bool) → among (names_of xs) n ≡ b → false ≡ b
-    go false e = refl
-    go true e =
-        let d : Timed = record { moment = 0; name = n } in
-        let (k, lt, at) = stands_at xs n e in
-        let parts = found (searchable_from_sorted name_total (λ (t : Timed). t.name) xs n (names_sorted xs asc)) in
-        let same : name_order (get_or xs k d).name n ≡ Equal = ap (λ m. name_order m n) (at d) ∙ tied_itself name_total n in
-        elim (cases_lt k i) [
-          | inl before ↦ (let less : name_order (get_or xs k d).name n ≡ Less = parts.0 k d (omega arith) before in absurd (cc))
-          | inr after ↦ (let more : name_order (get_or xs k d).name n ≡ Greater = parts.1 k d after lt in absurd (cc))
-        ]
+is_named_by xs n r asc within found = is_found_by (λ (t : Timed). t.name) xs n (record { moment = 0; name = n }) r asc within found
+
+pub is_listed_by : (xs : List FullName) (n : FullName) (r : Result ℕ ℕ) → ascending name_below xs ≡ true → IsSearchInRange r (length xs) → IsBinarySearchResult (λ (m : FullName). name_order m n) xs r → is_ok r ≡ among xs n
+is_listed_by xs n r asc within found = is_found_by (λ (m : FullName). m) xs n n r (ap (ascending name_below) (map_itself xs) ∙ asc) within found ∙ ap (λ ns. among ns n) (map_itself xs)
 
 -- ---- the due
 
 -- the front up to a partition point is what passes
-front_passes : {X : Type 0} (p : X → Bool) (xs : List X) (i : ℕ) → i ≤ length xs → IsPartitionPoint (λ x. p x ≡ true) (λ x. p x ≡ false) xs i → take i xs ≡ filter p xs
+pub front_passes : {X : Type 0} (p : X → Bool) (xs : List X) (i : ℕ) → i ≤ length xs → IsPartitionPoint (λ x. p x ≡ true) (λ x. p x ≡ false) xs i → take i xs ≡ filter p xs
 front_passes p [] zero le parts = refl
 front_passes p [] (suc i) le parts = refl
 front_passes p (x ∷ xs) zero le parts =
@@ -89,7 +106,7 @@ front_passes p (x ∷ xs) (suc i) le parts =
     ap (λ ys. x ∷ ys) (front_passes p xs i (omega arith) ((λ k d low high. parts.0 (suc k) d (omega arith) (omega arith)), (λ k d low high. parts.1 (suc k) d (omega arith) (omega arith))))
     ∙ ap (λ b. cond b (x ∷ filter p xs) (filter p xs)) (sym (parts.0 0 x (omega arith) (omega arith)))
 
-any_both : {X : Type 0} (p q : X → Bool) (xs : List X) → list_any p (filter q xs) ≡ list_any q (filter p xs)
+pub any_both : {X : Type 0} (p q : X → Bool) (xs : List X) → list_any p (filter q xs) ≡ list_any q (filter p xs)
 any_both p q [] = refl
 any_both p q (x ∷ xs) = go (p x) refl (q x) refl (any_both p q xs)
   where
@@ -100,7 +117,7 @@ any_both p q (x ∷ xs) = go (p x) refl (q x) refl (any_both p q xs)
     go false e true f h = ap (λ c. c || list_any p (filter q xs)) e ∙ h
     go false e false f h = h
 
-among_names : (xs : List Timed) (n : FullName) → among (names_of xs) n ≡ list_any (is_timed n) xs
+pub among_names : (xs : List Timed) (n : FullName) → among (names_of xs) n ≡ list_any (is_timed n) xs
 among_names [] n = refl
 among_names (x ∷ xs) n = ap (λ b. same_name n x.name || b) (among_names xs n)
 
@@ -113,7 +130,7 @@ names_counted (x ∷ xs) n = go (same_name n x.name) (names_counted xs n)
     go true h = ap suc h
     go false h = h
 
-fewer : {X : Type 0} (p q : X → Bool) (xs : List X) → length (filter p (filter q xs)) ≤ length (filter p xs)
+pub fewer : {X : Type 0} (p q : X → Bool) (xs : List X) → length (filter p (filter q xs)) ≤ length (filter p xs)
 fewer p q [] = omega arith
 fewer p q (x ∷ xs) = go (p x) refl (q x) (fewer p q xs)
   where

@@ -2,7 +2,7 @@
 use Rattle.std.proofs.Common.{◌≡◌, ℕ, ◌+◌, ◌*◌, ◌<◌, ◌≤◌, List, [], ◌∷◌, ◌++◌, map, length, get_or, take, Option, Some, None, Bool, true, false, cond, refl, sym, ap, subst, ◌∙◌, append_assoc, arith}
 use Rattle.std.specs.Prelude.{if◌then◌else◌, option_map, nat_le, nat_lt, ◌||◌, ◌&&◌, not, unwrap_or, is_some, option_to_list}
 use Rattle.std.specs.List.{list_any}
-use Rattle.std.proofs.lemmas.List.{append-nil}
+use Rattle.std.proofs.lemmas.List.Folds.{list_any-append, list_any_more}
 use Rattle.std.proofs.lemmas.Bool.Decides.{nat_tests}
 use Rattle.srm_names.specs.FullName.{FullName}
 use Rattle.srm_names.specs.Histories.{last_of, first_of, or_else}
@@ -17,9 +17,9 @@ use Rattle.srm_timers.specs.Deadlines.{has_come}
 use Rattle.srm_timers.specs.Distances.{distance_to}
 use Rattle.srm_timers.specs.Ends.{EndContent, arm_end, SetsEnds}
 use Rattle.srm_timers.specs.Timers.{armed_at}
-use Rattle.srm_timers.specs.Places.{value_at, Keeps, Sets, IsLeast}
+use Rattle.srm_timers.specs.Places.{value_at, Keeps, Sets, ClearsAll, IsLeast}
 use Rattle.srm_timers.specs.AskCalls.{flat}
-use Rattle.srm_timers.specs.FixCalls.{FixCall, Asked, SetFix, Repaired, asker_by, asked_first, first_asker, ran_by, fix_timer, is_off_by, is_off, is_free, sets_fix, hold_end, repair_by, repairs, FixFits, FixContent, FixStays, FixAdds, FixRepairs, FixDue, FixNext, FixIsFree, FixFirstAsker, FixAnswers, fix_plan, FixHolds, FixPlace, FixPlaces}
+use Rattle.srm_timers.specs.FixCalls.{FixCall, Asked, SetFix, Repaired, asker_by, asked_first, first_asker, ran_by, fix_timer, is_off_by, is_off, is_free, sets_fix, hold_end, repair_by, repairs, FixFits, FixContent, FixStays, FixAdds, FixRepairs, FixDue, FixNext, FixIsFree, FixFirstAsker, FixAnswers, fix_plan, FixHolds, FixPlace, FixPlaces, HoldsOff, HoldAllOff, asker_at, is_held, held_until}
 use Rattle.srm_timers.proofs.Arming.{same_itself, last_arms, map_take}
 use Rattle.srm_timers.proofs.AskSteps.{if_same, flat_set, ends_set, due_ran_out, first_end}
 
@@ -172,17 +172,92 @@ as_long name until f more n now true same = let e : unwrap_or (f n) 0 ≡ unwrap
     go old more = grind (arith, nat_tests)
 as_long name until f more n now false other = sym (or_false (nat_lt now (unwrap_or (f n) 0)))
 
-pub fits_longer : (d1 d2 : ℕ) (calls : List FixCall) (name : FullName) (until : ℕ) (a b : FixContent) → FixFits d1 d2 calls a → b.d1 ≡ a.d1 → b.d2 ≡ a.d2
-    → b.askers ≡ a.askers → Sets name None a.ends.places b.ends.places → unwrap_or (value_at a.holds name) 0 < until → Sets name (Some until) a.holds b.holds
-    → FixFits d1 d2 (calls ++ Repaired name until ∷ []) b
-fits_longer d1 d2 calls name until a b h p q askers ends less holds =
-    fits_ended d1 d2 calls name until a b h p q askers ends (λ n now. ap (λ o. nat_lt now (unwrap_or o 0)) (holds.each n) ∙ longer name until (value_at a.holds) less n now (same_name n name) refl)
+-- a longer hold-off takes the place of the one before, and a shorter one doesn't
+pub held_longer : (name : FullName) (until kept : ℕ) (old new : List (Place ℕ)) → kept ≡ unwrap_or (value_at old name) 0 → kept < until → Sets name (Some until) old new → HoldsOff name until old new
+held_longer name until kept old new is less sets = record {
+  each = λ n now. ap (λ o. nat_lt now (unwrap_or o 0)) (sets.each n) ∙ longer name until (value_at old) (subst (λ k. k < until) is less) n now (same_name n name) refl;
+}
 
-pub fits_as_long : (d1 d2 : ℕ) (calls : List FixCall) (name : FullName) (until : ℕ) (a b : FixContent) → FixFits d1 d2 calls a → b.d1 ≡ a.d1 → b.d2 ≡ a.d2
-    → b.askers ≡ a.askers → Sets name None a.ends.places b.ends.places → until ≤ unwrap_or (value_at a.holds name) 0 → b.holds ≡ a.holds
-    → FixFits d1 d2 (calls ++ Repaired name until ∷ []) b
-fits_as_long d1 d2 calls name until a b h p q askers ends more holds =
-    fits_ended d1 d2 calls name until a b h p q askers ends (λ n now. ap (λ e. nat_lt now (unwrap_or (value_at e n) 0)) holds ∙ as_long name until (value_at a.holds) more n now (same_name n name) refl)
+pub held_as_long : (name : FullName) (until kept : ℕ) (holds : List (Place ℕ)) → kept ≡ unwrap_or (value_at holds name) 0 → until ≤ kept → HoldsOff name until holds holds
+held_as_long name until kept holds is more = record { each = λ n now. as_long name until (value_at holds) (subst (λ k. until ≤ k) is more) n now (same_name n name) refl }
+
+-- one more name of those that are held off in one call
+pub held_none : (now : ℕ) (dist : List ℕ) (askers holds : List (Place ℕ)) → HoldAllOff now dist [] askers holds holds
+held_none now dist askers holds = record { each = λ n t. sym (or_false (is_held holds n t)) }
+
+pub held_more : (now : ℕ) (dist : List ℕ) (names : List FullName) (i : ℕ) (name : FullName) (distance member : ℕ) (askers old mid new : List (Place ℕ)) → i < length names → name ≡ get_or names i name
+    → member ≡ asker_at askers name → distance ≡ distance_to dist member → HoldAllOff now dist (take i names) askers old mid → HoldsOff name (now + 3 * distance) mid new
+    → HoldAllOff now dist (take (i + 1) names) askers old new
+held_more now dist names i name distance member askers old mid new lt is asker far so_far next = record {
+  each = λ n t. next.each n t ∙ ap (λ b. b || same_name n name && nat_lt t (now + 3 * distance)) (so_far.each n t)
+      ∙ go n t (is_held old n t) (among (take i names) n) (same_name n name) refl
+      ∙ ap (λ b. is_held old n t || b && nat_lt t (held_until now dist askers n)) (ap (λ m. among (take i names) n || same_name n m) is ∙ sym (list_any_more (same_name n) names i name lt));
+}
+  where
+    end : (n : FullName) → same_name n name ≡ true → now + 3 * distance ≡ held_until now dist askers n
+    end n e = ap (λ d. now + 3 * d) (far ∙ ap (distance_to dist) asker) ∙ ap (held_until now dist askers) (sym (same_name-is n name e))
+
+    merge : (a b s l : Bool) → ((a || b && l) || s && l) ≡ (a || (b || s) && l)
+    merge true b s l = refl
+    merge false true true true = refl
+    merge false true true false = refl
+    merge false true false l = or_false l
+    merge false false s l = refl
+
+    go : (n : FullName) (t : ℕ) (a b s : Bool) → same_name n name ≡ s
+        → ((a || b && nat_lt t (held_until now dist askers n)) || s && nat_lt t (now + 3 * distance)) ≡ (a || (b || s) && nat_lt t (held_until now dist askers n))
+    go n t a b true e = ap (λ u. (a || b && nat_lt t (held_until now dist askers n)) || nat_lt t u) (end n e) ∙ merge a b true (nat_lt t (held_until now dist askers n))
+    go n t a b false e = merge a b false (nat_lt t (held_until now dist askers n))
+
+-- names are repaired in one call: what their repairs say of the timer and of the hold-off of a name
+abbrev cancelled : Bool → Option (Option Armed)
+cancelled b = if b then Some None else None
+
+repairs_cancel : (now : ℕ) (dist : List ℕ) (calls : List FixCall) (names : List FullName) (n : FullName) → last_of (ran_by n) (repairs now dist calls names) ≡ cancelled (among names n)
+repairs_cancel now dist calls [] n = refl
+repairs_cancel now dist calls (m ∷ names) n = ap (λ o. or_else o (cancelled (same_name n m))) (repairs_cancel now dist calls names n) ∙ go (same_name n m) (among names n)
+  where
+    go : (a b : Bool) → or_else (cancelled b) (cancelled a) ≡ cancelled (a || b)
+    go true true = refl
+    go true false = refl
+    go false true = refl
+    go false false = refl
+
+repairs_hold : (now : ℕ) (dist : List ℕ) (calls : List FixCall) (names : List FullName) (n : FullName) (t : ℕ) → list_any (is_off_by n t) (repairs now dist calls names) ≡ (among names n && nat_lt t (hold_end now dist calls n))
+repairs_hold now dist calls [] n t = refl
+repairs_hold now dist calls (m ∷ names) n t = ap (λ b. same_name n m && nat_lt t (hold_end now dist calls m) || b) (repairs_hold now dist calls names n t) ∙ go (same_name n m) refl (among names n)
+  where
+    both : (b l : Bool) → (l || b && l) ≡ l
+    both true true = refl
+    both true false = refl
+    both false l = or_false l
+
+    go : (a : Bool) → same_name n m ≡ a → (b : Bool) → (a && nat_lt t (hold_end now dist calls m) || b && nat_lt t (hold_end now dist calls n)) ≡ ((a || b) && nat_lt t (hold_end now dist calls n))
+    go true e b = ap (λ k. nat_lt t (hold_end now dist calls k) || b && nat_lt t (hold_end now dist calls n)) (sym (same_name-is n m e)) ∙ both b (nat_lt t (hold_end now dist calls n))
+    go false e b = refl
+
+any_append : (calls more : List FixCall) (n : FullName) (t : ℕ) → is_off (calls ++ more) n t ≡ (is_off calls n t || list_any (is_off_by n t) more)
+any_append calls more n t = list_any-append (is_off_by n t) calls more
+
+cancels : (b : Bool) (o : Option Armed) (last : Option (Option Armed)) → flat last ≡ o → option_map end_of (flat (or_else (cancelled b) last)) ≡ (if b then None else option_map end_of o)
+cancels true o last e = refl
+cancels false o last e = ap (option_map end_of) e
+
+pub repairs_all : (now : ℕ) (dist : List ℕ) (names : List FullName) (a b : FixContent) → b.d1 ≡ a.d1 → b.d2 ≡ a.d2 → b.askers ≡ a.askers → ClearsAll names a.ends.places b.ends.places
+    → HoldAllOff now dist names a.askers a.holds b.holds → FixRepairs now dist names a b
+repairs_all now dist names a b p q askers ends off = record {
+  each = λ d1 d2 calls h. record {
+    d1_is = p ∙ h.d1_is;
+    d2_is = q ∙ h.d2_is;
+    askers = λ n. ap (λ e. value_at e n) askers ∙ h.askers n ∙ sym (asked_first-append calls (repairs now dist calls names) n (no_asker-repairs now dist calls names n));
+    ends = λ n. ends.each n ∙ ap (λ o. if among names n then None else o) (h.ends n)
+        ∙ sym (ap (λ o. option_map end_of (flat o)) (last_of-append (ran_by n) calls (repairs now dist calls names) ∙ ap (λ o. or_else o (last_of (ran_by n) calls)) (repairs_cancel now dist calls names n))
+        ∙ cancels (among names n) (fix_timer calls n) (last_of (ran_by n) calls) refl);
+    holds = λ n t. off.each n t ∙ ap (λ b. b || among names n && nat_lt t (held_until now dist a.askers n)) (h.holds n t)
+        ∙ ap (λ o. is_off calls n t || among names n && nat_lt t (now + 3 * distance_to dist (unwrap_or o n.stream.source))) (h.askers n)
+        ∙ sym (any_append calls (repairs now dist calls names) n t ∙ ap (λ b. is_off calls n t || b) (repairs_hold now dist calls names n t));
+  };
+}
 
 -- nothing changes
 pub fix_stays : (a b : FixContent) → b.d1 ≡ a.d1 → b.d2 ≡ a.d2 → Keeps a.ends.places b.ends.places → Keeps a.askers b.askers → Keeps a.holds b.holds → FixStays a b
@@ -208,18 +283,6 @@ free_is d1 d2 calls a n now h =
     ∙ ap (λ b. not b && not (nat_lt now (unwrap_or (value_at a.holds n) 0))) (some_map (fix_timer calls n))
     ∙ ap (λ b. not (is_some (fix_timer calls n)) && not b) (h.holds n now)
 
--- one more name of those that are repaired in one call
-pub repairs_more : (d1 d2 now : ℕ) (dist : List ℕ) (calls : List FixCall) (names : List FullName) (i : ℕ) (n : FullName) (b : FixContent) → i < length names → n ≡ get_or names i n
-    → FixFits d1 d2 ((calls ++ repairs now dist calls (take i names)) ++ repair_by now dist (calls ++ repairs now dist calls (take i names)) n ∷ []) b
-    → FixFits d1 d2 (calls ++ repairs now dist calls (take (i + 1) names)) b
-repairs_more d1 d2 now dist calls names i n b lt is h =
-    subst (λ cs. FixFits d1 d2 cs b)
-    (append_assoc calls (repairs now dist calls (take i names)) _
-    ∙ ap (λ (o : Option ℕ). calls ++ (repairs now dist calls (take i names) ++ Repaired n (now + 3 * distance_to dist (unwrap_or o n.stream.source)) ∷ []))
-    (asked_first-append calls (repairs now dist calls (take i names)) n (no_asker-repairs now dist calls (take i names) n))
-    ∙ ap (λ cs. calls ++ cs) (sym (map_take (repair_by now dist calls) names i n lt is)))
-    h
-
 pub fix_stays_on : (a b c : FixContent) → FixStays a b → FixStays b c → FixStays a c
 fix_stays_on a b c p q = record { each = λ d1 d2 calls h. q.each d1 d2 calls (p.each d1 d2 calls h) }
 
@@ -227,6 +290,7 @@ pub fix_holds_on : (a b c : FixContent) → FixHolds a b → FixHolds b c → Fi
 fix_holds_on a b c p q = record {
   each = λ n h. q.each n (p.each n h);
   ends = record { places = λ n h. q.ends.places n (p.ends.places n h); room = omega (arith, p.ends.room, q.ends.room) };
+  list = omega (arith, p.list, q.list);
 }
 
 -- a place for the one name
@@ -263,17 +327,9 @@ pub sets_adds_fix : (now : ℕ) (arms : List Arm) (a b : FixContent) → b.d1 �
     → ascending name_below (arm_names arms) ≡ true → SetsEnds now arms a.ends.places b.ends.places → FixAdds (sets_fix now arms) a b
 sets_adds_fix now arms a b p q askers holds rising ends = record { each = λ d1 d2 calls h. fits_sets_fix d1 d2 calls now arms a b h p q askers holds rising ends }
 
-pub repaired_longer : (name : FullName) (until kept : ℕ) (a b : FixContent) → b.d1 ≡ a.d1 → b.d2 ≡ a.d2 → b.askers ≡ a.askers → Sets name None a.ends.places b.ends.places
-    → kept ≡ unwrap_or (value_at a.holds name) 0 → kept < until → Sets name (Some until) a.holds b.holds → FixAdds (Repaired name until ∷ []) a b
-repaired_longer name until kept a b p q askers ends is less holds = record {
-  each = λ d1 d2 calls h. fits_longer d1 d2 calls name until a b h p q askers ends (subst (λ k. k < until) is less) holds;
-}
-
-pub repaired_as_long : (name : FullName) (until kept : ℕ) (a b : FixContent) → b.d1 ≡ a.d1 → b.d2 ≡ a.d2 → b.askers ≡ a.askers → Sets name None a.ends.places b.ends.places
-    → kept ≡ unwrap_or (value_at a.holds name) 0 → until ≤ kept → b.holds ≡ a.holds → FixAdds (Repaired name until ∷ []) a b
-repaired_as_long name until kept a b p q askers ends is more holds = record {
-  each = λ d1 d2 calls h. fits_as_long d1 d2 calls name until a b h p q askers ends (subst (λ k. until ≤ k) is more) holds;
-}
+pub repaired_adds : (name : FullName) (until : ℕ) (a b : FixContent) → b.d1 ≡ a.d1 → b.d2 ≡ a.d2 → b.askers ≡ a.askers → Sets name None a.ends.places b.ends.places
+    → HoldsOff name until a.holds b.holds → FixAdds (Repaired name until ∷ []) a b
+repaired_adds name until a b p q askers ends off = record { each = λ d1 d2 calls h. fits_ended d1 d2 calls name until a b h p q askers ends off.each }
 
 pub is_free_is : (name : FullName) (now : ℕ) (a : FixContent) (runs off : Bool) → runs ≡ is_some (value_at a.ends.places name) → off ≡ nat_lt now (unwrap_or (value_at a.holds name) 0)
     → FixIsFree name now a (not runs && not off)
@@ -298,15 +354,6 @@ repairs_one now dist name distance member a b first is adds = record {
 pub repairs_after : (now : ℕ) (dist : List ℕ) (names names' : List FullName) (a b c : FixContent) → FixStays a b → names ≡ names' → FixRepairs now dist names b c → FixRepairs now dist names' a c
 repairs_after now dist names names' a b c stays is repairs =
     subst (λ names. FixRepairs now dist names a c) is (record { each = λ d1 d2 calls h. repairs.each d1 d2 calls (stays.each d1 d2 calls h) })
-
-pub repairs_none : (now : ℕ) (dist : List ℕ) (a : FixContent) → FixRepairs now dist [] a a
-repairs_none now dist a = record { each = λ d1 d2 calls h. subst (λ cs. FixFits d1 d2 cs a) (sym (append-nil calls)) h }
-
-pub repairs_next : (now : ℕ) (dist : List ℕ) (names : List FullName) (i : ℕ) (n : FullName) (a b c : FixContent) → i < length names → n ≡ get_or names i n
-    → FixRepairs now dist (take i names) a b → FixRepairs now dist (n ∷ []) b c → FixRepairs now dist (take (i + 1) names) a c
-repairs_next now dist names i n a b c lt is so_far next = record {
-  each = λ d1 d2 calls h. repairs_more d1 d2 now dist calls names i n c lt is (next.each d1 d2 _ (so_far.each d1 d2 calls h));
-}
 
 -- a request: who asked, and its arm
 pub asked_sets : (name : FullName) (from now : ℕ) (arm : Arm) (a b c d : FixContent) → FixStays a b → FixAdds (Asked name from ∷ []) b c → FixAdds (SetFix now arm ∷ []) c d

@@ -10,7 +10,7 @@ use Rattle.srm_names.proofs.Same.{same_name-is}
 use Rattle.srm_timers.specs.declared.by_name.Place.{Place}
 use Rattle.srm_timers.specs.declared.timed.Timed.{Timed}
 use Rattle.srm_timers.specs.Deadlines.{has_come}
-use Rattle.srm_timers.specs.Places.{is_timed, is_at, names_of, moment_among, value_in, value_at, has_place, SetsAll, HasPlaces, IsLeast}
+use Rattle.srm_timers.specs.Places.{is_timed, is_at, names_of, moment_among, value_in, value_at, has_place, SetsAll, ClearsAll, HasPlaces, IsLeast}
 use Rattle.srm_timers.specs.Agenda.{Agenda, Follows, of_name, timed_for, timed_or, timed_among, is_due}
 use Rattle.srm_timers.proofs.Agendas.{there_is_room, appended, absent_found, short_of, none_among}
 use Rattle.srm_timers.proofs.Looking.{none_without}
@@ -96,6 +96,19 @@ follows_all a b new places now moments f left put sets len room more = record {
     go : (n : FullName) (o : Option Timed) → find (is_timed n) moments ≡ o → timed_or o (of_name n b.pairs) ≡ timed_for n (or_else (option_map (λ (t : Timed). t.moment) o) (value_at places n))
     go n (Some t) e = timed_is n t (found_passes n moments t e)
     go n None e = left n ∙ ap (λ c. if c then [] else of_name n a.pairs) (absent_found moments n ∙ ap is_some e) ∙ f.each n
+
+-- ---- many moments are taken away
+
+pub follows_none : (a new : Agenda) (places now : List (Place ℕ)) (names : List FullName) → Follows a places → ((n : FullName) → of_name n new.pairs ≡ (if among names n then [] else of_name n a.pairs))
+    → ClearsAll names places now → length now ≡ length places → a.capacity ≤ new.capacity → Follows new now
+follows_none a new places now names f left clears len more = record {
+  each = λ n. left n ∙ ap (λ xs. if among names n then [] else xs) (f.each n) ∙ go n (among names n) (value_at places n) ∙ ap (timed_for n) (sym (clears.each n));
+  room = let k = f.room in omega arith;
+}
+  where
+    go : (n : FullName) (b : Bool) (o : Option ℕ) → (if b then [] else timed_for n o) ≡ timed_for n (if b then None else o)
+    go n true o = refl
+    go n false o = refl
 
 -- ---- the first
 

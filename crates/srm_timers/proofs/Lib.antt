@@ -8,6 +8,7 @@ pub mod Agendas
 pub mod Dues
 pub mod Following
 pub mod Arming
+pub mod Fitting
 pub mod TimerSteps
 pub mod AskSteps
 pub mod FixSteps

@@ -52,7 +52,7 @@ drop_below y (x ∷ xs) zero d asc lt b m h = elim (either (same_name m x) (amon
 ]
 drop_below y (x ∷ xs) (suc i) d asc lt b m h = drop_below y xs i d (ascending_tail x xs asc) (omega arith) b m h
 
-take_drop : (i : ℕ) (xs : List FullName) → take i xs ++ drop i xs ≡ xs
+pub take_drop : (i : ℕ) (xs : List FullName) → take i xs ++ drop i xs ≡ xs
 take_drop zero xs = refl
 take_drop (suc i) [] = refl
 take_drop (suc i) (x ∷ xs) = ap (λ ys. x ∷ ys) (take_drop i xs)

@@ -9,7 +9,7 @@ use Rattle.srm_names.specs.FullName.{FullName}
 use Rattle.srm_names.specs.Names.{same_name, among}
 use Rattle.srm_names.proofs.Same.{same_name-is}
 use Rattle.srm_timers.specs.declared.by_name.Place.{Place}
-use Rattle.srm_timers.specs.Places.{value_in, value_at, is_at, has_place, Holds, Keeps, Sets, HasPlaces}
+use Rattle.srm_timers.specs.Places.{value_in, value_at, is_at, has_place, Holds, Keeps, Sets, ClearsAll, HasPlaces}
 use Rattle.srm_timers.specs.PlacesOf.{place_of, places_of}
 use Rattle.srm_timers.proofs.Same.{same_itself, same_flip}
 
@@ -139,6 +139,20 @@ module _ {V : Type 0} where
 
   pub holds_on : (xs ys zs : List (Place V)) → Holds xs ys → Holds ys zs → Holds xs zs
   holds_on xs ys zs p q = record { each = λ n h. q.each n (p.each n h) }
+
+  -- one more name whose value is taken away
+  pub clears_more : (names : List FullName) (i : ℕ) (name : FullName) (old mid new : List (Place V)) → i < length names → name ≡ get_or names i name → ClearsAll (take i names) old mid → Sets name None mid new
+      → ClearsAll (take (i + 1) names) old new
+  clears_more names i name old mid new lt is so_far sets = record {
+    each = λ n. sets.each n ∙ ap (λ v. if same_name n name then None else v) (so_far.each n) ∙ go (same_name n name) (among (take i names) n) (value_at old n)
+        ∙ ap (λ b. if b then None else value_at old n) (ap (λ m. among (take i names) n || same_name n m) is ∙ sym (list_any_more (same_name n) names i name lt));
+  }
+    where
+      go : (a b : Bool) (o : Option V) → (if a then None else (if b then None else o)) ≡ (if b || a then None else o)
+      go true true o = refl
+      go true false o = refl
+      go false true o = refl
+      go false false o = refl
 
 -- one of the first names has no place where a call for it may be refused
 pub among_at : (names : List FullName) (i : ℕ) (d : FullName) → i < length names → among names (get_or names i d) ≡ true

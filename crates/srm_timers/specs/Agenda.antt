@@ -1,10 +1,12 @@
 -- Moments in order.
-use Rattle.std.specs.Prelude.{◌≡◌, ℕ, ◌≤◌, nat_le, Bool, List, [], ◌∷◌, filter, find, length, Option, Some, None}
+use Rattle.std.specs.Prelude.{◌≡◌, ℕ, ◌≤◌, nat_le, Bool, true, List, [], ◌∷◌, filter, find, length, Option, Some, None}
+use Rattle.std.specs.List.{list_any}
 use Rattle.std.specs.declared.cmp.Ordering.{Ordering}
 use Rattle.std.specs.Ordering.{ordering_then, nat_cmp}
 use Rattle.srm_names.specs.declared.page.Page.{Page}
 use Rattle.srm_names.specs.declared.stream.Stream.{Stream}
 use Rattle.srm_names.specs.FullName.{FullName}
+use Rattle.srm_names.specs.Names.{among}
 use Rattle.srm_timers.specs.declared.by_name.Place.{Place}
 use Rattle.srm_timers.specs.declared.timed.Timed.{Timed}
 use Rattle.srm_timers.specs.Places.{is_timed, value_at}
@@ -45,6 +47,12 @@ timed_among moments n before = timed_or (find (is_timed n) moments) before
 
 abbrev pub is_due : ℕ → Timed → Bool
 is_due now t = nat_le t.moment now
+
+-- what is due there are at most so many names
+pub record PairsFit (now : ℕ) (pairs : List Timed) (room : ℕ) : Type 0 where
+  pub names : List FullName
+  pub due : (n : FullName) → list_any (is_due now) (of_name n pairs) ≡ true → among names n ≡ true
+  pub few : length names ≤ room
 
 -- each name stands there with its moment, and there is room for one of each place
 pub record Follows (a : Agenda) (places : List (Place ℕ)) : Type 0 where

@@ -61,6 +61,21 @@ arm_names arms = map arm_name arms
 abbrev pub arm_of : FullName → List Arm → Option Arm
 arm_of n arms = find (λ a. same_name n a.name) arms
 
+-- arms of requests, and arms of repairs
+pub record IsAsk (a : Arm) : Type 0 where
+  pub kind : a.kind ≡ Ask
+  pub exponent : a.exponent ≤ EXPONENT
+
+pub record IsFix (a : Arm) : Type 0 where
+  pub kind : a.kind ≡ Fix
+  pub exponent : a.exponent ≡ 0
+
+pub record AreAsks (arms : List Arm) : Type 0 where
+  pub each : AllByRecursion IsAsk arms
+
+pub record AreFixes (arms : List Arm) : Type 0 where
+  pub each : AllByRecursion IsFix arms
+
 -- the arms have exactly these settings, by name, and stand in order of name
 pub record ArmsAre (settings : FullName → Option Setting) (arms : List Arm) : Type 0 where
   pub in_order : ascending name_below (arm_names arms) ≡ true

@@ -19,8 +19,10 @@ pub record AskContent : Type 0 where
   pub c2 : ℕ
   pub ends : EndContent
   pub timers : List (Place Armed)
-  -- detect can answer so many arms without memory
+  -- so many arms can be answered without memory
   pub list : ℕ
+  -- so many names that are due can be looked up without memory
+  pub names : ℕ
 
 -- a timer that was set, with its arm, or a name that was gained
 pub data AskCall : Type 0 where
@@ -122,14 +124,16 @@ pub record AskReady (names : List FullName) (a : AskContent) : Type 0 where
   pub ends : HaveRoom names a.ends
   pub timers : (n : FullName) → among names n ≡ true → has_place a.timers n ≡ true
 
--- and be answered in a list without memory
-pub record DetectReady (names : List FullName) (a : AskContent) : Type 0 where
+-- and be answered without memory, as names that are found missing or as those that are due
+pub record AnswerReady (names : List FullName) (a : AskContent) : Type 0 where
   pub set : AskReady names a
   pub list : length names ≤ a.list
+  pub due : length names ≤ a.names
 
--- whatever could be set without memory still can
+-- whatever could be set, or looked up, without memory still can
 pub record AskHolds (old new : AskContent) : Type 0 where
   pub ends : KeepsRoom old.ends new.ends
+  pub names : old.names ≤ new.names
   pub timers : (n : FullName) → has_place old.timers n ≡ true → has_place new.timers n ≡ true
 
 -- what holds of each Asks: settings in range, an end for each timer, and an empty list for the next answer

@@ -1,7 +1,6 @@
 -- A table of distances, by member number, in microseconds.
 use Rattle.std.specs.Prelude.{ℕ, ◌≤◌, List, length, slice_index}
-use Rattle.srm_names.specs.declared.limits.TheConstants.{MEMBERS}
-use Rattle.srm_timers.specs.declared.limits.TheConstants.{DISTANCE}
+use Rattle.srm_names.specs.declared.limits.TheConstants.{MEMBERS, LONGEST_DISTANCE}
 
 abbrev pub distance_to : List ℕ → ℕ → ℕ
 distance_to dist member = slice_index dist member
@@ -9,4 +8,4 @@ distance_to dist member = slice_index dist member
 -- it has a distance for each member, each in range
 pub record AreDistances (dist : List ℕ) : Type 0 where
   pub for_each : MEMBERS ≤ length dist
-  pub in_range : (member : ℕ) → distance_to dist member ≤ DISTANCE
+  pub in_range : (member : ℕ) → distance_to dist member ≤ LONGEST_DISTANCE

@@ -79,6 +79,16 @@ by_moment = refl
 by_source : timed_order (at 1 1 40) (at 0 2 40) ≡ Greater
 by_source = refl
 
+-- pages go by their creator and then by their number, before the drawop's own number
+abbrev on_page : (creator page number : ℕ) → Timed
+on_page creator page number = record { moment = 40; name = named (record { source = 0; page = record { creator = creator; number = page } }) number }
+
+by_creator : timed_order (on_page 0 5 2) (on_page 1 0 1) ≡ Less
+by_creator = refl
+
+by_page : timed_order (on_page 1 6 1) (on_page 1 5 2) ≡ Greater
+by_page = refl
+
 by_number : timed_order (at 0 1 40) (at 0 2 40) ≡ Less
 by_number = refl
 

@@ -1,5 +1,5 @@
 -- The repair timers, by the calls so far.
-use Rattle.std.specs.Prelude.{◌≡◌, ℕ, ◌+◌, ◌*◌, ◌≤◌, Bool, true, false, not, ◌&&◌, nat_lt, List, ◌++◌, map, if◌then◌else◌, Option, Some, None, option_map, unwrap_or, is_some}
+use Rattle.std.specs.Prelude.{◌≡◌, ℕ, ◌+◌, ◌*◌, ◌≤◌, Bool, true, false, not, ◌&&◌, ◌||◌, nat_lt, List, ◌++◌, map, if◌then◌else◌, Option, Some, None, option_map, unwrap_or, is_some, length}
 use Rattle.std.specs.List.{list_any}
 use Rattle.srm_names.specs.FullName.{FullName}
 use Rattle.srm_names.specs.Histories.{last_of, first_of}
@@ -22,6 +22,8 @@ pub record FixContent : Type 0 where
   pub ends : EndContent
   pub askers : List (Place ℕ)
   pub holds : List (Place ℕ)
+  -- so many names that are due can be answered without memory
+  pub list : ℕ
 
 -- a request that was heard, a timer that was set, with its arm, or a repair that holds the name off until a moment
 pub data FixCall : Type 0 where
@@ -85,12 +87,30 @@ fix_setting distance = record { kind = Fix; exponent = 0; distance = distance }
 abbrev pub fix_plan : FullName → ℕ → Plan
 fix_plan name distance = record { name = name; setting = fix_setting distance }
 
+-- who asked for the name first, and whether it is held off, by the tables that are kept
+abbrev pub asker_at : List (Place ℕ) → FullName → ℕ
+asker_at askers n = unwrap_or (value_at askers n) n.stream.source
+
+abbrev pub is_held : List (Place ℕ) → FullName → ℕ → Bool
+is_held holds n now = nat_lt now (unwrap_or (value_at holds n) 0)
+
+abbrev pub held_until : ℕ → List ℕ → List (Place ℕ) → FullName → ℕ
+held_until now dist askers n = now + 3 * distance_to dist (asker_at askers n)
+
 pub record FixFits (d1 d2 : ℕ) (calls : List FixCall) (a : FixContent) : Type 0 where
   pub d1_is : a.d1 ≡ d1
   pub d2_is : a.d2 ≡ d2
   pub askers : (n : FullName) → value_at a.askers n ≡ asked_first calls n
   pub ends : (n : FullName) → value_at a.ends.places n ≡ option_map end_of (fix_timer calls n)
-  pub holds : (n : FullName) (now : ℕ) → nat_lt now (unwrap_or (value_at a.holds n) 0) ≡ is_off calls n now
+  pub holds : (n : FullName) (now : ℕ) → is_held a.holds n now ≡ is_off calls n now
+
+-- one name is held off until a moment, or for as long as it was
+pub record HoldsOff (name : FullName) (until : ℕ) (old new : List (Place ℕ)) : Type 0 where
+  pub each : (n : FullName) (now : ℕ) → is_held new n now ≡ is_held old n now || same_name n name && nat_lt now until
+
+-- these names are held off for three distances to those who asked for them first, or for as long as they were
+pub record HoldAllOff (now : ℕ) (dist : List ℕ) (names : List FullName) (askers old new : List (Place ℕ)) : Type 0 where
+  pub each : (n : FullName) (t : ℕ) → is_held new n t ≡ is_held old n t || among names n && nat_lt t (held_until now dist askers n)
 
 -- what fits goes on to fit, with these calls added
 pub record FixAdds (more : List FixCall) (old new : FixContent) : Type 0 where
@@ -133,15 +153,17 @@ pub record FixPlace (a : FixContent) (n : FullName) : Type 0 where
 pub record FixPlaces (names : List FullName) (a : FixContent) : Type 0 where
   pub each : (n : FullName) → among names n ≡ true → FixPlace a n
 
--- nor does setting the timers of all these names in one call
+-- nor does setting the timers of all these names in one call, nor answering them as those that are due
 pub record FixReady (names : List FullName) (a : FixContent) : Type 0 where
   pub places : FixPlaces names a
   pub ends : HaveRoom names a.ends
+  pub list : length names ≤ a.list
 
 -- whatever needed no memory needs none
 pub record FixHolds (old new : FixContent) : Type 0 where
   pub each : (n : FullName) → FixPlace old n → FixPlace new n
   pub ends : KeepsRoom old.ends new.ends
+  pub list : old.list ≤ new.list
 
 -- what holds of each Fixes: settings in range
 pub record FixIsRight (a : FixContent) : Type 0 where

@@ -34,6 +34,10 @@ pub record Keeps {V : Type 0} (old new : List (Place V)) : Type 0 where
 pub record Sets {V : Type 0} (name : FullName) (v : Option V) (old new : List (Place V)) : Type 0 where
   pub each : (n : FullName) → value_at new n ≡ (if same_name n name then v else value_at old n)
 
+-- the values of these names are taken away
+pub record ClearsAll {V : Type 0} (names : List FullName) (old new : List (Place V)) : Type 0 where
+  pub each : (n : FullName) → value_at new n ≡ (if among names n then None else value_at old n)
+
 -- each of the names has a place
 pub record HasPlaces {V : Type 0} (names : List FullName) (places : List (Place V)) : Type 0 where
   pub each : (n : FullName) → among names n ≡ true → has_place places n ≡ true

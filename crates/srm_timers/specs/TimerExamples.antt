@@ -78,6 +78,9 @@ repair_low = refl
 repair_high : high_of 1 1 (fix 1 100000 0) ≡ 200000
 repair_high = refl
 
+doubled_high : high_of 2 3 (ask 1 1 100000 0) ≡ 1000000
+doubled_high = refl
+
 -- the last word of the interval, and the one past it
 drawn_in_order : AreDrawn draw_listed (low_of 2) (high_of 2 2) (200000 ∷ 200001 ∷ 7 ∷ []) (ask 1 0 100000 400000 ∷ ask 2 0 100000 200000 ∷ []) (7 ∷ [])
 drawn_in_order = (refl, (refl, refl))
@@ -107,6 +110,19 @@ not_asked = refl
 not_found : found_setting (name 1 ∷ name 2 ∷ []) (name 3 ∷ []) (100000 ∷ []) (name 3) ≡ None
 not_found = refl
 
+-- a name of another source goes by the distance to that source, whatever it was armed with before
+abbrev far : FullName
+far = named (record { source = 2; page = first_page }) 1
+
+abbrev far_ask : Arm
+far_ask = record { kind = Ask; name = far; exponent = 0; distance = 1; wait = 4 }
+
+found_far : found_setting (far ∷ []) [] (7 ∷ 8 ∷ 9 ∷ []) far ≡ Some (ask_setting 0 9)
+found_far = refl
+
+due_far : due_setting 14 (7 ∷ 8 ∷ 9 ∷ []) (ask_timer (Set 10 far_ask ∷ [])) far ≡ Some (ask_setting 1 9)
+due_far = refl
+
 -- timers, by the calls so far
 set_again : ask_timer (Set 10 (ask 1 0 1 4) ∷ Set 12 (ask 2 0 1 4) ∷ Set 14 (ask 1 1 1 8) ∷ []) (name 1) ≡ Some (armed_at 14 (ask 1 1 1 8))
 set_again = refl
@@ -116,6 +132,12 @@ gained = refl
 
 found_after_it_was_gained : ask_timer (Gained (name 1) ∷ sets 12 (ask 1 0 1 4 ∷ ask 2 0 1 3 ∷ [])) (name 2) ≡ Some (armed_at 12 (ask 2 0 1 3))
 found_after_it_was_gained = refl
+
+another_is_not_set : ask_timer (Set 10 (ask 1 0 1 4) ∷ []) (name 2) ≡ None
+another_is_not_set = refl
+
+another_is_gained : ask_timer (Set 10 (ask 1 0 1 4) ∷ Gained (name 2) ∷ []) (name 1) ≡ Some (armed_at 10 (ask 1 0 1 4))
+another_is_gained = refl
 
 due_again : due_setting 14 (1 ∷ []) (ask_timer (Set 10 (ask 1 0 1 4) ∷ [])) (name 1) ≡ Some (ask_setting 1 1)
 due_again = refl
@@ -136,11 +158,20 @@ a_repair_runs = refl
 cancelled : fix_timer (SetFix 5000000 (fix 1 100000 100000) ∷ Repaired (name 1) 5399999 ∷ []) (name 1) ≡ None
 cancelled = refl
 
+no_repair_of_another_runs : fix_timer (SetFix 5000000 (fix 1 100000 100000) ∷ []) (name 2) ≡ None
+no_repair_of_another_runs = refl
+
+another_cancels_nothing : fix_timer (SetFix 10 (fix 1 7 9) ∷ Repaired (name 2) 40 ∷ []) (name 1) ≡ Some (armed_at 10 (fix 1 7 9))
+another_cancels_nothing = refl
+
 off_before : is_off (Repaired (name 1) 5399999 ∷ []) (name 1) 5399998 ≡ true
 off_before = refl
 
 not_off_at : is_off (Repaired (name 1) 5399999 ∷ []) (name 1) 5399999 ≡ false
 not_off_at = refl
+
+another_is_not_off : is_off (Repaired (name 1) 500 ∷ []) (name 2) 450 ≡ false
+another_is_not_off = refl
 
 -- the longer one holds off
 off_by_the_longer : is_off (Repaired (name 1) 500 ∷ Repaired (name 1) 400 ∷ []) (name 1) 450 ≡ true
@@ -149,11 +180,17 @@ off_by_the_longer = refl
 not_free : is_free (SetFix 5000000 (fix 1 100000 100000) ∷ []) (name 1) 6000000 ≡ false
 not_free = refl
 
+not_free_while_off : is_free (Repaired (name 1) 500 ∷ []) (name 1) 450 ≡ false
+not_free_while_off = refl
+
 free_again : is_free (SetFix 5000000 (fix 1 100000 100000) ∷ Repaired (name 1) 5399999 ∷ []) (name 1) 5399999 ≡ true
 free_again = refl
 
 three_distances : hold_end 5099999 (7 ∷ 100000 ∷ []) (Asked (name 1) 1 ∷ []) (name 1) ≡ 5399999
 three_distances = refl
+
+by_the_first_of_two : hold_end 10 (5 ∷ 7 ∷ 9 ∷ []) (Asked (name 1) 2 ∷ Asked (name 1) 1 ∷ []) (name 1) ≡ 37
+by_the_first_of_two = refl
 
 both_are_held_off : repairs 10 (5 ∷ 7 ∷ []) (Asked (name 1) 1 ∷ []) (name 1 ∷ name 2 ∷ []) ≡ Repaired (name 1) 31 ∷ Repaired (name 2) 25 ∷ []
 both_are_held_off = refl

@@ -1,10 +1,10 @@
 //! Moments in order.
 
-ghost use Rattle.std.specs.Prelude.{◌≡◌, ℕ, ◌≤◌, ◌<◌, ◌+◌, [], ◌∷◌, Bool, true, length, slice_get, if◌then◌else◌, OnOk, IfOk, IfSome, All};
+ghost use Rattle.std.specs.Prelude.{◌≡◌, ℕ, ◌≤◌, ◌<◌, ◌+◌, [], ◌∷◌, Bool, true, length, vec_capacity, slice_get, if◌then◌else◌, OnOk, IsOk, IfSome, All};
 ghost use Rattle.std.specs.List.{list_any};
 ghost use Rattle.srm_names.specs.FullName.{FullName};
 ghost use Rattle.srm_names.specs.Names.{among, ascending, name_below, same_name, AreExactly};
-ghost use Rattle.srm_timers.specs.Agenda.{of_name, timed_for, is_due, timed_among};
+ghost use Rattle.srm_timers.specs.Agenda.{of_name, timed_for, is_due, timed_among, PairsFit};
 ghost use Rattle.srm_timers.specs.Places.{names_of};
 
 use crate::timed::Timed;
@@ -82,7 +82,16 @@ impl Agenda {
     }
 
     /// Takes out all that stands there of these names, which rise.
-    pub(crate) fn remove_all(&mut self, moments: &[Timed])
+    pub(crate) fn remove_all(&mut self, names: &[Name])
+        requires rising { ascending name_below names.now ≡ true }
+        ensures each { (n : FullName) → of_name n self.new.pairs ≡ (if among names.now n then [] else of_name n self.old.pairs) }
+        ensures room { self.old.capacity ≤ self.new.capacity }
+    {
+        self.pairs.retain(|pair| !is_listed(names, pair.name));
+    }
+
+    /// Takes out all that stands there of the names of these moments, which rise.
+    pub(crate) fn remove_timed(&mut self, moments: &[Timed])
         requires rising { ascending name_below (names_of moments.now) ≡ true }
         ensures each { (n : FullName) → of_name n self.new.pairs ≡ (if among (names_of moments.now) n then [] else of_name n self.old.pairs) }
         ensures room { self.old.capacity ≤ self.new.capacity }
@@ -103,26 +112,43 @@ impl Agenda {
         self.pairs.sort_unstable();
     }
 
-    /// The names whose moment has come, in order of name, where each stands there at most once.
-    pub(crate) fn due(&self, now: u64) -> Result<Vec<Name>, AllocError>
+    /// Puts the names whose moment has come into a list, in order of name, where each stands there at most once.
+    pub(crate) fn due(&self, now: u64, names: &mut Vec<Name>) -> Result<(), AllocError>
         requires once { (n : FullName) → length (of_name n self.now.pairs) ≤ 1 }
-        ensures { IfOk result (λ names. AreExactly (λ n. list_any (is_due now) (of_name n self.now.pairs)) names.items) }
+        ensures names { OnOk result (AreExactly (λ n. list_any (is_due now) (of_name n self.now.pairs)) names.new.items) }
+        ensures capacity { vec_capacity names.old ≤ vec_capacity names.new }
+        ensures room { PairsFit now self.now.pairs (vec_capacity names.old) → IsOk result }
     {
         let count = self.pairs.partition_point(|pair| pair.moment <= now);
-        let mut names = names_of(*self.pairs.allocator(), &self.pairs[..count])?;
+        put_names(names, &self.pairs[..count])?;
         names.sort_unstable();
-        Ok(names)
+        Ok(())
     }
 }
 
-/// The names, in the order in which they stand.
-pub(crate) fn names_of(alloc: Global, pairs: &[Timed]) -> Result<Vec<Name>, AllocError>
-    ensures { IfOk result (λ names. names.items ≡ names_of pairs.now) }
+/// Puts the names into a list, in the order in which they stand, in place of what it holds.
+pub(crate) fn put_names(names: &mut Vec<Name>, pairs: &[Timed]) -> Result<(), AllocError>
+    ensures names { OnOk result (names.new.items ≡ names_of pairs.now) }
+    ensures capacity { vec_capacity names.old ≤ vec_capacity names.new }
+    ensures room { length pairs.now ≤ vec_capacity names.old → IsOk result }
 {
-    pairs.iter().map(|pair| pair.name).collect(alloc)
+    names.clear();
+    names.reserve(pairs.len())?;
+    for pair in pairs {
+        names.push(pair.name)?;
+    }
+    Ok(())
 }
 
 /// Whether a name is one of these, which rise.
+fn is_listed(names: &[Name], name: Name) -> bool
+    requires rising { ascending name_below names.now ≡ true }
+    ensures { result ≡ among names.now name }
+{
+    names.binary_search(&name).is_ok()
+}
+
+/// Whether a name is one of those of these moments, which rise.
 fn is_named(moments: &[Timed], name: Name) -> bool
     requires rising { ascending name_below (names_of moments.now) ≡ true }
     ensures { result ≡ among (names_of moments.now) name }

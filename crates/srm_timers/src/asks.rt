@@ -3,8 +3,9 @@
 ghost use Rattle.std.specs.Prelude.{◌≡◌, ℕ, ◌≤◌, ◌++◌, List, [], ◌∷◌, true, map, length, option_map, option_to_list, vec_capacity, IfOk, OnOk, OnErr, IsOk, IfSome, IsSome};
 ghost use Rattle.srm_names.specs.FullName.{FullName};
 ghost use Rattle.srm_names.specs.Names.{among, ascending, name_below};
-ghost use Rattle.srm_timers.specs.Arms.{backs_off, next_exponent, plan_of, arm_names, low_of, high_of, AreDrawn};
-ghost use Rattle.srm_timers.specs.AskCalls.{AskCall, Gained, ask_timer, sets, ask_plan, first_exponent, found_plan, again_plan, AskFits, AskAdds, AskBacksOff, AskRuns, AskNext, AskDue, AskedFirst, AskedAgain, AskStays, HaveNoTimer, AskReady, DetectReady, AskHolds};
+ghost use Rattle.srm_timers.specs.Arms.{backs_off, next_exponent, plan_of, arm_names, low_of, high_of, AreDrawn, IsAsk, AreAsks};
+ghost use Rattle.srm_timers.specs.AskCalls.{AskCall, Gained, ask_timer, sets, ask_plan, first_exponent, found_plan, again_plan, AskFits, AskAdds, AskBacksOff, AskRuns, AskNext, AskDue, AskedFirst, AskedAgain, AskStays, HaveNoTimer, AskReady, AnswerReady, AskHolds};
+ghost use Rattle.srm_timers.specs.Deadlines.{DueAmong, DueFit};
 ghost use Rattle.srm_timers.specs.Distances.{distance_to, AreDistances};
 ghost use Rattle.srm_timers.specs.Ends.{AreShort};
 ghost use Rattle.srm_timers.specs.Places.{value_at, has_place};
@@ -15,11 +16,11 @@ use crate::deadlines::Deadlines;
 use crate::distance::distance_in;
 use crate::ends::Ends;
 use crate::fault::TimerFault;
-use crate::limits::{DISTANCE, EXPONENT, LONGEST_WAIT, TIMER_SETTING};
+use crate::limits::{EXPONENT, LONGEST_WAIT, TIMER_SETTING};
 use crate::timers::{arm_at, set_timers};
 use crate::wait::draw_wait;
 use crate::words::Words;
-use srm_names::{MOMENT, Name};
+use srm_names::{LONGEST_DISTANCE, MOMENT, Name};
 use std::alloc::{AllocError, Global};
 use std::marker::Model;
 use std::mem;
@@ -38,8 +39,10 @@ pub struct Asks<D: Deadlines> {
     c2: u8,
     ends: Ends<D>,
     timers: ByName<Armed>,
-    /// Empty, with room for what `detect` answers next.
+    /// Empty, with room for what `detect` or `due` answers next.
     list: Vec<Arm>,
+    /// Room for the names that `due` looks up.
+    names: Vec<Name>,
 }
 
 impl<D: Deadlines> Model for Asks<D> {
@@ -48,9 +51,9 @@ impl<D: Deadlines> Model for Asks<D> {
 
     ghost Value = { AskContent };
 
-    ghost view = { λ a. record { c1 = a.c1; c2 = a.c2; ends = a.ends; timers = a.timers; list = vec_capacity a.list } };
+    ghost view = { λ a. record { c1 = a.c1; c2 = a.c2; ends = a.ends; timers = a.timers; list = vec_capacity a.list; names = vec_capacity a.names } };
 
-    ghost invariant = { λ a. AskIsRight (record { c1 = a.c1; c2 = a.c2; ends = a.ends; timers = a.timers; list = vec_capacity a.list }) a.list.items };
+    ghost invariant = { λ a. AskIsRight (record { c1 = a.c1; c2 = a.c2; ends = a.ends; timers = a.timers; list = vec_capacity a.list; names = vec_capacity a.names }) a.list.items };
 }
 
 impl<D: Deadlines> Asks<D> {
@@ -68,18 +71,20 @@ impl<D: Deadlines> Asks<D> {
             ends: Ends::new(alloc, deadlines),
             timers: ByName::new(alloc),
             list: Vec::new(alloc),
+            names: Vec::new(alloc),
         }
     }
 
-    /// Makes room, so that `detect` of these names isn't refused, once, nor needs `set_all` memory for them. No timer
-    /// changes. Only want of memory refuses it.
+    /// Makes room, so that one `detect` of these names, or one `due` at which no other names are due, isn't refused, nor
+    /// needs `set_all` memory for them. No timer changes. Only want of memory refuses it.
     pub fn room(&mut self, names: &[Name]) -> Result<(), TimerFault>
         ensures kept { AskStays self.old self.new }
         ensures held { AskHolds self.old self.new }
         ensures list { self.old.list ≤ self.new.list }
-        ensures ready { OnOk result (DetectReady names.now self.new) }
+        ensures ready { OnOk result (AnswerReady names.now self.new) }
     {
         self.room_to_set(names)?;
+        self.names.reserve(names.len())?;
         self.list.reserve(names.len())?;
         Ok(())
     }
@@ -107,6 +112,7 @@ impl<D: Deadlines> Asks<D> {
         ensures kept { AskStays self.old self.new }
         ensures empty { IfOk result (λ list. list.items ≡ []) }
         ensures capacity { IfOk result (λ list. count ≤ vec_capacity list) }
+        ensures list { OnErr result (self.old.list ≤ self.new.list) }
         ensures again { count ≤ self.old.list → IsOk result }
     {
         self.list.reserve(count)?;
@@ -135,7 +141,8 @@ impl<D: Deadlines> Asks<D> {
         ensures kept { OnErr result (AskStays self.old self.new) }
         ensures undrawn { OnErr result (words.new ≡ words.old) }
         ensures held { AskHolds self.old self.new }
-        ensures room { DetectReady names.now self.old → IsOk result }
+        ensures list { OnErr result (self.old.list ≤ self.new.list) }
+        ensures room { AnswerReady names.now self.old → IsOk result }
     {
         self.room_to_set(names)?;
         let list = self.take_list(names.len())?;
@@ -160,6 +167,7 @@ impl<D: Deadlines> Asks<D> {
         ensures arms { AskedFirst names.now asked.now dist.now result.items }
         ensures plans { map plan_of result.items ≡ map (found_plan asked.now dist.now) names.now }
         ensures drawn { AreDrawn W.draw (low_of self.now.c1) (high_of self.now.c1 self.now.c2) words.old result.items words.new }
+        ensures asks { AreAsks result.items }
         ensures short { AreShort result.items }
     {
         for name in names {
@@ -206,18 +214,24 @@ impl<D: Deadlines> Asks<D> {
         self.timers.clear(name);
     }
 
-    /// The names whose timers have run out, in order of name: those that `due` would set again. Only want of memory
-    /// refuses it.
+    /// The names whose timers have run out, in order of name: those that `due` would set again.
+    ///
+    /// They are answered in the list that is handed in, in place of what it holds. Only want of memory refuses it,
+    /// where that list has too little room for them: no [`room`](Asks::room) is needed, since a caller that makes room
+    /// for what is due asks here which names these are.
     #[tactic(auto, using(crate::proofs::AskSteps::due_is))]
-    pub fn pending(&self, now: u64) -> Result<Vec<Name>, TimerFault>
-        ensures { IfOk result (λ names. AskDue now self.now names.items) }
+    pub fn pending(&self, now: u64, names: Vec<Name>) -> Result<Vec<Name>, TimerFault>
+        ensures due { IfOk result (λ names. AskDue now self.now names.items) }
+        ensures room { DueFit now self.now.ends.places (vec_capacity names) → IsOk result }
     {
-        Ok(self.ends.due(now)?)
+        let mut names = names;
+        self.ends.due(now, &mut names)?;
+        Ok(names)
     }
 
     /// The timers that have run out are set again, each one exponent higher; their names are the ones to ask for now.
     /// Only want of memory refuses it.
-    #[tactic(auto, using(crate::proofs::AskSteps::sets_after, crate::proofs::AskSteps::asked_again, crate::proofs::AskSteps::again_rise))]
+    #[tactic(auto, using(crate::proofs::AskSteps::sets_then, crate::proofs::AskSteps::again_rise, crate::proofs::AskSteps::due_runs, crate::proofs::AskSteps::stays_kept, crate::proofs::AskSteps::keeps_self, crate::proofs::Fitting::due_no_more))]
     pub fn due<W: Words>(
         &mut self,
         now: u64,
@@ -232,12 +246,14 @@ impl<D: Deadlines> Asks<D> {
         ensures kept { OnErr result (AskStays self.old self.new) }
         ensures undrawn { OnErr result (words.new ≡ words.old) }
         ensures held { AskHolds self.old self.new }
-        ensures list { self.new.list ≡ self.old.list }
+        ensures list { OnErr result (self.old.list ≤ self.new.list) }
+        ensures room { (names : List FullName) → AnswerReady names self.old → DueAmong now self.old.ends.places names → IsOk result }
     {
-        let names = self.ends.due(now)?;
-        self.room_to_set(&names)?;
-        let list = Vec::with_capacity(self.alloc, names.len())?;
-        let arms = self.again(list, &names, dist, words);
+        self.ends.due(now, &mut self.names)?;
+        self.ends.reserve(self.names.len())?;
+        self.list.reserve(self.names.len())?;
+        let list = mem::replace(&mut self.list, Vec::new(self.alloc));
+        let arms = self.again(list, &self.names, dist, words);
         self.set_all(now, &arms);
         Ok(arms)
     }
@@ -256,6 +272,7 @@ impl<D: Deadlines> Asks<D> {
         requires distances { AreDistances dist.now }
         ensures plans { map plan_of result.items ≡ map (again_plan dist.now (value_at self.now.timers)) names.now }
         ensures drawn { AreDrawn W.draw (low_of self.now.c1) (high_of self.now.c1 self.now.c2) words.old result.items words.new }
+        ensures asks { AreAsks result.items }
         ensures short { AreShort result.items }
     {
         for name in names {
@@ -298,9 +315,10 @@ impl<D: Deadlines> Asks<D> {
     /// Draws the wait of an arm, by one word. No timer is set.
     pub fn arm<W: Words>(&self, name: Name, exponent: u8, distance: u64, words: &mut W) -> Arm
         requires exponent { exponent ≤ EXPONENT }
-        requires distance { distance ≤ DISTANCE }
+        requires distance { distance ≤ LONGEST_DISTANCE }
         ensures plan { plan_of result ≡ ask_plan name distance exponent }
         ensures drawn { AreDrawn W.draw (low_of self.now.c1) (high_of self.now.c1 self.now.c2) words.old (result ∷ []) words.new }
+        ensures ask { IsAsk result }
         ensures short { result.wait ≤ LONGEST_WAIT }
     {
         let wait = draw_wait(self.c1, self.c2, exponent, distance, words);
@@ -334,6 +352,7 @@ impl<D: Deadlines> Asks<D> {
         requires rising { ascending name_below (arm_names arms.now) ≡ true }
         requires ready { AskReady (arm_names arms.now) self.old }
         requires now { now ≤ MOMENT }
+        requires asks { AreAsks arms.now }
         requires short { AreShort arms.now }
         ensures fits { AskAdds (sets now arms.now) self.old self.new }
         ensures held { AskHolds self.old self.new }

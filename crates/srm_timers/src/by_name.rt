@@ -3,7 +3,7 @@
 ghost use Rattle.std.specs.Prelude.{◌≡◌, ℕ, ◌≤◌, ◌<◌, ◌+◌, ◌^◌, List, [], Bool, true, OnOk, OnErr, IsOk, length, slice_index_or, Some, None};
 ghost use Rattle.srm_names.specs.FullName.{FullName};
 ghost use Rattle.srm_names.specs.Names.{among, ascending, name_below};
-ghost use Rattle.srm_timers.specs.Places.{value_at, has_place, names_of, Holds, Keeps, Sets, SetsAll, HasPlaces};
+ghost use Rattle.srm_timers.specs.Places.{value_at, has_place, names_of, Holds, Keeps, Sets, SetsAll, ClearsAll, HasPlaces};
 
 use crate::timed::Timed;
 use indexmap::IndexMap;
@@ -50,11 +50,6 @@ impl<V: Copy> ByName<V> {
         ensures small { result < 2 ^ 63 }
     {
         self.places.len()
-    }
-
-    /// The allocator that places come from.
-    pub(crate) fn allocator(&self) -> Global {
-        *self.places.allocator()
     }
 
     /// The place at an index, in whatever order.
@@ -130,6 +125,18 @@ impl<V: Copy> ByName<V> {
     {
         if self.has_place(name) {
             self.set(name, None);
+        }
+    }
+
+    /// Takes the values of names away, where they have one.
+    #[tactic(auto, using(crate::proofs::Tables::clears_more, crate::proofs::Tables::holds_on))]
+    pub(crate) fn clear_all(&mut self, names: &[Name])
+        ensures sets { ClearsAll names.now self.old self.new }
+        ensures held { Holds self.old self.new }
+        ensures length { length self.new ≡ length self.old }
+    {
+        for name in names {
+            self.clear(*name);
         }
     }
 }

@@ -1,10 +1,10 @@
 //! Moments by name.
 
-ghost use Rattle.std.specs.Prelude.{◌≡◌, ℕ, List, true, OnOk, IfOk, IsOk, Some, None};
+ghost use Rattle.std.specs.Prelude.{◌≡◌, ℕ, ◌≤◌, List, true, vec_capacity, OnOk, IsOk, Some, None};
 ghost use Rattle.srm_names.specs.Names.{AreExactly, ascending, name_below};
 ghost use Rattle.srm_timers.specs.declared.by_name.Place.{Place as APlace};
-ghost use Rattle.srm_timers.specs.Deadlines.{has_come};
-ghost use Rattle.srm_timers.specs.Places.{value_at, has_place, names_of, Holds, Keeps, Sets, SetsAll, HasPlaces, IsLeast};
+ghost use Rattle.srm_timers.specs.Deadlines.{has_come, DueFit};
+ghost use Rattle.srm_timers.specs.Places.{value_at, has_place, names_of, Holds, Keeps, Sets, SetsAll, ClearsAll, HasPlaces, IsLeast};
 
 use crate::timed::Timed;
 use srm_names::Name;
@@ -43,13 +43,22 @@ pub trait Deadlines {
         ensures sets { Sets name None (places self.old) (places self.new) }
         ensures held { Holds (places self.old) (places self.new) };
 
+    /// Takes the moments of names away, where they have one, that stand in rising order. Their places stay.
+    fn clear_all(&mut self, names: &[Name])
+        requires { ascending name_below names.now ≡ true }
+        ensures sets { ClearsAll names.now (places self.old) (places self.new) }
+        ensures held { Holds (places self.old) (places self.new) };
+
     /// The moment of a name, in microseconds.
     fn get(&self, name: Name) -> Option<u64>
         ensures { result ≡ value_at (places self.now) name };
 
-    /// The names whose moment has come, in order of name. Only want of memory refuses it.
-    fn due(&self, now: u64) -> Result<Vec<Name>, AllocError>
-        ensures { IfOk result (λ names. AreExactly (λ n. has_come now (value_at (places self.now) n)) names.items) };
+    /// Puts the names whose moment has come into a list, in order of name, in place of what it holds. Only want of
+    /// memory refuses it, where the list has too little room for them; what the list holds is then open.
+    fn due(&self, now: u64, names: &mut Vec<Name>) -> Result<(), AllocError>
+        ensures names { OnOk result (AreExactly (λ n. has_come now (value_at (places self.now) n)) names.new.items) }
+        ensures capacity { vec_capacity names.old ≤ vec_capacity names.new }
+        ensures room { DueFit now (places self.now) (vec_capacity names.old) → IsOk result };
 
     /// The least moment, in microseconds.
     fn next(&self) -> Option<u64>

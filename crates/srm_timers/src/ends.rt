@@ -1,11 +1,11 @@
 //! The moments at which timers run out.
 
-ghost use Rattle.std.specs.Prelude.{◌≡◌, ◌≤◌, ◌+◌, ◌++◌, true, map, length, vec_len, vec_capacity, Some, None, IfOk, OnOk, IsOk};
+ghost use Rattle.std.specs.Prelude.{◌≡◌, ◌≤◌, ◌+◌, ◌++◌, true, map, length, vec_len, vec_capacity, Some, None, OnOk, IsOk};
 ghost use Rattle.srm_names.specs.Names.{AreExactly, ascending, name_below};
 ghost use Rattle.srm_timers.specs.Arms.{arm_names};
-ghost use Rattle.srm_timers.specs.Deadlines.{has_come};
+ghost use Rattle.srm_timers.specs.Deadlines.{has_come, DueFit};
 ghost use Rattle.srm_timers.specs.Ends.{timed_at, SetsEnds, AreShort, HaveRoom, KeepsRoom};
-ghost use Rattle.srm_timers.specs.Places.{value_at, has_place, Keeps, Sets, IsLeast, HasPlaces};
+ghost use Rattle.srm_timers.specs.Places.{value_at, has_place, Keeps, Sets, ClearsAll, IsLeast, HasPlaces};
 
 use crate::arm::Arm;
 use crate::deadlines::Deadlines;
@@ -60,7 +60,17 @@ impl<D: Deadlines> Ends<D> {
         ensures again { HaveRoom names.now self.old → IsOk result }
     {
         self.deadlines.room(names)?;
-        self.moments.reserve(names.len())
+        self.reserve(names.len())
+    }
+
+    /// Makes room to set so many names that have places in one call. No moment changes.
+    pub fn reserve(&mut self, count: usize) -> Result<(), AllocError>
+        ensures places { self.new.places ≡ self.old.places }
+        ensures room { self.old.room ≤ self.new.room }
+        ensures ok { OnOk result (count ≤ self.new.room) }
+        ensures again { count ≤ self.old.room → IsOk result }
+    {
+        self.moments.reserve(count)
     }
 
     pub fn get(&self, name: Name) -> Option<u64>
@@ -99,11 +109,22 @@ impl<D: Deadlines> Ends<D> {
         self.deadlines.clear(name);
     }
 
-    /// The names whose moment has come, in order of name.
-    pub fn due(&self, now: u64) -> Result<Vec<Name>, AllocError>
-        ensures { IfOk result (λ names. AreExactly (λ n. has_come now (value_at self.now.places n)) names.items) }
+    /// The timers of names that rise are gone.
+    pub fn clear_all(&mut self, names: &[Name])
+        requires { ascending name_below names.now ≡ true }
+        ensures sets { ClearsAll names.now self.old.places self.new.places }
+        ensures held { KeepsRoom self.old self.new }
     {
-        self.deadlines.due(now)
+        self.deadlines.clear_all(names);
+    }
+
+    /// Puts the names whose moment has come into a list, in order of name, in place of what it holds.
+    pub fn due(&self, now: u64, names: &mut Vec<Name>) -> Result<(), AllocError>
+        ensures names { OnOk result (AreExactly (λ n. has_come now (value_at self.now.places n)) names.new.items) }
+        ensures capacity { vec_capacity names.old ≤ vec_capacity names.new }
+        ensures room { DueFit now self.now.places (vec_capacity names.old) → IsOk result }
+    {
+        self.deadlines.due(now, names)
     }
 
     /// The least moment.

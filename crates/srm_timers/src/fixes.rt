@@ -1,11 +1,14 @@
 //! When a member answers others.
 
-ghost use Rattle.std.specs.Prelude.{◌≡◌, ◌≤◌, ◌+◌, ◌*◌, [], ◌∷◌, true, not, ◌&&◌, option_to_list, IfOk, OnOk, OnErr, IsOk};
+ghost use Rattle.std.specs.Prelude.{◌≡◌, ◌≤◌, ◌+◌, ◌*◌, List, [], ◌∷◌, true, not, ◌&&◌, option_to_list, vec_capacity, IfOk, OnOk, OnErr, IsOk};
+ghost use Rattle.srm_names.specs.FullName.{FullName};
 ghost use Rattle.srm_names.specs.Names.{ascending, name_below};
-ghost use Rattle.srm_timers.specs.Arms.{plan_of, arm_names, low_of, high_of, AreDrawn};
-ghost use Rattle.srm_timers.specs.FixCalls.{Asked, Repaired, sets_fix, fix_plan, FixFits, FixAdds, FixRepairs, FixDue, FixNext, FixIsFree, FixFirstAsker, FixAnswers, FixStays, FixPlace, FixPlaces, FixReady, FixHolds};
+ghost use Rattle.srm_timers.specs.Arms.{plan_of, arm_names, low_of, high_of, AreDrawn, IsFix, AreFixes};
+ghost use Rattle.srm_timers.specs.FixCalls.{Asked, Repaired, sets_fix, fix_plan, FixFits, FixAdds, FixRepairs, FixDue, FixNext, FixIsFree, FixFirstAsker, FixAnswers, FixStays, FixPlace, FixPlaces, FixReady, FixHolds, HoldsOff, HoldAllOff, asker_at};
+ghost use Rattle.srm_timers.specs.Deadlines.{DueAmong, DueFit};
 ghost use Rattle.srm_timers.specs.Distances.{distance_to, AreDistances};
 ghost use Rattle.srm_timers.specs.Ends.{HaveRoom, AreShort};
+ghost use Rattle.srm_timers.specs.Places.{has_place, HasPlaces, Holds};
 
 use crate::arm::{Arm, ArmKind};
 use crate::by_name::ByName;
@@ -13,12 +16,13 @@ use crate::deadlines::Deadlines;
 use crate::distance::distance_in;
 use crate::ends::Ends;
 use crate::fault::TimerFault;
-use crate::limits::{DISTANCE, LONGEST_WAIT, TIMER_SETTING};
+use crate::limits::{LONGEST_WAIT, TIMER_SETTING};
 use crate::wait::draw_wait;
 use crate::words::Words;
-use srm_names::{MOMENT, Member, Name};
+use srm_names::{LONGEST_DISTANCE, MOMENT, Member, Name};
 use std::alloc::{AllocError, Global};
 use std::marker::Model;
+use std::mem;
 
 #[cfg(test)]
 mod tests;
@@ -29,21 +33,25 @@ mod tests;
 /// 2^48, and distances microseconds, at most 10,000,000.
 #[derive(Drop)]
 pub struct Fixes<D: Deadlines> {
+    alloc: Global,
     d1: u8,
     d2: u8,
     ends: Ends<D>,
     askers: ByName<Member>,
     holds: ByName<u64>,
+    /// Room for what `due` answers next.
+    list: Vec<Name>,
 }
 
 impl<D: Deadlines> Model for Fixes<D> {
+    ghost use Rattle.std.specs.Prelude.{vec_capacity};
     ghost use Rattle.srm_timers.specs.FixCalls.{FixContent, FixIsRight};
 
     ghost Value = { FixContent };
 
-    ghost view = { λ a. record { d1 = a.d1; d2 = a.d2; ends = a.ends; askers = a.askers; holds = a.holds } };
+    ghost view = { λ a. record { d1 = a.d1; d2 = a.d2; ends = a.ends; askers = a.askers; holds = a.holds; list = vec_capacity a.list } };
 
-    ghost invariant = { λ a. FixIsRight (record { d1 = a.d1; d2 = a.d2; ends = a.ends; askers = a.askers; holds = a.holds }) };
+    ghost invariant = { λ a. FixIsRight (record { d1 = a.d1; d2 = a.d2; ends = a.ends; askers = a.askers; holds = a.holds; list = vec_capacity a.list }) };
 }
 
 impl<D: Deadlines> Fixes<D> {
@@ -55,16 +63,18 @@ impl<D: Deadlines> Fixes<D> {
         ensures { FixFits d1 d2 [] result }
     {
         Fixes {
+            alloc,
             d1,
             d2,
             ends: Ends::new(alloc, deadlines),
             askers: ByName::new(alloc),
             holds: ByName::new(alloc),
+            list: Vec::new(alloc),
         }
     }
 
-    /// Makes room, so that no call on one of these names is refused, nor needs `set_all` memory for them. Nothing else
-    /// changes. Only want of memory refuses it.
+    /// Makes room, so that no call on one of these names is refused, nor needs `set_all` memory for them, nor is one `due`
+    /// refused at which no other names are due. Nothing else changes. Only want of memory refuses it.
     pub fn room(&mut self, names: &[Name]) -> Result<(), TimerFault>
         ensures kept { FixStays self.old self.new }
         ensures held { FixHolds self.old self.new }
@@ -72,6 +82,7 @@ impl<D: Deadlines> Fixes<D> {
     {
         self.make_places(names)?;
         self.ends.room(names)?;
+        self.list.reserve(names.len())?;
         Ok(())
     }
 
@@ -149,53 +160,62 @@ impl<D: Deadlines> Fixes<D> {
         ensures room { FixPlace self.old name → IsOk result }
     {
         self.make_place(name)?;
-        self.hold_off(name, dist, now);
+        self.repair(name, dist, now);
         Ok(())
     }
 
-    /// The names whose timers have run out, in order of name: those that `due` would hand out. Only want of memory
-    /// refuses it.
+    /// The names whose timers have run out, in order of name: those that `due` would hand out.
+    ///
+    /// They are answered in the list that is handed in, in place of what it holds. Only want of memory refuses it,
+    /// where that list has too little room for them: no [`room`](Fixes::room) is needed, since a caller that makes room
+    /// for what is due asks here which names these are.
     #[tactic(auto, using(crate::proofs::FixSteps::fix_due_is))]
-    pub fn pending(&self, now: u64) -> Result<Vec<Name>, TimerFault>
-        ensures { IfOk result (λ names. FixDue now self.now names.items) }
+    pub fn pending(&self, now: u64, names: Vec<Name>) -> Result<Vec<Name>, TimerFault>
+        ensures due { IfOk result (λ names. FixDue now self.now names.items) }
+        ensures room { DueFit now self.now.ends.places (vec_capacity names) → IsOk result }
     {
-        Ok(self.ends.due(now)?)
+        let mut names = names;
+        self.ends.due(now, &mut names)?;
+        Ok(names)
     }
 
     /// The names whose timers have run out, in order of name, to be repaired now: their timers are gone, and they are
     /// held off as where a repair of them was heard. Only want of memory refuses it.
-    #[tactic(auto, using(crate::proofs::FixSteps::fix_due_is, crate::proofs::FixSteps::repairs_after))]
+    #[tactic(auto, using(crate::proofs::FixSteps::fix_due_is, crate::proofs::FixSteps::fix_stays, crate::proofs::AskSteps::keeps_self))]
     pub fn due(&mut self, now: u64, dist: &[u64]) -> Result<Vec<Name>, TimerFault>
         requires distances { AreDistances dist.now }
         requires now { now ≤ MOMENT }
         ensures fits { IfOk result (λ names. FixRepairs now dist.now names.items self.old self.new) }
         ensures names { IfOk result (λ names. FixDue now self.old names.items) }
         ensures kept { OnErr result (FixStays self.old self.new) }
-        ensures held { FixHolds self.old self.new }
+        ensures held { FixHolds (record self.old { list = 0 }) self.new }
+        ensures list { OnErr result (self.old.list ≤ self.new.list) }
+        ensures room { (names : List FullName) → FixReady names self.old → DueAmong now self.old.ends.places names → IsOk result }
     {
-        let names = self.ends.due(now)?;
-        self.make_places(&names)?;
-        self.hold_all_off(&names, dist, now);
+        self.ends.due(now, &mut self.list)?;
+        self.holds.room(&self.list)?;
+        let names = mem::replace(&mut self.list, Vec::new(self.alloc));
+        self.repair_all(&names, dist, now);
         Ok(names)
     }
 
-    /// Names are repaired now.
-    #[tactic(auto, using(crate::proofs::FixSteps::repairs_none, crate::proofs::FixSteps::repairs_next, crate::proofs::FixSteps::fix_holds_on))]
-    fn hold_all_off(&mut self, names: &[Name], dist: &[u64], now: u64)
-        requires places { FixPlaces names.now self.old }
+    /// Names, which rise, are repaired now.
+    #[tactic(auto, using(crate::proofs::FixSteps::repairs_all))]
+    fn repair_all(&mut self, names: &[Name], dist: &[u64], now: u64)
+        requires rising { ascending name_below names.now ≡ true }
+        requires places { HasPlaces names.now self.old.holds }
         requires distances { AreDistances dist.now }
         requires now { now ≤ MOMENT }
         ensures fits { FixRepairs now dist.now names.now self.old self.new }
         ensures held { FixHolds self.old self.new }
     {
-        for name in names {
-            self.hold_off(*name, dist, now);
-        }
+        self.ends.clear_all(names);
+        hold_all_off(&mut self.holds, &self.askers, names, dist, now);
     }
 
     /// A name is repaired now.
     #[tactic(auto, using(crate::proofs::FixSteps::repairs_one))]
-    fn hold_off(&mut self, name: Name, dist: &[u64], now: u64)
+    fn repair(&mut self, name: Name, dist: &[u64], now: u64)
         requires place { FixPlace self.old name }
         requires distances { AreDistances dist.now }
         requires now { now ≤ MOMENT }
@@ -230,10 +250,7 @@ impl<D: Deadlines> Fixes<D> {
     pub fn first_asker(&self, name: Name) -> Member
         ensures { FixFirstAsker name self.now result }
     {
-        match self.askers.get(name) {
-            Some(member) => member,
-            None => name.source(),
-        }
+        asker_in(&self.askers, name)
     }
 
     /// Notes who asked for a name, unless one asked before. Takes no memory.
@@ -252,9 +269,10 @@ impl<D: Deadlines> Fixes<D> {
 
     /// Draws the wait of an arm, by one word. No timer is set.
     pub fn arm<W: Words>(&self, name: Name, distance: u64, words: &mut W) -> Arm
-        requires { distance ≤ DISTANCE }
+        requires { distance ≤ LONGEST_DISTANCE }
         ensures plan { plan_of result ≡ fix_plan name distance }
         ensures drawn { AreDrawn W.draw (low_of self.now.d1) (high_of self.now.d1 self.now.d2) words.old (result ∷ []) words.new }
+        ensures fix { IsFix result }
         ensures short { result.wait ≤ LONGEST_WAIT }
     {
         let wait = draw_wait(self.d1, self.d2, 0, distance, words);
@@ -285,6 +303,7 @@ impl<D: Deadlines> Fixes<D> {
         requires rising { ascending name_below (arm_names arms.now) ≡ true }
         requires room { HaveRoom (arm_names arms.now) self.old.ends }
         requires now { now ≤ MOMENT }
+        requires fixes { AreFixes arms.now }
         requires short { AreShort arms.now }
         ensures fits { FixAdds (sets_fix now arms.now) self.old self.new }
         ensures held { FixHolds self.old self.new }
@@ -294,19 +313,62 @@ impl<D: Deadlines> Fixes<D> {
 
     /// A repair of a name was heard or is handed out: its timer is gone, and it is held off for three of these
     /// distances, unless a repair before holds it off for longer. Takes no memory.
-    #[tactic(auto, using(crate::proofs::FixSteps::repaired_longer, crate::proofs::FixSteps::repaired_as_long))]
+    #[tactic(auto, using(crate::proofs::FixSteps::repaired_adds))]
     pub fn repaired(&mut self, name: Name, distance: u64, now: u64)
         requires place { FixPlace self.old name }
-        requires distance { distance ≤ DISTANCE }
+        requires distance { distance ≤ LONGEST_DISTANCE }
         requires now { now ≤ MOMENT }
         ensures fits { FixAdds (Repaired name (now + 3 * distance) ∷ []) self.old self.new }
         ensures held { FixHolds self.old self.new }
     {
-        let until = now + 3 * distance;
         self.ends.clear(name);
-        if self.holds.get(name).unwrap_or(0) < until {
-            self.holds.set(name, Some(until));
-        }
+        hold_off(&mut self.holds, name, distance, now);
+    }
+}
+
+/// Who asked for a name first, else its source.
+fn asker_in(askers: &ByName<Member>, name: Name) -> Member
+    ensures { result ≡ asker_at askers.now name }
+{
+    match askers.get(name) {
+        Some(member) => member,
+        None => name.source(),
+    }
+}
+
+/// Holds a name off for three of these distances, unless it is held off for longer.
+#[tactic(auto, using(crate::proofs::FixSteps::held_longer, crate::proofs::FixSteps::held_as_long))]
+fn hold_off(holds: &mut ByName<u64>, name: Name, distance: u64, now: u64)
+    requires place { has_place holds.old name ≡ true }
+    requires distance { distance ≤ LONGEST_DISTANCE }
+    requires now { now ≤ MOMENT }
+    ensures off { HoldsOff name (now + 3 * distance) holds.old holds.new }
+    ensures held { Holds holds.old holds.new }
+{
+    let until = now + 3 * distance;
+    if holds.get(name).unwrap_or(0) < until {
+        holds.set(name, Some(until));
+    }
+}
+
+/// Holds names off for three distances to those who asked for them first.
+#[tactic(auto, using(crate::proofs::FixSteps::held_none, crate::proofs::FixSteps::held_more, crate::proofs::Tables::holds_on))]
+fn hold_all_off(
+    holds: &mut ByName<u64>,
+    askers: &ByName<Member>,
+    names: &[Name],
+    dist: &[u64],
+    now: u64,
+)
+    requires places { HasPlaces names.now holds.old }
+    requires distances { AreDistances dist.now }
+    requires now { now ≤ MOMENT }
+    ensures off { HoldAllOff now dist.now names.now askers.now holds.old holds.new }
+    ensures held { Holds holds.old holds.new }
+{
+    for name in names {
+        let distance = distance_in(dist, asker_in(askers, *name));
+        hold_off(holds, *name, distance, now);
     }
 }
 

@@ -6,8 +6,8 @@ ghost use Rattle.srm_names.specs.Names.{first_page, named};
 ghost use Rattle.srm_timers.specs.AskCalls.{HaveNoTimer};
 ghost use Rattle.srm_timers.specs.Distances.{AreDistances};
 
-use crate::{Arm, ArmKind, Asks, DISTANCE, Fixes, Listed, Scanned, TIMER_SETTING};
-use srm_names::{Member, Name, Page};
+use crate::{Arm, ArmKind, Asks, Fixes, Listed, Scanned, TIMER_SETTING};
+use srm_names::{LONGEST_DISTANCE, Member, Name, Page};
 use std::alloc::Global;
 use std::process::Abort;
 
@@ -29,7 +29,7 @@ pub(crate) fn name(rt: &impl Abort, number: u32) -> Name
 
 /// Each member is as far away.
 pub(crate) fn all_at(distance: u64) -> [u64; 32]
-    requires { distance ≤ DISTANCE }
+    requires { distance ≤ LONGEST_DISTANCE }
     ensures { AreDistances result }
 {
     [distance; 32]
@@ -37,8 +37,8 @@ pub(crate) fn all_at(distance: u64) -> [u64; 32]
 
 /// Member 1 is near, and all others are far away.
 pub(crate) fn near_and_far(near: u64, far: u64) -> [u64; 32]
-    requires near { near ≤ DISTANCE }
-    requires far { far ≤ DISTANCE }
+    requires near { near ≤ LONGEST_DISTANCE }
+    requires far { far ≤ LONGEST_DISTANCE }
     ensures { AreDistances result }
 {
     let mut dist = [far; 32];

@@ -34,7 +34,7 @@ pub use by_name::Place;
 pub use deadlines::Deadlines;
 pub use fault::TimerFault;
 pub use fixes::Fixes;
-pub use limits::{DISTANCE, EXPONENT, LONGEST_WAIT, TIMER_SETTING};
+pub use limits::{EXPONENT, LONGEST_WAIT, TIMER_SETTING};
 pub use listed::Listed;
 pub use ordered::Ordered;
 pub use pcg::Pcg;

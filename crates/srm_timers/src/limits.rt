@@ -6,8 +6,5 @@ pub const TIMER_SETTING: u8 = 16;
 /// The greatest exponent: a wait is doubled at most so often.
 pub const EXPONENT: u8 = 8;
 
-/// The longest distance to a member that may be handed in, in microseconds.
-pub const DISTANCE: u64 = 10_000_000;
-
 /// The longest wait, in microseconds: both settings the largest, the exponent too, over the longest distance.
 pub const LONGEST_WAIT: u64 = 81_920_000_000;

@@ -2,7 +2,7 @@
 
 ghost use Rattle.std.specs.Prelude.{◌≡◌, [], true, OnOk, IsOk};
 ghost use Rattle.srm_names.specs.Names.{ascending, name_below};
-ghost use Rattle.srm_timers.specs.Places.{has_place, names_of, Holds, Keeps, SetsAll, HasPlaces};
+ghost use Rattle.srm_timers.specs.Places.{has_place, names_of, Holds, Keeps, SetsAll, ClearsAll, HasPlaces};
 
 use crate::agenda::Agenda;
 use crate::by_name::ByName;
@@ -81,9 +81,19 @@ impl Ordered {
         ensures sets { SetsAll moments.now self.old self.new }
         ensures held { Holds self.old self.new }
     {
-        self.agenda.remove_all(moments);
+        self.agenda.remove_timed(moments);
         self.moments.set_all(moments);
         self.agenda.extend(moments);
+    }
+
+    /// Takes the moments of names away in one go: all that stands behind them is moved once.
+    fn clear_many(&mut self, names: &[Name])
+        requires { ascending name_below names.now ≡ true }
+        ensures sets { ClearsAll names.now self.old self.new }
+        ensures held { Holds self.old self.new }
+    {
+        self.agenda.remove_all(names);
+        self.moments.clear_all(names);
     }
 }
 
@@ -116,12 +126,18 @@ impl Deadlines for Ordered {
         self.moments.clear(name);
     }
 
+    fn clear_all(&mut self, names: &[Name]) {
+        if !names.is_empty() {
+            self.clear_many(names);
+        }
+    }
+
     fn get(&self, name: Name) -> Option<u64> {
         self.moments.get(name)
     }
 
-    fn due(&self, now: u64) -> Result<Vec<Name>, AllocError> {
-        self.agenda.due(now)
+    fn due(&self, now: u64, names: &mut Vec<Name>) -> Result<(), AllocError> {
+        self.agenda.due(now, names)
     }
 
     fn next(&self) -> Option<u64> {

@@ -1,10 +1,11 @@
 //! Deadlines in a list that is looked through.
 
-ghost use Rattle.std.specs.Prelude.{◌≡◌, ℕ, ◌≤◌, ◌||◌, [], Bool, true, length, take, drop, IfSome, OnOk, IsNone, Option};
+ghost use Rattle.std.specs.Prelude.{◌≡◌, ℕ, ◌≤◌, ◌||◌, [], Bool, true, false, length, vec_capacity, take, drop, IfSome, OnOk, OnErr, IsOk, IsNone, Option};
 ghost use Rattle.srm_names.specs.FullName.{FullName};
-ghost use Rattle.srm_names.specs.Names.{among, ascending, name_below, same_name};
-ghost use Rattle.srm_timers.specs.Deadlines.{has_come};
+ghost use Rattle.srm_names.specs.Names.{among, ascending, name_below, same_name, AreExactly};
+ghost use Rattle.srm_timers.specs.Deadlines.{has_come, DueFit};
 ghost use Rattle.srm_timers.specs.Least.{lesser};
+ghost use Rattle.srm_timers.specs.Places.{value_at};
 
 use crate::by_name::ByName;
 use crate::deadlines::Deadlines;
@@ -37,6 +38,22 @@ impl Scanned {
             moments: ByName::new(alloc),
         }
     }
+
+    /// Puts the names whose moment has come into a list, in order of name, in place of what it holds.
+    fn look_through(&self, now: u64, names: &mut Vec<Name>) -> Result<(), AllocError>
+        ensures names { OnOk result (AreExactly (λ n. has_come now (value_at self.now n)) names.new.items) }
+        ensures capacity { vec_capacity names.old ≤ vec_capacity names.new }
+        ensures room { DueFit now self.now (vec_capacity names.old) → IsOk result }
+    {
+        names.clear();
+        for i in 0..self.moments.len() {
+            let name = self.moments.place(i).name;
+            if come(self.moments.get(name), now) {
+                insert_in_order(names, name)?;
+            }
+        }
+        Ok(())
+    }
 }
 
 impl Deadlines for Scanned {
@@ -58,19 +75,16 @@ impl Deadlines for Scanned {
         self.moments.clear(name);
     }
 
+    fn clear_all(&mut self, names: &[Name]) {
+        self.moments.clear_all(names);
+    }
+
     fn get(&self, name: Name) -> Option<u64> {
         self.moments.get(name)
     }
 
-    fn due(&self, now: u64) -> Result<Vec<Name>, AllocError> {
-        let mut names = Vec::new(self.moments.allocator());
-        for i in 0..self.moments.len() {
-            let name = self.moments.place(i).name;
-            if come(self.moments.get(name), now) {
-                insert_in_order(&mut names, name)?;
-            }
-        }
-        Ok(names)
+    fn due(&self, now: u64, names: &mut Vec<Name>) -> Result<(), AllocError> {
+        self.look_through(now, names)
     }
 
     fn next(&self) -> Option<u64> {
@@ -125,6 +139,9 @@ fn place_in_order(names: &[Name], name: Name) -> Option<usize>
 /// Adds a name to names in order, unless it is among them.
 fn insert_in_order(names: &mut Vec<Name>, name: Name) -> Result<(), AllocError>
     requires { ascending name_below names.old.items ≡ true }
+    ensures capacity { vec_capacity names.old ≤ vec_capacity names.new }
+    ensures full { OnErr result (vec_capacity names.old ≤ length names.old.items) }
+    ensures new { OnErr result (among names.old.items name ≡ false) }
     ensures order { OnOk result (ascending name_below names.new.items ≡ true) }
     ensures exact { OnOk result ((m : FullName) → among names.new.items m ≡ among names.old.items m || same_name m name) }
 {

@@ -1,10 +1,10 @@
 //! Words, waits and deadlines at worked values.
 
-ghost use Rattle.std.specs.Prelude.{◌≡◌, true};
+ghost use Rattle.std.specs.Prelude.{◌≡◌, true, IfOk};
 ghost use Rattle.srm_names.specs.Names.{ascending, name_below};
 ghost use Rattle.srm_timers.specs.Places.{names_of};
 
-use crate::agenda::names_of;
+use crate::agenda::put_names;
 use crate::words::wait_between;
 use crate::{Deadlines, Listed, Ordered, Pcg, Scanned, Timed, Words};
 use srm_names::{Member, Name, Page};
@@ -72,7 +72,8 @@ fn arm_all<D: Deadlines>(
     deadlines: &mut D,
     moments: &[Timed],
 ) -> Result<(), AllocError> {
-    let names = names_of(alloc, moments)?;
+    let mut names = Vec::new(alloc);
+    put_names(&mut names, moments)?;
     deadlines.room(&names)?;
     if rises(moments) {
         deadlines.set_all(moments);
@@ -80,16 +81,53 @@ fn arm_all<D: Deadlines>(
     Ok(())
 }
 
+/// The names that are due.
+fn due<D: Deadlines>(alloc: Global, deadlines: &D, now: u64) -> Result<Vec<Name>, AllocError>
+    ensures { IfOk result (λ names. ascending name_below names.items ≡ true) }
+{
+    let mut names = Vec::new(alloc);
+    deadlines.due(now, &mut names)?;
+    Ok(names)
+}
+
+/// Takes away what is due.
+fn clear_due<D: Deadlines>(alloc: Global, deadlines: &mut D, now: u64) -> Result<(), AllocError> {
+    let names = due(alloc, deadlines, now)?;
+    deadlines.clear_all(&names);
+    Ok(())
+}
+
 /// Checks that two bodies answer alike.
 fn compare<D: Deadlines, E: Deadlines>(
+    alloc: Global,
     left: &D,
     right: &E,
     now: u64,
     rt: &impl Abort,
 ) -> Result<(), Fail> {
     assert_eq!(rt; left.next(), right.next());
-    assert!(rt; left.due(now)? == right.due(now)?);
+    assert!(rt; due(alloc, left, now)? == due(alloc, right, now)?);
     Ok(())
+}
+
+/// Sets or clears the moment of a name in both bodies, as the words say, and compares them.
+fn set_or_clear(
+    alloc: Global,
+    words: &mut Pcg,
+    scanned: &mut Scanned,
+    ordered: &mut Ordered,
+    rt: &impl Abort,
+) -> Result<(), Fail> {
+    let (name, moment) = (name(words.word(), rt), words.word() % 100);
+    if words.word() % 4 == 0 {
+        scanned.clear(name);
+        ordered.clear(name);
+    } else {
+        arm(scanned, name, moment)?;
+        arm(ordered, name, moment)?;
+    }
+    assert_eq!(rt; scanned.get(name), ordered.get(name));
+    compare(alloc, scanned, ordered, words.word() % 100, rt)
 }
 
 #[test]
@@ -98,35 +136,37 @@ fn both_bodies_answer_1_000_calls_alike(rt: HostRuntime) -> Result<(), Fail> {
     let mut scanned = Scanned::new(rt.alloc());
     let mut ordered = Ordered::new(rt.alloc());
     for _ in 0..1_000 {
-        let (name, moment) = (name(words.word(), &rt), words.word() % 100);
-        if words.word() % 4 == 0 {
-            scanned.clear(name);
-            ordered.clear(name);
-        } else {
-            arm(&mut scanned, name, moment)?;
-            arm(&mut ordered, name, moment)?;
-        }
-        assert_eq!(rt; scanned.get(name), ordered.get(name));
-        compare(&scanned, &ordered, words.word() % 100, &rt)?;
+        set_or_clear(rt.alloc(), &mut words, &mut scanned, &mut ordered, &rt)?;
     }
     Ok(())
 }
 
-/// Sets some moments one by one and some in one call, and reads them back.
-fn sets_and_reads<D: Deadlines>(
+fn check_next<D: Deadlines>(deadlines: &D, wanted: Option<u64>, rt: &impl Abort) {
+    assert_eq!(rt; deadlines.next(), wanted);
+}
+
+fn check_due<D: Deadlines>(
     alloc: Global,
-    mut deadlines: D,
+    deadlines: &D,
+    now: u64,
+    wanted: &[Name],
     rt: &impl Abort,
-) -> Result<(), Fail>
-where
-    D: Drop,
-{
-    let [a, b, c] = [name(0, rt), name(4, rt), name(1, rt)];
-    assert_eq!(rt; deadlines.next(), None);
-    assert!(rt; deadlines.due(1_000)?.is_empty());
-    arm(&mut deadlines, b, 50)?;
-    arm(&mut deadlines, c, 30)?;
-    assert_eq!(rt; deadlines.next(), Some(30));
+) -> Result<(), Fail> {
+    assert_eq!(rt; due(alloc, deadlines, now)?.as_slice(), wanted, "{now}");
+    Ok(())
+}
+
+/// Sets some moments one by one and some in one call.
+fn sets<D: Deadlines>(
+    alloc: Global,
+    deadlines: &mut D,
+    [a, b, c]: [Name; 3],
+    rt: &impl Abort,
+) -> Result<(), AllocError> {
+    check_next(deadlines, None, rt);
+    arm(deadlines, b, 50)?;
+    arm(deadlines, c, 30)?;
+    check_next(deadlines, Some(30), rt);
     let moments = [
         Timed {
             name: a,
@@ -137,25 +177,47 @@ where
             moment: 40,
         },
     ];
-    arm_all(alloc, &mut deadlines, &moments)?;
+    arm_all(alloc, deadlines, &moments)
+}
+
+/// Reads what was set.
+fn reads<D: Deadlines>(
+    alloc: Global,
+    deadlines: &D,
+    [a, b, c]: [Name; 3],
+    rt: &impl Abort,
+) -> Result<(), Fail> {
     assert_eq!(rt; deadlines.get(c), Some(40));
-    assert!(rt; deadlines.due(39)?.is_empty());
-    assert_eq!(rt; deadlines.due(40)?.as_slice(), [a, c].as_slice());
-    assert_eq!(rt; deadlines.due(50)?.as_slice(), [a, b, c].as_slice());
-    deadlines.clear(a);
-    deadlines.clear(c);
-    assert_eq!(rt; deadlines.next(), Some(50));
+    check_due(alloc, deadlines, 39, &[], rt)?;
+    check_due(alloc, deadlines, 40, &[a, c], rt)?;
+    check_due(alloc, deadlines, 50, &[a, b, c], rt)
+}
+
+/// Sets, reads and takes away.
+fn sets_and_reads<D: Deadlines>(
+    alloc: Global,
+    deadlines: &mut D,
+    rt: &impl Abort,
+) -> Result<(), Fail> {
+    let names = [name(0, rt), name(4, rt), name(1, rt)];
+    check_due(alloc, deadlines, 1_000, &[], rt)?;
+    sets(alloc, deadlines, names, rt)?;
+    reads(alloc, deadlines, names, rt)?;
+    clear_due(alloc, deadlines, 40)?;
+    check_next(deadlines, Some(50), rt);
+    deadlines.clear(names[1]);
+    check_next(deadlines, None, rt);
     Ok(())
 }
 
 #[test]
 fn scanned_sets_and_reads(rt: HostRuntime) -> Result<(), Fail> {
-    sets_and_reads(rt.alloc(), Scanned::new(rt.alloc()), &rt)
+    sets_and_reads(rt.alloc(), &mut Scanned::new(rt.alloc()), &rt)
 }
 
 #[test]
 fn ordered_sets_and_reads(rt: HostRuntime) -> Result<(), Fail> {
-    sets_and_reads(rt.alloc(), Ordered::new(rt.alloc()), &rt)
+    sets_and_reads(rt.alloc(), &mut Ordered::new(rt.alloc()), &rt)
 }
 
 /// Up to 32 names that rise, with moments below 100: a name where its word is even.
@@ -176,23 +238,40 @@ fn some_moments(words: &mut Pcg, alloc: Global, rt: &impl Abort) -> Result<Vec<T
     Ok(moments)
 }
 
+/// Checks that the first of these moments was set.
+fn check_first(scanned: &Scanned, moments: &[Timed], rt: &impl Abort) {
+    if let Some(timed) = moments.first() {
+        assert_eq!(rt; scanned.get(timed.name), Some(timed.moment));
+    }
+}
+
+/// Sets a list of moments in both bodies, and takes some away again, comparing them.
+fn set_list(
+    alloc: Global,
+    words: &mut Pcg,
+    scanned: &mut Scanned,
+    ordered: &mut Ordered,
+    rt: &impl Abort,
+) -> Result<(), Fail> {
+    let moments = some_moments(words, alloc, rt)?;
+    assert!(rt; rises(&moments));
+    arm_all(alloc, scanned, &moments)?;
+    arm_all(alloc, ordered, &moments)?;
+    check_first(scanned, &moments, rt);
+    compare(alloc, scanned, ordered, words.word() % 100, rt)?;
+    let now = words.word() % 20;
+    clear_due(alloc, scanned, now)?;
+    clear_due(alloc, ordered, now)?;
+    compare(alloc, scanned, ordered, words.word() % 100, rt)
+}
+
 #[test]
 fn both_bodies_set_100_lists_alike(rt: HostRuntime) -> Result<(), Fail> {
     let mut words = Pcg::new(1);
     let mut scanned = Scanned::new(rt.alloc());
     let mut ordered = Ordered::new(rt.alloc());
     for _ in 0..100 {
-        let moments = some_moments(&mut words, rt.alloc(), &rt)?;
-        assert!(rt; rises(&moments));
-        arm_all(rt.alloc(), &mut scanned, &moments)?;
-        arm_all(rt.alloc(), &mut ordered, &moments)?;
-        compare(&scanned, &ordered, words.word() % 100, &rt)?;
-        if let Some(timed) = moments.first() {
-            assert_eq!(rt; scanned.get(timed.name), Some(timed.moment));
-            ordered.clear(timed.name);
-            scanned.clear(timed.name);
-        }
-        compare(&scanned, &ordered, words.word() % 100, &rt)?;
+        set_list(rt.alloc(), &mut words, &mut scanned, &mut ordered, &rt)?;
     }
     Ok(())
 }

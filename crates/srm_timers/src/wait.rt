@@ -2,8 +2,9 @@
 
 ghost use Rattle.std.specs.Prelude.{◌≡◌, ◌≤◌, ◌+◌, ◌-◌, ◌*◌, ◌%◌, ◌^◌};
 
-use crate::limits::{DISTANCE, EXPONENT, LONGEST_WAIT, TIMER_SETTING};
+use crate::limits::{EXPONENT, LONGEST_WAIT, TIMER_SETTING};
 use crate::words::{Words, wait_between};
+use srm_names::LONGEST_DISTANCE;
 
 /// Draws a wait by one word: from `first` to `first + second` distances, doubled as often as the exponent says.
 pub(crate) fn draw_wait<W: Words>(
@@ -16,7 +17,7 @@ pub(crate) fn draw_wait<W: Words>(
     requires first { first ≤ TIMER_SETTING }
     requires second { second ≤ TIMER_SETTING }
     requires exponent { exponent ≤ EXPONENT }
-    requires distance { distance ≤ DISTANCE }
+    requires distance { distance ≤ LONGEST_DISTANCE }
     ensures value { let low = 2 ^ exponent * first * distance in let high = 2 ^ exponent * (first + second) * distance in
         result ≡ low + (W.draw words.old).0 % (high - low + 1) }
     ensures words { words.new ≡ (W.draw words.old).1 }
@@ -31,7 +32,7 @@ pub(crate) fn draw_wait<W: Words>(
 fn doubled(exponent: u8, distances: u8, distance: u64) -> u64
     requires exponent { exponent ≤ EXPONENT }
     requires distances { distances ≤ 2 * TIMER_SETTING }
-    requires distance { distance ≤ DISTANCE }
+    requires distance { distance ≤ LONGEST_DISTANCE }
     ensures value { result ≡ 2 ^ exponent * distances * distance }
     ensures short { result ≤ LONGEST_WAIT }
 {

@@ -1,57 +1,114 @@
 //! Request timers at worked values.
 
-ghost use Rattle.std.specs.Prelude.{[], ◌∷◌};
+ghost use Rattle.std.specs.Prelude.{List};
+ghost use Rattle.srm_names.specs.FullName.{FullName};
 ghost use Rattle.srm_timers.specs.AskCalls.{HaveNoTimer};
 ghost use Rattle.srm_timers.specs.Distances.{AreDistances};
 
 use crate::fixtures::{all_at, ask, name, no_asks, words};
-use crate::{Arm, Asks, Listed, Scanned};
-use srm_names::{MOMENT, Name};
+use crate::{Arm, Asks, Listed, Scanned, TIMER_SETTING};
+use srm_names::{LONGEST_DISTANCE, MOMENT, Name};
+use std::alloc::Global;
 use std::process::Abort;
-use std::test::Fail;
 
-/// Finds one name missing, and compares its arm.
+/// How the timer of one name starts: both settings, the distance to its source, and when it is found missing with
+/// which exponent and wait.
+#[derive(Clone, Copy)]
+struct Start {
+    setting: u8,
+    distance: u64,
+    now: u64,
+    exponent: u8,
+    wait: u64,
+}
+
+/// What comes next, and what must come of it. An arm is given by its exponent and its wait.
+#[derive(Clone, Copy)]
+enum Step {
+    /// The least moment at which a timer runs out.
+    Next(Option<u64>),
+    /// At this moment nothing is due.
+    Early(u64),
+    /// At this moment the name is asked for, and armed again.
+    Due(u64, u8, u64),
+    /// The timer runs out at this moment, and not a microsecond before, and the name is armed again.
+    Round(u64, u8, u64),
+    /// A request of another is heard at this moment, and ignored.
+    Ignored(u64),
+    /// A request of another is heard at this moment, and arms the name again.
+    Heard(u64, u8, u64),
+    /// The name is gained.
+    Gained,
+}
+
+/// Timers of which none runs.
+fn none_runs(rt: &impl Abort, alloc: Global, setting: u8) -> Asks<Scanned>
+    ensures { (names : List FullName) → HaveNoTimer names result }
+{
+    assert!(rt; setting <= TIMER_SETTING);
+    no_asks(alloc, setting, setting)
+}
+
+/// Finds number 1 missing, and compares its arm.
 fn find(
     rt: &impl Abort,
-    asks: &mut Asks<Scanned>,
-    asked: &[Name],
+    alloc: Global,
+    start: Start,
     dist: &[u64],
-    now: u64,
     words: &mut Listed,
-    wanted: Arm,
-) -> Result<(), Fail>
-    requires fresh { HaveNoTimer (wanted.name ∷ []) asks.old }
-    requires distances { AreDistances dist.now }
+) -> Asks<Scanned>
+    requires { AreDistances dist.now }
 {
-    assert!(rt; now <= MOMENT);
-    let arms = asks.detect(&[wanted.name], asked, dist, now, words)?;
+    assert!(rt; start.now <= MOMENT);
+    let mut asks = none_runs(rt, alloc, start.setting);
+    let missing = [name(rt, 1)];
+    let count = usize::from(start.exponent.min(1));
+    let arms = asks
+        .detect(&missing, &missing[..count], dist, start.now, words)
+        .expect(rt, "memory");
+    let wanted = ask(missing[0], start.exponent, start.distance, start.wait);
     assert_eq!(rt; arms.as_slice(), [wanted].as_slice());
-    Ok(())
+    asks
 }
 
 /// Asks for what is due, and compares the arms.
-fn assert_due(
+fn check_due(
     rt: &impl Abort,
     asks: &mut Asks<Scanned>,
     dist: &[u64],
     now: u64,
     words: &mut Listed,
     wanted: &[Arm],
-) -> Result<(), Fail>
+)
     requires { AreDistances dist.now }
 {
     assert!(rt; now <= MOMENT);
-    assert_eq!(rt; asks.pending(now)?.len(), wanted.len());
-    let arms = asks.due(now, dist, words)?;
+    let names = asks.pending(now, Vec::new(asks.alloc)).expect(rt, "memory");
+    assert_eq!(rt; names.len(), wanted.len());
+    let arms = asks.due(now, dist, words).expect(rt, "memory");
     assert_eq!(rt; arms.as_slice(), wanted);
-    Ok(())
+}
+
+/// Asks for what runs out at a moment, and not a microsecond before, and compares the arm.
+fn check_round(
+    rt: &impl Abort,
+    asks: &mut Asks<Scanned>,
+    dist: &[u64],
+    end: u64,
+    words: &mut Listed,
+    wanted: Arm,
+)
+    requires { AreDistances dist.now }
+{
+    check_next(rt, asks, Some(end));
+    check_due(rt, asks, dist, end.saturating_sub(1), words, &[]);
+    check_due(rt, asks, dist, end, words, &[wanted])
 }
 
 /// Hears a request of another, and compares the arm.
-fn assert_heard(
+fn check_heard(
     rt: &impl Abort,
     asks: &mut Asks<Scanned>,
-    name: Name,
     dist: &[u64],
     now: u64,
     words: &mut Listed,
@@ -60,40 +117,96 @@ fn assert_heard(
     requires { AreDistances dist.now }
 {
     assert!(rt; now <= MOMENT);
-    let arm = asks.heard_request(name, dist, now, words);
+    let arm = asks.heard_request(name(rt, 1), dist, now, words);
     assert_eq!(rt; arm, wanted, "{now}");
 }
 
-#[test]
-fn waits_double_until_the_last_exponent(rt: HostRuntime) -> Result<(), Fail> {
-    let dist = all_at(100_000);
-    let mut words = words(&rt, rt.alloc(), &[]);
-    let mut asks = no_asks(rt.alloc(), 2, 2);
-    let missing = name(&rt, 1);
-    let first = ask(missing, 0, 100_000, 200_000);
-    find(&rt, &mut asks, &[], &dist, 0, &mut words, first)?;
-    for (end, exponent, wait) in [
-        (200_000, 1, 400_000),
-        (600_000, 2, 800_000),
-        (1_400_000, 3, 1_600_000),
-        (3_000_000, 4, 3_200_000),
-        (6_200_000, 5, 6_400_000),
-        (12_600_000, 6, 12_800_000),
-        (25_400_000, 7, 25_600_000),
-        (51_000_000, 8, 51_200_000),
-        (102_200_000, 8, 51_200_000),
-        (153_400_000, 8, 51_200_000),
-    ] {
-        assert_eq!(rt; asks.next(), Some(end));
-        let again = ask(missing, exponent, 100_000, wait);
-        assert_due(&rt, &mut asks, &dist, end - 1, &mut words, &[])?;
-        assert_due(&rt, &mut asks, &dist, end, &mut words, &[again])?;
+fn check_next(rt: &impl Abort, asks: &Asks<Scanned>, wanted: Option<u64>) {
+    assert_eq!(rt; asks.next(), wanted);
+}
+
+/// Takes a step, and compares what comes of it.
+fn take(
+    rt: &impl Abort,
+    asks: &mut Asks<Scanned>,
+    dist: &[u64],
+    distance: u64,
+    step: Step,
+    words: &mut Listed,
+)
+    requires { AreDistances dist.now }
+{
+    let missing = name(rt, 1);
+    match step {
+        Step::Next(wanted) => check_next(rt, asks, wanted),
+        Step::Early(now) => check_due(rt, asks, dist, now, words, &[]),
+        Step::Due(now, exponent, wait) => {
+            check_due(
+                rt,
+                asks,
+                dist,
+                now,
+                words,
+                &[ask(missing, exponent, distance, wait)],
+            );
+        }
+        Step::Round(end, exponent, wait) => {
+            check_round(
+                rt,
+                asks,
+                dist,
+                end,
+                words,
+                ask(missing, exponent, distance, wait),
+            );
+        }
+        Step::Ignored(now) => check_heard(rt, asks, dist, now, words, None),
+        Step::Heard(now, exponent, wait) => {
+            let wanted = ask(missing, exponent, distance, wait);
+            check_heard(rt, asks, dist, now, words, Some(wanted));
+        }
+        Step::Gained => asks.gained(missing),
     }
-    Ok(())
+}
+
+/// Number 1 is found missing, and then come these steps. After these words all are 0.
+fn play(rt: &impl Abort, alloc: Global, start: Start, drawn: &[u64], steps: &[Step]) {
+    assert!(rt; start.distance <= LONGEST_DISTANCE);
+    let dist = all_at(start.distance);
+    let mut words = words(rt, alloc, drawn);
+    let mut asks = find(rt, alloc, start, &dist, &mut words);
+    for step in steps {
+        take(rt, &mut asks, &dist, start.distance, *step, &mut words);
+    }
+}
+
+const FAR: Start = Start {
+    setting: 2,
+    distance: 100_000,
+    now: 0,
+    exponent: 0,
+    wait: 200_000,
+};
+
+#[test]
+fn waits_double_until_the_last_exponent(rt: HostRuntime) {
+    let steps = [
+        Step::Round(200_000, 1, 400_000),
+        Step::Round(600_000, 2, 800_000),
+        Step::Round(1_400_000, 3, 1_600_000),
+        Step::Round(3_000_000, 4, 3_200_000),
+        Step::Round(6_200_000, 5, 6_400_000),
+        Step::Round(12_600_000, 6, 12_800_000),
+        Step::Round(25_400_000, 7, 25_600_000),
+        Step::Round(51_000_000, 8, 51_200_000),
+        Step::Round(102_200_000, 8, 51_200_000),
+        Step::Round(153_400_000, 8, 51_200_000),
+    ];
+    play(&rt, rt.alloc(), FAR, &[], &steps)
 }
 
 #[test]
-fn first_waits_go_round_their_interval(rt: HostRuntime) -> Result<(), Fail> {
+fn first_waits_go_round_their_interval(rt: HostRuntime) {
     for (distance, word, wait) in [
         (1, 0, 2),
         (1, 1, 3),
@@ -102,107 +215,105 @@ fn first_waits_go_round_their_interval(rt: HostRuntime) -> Result<(), Fail> {
         (100_000, 200_000, 400_000),
         (100_000, 200_001, 200_000),
     ] {
-        assert!(rt; distance <= 100_000);
-        let mut words = words(&rt, rt.alloc(), &[word]);
-        let mut asks = no_asks(rt.alloc(), 2, 2);
-        let arm = ask(name(&rt, 1), 0, distance, wait);
-        find(&rt, &mut asks, &[], &all_at(distance), 7, &mut words, arm)?;
+        let start = Start {
+            distance,
+            wait,
+            now: 7,
+            ..FAR
+        };
+        play(&rt, rt.alloc(), start, &[word], &[]);
     }
-    Ok(())
 }
 
 #[test]
-fn half_of_an_odd_wait_is_rounded_down(rt: HostRuntime) -> Result<(), Fail> {
-    let dist = all_at(1);
-    let mut words = words(&rt, rt.alloc(), &[1]);
-    let mut asks = no_asks(rt.alloc(), 2, 2);
-    let missing = name(&rt, 1);
-    let first = ask(missing, 1, 1, 5);
-    find(&rt, &mut asks, &[missing], &dist, 10, &mut words, first)?;
-    let again = Some(ask(missing, 2, 1, 8));
-    assert_heard(&rt, &mut asks, missing, &dist, 11, &mut words, None);
-    assert_heard(&rt, &mut asks, missing, &dist, 12, &mut words, again);
-    Ok(())
+fn half_of_an_odd_wait_is_rounded_down(rt: HostRuntime) {
+    let start = Start {
+        setting: 2,
+        distance: 1,
+        now: 10,
+        exponent: 1,
+        wait: 5,
+    };
+    let steps = [Step::Ignored(11), Step::Heard(12, 2, 8)];
+    play(&rt, rt.alloc(), start, &[1], &steps)
 }
 
 #[test]
-fn without_waits_a_name_is_asked_for_at_each_tick(rt: HostRuntime) -> Result<(), Fail> {
-    let dist = all_at(100_000);
-    let mut words = words(&rt, rt.alloc(), &[9, 9, 9, 9]);
-    let mut asks = no_asks(rt.alloc(), 0, 0);
-    let missing = name(&rt, 1);
-    let first = ask(missing, 0, 100_000, 0);
-    find(&rt, &mut asks, &[], &dist, 5, &mut words, first)?;
-    assert_due(&rt, &mut asks, &dist, 4, &mut words, &[])?;
-    for (now, exponent) in [(5, 1), (6, 2), (7, 3), (7, 4)] {
-        let again = ask(missing, exponent, 100_000, 0);
-        assert_due(&rt, &mut asks, &dist, now, &mut words, &[again])?;
-    }
-    Ok(())
+fn without_waits_a_name_is_asked_for_at_each_tick(rt: HostRuntime) {
+    let start = Start {
+        setting: 0,
+        distance: 100_000,
+        now: 5,
+        exponent: 0,
+        wait: 0,
+    };
+    let steps = [
+        Step::Early(4),
+        Step::Due(5, 1, 0),
+        Step::Due(6, 2, 0),
+        Step::Due(7, 3, 0),
+        Step::Due(7, 4, 0),
+    ];
+    play(&rt, rt.alloc(), start, &[9, 9, 9, 9], &steps)
 }
 
 #[test]
-fn a_request_of_another_backs_off_once_a_round(rt: HostRuntime) -> Result<(), Fail> {
-    let dist = all_at(100_000);
-    let mut words = words(&rt, rt.alloc(), &[]);
-    let mut asks = no_asks(rt.alloc(), 2, 2);
-    let missing = name(&rt, 1);
-    let arm = ask(missing, 0, 100_000, 200_000);
-    find(&rt, &mut asks, &[], &dist, 1_000_000, &mut words, arm)?;
-    let first = Some(ask(missing, 1, 100_000, 400_000));
-    let second = Some(ask(missing, 2, 100_000, 800_000));
-    for (now, wanted, next) in [
-        (1_050_000, first, 1_450_000),
-        (1_249_999, None, 1_450_000),
-        (1_250_000, second, 2_050_000),
-    ] {
-        assert_heard(&rt, &mut asks, missing, &dist, now, &mut words, wanted);
-        assert_eq!(rt; asks.next(), Some(next));
-    }
-    Ok(())
+fn a_request_of_another_backs_off_once_a_round(rt: HostRuntime) {
+    let start = Start {
+        now: 1_000_000,
+        ..FAR
+    };
+    let steps = [
+        Step::Heard(1_050_000, 1, 400_000),
+        Step::Next(Some(1_450_000)),
+        Step::Ignored(1_249_999),
+        Step::Next(Some(1_450_000)),
+        Step::Heard(1_250_000, 2, 800_000),
+        Step::Next(Some(2_050_000)),
+    ];
+    play(&rt, rt.alloc(), start, &[], &steps)
 }
 
 #[test]
-fn names_that_were_asked_for_start_one_exponent_higher(rt: HostRuntime) -> Result<(), Fail> {
-    let dist = all_at(100_000);
+fn a_name_that_was_gained_is_not_asked_for(rt: HostRuntime) {
+    let steps = [
+        Step::Gained,
+        Step::Next(None),
+        Step::Ignored(7),
+        Step::Early(1_000_000),
+    ];
+    play(&rt, rt.alloc(), FAR, &[], &steps)
+}
+
+#[test]
+fn names_that_were_asked_for_start_one_exponent_higher(rt: HostRuntime) {
     let mut words = words(&rt, rt.alloc(), &[]);
     let mut asks = no_asks(rt.alloc(), 2, 2);
     let names = [name(&rt, 1), name(&rt, 2), name(&rt, 3)];
     let asked = [names[0], names[2]];
-    let arms = asks.detect(&names, &asked, &dist, 1_000_000, &mut words)?;
+    let arms = asks
+        .detect(&names, &asked, &all_at(100_000), 1_000_000, &mut words)
+        .expect(&rt, "memory");
     let wanted = [
         ask(names[0], 1, 100_000, 400_000),
         ask(names[1], 0, 100_000, 200_000),
         ask(names[2], 1, 100_000, 400_000),
     ];
     assert_eq!(rt; arms.as_slice(), wanted.as_slice());
-    Ok(())
+}
+
+/// The timer of a name: when it runs out, and with which exponent it is armed again by itself and by a request heard.
+fn timer_of(asks: &Asks<Scanned>, name: Name) -> (Option<u64>, Option<u8>, Option<u8>) {
+    (asks.next(), asks.runs(name), asks.backs_off(name, 0))
 }
 
 #[test]
-fn a_name_that_was_gained_is_not_asked_for(rt: HostRuntime) -> Result<(), Fail> {
-    let dist = all_at(100_000);
+fn a_caller_sets_timers_in_an_order_of_its_own(rt: HostRuntime) {
     let mut words = words(&rt, rt.alloc(), &[]);
     let mut asks = no_asks(rt.alloc(), 2, 2);
     let missing = name(&rt, 1);
-    let first = ask(missing, 0, 100_000, 200_000);
-    find(&rt, &mut asks, &[], &dist, 0, &mut words, first)?;
-    asks.gained(missing);
-    assert_eq!(rt; asks.next(), None);
-    assert_heard(&rt, &mut asks, missing, &dist, 7, &mut words, None);
-    assert_due(&rt, &mut asks, &dist, 1_000_000, &mut words, &[])
-}
-
-#[test]
-fn a_caller_sets_timers_in_an_order_of_its_own(rt: HostRuntime) -> Result<(), Fail> {
-    let mut words = words(&rt, rt.alloc(), &[]);
-    let mut asks = no_asks(rt.alloc(), 2, 2);
-    let missing = name(&rt, 1);
-    asks.room(&[missing])?;
+    asks.room(&[missing]).expect(&rt, "memory");
     let arm = asks.arm(missing, 0, 100_000, &mut words);
     asks.set_all(0, &[arm]);
-    assert_eq!(rt; asks.next(), Some(200_000));
-    assert_eq!(rt; asks.runs(missing), Some(1));
-    assert_eq!(rt; asks.backs_off(missing, 0), Some(1));
-    Ok(())
+    assert_eq!(rt; timer_of(&asks, missing), (Some(200_000), Some(1), Some(1)));
 }

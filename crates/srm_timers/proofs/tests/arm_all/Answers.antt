@@ -3,4 +3,4 @@ use Rattle.srm_timers.specs.Places.{HasPlaces}
 use Rattle.srm_timers.proofs.tests.arm_all.Goals as goal
 
 pub set_all-requires-clause-places : goal.set_all-requires-clause-places
-set_all-requires-clause-places g c = subst (λ names. HasPlaces names (g.D.Deadlines.places c.room.new.self)) (c.deref.ensures.value ∙ c.in_ok-names.ensures) c.in_ok-room.ensures.ok
+set_all-requires-clause-places g c = subst (λ names. HasPlaces names (g.D.Deadlines.places c.room.new.self)) (c.deref.ensures.value ∙ c.in_ok-put_names.ensures.names) c.in_ok-room.ensures.ok

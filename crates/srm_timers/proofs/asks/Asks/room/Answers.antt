@@ -5,3 +5,6 @@ use Rattle.srm_timers.proofs.asks.Asks.room.Goals as goal
 
 pub returns-clause-kept : goal.returns-clause-kept
 returns-clause-kept g c = stays_on _ _ _ (subst (AskStays c.args.self.now) (sym c.self.view_is) c.in_ok-room_to_set.ensures.kept) (stays_kept _ _ refl refl (keeps_self _))
+
+pub returns-in_err-reserve-2-clause-kept : goal.returns-in_err-reserve-2-clause-kept
+returns-in_err-reserve-2-clause-kept g c = stays_on _ _ _ (subst (AskStays c.args.self.now) (sym c.self.view_is) c.in_ok-room_to_set.ensures.kept) (stays_kept _ _ refl refl (keeps_self _))
