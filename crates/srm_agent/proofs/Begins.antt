@@ -1,6 +1,5 @@
 -- An agent that did nothing yet: what its parts must fit, so that it fits.
-use Rattle.std.proofs.Common.{◌≡◌, ℕ, ◌+◌, max, Bool, true, false, List, [], ◌∷◌, None, refl, sym, ◌∙◌, subst, arith}
-use Rattle.srm_names.specs.FullName.{FullName}
+use Rattle.std.proofs.Common.{◌≡◌, ℕ, ◌+◌, max, Bool, true, false, List, [], ◌∷◌, None, refl, ◌∙◌, subst, arith}
 use Rattle.srm_names.specs.Names.{first_page}
 use Rattle.srm_store.specs.Fits as store
 use Rattle.srm_distance.specs.Fits as distances
@@ -9,21 +8,39 @@ use Rattle.srm_timers.specs.FixCalls.{FixContent, FixFits}
 use Rattle.srm_bucket.specs.Calls.{Call}
 use Rattle.srm_bucket.specs.Content.{Content as BucketContent}
 use Rattle.srm_bucket.specs.Fits as bucket
-use Rattle.srm_agent.specs.declared.entry.AgentState.TheVariants.{Active}
+use Rattle.srm_agent.specs.declared.state.AgentState.TheVariants.{Active}
 use Rattle.srm_agent.specs.declared.out.Outgoing.{Outgoing}
 use Rattle.srm_agent.specs.Configs.{Config}
 use Rattle.srm_agent.specs.Entries.{is_missing}
 use Rattle.srm_agent.specs.Contents.{Content}
-use Rattle.srm_agent.specs.Fits.{Fits, AreEmptyFeeds, shown_if}
+use Rattle.srm_agent.specs.TimersKept.{TimersContent, HaveSettings}
+use Rattle.srm_agent.specs.Fits.{Fits, TimersFit, AreEmptyFeeds, shown_if}
 
 none_shown : (b : Bool) → None ≡ shown_if b None
 none_shown true = refl
 none_shown false = refl
 
+-- where no call was made no timer runs
+pub timers_begin : (c : Config) (t : TimersContent) → AskFits c.c1 c.c2 [] t.asks → FixFits c.d1 c.d2 [] t.fixes → TimersFit c [] t
+timers_begin c t asks fixes = record {
+  ask_calls = [];
+  asks = asks;
+  ask_timers = λ n. none_shown (is_missing [] n);
+  fix_calls = [];
+  fixes = fixes;
+  fix_timers = λ n. refl;
+  askers = λ n. refl;
+  offs = λ n now. refl;
+}
+
+-- and the settings are those that they were made with
+pub settings_begin : (c : Config) (t : TimersContent) → AskFits c.c1 c.c2 [] t.asks → FixFits c.d1 c.d2 [] t.fixes → HaveSettings c t
+settings_begin c t asks fixes = record { c1 = asks.c1_is; c2 = asks.c2_is; d1 = fixes.d1_is; d2 = fixes.d2_is }
+
 pub fits_begins : {W : Type 0} (c : Config) (made : ℕ) (a : Content W) → a.config ≡ c → a.state ≡ Active → a.last ≡ made → a.showing ≡ first_page → a.pages ≡ first_page ∷ []
-    → AreEmptyFeeds a.feeds → store.Fits [] [] [] a.store → distances.Fits c.me [] a.distances → AskFits c.c1 c.c2 [] a.asks → FixFits c.d1 c.d2 [] a.fixes
+    → AreEmptyFeeds a.feeds → store.Fits [] [] [] a.store → distances.Fits c.me [] a.distances → TimersFit c [] a.timers
     → (let calls : List (Call Outgoing) = [] in bucket.Fits c.rate c.depth calls a.bucket) → a.due ≡ made + 1000000 → Fits c made [] a
-fits_begins c made a config state last showing pages feeds kept heard asks fixes bucket due = record {
+fits_begins c made a config state last showing pages feeds kept heard timers bucket due = record {
   run = tt;
   config = config;
   state = state;
@@ -33,16 +50,7 @@ fits_begins c made a config state last showing pages feeds kept heard asks fixes
   feeds = record { each = feeds.1 };
   store = kept;
   distances = heard;
-  timers = record {
-    ask_calls = [];
-    asks = asks;
-    ask_timers = λ n. none_shown (is_missing [] n);
-    fix_calls = [];
-    fixes = fixes;
-    fix_timers = λ n. refl;
-    askers = λ n. refl;
-    offs = λ n now. refl;
-  };
+  timers = timers;
   bucket = record { goings = []; entries = refl; goes = tt; calls = []; read = refl; fits = bucket };
   due = due;
   own = λ page. refl;

@@ -1,26 +1,25 @@
 -- The entries of the calls that hear nothing and send nothing.
-use Rattle.std.proofs.Common.{◌≡◌, ℕ, ◌≤◌, max, Bool, true, false, not, List, [], ◌∷◌, ◌++◌, refl, ap, sym, ◌∙◌, subst, arith}
-use Rattle.std.specs.Prelude.{Option, Some, None, MatchBool}
+use Rattle.std.proofs.Common.{◌≡◌, ℕ, ◌≤◌, max, Bool, true, false, not, ◌&&◌, List, [], ◌∷◌, ◌++◌, refl, ap, sym, ◌∙◌, subst, arith}
+use Rattle.std.specs.Prelude.{Some, None, MatchBool}
 use Rattle.srm_names.specs.declared.page.Page.{Page}
-use Rattle.srm_names.specs.Histories.{greatest}
-use Rattle.srm_agent.specs.declared.entry.AgentFault.{AgentFault}
-use Rattle.srm_agent.specs.declared.entry.AgentFault.TheVariants as faults
-use Rattle.srm_agent.specs.declared.entry.AgentState.{AgentState}
-use Rattle.srm_agent.specs.declared.entry.AgentState.TheVariants.{Active, Leaving, Gone}
+use Rattle.srm_agent.specs.declared.fault.AgentFault.{AgentFault}
+use Rattle.srm_agent.specs.declared.fault.AgentFault.TheVariants as faults
+use Rattle.srm_agent.specs.declared.state.AgentState.{AgentState}
+use Rattle.srm_agent.specs.declared.state.AgentState.TheVariants.{Active, Leaving, Gone}
 use Rattle.srm_agent.specs.declared.entry.Entry.{Entry}
 use Rattle.srm_agent.specs.declared.entry.Input.{Input}
-use Rattle.srm_agent.specs.declared.entry.Input.TheVariants.{Showed, AskedLeave}
+use Rattle.srm_agent.specs.declared.entry.Input.TheVariants.{Showed, AskedLeave, Ticked, Gave}
 use Rattle.srm_agent.specs.declared.entry.Verdict.TheVariants.{Done, Refused}
 use Rattle.srm_agent.specs.Configs.{Config}
-use Rattle.srm_agent.specs.Entries.{is_tick, takes_moment, last_moment, is_gone, state, slots, shown}
+use Rattle.srm_agent.specs.Entries.{is_tick, takes_moment, last_moment, is_gone, state}
 use Rattle.srm_agent.specs.PageTables.{lacks_room, with_page}
 use Rattle.srm_agent.specs.Verdicts.{VerdictRight}
 use Rattle.srm_agent.specs.Giving.{MessageRight, given_in}
 use Rattle.srm_agent.specs.Contents.{Content}
-use Rattle.srm_agent.specs.Fits.{Fits, FeedsFit}
-use Rattle.srm_agent.specs.Noting.{Enters, still_entry}
+use Rattle.srm_agent.specs.Fits.{Fits}
+use Rattle.srm_agent.specs.Noting.{Enters, IsAllowed, still_entry}
 use Rattle.srm_agent.proofs.Running.{slots-same, slots-one}
-use Rattle.srm_agent.proofs.Still.{MayFollow, SameParts, still_fits, same_feeds}
+use Rattle.srm_agent.proofs.Still.{SameParts, still_fits, same_feeds}
 
 -- an entry of this agent is one of the member whose run it fits
 pub of_member : {W : Type 0} (c : Config) (made : ℕ) (past : List Entry) (a b : Content W) (e : Entry) (make : ℕ → Entry) → Fits c made past a → e ≡ make a.config.me → Fits c made (past ++ make c.me ∷ []) b → Fits c made (past ++ e ∷ []) b
@@ -40,21 +39,22 @@ pub stays_at : (last : ℕ) → last ≡ max last 0
 stays_at last = omega arith
 
 same_parts : {W : Type 0} (a : Content W) → SameParts a a
-same_parts a = record { config = refl; store = refl; distances = refl; asks = refl; fixes = refl; bucket = refl; due = refl }
+same_parts a = record { config = refl; store = refl; distances = refl; timers = refl; bucket = refl; due = refl }
 
 -- a refused call changes nothing, and its moment doesn't count
-pub refused_enters : {W : Type 0} (a : Content W) (now moment : ℕ) (input : Input) (fault : AgentFault) (e : Entry) → e ≡ still_entry a.config.me moment input (Refused fault) None a.state → moment ≡ max now a.last
+pub refused_enters : {W : Type 0} (draw : W → ℕ × W) (a : Content W) (now moment : ℕ) (input : Input) (fault : AgentFault) (e : Entry) → e ≡ still_entry a.config.me moment input (Refused fault) None a.state → moment ≡ max now a.last
     → is_tick input ≡ false → takes_moment input ≡ true → ((j : ℕ) → given_in j input None ≡ None) → ((c : Config) (past : List Entry) → MessageRight c past input None)
-    → ((c : Config) (made : ℕ) (past : List Entry) → Fits c made past a → VerdictRight c past input (Refused fault)) → Enters (Some now) input a a e
-refused_enters a now moment input fault e is at unticked takes ungiven message right = record {
+    → ((c : Config) (made : ℕ) (past : List Entry) → Fits c made past a → VerdictRight c past input (Refused fault)) → Enters draw (Some now) input a a e
+refused_enters draw a now moment input fault e is at unticked takes ungiven message right = record {
   input_is = ap (λ (x : Entry). x.input) is;
+  words = rw is refl;
   moment_is = ap (λ (x : Entry). x.moment) is ∙ at;
   fits = λ c made past h. of_member c made past a a e (λ me. still_entry me moment input (Refused fault) None a.state) h is
       (still_fits c made past a a moment input (Refused fault) None a.state h
       (record {
         unheard = refl;
         undrawn = refl;
-        unticked = unticked;
+        idle = ap (λ b. b && not (is_gone (state past))) unticked;
         moment_right = subst (λ (b : Bool). MatchBool b (last_moment made past ≤ moment) (moment ≡ last_moment made past)) (sym takes) (later c made past a now moment h at);
         verdict_right = right c made past h;
         message_right = message c past;
@@ -66,60 +66,91 @@ refused_enters a now moment input fault e is at unticked takes ungiven message r
 gone_leaves : (s : AgentState) → s ≡ Gone → (past : List Entry) (c : Config) → s ≡ state past → VerdictRight c past AskedLeave (Refused faults.Gone)
 gone_leaves s e past c q = rw (sym q ∙ e) refl
 
-pub leave_gone : {W : Type 0} (a : Content W) (now moment : ℕ) (e : Entry) → a.state ≡ Gone → e ≡ still_entry a.config.me moment AskedLeave (Refused faults.Gone) None a.state → moment ≡ max now a.last → Enters (Some now) AskedLeave a a e
-leave_gone a now moment e gone is at = refused_enters a now moment AskedLeave faults.Gone e is at refl refl (λ j. refl) (λ c past. refl) (λ c made past h. rw (sym h.state ∙ gone) refl)
+pub leave_gone : {W : Type 0} (draw : W → ℕ × W) (a : Content W) (now moment : ℕ) (e : Entry) → a.state ≡ Gone → e ≡ still_entry a.config.me moment AskedLeave (Refused faults.Gone) None a.state → moment ≡ max now a.last → Enters draw (Some now) AskedLeave a a e
+leave_gone draw a now moment e gone is at = refused_enters draw a now moment AskedLeave faults.Gone e is at refl refl (λ j. refl) (λ c past. refl) (λ c made past h. rw (sym h.state ∙ gone) refl)
 
-pub leave_leaving : {W : Type 0} (a : Content W) (now moment : ℕ) (e : Entry) → a.state ≡ Leaving → e ≡ still_entry a.config.me moment AskedLeave (Refused faults.Leaving) None a.state → moment ≡ max now a.last → Enters (Some now) AskedLeave a a e
-leave_leaving a now moment e leaving is at = refused_enters a now moment AskedLeave faults.Leaving e is at refl refl (λ j. refl) (λ c past. refl) (λ c made past h. rw (sym h.state ∙ leaving) refl)
+pub leave_leaving : {W : Type 0} (draw : W → ℕ × W) (a : Content W) (now moment : ℕ) (e : Entry) → a.state ≡ Leaving → e ≡ still_entry a.config.me moment AskedLeave (Refused faults.Leaving) None a.state → moment ≡ max now a.last → Enters draw (Some now) AskedLeave a a e
+leave_leaving draw a now moment e leaving is at = refused_enters draw a now moment AskedLeave faults.Leaving e is at refl refl (λ j. refl) (λ c past. refl) (λ c made past h. rw (sym h.state ∙ leaving) refl)
 
-pub leave_done : {W : Type 0} (a : Content W) (now moment : ℕ) (e : Entry) → a.state ≡ Active → e ≡ still_entry a.config.me moment AskedLeave Done None Leaving → moment ≡ max now a.last
-    → Enters (Some now) AskedLeave a (record a { state = Leaving; last = moment }) e
-leave_done a now moment e active is at = record {
+pub leave_done : {W : Type 0} (draw : W → ℕ × W) (a : Content W) (now moment : ℕ) (e : Entry) → a.state ≡ Active → e ≡ still_entry a.config.me moment AskedLeave Done None Leaving → moment ≡ max now a.last
+    → Enters draw (Some now) AskedLeave a (record a { state = Leaving; last = moment }) e
+leave_done draw a now moment e active is at = record {
   input_is = ap (λ (x : Entry). x.input) is;
+  words = rw is refl;
   moment_is = ap (λ (x : Entry). x.moment) is ∙ at;
   fits = λ c made past h. of_member c made past a (record a { state = Leaving; last = moment }) e (λ me. still_entry me moment AskedLeave Done None Leaving) h is
       (still_fits c made past a (record a { state = Leaving; last = moment }) moment AskedLeave Done None Leaving h
       (record {
         unheard = refl;
         undrawn = refl;
-        unticked = refl;
+        idle = refl;
         moment_right = later c made past a now moment h at;
         verdict_right = rw (sym h.state ∙ active) refl;
         message_right = refl;
         state_right = refl;
       })
-      (record { config = refl; store = refl; distances = refl; asks = refl; fixes = refl; bucket = refl; due = refl }) refl (moves_on now a.last moment at) refl
+      (record { config = refl; store = refl; distances = refl; timers = refl; bucket = refl; due = refl }) refl (moves_on now a.last moment at) refl
       (h.pages ∙ sym (slots-same past _ refl)) (same_feeds past _ a.feeds (λ j. refl) h.feeds));
 }
 
-pub show_gone : {W : Type 0} (a : Content W) (now moment : ℕ) (page : Page) (e : Entry) → is_gone a.state ≡ true → e ≡ still_entry a.config.me moment (Showed page) (Refused faults.Gone) None a.state → moment ≡ max now a.last
-    → Enters (Some now) (Showed page) a a e
-show_gone a now moment page e gone is at =
-    refused_enters a now moment (Showed page) faults.Gone e is at refl refl (λ j. refl) (λ c past. refl) (λ c made past h. rw (ap is_gone (sym h.state) ∙ gone) refl)
+pub show_gone : {W : Type 0} (draw : W → ℕ × W) (a : Content W) (now moment : ℕ) (page : Page) (e : Entry) → is_gone a.state ≡ true → e ≡ still_entry a.config.me moment (Showed page) (Refused faults.Gone) None a.state → moment ≡ max now a.last
+    → Enters draw (Some now) (Showed page) a a e
+show_gone draw a now moment page e gone is at =
+    refused_enters draw a now moment (Showed page) faults.Gone e is at refl refl (λ j. refl) (λ c past. refl) (λ c made past h. rw (ap is_gone (sym h.state) ∙ gone) refl)
 
-pub show_full : {W : Type 0} (a : Content W) (now moment : ℕ) (page : Page) (e : Entry) → is_gone a.state ≡ false → lacks_room a.pages page ≡ true
-    → e ≡ still_entry a.config.me moment (Showed page) (Refused faults.PageLimit) None a.state → moment ≡ max now a.last → Enters (Some now) (Showed page) a a e
-show_full a now moment page e here full is at =
-    refused_enters a now moment (Showed page) faults.PageLimit e is at refl refl (λ j. refl) (λ c past. refl)
+pub show_full : {W : Type 0} (draw : W → ℕ × W) (a : Content W) (now moment : ℕ) (page : Page) (e : Entry) → is_gone a.state ≡ false → lacks_room a.pages page ≡ true
+    → e ≡ still_entry a.config.me moment (Showed page) (Refused faults.PageLimit) None a.state → moment ≡ max now a.last → Enters draw (Some now) (Showed page) a a e
+show_full draw a now moment page e here full is at =
+    refused_enters draw a now moment (Showed page) faults.PageLimit e is at refl refl (λ j. refl) (λ c past. refl)
     (λ c made past h. rw (ap is_gone (sym h.state) ∙ here, ap (λ ps. lacks_room ps page) (sym h.pages) ∙ full) refl)
 
-pub show_done : {W : Type 0} (a : Content W) (now moment : ℕ) (page : Page) (pages : List Page) (e : Entry) → is_gone a.state ≡ false → lacks_room a.pages page ≡ false → pages ≡ with_page a.pages page
+pub show_done : {W : Type 0} (draw : W → ℕ × W) (a : Content W) (now moment : ℕ) (page : Page) (pages : List Page) (e : Entry) → is_gone a.state ≡ false → lacks_room a.pages page ≡ false → pages ≡ with_page a.pages page
     → e ≡ still_entry a.config.me moment (Showed page) Done None a.state → moment ≡ max now a.last
-    → Enters (Some now) (Showed page) a (record a { last = moment; showing = page; pages = pages }) e
-show_done a now moment page pages e here room added is at = record {
+    → Enters draw (Some now) (Showed page) a (record a { last = moment; showing = page; pages = pages }) e
+show_done draw a now moment page pages e here room added is at = record {
   input_is = ap (λ (x : Entry). x.input) is;
+  words = rw is refl;
   moment_is = ap (λ (x : Entry). x.moment) is ∙ at;
   fits = λ c made past h. of_member c made past a _ e (λ me. still_entry me moment (Showed page) Done None a.state) h is
       (still_fits c made past a (record a { last = moment; showing = page; pages = pages }) moment (Showed page) Done None a.state h
       (record {
         unheard = refl;
         undrawn = refl;
-        unticked = refl;
+        idle = refl;
         moment_right = later c made past a now moment h at;
         verdict_right = rw (ap is_gone (sym h.state) ∙ here, ap (λ ps. lacks_room ps page) (sym h.pages) ∙ room) refl;
         message_right = refl;
         state_right = h.state;
       })
-      (record { config = refl; store = refl; distances = refl; asks = refl; fixes = refl; bucket = refl; due = refl }) refl (moves_on now a.last moment at) refl
+      (record { config = refl; store = refl; distances = refl; timers = refl; bucket = refl; due = refl }) refl (moves_on now a.last moment at) refl
       (added ∙ ap (λ ps. with_page ps page) h.pages ∙ sym (slots-one past _ page refl)) (same_feeds past _ a.feeds (λ j. refl) h.feeds));
 }
+
+-- the tick of a member that is gone
+pub rest_gone : {W : Type 0} (draw : W → ℕ × W) (a b : Content W) (now moment : ℕ) (e : Entry) → is_gone a.state ≡ true → b ≡ record a { last = moment } → e ≡ still_entry a.config.me moment Ticked Done None a.state
+    → moment ≡ max now a.last → Enters draw (Some now) Ticked a b e
+rest_gone draw a b now moment e gone new is at = subst (λ x. Enters draw (Some now) Ticked a x e) (sym new) (record {
+  input_is = ap (λ (x : Entry). x.input) is;
+  words = rw is refl;
+  moment_is = ap (λ (x : Entry). x.moment) is ∙ at;
+  fits = λ c made past h. of_member c made past a (record a { last = moment }) e (λ me. still_entry me moment Ticked Done None a.state) h is
+      (still_fits c made past a (record a { last = moment }) moment Ticked Done None a.state h
+      (record {
+        unheard = refl;
+        undrawn = refl;
+        idle = ap not (ap is_gone (sym h.state) ∙ gone);
+        moment_right = later c made past a now moment h at;
+        verdict_right = refl;
+        message_right = refl;
+        state_right = h.state;
+      })
+      (record { config = refl; store = refl; distances = refl; timers = refl; bucket = refl; due = refl }) refl (moves_on now a.last moment at) refl
+      (h.pages ∙ sym (slots-same past _ refl)) (same_feeds past _ a.feeds (λ j. refl) h.feeds));
+})
+
+-- what is done whenever it is asked
+pub tick_allowed : {W : Type 0} (a : Content W) → IsAllowed Ticked a
+tick_allowed a = record { each = λ c made past h. refl }
+
+pub give_allowed : {W : Type 0} (a : Content W) (slot : ℕ) → IsAllowed (Gave slot) a
+give_allowed a slot = record { each = λ c made past h. refl }

@@ -1,9 +1,9 @@
 -- A feed with one more message.
 use Rattle.std.proofs.Common.{◌≡◌, ℕ, ◌+◌, ◌<◌, ◌==◌, Bool, true, false, not, ◌&&◌, ◌||◌, List, [], ◌∷◌, ◌++◌, length, ap, sym, ◌∙◌, subst, refl, inl, inr, ◌⊎◌, arith, length-append}
 use Rattle.std.specs.Prelude.{Option, Some, None, is_some, if◌then◌else◌, slice_index, slice_index_or, slice_set}
-use Rattle.std.specs.List.{list_any, filter_map, cons_option}
-use Rattle.std.proofs.lemmas.Bool.{and_parts, eqb-true, eq-eqb, ne_eqb, cases_eq}
-use Rattle.std.proofs.lemmas.List.{append-nil, get_or-set_same, get_or-set_other}
+use Rattle.std.specs.List.{list_any, cons_option}
+use Rattle.std.proofs.lemmas.Bool.{eqb-true, eq-eqb, ne_eqb, cases_eq}
+use Rattle.std.proofs.lemmas.List.{get_or-set_same, get_or-set_other}
 use Rattle.std.proofs.lemmas.List.Elements.{filter_map-append}
 use Rattle.srm_names.specs.declared.limits.TheConstants.{MEMBERS}
 use Rattle.srm_names.specs.declared.page.Page.{Page}
@@ -12,7 +12,7 @@ use Rattle.srm_names.specs.declared.page_msg.PageMsg.{PageMsg}
 use Rattle.srm_names.specs.declared.page_msg.PageMsg.TheVariants.{Open, Draw, Left, Close}
 use Rattle.srm_names.specs.Histories.{or_else}
 use Rattle.srm_names.specs.PageFeeds.{drawops_of, drawop_from, leaves, is_close, opened, page_opened, continues, is_open_at}
-use Rattle.srm_names.proofs.Snoc.{first_of-snoc, or_else-none, list_any-snoc}
+use Rattle.srm_names.proofs.Snoc.{first_of-snoc, list_any-snoc}
 use Rattle.srm_agent.specs.Feeds.{FeedContent, FeedFits}
 
 opened-snoc : (g : List PageMsg) (m : PageMsg) → opened (g ++ m ∷ []) ≡ or_else (opened g) (page_opened m)

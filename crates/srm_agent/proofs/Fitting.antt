@@ -1,5 +1,5 @@
 -- What an agent fits is a run of its member.
-use Rattle.std.proofs.Common.{◌≡◌, ℕ, List, [], subst}
+use Rattle.std.proofs.Common.{ℕ, List, subst}
 use Rattle.srm_bucket.specs.Law.{BucketLaw}
 use Rattle.srm_bucket.proofs.Mapping.{law-read}
 use Rattle.srm_agent.specs.declared.entry.Entry.{Entry}

@@ -1,11 +1,10 @@
 -- The entry of a give.
-use Rattle.std.proofs.Common.{◌≡◌, ℕ, zero, suc, ◌<◌, ◌==◌, Bool, true, false, ◌&&◌, List, [], ◌∷◌, ◌++◌, length, refl, ap, sym, ◌∙◌, subst, inl, inr, arith}
+use Rattle.std.proofs.Common.{◌≡◌, ℕ, zero, suc, ◌==◌, Bool, true, false, List, [], ◌∷◌, ◌++◌, refl, ap, sym, ◌∙◌, subst, inl, inr}
 use Rattle.std.specs.Prelude.{Option, Some, None, slice_get, slice_set, if◌then◌else◌}
 use Rattle.std.specs.List.{list_all, cons_option}
 use Rattle.std.proofs.lemmas.Bool.{and_parts, cases_eq, eq-eqb, ne_eqb}
 use Rattle.std.proofs.lemmas.List.{append-nil}
 use Rattle.std.proofs.lemmas.Option.{none-some, same_Some}
-use Rattle.srm_names.specs.declared.limits.TheConstants.{PAGES}
 use Rattle.srm_names.specs.declared.page_msg.PageMsg.{PageMsg}
 use Rattle.srm_names.specs.Histories.{Step, steps}
 use Rattle.srm_names.specs.PageFeeds.{continues, is_page_feed}
@@ -14,7 +13,7 @@ use Rattle.srm_agent.specs.declared.entry.Entry.{Entry}
 use Rattle.srm_agent.specs.declared.entry.Input.TheVariants.{Gave}
 use Rattle.srm_agent.specs.declared.entry.Verdict.TheVariants.{Done}
 use Rattle.srm_agent.specs.Configs.{Config}
-use Rattle.srm_agent.specs.Entries.{slots, last_moment}
+use Rattle.srm_agent.specs.Entries.{slots}
 use Rattle.srm_agent.specs.Giving.{given, given_in, GiveRight}
 use Rattle.srm_agent.specs.Feeds.{FeedContent, FeedFits}
 use Rattle.srm_agent.specs.Contents.{Content}
@@ -22,7 +21,7 @@ use Rattle.srm_agent.specs.Fits.{Fits, FeedsFit}
 use Rattle.srm_agent.specs.Noting.{Enters, still_entry}
 use Rattle.srm_agent.proofs.Feeding.{feeds_right, fed_gives, given-snoc}
 use Rattle.srm_agent.proofs.Running.{slots-same}
-use Rattle.srm_agent.proofs.Still.{MayFollow, SameParts, still_fits, same_feeds}
+use Rattle.srm_agent.proofs.Still.{MayFollow, still_fits, same_feeds}
 use Rattle.srm_agent.proofs.Entering.{of_member, stays_at}
 
 continues_last : (g : List PageMsg) (m : PageMsg) → is_page_feed (g ++ m ∷ []) ≡ true → continues g m ≡ true
@@ -38,7 +37,7 @@ give_continues c made past a j m h right =
     continues_last (given past j) m (fed_gives c past (slice_get (slots past) j) (given past j) m fed.tells right (fed.feeds j)).fed
 
 may_give : {W : Type 0} (c : Config) (made : ℕ) (past : List Entry) (a : Content W) (j : ℕ) (m : Option PageMsg) → Fits c made past a → GiveRight c past j m → MayFollow c made past a.last (Gave j) Done m a.state
-may_give c made past a j m h right = record { unheard = refl; undrawn = refl; unticked = refl; moment_right = h.last; verdict_right = refl; message_right = right; state_right = h.state }
+may_give c made past a j m h right = record { unheard = refl; undrawn = refl; idle = refl; moment_right = h.last; verdict_right = refl; message_right = right; state_right = h.state }
 
 not_given : (j slot : ℕ) → given_in j (Gave slot) None ≡ None
 not_given j slot = go (j == slot) None refl
@@ -47,14 +46,15 @@ not_given j slot = go (j == slot) None refl
     go true o e = e
     go false o e = refl
 
-pub gives_nothing : {W : Type 0} (a : Content W) (slot : ℕ) (e : Entry) → e ≡ still_entry a.config.me a.last (Gave slot) Done None a.state
-    → ((c : Config) (made : ℕ) (past : List Entry) → Fits c made past a → GiveRight c past slot None) → Enters None (Gave slot) a a e
-gives_nothing a slot e is right = record {
+pub gives_nothing : {W : Type 0} (draw : W → ℕ × W) (a : Content W) (slot : ℕ) (e : Entry) → e ≡ still_entry a.config.me a.last (Gave slot) Done None a.state
+    → ((c : Config) (made : ℕ) (past : List Entry) → Fits c made past a → GiveRight c past slot None) → Enters draw None (Gave slot) a a e
+gives_nothing draw a slot e is right = record {
   input_is = ap (λ (x : Entry). x.input) is;
+  words = rw is refl;
   moment_is = ap (λ (x : Entry). x.moment) is;
   fits = λ c made past h. of_member c made past a a e (λ me. still_entry me a.last (Gave slot) Done None a.state) h is
       (still_fits c made past a a a.last (Gave slot) Done None a.state h (may_give c made past a slot None h (right c made past h))
-      (record { config = refl; store = refl; distances = refl; asks = refl; fixes = refl; bucket = refl; due = refl }) refl (stays_at a.last) refl
+      (record { config = refl; store = refl; distances = refl; timers = refl; bucket = refl; due = refl }) refl (stays_at a.last) refl
       (h.pages ∙ sym (slots-same past _ refl)) (same_feeds past _ a.feeds (λ j. not_given j slot) h.feeds));
 }
 
@@ -86,15 +86,16 @@ feeds_more past e feeds slot i f m input message at h more = record { each = eac
       | inr other ↦ subst (λ g. FeedFits g x) (sym (given_then j false (ne_eqb j slot (λ k. other (k ∙ sym at))) ∙ append-nil (given past j))) (h.each j x (sym (set_elsewhere feeds i f j other) ∙ there))
     ]
 
-pub gives_message : {W : Type 0} (a : Content W) (slot i : ℕ) (m : PageMsg) (f : FeedContent) (e : Entry) → e ≡ still_entry a.config.me a.last (Gave slot) Done (Some m) a.state → i ≡ slot
+pub gives_message : {W : Type 0} (draw : W → ℕ × W) (a : Content W) (slot i : ℕ) (m : PageMsg) (f : FeedContent) (e : Entry) → e ≡ still_entry a.config.me a.last (Gave slot) Done (Some m) a.state → i ≡ slot
     → ((c : Config) (made : ℕ) (past : List Entry) → Fits c made past a → GiveRight c past slot (Some m))
     → ((c : Config) (made : ℕ) (past : List Entry) → Fits c made past a → FeedFits (given past slot ++ m ∷ []) f)
-    → Enters None (Gave slot) a (record a { feeds = slice_set a.feeds i f }) e
-gives_message a slot i m f e is at right more = record {
+    → Enters draw None (Gave slot) a (record a { feeds = slice_set a.feeds i f }) e
+gives_message draw a slot i m f e is at right more = record {
   input_is = ap (λ (x : Entry). x.input) is;
+  words = rw is refl;
   moment_is = ap (λ (x : Entry). x.moment) is;
   fits = λ c made past h. of_member c made past a (record a { feeds = slice_set a.feeds i f }) e (λ me. still_entry me a.last (Gave slot) Done (Some m) a.state) h is
       (still_fits c made past a (record a { feeds = slice_set a.feeds i f }) a.last (Gave slot) Done (Some m) a.state h (may_give c made past a slot (Some m) h (right c made past h))
-      (record { config = refl; store = refl; distances = refl; asks = refl; fixes = refl; bucket = refl; due = refl }) refl (stays_at a.last) refl
+      (record { config = refl; store = refl; distances = refl; timers = refl; bucket = refl; due = refl }) refl (stays_at a.last) refl
       (h.pages ∙ sym (slots-same past _ refl)) (feeds_more past _ a.feeds slot i f m refl refl at h.feeds (more c made past h)));
 }

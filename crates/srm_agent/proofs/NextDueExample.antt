@@ -8,7 +8,7 @@ use Rattle.srm_codec.specs.declared.datagram.Datagram.{Datagram}
 use Rattle.srm_codec.specs.declared.datagram.Datagram.TheVariants.{Session}
 use Rattle.srm_bucket.specs.Law.{BucketLaw}
 use Rattle.srm_agent.specs.declared.entry.Entry.{Entry}
-use Rattle.srm_agent.specs.declared.entry.AgentState.TheVariants.{Active, Leaving, Gone}
+use Rattle.srm_agent.specs.declared.state.AgentState.TheVariants.{Active, Leaving, Gone}
 use Rattle.srm_agent.specs.declared.entry.Input.{Input}
 use Rattle.srm_agent.specs.declared.entry.Input.TheVariants.{Drew, Ticked, AskedLeave}
 use Rattle.srm_agent.specs.Entries.{is_missing, is_tick}
@@ -22,6 +22,7 @@ use Rattle.srm_names.specs.Names.{first_page, named}
 use Rattle.srm_bucket.specs.Calls.{Classed}
 use Rattle.std.specs.List.{AllByRecursion}
 use Rattle.srm_agent.specs.Promises.{IsIdle, IsNextDue}
+use Rattle.srm_agent.proofs.NextDueRests.{gone_rests, idle_rests}
 use Rattle.srm_agent.proofs.Plain.{zeros, config, plain, idle, idle_right, right, missing_none, unknown_unmissed}
 
 -- a new member: its first session message is due after a second
@@ -70,7 +71,7 @@ then_a_report (e, input, moment, asks, fixes, outs, run) =
     not_empty (charged e) g (sym outs ∙ is)
 
 due_after_a_second : IsNextDue (config 0) 0 [] (Some 1000000)
-due_after_a_second = (refl, lit≤ tt, (λ now l u. idle_before now u), then_a_report)
+due_after_a_second = (refl, lit≤ tt, (λ now l u. (idle_before now u, idle_rests (config 0) 0 [] now (idle_before now u))), then_a_report)
 
 -- a member that has drawn: its data is due at once
 
@@ -137,4 +138,4 @@ abbrev gone : List Entry
 gone = plain 0 20 AskedLeave None [] None Leaving ∷ plain 0 21 Ticked None (Session 0 21 true first_page [] [] ∷ []) None Gone ∷ []
 
 never_again : IsNextDue (config 0) 0 gone None
-never_again = refl
+never_again = (refl, λ now. gone_rests (config 0) 0 gone now refl)

@@ -1,8 +1,8 @@
 -- What comes next on a page, by what is kept of it.
-use Rattle.std.proofs.Common.{◌≡◌, ℕ, zero, suc, ◌+◌, ◌<◌, ◌≤◌, ◌==◌, Bool, true, false, not, ◌&&◌, ◌||◌, List, [], ◌∷◌, ◌++◌, length, map, refl, ap, sym, ◌∙◌, subst, arith, inl, inr}
+use Rattle.std.proofs.Common.{◌≡◌, ℕ, zero, suc, ◌+◌, ◌<◌, ◌≤◌, Bool, true, false, not, ◌&&◌, ◌||◌, List, length, map, refl, ap, sym, ◌∙◌, subst, arith, inl, inr}
 use Rattle.std.specs.Prelude.{Option, Some, None, is_some, slice_get, get_or, if◌then◌else◌}
-use Rattle.std.specs.List.{list_any, list_all}
-use Rattle.std.proofs.lemmas.Option.{none-some, same_Some, slice_get_past, slice_get_cases, slice_get_read}
+use Rattle.std.specs.List.{list_any}
+use Rattle.std.proofs.lemmas.Option.{same_Some, slice_get_past, slice_get_cases, slice_get_read}
 use Rattle.std.proofs.lemmas.Bool.{cases_eq}
 use Rattle.srm_names.specs.declared.limits.TheConstants.{PAGES}
 use Rattle.srm_names.specs.declared.page.Page.{Page}
@@ -11,20 +11,21 @@ use Rattle.srm_names.specs.declared.drawop.Drawop.{Drawop}
 use Rattle.srm_names.specs.declared.page_msg.PageMsg.{PageMsg}
 use Rattle.srm_names.specs.declared.page_msg.PageMsg.TheVariants.{Open, Draw, Left, Close}
 use Rattle.srm_names.specs.FullName.{FullName}
-use Rattle.srm_names.specs.Histories.{count_up, until_none, Step, steps}
+use Rattle.srm_names.specs.Histories.{count_up}
 use Rattle.srm_names.specs.Names.{named}
-use Rattle.srm_names.specs.PageFeeds.{drawops_of, leaves, is_close, opened, continues, is_page_feed}
+use Rattle.srm_names.specs.PageFeeds.{drawops_of, leaves, is_close, opened}
 use Rattle.srm_names.proofs.Lists.{until_none-at, find-Has}
 use Rattle.srm_names.proofs.Same.{same_name-is}
 use Rattle.srm_store.specs.Held as store
 use Rattle.srm_agent.specs.declared.entry.Entry.{Entry}
 use Rattle.srm_agent.specs.Configs.{Config}
 use Rattle.srm_agent.specs.Entries.{held, released, slots, state, is_gone}
-use Rattle.srm_agent.specs.Verdicts.{final, stream_on}
+use Rattle.srm_agent.specs.Verdicts.{final}
 use Rattle.srm_agent.specs.Giving.{next_drawop, may_leave, has_more, is_some_of, is_quiet, given, GivesAfter, GiveRight}
 use Rattle.srm_agent.specs.Feeds.{FeedContent, FeedFits}
-use Rattle.srm_agent.specs.Fits.{FeedsFit}
-use Rattle.srm_agent.specs.Nexts.{IsNextOf, IsNextOn}
+use Rattle.srm_agent.specs.Contents.{Content}
+use Rattle.srm_agent.specs.Fits.{Fits, FeedsFit}
+use Rattle.srm_agent.specs.Nexts.{IsNextOf, IsNextOn, IsSmallest, IsOfSmallest, PrefersSmallest}
 
 -- the released drawop at a place is the one that is held under the number of that place
 at_place : (inserted : List Drawop) (s : Stream) (k : ℕ) (d : Drawop) → slice_get (store.released inserted s) k ≡ Some d → store.held_at inserted (named s (1 + k)) ≡ Some d
@@ -43,14 +44,15 @@ none_released inserted s k past = sym (slice_get_past (store.released inserted s
 source_is : (past : List Entry) (s : Stream) (k : ℕ) (d : Drawop) → slice_get (released past s) k ≡ Some d → d.name.stream ≡ s
 source_is past s k d e = ap (λ (n : FullName). n.stream) (same_name-is d.name (named s (1 + k)) (find-Has (store.has_name (named s (1 + k))) (held past) d (at_place (held past) s k d e)).1)
 
-pub draw_is_next : (past : List Entry) (s : Stream) (g : List PageMsg) (k : ℕ) (d : Drawop) → k ≡ length (drawops_of s.source g) → slice_get (released past s) k ≡ Some d → next_drawop past s.page g d.name.stream.source ≡ Some d
+pub draw_is_next : (past : List Entry) (s : Stream) (g : List PageMsg) (k : ℕ) (d : Drawop) → k ≡ length (drawops_of s.source g) → slice_get (released past s) k ≡ Some d
+    → (d.name.stream.source ≡ s.source) × (next_drawop past s.page g d.name.stream.source ≡ Some d)
 draw_is_next past s g k d count e =
     let same : d.name.stream.source ≡ s.source = ap (λ (t : Stream). t.source) (source_is past s k d e) in
-    ap (λ w. next_drawop past s.page g w) same ∙ ap (slice_get (released past s)) (sym count) ∙ e
+    (same, ap (λ w. next_drawop past s.page g w) same ∙ ap (slice_get (released past s)) (sym count) ∙ e)
 
 pub leave_is_next : (past : List Entry) (s : Stream) (g : List PageMsg) (k : ℕ) (all left : Bool) → k ≡ length (drawops_of s.source g) → all ≡ is_some_of k (final past s) → left ≡ list_any (leaves s.source) g
-    → (all && not left) ≡ true → may_leave past s.page g s.source ≡ true
-leave_is_next past s g k all left count all_is left_is e = rw (sym count, sym all_is, sym left_is) e
+    → (all && not left) ≡ true → (s.source ≡ s.source) × (may_leave past s.page g s.source ≡ true)
+leave_is_next past s g k all left count all_is left_is e = (refl, rw (sym count, sym all_is, sym left_is) e)
 
 pub nothing_is_next : (past : List Entry) (s : Stream) (g : List PageMsg) (k : ℕ) (all left : Bool) → k ≡ length (drawops_of s.source g) → None ≡ slice_get (released past s) k → all ≡ is_some_of k (final past s) → left ≡ list_any (leaves s.source) g
     → (all && not left) ≡ false → has_more past g (Some s.page) s.source ≡ false
@@ -69,8 +71,8 @@ gives_open c past j page f fits at unopened unclosed = subst (λ o. GivesAfter c
 
 next_given_at : (c : Config) (past : List Entry) (page : Page) (g : List PageMsg) (source : ℕ) (m : PageMsg) → is_some (opened g) ≡ true → list_any is_close g ≡ false → IsNextOf past page g source (Some m) → GivesAfter c past g (Some page) (Some m)
 next_given_at c past page g source (Open p) o closed next = absurd next
-next_given_at c past page g source (Draw d) o closed next = (o, closed, next)
-next_given_at c past page g source (Left s) o closed next = (o, closed, next)
+next_given_at c past page g source (Draw d) o closed next = (o, closed, next.1)
+next_given_at c past page g source (Left s) o closed next = (o, closed, next.1)
 next_given_at c past page g source Close o closed next = absurd next
 
 pub gives_next : (c : Config) (past : List Entry) (j : ℕ) (page : Page) (f : FeedContent) (m : PageMsg) → FeedFits (given past j) f → slice_get (slots past) j ≡ Some page → f.opened ≡ true → f.closed ≡ false
@@ -106,9 +108,24 @@ closes_with_page c past j page f gone fits at o closed none is =
     quiet true true p q = absurd (cc)
     quiet false b p q = absurd (cc)
 
--- a message of a member is one of some member
-pub of_some : (c : Config) (past : List Entry) (page : Page) (g : List PageMsg) (source : ℕ) (answer : Option PageMsg) (m : PageMsg) → answer ≡ Some m → IsNextOf past page g source answer → IsNextOn c past page g (Some m)
-of_some c past page g source answer m is next = (source, subst (λ o. IsNextOf past page g source o) is next)
+-- a message of a member below which no source has one
+pub of_some : (c : Config) (past : List Entry) (page : Page) (g : List PageMsg) (number source : ℕ) (answer : Option PageMsg) (m : PageMsg) → answer ≡ Some m → source ≡ number
+    → ((k : ℕ) → k < number → has_more past g (Some page) k ≡ false) → IsNextOf past page g source answer → IsNextOn c past page g (Some m)
+of_some c past page g number source answer m is same none next = (source, subst (λ o. IsNextOf past page g source o) is next, subst (λ s. IsSmallest past page g s) (sym same) none)
+
+next_is_smallest : (past : List Entry) (page : Page) (g : List PageMsg) (source : ℕ) (m : PageMsg) → IsNextOf past page g source (Some m) → IsSmallest past page g source → IsOfSmallest past page g (Some m)
+next_is_smallest past page g source (Open p) next small = absurd next
+next_is_smallest past page g source (Draw d) next small = subst (λ s. IsSmallest past page g s) (sym next.0) small
+next_is_smallest past page g source (Left s) next small = subst (λ s. IsSmallest past page g s) (sym next.0) small
+next_is_smallest past page g source Close next small = absurd next
+
+pub prefers : {W : Type 0} (a : Content W) (j : ℕ) (page : Page) (m : PageMsg) → ((c : Config) (made : ℕ) (past : List Entry) → Fits c made past a → (slice_get (slots past) j ≡ Some page) × IsNextOn c past page (given past j) (Some m)) → PrefersSmallest j a (Some m)
+prefers a j page m next = record {
+  each = λ c made past other h at.
+      let it = next c made past h in
+      let next_on : IsNextOn c past page (given past j) (Some m) = it.1 in
+      subst (λ p. IsOfSmallest past p (given past j) (Some m)) (same_Some page other (sym it.0 ∙ at)) (next_is_smallest past page (given past j) next_on.0 m next_on.1 next_on.2);
+}
 
 pub one_more_none : (past : List Entry) (page : Page) (g : List PageMsg) (number at : ℕ) (answer : Option PageMsg) → at ≡ number → answer ≡ None → IsNextOf past page g at answer
     → ((source : ℕ) → source < number → has_more past g (Some page) source ≡ false) → (source : ℕ) → source < number + 1 → has_more past g (Some page) source ≡ false

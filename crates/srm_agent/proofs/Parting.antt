@@ -18,7 +18,7 @@ use Rattle.srm_codec.specs.declared.datagram.Datagram.{Datagram}
 use Rattle.srm_codec.specs.declared.datagram.Datagram.TheVariants.{Session}
 use Rattle.srm_agent.specs.Configs.{Config}
 use Rattle.srm_agent.specs.declared.entry.Entry.{Entry}
-use Rattle.srm_agent.specs.declared.entry.AgentState.TheVariants.{Gone}
+use Rattle.srm_agent.specs.declared.state.AgentState.TheVariants.{Gone}
 use Rattle.srm_agent.specs.declared.entry.Input.{Input}
 use Rattle.srm_agent.specs.declared.entry.Input.TheVariants.{Drew, Heard, Noise, Ticked, Showed, AskedLeave, Gave, Took}
 use Rattle.srm_agent.specs.Entries.{done, ticked, is_tick, state, is_gone, is_leaving, sent, drawn, drawn_on, known}

@@ -16,7 +16,7 @@ use Rattle.srm_codec.specs.Spelling.{sender_of, IsSpellable, is_name}
 use Rattle.srm_bucket.specs.Calls.{Classed}
 use Rattle.srm_agent.specs.Configs.{Config}
 use Rattle.srm_agent.specs.declared.entry.Entry.{Entry}
-use Rattle.srm_agent.specs.declared.entry.AgentState.{AgentState}
+use Rattle.srm_agent.specs.declared.state.AgentState.{AgentState}
 use Rattle.srm_agent.specs.declared.entry.Input.{Input}
 use Rattle.srm_agent.specs.declared.entry.Verdict.TheVariants.{Done}
 use Rattle.srm_agent.specs.Entries.{heard_in, state, is_gone, is_missing, is_held, known, ticked}

@@ -1,36 +1,28 @@
--- An entry that hears nothing, draws nothing, arms nothing and sends nothing: what it leaves as it was.
-use Rattle.std.proofs.Common.{◌≡◌, ℕ, ◌+◌, max, Bool, true, false, not, ◌&&◌, ◌||◌, List, [], ◌∷◌, ◌++◌, map, refl, ap, sym, ◌∙◌, subst, arith}
-use Rattle.std.specs.Prelude.{Option, Some, None, option_map, option_to_list, is_some, nat_lt, if◌then◌else◌, unwrap_or, find}
-use Rattle.std.specs.List.{flat_map, filter_map, list_any, AllByRecursion, cons_option}
+-- An entry that hears, draws, sets and hands out nothing: what it leaves as it was. And one that sends nothing either.
+use Rattle.std.proofs.Common.{◌≡◌, ℕ, ◌+◌, Bool, true, false, not, ◌&&◌, ◌||◌, List, [], ◌∷◌, ◌++◌, refl, ap, sym, ◌∙◌, subst}
+use Rattle.std.specs.Prelude.{Option, None, option_map, option_to_list, is_some, if◌then◌else◌, unwrap_or}
+use Rattle.std.specs.List.{AllByRecursion, cons_option}
 use Rattle.std.proofs.lemmas.List.{append-nil, map-append}
 use Rattle.std.proofs.lemmas.List.Elements.{filter_map-append}
-use Rattle.srm_names.specs.declared.page.Page.{Page}
-use Rattle.srm_names.specs.declared.drawop.Drawop.{Drawop}
 use Rattle.srm_names.specs.FullName.{FullName}
 use Rattle.srm_names.specs.Histories.{Step, steps, or_else, last_of, first_of}
-use Rattle.srm_names.specs.Names.{among, same_name}
+use Rattle.srm_names.specs.Names.{among}
 use Rattle.srm_names.proofs.Snoc.{steps-snoc, last_of-snoc, first_of-snoc, or_else-none}
-use Rattle.srm_names.proofs.Lists.{at_parts}
-use Rattle.srm_codec.specs.declared.datagram.Datagram.{Datagram}
-use Rattle.srm_store.specs.Finals.{Settling}
 use Rattle.srm_timers.specs.declared.arm.Arm.{Arm}
 use Rattle.srm_timers.specs.declared.arm.ArmKind.{ArmKind}
 use Rattle.srm_timers.specs.declared.arm.ArmKind.TheVariants.{Ask, Fix}
-use Rattle.srm_timers.specs.declared.arm.Armed.{Armed}
-use Rattle.srm_timers.specs.AskCalls.{AskContent}
-use Rattle.srm_timers.specs.FixCalls.{FixContent}
-use Rattle.srm_timers.specs.Arms.{Setting, setting}
-use Rattle.srm_bucket.specs.Calls.{Call}
+use Rattle.srm_timers.specs.Arms.{Setting, setting, ran_out}
 use Rattle.srm_bucket.specs.Content.{Content as BucketContent}
 use Rattle.srm_agent.specs.declared.entry.Entry.{Entry}
 use Rattle.srm_agent.specs.declared.out.Outgoing.{Outgoing}
 use Rattle.srm_agent.specs.Configs.{Config}
-use Rattle.srm_agent.specs.Entries.{heard, ticked, held, held_by, drawops_in, shown_by, shown_to_exist, drawn, is_missing, is_held, known}
-use Rattle.srm_agent.specs.Distances.{distance, distance_calls, calls_in, calls_of}
-use Rattle.srm_agent.specs.Timers.{arm_of, arm_in, last_ask, fix_running, held_off, holds_off, asker, asker_in, asks_for, repaired, repairs_in, ask_exponent, ask_setting, fix_setting, setting_of, ArmsRight, TimersRight}
-use Rattle.srm_agent.specs.Verdicts.{settlings, settling_of, drawn_in, stream_on}
-use Rattle.srm_agent.specs.Sessions.{session_due, pause_after, session_pause, is_session, charged, ending, EndsWith, SessionRight}
-use Rattle.srm_agent.specs.Bucket.{Going, GoesRight, entries_of, bucket_calls, calls_by, handed_by, answers_in, data_item}
+use Rattle.srm_agent.specs.Entries.{heard, ticked, state, is_gone, held, held_by, drawops_in, shown_to_exist, drawn, is_missing, is_held}
+use Rattle.srm_agent.specs.Distances.{distance_calls, calls_in, calls_of}
+use Rattle.srm_agent.specs.Timers.{arm_of, arm_in, last_ask, fix_running, held_off, asker, asker_in, repaired, repairs_in, ask_exponent, ask_setting, fix_setting, setting_of, ArmsRight, TimersRight}
+use Rattle.srm_agent.specs.Verdicts.{settlings, settling_of}
+use Rattle.srm_agent.specs.Sessions.{session_due, pause_after, ending, EndsWith, SessionRight}
+use Rattle.srm_agent.specs.Bucket.{Going, GoesRight, entries_of, bucket_calls, calls_by}
+use Rattle.srm_agent.specs.TimersKept.{TimersContent}
 use Rattle.srm_agent.specs.Fits.{TimersFit, BucketFits, shown_if}
 use Rattle.srm_agent.proofs.Adding.{flat_map-snoc, last_ask-snoc, fix_running-snoc, held_off-snoc}
 use Rattle.srm_agent.proofs.Showing.{held-snoc, shown-snoc, shown_quiet, drawn-snoc}
@@ -43,8 +35,11 @@ pub record Quiet (e : Entry) : Type 0 where
   pub arms : e.effects.arms ≡ []
   pub asks : e.effects.asks ≡ []
   pub fixes : e.effects.fixes ≡ []
+
+-- it is no tick, or one of a member that is gone, and sends nothing
+pub record IsIdle (past : List Entry) (e : Entry) : Type 0 where
+  pub rests : (ticked e && not (is_gone (state past))) ≡ false
   pub outs : e.effects.outs ≡ []
-  pub unticked : ticked e ≡ false
 
 held_by_none : (e : Entry) → Quiet e → held_by e ≡ []
 held_by_none e q = ap (λ o. option_to_list o ++ drawops_in (heard e)) q.drawn ∙ ap drawops_in q.unheard
@@ -103,8 +98,8 @@ same_off me past e n now q =
     none false c e = refl
     none true c e = absurd (cc)
 
-pub timers_stay : (c : Config) (past : List Entry) (e : Entry) (a : AskContent) (f : FixContent) → Quiet e → TimersFit c past a f → TimersFit c (past ++ e ∷ []) a f
-timers_stay c past e a f q h = record {
+pub timers_stay : (c : Config) (past : List Entry) (e : Entry) (t : TimersContent) → Quiet e → TimersFit c past t → TimersFit c (past ++ e ∷ []) t
+timers_stay c past e t q h = record {
   ask_calls = h.ask_calls;
   asks = h.asks;
   ask_timers = λ n. h.ask_timers n ∙ sym (ap (λ b. shown_if b (last_ask (past ++ e ∷ []) n)) (same_missing past e n q) ∙ ap (shown_if (is_missing past n)) (same_last_ask past e n q));
@@ -120,12 +115,12 @@ timers_stay c past e a f q h = record {
 abbrev still : Entry → Going
 still e = record { entry = e; goes = [] }
 
-no_calls : (me : ℕ) (gs : List Going) (e : Entry) → Quiet e → calls_by me (record { before = gs; this = still e }) ≡ []
-no_calls me gs e q = rw (q.drawn, q.asks, q.fixes, q.unticked) refl
+no_calls : (me : ℕ) (gs : List Going) (e : Entry) → Quiet e → IsIdle (entries_of gs) e → calls_by me (record { before = gs; this = still e }) ≡ []
+no_calls me gs e q i = rw (q.drawn, q.asks, q.fixes, i.rests) refl
 
-same_calls : (me : ℕ) (gs : List Going) (e : Entry) → Quiet e → bucket_calls me (gs ++ still e ∷ []) ≡ bucket_calls me gs
-same_calls me gs e q =
-    bucket_calls-append me gs (still e ∷ []) ∙ ap (λ cs. bucket_calls me gs ++ (cs ++ [])) (no_calls me gs e q) ∙ append-nil (bucket_calls me gs)
+same_calls : (me : ℕ) (gs : List Going) (e : Entry) → Quiet e → IsIdle (entries_of gs) e → bucket_calls me (gs ++ still e ∷ []) ≡ bucket_calls me gs
+same_calls me gs e q i =
+    bucket_calls-append me gs (still e ∷ []) ∙ ap (λ cs. bucket_calls me gs ++ (cs ++ [])) (no_calls me gs e q i) ∙ append-nil (bucket_calls me gs)
 
 goes_more : (gs : List Going) (x : Going) → AllByRecursion GoesRight (steps gs) → GoesRight (record { before = gs; this = x }) → AllByRecursion GoesRight (steps (gs ++ x ∷ []))
 goes_more gs x all right = subst (λ w. AllByRecursion GoesRight w) (sym (steps-snoc gs x)) (more GoesRight (steps gs) _ all right)
@@ -134,29 +129,29 @@ goes_more gs x all right = subst (λ w. AllByRecursion GoesRight w) (sym (steps-
     more R [] y all r = (r, tt)
     more R (x ∷ xs) y all r = (all.0, more R xs y all.1 r)
 
-quiet_goes : (gs : List Going) (e : Entry) → Quiet e → GoesRight (record { before = gs; this = still e })
-quiet_goes gs e q = record { same = rw q.outs refl; at_ticks = rw q.unticked refl }
+quiet_goes : (gs : List Going) (e : Entry) → IsIdle (entries_of gs) e → GoesRight (record { before = gs; this = still e })
+quiet_goes gs e i = record { same = rw i.outs refl; at_ticks = rw i.rests refl }
 
-pub bucket_stays : (c : Config) (past : List Entry) (e : Entry) (b : BucketContent Outgoing) → Quiet e → BucketFits c past b → BucketFits c (past ++ e ∷ []) b
-bucket_stays c past e b q h = record {
+pub bucket_stays : (c : Config) (past : List Entry) (e : Entry) (b : BucketContent Outgoing) → Quiet e → IsIdle past e → BucketFits c past b → BucketFits c (past ++ e ∷ []) b
+bucket_stays c past e b q i h = record {
   goings = h.goings ++ still e ∷ [];
   entries = map-append (λ (g : Going). g.entry) h.goings (still e ∷ []) ∙ ap (λ es. es ++ e ∷ []) h.entries;
-  goes = goes_more h.goings (still e) h.goes (quiet_goes h.goings e q);
+  goes = goes_more h.goings (still e) h.goes (quiet_goes h.goings e (subst (λ es. IsIdle es e) (sym h.entries) i));
   calls = h.calls;
-  read = h.read ∙ sym (same_calls c.me h.goings e q);
+  read = h.read ∙ sym (same_calls c.me h.goings e q (subst (λ es. IsIdle es e) (sym h.entries) i));
   fits = h.fits;
 }
 
 -- the session message
 
-no_pause : (c : Config) (past : List Entry) (e : Entry) → Quiet e → pause_after c (record { before = past; this = e }) ≡ None
-no_pause c past e q = rw q.outs refl
+no_pause : (c : Config) (past : List Entry) (e : Entry) → e.effects.outs ≡ [] → pause_after c (record { before = past; this = e }) ≡ None
+no_pause c past e none = rw none refl
 
-pub same_due : (c : Config) (made : ℕ) (past : List Entry) (e : Entry) → Quiet e → session_due c made (past ++ e ∷ []) ≡ session_due c made past
-same_due c made past e q =
+pub same_due : (c : Config) (made : ℕ) (past : List Entry) (e : Entry) → e.effects.outs ≡ [] → session_due c made (past ++ e ∷ []) ≡ session_due c made past
+same_due c made past e none =
     ap (λ o. unwrap_or o (made + 1000000))
     (ap (last_of (pause_after c)) (steps-snoc past e) ∙ last_of-snoc (pause_after c) (steps past) (record { before = past; this = e })
-    ∙ ap (λ o. or_else o (last_of (pause_after c) (steps past))) (no_pause c past e q))
+    ∙ ap (λ o. or_else o (last_of (pause_after c) (steps past))) (no_pause c past e none))
 
 -- the entry is one that those before it allow
 
@@ -185,11 +180,27 @@ no_arms c past e q = record {
   waits = rw q.arms tt;
 }
 
-pub no_timers : (past : List Entry) (e : Entry) → Quiet e → TimersRight past e
-no_timers past e q = record {
-  asks = record { in_order = rw q.asks refl; exact = λ n. rw (q.asks, q.unticked) refl };
-  fixes = record { in_order = rw q.fixes refl; exact = λ n. rw (q.fixes, q.unticked) refl };
+never : (t g x : Bool) → (t && not g) ≡ false → (t && (not g && x)) ≡ false
+never true g x i = ap (λ b. b && x) i
+never false g x i = refl
+
+never_both : (t g x y : Bool) → (t && not g) ≡ false → (t && ((not g && x) && y)) ≡ false
+never_both true true x y i = refl
+never_both true false x y i = absurd (cc)
+never_both false g x y i = refl
+
+pub no_timers : (past : List Entry) (e : Entry) → Quiet e → IsIdle past e → TimersRight past e
+no_timers past e q i = record {
+  asks = record { in_order = rw q.asks refl; exact = λ n. rw q.asks (sym (never_both (ticked e) (is_gone (state past)) (is_missing past n) (ran_out e.moment (last_ask past n)) i.rests)) };
+  fixes = record { in_order = rw q.fixes refl; exact = λ n. rw q.fixes (sym (never (ticked e) (is_gone (state past)) (ran_out e.moment (fix_running past n)) i.rests)) };
 }
 
-pub no_session : (c : Config) (made : ℕ) (past : List Entry) (e : Entry) → Quiet e → SessionRight c made past e
-no_session c made past e q = let none : ending c made past e ≡ None = rw q.unticked refl in subst (EndsWith c past e) (sym none) (rw q.outs refl)
+no_ending : (t g : Bool) (rest : Option Bool) → (t && not g) ≡ false → (if not t || g then None else rest) ≡ None
+no_ending true true rest i = refl
+no_ending true false rest i = absurd (cc)
+no_ending false g rest i = refl
+
+pub no_session : (c : Config) (made : ℕ) (past : List Entry) (e : Entry) → IsIdle past e → SessionRight c made past e
+no_session c made past e i =
+    let none : ending c made past e ≡ None = no_ending (ticked e) (is_gone (state past)) _ i.rests in
+    subst (EndsWith c past e) (sym none) (rw i.outs refl)

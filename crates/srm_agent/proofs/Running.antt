@@ -1,5 +1,5 @@
 -- A run with one more entry.
-use Rattle.std.proofs.Common.{◌≡◌, ℕ, max, List, [], ◌∷◌, ◌++◌, refl, ap, sym, ◌∙◌, subst, arith}
+use Rattle.std.proofs.Common.{◌≡◌, ℕ, max, List, [], ◌∷◌, ◌++◌, refl, ap, sym, ◌∙◌, subst}
 use Rattle.std.specs.Prelude.{Option, Some, None, unwrap_or}
 use Rattle.std.specs.List.{flat_map, AllByRecursion}
 use Rattle.std.proofs.lemmas.List.{append-nil}
@@ -10,7 +10,7 @@ use Rattle.srm_names.proofs.Snoc.{steps-snoc, last_of-snoc}
 use Rattle.srm_agent.specs.declared.entry.Entry.{Entry}
 use Rattle.srm_agent.specs.Entries.{done, pages_in, slots, page_shown, shown, clock_of, last_moment}
 use Rattle.srm_agent.specs.PageTables.{with_page}
-use Rattle.srm_agent.proofs.Adding.{flat_map-append, flat_map-snoc, greatest-append}
+use Rattle.srm_agent.proofs.Adding.{flat_map-snoc, greatest-append}
 use Rattle.srm_agent.proofs.Listing.{firsts_more, firsts_again}
 
 -- what holds at each step, and at one more

@@ -88,7 +88,7 @@ same_rank Shown = refl
 same_rank New = refl
 same_rank Other = refl
 
-in_its_class : (i : Classed Datagram) → Has i.item (in_class i.class (Some i))
+pub in_its_class : (i : Classed Datagram) → Has i.item (in_class i.class (Some i))
 in_its_class i = rw (same_rank i.class) (inl refl)
 
 class_of_one : (class : Class) (x : Item Datagram) (i : Classed Datagram) → Has x (in_class class (Some i)) → x ≡ i.item
@@ -158,7 +158,7 @@ item_handed c gs i all law h =
     (j, k, ap (λ (x : Item Datagram). x.value) q)
 
 -- what went is what was charged
-went_is_charged : (gs : List Going) → AllByRecursion GoesRight (steps gs) → datagrams_of (gone_of gs) ≡ flat_map charged (entries_of gs)
+pub went_is_charged : (gs : List Going) → AllByRecursion GoesRight (steps gs) → datagrams_of (gone_of gs) ≡ flat_map charged (entries_of gs)
 went_is_charged gs all =
     along GoesRight (λ hs. datagrams_of (gone_of hs) ≡ flat_map charged (entries_of hs))
     (λ before x p right.

@@ -19,8 +19,8 @@ use Rattle.srm_codec.specs.declared.datagram.Datagram.TheVariants.{Data, Request
 use Rattle.srm_codec.specs.Spelling.{sender_of, names_in}
 use Rattle.srm_agent.specs.Configs.{Config}
 use Rattle.srm_agent.specs.declared.entry.Entry.{Entry}
-use Rattle.srm_agent.specs.declared.entry.Cause.TheVariants as causes
-use Rattle.srm_agent.specs.declared.entry.AgentFault.TheVariants as faults
+use Rattle.srm_agent.specs.declared.cause.Cause.TheVariants as causes
+use Rattle.srm_agent.specs.declared.fault.AgentFault.TheVariants as faults
 use Rattle.srm_agent.specs.declared.entry.Input.{Input}
 use Rattle.srm_agent.specs.declared.entry.Input.TheVariants.{Drew, Heard, Noise, Ticked, Showed, AskedLeave, Gave, Took}
 use Rattle.srm_agent.specs.declared.entry.Verdict.{Verdict}

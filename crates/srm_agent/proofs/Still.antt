@@ -1,23 +1,17 @@
 -- An agent after an entry without effects.
-use Rattle.std.proofs.Common.{◌≡◌, ℕ, ◌≤◌, max, Bool, true, false, List, [], ◌∷◌, ◌++◌, refl, ap, sym, ◌∙◌, subst, arith}
-use Rattle.std.specs.Prelude.{Option, Some, None, unwrap_or, option_to_list, slice_get, if◌then◌else◌}
-use Rattle.std.specs.List.{filter_map, cons_option, AllByRecursion}
+use Rattle.std.proofs.Common.{◌≡◌, ℕ, max, false, not, ◌&&◌, List, [], ◌∷◌, ◌++◌, refl, ap, sym, ◌∙◌, subst}
+use Rattle.std.specs.Prelude.{Option, None, unwrap_or}
+use Rattle.std.specs.List.{cons_option}
 use Rattle.std.proofs.lemmas.List.{append-nil}
-use Rattle.srm_names.specs.declared.page.Page.{Page}
 use Rattle.srm_names.specs.declared.page_msg.PageMsg.{PageMsg}
-use Rattle.srm_names.specs.Histories.{greatest, steps}
-use Rattle.srm_codec.specs.Spelling.{is_drawop}
-use Rattle.srm_store.specs.Fits as store
-use Rattle.srm_distance.specs.Fits as distances
-use Rattle.srm_agent.specs.declared.entry.AgentState.{AgentState}
+use Rattle.srm_names.specs.Histories.{greatest}
+use Rattle.srm_agent.specs.declared.state.AgentState.{AgentState}
 use Rattle.srm_agent.specs.declared.entry.Entry.{Entry}
 use Rattle.srm_agent.specs.declared.entry.Input.{Input}
 use Rattle.srm_agent.specs.declared.entry.Verdict.{Verdict}
 use Rattle.srm_agent.specs.Configs.{Config}
-use Rattle.srm_agent.specs.Entries.{done_input, heard_in, page_shown, pages_in, is_tick, takes_moment, clock_of, state, shown, slots, last_moment, held, shown_to_exist}
-use Rattle.srm_agent.specs.Distances.{distance_calls}
-use Rattle.srm_agent.specs.Verdicts.{VerdictRight, settlings, drawn_in, stream_on}
-use Rattle.srm_agent.specs.Sessions.{session_due}
+use Rattle.srm_agent.specs.Entries.{done_input, heard_in, page_shown, is_tick, clock_of, state, is_gone, slots}
+use Rattle.srm_agent.specs.Verdicts.{VerdictRight}
 use Rattle.srm_agent.specs.Giving.{given, given_in, MessageRight}
 use Rattle.srm_agent.specs.Runs.{EntryRight, MomentRight, drawop_due, state_due}
 use Rattle.srm_agent.specs.Feeds.{FeedContent, FeedFits}
@@ -26,14 +20,14 @@ use Rattle.srm_agent.specs.Fits.{Fits, FeedsFit}
 use Rattle.srm_agent.specs.Noting.{still_entry}
 use Rattle.srm_agent.proofs.Feeding.{given-snoc}
 use Rattle.srm_agent.proofs.Showing.{state-snoc}
-use Rattle.srm_agent.proofs.Running.{steps_more, last_moment-snoc, shown-page-snoc, slots-same, slots-one}
-use Rattle.srm_agent.proofs.Quiet.{Quiet, same_held, same_shown, same_drawn, same_settlings, same_distances, same_missing, timers_stay, bucket_stays, same_due, no_arms, no_timers, no_session}
+use Rattle.srm_agent.proofs.Running.{steps_more, last_moment-snoc, shown-page-snoc}
+use Rattle.srm_agent.proofs.Quiet.{Quiet, same_held, same_shown, same_drawn, same_settlings, same_distances, timers_stay, bucket_stays, same_due, no_arms, no_timers, no_session}
 
 -- what an entry without effects may be, after these entries
 pub record MayFollow (c : Config) (made : ℕ) (past : List Entry) (moment : ℕ) (input : Input) (verdict : Verdict) (message : Option PageMsg) (after : AgentState) : Type 0 where
   pub unheard : heard_in (done_input verdict input) ≡ None
   pub undrawn : drawop_due c past moment (done_input verdict input) ≡ None
-  pub unticked : is_tick input ≡ false
+  pub idle : (is_tick input && not (is_gone (state past))) ≡ false
   pub moment_right : MomentRight c made past (still_entry c.me moment input verdict message after)
   pub verdict_right : VerdictRight c past input verdict
   pub message_right : MessageRight c past input message
@@ -41,7 +35,7 @@ pub record MayFollow (c : Config) (made : ℕ) (past : List Entry) (moment : ℕ
 
 quiet : (c : Config) (made : ℕ) (past : List Entry) (moment : ℕ) (input : Input) (verdict : Verdict) (message : Option PageMsg) (after : AgentState)
     → MayFollow c made past moment input verdict message after → Quiet (still_entry c.me moment input verdict message after)
-quiet c made past moment input verdict message after m = record { unheard = m.unheard; drawn = refl; arms = refl; asks = refl; fixes = refl; outs = refl; unticked = m.unticked }
+quiet c made past moment input verdict message after m = record { unheard = m.unheard; drawn = refl; arms = refl; asks = refl; fixes = refl }
 
 pub still_right : (c : Config) (made : ℕ) (past : List Entry) (moment : ℕ) (input : Input) (verdict : Verdict) (message : Option PageMsg) (after : AgentState)
     → MayFollow c made past moment input verdict message after → EntryRight c made (record { before = past; this = still_entry c.me moment input verdict message after })
@@ -53,11 +47,11 @@ still_right c made past moment input verdict message after m =
       verdict = m.verdict_right;
       drawn = sym m.undrawn;
       arms = no_arms c past _ q;
-      timers = no_timers past _ q;
+      timers = no_timers past _ q (record { rests = m.idle; outs = refl });
       senders = tt;
       spelled = tt;
       read = rw m.unheard tt;
-      session = no_session c made past _ q;
+      session = no_session c made past _ (record { rests = m.idle; outs = refl });
       message = m.message_right;
       state = m.state_right;
     }
@@ -67,8 +61,7 @@ pub record SameParts {W : Type 0} (a b : Content W) : Type 0 where
   pub config : b.config ≡ a.config
   pub store : b.store ≡ a.store
   pub distances : b.distances ≡ a.distances
-  pub asks : b.asks ≡ a.asks
-  pub fixes : b.fixes ≡ a.fixes
+  pub timers : b.timers ≡ a.timers
   pub bucket : b.bucket ≡ a.bucket
   pub due : b.due ≡ a.due
 
@@ -91,9 +84,9 @@ still_fits c made past a b moment input verdict message after h m same is_state 
       feeds = feeds;
       store = rw (same.store, same_held past _ q, same_shown past _ q, same_settlings past _ q) h.store;
       distances = rw (same.distances, same_distances c.me past _ q) h.distances;
-      timers = rw (same.asks, same.fixes) (timers_stay c past _ a.asks a.fixes q h.timers);
-      bucket = rw same.bucket (bucket_stays c past _ a.bucket q h.bucket);
-      due = same.due ∙ h.due ∙ sym (same_due c made past _ q);
+      timers = rw same.timers (timers_stay c past _ a.timers q h.timers);
+      bucket = rw same.bucket (bucket_stays c past _ a.bucket q (record { rests = m.idle; outs = refl }) h.bucket);
+      due = same.due ∙ h.due ∙ sym (same_due c made past _ refl);
       own = λ page. rw (same_drawn past _ q, same_shown past _ q) (h.own page);
       spelled = rw (same_held past _ q) h.spelled;
     }

@@ -13,9 +13,9 @@ use Rattle.srm_codec.specs.Judging.{judge, magic_at, front_at}
 use Rattle.srm_bucket.specs.declared.class.Class.TheVariants.{New, Other}
 use Rattle.srm_agent.specs.Configs.{Config}
 use Rattle.srm_agent.specs.declared.entry.Entry.{Entry}
-use Rattle.srm_agent.specs.declared.entry.AgentState.TheVariants.{Active, Leaving, Gone}
-use Rattle.srm_agent.specs.declared.entry.Cause.TheVariants as causes
-use Rattle.srm_agent.specs.declared.entry.AgentFault.TheVariants as faults
+use Rattle.srm_agent.specs.declared.state.AgentState.TheVariants.{Active, Leaving, Gone}
+use Rattle.srm_agent.specs.declared.cause.Cause.TheVariants as causes
+use Rattle.srm_agent.specs.declared.fault.AgentFault.TheVariants as faults
 use Rattle.srm_agent.specs.declared.entry.Input.TheVariants.{Drew, Heard, Noise, Ticked, Showed, AskedLeave}
 use Rattle.srm_agent.specs.declared.entry.Verdict.TheVariants.{Done, Ignored, Refused}
 use Rattle.srm_agent.specs.Entries.{last_moment, shown, slots, held_at}

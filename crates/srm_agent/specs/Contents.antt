@@ -4,14 +4,14 @@ use Rattle.srm_names.specs.declared.limits.TheConstants.{MOMENT, PAGES}
 use Rattle.srm_names.specs.declared.page.Page.{Page}
 use Rattle.srm_store.specs.Stores.{StoreContent}
 use Rattle.srm_distance.specs.Content.{Content as DistancesContent}
-use Rattle.srm_timers.specs.AskCalls.{AskContent}
-use Rattle.srm_timers.specs.FixCalls.{FixContent}
 use Rattle.srm_bucket.specs.Content.{Content as BucketContent}
-use Rattle.srm_agent.specs.declared.entry.AgentState.{AgentState}
+use Rattle.srm_agent.specs.declared.state.AgentState.{AgentState}
 use Rattle.srm_agent.specs.declared.out.Outgoing.{Outgoing}
 use Rattle.srm_agent.specs.declared.agent.Agent.TheInside.{Inside}
 use Rattle.srm_agent.specs.Configs.{Config}
 use Rattle.srm_agent.specs.Feeds.{FeedContent}
+use Rattle.srm_agent.specs.Outs.{AreOwn}
+use Rattle.srm_agent.specs.TimersKept.{TimersContent, HaveSettings}
 
 pub record Content (W : Type 0) : Type 0 where
   pub config : Config
@@ -23,8 +23,7 @@ pub record Content (W : Type 0) : Type 0 where
   pub feeds : List FeedContent
   pub store : StoreContent
   pub distances : DistancesContent
-  pub asks : AskContent
-  pub fixes : FixContent
+  pub timers : TimersContent
   pub bucket : BucketContent Outgoing
   pub due : ℕ
 
@@ -39,13 +38,15 @@ content_of a = record {
   feeds = a.feeds.items;
   store = a.store;
   distances = a.distances;
-  asks = a.asks;
-  fixes = a.fixes;
+  timers = a.timers;
   bucket = a.bucket;
   due = a.due;
 }
 
--- a slot has a feed, whether it has a page or not
+-- a slot has a feed, whether it has a page or not; the timers have the agent's settings; what waits
+-- for the bucket is the agent's own, and spelled in its session
 pub record IsWhole {W : Type 0} (a : Inside W) : Type 0 where
   pub last : a.last ≤ MOMENT
   pub feeds : length a.feeds.items ≡ PAGES
+  pub settings : HaveSettings a.config a.timers
+  pub waiting : AreOwn a.config.me a.config.session a.bucket.waiting

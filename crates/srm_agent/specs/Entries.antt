@@ -16,8 +16,8 @@ use Rattle.srm_agent.specs.declared.entry.Input.{Input}
 use Rattle.srm_agent.specs.declared.entry.Input.TheVariants.{Drew, Heard, Ticked, Showed, Gave, Took}
 use Rattle.srm_agent.specs.declared.entry.Verdict.{Verdict}
 use Rattle.srm_agent.specs.declared.entry.Verdict.TheVariants.{Done, Refused}
-use Rattle.srm_agent.specs.declared.entry.AgentState.{AgentState}
-use Rattle.srm_agent.specs.declared.entry.AgentState.TheVariants.{Active, Leaving, Gone}
+use Rattle.srm_agent.specs.declared.state.AgentState.{AgentState}
+use Rattle.srm_agent.specs.declared.state.AgentState.TheVariants.{Active, Leaving, Gone}
 
 -- the input of an entry that is done
 abbrev pub done_input : Verdict → Input → Option Input

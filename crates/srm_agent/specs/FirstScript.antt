@@ -16,7 +16,7 @@ use Rattle.srm_bucket.specs.Law.{level_at}
 use Rattle.srm_timers.specs.Arms.{setting}
 use Rattle.srm_agent.specs.Configs.{Config}
 use Rattle.srm_agent.specs.declared.entry.Entry.{Entry}
-use Rattle.srm_agent.specs.declared.entry.AgentState.TheVariants.{Active}
+use Rattle.srm_agent.specs.declared.state.AgentState.TheVariants.{Active}
 use Rattle.srm_agent.specs.declared.entry.Verdict.TheVariants.{Done}
 use Rattle.srm_agent.specs.Entries.{done, state, slots, last_moment, known, is_missing, released}
 use Rattle.srm_agent.specs.Timers.{setting_of, ask_due, fix_due, arm_of, low_of, high_of}

@@ -5,7 +5,7 @@ use Rattle.srm_codec.specs.declared.fault.DecodeFault.{DecodeFault}
 use Rattle.srm_codec.specs.Judging.{judge}
 use Rattle.srm_agent.specs.Configs.{Config}
 use Rattle.srm_agent.specs.declared.entry.Entry.{Entry}
-use Rattle.srm_agent.specs.declared.entry.Cause.TheVariants as causes
+use Rattle.srm_agent.specs.declared.cause.Cause.TheVariants as causes
 use Rattle.srm_agent.specs.declared.entry.Input.{Input}
 use Rattle.srm_agent.specs.declared.entry.Input.TheVariants.{Heard, Noise}
 use Rattle.srm_agent.specs.declared.entry.Verdict.{Verdict}

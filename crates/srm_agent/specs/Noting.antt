@@ -1,16 +1,31 @@
 -- What a call of an agent says of its entry.
-use Rattle.std.specs.Prelude.{◌≡◌, ◌⊎◌, ℕ, ◌++◌, max, List, [], ◌∷◌, Option, Some, None, Result, Ok, Err}
+use Rattle.std.specs.Prelude.{◌≡◌, ◌⊎◌, ℕ, ◌++◌, max, false, List, [], ◌∷◌, map, Option, Some, None, option_map, Result, Ok, Err}
+use Rattle.std.specs.List.{AllByRecursion}
+use Rattle.srm_names.specs.declared.drawop.Drawop.{Drawop}
+use Rattle.srm_names.specs.FullName.{FullName}
 use Rattle.srm_names.specs.declared.page_msg.PageMsg.{PageMsg}
-use Rattle.srm_agent.specs.declared.entry.AgentFault.{AgentFault}
-use Rattle.srm_agent.specs.declared.entry.AgentFault.TheVariants.{Memory}
-use Rattle.srm_agent.specs.declared.entry.AgentState.{AgentState}
+use Rattle.srm_timers.specs.Arms.{AreDrawn}
+use Rattle.srm_agent.specs.declared.cause.Outcome.{Outcome}
+use Rattle.srm_agent.specs.declared.cause.Outcome.TheVariants.{Taken}
+use Rattle.srm_agent.specs.declared.cause.Outcome.TheVariants as outcomes
+use Rattle.srm_agent.specs.declared.heard.Heard.{Heard}
+use Rattle.srm_agent.specs.declared.ticked.Ticked.{Ticked}
+use Rattle.srm_agent.specs.declared.out.Out.{Out}
+use Rattle.srm_agent.specs.declared.fault.AgentFault.{AgentFault}
+use Rattle.srm_agent.specs.declared.fault.AgentFault.TheVariants.{Memory}
+use Rattle.srm_agent.specs.declared.state.AgentState.{AgentState}
 use Rattle.srm_agent.specs.declared.entry.Entry.{Entry}
 use Rattle.srm_agent.specs.declared.entry.Input.{Input}
 use Rattle.srm_agent.specs.declared.entry.Verdict.{Verdict}
 use Rattle.srm_agent.specs.declared.entry.Verdict.TheVariants.{Done, Ignored, Refused}
 use Rattle.srm_agent.specs.Configs.{Config}
+use Rattle.srm_agent.specs.Entries.{is_gone}
+use Rattle.srm_agent.specs.Verdicts.{verdict_of}
 use Rattle.srm_agent.specs.Contents.{Content}
 use Rattle.srm_agent.specs.Fits.{Fits}
+use Rattle.srm_agent.specs.Timers.{low_of, high_of}
+use Rattle.srm_agent.specs.Hearing.{bytes_heard}
+use Rattle.srm_agent.specs.Outs.{IsOut}
 
 -- an entry without effects, but perhaps a message
 abbrev pub still_entry : ℕ → ℕ → Input → Verdict → Option PageMsg → AgentState → Entry
@@ -28,14 +43,17 @@ moment_that_counts None last = last
 moment_that_counts (Some now) last = max now last
 
 -- The entry is of this input, at the moment that counts. Whatever run the agent fitted, it fits the run with this entry added.
-pub record Enters {W : Type 0} (now : Option ℕ) (input : Input) (old new : Content W) (e : Entry) : Type 0 where
+-- The waits of its arms are by the next words, one word an arm, in order; no other word is drawn.
+pub record Enters {W : Type 0} (draw : W → ℕ × W) (now : Option ℕ) (input : Input) (old new : Content W) (e : Entry) : Type 0 where
   pub input_is : e.input ≡ input
   pub moment_is : e.moment ≡ moment_that_counts now old.last
   pub fits : (c : Config) (made : ℕ) (past : List Entry) → Fits c made past old → Fits c made (past ++ e ∷ []) new
+  pub words : AreDrawn draw (low_of old.config) (high_of old.config) old.words e.effects.arms new.words
 
--- whatever run the agent fitted, it still fits
+-- whatever run the agent fitted, it still fits, and no word was drawn
 pub record Stays {W : Type 0} (old new : Content W) : Type 0 where
   pub fits : (c : Config) (made : ℕ) (past : List Entry) → Fits c made past old → Fits c made past new
+  pub words : new.words ≡ old.words
 
 -- a call that is refused answers so, and one that is done answers its value
 abbrev pub AnswersAs : {A : Type 0} → (A → Type 0) → Verdict → Result A AgentFault → Type 0
@@ -44,7 +62,47 @@ AnswersAs is (Ignored cause) answer = ⊥
 AnswersAs is Done (Ok value) = is value
 AnswersAs is Done (Err fault) = ⊥
 
--- A call had an entry, and answered as it says; or memory ran out, and whatever run the agent fitted, it still fits.
-abbrev pub Does : {W A : Type 0} → Option ℕ → Input → (Entry → A → Type 0) → Content W → Content W → Result A AgentFault → Type 0
-Does now input is old new answer =
-    ((e : Entry) × Enters now input old new e × AnswersAs (is e) e.verdict answer) ⊎ ((answer ≡ Err Memory) × Stays old new)
+-- a call had an entry, and answered as it says
+abbrev pub HasEntry : {W A : Type 0} → (W → ℕ × W) → Option ℕ → Input → (Entry → A → Type 0) → Content W → Content W → Result A AgentFault → Type 0
+HasEntry draw now input is old new answer = (e : Entry) × Enters draw now input old new e × AnswersAs (is e) e.verdict answer
+
+-- whatever run the agent fitted, this input would be done after it
+pub record IsAllowed {W : Type 0} (input : Input) (old : Content W) : Type 0 where
+  pub each : (c : Config) (made : ℕ) (past : List Entry) → Fits c made past old → verdict_of c past input ≡ Done
+
+-- A call had an entry, and answered as it says; or memory ran out for what would else be done, and whatever run the agent fitted, it
+-- still fits.
+abbrev pub Does : {W A : Type 0} → (W → ℕ × W) → Option ℕ → Input → (Entry → A → Type 0) → Content W → Content W → Result A AgentFault → Type 0
+Does draw now input is old new answer = HasEntry draw now input is old new answer ⊎ ((answer ≡ Err Memory) × IsAllowed input old × Stays old new)
+
+-- To the agent the bytes are what the entry heard: the datagram that they spell, else noise with their fault.
+pub record ReadsAs {W : Type 0} (bytes : List ℕ) (old : Content W) (e : Entry) : Type 0 where
+  pub each : (c : Config) (made : ℕ) (past : List Entry) → Fits c made past old → (e.input, e.verdict) ≡ bytes_heard c past bytes
+
+abbrev pub IsOutcome : Verdict → Outcome → Type 0
+IsOutcome Done outcome = outcome ≡ Taken
+IsOutcome (Ignored cause) outcome = outcome ≡ outcomes.Ignored cause
+IsOutcome (Refused fault) outcome = ⊥
+
+-- what hearing bytes answers is what its entry says
+abbrev pub AnswersHeard : Entry → Result Heard AgentFault → Type 0
+AnswersHeard e (Ok heard) = (heard.arms ≡ e.effects.arms) × IsOutcome e.verdict heard.outcome
+AnswersHeard e (Err fault) = ⊥
+
+-- hearing bytes had an entry, and answered as it says; or memory ran out for a member that isn't gone
+abbrev pub Hears : {W : Type 0} → (W → ℕ × W) → ℕ → List ℕ → Content W → Content W → Result Heard AgentFault → Type 0
+Hears draw now bytes old new answer =
+    ((e : Entry) × Enters draw (Some now) e.input old new e × ReadsAs bytes old e × AnswersHeard e answer) ⊎ ((answer ≡ Err Memory) × (is_gone old.state ≡ false) × Stays old new)
+
+-- what a tick answers is what its entry says, and the bytes of each out spell its datagram in the session
+pub record IsTicked (session : ℕ) (e : Entry) (ticked : Ticked) : Type 0 where
+  pub asks : ticked.asks ≡ e.effects.asks
+  pub fixes : ticked.fixes ≡ e.effects.fixes
+  pub arms : ticked.arms ≡ e.effects.arms
+  pub outs : map (λ (o : Out). o.datagram) ticked.outs ≡ e.effects.outs
+  pub spelled : AllByRecursion (IsOut session) ticked.outs
+  pub state : ticked.state ≡ e.effects.state
+
+-- what a draw answers is the name of the drawop that was made
+abbrev pub IsDrawnName : Entry → FullName → Type 0
+IsDrawnName e name = option_map (λ (d : Drawop). d.name) e.effects.drawn ≡ Some name

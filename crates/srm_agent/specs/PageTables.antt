@@ -1,7 +1,8 @@
 -- The pages of one member, each in its slot.
-use Rattle.std.specs.Prelude.{◌≡◌, ◌≤◌, nat_lt, Bool, List, [], ◌∷◌, ◌++◌, length, vec_capacity}
+use Rattle.std.specs.Prelude.{◌≡◌, ◌≤◌, nat_lt, Bool, List, [], ◌∷◌, ◌++◌, length, map, vec_capacity}
 use Rattle.srm_names.specs.declared.limits.TheConstants.{PAGES}
 use Rattle.srm_names.specs.declared.page.Page.{Page}
+use Rattle.srm_names.specs.FullName.{FullName}
 use Rattle.srm_names.specs.Histories.{firsts}
 use Rattle.srm_names.specs.Names.{same_page}
 use Rattle.srm_agent.specs.declared.page_table.PageTable.TheInside.{Inside}
@@ -22,3 +23,13 @@ with_page pages page = firsts same_page (pages ++ page ∷ [])
 
 abbrev pub lacks_room : List Page → Page → Bool
 lacks_room pages page = nat_lt PAGES (length (with_page pages page))
+
+abbrev pub pages_of : List FullName → List Page
+pages_of names = map (λ n. n.stream.page) names
+
+-- the pages with those of these names
+abbrev pub with_pages_of : List Page → List FullName → List Page
+with_pages_of pages names = firsts same_page (pages ++ pages_of names)
+
+abbrev pub lacks_room_for : List Page → List FullName → Bool
+lacks_room_for pages names = nat_lt PAGES (length (with_pages_of pages names))

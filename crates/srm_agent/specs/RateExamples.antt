@@ -11,7 +11,7 @@ use Rattle.srm_bucket.specs.Calls.{Classed}
 use Rattle.srm_bucket.specs.Classes.{first_of_highest}
 use Rattle.srm_bucket.specs.Ticks.{charge, allowance, level}
 use Rattle.srm_agent.specs.declared.entry.Entry.{Entry}
-use Rattle.srm_agent.specs.declared.entry.AgentState.TheVariants.{Active}
+use Rattle.srm_agent.specs.declared.state.AgentState.TheVariants.{Active}
 use Rattle.srm_agent.specs.declared.entry.Input.TheVariants.{Showed}
 use Rattle.srm_agent.specs.Bucket.{Going, classed, entries_of}
 use Rattle.srm_agent.specs.Rates.{of_class, handed_so_far, gone_so_far, left_of, cost_all, ticks_of}

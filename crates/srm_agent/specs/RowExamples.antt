@@ -16,9 +16,9 @@ use Rattle.srm_bucket.specs.Classes.{rank, gone}
 use Rattle.srm_bucket.specs.Classes as bucket
 use Rattle.srm_bucket.specs.Law.{IsPrefixOf, may_go, GoesRight as CallRight}
 use Rattle.srm_agent.specs.declared.entry.Entry.{Entry}
-use Rattle.srm_agent.specs.declared.entry.AgentState.TheVariants.{Active, Leaving, Gone}
-use Rattle.srm_agent.specs.declared.entry.Cause.TheVariants as causes
-use Rattle.srm_agent.specs.declared.entry.AgentFault.TheVariants as faults
+use Rattle.srm_agent.specs.declared.state.AgentState.TheVariants.{Active, Leaving, Gone}
+use Rattle.srm_agent.specs.declared.cause.Cause.TheVariants as causes
+use Rattle.srm_agent.specs.declared.fault.AgentFault.TheVariants as faults
 use Rattle.srm_agent.specs.declared.entry.Input.TheVariants.{Drew, Heard, Ticked, AskedLeave, Gave}
 use Rattle.srm_agent.specs.declared.entry.Verdict.{Verdict}
 use Rattle.srm_agent.specs.declared.entry.Verdict.TheVariants.{Done, Ignored, Refused}

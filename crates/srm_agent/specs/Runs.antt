@@ -9,8 +9,8 @@ use Rattle.srm_codec.specs.Spelling.{sender_of, IsSpellable}
 use Rattle.srm_agent.specs.Configs.{Config}
 use Rattle.srm_agent.specs.declared.entry.Entry.{Entry}
 use Rattle.srm_timers.specs.declared.arm.ArmKind.TheVariants.{Ask, Fix}
-use Rattle.srm_agent.specs.declared.entry.AgentState.{AgentState}
-use Rattle.srm_agent.specs.declared.entry.AgentState.TheVariants.{Leaving, Gone}
+use Rattle.srm_agent.specs.declared.state.AgentState.{AgentState}
+use Rattle.srm_agent.specs.declared.state.AgentState.TheVariants.{Leaving, Gone}
 use Rattle.srm_agent.specs.declared.entry.Input.{Input}
 use Rattle.srm_agent.specs.declared.entry.Input.TheVariants.{Drew, AskedLeave}
 use Rattle.srm_agent.specs.Entries.{done, heard, ticked, state, is_gone, takes_moment, last_moment, is_held, is_missing}

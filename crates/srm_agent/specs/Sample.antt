@@ -16,8 +16,8 @@ use Rattle.srm_timers.specs.Arms.{Setting}
 use Rattle.srm_agent.specs.Configs.{Config}
 use Rattle.srm_agent.specs.declared.entry.Entry.{Entry}
 use Rattle.srm_agent.specs.declared.entry.Effects.{Effects}
-use Rattle.srm_agent.specs.declared.entry.AgentState.{AgentState}
-use Rattle.srm_agent.specs.declared.entry.AgentState.TheVariants.{Active}
+use Rattle.srm_agent.specs.declared.state.AgentState.{AgentState}
+use Rattle.srm_agent.specs.declared.state.AgentState.TheVariants.{Active}
 use Rattle.srm_agent.specs.declared.entry.Input.{Input}
 use Rattle.srm_agent.specs.declared.entry.Input.TheVariants.{Drew, Heard, Ticked, Gave, Took}
 use Rattle.srm_agent.specs.declared.entry.Verdict.TheVariants.{Done}

@@ -13,9 +13,9 @@ use Rattle.srm_bucket.specs.declared.class.Class.TheVariants.{Shown, New}
 use Rattle.srm_timers.specs.Arms.{Setting, setting}
 use Rattle.srm_agent.specs.Configs.{Config}
 use Rattle.srm_agent.specs.declared.entry.Entry.{Entry}
-use Rattle.srm_agent.specs.declared.entry.AgentState.TheVariants.{Active, Leaving, Gone}
+use Rattle.srm_agent.specs.declared.state.AgentState.TheVariants.{Active, Leaving, Gone}
 use Rattle.srm_agent.specs.declared.entry.Input.TheVariants.{Drew, Ticked, AskedLeave}
-use Rattle.srm_agent.specs.declared.entry.AgentFault.TheVariants as faults
+use Rattle.srm_agent.specs.declared.fault.AgentFault.TheVariants as faults
 use Rattle.srm_agent.specs.declared.entry.Verdict.TheVariants.{Done, Refused}
 use Rattle.srm_agent.specs.Entries.{done, state, is_missing, released}
 use Rattle.srm_agent.specs.Timers.{setting_of, ask_due, fix_due, arm_of, held_off, first_asker}

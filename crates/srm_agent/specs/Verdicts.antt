@@ -18,8 +18,8 @@ use Rattle.srm_store.specs.Finals.{Settling, rows_of, row_of}
 use Rattle.srm_store.specs.Finals as finals
 use Rattle.srm_agent.specs.Configs.{Config}
 use Rattle.srm_agent.specs.declared.entry.Entry.{Entry}
-use Rattle.srm_agent.specs.declared.entry.Cause.TheVariants as causes
-use Rattle.srm_agent.specs.declared.entry.AgentFault.TheVariants as faults
+use Rattle.srm_agent.specs.declared.cause.Cause.TheVariants as causes
+use Rattle.srm_agent.specs.declared.fault.AgentFault.TheVariants as faults
 use Rattle.srm_agent.specs.declared.entry.Input.{Input}
 use Rattle.srm_agent.specs.declared.entry.Input.TheVariants.{Drew, Heard, Noise, Showed, AskedLeave}
 use Rattle.srm_agent.specs.declared.entry.Verdict.{Verdict}

@@ -9,7 +9,8 @@ use Rattle.srm_bucket.specs.declared.class.Class.TheVariants.{Shown}
 use Rattle.srm_timers.specs.declared.arm.Arm.{Arm}
 use Rattle.srm_timers.specs.declared.arm.Armed.{Armed}
 use Rattle.srm_timers.specs.declared.arm.ArmKind.TheVariants.{Ask}
-use Rattle.srm_timers.specs.Arms.{end_of, ignored_until}
+use Rattle.srm_timers.specs.Arms.{AreDrawn, end_of, ignored_until}
+use Rattle.srm_timers.specs.Draws.{draw_listed}
 use Rattle.srm_agent.specs.Configs.{Config}
 use Rattle.srm_agent.specs.declared.entry.Entry.{Entry}
 use Rattle.srm_agent.specs.declared.entry.Verdict.TheVariants.{Done}
@@ -19,31 +20,34 @@ use Rattle.srm_agent.specs.Verdicts.{verdict_of}
 use Rattle.srm_agent.specs.Sessions.{ending, session_due}
 use Rattle.srm_agent.specs.Packing.{packed}
 use Rattle.srm_agent.specs.Bucket.{classed}
-use Rattle.srm_agent.specs.Promises.{WaitsBy}
 use Rattle.srm_agent.specs.Sample.{in_roster, zeros, drawop_of, hears, ticks, ask_arm, fix_arm, ask_set, fix_set, at_each, idle, let_go}
 
 abbrev one_of_four : Config
 one_of_four = in_roster 1 4 4204
 
+-- all words of a list go to the waits of these arms
+abbrev WaitsBy : Config → List Arm → List ℕ → Type 0
+WaitsBy c arms words = AreDrawn draw_listed (low_of c) (high_of c) words arms []
+
 -- the wait is the word's remainder above the lower end
 first_wait : WaitsBy one_of_four (ask_arm 1 0 200000 ∷ []) (0 ∷ [])
-first_wait = (refl, tt)
+first_wait = (refl, refl)
 
 longest_wait : WaitsBy one_of_four (ask_arm 1 0 400000 ∷ []) (200000 ∷ [])
-longest_wait = (refl, tt)
+longest_wait = (refl, refl)
 
 from_the_start_again : WaitsBy one_of_four (ask_arm 1 0 200000 ∷ []) (200001 ∷ [])
-from_the_start_again = (refl, tt)
+from_the_start_again = (refl, refl)
 
 abbrev near_arm : ℕ → ℕ → ℕ → Arm
 near_arm number exponent wait = record { kind = Ask; name = named zeros number; exponent = exponent; distance = 1; wait = wait }
 
 -- one word for each arm
 near_waits : WaitsBy one_of_four (near_arm 1 0 2 ∷ near_arm 2 0 3 ∷ near_arm 3 0 4 ∷ near_arm 4 0 2 ∷ []) (0 ∷ 1 ∷ 2 ∷ 3 ∷ [])
-near_waits = (refl, (refl, (refl, (refl, tt))))
+near_waits = (refl, (refl, (refl, (refl, refl))))
 
 odd_wait : WaitsBy one_of_four (near_arm 1 1 5 ∷ []) (1 ∷ [])
-odd_wait = (refl, tt)
+odd_wait = (refl, refl)
 
 half_of_an_odd_wait : ignored_until (record { set = 10; arm = near_arm 1 1 5 }) ≡ 12
 half_of_an_odd_wait = refl

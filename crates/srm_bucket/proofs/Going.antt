@@ -141,7 +141,7 @@ paid-is None t = ap (λ l. record t { level = l }) (omega arith)
 paid-is (Some c) t = refl
 
 -- a pop right in each part of the law
-pop-right : {T : Type 0} (rate depth : ℕ) (calls : List (Call T)) (now : ℕ) (went : Option (Classed T)) (old new : Waiting T)
+pub pop-right : {T : Type 0} (rate depth : ℕ) (calls : List (Call T)) (now : ℕ) (went : Option (Classed T)) (old new : Waiting T)
     → IsWithin rate depth (last_moment calls) (ticks calls) → ((k : Class) → gone k calls ++ queue old k ≡ handed k calls)
     → went ≡ may_go rate depth calls now → Loses went old new
     → GoesRight rate depth calls (calls ++ Popped now went ∷ []) (Popped now went)

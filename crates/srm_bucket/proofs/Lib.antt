@@ -6,3 +6,4 @@ pub mod Going
 pub mod Popping
 mod Forbids
 pub mod Mapping
+pub mod Pausing

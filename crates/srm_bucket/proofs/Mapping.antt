@@ -1,18 +1,18 @@
 -- The law of calls over some values is that of the calls read as over others: it speaks of classes, lengths and moments alone.
-use Rattle.std.proofs.Common.{◌≡◌, ℕ, zero, suc, ◌+◌, ◌<◌, ◌≤◌, ◌==◌, max, Bool, true, false, List, [], ◌∷◌, ◌++◌, map, length, drop, refl, ap, sym, ◌∙◌, subst}
-use Rattle.std.specs.Prelude.{Option, Some, None, if◌then◌else◌, option_map, is_some, IfSome, ◌&&◌}
+use Rattle.std.proofs.Common.{◌≡◌, ℕ, zero, suc, ◌<◌, ◌==◌, max, Bool, true, false, List, [], ◌∷◌, ◌++◌, map, length, drop, refl, ap, sym, ◌∙◌, subst}
+use Rattle.std.specs.Prelude.{Option, Some, None, if◌then◌else◌, option_map, is_some, nat_le, IfSome}
 use Rattle.std.specs.Bool.{OnTrue}
 use Rattle.std.specs.List.{flat_map, AllByRecursion}
 use Rattle.std.proofs.lemmas.List.{map-append}
-use Rattle.srm_names.specs.Histories.{Step, steps, steps_after, or_else, greatest}
+use Rattle.srm_names.specs.Histories.{steps_after, or_else}
 use Rattle.srm_bucket.specs.declared.class.Class.{Class}
 use Rattle.srm_bucket.specs.declared.class.Class.TheVariants.{Shown, New, Other}
 use Rattle.srm_bucket.specs.declared.item.Item.{Item}
 use Rattle.srm_bucket.specs.Calls.{Classed, Call, Handed, Refilled, Popped}
 use Rattle.srm_bucket.specs.Mapping.{read_item, read_classed, read_call}
-use Rattle.srm_bucket.specs.Classes.{rank, in_class, handed_in, gone_in, handed, gone, left, first_in, first_of_highest, next_of}
-use Rattle.srm_bucket.specs.Ticks.{Tick, moment_of, last_moment, Pop, popped_in, popped_at, pops, cost, alone, joined, parted, ticks, IsWithin, level}
-use Rattle.srm_bucket.specs.Law.{went_in, ends_tick, lets_nothing_go, IsPrefixOf, NoneHigher, level_at, GoesRight, BucketLaw}
+use Rattle.srm_bucket.specs.Classes.{rank, in_class, handed_in, gone_in, handed, gone, left, first_in, next_of}
+use Rattle.srm_bucket.specs.Ticks.{Tick, moment_of, last_moment, Pop, popped_in, popped_at, pops, cost, joined, parted, ticks, level}
+use Rattle.srm_bucket.specs.Law.{went_in, ends_tick, NoneHigher, level_at, GoesRight, BucketLaw, covered, may_go}
 
 abbrev read_pop : {T U : Type 0} → (T → U) → Pop T → Pop U
 read_pop f p = record { moment = p.moment; went = option_map (read_classed f) p.went }
@@ -42,13 +42,13 @@ module _ {T U : Type 0} (f : T → U) where
       ap (λ xs. xs ++ flat_map h (map (read_call f) calls)) (same call) ∙ ap (λ xs. map (read_item f) (k call) ++ xs) (flat_map-read h k same calls)
       ∙ sym (map-append (read_item f) (k call) (flat_map k calls))
 
-  handed-read : (class : Class) (calls : List (Call T)) → handed class (map (read_call f) calls) ≡ map (read_item f) (handed class calls)
+  pub handed-read : (class : Class) (calls : List (Call T)) → handed class (map (read_call f) calls) ≡ map (read_item f) (handed class calls)
   handed-read class calls = flat_map-read (handed_in class) (handed_in class) (handed_in-read class) calls
 
-  gone-read : (class : Class) (calls : List (Call T)) → gone class (map (read_call f) calls) ≡ map (read_item f) (gone class calls)
+  pub gone-read : (class : Class) (calls : List (Call T)) → gone class (map (read_call f) calls) ≡ map (read_item f) (gone class calls)
   gone-read class calls = flat_map-read (gone_in class) (gone_in class) (gone_in-read class) calls
 
-  length-read : (xs : List (Item T)) → length (map (read_item f) xs) ≡ length xs
+  pub length-read : (xs : List (Item T)) → length (map (read_item f) xs) ≡ length xs
   length-read [] = refl
   length-read (x ∷ xs) = ap suc (length-read xs)
 
@@ -86,7 +86,7 @@ module _ {T U : Type 0} (f : T → U) where
   moment_of-read (Refilled now) = refl
   moment_of-read (Popped now went) = refl
 
-  last_moment-read : (calls : List (Call T)) → last_moment (map (read_call f) calls) ≡ last_moment calls
+  pub last_moment-read : (calls : List (Call T)) → last_moment (map (read_call f) calls) ≡ last_moment calls
   last_moment-read [] = refl
   last_moment-read (call ∷ calls) = ap (λ n. max n (last_moment (map (read_call f) calls))) (moment_of-read call) ∙ ap (max (moment_of call)) (last_moment-read calls)
 
@@ -121,6 +121,20 @@ module _ {T U : Type 0} (f : T → U) where
 
   ticks-read : (calls : List (Call T)) → ticks (map (read_call f) calls) ≡ ticks calls
   ticks-read calls = ap parted (pops_after-read [] calls) ∙ parted-read (pops calls)
+
+  covered-read : (tokens : ℕ) (o : Option (Classed T)) → covered tokens (option_map (read_classed f) o) ≡ option_map (read_classed f) (covered tokens o)
+  covered-read tokens None = refl
+  covered-read tokens (Some c) = go (nat_le (cost (Some c)) tokens)
+    where
+      go : (b : Bool) → (if b then Some (read_classed f c) else None) ≡ option_map (read_classed f) (if b then Some c else None)
+      go true = refl
+      go false = refl
+
+  pub may_go-read : (rate depth : ℕ) (calls : List (Call T)) (now : ℕ) → may_go rate depth (map (read_call f) calls) now ≡ option_map (read_classed f) (may_go rate depth calls now)
+  may_go-read rate depth calls now =
+      ap (λ ts. covered (level rate depth (max (last_moment (map (read_call f) calls)) now) ts) (next_of (map (read_call f) calls))) (ticks-read calls)
+      ∙ ap (λ n. covered (level rate depth (max n now) (ticks calls)) (next_of (map (read_call f) calls))) (last_moment-read calls)
+      ∙ ap (covered (level_at rate depth calls now)) (next_of-read calls) ∙ covered-read (level_at rate depth calls now) (next_of calls)
 
   ends-read : (call : Call T) → ends_tick (read_call f call) ≡ ends_tick call
   ends-read (Handed c) = refl

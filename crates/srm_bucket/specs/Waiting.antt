@@ -1,5 +1,5 @@
 -- The items that wait, by class.
-use Rattle.std.specs.Prelude.{◌≡◌, ℕ, ◌+◌, ◌≤◌, List, length, ◌++◌, Option, Some}
+use Rattle.std.specs.Prelude.{◌≡◌, ℕ, ◌+◌, ◌≤◌, List, length, ◌++◌, Option, Some, None, option_map}
 use Rattle.srm_bucket.specs.declared.class.Class.{Class}
 use Rattle.srm_bucket.specs.declared.class.Class.TheVariants.{Shown, New, Other}
 use Rattle.srm_bucket.specs.declared.item.Item.{Item}
@@ -35,6 +35,11 @@ Loses went old new = (class : Class) → queue old class ≡ in_class class went
 
 abbrev pub SameQueues : {T : Type 0} → Waiting T → Waiting T → Type 0
 SameQueues old new = (class : Class) → queue new class ≡ queue old class
+
+-- what a pop answers has gone from the front of the highest class in which something waited, and nothing else has changed
+abbrev pub TakesNext : {T : Type 0} → Waiting T → Option (Item T) → Waiting T → Type 0
+TakesNext old None new = SameQueues old new
+TakesNext old (Some item) new = (option_map (λ c. c.item) (next_in old) ≡ Some item) × Loses (next_in old) old new
 
 pub record IsLength (bytes : ℕ) : Type 0 where
   pub least : LEAST_LENGTH ≤ bytes

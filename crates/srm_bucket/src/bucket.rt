@@ -3,7 +3,7 @@
 ghost use Rattle.std.specs.Prelude.{◌≡◌, ◌≤◌, ◌<◌, ◌+◌, ℕ, List, [], length, OnOk, OnErr, IsOk, OnSome, IfSome};
 ghost use Rattle.srm_bucket.specs.Calls.{Call, Handed, Refilled};
 ghost use Rattle.srm_bucket.specs.Classes.{left};
-ghost use Rattle.srm_bucket.specs.Waiting.{HasLength, count_of};
+ghost use Rattle.srm_bucket.specs.Waiting.{HasLength, Gains, SameQueues, TakesNext, queue, count_of};
 ghost use Rattle.srm_bucket.specs.Fits.{Fits, Stays, Adds, Pops, Waits};
 
 use crate::class::Class;
@@ -55,6 +55,7 @@ impl<T> Bucket<T> {
     /// refused. What waits stays. Only want of memory refuses it, and not where there is room already.
     pub fn room(&mut self, items: usize) -> Result<(), AllocError>
         ensures stays { Stays self.old self.new }
+        ensures queues { SameQueues self.old.waiting self.new.waiting }
         ensures ok { OnOk result (items ≤ self.new.waiting.room) }
         ensures not_refused { items ≤ self.old.waiting.room → IsOk result }
         ensures room { self.old.waiting.room ≤ self.new.waiting.room }
@@ -71,6 +72,8 @@ impl<T> Bucket<T> {
         requires greatest { item.length ≤ GREATEST_LENGTH }
         ensures ok { OnOk result (Adds (Handed (record { class = class; item = item })) self.old self.new) }
         ensures err { OnErr result (Stays self.old self.new) }
+        ensures gains { OnOk result (Gains (record { class = class; item = item }) self.old.waiting self.new.waiting) }
+        ensures same { OnErr result (SameQueues self.old.waiting self.new.waiting) }
         ensures not_refused { 0 < self.old.waiting.room → IsOk result }
         ensures room { self.old.waiting.room ≤ self.new.waiting.room + 1 }
     {
@@ -91,6 +94,7 @@ impl<T> Bucket<T> {
     pub fn pop(&mut self, now: u64) -> Option<Item<T>>
         requires { now ≤ MOMENT }
         ensures pops { Pops now self.old result self.new }
+        ensures takes { TakesNext self.old.waiting result self.new.waiting }
         ensures range { IfSome result HasLength }
         ensures fewer { OnSome result (count_of self.new.waiting + 1 ≡ count_of self.old.waiting) }
         ensures room { self.old.waiting.room ≤ self.new.waiting.room }
@@ -113,7 +117,8 @@ impl<T> Bucket<T> {
 
     /// How many items of a class wait.
     pub fn waiting(&self, class: Class) -> usize
-        ensures { (rate depth : ℕ) (calls : List (Call T)) → Fits rate depth calls self.now → result ≡ length (left calls class) }
+        ensures value { (rate depth : ℕ) (calls : List (Call T)) → Fits rate depth calls self.now → result ≡ length (left calls class) }
+        ensures counts { result ≡ length (queue self.now.waiting class) }
     {
         self.queues.len(class)
     }

@@ -40,6 +40,16 @@ impl Distances {
         }
     }
 
+    /// What this member knows, once more. It takes no memory.
+    pub fn copy(&self) -> Distances
+        ensures { result ≡ self.now }
+    {
+        Distances {
+            me: self.me,
+            peers: self.peers,
+        }
+    }
+
     /// A session message of `from` was heard at `now`. It was sent at `sent`, by its sender's clock, at most
     /// [`MOMENT`]. `echo` is its echo for this member, if it has one: when the echoed message was sent, and how long
     /// `from` had it by then.

@@ -3,6 +3,7 @@ pub mod Unheld
 pub mod Slots
 pub mod Tabling
 pub mod Pages
+pub mod Seating
 pub mod Fitting
 pub mod Reading
 pub mod Rooming

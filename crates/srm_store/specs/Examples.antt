@@ -1,11 +1,12 @@
 -- The definitions at worked examples.
-use Rattle.std.specs.Prelude.{◌≡◌, ℕ, true, false, [], ◌∷◌, map, Some, None, List, refl}
+use Rattle.std.specs.Prelude.{◌≡◌, ℕ, true, false, [], ◌∷◌, map, length, Some, None, List, refl}
 use Rattle.srm_names.specs.declared.stream.Stream.{Stream}
 use Rattle.srm_names.specs.declared.drawop.Drawop.{Drawop}
 use Rattle.srm_names.specs.FullName.{FullName}
 use Rattle.srm_names.specs.Names.{named}
 use Rattle.srm_store.specs.declared.insert.Insert.TheVariants.{Fresh, Known, Conflict}
-use Rattle.srm_store.specs.Held.{held_at, is_held, is_missing, insert_answer, known, missing, newly_missing, released, overflows}
+use Rattle.srm_store.specs.Held.{held_at, is_held, is_missing, insert_answer, known, missing, newly_missing, released, overflows, outgrow, page_of_name}
+use Rattle.srm_store.specs.Tables.{with_pages}
 use Rattle.srm_store.specs.Finals.{Settling, final}
 
 abbrev on_page : ℕ → ℕ → Stream
@@ -71,6 +72,22 @@ a_ninth = refl
 
 one_of_the_eight : overflows [] seven (record { creator = 0; number = 7 }) ≡ false
 one_of_the_eight = refl
+
+-- four names on three pages, one of them in the table
+abbrev four : List FullName
+four = named (on_page 0 0) 1 ∷ named (on_page 0 8) 1 ∷ named (on_page 1 8) 2 ∷ named (on_page 0 9) 1 ∷ []
+
+two_slots_left : outgrow [] (map (λ k. named (on_page 0 k) 1) (1 ∷ 2 ∷ 3 ∷ 4 ∷ 5 ∷ [])) (map page_of_name four) ≡ false
+two_slots_left = refl
+
+one_slot_left : outgrow [] (map (λ k. named (on_page 0 k) 1) (1 ∷ 2 ∷ 3 ∷ 4 ∷ 5 ∷ 6 ∷ [])) (map page_of_name four) ≡ true
+one_slot_left = refl
+
+with_the_four : length (with_pages (map (λ k. record { creator = 0; number = k }) (0 ∷ 1 ∷ 2 ∷ [])) (map page_of_name four)) ≡ 5
+with_the_four = refl
+
+all_eight : with_pages (record { creator = 0; number = 0 } ∷ []) (map page_of_name seven) ≡ map (λ k. record { creator = 0; number = k }) (0 ∷ 1 ∷ 2 ∷ 3 ∷ 4 ∷ 5 ∷ 6 ∷ 7 ∷ [])
+all_eight = refl
 
 -- a settled member goes as far as its rows of the first settling
 abbrev settled : List Settling

@@ -73,6 +73,10 @@ page_of_name n = n.stream.page
 abbrev pub pages_named : List Drawop → List FullName → List Page
 pages_named inserted shown = first_page ∷ (map page_of_drawop inserted ++ map page_of_name shown)
 
--- with this page there would be more pages than a table has
+-- with these pages there would be more pages than a table has
+abbrev pub outgrow : List Drawop → List FullName → List Page → Bool
+outgrow inserted shown pages = nat_lt PAGES (length (firsts same_page (pages_named inserted shown ++ pages)))
+
+-- and with this one
 abbrev pub overflows : List Drawop → List FullName → Page → Bool
-overflows inserted shown page = nat_lt PAGES (length (firsts same_page (pages_named inserted shown ++ page ∷ [])))
+overflows inserted shown page = outgrow inserted shown (page ∷ [])

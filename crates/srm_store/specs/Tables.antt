@@ -36,6 +36,11 @@ drawop_at t n = place_at (row_at t n.stream).places n.number
 abbrev pub with_page : List Page → Page → List Page
 with_page pages p = if is_in pages p then pages else pages ++ p ∷ []
 
+-- and these once all of some pages were named
+abbrev pub with_pages : List Page → List Page → List Page
+with_pages pages [] = pages
+with_pages pages (p ∷ ps) = with_pages (with_page pages p) ps
+
 -- all that is in the table is the same
 pub record SameTable (old new : TableContent) : Type 0 where
   pub pages : new.pages ≡ old.pages

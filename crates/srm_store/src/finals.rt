@@ -79,7 +79,7 @@ impl Finals {
 }
 
 /// The number that rows have for a stream, and 0 where they have none.
-fn row_number(rows: &[Name], stream: Stream) -> u32
+pub fn row_number(rows: &[Name], stream: Stream) -> u32
     ensures value { result ≡ row_of rows.now stream }
     ensures last { result ≤ DRAWOPS }
 {

@@ -19,5 +19,6 @@ mod table;
 mod tests;
 
 pub use fault::StoreFault;
+pub use finals::row_number;
 pub use insert::Insert;
 pub use store::Store;

@@ -1,13 +1,16 @@
 //! What a member holds and knows.
 
-ghost use Rattle.std.specs.Prelude.{◌≡◌, ◌≢◌, ◌≤◌, ◌↔◌, true, List, [], ◌∷◌, ◌++◌, length, IfOk, OnOk, OnErr, IfSome, IsOk};
+ghost use Rattle.std.specs.Prelude.{◌≡◌, ◌≢◌, ◌≤◌, ◌↔◌, true, List, [], ◌∷◌, ◌++◌, length, map, IfOk, OnOk, OnErr, IfSome, IsOk};
 ghost use Rattle.std.specs.Option.{option_copied};
 ghost use Rattle.srm_names.specs.declared.drawop.Drawop.{Drawop as ADrawop};
+ghost use Rattle.srm_names.specs.declared.page.Page.{Page as APage};
 ghost use Rattle.srm_names.specs.FullName.{FullName};
+ghost use Rattle.srm_names.specs.Names.{among};
 ghost use Rattle.srm_store.specs.declared.fault.StoreFault.TheVariants.{PageLimit, Memory};
-ghost use Rattle.srm_store.specs.Held.{held_at, is_held, known, missing, newly_missing, released, insert_answer, overflows};
+ghost use Rattle.srm_store.specs.Held.{held_at, is_held, known, missing, newly_missing, released, insert_answer, overflows, outgrow, page_of_name};
 ghost use Rattle.srm_store.specs.Finals.{Settling, final};
-ghost use Rattle.srm_store.specs.Stores.{IsReady, IsReadyToSettle, AreReady, StaysReady};
+ghost use Rattle.srm_store.specs.Stores.{HasSlots, KeepsSlots, IsReady, IsReadyToSettle, AreReady, StaysReady};
+ghost use Rattle.srm_store.specs.Tables.{is_in};
 ghost use Rattle.srm_store.specs.Fits.{Fits, StillFits};
 
 use crate::fault::StoreFault;
@@ -54,13 +57,31 @@ impl Store {
         })
     }
 
-    /// Makes room, so that one insert and one evidence of each of these names, and one settling with all of them, aren't
-    /// refused for memory. Nothing that is held or known changes; the room of the call before is given up. Only want of
-    /// memory refuses it.
+    /// Makes room, so that one insert and one evidence of each of these names, and one settling with all of them, in any
+    /// order, aren't refused at all. Nothing that is held or known changes; the room of the call before is given up.
+    ///
+    /// [`StoreFault::PageLimit`] where the pages of the names don't all find slots, and then nothing changed;
+    /// [`StoreFault::Memory`].
     pub fn room(&mut self, names: &[Name]) -> Result<(), StoreFault>
         ensures kept { StillFits self.old self.new }
         ensures ready { OnOk result (AreReady names.now self.new) }
-        ensures err { OnErr result (result ≡ Err Memory) }
+        ensures limit { (inserted : List ADrawop) (shown : List FullName) (settled : List Settling) → Fits inserted shown settled self.old
+            → ((result ≡ Err PageLimit) ↔ (outgrow inserted shown (map page_of_name names.now) ≡ true)) }
+        ensures same { result ≡ Err PageLimit → self.new ≡ self.old }
+    {
+        if !self.table.has_slots(names) {
+            return Err(StoreFault::PageLimit);
+        }
+        self.make_room(names)?;
+        Ok(())
+    }
+
+    /// Makes room for one insert and one evidence of each of the names, and one settling with all of them.
+    fn make_room(&mut self, names: &[Name]) -> Result<(), AllocError>
+        ensures kept { StillFits self.old self.new }
+        ensures ready { OnOk result ((n : FullName) → among names.now n ≡ true → IsReady n self.new) }
+        ensures settling { OnOk result (IsReadyToSettle (length names.now) self.new) }
+        ensures pages { self.new.table.pages ≡ self.old.table.pages }
     {
         self.rooms.clear();
         self.finals.room(names.len())?;
@@ -76,6 +97,7 @@ impl Store {
         ensures ok { OnOk result (IsReady name self.new) }
         ensures ready { StaysReady self.old self.new }
         ensures settling { self.new.finals ≡ self.old.finals }
+        ensures pages { self.new.table.pages ≡ self.old.table.pages }
     {
         self.table.make_places(name)?;
         let known = self.table.row(name.stream()).known();
@@ -95,6 +117,8 @@ impl Store {
         ensures limit { (inserted : List ADrawop) (shown : List FullName) (settled : List Settling) → Fits inserted shown settled self.old
             → ((result ≡ Err PageLimit) ↔ (overflows inserted shown drawop.name.stream.page ≡ true)) }
         ensures room { IsReady drawop.name self.old → result ≢ Err Memory }
+        ensures slot { (pages : List APage) → is_in pages drawop.name.stream.page ≡ true → HasSlots pages self.old → result ≢ Err PageLimit }
+        ensures slots { KeepsSlots drawop.name.stream.page self.old self.new }
         ensures ready { StaysReady self.old self.new }
         ensures settling { self.new.finals ≡ self.old.finals }
     {
@@ -114,6 +138,8 @@ impl Store {
         ensures limit { (inserted : List ADrawop) (shown : List FullName) (settled : List Settling) → Fits inserted shown settled self.old
             → ((result ≡ Err PageLimit) ↔ (overflows inserted shown name.stream.page ≡ true)) }
         ensures room { IsReady name self.old → result ≢ Err Memory }
+        ensures slot { (pages : List APage) → is_in pages name.stream.page ≡ true → HasSlots pages self.old → result ≢ Err PageLimit }
+        ensures slots { KeepsSlots name.stream.page self.old self.new }
         ensures ready { StaysReady self.old self.new }
         ensures settling { self.new.finals ≡ self.old.finals }
     {
@@ -187,6 +213,7 @@ impl Store {
         ensures refusal { OnErr result (result ≡ Err Memory) }
         ensures room { IsReadyToSettle (length rows.now) self.old → IsOk result }
         ensures ready { StaysReady self.old self.new }
+        ensures slots { self.new.table.pages ≡ self.old.table.pages }
     {
         self.finals.settle(member, rows)?;
         Ok(())

@@ -1,10 +1,10 @@
 //! The rows of all streams.
 
-ghost use Rattle.std.specs.Prelude.{◌≡◌, ◌≢◌, ◌≤◌, ◌<◌, ◌+◌, ◌*◌, ◌↔◌, OnOk, IfOk, OnErr, IsErr, length, vec_capacity};
+ghost use Rattle.std.specs.Prelude.{◌≡◌, ◌≢◌, ◌≤◌, ◌<◌, ◌+◌, ◌*◌, ◌↔◌, nat_le, OnOk, IfOk, OnErr, IsErr, length, map, take, vec_capacity};
 ghost use Rattle.srm_names.specs.Names.{first_page};
-ghost use Rattle.srm_store.specs.Held.{insert_answer};
+ghost use Rattle.srm_store.specs.Held.{insert_answer, page_of_name};
 ghost use Rattle.srm_store.specs.declared.fault.StoreFault.TheVariants.{PageLimit, Memory};
-ghost use Rattle.srm_store.specs.Tables.{row_at, drawop_at, slot_of, with_page, IsNewTable, SameTable, TableGains, TableLearns, HasPlaceFor, StillHasPlaces};
+ghost use Rattle.srm_store.specs.Tables.{row_at, drawop_at, slot_of, with_page, with_pages, IsNewTable, SameTable, TableGains, TableLearns, HasPlaceFor, StillHasPlaces};
 
 use crate::fault::StoreFault;
 use crate::insert::Insert;
@@ -59,12 +59,7 @@ impl Table {
         ensures last { result ≤ PAGES }
         ensures few { length self.now.pages ≤ PAGES }
     {
-        for (slot, named) in self.pages.iter().enumerate() {
-            if *named == page {
-                return slot;
-            }
-        }
-        self.pages.len()
+        slot_of(&self.pages, &page)
     }
 
     /// The slot that a page has, or gets when it is named.
@@ -105,7 +100,7 @@ impl Table {
         let stream = drawop.name.stream();
         let slot = self.slot_for(stream.page)?;
         let answer = self.rows[place(slot, stream.source)].insert(drawop)?;
-        seat(&mut self.pages, slot, stream.page);
+        seat(&mut self.pages, slot, &stream.page);
         Ok(answer)
     }
 
@@ -118,7 +113,19 @@ impl Table {
         let stream = name.stream();
         let slot = self.slot(stream.page);
         self.rows[place(slot, stream.source)].know(name.number());
-        seat(&mut self.pages, slot, stream.page);
+        seat(&mut self.pages, slot, &stream.page);
+    }
+
+    /// Whether the pages of all these names have slots, or find some together. Nothing stays of it, and it takes no memory: the
+    /// list of the pages has room for all that there may be, so they stand there while they are counted.
+    pub fn has_slots(&mut self, names: &[Name]) -> bool
+        ensures value { result ≡ nat_le (length (with_pages self.old.pages (map page_of_name names.now))) PAGES }
+        ensures same { self.new ≡ self.old }
+    {
+        let count = self.pages.len();
+        let all = seat_all(&mut self.pages, names);
+        self.pages.truncate(count);
+        all
     }
 
     /// Makes a place for the drawop of a name, wherever its row is or comes to be: a page without a slot may get any of
@@ -163,15 +170,47 @@ fn place(slot: usize, source: Member) -> usize
     slot * MEMBERS as usize + source.index()
 }
 
+/// The place of a page in a list: the one after the last, where it isn't there.
+fn slot_of(pages: &[Page], page: &Page) -> usize
+    ensures value { result ≡ slot_of pages.now page.now }
+    ensures last { result ≤ length pages.now }
+{
+    for (slot, named) in pages.iter().enumerate() {
+        if named == page {
+            return slot;
+        }
+    }
+    pages.len()
+}
+
+/// Seats the pages of the names in turn, up to the first that finds no slot, and says whether all are seated.
+fn seat_all(pages: &mut Vec<Page>, names: &[Name]) -> bool
+    requires capacity { PAGES ≤ vec_capacity pages.old }
+    requires few { length pages.old.items ≤ PAGES }
+    ensures value { result ≡ nat_le (length (with_pages pages.old.items (map page_of_name names.now))) PAGES }
+    ensures front { take (length pages.old.items) pages.new.items ≡ pages.old.items }
+    ensures capacity { PAGES ≤ vec_capacity pages.new }
+{
+    for name in names {
+        let page = name.stream().page;
+        let slot = slot_of(pages, &page);
+        if slot == usize::from(PAGES) {
+            return false;
+        }
+        seat(pages, slot, &page);
+    }
+    true
+}
+
 /// A page that was named is in the table.
-fn seat(pages: &mut Vec<Page>, slot: usize, page: Page)
-    requires at { slot ≡ slot_of pages.old.items page }
+fn seat(pages: &mut Vec<Page>, slot: usize, page: &Page)
+    requires at { slot ≡ slot_of pages.old.items page.now }
     requires below { slot < PAGES }
     requires few { PAGES ≤ vec_capacity pages.old }
-    ensures items { pages.new.items ≡ with_page pages.old.items page }
+    ensures items { pages.new.items ≡ with_page pages.old.items page.now }
     ensures few { PAGES ≤ vec_capacity pages.new }
 {
     if slot == pages.len() {
-        pages.push(page).unwrap();
+        pages.push(*page).unwrap();
     }
 }

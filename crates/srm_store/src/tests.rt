@@ -138,7 +138,7 @@ fn a_ninth_page_is_refused(rt: HostRuntime) -> Result<(), Fail> {
         shown(&rt, &mut store, name(&rt, 1, page, 1), &[1])?;
     }
     let ninth = name(&rt, 1, 8, 1);
-    store.room(&[ninth])?;
+    assert_eq!(rt; store.room(&[ninth]), Err(StoreFault::PageLimit));
     assert!(rt; matches!(store.evidence(ninth), Err(StoreFault::PageLimit)));
     assert_eq!(rt;
         store.insert(drawop(alloc, ninth, b"")?),
@@ -178,6 +178,20 @@ fn room_is_made_for_names(rt: HostRuntime) -> Result<(), Fail> {
         assert_eq!(rt; store.insert(drawop(alloc, named, b"")?)?, Insert::Fresh);
     }
     store.settle_final(names[0].source(), &names)?;
+    Ok(())
+}
+
+#[test]
+fn nine_pages_find_no_room_together(rt: HostRuntime) -> Result<(), Fail> {
+    let mut store = Store::new(rt.alloc())?;
+    let mut names = Vec::new(rt.alloc());
+    for page in 0..8u16 {
+        names.push(name(&rt, 1, page, 1))?;
+        names.push(name(&rt, 2, page, 3))?;
+    }
+    assert_eq!(rt; store.room(&names), Ok(()));
+    names.push(name(&rt, 1, 8, 1))?;
+    assert_eq!(rt; store.room(&names), Err(StoreFault::PageLimit));
     Ok(())
 }
 

@@ -3,6 +3,7 @@ use Rattle.std.proofs.Common.{◌≡◌, ℕ, zero, suc, ◌+◌, ◌<◌, List,
 use Rattle.std.specs.Prelude.{if◌then◌else◌, option_map, find, is_some}
 use Rattle.std.specs.List.{list_any, AllByRecursion}
 use Rattle.std.proofs.lemmas.List.{take_more}
+use Rattle.srm_names.specs.declared.limits.TheConstants.{MEMBERS}
 use Rattle.srm_names.specs.FullName.{FullName}
 use Rattle.srm_names.specs.Histories.{or_else, last_of}
 use Rattle.srm_names.specs.Names.{same_name, name_below, ascending, among}
@@ -10,7 +11,7 @@ use Rattle.srm_names.proofs.Same.{same_name-is}
 use Rattle.srm_names.proofs.Orders.{stands_once, and_right}
 use Rattle.srm_timers.specs.declared.arm.Arm.{Arm}
 use Rattle.srm_timers.specs.declared.timed.Timed.{Timed}
-use Rattle.srm_timers.specs.Arms.{Plan, Setting, plan_of, setting, arm_name, arm_names, arm_of, ArmsAre, AreDrawn, IsAsk, AreAsks, IsFix, AreFixes}
+use Rattle.srm_timers.specs.Arms.{Plan, Setting, plan_of, setting, arm_name, arm_names, arm_of, ArmsAre, AreDrawn, IsAsk, AreAsks, IsFix, AreFixes, AreOfMembers}
 use Rattle.srm_timers.specs.Ends.{timed_at, arm_end, is_short, AreShort}
 use Rattle.srm_timers.specs.Places.{names_of, moment_among, is_timed}
 
@@ -26,6 +27,10 @@ drawn_more draw low high from mid to (b ∷ arms) a h k = (h.0, drawn_more draw 
 all_more : {X : Type 0} (P : X → Type 0) (xs : List X) (x : X) → AllByRecursion P xs → P x → AllByRecursion P (xs ++ x ∷ [])
 all_more P [] x all here = (here, tt)
 all_more P (y ∷ xs) x all here = (all.0, all_more P xs x all.1 here)
+
+pub members_more : (name : FullName) (source : ℕ) (arms : List Arm) (a : Arm) → AreOfMembers arms → a.name ≡ name → source ≡ name.stream.source → source < MEMBERS → AreOfMembers (arms ++ a ∷ [])
+members_more name source arms a h named is below =
+    record { each = all_more (λ (x : Arm). x.name.stream.source < MEMBERS) arms a h.each (subst (λ (n : FullName). n.stream.source < MEMBERS) (sym named) (subst (λ k. k < MEMBERS) is below)) }
 
 pub short_more : (arms : List Arm) (a : Arm) → AreShort arms → is_short a → AreShort (arms ++ a ∷ [])
 short_more arms a h here = record { each = all_more is_short arms a h.each here }

@@ -1,14 +1,16 @@
 -- One more call, in the request timers.
 use Rattle.std.proofs.Common.{◌≡◌, ℕ, ◌+◌, ◌≤◌, List, [], ◌∷◌, ◌++◌, map, length, Option, Some, None, Bool, true, false, cond, refl, sym, ap, subst, ◌∙◌}
 use Rattle.std.specs.Prelude.{if◌then◌else◌, option_map, nat_le, IsNone, IsSome, IfSome, find, ◌||◌}
+use Rattle.std.specs.List.{AllByRecursion}
 use Rattle.srm_names.specs.FullName.{FullName}
 use Rattle.srm_names.specs.Histories.{last_of, or_else}
 use Rattle.srm_names.specs.Names.{same_name, name_below, ascending, among, AreExactly}
 use Rattle.srm_names.proofs.Snoc.{last_of-snoc, last_of-append}
 use Rattle.srm_timers.specs.declared.arm.Arm.{Arm}
 use Rattle.srm_timers.specs.declared.arm.Armed.{Armed}
+use Rattle.srm_timers.specs.declared.arm.ArmKind.TheVariants.{Ask}
 use Rattle.srm_timers.specs.declared.by_name.Place.{Place}
-use Rattle.srm_timers.specs.Arms.{arm_names, arm_of, end_of, ran_out, backs_off, next_exponent, RunsOutFirst, ArmsAre, Setting, plan_of}
+use Rattle.srm_timers.specs.Arms.{arm_names, arm_of, end_of, ran_out, backs_off, next_exponent, RunsOutFirst, ArmsAre, Setting, Plan, plan_of}
 use Rattle.srm_timers.specs.Deadlines.{has_come}
 use Rattle.srm_timers.specs.Ends.{arm_end, SetsEnds}
 use Rattle.srm_timers.specs.Timers.{armed_at, SetsTimers}
@@ -30,13 +32,13 @@ pub flat_set : (now : ℕ) (o : Option Arm) (last : Option (Option Armed))
 flat_set now None last = refl
 flat_set now (Some a) last = refl
 
-ask_timer-sets : (calls : List AskCall) (now : ℕ) (arms : List Arm) (n : FullName) → ascending name_below (arm_names arms) ≡ true
+pub ask_timer-sets : (calls : List AskCall) (now : ℕ) (arms : List Arm) (n : FullName) → ascending name_below (arm_names arms) ≡ true
     → ask_timer (calls ++ sets now arms) n ≡ or_else (option_map (armed_at now) (arm_of n arms)) (ask_timer calls n)
 ask_timer-sets calls now arms n rising =
     ap flat (last_of-append (told_by n) calls (sets now arms) ∙ ap (λ o. or_else o (last_of (told_by n) calls)) (last_arms told_by (Set now) (λ a. Some (armed_at now a)) (λ m a. refl) n arms rising))
     ∙ flat_set now (arm_of n arms) (last_of (told_by n) calls)
 
-ask_timer-gained : (calls : List AskCall) (name n : FullName) → ask_timer (calls ++ Gained name ∷ []) n ≡ (if same_name n name then None else ask_timer calls n)
+pub ask_timer-gained : (calls : List AskCall) (name n : FullName) → ask_timer (calls ++ Gained name ∷ []) n ≡ (if same_name n name then None else ask_timer calls n)
 ask_timer-gained calls name n = ap flat (last_of-snoc (told_by n) calls (Gained name)) ∙ flat_told (same_name n name) None (last_of (told_by n) calls)
 
 -- timers are set

@@ -9,8 +9,10 @@ use Rattle.srm_names.specs.FullName.{FullName}
 use Rattle.srm_names.specs.Names.{same_name, name_below, ascending, among, AreExactly}
 use Rattle.srm_names.proofs.Orders.{name_order}
 use Rattle.srm_names.proofs.Same.{same_name-is}
+use Rattle.srm_timers.specs.declared.arm.Arm.{Arm}
 use Rattle.srm_timers.specs.declared.by_name.Place.{Place}
 use Rattle.srm_timers.specs.declared.timed.Timed.{Timed}
+use Rattle.srm_timers.specs.Arms.{Plan, plan_of}
 use Rattle.srm_timers.specs.Places.{is_timed, is_at, names_of, has_place, value_at}
 use Rattle.srm_timers.specs.Deadlines.{has_come, DueAmong, DueFit}
 use Rattle.srm_timers.specs.Agenda.{of_name, is_due, PairsFit}
@@ -105,6 +107,17 @@ due_no_more now places due all exactly among_all =
     let k : length (map as_timed due) ≤ length all = no_more (map as_timed due) all (once_timed due exactly.in_order)
     (λ n at. among_all.each n (sym (exactly.exact n) ∙ ap (λ ns. among ns n) (sym (named due)) ∙ at)) in
     omega (arith, length-map due as_timed)
+
+-- arms that are planned for names are no more than these
+pub as_many : (plan : FullName → Plan) (names : List FullName) (arms : List Arm) → map plan_of arms ≡ map plan names → length arms ≤ length names
+as_many plan names arms plans = let k : length (map plan_of arms) ≡ length (map plan names) = ap length plans in omega (arith, length-map arms plan_of, length-map names plan)
+
+pub no_more_arms : (plan : FullName → Plan) (now : ℕ) (places : List (Place ℕ)) (due all : List FullName) (arms : List Arm) → map plan_of arms ≡ map plan due → AreExactly (λ n. has_come now (value_at places n)) due
+    → DueAmong now places all → length arms ≤ length all
+no_more_arms plan now places due all arms plans exactly among_all =
+    let k : length arms ≤ length due = as_many plan due arms plans in
+    let l : length due ≤ length all = due_no_more now places due all exactly among_all in
+    omega arith
 
 pub on_err : {X Y : Type 0} (r : Result X Y) (P : Type 0) → P → OnErr r P
 on_err (Ok x) P p = tt

@@ -4,6 +4,7 @@ use Rattle.std.specs.Prelude.{if◌then◌else◌, option_map, nat_le, nat_lt, �
 use Rattle.std.specs.List.{list_any}
 use Rattle.std.proofs.lemmas.List.Folds.{list_any-append, list_any_more}
 use Rattle.std.proofs.lemmas.Bool.Decides.{nat_tests}
+use Rattle.srm_names.specs.declared.limits.TheConstants.{MEMBERS}
 use Rattle.srm_names.specs.FullName.{FullName}
 use Rattle.srm_names.specs.Histories.{last_of, first_of, or_else}
 use Rattle.srm_names.specs.Names.{same_name, name_below, ascending, among, AreExactly}
@@ -31,35 +32,35 @@ or_false : (b : Bool) → (b || false) ≡ b
 or_false true = refl
 or_false false = refl
 
-asked_first-snoc : (calls : List FixCall) (c : FixCall) (n : FullName) → asked_first (calls ++ c ∷ []) n ≡ or_else (asked_first calls n) (asker_by n c)
+pub asked_first-snoc : (calls : List FixCall) (c : FixCall) (n : FullName) → asked_first (calls ++ c ∷ []) n ≡ or_else (asked_first calls n) (asker_by n c)
 asked_first-snoc calls c n = first_of-snoc (asker_by n) calls c
 
 -- calls that name no asker change none
-asked_first-append : (calls more : List FixCall) (n : FullName) → first_of (asker_by n) more ≡ None → asked_first (calls ++ more) n ≡ asked_first calls n
+pub asked_first-append : (calls more : List FixCall) (n : FullName) → first_of (asker_by n) more ≡ None → asked_first (calls ++ more) n ≡ asked_first calls n
 asked_first-append [] more n e = e
 asked_first-append (c ∷ calls) more n e = ap (or_else (asker_by n c)) (asked_first-append calls more n e)
 
-no_asker-sets : (now : ℕ) (arms : List Arm) (n : FullName) → first_of (asker_by n) (sets_fix now arms) ≡ None
+pub no_asker-sets : (now : ℕ) (arms : List Arm) (n : FullName) → first_of (asker_by n) (sets_fix now arms) ≡ None
 no_asker-sets now [] n = refl
 no_asker-sets now (a ∷ arms) n = no_asker-sets now arms n
 
-no_asker-repairs : (now : ℕ) (dist : List ℕ) (calls : List FixCall) (names : List FullName) (n : FullName) → first_of (asker_by n) (repairs now dist calls names) ≡ None
+pub no_asker-repairs : (now : ℕ) (dist : List ℕ) (calls : List FixCall) (names : List FullName) (n : FullName) → first_of (asker_by n) (repairs now dist calls names) ≡ None
 no_asker-repairs now dist calls [] n = refl
 no_asker-repairs now dist calls (m ∷ names) n = no_asker-repairs now dist calls names n
 
 -- calls that hold no name off leave it as it was
-is_off-append : (calls more : List FixCall) (n : FullName) (now : ℕ) → list_any (is_off_by n now) more ≡ false → is_off (calls ++ more) n now ≡ is_off calls n now
+pub is_off-append : (calls more : List FixCall) (n : FullName) (now : ℕ) → list_any (is_off_by n now) more ≡ false → is_off (calls ++ more) n now ≡ is_off calls n now
 is_off-append [] more n now e = e
 is_off-append (c ∷ calls) more n now e = ap (λ b. is_off_by n now c || b) (is_off-append calls more n now e)
 
-none_off-sets : (m : ℕ) (arms : List Arm) (n : FullName) (now : ℕ) → list_any (is_off_by n now) (sets_fix m arms) ≡ false
+pub none_off-sets : (m : ℕ) (arms : List Arm) (n : FullName) (now : ℕ) → list_any (is_off_by n now) (sets_fix m arms) ≡ false
 none_off-sets m [] n now = refl
 none_off-sets m (a ∷ arms) n now = none_off-sets m arms n now
 
-fix_timer-asked : (calls : List FixCall) (name : FullName) (from : ℕ) (n : FullName) → fix_timer (calls ++ Asked name from ∷ []) n ≡ fix_timer calls n
+pub fix_timer-asked : (calls : List FixCall) (name : FullName) (from : ℕ) (n : FullName) → fix_timer (calls ++ Asked name from ∷ []) n ≡ fix_timer calls n
 fix_timer-asked calls name from n = ap flat (last_of-snoc (ran_by n) calls (Asked name from))
 
-fix_timer-sets : (calls : List FixCall) (now : ℕ) (arms : List Arm) (n : FullName) → ascending name_below (arm_names arms) ≡ true
+pub fix_timer-sets : (calls : List FixCall) (now : ℕ) (arms : List Arm) (n : FullName) → ascending name_below (arm_names arms) ≡ true
     → fix_timer (calls ++ sets_fix now arms) n ≡ or_else (option_map (armed_at now) (arm_of n arms)) (fix_timer calls n)
 fix_timer-sets calls now arms n rising =
     ap flat (last_of-append (ran_by n) calls (sets_fix now arms) ∙ ap (λ o. or_else o (last_of (ran_by n) calls)) (last_arms ran_by (SetFix now) (λ a. Some (armed_at now a)) (λ m a. refl) n arms rising))
@@ -69,14 +70,14 @@ flat_ran : (b : Bool) (o : Option Armed) (last : Option (Option Armed)) → flat
 flat_ran true o last = refl
 flat_ran false o last = refl
 
-fix_timer-repaired : (calls : List FixCall) (name : FullName) (until : ℕ) (n : FullName)
+pub fix_timer-repaired : (calls : List FixCall) (name : FullName) (until : ℕ) (n : FullName)
     → fix_timer (calls ++ Repaired name until ∷ []) n ≡ (if same_name n name then None else fix_timer calls n)
 fix_timer-repaired calls name until n = ap flat (last_of-snoc (ran_by n) calls (Repaired name until)) ∙ flat_ran (same_name n name) None (last_of (ran_by n) calls)
 
-is_off-asked : (calls : List FixCall) (name : FullName) (from : ℕ) (n : FullName) (now : ℕ) → is_off (calls ++ Asked name from ∷ []) n now ≡ is_off calls n now
+pub is_off-asked : (calls : List FixCall) (name : FullName) (from : ℕ) (n : FullName) (now : ℕ) → is_off (calls ++ Asked name from ∷ []) n now ≡ is_off calls n now
 is_off-asked calls name from n now = list_any-snoc (is_off_by n now) calls (Asked name from) ∙ or_false (is_off calls n now)
 
-is_off-repaired : (calls : List FixCall) (name : FullName) (until : ℕ) (n : FullName) (now : ℕ)
+pub is_off-repaired : (calls : List FixCall) (name : FullName) (until : ℕ) (n : FullName) (now : ℕ)
     → is_off (calls ++ Repaired name until ∷ []) n now ≡ is_off calls n now || same_name n name && nat_lt now until
 is_off-repaired calls name until n now = list_any-snoc (is_off_by n now) calls (Repaired name until)
 
@@ -183,17 +184,24 @@ held_as_long name until kept holds is more = record { each = λ n now. as_long n
 
 -- one more name of those that are held off in one call
 pub held_none : (now : ℕ) (dist : List ℕ) (askers holds : List (Place ℕ)) → HoldAllOff now dist [] askers holds holds
-held_none now dist askers holds = record { each = λ n t. sym (or_false (is_held holds n t)) }
+held_none now dist askers holds = record { each = λ n t. sym (or_false (is_held holds n t)); near = λ n at. absurd (cc) }
 
 pub held_more : (now : ℕ) (dist : List ℕ) (names : List FullName) (i : ℕ) (name : FullName) (distance member : ℕ) (askers old mid new : List (Place ℕ)) → i < length names → name ≡ get_or names i name
-    → member ≡ asker_at askers name → distance ≡ distance_to dist member → HoldAllOff now dist (take i names) askers old mid → HoldsOff name (now + 3 * distance) mid new
+    → member ≡ asker_at askers name → member < MEMBERS → distance ≡ distance_to dist member → HoldAllOff now dist (take i names) askers old mid → HoldsOff name (now + 3 * distance) mid new
     → HoldAllOff now dist (take (i + 1) names) askers old new
-held_more now dist names i name distance member askers old mid new lt is asker far so_far next = record {
+held_more now dist names i name distance member askers old mid new lt is asker below far so_far next = record {
   each = λ n t. next.each n t ∙ ap (λ b. b || same_name n name && nat_lt t (now + 3 * distance)) (so_far.each n t)
       ∙ go n t (is_held old n t) (among (take i names) n) (same_name n name) refl
       ∙ ap (λ b. is_held old n t || b && nat_lt t (held_until now dist askers n)) (ap (λ m. among (take i names) n || same_name n m) is ∙ sym (list_any_more (same_name n) names i name lt));
+  near = λ n at. near_one n (among (take i names) n) (same_name n name) refl (so_far.near n)
+      (ap (λ m. among (take i names) n || same_name n m) is ∙ sym (list_any_more (same_name n) names i name lt) ∙ at);
 }
   where
+    near_one : (n : FullName) (b s : Bool) → same_name n name ≡ s → (b ≡ true → asker_at askers n < MEMBERS) → (b || s) ≡ true → asker_at askers n < MEMBERS
+    near_one n true s e before at = before refl
+    near_one n false true e before at = subst (λ m. asker_at askers m < MEMBERS) (sym (same_name-is n name e)) (subst (λ k. k < MEMBERS) asker below)
+    near_one n false false e before at = absurd (cc)
+
     end : (n : FullName) → same_name n name ≡ true → now + 3 * distance ≡ held_until now dist askers n
     end n e = ap (λ d. now + 3 * d) (far ∙ ap (distance_to dist) asker) ∙ ap (held_until now dist askers) (sym (same_name-is n name e))
 
@@ -243,9 +251,27 @@ cancels : (b : Bool) (o : Option Armed) (last : Option (Option Armed)) → flat 
 cancels true o last e = refl
 cancels false o last e = ap (option_map end_of) e
 
+flat_cancelled : (b : Bool) (last : Option (Option Armed)) → flat (or_else (cancelled b) last) ≡ (if b then None else flat last)
+flat_cancelled true last = refl
+flat_cancelled false last = refl
+
+pub asked_first-repairs : (now : ℕ) (dist : List ℕ) (calls : List FixCall) (names : List FullName) (n : FullName) → asked_first (calls ++ repairs now dist calls names) n ≡ asked_first calls n
+asked_first-repairs now dist calls names n = asked_first-append calls (repairs now dist calls names) n (no_asker-repairs now dist calls names n)
+
+pub fix_timer-repairs : (now : ℕ) (dist : List ℕ) (calls : List FixCall) (names : List FullName) (n : FullName)
+    → fix_timer (calls ++ repairs now dist calls names) n ≡ (if among names n then None else fix_timer calls n)
+fix_timer-repairs now dist calls names n =
+    ap flat (last_of-append (ran_by n) calls (repairs now dist calls names) ∙ ap (λ o. or_else o (last_of (ran_by n) calls)) (repairs_cancel now dist calls names n))
+    ∙ flat_cancelled (among names n) (last_of (ran_by n) calls)
+
+pub is_off-repairs : (now : ℕ) (dist : List ℕ) (calls : List FixCall) (names : List FullName) (n : FullName) (t : ℕ)
+    → is_off (calls ++ repairs now dist calls names) n t ≡ (is_off calls n t || among names n && nat_lt t (hold_end now dist calls n))
+is_off-repairs now dist calls names n t = any_append calls (repairs now dist calls names) n t ∙ ap (λ b. is_off calls n t || b) (repairs_hold now dist calls names n t)
+
 pub repairs_all : (now : ℕ) (dist : List ℕ) (names : List FullName) (a b : FixContent) → b.d1 ≡ a.d1 → b.d2 ≡ a.d2 → b.askers ≡ a.askers → ClearsAll names a.ends.places b.ends.places
     → HoldAllOff now dist names a.askers a.holds b.holds → FixRepairs now dist names a b
 repairs_all now dist names a b p q askers ends off = record {
+  near = λ d1 d2 calls h n at. subst (λ o. unwrap_or o n.stream.source < MEMBERS) (h.askers n) (off.near n at);
   each = λ d1 d2 calls h. record {
     d1_is = p ∙ h.d1_is;
     d2_is = q ∙ h.d2_is;
@@ -288,6 +314,8 @@ fix_stays_on a b c p q = record { each = λ d1 d2 calls h. q.each d1 d2 calls (p
 
 pub fix_holds_on : (a b c : FixContent) → FixHolds a b → FixHolds b c → FixHolds a c
 fix_holds_on a b c p q = record {
+  d1 = q.d1 ∙ p.d1;
+  d2 = q.d2 ∙ p.d2;
   each = λ n h. q.each n (p.each n h);
   ends = record { places = λ n h. q.ends.places n (p.ends.places n h); room = omega (arith, p.ends.room, q.ends.room) };
   list = omega (arith, p.list, q.list);
@@ -344,16 +372,17 @@ pub fix_due_is : (now : ℕ) (a : FixContent) (names : List FullName) → AreExa
 fix_due_is now a names due = record { each = λ d1 d2 calls h. due_ran_out now a.ends.places (fix_timer calls) names h.ends due }
 
 -- a repair, by the distance to the one who asked first
-pub repairs_one : (now : ℕ) (dist : List ℕ) (name : FullName) (distance member : ℕ) (a b : FixContent) → FixFirstAsker name a member → distance ≡ distance_to dist member
+pub repairs_one : (now : ℕ) (dist : List ℕ) (name : FullName) (distance member : ℕ) (a b : FixContent) → FixFirstAsker name a member → distance ≡ distance_to dist member → member < MEMBERS
     → FixAdds (Repaired name (now + 3 * distance) ∷ []) a b → FixRepairs now dist (name ∷ []) a b
-repairs_one now dist name distance member a b first is adds = record {
+repairs_one now dist name distance member a b first is below adds = record {
+  near = λ d1 d2 calls h n at. subst (λ m. first_asker calls m < MEMBERS) (sym (same_name-is n name (sym (or_false (same_name n name)) ∙ at))) (subst (λ k. k < MEMBERS) (first.each d1 d2 calls h) below);
   each = λ d1 d2 calls h.
       subst (λ d. FixFits d1 d2 (calls ++ Repaired name (now + 3 * d) ∷ []) b) (is ∙ ap (distance_to dist) (first.each d1 d2 calls h)) (adds.each d1 d2 calls h);
 }
 
 pub repairs_after : (now : ℕ) (dist : List ℕ) (names names' : List FullName) (a b c : FixContent) → FixStays a b → names ≡ names' → FixRepairs now dist names b c → FixRepairs now dist names' a c
 repairs_after now dist names names' a b c stays is repairs =
-    subst (λ names. FixRepairs now dist names a c) is (record { each = λ d1 d2 calls h. repairs.each d1 d2 calls (stays.each d1 d2 calls h) })
+    subst (λ names. FixRepairs now dist names a c) is (record { each = λ d1 d2 calls h. repairs.each d1 d2 calls (stays.each d1 d2 calls h); near = λ d1 d2 calls h. repairs.near d1 d2 calls (stays.each d1 d2 calls h) })
 
 -- a request: who asked, and its arm
 pub asked_sets : (name : FullName) (from now : ℕ) (arm : Arm) (a b c d : FixContent) → FixStays a b → FixAdds (Asked name from ∷ []) b c → FixAdds (SetFix now arm ∷ []) c d

@@ -1,9 +1,7 @@
 -- What fixtures of tests keep.
 use Rattle.std.proofs.Common.{◌≡◌, ℕ, zero, suc, ◌≤◌, List, [], ◌∷◌, length, set, refl, arith}
 use Rattle.std.specs.Prelude.{replicate, slice_index}
-use Rattle.srm_names.specs.FullName.{FullName}
 use Rattle.srm_names.specs.declared.limits.TheConstants.{LONGEST_DISTANCE}
-use Rattle.srm_timers.specs.AskCalls.{AskContent, AskFits, HaveNoTimer}
 use Rattle.srm_timers.specs.Distances.{AreDistances, distance_to}
 
 far_at : (n far member : ℕ) → far ≤ LONGEST_DISTANCE → distance_to (replicate n far) member ≤ LONGEST_DISTANCE
@@ -21,6 +19,3 @@ near_at far near (suc (suc member)) le near_le = far_at 30 far member le
 
 pub near_distances : (far near : ℕ) → far ≤ LONGEST_DISTANCE → near ≤ LONGEST_DISTANCE → AreDistances (far ∷ near ∷ replicate 30 far)
 near_distances far near le near_le = record { for_each = omega arith; in_range = λ member. near_at far near member le near_le }
-
-pub nothing_known : (c1 c2 : ℕ) (a : AskContent) (names : List FullName) → AskFits c1 c2 [] a → HaveNoTimer names a
-nothing_known c1 c2 a names h = record { each = λ n at. h.timers n }

@@ -1,6 +1,7 @@
 -- Arms: their ends, their ignore moments, with which setting they are made, and how their waits are drawn.
-use Rattle.std.specs.Prelude.{◌≡◌, ℕ, ◌==◌, ◌+◌, ◌-◌, ◌*◌, ◌/◌, ◌%◌, ◌^◌, ◌≤◌, min, nat_le, Bool, true, false, ◌||◌, List, [], ◌∷◌, map, find, if◌then◌else◌, Option, Some, None, option_map, IsNone, IfSome}
+use Rattle.std.specs.Prelude.{◌≡◌, ℕ, ◌==◌, ◌+◌, ◌-◌, ◌*◌, ◌/◌, ◌%◌, ◌^◌, ◌<◌, ◌≤◌, min, nat_le, Bool, true, false, ◌||◌, List, [], ◌∷◌, map, find, if◌then◌else◌, Option, Some, None, option_map, IsNone, IfSome}
 use Rattle.std.specs.List.{AllByRecursion}
+use Rattle.srm_names.specs.declared.limits.TheConstants.{MEMBERS}
 use Rattle.srm_names.specs.FullName.{FullName}
 use Rattle.srm_names.specs.Names.{same_name, name_below, ascending}
 use Rattle.srm_timers.specs.declared.limits.TheConstants.{EXPONENT}
@@ -80,6 +81,10 @@ pub record AreFixes (arms : List Arm) : Type 0 where
 pub record ArmsAre (settings : FullName → Option Setting) (arms : List Arm) : Type 0 where
   pub in_order : ascending name_below (arm_names arms) ≡ true
   pub exact : (n : FullName) → option_map setting (arm_of n arms) ≡ settings n
+
+-- each is of a name of a member
+pub record AreOfMembers (arms : List Arm) : Type 0 where
+  pub each : AllByRecursion (λ a. a.name.stream.source < MEMBERS) arms
 
 -- the ends of the interval from which the wait of an arm is drawn, by the two settings of its kind
 abbrev pub low_of : ℕ → Arm → ℕ

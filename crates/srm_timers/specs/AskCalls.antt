@@ -115,10 +115,6 @@ pub record AskNext (a : AskContent) (moment : Option ℕ) : Type 0 where
 pub record AskStays (old new : AskContent) : Type 0 where
   pub each : (c1 c2 : ℕ) (calls : List AskCall) → AskFits c1 c2 calls old → AskFits c1 c2 calls new
 
--- none of the names has a timer
-pub record HaveNoTimer (names : List FullName) (a : AskContent) : Type 0 where
-  pub each : (n : FullName) → among names n ≡ true → value_at a.timers n ≡ None
-
 -- the timers of these names can be set in one call without memory
 pub record AskReady (names : List FullName) (a : AskContent) : Type 0 where
   pub ends : HaveRoom names a.ends
@@ -130,8 +126,10 @@ pub record AnswerReady (names : List FullName) (a : AskContent) : Type 0 where
   pub list : length names ≤ a.list
   pub due : length names ≤ a.names
 
--- whatever could be set, or looked up, without memory still can
+-- whatever could be set, or looked up, without memory still can, and the settings are the same
 pub record AskHolds (old new : AskContent) : Type 0 where
+  pub c1 : new.c1 ≡ old.c1
+  pub c2 : new.c2 ≡ old.c2
   pub ends : KeepsRoom old.ends new.ends
   pub names : old.names ≤ new.names
   pub timers : (n : FullName) → has_place old.timers n ≡ true → has_place new.timers n ≡ true

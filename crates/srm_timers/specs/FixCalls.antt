@@ -1,6 +1,7 @@
 -- The repair timers, by the calls so far.
-use Rattle.std.specs.Prelude.{◌≡◌, ℕ, ◌+◌, ◌*◌, ◌≤◌, Bool, true, false, not, ◌&&◌, ◌||◌, nat_lt, List, ◌++◌, map, if◌then◌else◌, Option, Some, None, option_map, unwrap_or, is_some, length}
+use Rattle.std.specs.Prelude.{◌≡◌, ℕ, ◌+◌, ◌*◌, ◌<◌, ◌≤◌, Bool, true, false, not, ◌&&◌, ◌||◌, nat_lt, List, ◌++◌, map, if◌then◌else◌, Option, Some, None, option_map, unwrap_or, is_some, length}
 use Rattle.std.specs.List.{list_any}
+use Rattle.srm_names.specs.declared.limits.TheConstants.{MEMBERS}
 use Rattle.srm_names.specs.FullName.{FullName}
 use Rattle.srm_names.specs.Histories.{last_of, first_of}
 use Rattle.srm_names.specs.Names.{same_name, among, AreExactly}
@@ -111,14 +112,16 @@ pub record HoldsOff (name : FullName) (until : ℕ) (old new : List (Place ℕ))
 -- these names are held off for three distances to those who asked for them first, or for as long as they were
 pub record HoldAllOff (now : ℕ) (dist : List ℕ) (names : List FullName) (askers old new : List (Place ℕ)) : Type 0 where
   pub each : (n : FullName) (t : ℕ) → is_held new n t ≡ is_held old n t || among names n && nat_lt t (held_until now dist askers n)
+  pub near : (n : FullName) → among names n ≡ true → asker_at askers n < MEMBERS
 
 -- what fits goes on to fit, with these calls added
 pub record FixAdds (more : List FixCall) (old new : FixContent) : Type 0 where
   pub each : (d1 d2 : ℕ) (calls : List FixCall) → FixFits d1 d2 calls old → FixFits d1 d2 (calls ++ more) new
 
--- with the repairs of these names added, made at a moment
+-- with the repairs of these names added, made at a moment; who asked for them first is a member
 pub record FixRepairs (now : ℕ) (dist : List ℕ) (names : List FullName) (old new : FixContent) : Type 0 where
   pub each : (d1 d2 : ℕ) (calls : List FixCall) → FixFits d1 d2 calls old → FixFits d1 d2 (calls ++ repairs now dist calls names) new
+  pub near : (d1 d2 : ℕ) (calls : List FixCall) → FixFits d1 d2 calls old → (n : FullName) → among names n ≡ true → first_asker calls n < MEMBERS
 
 -- the names are those whose timers ran out, in order of name
 pub record FixDue (now : ℕ) (a : FixContent) (names : List FullName) : Type 0 where
@@ -159,8 +162,10 @@ pub record FixReady (names : List FullName) (a : FixContent) : Type 0 where
   pub ends : HaveRoom names a.ends
   pub list : length names ≤ a.list
 
--- whatever needed no memory needs none
+-- whatever needed no memory needs none, and the settings are the same
 pub record FixHolds (old new : FixContent) : Type 0 where
+  pub d1 : new.d1 ≡ old.d1
+  pub d2 : new.d2 ≡ old.d2
   pub each : (n : FullName) → FixPlace old n → FixPlace new n
   pub ends : KeepsRoom old.ends new.ends
   pub list : old.list ≤ new.list

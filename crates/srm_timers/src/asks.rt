@@ -3,12 +3,13 @@
 ghost use Rattle.std.specs.Prelude.{◌≡◌, ℕ, ◌≤◌, ◌++◌, List, [], ◌∷◌, true, map, length, option_map, option_to_list, vec_capacity, IfOk, OnOk, OnErr, IsOk, IfSome, IsSome};
 ghost use Rattle.srm_names.specs.FullName.{FullName};
 ghost use Rattle.srm_names.specs.Names.{among, ascending, name_below};
-ghost use Rattle.srm_timers.specs.Arms.{backs_off, next_exponent, plan_of, arm_names, low_of, high_of, AreDrawn, IsAsk, AreAsks};
-ghost use Rattle.srm_timers.specs.AskCalls.{AskCall, Gained, ask_timer, sets, ask_plan, first_exponent, found_plan, again_plan, AskFits, AskAdds, AskBacksOff, AskRuns, AskNext, AskDue, AskedFirst, AskedAgain, AskStays, HaveNoTimer, AskReady, AnswerReady, AskHolds};
+ghost use Rattle.srm_timers.specs.Arms.{backs_off, next_exponent, plan_of, arm_names, low_of, high_of, AreDrawn, IsAsk, AreAsks, AreOfMembers};
+ghost use Rattle.srm_timers.specs.declared.arm.ArmKind.TheVariants.{Ask};
+ghost use Rattle.srm_timers.specs.AskCalls.{AskCall, Gained, ask_timer, sets, ask_plan, first_exponent, found_plan, again_plan, AskFits, AskAdds, AskBacksOff, AskRuns, AskNext, AskDue, AskedFirst, AskedAgain, AskStays, AskReady, AnswerReady, AskHolds};
 ghost use Rattle.srm_timers.specs.Deadlines.{DueAmong, DueFit};
 ghost use Rattle.srm_timers.specs.Distances.{distance_to, AreDistances};
 ghost use Rattle.srm_timers.specs.Ends.{AreShort};
-ghost use Rattle.srm_timers.specs.Places.{value_at, has_place};
+ghost use Rattle.srm_timers.specs.Places.{value_at, has_place, Keeps};
 
 use crate::arm::{Arm, ArmKind, Armed};
 use crate::by_name::ByName;
@@ -79,6 +80,7 @@ impl<D: Deadlines> Asks<D> {
     /// needs `set_all` memory for them. No timer changes. Only want of memory refuses it.
     pub fn room(&mut self, names: &[Name]) -> Result<(), TimerFault>
         ensures kept { AskStays self.old self.new }
+        ensures ends { Keeps self.old.ends.places self.new.ends.places }
         ensures held { AskHolds self.old self.new }
         ensures list { self.old.list ≤ self.new.list }
         ensures ready { OnOk result (AnswerReady names.now self.new) }
@@ -94,6 +96,7 @@ impl<D: Deadlines> Asks<D> {
     fn room_to_set(&mut self, names: &[Name]) -> Result<(), AllocError>
         ensures kept { AskStays self.old self.new }
         ensures timers { (n : FullName) → value_at self.new.timers n ≡ value_at self.old.timers n }
+        ensures ends { Keeps self.old.ends.places self.new.ends.places }
         ensures c1 { self.new.c1 ≡ self.old.c1 }
         ensures c2 { self.new.c2 ≡ self.old.c2 }
         ensures list { self.new.list ≡ self.old.list }
@@ -119,10 +122,9 @@ impl<D: Deadlines> Asks<D> {
         Ok(mem::replace(&mut self.list, Vec::new(self.alloc)))
     }
 
-    /// Names were found missing, which rise and have no timer: their timers are set. The exponent is 1 for a name
-    /// among `asked`, those for which a request was heard, and else 0. Only want of memory refuses it, and then for
-    /// all of the names.
-    #[tactic(auto, using(crate::proofs::AskSteps::sets_after, crate::proofs::AskSteps::found_rise))]
+    /// Names were found missing, which rise: their timers are set. The exponent is 1 for a name among `asked`, those for
+    /// which a request was heard, and else 0. Only want of memory refuses it, and then for all of the names.
+    #[tactic(auto, using(crate::proofs::AskSteps::sets_after, crate::proofs::AskSteps::found_rise, crate::proofs::Fitting::as_many))]
     pub fn detect<W: Words>(
         &mut self,
         names: &[Name],
@@ -132,11 +134,11 @@ impl<D: Deadlines> Asks<D> {
         words: &mut W,
     ) -> Result<Vec<Arm>, TimerFault>
         requires rising { ascending name_below names.now ≡ true }
-        requires fresh { HaveNoTimer names.now self.old }
         requires distances { AreDistances dist.now }
         requires now { now ≤ MOMENT }
         ensures fits { IfOk result (λ arms. AskAdds (sets now arms.items) self.old self.new) }
         ensures arms { IfOk result (λ arms. AskedFirst names.now asked.now dist.now arms.items) }
+        ensures few { IfOk result (λ arms. length arms.items ≤ length names.now) }
         ensures drawn { IfOk result (λ arms. AreDrawn W.draw (low_of self.old.c1) (high_of self.old.c1 self.old.c2) words.old arms.items words.new) }
         ensures kept { OnErr result (AskStays self.old self.new) }
         ensures undrawn { OnErr result (words.new ≡ words.old) }
@@ -192,6 +194,7 @@ impl<D: Deadlines> Asks<D> {
         ensures fits { AskAdds (sets now (option_to_list result)) self.old self.new }
         ensures arm { (c1 c2 : ℕ) (calls : List AskCall) → AskFits c1 c2 calls self.old
             → option_map plan_of result ≡ option_map (ask_plan name (distance_to dist.now name.stream.source)) (backs_off now (ask_timer calls name)) }
+        ensures kind { IfSome result (λ arm. arm.kind ≡ Ask) }
         ensures drawn { AreDrawn W.draw (low_of self.old.c1) (high_of self.old.c1 self.old.c2) words.old (option_to_list result) words.new }
         ensures held { AskHolds self.old self.new }
         ensures list { self.new.list ≡ self.old.list }
@@ -222,6 +225,8 @@ impl<D: Deadlines> Asks<D> {
     #[tactic(auto, using(crate::proofs::AskSteps::due_is))]
     pub fn pending(&self, now: u64, names: Vec<Name>) -> Result<Vec<Name>, TimerFault>
         ensures due { IfOk result (λ names. AskDue now self.now names.items) }
+        ensures among { IfOk result (λ names. DueAmong now self.now.ends.places names.items) }
+        ensures rising { IfOk result (λ names. ascending name_below names.items ≡ true) }
         ensures room { DueFit now self.now.ends.places (vec_capacity names) → IsOk result }
     {
         let mut names = names;
@@ -231,7 +236,7 @@ impl<D: Deadlines> Asks<D> {
 
     /// The timers that have run out are set again, each one exponent higher; their names are the ones to ask for now.
     /// Only want of memory refuses it.
-    #[tactic(auto, using(crate::proofs::AskSteps::sets_then, crate::proofs::AskSteps::again_rise, crate::proofs::AskSteps::due_runs, crate::proofs::AskSteps::stays_kept, crate::proofs::AskSteps::keeps_self, crate::proofs::Fitting::due_no_more))]
+    #[tactic(auto, using(crate::proofs::AskSteps::sets_then, crate::proofs::AskSteps::again_rise, crate::proofs::AskSteps::due_runs, crate::proofs::AskSteps::stays_kept, crate::proofs::AskSteps::keeps_self, crate::proofs::Fitting::due_no_more, crate::proofs::Fitting::no_more_arms, crate::proofs::AskSteps::asked_again))]
     pub fn due<W: Words>(
         &mut self,
         now: u64,
@@ -242,6 +247,9 @@ impl<D: Deadlines> Asks<D> {
         requires now { now ≤ MOMENT }
         ensures fits { IfOk result (λ arms. AskAdds (sets now arms.items) self.old self.new) }
         ensures arms { IfOk result (λ arms. AskedAgain now dist.now self.old arms.items) }
+        ensures few { IfOk result (λ arms. (names : List FullName) → DueAmong now self.old.ends.places names → length arms.items ≤ length names) }
+        ensures kinds { IfOk result (λ arms. AreAsks arms.items) }
+        ensures members { IfOk result (λ arms. AreOfMembers arms.items) }
         ensures drawn { IfOk result (λ arms. AreDrawn W.draw (low_of self.old.c1) (high_of self.old.c1 self.old.c2) words.old arms.items words.new) }
         ensures kept { OnErr result (AskStays self.old self.new) }
         ensures undrawn { OnErr result (words.new ≡ words.old) }
@@ -271,6 +279,7 @@ impl<D: Deadlines> Asks<D> {
         requires timers { (n : FullName) → among names.now n ≡ true → IsSome (value_at self.now.timers n) }
         requires distances { AreDistances dist.now }
         ensures plans { map plan_of result.items ≡ map (again_plan dist.now (value_at self.now.timers)) names.now }
+        ensures members { AreOfMembers result.items }
         ensures drawn { AreDrawn W.draw (low_of self.now.c1) (high_of self.now.c1 self.now.c2) words.old result.items words.new }
         ensures asks { AreAsks result.items }
         ensures short { AreShort result.items }

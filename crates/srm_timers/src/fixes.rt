@@ -1,14 +1,14 @@
 //! When a member answers others.
 
-ghost use Rattle.std.specs.Prelude.{◌≡◌, ◌≤◌, ◌+◌, ◌*◌, List, [], ◌∷◌, true, not, ◌&&◌, option_to_list, vec_capacity, IfOk, OnOk, OnErr, IsOk};
+ghost use Rattle.std.specs.Prelude.{◌≡◌, ◌≤◌, ◌+◌, ◌*◌, List, [], ◌∷◌, true, not, ◌&&◌, option_to_list, vec_capacity, IfOk, OnOk, OnErr, IsOk, IfSome};
 ghost use Rattle.srm_names.specs.FullName.{FullName};
 ghost use Rattle.srm_names.specs.Names.{ascending, name_below};
-ghost use Rattle.srm_timers.specs.Arms.{plan_of, arm_names, low_of, high_of, AreDrawn, IsFix, AreFixes};
-ghost use Rattle.srm_timers.specs.FixCalls.{Asked, Repaired, sets_fix, fix_plan, FixFits, FixAdds, FixRepairs, FixDue, FixNext, FixIsFree, FixFirstAsker, FixAnswers, FixStays, FixPlace, FixPlaces, FixReady, FixHolds, HoldsOff, HoldAllOff, asker_at};
+ghost use Rattle.srm_timers.specs.Arms.{plan_of, arm_names, low_of, high_of, AreDrawn, IsFix, AreFixes, setting};
+ghost use Rattle.srm_timers.specs.FixCalls.{Asked, Repaired, sets_fix, fix_plan, FixFits, FixAdds, FixRepairs, FixDue, FixNext, FixIsFree, FixFirstAsker, FixAnswers, FixStays, FixPlace, FixPlaces, FixReady, FixHolds, HoldsOff, HoldAllOff, asker_at, fix_setting};
 ghost use Rattle.srm_timers.specs.Deadlines.{DueAmong, DueFit};
 ghost use Rattle.srm_timers.specs.Distances.{distance_to, AreDistances};
 ghost use Rattle.srm_timers.specs.Ends.{HaveRoom, AreShort};
-ghost use Rattle.srm_timers.specs.Places.{has_place, HasPlaces, Holds};
+ghost use Rattle.srm_timers.specs.Places.{has_place, HasPlaces, Holds, Keeps};
 
 use crate::arm::{Arm, ArmKind};
 use crate::by_name::ByName;
@@ -77,6 +77,7 @@ impl<D: Deadlines> Fixes<D> {
     /// refused at which no other names are due. Nothing else changes. Only want of memory refuses it.
     pub fn room(&mut self, names: &[Name]) -> Result<(), TimerFault>
         ensures kept { FixStays self.old self.new }
+        ensures ends { Keeps self.old.ends.places self.new.ends.places }
         ensures held { FixHolds self.old self.new }
         ensures ready { OnOk result (FixReady names.now self.new) }
     {
@@ -103,6 +104,7 @@ impl<D: Deadlines> Fixes<D> {
     #[tactic(auto, using(crate::proofs::FixSteps::fix_stays, crate::proofs::AskSteps::keeps_self))]
     fn make_places(&mut self, names: &[Name]) -> Result<(), AllocError>
         ensures kept { FixStays self.old self.new }
+        ensures ends { Keeps self.old.ends.places self.new.ends.places }
         ensures held { FixHolds self.old self.new }
         ensures d1 { self.new.d1 ≡ self.old.d1 }
         ensures d2 { self.new.d2 ≡ self.old.d2 }
@@ -130,6 +132,7 @@ impl<D: Deadlines> Fixes<D> {
         requires now { now ≤ MOMENT }
         ensures fits { IfOk result (λ arm. FixAdds (Asked name from ∷ sets_fix now (option_to_list arm)) self.old self.new) }
         ensures arm { IfOk result (FixAnswers name (distance_to dist.now from) held now self.old) }
+        ensures setting { IfOk result (λ arm. IfSome arm (λ a. setting a ≡ fix_setting (distance_to dist.now from))) }
         ensures drawn { IfOk result (λ arm. AreDrawn W.draw (low_of self.old.d1) (high_of self.old.d1 self.old.d2) words.old (option_to_list arm) words.new) }
         ensures kept { OnErr result (FixStays self.old self.new) }
         ensures undrawn { OnErr result (words.new ≡ words.old) }
@@ -172,6 +175,8 @@ impl<D: Deadlines> Fixes<D> {
     #[tactic(auto, using(crate::proofs::FixSteps::fix_due_is))]
     pub fn pending(&self, now: u64, names: Vec<Name>) -> Result<Vec<Name>, TimerFault>
         ensures due { IfOk result (λ names. FixDue now self.now names.items) }
+        ensures among { IfOk result (λ names. DueAmong now self.now.ends.places names.items) }
+        ensures rising { IfOk result (λ names. ascending name_below names.items ≡ true) }
         ensures room { DueFit now self.now.ends.places (vec_capacity names) → IsOk result }
     {
         let mut names = names;

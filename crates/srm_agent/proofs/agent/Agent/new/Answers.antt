@@ -1,9 +1,9 @@
 use Rattle.std.proofs.Common.{refl, subst, []}
 use Rattle.srm_distance.specs.Fits as distances
-use Rattle.srm_agent.proofs.Begins.{fits_begins, asks_with, fixes_with, bucket_with}
+use Rattle.srm_agent.proofs.Begins.{fits_begins, bucket_with}
 use Rattle.srm_agent.proofs.agent.Agent.new.Goals as goal
 
-pub returns : goal.returns
-returns g c = fits_begins c.args.config c.args.now _ refl refl refl c.first_page.ensures c.in_ok-new.ensures c.in_ok-empty_feeds.ensures c.in_ok-new-2.ensures
+pub returns-clause-fits : goal.returns-clause-fits
+returns-clause-fits g c = fits_begins c.args.config c.args.now _ refl refl refl c.first_page.ensures c.in_ok-new.ensures c.in_ok-empty_feeds.ensures c.in_ok-new-2.ensures
     (subst (λ m. distances.Fits m [] c.new-3.result) c.me.ensures c.new-3.ensures.fits)
-    (asks_with c.c1.ensures.value c.c2.ensures.value c.new-5.ensures) (fixes_with c.d1.ensures.value c.d2.ensures.value c.new-7.ensures) (bucket_with c.rate.ensures.value c.depth.ensures.value c.new-8.ensures) refl
+    c.new-4.ensures.fits (bucket_with c.rate.ensures.value c.depth.ensures.value c.new-5.ensures) refl

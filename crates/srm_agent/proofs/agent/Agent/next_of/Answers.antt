@@ -1,5 +1,5 @@
-use Rattle.std.proofs.Common.{sym, ◌∙◌, subst, ap}
-use Rattle.std.specs.Prelude.{Some, None}
+use Rattle.std.proofs.Common.{sym, ◌∙◌, ap}
+use Rattle.std.specs.Prelude.{Some}
 use Rattle.std.specs.Option.{option_copied}
 use Rattle.srm_agent.proofs.Nexting.{draw_is_next, leave_is_next, nothing_is_next}
 use Rattle.srm_agent.proofs.agent.Agent.next_of.Goals as goal

@@ -1,10 +1,10 @@
-use Rattle.std.proofs.Common.{sym, ◌∙◌, subst, ap, arith, ◌<◌, ◌≤◌}
+use Rattle.std.proofs.Common.{ap, arith}
 use Rattle.srm_agent.specs.Configs.{Config}
 use Rattle.srm_agent.proofs.Nexting.{of_some, one_more_none}
 use Rattle.srm_agent.proofs.agent.Agent.next_on.Goals as goal
 
 pub returns-in-Some : goal.returns-in-Some
-returns-in-Some g c = λ s made past given h f. of_some s past c.args.page.now given c.member-source.result c.in_ok-message.field-0 c.in-Some.message c.in-Some.is (c.in_ok-message.ensures s made past given h f)
+returns-in-Some g c = λ s made past given h f. of_some s past c.args.page.now given c.loop-number.number c.member-source.result c.in_ok-message.field-0 c.in-Some.message c.in-Some.is c.member-source.ensures (c.loop-number.invariant.none s made past given h f) (c.in_ok-message.ensures s made past given h f)
 
 pub loop-number-preserved : goal.loop-number-preserved
 loop-number-preserved g c = record {

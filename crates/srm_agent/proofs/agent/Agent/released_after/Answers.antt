@@ -1,7 +1,4 @@
-use Rattle.std.proofs.Common.{sym, ◌∙◌, subst, ap, ◌≤◌, ◌<◌, length}
-use Rattle.std.specs.Prelude.{None}
-use Rattle.srm_store.specs.Held as store
-use Rattle.srm_agent.specs.Fits.{Fits}
+use Rattle.std.proofs.Common.{subst, ◌≤◌, ◌<◌}
 use Rattle.srm_agent.specs.Entries.{held, shown_to_exist}
 use Rattle.srm_agent.specs.Verdicts.{settlings}
 use Rattle.srm_agent.proofs.Nexting.{released_at, none_released}

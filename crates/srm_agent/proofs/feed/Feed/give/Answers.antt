@@ -1,7 +1,5 @@
-use Rattle.std.proofs.Common.{◌≡◌, true, ap, sym, ◌∙◌, subst, ◌++◌, ◌∷◌, []}
-use Rattle.srm_names.specs.declared.page_msg.PageMsg.{PageMsg}
+use Rattle.std.proofs.Common.{◌∙◌}
 use Rattle.srm_names.specs.declared.page_msg.PageMsg.TheVariants.{Open, Draw, Left, Close}
-use Rattle.srm_names.specs.PageFeeds.{continues}
 use Rattle.srm_agent.proofs.FeedSteps.{opens, draws, leaving, closes, given_as}
 use Rattle.srm_agent.proofs.feed.Feed.give.Goals as goal
 

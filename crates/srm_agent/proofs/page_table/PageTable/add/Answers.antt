@@ -1,5 +1,4 @@
-use Rattle.std.proofs.Common.{◌≡◌, false, sym, ap, ◌∙◌, subst, arith}
-use Rattle.std.specs.Prelude.{IsOk, Result}
+use Rattle.std.proofs.Common.{◌≡◌, false, sym, ◌∙◌, subst, arith}
 use Rattle.srm_agent.specs.PageTables.{IsTable, lacks_room}
 use Rattle.srm_agent.proofs.Listing.{table_more, with_page_new, with_page_there, looked, when_ok, room_for_one}
 use Rattle.srm_agent.proofs.page_table.PageTable.add.Goals as goal

@@ -1,16 +1,17 @@
-use Rattle.std.proofs.Common.{refl, sym, subst, ap, arith, ◌∙◌, ◌++◌, ◌≡◌, ℕ, ◌-◌, true}
+use Rattle.std.proofs.Common.{refl, sym, subst, ap, arith, length, ◌∙◌, ◌++◌, ◌≡◌, ℕ, ◌-◌, true}
 use Rattle.srm_names.specs.declared.stream.Stream.{Stream}
 use Rattle.srm_store.specs.Fits.{Fits}
 use Rattle.srm_store.specs.Inside.{store_of}
-use Rattle.srm_store.specs.Stores.{StoreContent, StaysReady}
+use Rattle.srm_store.specs.Stores.{StoreContent, StaysReady, KeepsSlots}
 use Rattle.srm_store.specs.Held.{names_after, overflows}
 use Rattle.srm_store.specs.Rows.{RowContent, row_unheld}
 use Rattle.srm_store.specs.declared.fault.StoreFault.TheVariants.{Memory}
 use Rattle.srm_store.proofs.Faults.{err_is, same_fault, no_page_limit}
-use Rattle.srm_store.specs.Tables.{slot_of}
+use Rattle.srm_store.specs.Tables.{slot_of, with_pages}
 use Rattle.srm_store.proofs.Fitting.{fits_learns, full_overflows, overflows_full}
 use Rattle.srm_store.proofs.Reading.{newly_here}
 use Rattle.srm_store.proofs.Rooming.{ready_learns}
+use Rattle.srm_store.proofs.Seating.{slot_left, keeps_slots}
 use Rattle.srm_store.proofs.store.Store.evidence.Goals as goal
 
 pub returns-in_err-slot_for-clause-limit : goal.returns-in_err-slot_for-clause-limit
@@ -49,3 +50,14 @@ pub returns-clause-ready : goal.returns-clause-ready
 returns-clause-ready c =
     let after : StoreContent = record { table = c.learn.new.self; rooms = c.take-list.new.self; finals = c.self.inside.finals } in
     subst (λ (s : StoreContent). StaysReady s after) c.self.view_is (ready_learns (store_of c.self.inside) after c.args.name c.learn.ensures.learns c.learn.ensures.still c.take-list.ensures.others)
+
+pub returns-in_err-slot_for-clause-slot : goal.returns-in_err-slot_for-clause-slot
+returns-in_err-slot_for-clause-slot c = λ pages there had e.
+    let few = ap (λ (s : StoreContent). length (with_pages s.table.pages pages)) c.self.view_is in
+    let full = ap (λ (s : Stream). slot_of c.self.inside.table.pages s.page) (sym c.stream-stream.ensures) ∙ c.in_err-slot_for.ensures.limit.0 refl in
+    absurd (omega (arith, full, slot_left c.self.inside.table.pages c.args.name.stream.page pages there (omega (arith, few, had.few))))
+
+pub returns-clause-slots : goal.returns-clause-slots
+returns-clause-slots c =
+    let after : StoreContent = record { table = c.learn.new.self; rooms = c.take-list.new.self; finals = c.self.inside.finals } in
+    subst (λ (s : StoreContent). KeepsSlots c.args.name.stream.page s after) c.self.view_is (keeps_slots (store_of c.self.inside) after c.args.name.stream.page c.learn.ensures.learns.pages)

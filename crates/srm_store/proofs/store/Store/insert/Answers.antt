@@ -1,8 +1,13 @@
-use Rattle.std.proofs.Common.{refl, sym, subst}
+use Rattle.std.proofs.Common.{refl, sym, subst, ap, arith, length, Result, Ok, Err, OnOk, OnErr}
 use Rattle.std.proofs.lemmas.Result.{on_ok_weaker, on_err_weaker}
 use Rattle.srm_store.specs.Fits.{Fits}
 use Rattle.srm_store.specs.Inside.{store_of}
 use Rattle.srm_store.proofs.Fitting.{fits_gains, fits_same, same_finals, full_overflows, overflows_full}
+use Rattle.srm_store.specs.declared.fault.StoreFault.{StoreFault}
+use Rattle.srm_store.specs.declared.insert.Insert.{Insert}
+use Rattle.srm_store.specs.Tables.{with_pages, TableGains, SameTable}
+use Rattle.srm_store.specs.Stores.{StoreContent, KeepsSlots}
+use Rattle.srm_store.proofs.Seating.{slot_left, keeps_slots, keeps_slots_same}
 use Rattle.srm_store.proofs.store.Store.insert.Goals as goal
 
 pub returns-clause-fits : goal.returns-clause-fits
@@ -21,3 +26,17 @@ returns-clause-limit c = λ inserted shown settled h.
       λ e. full_overflows fits c.insert.ensures.few c.args.drawop.name.stream.page (c.insert.ensures.limit.0 e),
       λ over. c.insert.ensures.limit.1 (overflows_full fits c.insert.ensures.few c.args.drawop.name.stream.page over),
     )
+
+pub returns-clause-slot : goal.returns-clause-slot
+returns-clause-slot c = λ pages there had e.
+    let few = ap (λ (s : StoreContent). length (with_pages s.table.pages pages)) c.self.view_is in
+    absurd (omega (arith, c.insert.ensures.limit.0 e, few, slot_left c.self.inside.table.pages c.args.drawop.name.stream.page pages there (omega (arith, few, had.few))))
+
+pub returns-clause-slots : goal.returns-clause-slots
+returns-clause-slots c =
+    let after : StoreContent = record (store_of c.self.inside) { table = c.insert.new.self } in
+    subst (λ (s : StoreContent). KeepsSlots c.args.drawop.name.stream.page s after) c.self.view_is (go c.insert.result c.insert.ensures.ok c.insert.ensures.err)
+  where
+    go : (r : Result Insert StoreFault) → OnOk r (TableGains c.args.drawop c.self.inside.table c.insert.new.self) → OnErr r (SameTable c.self.inside.table c.insert.new.self) → KeepsSlots c.args.drawop.name.stream.page (store_of c.self.inside) (record (store_of c.self.inside) { table = c.insert.new.self })
+    go (Ok answer) gains same = keeps_slots _ _ _ gains.pages
+    go (Err fault) gains same = keeps_slots_same _ _ _ same.pages

@@ -1,15 +1,24 @@
-use Rattle.std.proofs.Common.{ap, arith}
-use Rattle.srm_store.specs.Finals.{FinalsContent}
-use Rattle.srm_store.proofs.Fitting.{still_fits_on}
-use Rattle.srm_store.proofs.Rooming.{ready_more}
+use Rattle.std.proofs.Common.{refl, sym, subst, map}
+use Rattle.srm_store.specs.declared.fault.StoreFault.TheVariants.{Memory}
+use Rattle.srm_store.specs.Held.{page_of_name}
+use Rattle.srm_store.specs.Fits.{Fits}
+use Rattle.srm_store.proofs.Faults.{err_is, no_page_limit}
+use Rattle.srm_store.proofs.Seating.{too_many, not_too_many}
 use Rattle.srm_store.proofs.store.Store.room.Goals as goal
 
-pub returns-in_err-room_for-clause-kept : goal.returns-in_err-room_for-clause-kept
-returns-in_err-room_for-clause-kept c = still_fits_on _ _ _ c.loop-name.invariant.kept c.in_err-room_for.ensures.kept
+pub returns-then-not-has_slots-clause-limit : goal.returns-then-not-has_slots-clause-limit
+returns-then-not-has_slots-clause-limit c = λ inserted shown settled h.
+    let fits = subst (Fits inserted shown settled) (sym c.self.view_is) h in
+    (λ e. too_many fits (map page_of_name c.args.names.now) (cc), λ over. refl)
 
-pub loop-name-preserved : goal.loop-name-preserved
-loop-name-preserved c = record {
-  kept = still_fits_on _ _ _ c.loop-name.invariant.kept c.in_ok-room_for.ensures.kept;
-  so_far = ready_more c.args.names.now c.loop-name.name-index c.name-item.result c.loop-name.self _ c.name-item.is (omega arith) c.loop-name.invariant.so_far c.in_ok-room_for.ensures.ready c.in_ok-room_for.ensures.ok;
-  settling = omega (arith, c.loop-name.invariant.settling, ap (λ (f : FinalsContent). f.room) c.in_ok-room_for.ensures.settling);
-}
+pub returns-in_err-make_room-clause-limit : goal.returns-in_err-make_room-clause-limit
+returns-in_err-make_room-clause-limit c = λ inserted shown settled h.
+    let fits = subst (Fits inserted shown settled) (sym c.self.view_is) h in (
+      λ e. absurd (no_page_limit c.from_residual.result (err_is c.from_residual.result Memory c.from_residual.ensures.1) e),
+      λ over. absurd (not_too_many fits (map page_of_name c.args.names.now) (cc) over),
+    )
+
+pub returns-clause-limit : goal.returns-clause-limit
+returns-clause-limit c = λ inserted shown settled h.
+    let fits = subst (Fits inserted shown settled) (sym c.self.view_is) h in
+    (λ e. absurd (cc), λ over. absurd (not_too_many fits (map page_of_name c.args.names.now) (cc) over))

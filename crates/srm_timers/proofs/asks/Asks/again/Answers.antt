@@ -1,10 +1,10 @@
 use Rattle.std.proofs.Common.{◌+◌, sym, ap, subst, ◌∙◌, arith}
-use Rattle.srm_timers.specs.Arms.{low_of, high_of, AreDrawn, AreAsks}
+use Rattle.srm_timers.specs.Arms.{low_of, high_of, AreDrawn, AreAsks, Plan, AreOfMembers}
 use Rattle.srm_timers.specs.AskCalls.{again_plan}
 use Rattle.srm_timers.specs.Distances.{distance_to}
 use Rattle.srm_timers.specs.Ends.{AreShort}
 use Rattle.srm_timers.specs.Places.{value_at}
-use Rattle.srm_timers.proofs.Arming.{plans_more, drawn_more, short_more, asks_more}
+use Rattle.srm_timers.proofs.Arming.{plans_more, drawn_more, short_more, asks_more, members_more}
 use Rattle.srm_timers.proofs.AskSteps.{ask_plan_is, again_is}
 use Rattle.srm_timers.proofs.asks.Asks.again.Goals as goal
 
@@ -19,6 +19,7 @@ loop-name-preserved g c =
           (drawn_more g.W.Words.draw _ _ c.args.words.now c.loop-name.words c.arm-arm.new.words c.loop-name.arms.items c.arm-arm.result c.loop-name.invariant.drawn c.arm-arm.ensures.drawn);
       asks = subst AreAsks (sym items) (asks_more c.loop-name.arms.items c.arm-arm.result c.loop-name.invariant.asks c.arm-arm.ensures.ask);
       short = subst AreShort (sym items) (short_more c.loop-name.arms.items c.arm-arm.result c.loop-name.invariant.short c.arm-arm.ensures.short);
+      members = subst AreOfMembers (sym items) (members_more c.name-item.result _ c.loop-name.arms.items c.arm-arm.result c.loop-name.invariant.members (ap (λ (p : Plan). p.name) c.arm-arm.ensures.plan) c.source.ensures c.distance_in.ensures.member);
       few = len ∙ ap (λ n. n + 1) c.loop-name.invariant.few;
       room = omega (arith, c.push.ensures.capacity, c.loop-name.invariant.room);
     }

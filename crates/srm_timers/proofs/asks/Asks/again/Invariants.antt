@@ -1,6 +1,6 @@
 use Rattle.std.proofs.Common.{◌≡◌, ◌≤◌, map, take, length}
 use Rattle.std.specs.Prelude.{vec_len, vec_capacity}
-use Rattle.srm_timers.specs.Arms.{plan_of, low_of, high_of, AreDrawn, AreAsks}
+use Rattle.srm_timers.specs.Arms.{plan_of, low_of, high_of, AreDrawn, AreAsks, AreOfMembers}
 use Rattle.srm_timers.specs.AskCalls.{again_plan}
 use Rattle.srm_timers.specs.Ends.{AreShort}
 use Rattle.srm_timers.specs.Places.{value_at}
@@ -12,6 +12,7 @@ invariant-loop-name g l = record {
   drawn : AreDrawn g.W.Words.draw (low_of l.self.c1) (high_of l.self.c1 l.self.c2) l.initial.words l.arms.items l.words;
   asks : AreAsks l.arms.items;
   short : AreShort l.arms.items;
+  members : AreOfMembers l.arms.items;
   few : vec_len l.arms ≡ l.name-index;
   room : length l.names ≤ vec_capacity l.arms;
 }

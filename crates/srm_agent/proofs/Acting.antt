@@ -1,0 +1,400 @@
+-- A tick of a member that isn't gone, from what is due to its entry.
+use Rattle.std.proofs.Common.{◌≡◌, ℕ, ◌+◌, ◌==◌, ◌<◌, ◌≤◌, max, Bool, true, false, not, ◌||◌, List, [], ◌∷◌, ◌++◌, map, length, refl, ap, sym, ◌∙◌, subst, arith}
+use Rattle.std.specs.Prelude.{Option, Some, None, option_map, option_to_list, nat_le, IfSome, Ok, if◌then◌else◌}
+use Rattle.std.specs.List.{list_any, AllByRecursion}
+use Rattle.std.proofs.lemmas.List.{map-append}
+use Rattle.srm_codec.specs.declared.datagram.Datagram.{Datagram}
+use Rattle.srm_codec.specs.declared.datagram.Datagram.TheVariants.{Data, Request, Repair, Session}
+use Rattle.srm_timers.specs.declared.arm.Arm.{Arm}
+use Rattle.srm_timers.specs.Arms.{AreDrawn}
+use Rattle.srm_bucket.specs.declared.class.Class.TheVariants.{Shown, New, Other}
+use Rattle.srm_bucket.specs.Content.{Content as BucketContent}
+use Rattle.srm_bucket.specs.Fits.{Stays as BucketStays}
+use Rattle.srm_bucket.specs.Waiting.{Waiting, SameQueues, queue, count_of}
+use Rattle.srm_agent.specs.declared.agent.due.Due.{Due}
+use Rattle.srm_agent.specs.declared.agent.due.Report.{Report}
+use Rattle.srm_agent.specs.declared.answers.Answer.{Answer}
+use Rattle.srm_agent.specs.declared.entry.Entry.{Entry}
+use Rattle.srm_agent.specs.declared.entry.Input.TheVariants.{Ticked}
+use Rattle.srm_agent.specs.declared.out.Out.{Out}
+use Rattle.srm_agent.specs.declared.out.Outgoing.{Outgoing}
+use Rattle.srm_agent.specs.declared.state.AgentState.{AgentState}
+use Rattle.srm_agent.specs.declared.state.AgentState.TheVariants.{Active, Leaving, Gone}
+use Rattle.srm_agent.specs.Configs.{Config}
+use Rattle.srm_agent.specs.Contents.{Content}
+use Rattle.srm_agent.specs.Entries.{state, is_gone, is_leaving}
+use Rattle.srm_agent.specs.Timers.{low_of, high_of, TimersRight}
+use Rattle.srm_agent.specs.Sessions.{is_session, is_farewell, session_pause, IsReport, ending}
+use Rattle.srm_agent.specs.Runs.{state_due}
+use Rattle.srm_agent.specs.Fits.{Fits, TimersFit, BucketFits}
+use Rattle.srm_agent.specs.Outs.{IsOut, IsOutgoing, IsOwn, AreOwn}
+use Rattle.srm_agent.specs.TimerCalls.{TicksWith, TimersAdd, TimersStay}
+use Rattle.srm_agent.specs.Answering.{AreAnswers}
+use Rattle.srm_agent.specs.Outbox.{WentContent}
+use Rattle.srm_agent.specs.Noting.{Enters, Stays, AnswersAs, IsTicked}
+use Rattle.srm_agent.specs.Ticking.{tick_entry, IsReportAt, IsReportIf, IsDue, HandsOut, SendsAll, data_waits, last_report, state_after, due_then}
+use Rattle.srm_agent.proofs.Handing.{all-append}
+use Rattle.srm_agent.proofs.Ending.{ending_of, ending_is, EndsIn, NoSessions, charged_is, due_by}
+use Rattle.srm_agent.proofs.Sent.{bucket_ticks}
+use Rattle.srm_agent.proofs.Ticks.{IsSent, TickKeeps, TickRight, tick_fits}
+use Rattle.srm_agent.proofs.Unsent.{all_sent}
+
+-- room
+
+-- as many wait where the queues are the same
+pub count_same : {T : Type 0} (old new : Waiting T) → SameQueues old new → count_of new ≡ count_of old
+count_same old new same = rw (same Shown, same New, same Other) refl
+
+-- the message that ends a tick: for its answer, and for its entry
+abbrev pub out_of : Report → Out
+out_of r = r.outgoing.out
+
+abbrev pub noted_of : Report → Datagram
+noted_of r = r.outgoing.noted
+
+roomy : (c : Config) (past : List Entry) (old new : BucketContent Outgoing) → BucketStays old new → BucketFits c past old → BucketFits c past new
+roomy c past old new stays h = record { goings = h.goings; entries = h.entries; goes = h.goes; calls = h.calls; read = h.read; fits = stays.fits c.rate c.depth h.calls h.fits }
+
+-- want of memory: there is room in the bucket, the timers stay, and no word was drawn
+pub tick_stays : {W : Type 0} (a b d : Content W) → b ≡ record a { bucket = b.bucket } → BucketStays a.bucket b.bucket → d ≡ record b { timers = d.timers; words = d.words }
+    → TimersStay b.timers d.timers → d.words ≡ b.words → Stays a d
+tick_stays a b d room bucket rest timers words = record {
+  fits = λ c made past h. subst (Fits c made past) (sym rest) (subst (λ x. Fits c made past (record x { timers = d.timers; words = d.words })) (sym room) (record {
+    run = h.run;
+    config = h.config;
+    state = h.state;
+    last = h.last;
+    showing = h.showing;
+    pages = h.pages;
+    feeds = h.feeds;
+    store = h.store;
+    distances = h.distances;
+    timers = timers.each c past (subst (TimersFit c past) (sym (ap (λ x. x.timers) room)) h.timers);
+    bucket = roomy c past a.bucket b.bucket bucket h.bucket;
+    due = h.due;
+    own = h.own;
+    spelled = h.spelled;
+  }));
+  words = words ∙ ap (λ x. x.words) room;
+}
+
+-- all steps of a tick, from the agent as it was to the one after it
+pub record Acts {W : Type 0} (draw : W → ℕ × W) (a b d f z : Content W) (moment : ℕ) (due : Due) (arms : List Arm) (went : WentContent) (last : Option Report) (outs : List Datagram) : Type 0 where
+  pub here : is_gone a.state ≡ false
+  pub later : a.last ≤ moment
+  pub due_is : IsDue a moment due
+  pub room : b ≡ record a { bucket = b.bucket }
+  pub bucket : BucketStays a.bucket b.bucket
+  pub handed : HandsOut draw b due.handed moment arms d
+  pub handed_rest : d ≡ record b { timers = d.timers; words = d.words }
+  pub waited : AreOwn d.config.me d.config.session d.bucket.waiting
+  pub sent : SendsAll moment due.answers.items d.bucket f.bucket went
+  pub sent_rest : f ≡ record d { bucket = f.bucket }
+  pub last_is : last ≡ last_report (data_waits f.bucket) due.farewell due.report
+  pub ended : z ≡ record f { state = state_after (data_waits f.bucket) due.farewell f.state; last = moment; due = due_then last f.due }
+  pub outs_are : outs ≡ went.noted ++ option_to_list (option_map noted_of last)
+
+-- what goes under the rate
+
+went_sent : (me session : ℕ) (items : List Outgoing) → AllByRecursion (IsOwn me session) items → AllByRecursion (IsSent me) (map (λ (o : Outgoing). o.noted) items)
+went_sent me session [] own = tt
+went_sent me session (o ∷ items) own =
+    (subst (IsSent me) (sym own.0.spelled.noted) (record { sender = own.0.sender; spellable = own.0.spelled.out.spelled.fits }), went_sent me session items own.1)
+
+went_charged : (me session : ℕ) (items : List Outgoing) → AllByRecursion (IsOwn me session) items → NoSessions (map (λ (o : Outgoing). o.noted) items)
+went_charged me session [] own = tt
+went_charged me session (o ∷ items) own = (ap is_session own.0.spelled.noted ∙ own.0.charged, went_charged me session items own.1)
+
+-- what ends a tick
+
+each_last : (P : Report → Type 0) (waits : Bool) (farewell report : Option Report) → IfSome farewell P → IfSome report P → IfSome (last_report waits farewell report) P
+each_last P true farewell report p q = q
+each_last P false None report p q = q
+each_last P false (Some r) report p q = p
+
+if_some : {W : Type 0} (a : Content W) (moment : ℕ) (farewell : Bool) (P : Report → Type 0) → ((r : Report) → IsReportAt a moment farewell r → P r) → (wanted : Bool) (o : Option Report) → IsReportIf wanted a moment farewell o → IfSome o P
+if_some a moment farewell P each wanted None h = tt
+if_some a moment farewell P each wanted (Some r) h = each r h.1
+
+report_sent : {W : Type 0} (a : Content W) (moment : ℕ) (farewell : Bool) (r : Report) → IsReportAt a moment farewell r → IsSent a.config.me r.outgoing.noted
+report_sent a moment farewell r h = subst (IsSent a.config.me) (sym h.report.outgoing.noted) (record { sender = h.report.report.sender; spellable = h.report.report.spellable })
+
+report_next : {W : Type 0} (c : Config) (made : ℕ) (past : List Entry) (a : Content W) (moment : ℕ) (farewell : Bool) (r : Report) → Fits c made past a → IsReportAt a moment farewell r
+    → r.next ≡ moment + session_pause c past r.outgoing.noted
+report_next c made past a moment farewell r fits h = h.next c made past fits ∙ ap (λ g. moment + session_pause c past g) (sym h.report.outgoing.noted)
+
+report_is : {W : Type 0} (c : Config) (made : ℕ) (past : List Entry) (a : Content W) (moment : ℕ) (farewell : Bool) (r : Report) → Fits c made past a → IsReportAt a moment farewell r → IsReport c past moment farewell r.outgoing.noted
+report_is c made past a moment farewell r fits h = subst (IsReport c past moment farewell) (sym h.report.outgoing.noted) (h.report.report.right c made past fits)
+
+report_leaves : {W : Type 0} (a : Content W) (moment : ℕ) (farewell : Bool) (r : Report) → IsReportAt a moment farewell r → is_farewell r.outgoing.noted ≡ farewell
+report_leaves a moment farewell r h = ap is_farewell h.report.outgoing.noted ∙ h.report.report.farewell
+
+report_ends : {W : Type 0} (c : Config) (made : ℕ) (past : List Entry) (a : Content W) (moment : ℕ) → Fits c made past a → (is_due : Bool) (report : Option Report) → IsReportIf is_due a moment false report
+    → EndsIn c past moment (if is_due then Some false else None) (option_map noted_of report)
+report_ends c made past a moment fits false None h = tt
+report_ends c made past a moment fits true None h = absurd (cc)
+report_ends c made past a moment fits false (Some r) h = absurd (let k : false ≡ true = h.0 in cc)
+report_ends c made past a moment fits true (Some r) h = report_is c made past a moment false r fits h.1
+
+ends_in : {W : Type 0} (c : Config) (made : ℕ) (past : List Entry) (a : Content W) (moment : ℕ) → Fits c made past a → (old : AgentState) (waits is_due : Bool) (farewell report : Option Report) → is_gone old ≡ false
+    → IsReportIf (is_leaving old) a moment true farewell → IsReportIf is_due a moment false report → EndsIn c past moment (ending_of old waits is_due) (option_map noted_of (last_report waits farewell report))
+ends_in c made past a moment fits Gone waits is_due farewell report here f r = absurd (cc)
+ends_in c made past a moment fits Active true is_due farewell report here f r = report_ends c made past a moment fits is_due report r
+ends_in c made past a moment fits Active false is_due None report here f r = report_ends c made past a moment fits is_due report r
+ends_in c made past a moment fits Active false is_due (Some x) report here f r = absurd (let k : false ≡ true = f.0 in cc)
+ends_in c made past a moment fits Leaving true is_due farewell report here f r = report_ends c made past a moment fits is_due report r
+ends_in c made past a moment fits Leaving false is_due None report here f r = absurd (let k : true ≡ false = f in cc)
+ends_in c made past a moment fits Leaving false is_due (Some x) report here f r = report_is c made past a moment true x fits f.1
+
+due_is_by : (c : Config) (past : List Entry) (moment old : ℕ) (last : Option Report) → IfSome last (λ r. r.next ≡ moment + session_pause c past r.outgoing.noted)
+    → due_then last old ≡ due_by c past moment old (option_map noted_of last)
+due_is_by c past moment old None h = refl
+due_is_by c past moment old (Some r) h = h
+
+-- the state after it
+
+no_farewell : (g : Datagram) → is_session g ≡ false → is_farewell g ≡ false
+no_farewell (Data d) h = refl
+no_farewell (Request s n m) h = refl
+no_farewell (Repair s d) h = refl
+no_farewell (Session s t f p r o) h = absurd (cc)
+
+only_last : (went : List Datagram) (o : Option Datagram) → NoSessions went → list_any is_farewell (went ++ option_to_list o) ≡ list_any is_farewell (option_to_list o)
+only_last [] o none = refl
+only_last (g ∷ gs) o none = ap (λ b. b || list_any is_farewell (gs ++ option_to_list o)) (no_farewell g none.0) ∙ only_last gs o none.1
+
+stays_here : (old : AgentState) → is_gone old ≡ false → old ≡ state_due old false (Some Ticked)
+stays_here Active h = refl
+stays_here Leaving h = refl
+stays_here Gone h = refl
+
+report_state : {W : Type 0} (a : Content W) (moment : ℕ) (old : AgentState) → is_gone old ≡ false → (is_due : Bool) (report : Option Report) → IsReportIf is_due a moment false report
+    → old ≡ state_due old (list_any is_farewell (option_to_list (option_map noted_of report))) (Some Ticked)
+report_state a moment old here is_due None h = stays_here old here
+report_state a moment old here is_due (Some r) h = stays_here old here ∙ ap (λ b. state_due old (b || false) (Some Ticked)) (sym (report_leaves a moment false r h.1))
+
+state_is : {W : Type 0} (a : Content W) (moment : ℕ) (old : AgentState) (waits is_due : Bool) (farewell report : Option Report) → is_gone old ≡ false
+    → IsReportIf (is_leaving old) a moment true farewell → IsReportIf is_due a moment false report
+    → state_after waits farewell old ≡ state_due old (list_any is_farewell (option_to_list (option_map noted_of (last_report waits farewell report)))) (Some Ticked)
+state_is a moment old true is_due None report here f r = report_state a moment old here is_due report r
+state_is a moment old true is_due (Some x) report here f r = report_state a moment old here is_due report r
+state_is a moment old false is_due None report here f r = report_state a moment old here is_due report r
+state_is a moment old false is_due (Some x) report here f r = ap (λ b. state_due old (b || false) (Some Ticked)) (sym (report_leaves a moment true x f.1))
+
+not_twice : (b : Bool) → not (not b) ≡ b
+not_twice true = refl
+not_twice false = refl
+
+-- the run with the entry
+
+acts_fits : {W : Type 0} (draw : W → ℕ × W) (a b d f z : Content W) (moment : ℕ) (due : Due) (arms : List Arm) (went : WentContent) (last : Option Report) (outs : List Datagram) (c : Config) (made : ℕ) (past : List Entry)
+    → Acts draw a b d f z moment due arms went last outs → Fits c made past a → Fits c made (past ++ tick_entry c.me moment due.handed.asks due.handed.fixes arms outs z.state ∷ []) z
+acts_fits draw a b d f z moment due arms went last outs c made past s h =
+    tick_fits c made moment past due.handed.asks due.handed.fixes arms outs z.state wanted went.noted o a z h keeps right refl (ap (λ x. x.last) s.ended)
+    (subst (TimersFit c (past ++ e ∷ [])) (sym same_timers) ticked.0.fits) (subst (BucketFits c (past ++ e ∷ [])) (sym (ap (λ x. x.bucket) s.ended)) in_bucket) due_right
+  where
+    waits : Bool
+    waits = data_waits f.bucket
+
+    is_due : Bool
+    is_due = nat_le a.due moment
+
+    wanted : Option Bool
+    wanted = ending_of a.state waits is_due
+
+    o : Option Datagram
+    o = option_map noted_of last
+
+    e : Entry
+    e = tick_entry c.me moment due.handed.asks due.handed.fixes arms outs z.state
+
+    d_config : d.config ≡ a.config
+    d_config = ap (λ x. x.config) s.handed_rest ∙ ap (λ x. x.config) s.room
+
+    d_bucket : d.bucket ≡ b.bucket
+    d_bucket = ap (λ x. x.bucket) s.handed_rest
+
+    same_timers : z.timers ≡ d.timers
+    same_timers = ap (λ x. x.timers) s.ended ∙ ap (λ x. x.timers) s.sent_rest
+
+    here : is_gone (state past) ≡ false
+    here = ap is_gone (sym h.state) ∙ s.here
+
+    before : Fits c made past b
+    before = subst (Fits c made past) (sym s.room) (record {
+      run = h.run;
+      config = h.config;
+      state = h.state;
+      last = h.last;
+      showing = h.showing;
+      pages = h.pages;
+      feeds = h.feeds;
+      store = h.store;
+      distances = h.distances;
+      timers = h.timers;
+      bucket = roomy c past a.bucket b.bucket s.bucket h.bucket;
+      due = h.due;
+      own = h.own;
+      spelled = h.spelled;
+    })
+
+    keeps : TickKeeps a z
+    keeps = record {
+      config = ap (λ x. x.config) s.ended ∙ ap (λ x. x.config) s.sent_rest ∙ ap (λ x. x.config) s.handed_rest ∙ ap (λ x. x.config) s.room;
+      showing = ap (λ x. x.showing) s.ended ∙ ap (λ x. x.showing) s.sent_rest ∙ ap (λ x. x.showing) s.handed_rest ∙ ap (λ x. x.showing) s.room;
+      pages = ap (λ x. x.pages) s.ended ∙ ap (λ x. x.pages) s.sent_rest ∙ ap (λ x. x.pages) s.handed_rest ∙ ap (λ x. x.pages) s.room;
+      feeds = ap (λ x. x.feeds) s.ended ∙ ap (λ x. x.feeds) s.sent_rest ∙ ap (λ x. x.feeds) s.handed_rest ∙ ap (λ x. x.feeds) s.room;
+      store = ap (λ x. x.store) s.ended ∙ ap (λ x. x.store) s.sent_rest ∙ ap (λ x. x.store) s.handed_rest ∙ ap (λ x. x.store) s.room;
+      distances = ap (λ x. x.distances) s.ended ∙ ap (λ x. x.distances) s.sent_rest ∙ ap (λ x. x.distances) s.handed_rest ∙ ap (λ x. x.distances) s.room;
+    }
+
+    ticks_with : TicksWith due.handed.asks due.handed.fixes moment arms e
+    ticks_with = record { ticked = refl; heard = refl; moment = refl; drawn = refl; arms = refl; asks = refl; fixes = refl }
+
+    ticked : TimersAdd c past e d.timers × TimersRight past e
+    ticked = s.handed.ticks.each c made past e before ticks_with here (s.due_is.handed.asks.each c past h.timers) (s.due_is.handed.fixes.each c past h.timers)
+
+    own : AllByRecursion (IsOwn d.config.me d.config.session) s.sent.lets.items
+    own = s.sent.lets.own d.config.me d.config.session (s.sent.hands.own d.config.me d.config.session s.waited
+        (subst (λ k. AllByRecursion (λ x. IsOwn k.me k.session x.item.value) due.answers.items) (sym d_config) s.due_is.answers.spelled.own))
+
+    me_is : d.config.me ≡ c.me
+    me_is = ap (λ k. k.me) d_config ∙ ap (λ k. k.me) h.config
+
+    each : AllByRecursion (IsSent c.me) went.noted
+    each = subst (AllByRecursion (IsSent c.me)) (sym s.sent.lets.noted) (subst (λ m. AllByRecursion (IsSent m) (map (λ (x : Outgoing). x.noted) s.sent.lets.items)) me_is (went_sent d.config.me d.config.session s.sent.lets.items own))
+
+    none : NoSessions went.noted
+    none = subst NoSessions (sym s.sent.lets.noted) (went_charged d.config.me d.config.session s.sent.lets.items own)
+
+    ends : EndsIn c past moment wanted o
+    ends = subst (λ l. EndsIn c past moment wanted (option_map noted_of l)) (sym s.last_is) (ends_in c made past a moment h a.state waits is_due due.farewell due.report s.here s.due_is.farewell s.due_is.report)
+
+    last_sent : AllByRecursion (IsSent c.me) (option_to_list o)
+    last_sent = listed last (subst (λ l. IfSome l (λ r. IsSent c.me r.outgoing.noted)) (sym s.last_is) (each_last (λ r. IsSent c.me r.outgoing.noted) waits due.farewell due.report
+        (if_some a moment true (λ r. IsSent c.me r.outgoing.noted) (λ r k. subst (λ m. IsSent m r.outgoing.noted) (ap (λ k. k.me) h.config) (report_sent a moment true r k)) (is_leaving a.state) due.farewell s.due_is.farewell)
+        (if_some a moment false (λ r. IsSent c.me r.outgoing.noted) (λ r k. subst (λ m. IsSent m r.outgoing.noted) (ap (λ k. k.me) h.config) (report_sent a moment false r k)) is_due due.report s.due_is.report)))
+      where
+        listed : (l : Option Report) → IfSome l (λ r. IsSent c.me r.outgoing.noted) → AllByRecursion (IsSent c.me) (option_to_list (option_map noted_of l))
+        listed None k = tt
+        listed (Some r) k = (k, tt)
+
+    due_right : z.due ≡ due_by c past moment a.due o
+    due_right = ap (λ x. x.due) s.ended ∙ ap (due_then last) (ap (λ x. x.due) s.sent_rest ∙ ap (λ x. x.due) s.handed_rest ∙ ap (λ x. x.due) s.room)
+        ∙ due_is_by c past moment a.due last (subst (λ l. IfSome l (λ r. r.next ≡ moment + session_pause c past r.outgoing.noted)) (sym s.last_is)
+        (each_last (λ r. r.next ≡ moment + session_pause c past r.outgoing.noted) waits due.farewell due.report
+        (if_some a moment true (λ r. r.next ≡ moment + session_pause c past r.outgoing.noted) (λ r k. report_next c made past a moment true r h k) (is_leaving a.state) due.farewell s.due_is.farewell)
+        (if_some a moment false (λ r. r.next ≡ moment + session_pause c past r.outgoing.noted) (λ r k. report_next c made past a moment false r h k) is_due due.report s.due_is.report)))
+
+    in_bucket : BucketFits c (past ++ e ∷ []) f.bucket
+    in_bucket = bucket_ticks c d.config.session past e d.bucket s.sent.handed f.bucket a.showing s.due_is.answers.datagrams due.answers.items went
+        (subst (BucketFits c past) (sym d_bucket) before.bucket) (subst (λ m. AreOwn m d.config.session d.bucket.waiting) me_is s.waited)
+        (subst (λ m. AreAnswers m d.config.session a.showing s.due_is.answers.datagrams due.answers.items) (ap (λ k. k.me) h.config) (subst (λ k. AreAnswers a.config.me k.session a.showing s.due_is.answers.datagrams due.answers.items) (sym d_config) s.due_is.answers.spelled))
+        h.showing s.sent.hands s.sent.lets
+        (record { ticked = refl; here = here; drawn = refl; answers_are = s.due_is.answers.value c made past h; charged_are = charged_is c past e wanted went.noted o none s.outs_are ends })
+
+    ending_right : ending c made past e ≡ wanted
+    ending_right = ending_is c made past e a.state waits is_due refl h.state
+        (not_twice (length (queue f.bucket.waiting New) == 0) ∙ sym (all_sent c (past ++ e ∷ []) f.bucket in_bucket)) (ap (λ n. nat_le n moment) h.due)
+
+    state_right : z.state ≡ state_due (state past) (list_any is_farewell outs) (Some Ticked)
+    state_right = ap (λ x. x.state) s.ended ∙ ap (state_after waits due.farewell) (ap (λ x. x.state) s.sent_rest ∙ ap (λ x. x.state) s.handed_rest ∙ ap (λ x. x.state) s.room)
+        ∙ state_is a moment a.state waits is_due due.farewell due.report s.here s.due_is.farewell s.due_is.report
+        ∙ ap (λ l. state_due a.state (list_any is_farewell (option_to_list (option_map noted_of l))) (Some Ticked)) (sym s.last_is)
+        ∙ ap (λ b. state_due a.state b (Some Ticked)) (sym (only_last went.noted o none)) ∙ ap (λ gs. state_due a.state (list_any is_farewell gs) (Some Ticked)) (sym s.outs_are)
+        ∙ ap (λ st. state_due st (list_any is_farewell outs) (Some Ticked)) h.state
+
+    right : TickRight c made past e wanted went.noted o
+    right = record {
+      moment = subst (λ n. n ≤ moment) h.last s.later;
+      arms = ticked.0.arms;
+      timers = ticked.1;
+      outs = s.outs_are;
+      each = each;
+      charged = none;
+      last = last_sent;
+      ending = ending_right;
+      ends = ends;
+      state = state_right;
+    }
+
+-- the entry of the tick
+pub acts_enters : {W : Type 0} (draw : W → ℕ × W) (a b d f z : Content W) (moment : ℕ) (due : Due) (arms arms' : List Arm) (went : WentContent) (last : Option Report) (outs : List Datagram) (e : Entry)
+    → Acts draw a b d f z moment due arms went last outs → arms' ≡ arms → e ≡ tick_entry z.config.me moment due.noted.asks due.noted.fixes arms' outs z.state → Enters draw (Some moment) Ticked a z e
+acts_enters draw a b d f z moment due arms arms' went last outs e s same is = record {
+  input_is = ap (λ x. x.input) is;
+  moment_is = ap (λ x. x.moment) is ∙ at_last a.last moment s.later;
+  fits = λ c made past h. subst (λ x. Fits c made (past ++ x ∷ []) z) (sym (is ∙ entry_is ∙ ap (λ k. tick_entry k.me moment due.handed.asks due.handed.fixes arms outs z.state) (z_config ∙ h.config))) (acts_fits draw a b d f z moment due arms went last outs c made past s h);
+  words = subst (λ as_. AreDrawn draw (low_of a.config) (high_of a.config) a.words as_ z.words) (sym (ap (λ x. x.effects.arms) is ∙ same))
+      (subst (λ w. AreDrawn draw (low_of a.config) (high_of a.config) a.words arms w) (sym (ap (λ x. x.words) s.ended ∙ ap (λ x. x.words) s.sent_rest))
+      (subst (λ k. AreDrawn draw (low_of k) (high_of k) a.words arms d.words) (ap (λ x. x.config) s.room) (subst (λ w. AreDrawn draw (low_of b.config) (high_of b.config) w arms d.words) (ap (λ x. x.words) s.room) s.handed.drawn)));
+}
+  where
+    at_last : (last moment : ℕ) → last ≤ moment → moment ≡ max moment last
+    at_last last moment late = omega (arith, late)
+
+    z_config : z.config ≡ a.config
+    z_config = ap (λ x. x.config) s.ended ∙ ap (λ x. x.config) s.sent_rest ∙ ap (λ x. x.config) s.handed_rest ∙ ap (λ x. x.config) s.room
+
+    entry_is : tick_entry z.config.me moment due.noted.asks due.noted.fixes arms' outs z.state ≡ tick_entry z.config.me moment due.handed.asks due.handed.fixes arms outs z.state
+    entry_is = ap (λ n. tick_entry z.config.me moment n.asks n.fixes arms' outs z.state) s.due_is.noted ∙ ap (λ as_. tick_entry z.config.me moment due.handed.asks due.handed.fixes as_ outs z.state) same
+
+-- what is answered
+
+sent_outs : (me session : ℕ) (items : List Outgoing) → AllByRecursion (IsOwn me session) items → map (λ (x : Out). x.datagram) (map (λ (o : Outgoing). o.out) items) ≡ map (λ (o : Outgoing). o.noted) items
+sent_outs me session [] own = refl
+sent_outs me session (o ∷ items) own = ap (λ g. g ∷ map (λ (x : Out). x.datagram) (map (λ (y : Outgoing). y.out) items)) (sym own.0.spelled.noted) ∙ ap (λ gs. o.noted ∷ gs) (sent_outs me session items own.1)
+
+sent_spelled : (me session : ℕ) (items : List Outgoing) → AllByRecursion (IsOwn me session) items → AllByRecursion (IsOut session) (map (λ (o : Outgoing). o.out) items)
+sent_spelled me session [] own = tt
+sent_spelled me session (o ∷ items) own = (own.0.spelled.out, sent_spelled me session items own.1)
+
+last_out : (session : ℕ) (last : Option Report) → IfSome last (λ r. IsOutgoing session r.outgoing) → map (λ (x : Out). x.datagram) (option_to_list (option_map out_of last)) ≡ option_to_list (option_map noted_of last)
+last_out session None h = refl
+last_out session (Some r) h = ap (λ g. g ∷ []) (sym h.noted)
+
+last_spelled : (session : ℕ) (last : Option Report) → IfSome last (λ r. IsOutgoing session r.outgoing) → AllByRecursion (IsOut session) (option_to_list (option_map out_of last))
+last_spelled session None h = tt
+last_spelled session (Some r) h = (h.out, tt)
+
+pub acts_answer : {W : Type 0} (draw : W → ℕ × W) (a b d f z : Content W) (moment : ℕ) (due : Due) (arms arms' : List Arm) (went : WentContent) (last : Option Report) (outs : List Datagram) (answered : List Out) (e : Entry)
+    → Acts draw a b d f z moment due arms went last outs → arms' ≡ arms → answered ≡ went.outs ++ option_to_list (option_map out_of last)
+    → e ≡ tick_entry z.config.me moment due.noted.asks due.noted.fixes arms' outs z.state
+    → AnswersAs (IsTicked a.config.session e) e.verdict (Ok (record { asks = due.handed.asks; fixes = due.handed.fixes; arms = arms; outs = answered; state = z.state }))
+acts_answer draw a b d f z moment due arms arms' went last outs answered e s same is_answered is =
+    subst (λ (x : Entry). AnswersAs (IsTicked a.config.session x) x.verdict (Ok (record { asks = due.handed.asks; fixes = due.handed.fixes; arms = arms; outs = answered; state = z.state }))) (sym is) (record {
+      asks = ap (λ n. n.asks) (sym s.due_is.noted);
+      fixes = ap (λ n. n.fixes) (sym s.due_is.noted);
+      arms = sym same;
+      outs = ap (map (λ (x : Out). x.datagram)) is_answered ∙ map-append (λ (x : Out). x.datagram) went.outs (option_to_list (option_map out_of last))
+          ∙ ap (λ xs. map (λ (x : Out). x.datagram) xs ++ map (λ (x : Out). x.datagram) (option_to_list (option_map out_of last))) s.sent.lets.outs
+          ∙ ap (λ gs. gs ++ map (λ (x : Out). x.datagram) (option_to_list (option_map out_of last))) (sent_outs d.config.me d.config.session s.sent.lets.items own ∙ sym s.sent.lets.noted)
+          ∙ ap (λ gs. went.noted ++ gs) (last_out a.config.session last ending) ∙ sym s.outs_are;
+      spelled = subst (AllByRecursion (IsOut a.config.session)) (sym is_answered) (all-append (IsOut a.config.session) went.outs (option_to_list (option_map out_of last))
+          (subst (AllByRecursion (IsOut a.config.session)) (sym s.sent.lets.outs) (subst (λ n. AllByRecursion (IsOut n) (map (λ (o : Outgoing). o.out) s.sent.lets.items)) (ap (λ k. k.session) d_config) (sent_spelled d.config.me d.config.session s.sent.lets.items own)))
+          (last_spelled a.config.session last ending));
+      state = refl;
+    })
+  where
+    d_config : d.config ≡ a.config
+    d_config = ap (λ x. x.config) s.handed_rest ∙ ap (λ x. x.config) s.room
+
+    own : AllByRecursion (IsOwn d.config.me d.config.session) s.sent.lets.items
+    own = s.sent.lets.own d.config.me d.config.session (s.sent.hands.own d.config.me d.config.session s.waited
+        (subst (λ k. AllByRecursion (λ x. IsOwn k.me k.session x.item.value) due.answers.items) (sym d_config) s.due_is.answers.spelled.own))
+
+    ending : IfSome last (λ r. IsOutgoing a.config.session r.outgoing)
+    ending = subst (λ l. IfSome l (λ r. IsOutgoing a.config.session r.outgoing)) (sym s.last_is) (each_last (λ r. IsOutgoing a.config.session r.outgoing) (data_waits f.bucket) due.farewell due.report
+        (if_some a moment true (λ r. IsOutgoing a.config.session r.outgoing) (λ r k. k.report.outgoing) (is_leaving a.state) due.farewell s.due_is.farewell)
+        (if_some a moment false (λ r. IsOutgoing a.config.session r.outgoing) (λ r k. k.report.outgoing) (nat_le a.due moment) due.report s.due_is.report))
+
+-- there is room for the answers, which are own
+pub room_to_send : {W : Type 0} (a b d : Content W) (answers count room : ℕ) → b ≡ record a { bucket = b.bucket } → SameQueues a.bucket.waiting b.bucket.waiting → d ≡ record b { timers = d.timers; words = d.words }
+    → count ≡ answers → count_of a.bucket.waiting + count < room → count_of d.bucket.waiting + answers < room
+room_to_send a b d answers count room is same rest counted less =
+    let k : count_of d.bucket.waiting ≡ count_of a.bucket.waiting = ap (λ x. count_of x.bucket.waiting) rest ∙ count_same a.bucket.waiting b.bucket.waiting same in
+    omega (arith, less, counted)
+
+pub own_to_send : {W : Type 0} (a b d : Content W) (answers : List Answer) → b ≡ record a { bucket = b.bucket } → d ≡ record b { timers = d.timers; words = d.words }
+    → AllByRecursion (λ x. IsOwn a.config.me a.config.session x.item.value) answers → AllByRecursion (λ x. IsOwn d.config.me d.config.session x.item.value) answers
+own_to_send a b d answers is rest own = subst (λ k. AllByRecursion (λ x. IsOwn k.me k.session x.item.value) answers) (sym (ap (λ x. x.config) rest ∙ ap (λ x. x.config) is)) own

@@ -1,0 +1,188 @@
+-- An agent after an entry in which a datagram was heard and taken.
+use Rattle.std.proofs.Common.{◌≡◌, ℕ, ◌≤◌, ◌==◌, max, Bool, true, false, ◌&&◌, List, [], ◌∷◌, ◌++◌, length, ◌+◌, refl, ap, sym, ◌∙◌, arith, append_assoc}
+use Rattle.std.specs.Prelude.{Some, filter, nat_lt, if◌then◌else◌, unwrap_or}
+use Rattle.std.specs.List.{flat_map, list_any, AllByRecursion, cons_option}
+use Rattle.std.proofs.lemmas.List.{append-nil, map-append}
+use Rattle.std.proofs.lemmas.List.Elements.{filter_map-append}
+use Rattle.std.proofs.lemmas.Bool.{or_parts, ltb-false, eq-eqb}
+use Rattle.srm_names.specs.declared.page.Page.{Page}
+use Rattle.srm_names.specs.declared.stream.Stream.{Stream}
+use Rattle.srm_names.specs.declared.drawop.Drawop.{Drawop}
+use Rattle.srm_names.specs.FullName.{FullName}
+use Rattle.srm_names.specs.Histories.{steps, last_of, greatest, firsts}
+use Rattle.srm_names.specs.Names.{first_page, same_page, same_stream}
+use Rattle.srm_names.proofs.Snoc.{steps-snoc, last_of-snoc}
+use Rattle.srm_names.proofs.Same.{same_stream-is}
+use Rattle.srm_codec.specs.declared.datagram.Datagram.{Datagram}
+use Rattle.srm_codec.specs.declared.datagram.Datagram.TheVariants.{Data, Request, Repair, Session}
+use Rattle.srm_codec.specs.Spelling.{names_in, is_drawop, IsSpellable}
+use Rattle.srm_store.specs.Held.{number_in}
+use Rattle.srm_store.specs.Fits as store
+use Rattle.srm_distance.specs.Fits as distances
+use Rattle.srm_timers.specs.declared.arm.Arm.{Arm}
+use Rattle.srm_agent.specs.declared.entry.Entry.{Entry}
+use Rattle.srm_agent.specs.declared.entry.Input.TheVariants.{Heard}
+use Rattle.srm_agent.specs.declared.entry.Verdict.TheVariants.{Done}
+use Rattle.srm_agent.specs.declared.state.AgentState.{AgentState}
+use Rattle.srm_agent.specs.declared.out.Outgoing.{Outgoing}
+use Rattle.srm_agent.specs.Configs.{Config}
+use Rattle.srm_agent.specs.Entries.{done, heard, is_gone, state, slots, pages_in, last_moment, held, shown_to_exist, known, drawn, drawops_in}
+use Rattle.srm_agent.specs.Distances.{distance_calls, calls_in, calls_of}
+use Rattle.srm_agent.specs.Timers.{TimersRight}
+use Rattle.srm_agent.specs.TimerCalls.{TimersAdd}
+use Rattle.srm_agent.specs.PageTables.{with_pages_of}
+use Rattle.srm_agent.specs.Verdicts.{verdict_of, settlings, settling_of, drawn_in, stream_on, is_past, is_beyond, final}
+use Rattle.srm_agent.specs.Sessions.{session_due, pause_after}
+use Rattle.srm_agent.specs.Bucket.{Going, GoesRight, bucket_calls}
+use Rattle.srm_agent.specs.Runs.{EntryRight}
+use Rattle.srm_agent.specs.Contents.{Content}
+use Rattle.srm_agent.specs.Fits.{Fits, BucketFits}
+use Rattle.srm_agent.specs.Heeding.{heard_entry}
+use Rattle.srm_bucket.specs.Content.{Content as BucketContent}
+use Rattle.srm_agent.proofs.Adding.{flat_map-snoc, known-snoc}
+use Rattle.srm_agent.proofs.Cutting.{bucket_calls-append}
+use Rattle.srm_agent.proofs.Listing.{firsts_more, firsts_again}
+use Rattle.srm_agent.proofs.Showing.{state-snoc, held-snoc, shown-snoc, drawn-snoc, hearing_fine}
+use Rattle.srm_agent.proofs.Running.{steps_more, last_moment-snoc, shown-page-snoc}
+use Rattle.srm_agent.proofs.Still.{same_feeds}
+
+-- what an agent keeps of a datagram that was heard and taken; its entry is e
+pub record Heeds {W : Type 0} (c : Config) (made : ℕ) (past : List Entry) (a b : Content W) (moment : ℕ) (g : Datagram) (e : Entry) : Type 0 where
+  pub fits : Fits c made past a
+  pub later : last_moment made past ≤ moment
+  pub here : is_gone (state past) ≡ false
+  pub taken : Done ≡ verdict_of c past (Heard g)
+  pub spellable : IsSpellable g
+  pub timers : TimersAdd c past e b.timers
+  pub store : store.Fits (held past ++ drawops_in (Some g)) (shown_to_exist past ++ names_in g) (settlings past ++ cons_option (settling_of (Some g)) []) b.store
+  pub distances : distances.Fits c.me (distance_calls c.me past ++ calls_of c.me moment (Some g)) b.distances
+  pub pages : b.pages ≡ with_pages_of a.pages (names_in g)
+  pub last : b.last ≡ moment
+  pub config : b.config ≡ a.config
+  pub state : b.state ≡ a.state
+  pub showing : b.showing ≡ a.showing
+  pub feeds : b.feeds ≡ a.feeds
+  pub bucket : b.bucket ≡ a.bucket
+  pub due : b.due ≡ a.due
+
+-- the entry is one that those before it allow
+
+no_timers : (past : List Entry) (me moment : ℕ) (g : Datagram) (arms : List Arm) (s : AgentState) → TimersRight past (heard_entry me moment g arms s)
+no_timers past me moment g arms s = record { asks = record { in_order = refl; exact = λ n. refl }; fixes = record { in_order = refl; exact = λ n. refl } }
+
+pub heard_right : {W : Type 0} (c : Config) (made : ℕ) (past : List Entry) (a b : Content W) (moment : ℕ) (g : Datagram) (arms : List Arm)
+    → Heeds c made past a b moment g (heard_entry c.me moment g arms a.state) → EntryRight c made (record { before = past; this = heard_entry c.me moment g arms a.state })
+heard_right c made past a b moment g arms h = record {
+  member = refl;
+  moment = h.later;
+  verdict = (h.here, h.taken);
+  drawn = refl;
+  arms = h.timers.arms;
+  timers = no_timers past c.me moment g arms a.state;
+  senders = tt;
+  spelled = tt;
+  read = h.spellable;
+  session = refl;
+  message = refl;
+  state = h.fits.state;
+}
+
+-- the pages, each where it was first named
+firsts_front : (xs ps : List Page) → firsts same_page (xs ++ ps) ≡ firsts same_page (firsts same_page xs ++ ps)
+firsts_front xs [] = ap (firsts same_page) (append-nil xs) ∙ sym (firsts_again xs) ∙ ap (firsts same_page) (sym (append-nil (firsts same_page xs)))
+firsts_front xs (p ∷ ps) =
+    ap (firsts same_page) (sym (append_assoc xs (p ∷ []) ps)) ∙ firsts_front (xs ++ p ∷ []) ps
+    ∙ ap (λ ys. firsts same_page (ys ++ ps)) (firsts_more xs p (firsts_again xs))
+    ∙ sym (firsts_front (firsts same_page xs ++ p ∷ []) ps) ∙ ap (firsts same_page) (append_assoc (firsts same_page xs) (p ∷ []) ps)
+
+slots-all : (past : List Entry) (e : Entry) → slots (past ++ e ∷ []) ≡ firsts same_page (slots past ++ pages_in (done e))
+slots-all past e =
+    ap (λ ps. firsts same_page (first_page ∷ ps)) (flat_map-snoc (λ (x : Entry). pages_in (done x)) past e)
+    ∙ firsts_front (first_page ∷ flat_map (λ (x : Entry). pages_in (done x)) past) (pages_in (done e))
+
+-- the bucket: nothing is handed in, and nothing goes
+bucket_stays : (c : Config) (past : List Entry) (moment : ℕ) (g : Datagram) (arms : List Arm) (s : AgentState) (b : BucketContent Outgoing)
+    → BucketFits c past b → BucketFits c (past ++ heard_entry c.me moment g arms s ∷ []) b
+bucket_stays c past moment g arms s b h = record {
+  goings = h.goings ++ going ∷ [];
+  entries = map-append (λ (x : Going). x.entry) h.goings (going ∷ []) ∙ ap (λ es. es ++ going.entry ∷ []) h.entries;
+  goes = steps_more GoesRight h.goings going h.goes (record { same = refl; at_ticks = refl });
+  calls = h.calls;
+  read = h.read ∙ sym (append-nil (bucket_calls c.me h.goings)) ∙ sym (bucket_calls-append c.me h.goings (going ∷ []));
+  fits = h.fits;
+}
+  where
+    going : Going
+    going = record { entry = heard_entry c.me moment g arms s; goes = [] }
+
+same_due : (c : Config) (made : ℕ) (past : List Entry) (moment : ℕ) (g : Datagram) (arms : List Arm) (s : AgentState) → session_due c made (past ++ heard_entry c.me moment g arms s ∷ []) ≡ session_due c made past
+same_due c made past moment g arms s =
+    ap (λ o. unwrap_or o (made + 1000000))
+    (ap (last_of (pause_after c)) (steps-snoc past (heard_entry c.me moment g arms s)) ∙ last_of-snoc (pause_after c) (steps past) (record { before = past; this = heard_entry c.me moment g arms s }))
+
+-- of this member's own streams no more is known than it drew
+own_within : (me : ℕ) (past : List Entry) (s : Stream) (k : ℕ) → s.source ≡ me → drawn_in past s ≡ k → (ns : List FullName) → list_any (is_beyond me past) ns ≡ false → greatest (flat_map (number_in s) ns) ≤ k
+own_within me past s k own drew [] none = omega arith
+own_within me past s k own drew (n ∷ ns) none =
+    let parts = or_parts (is_beyond me past n) (list_any (is_beyond me past) ns) none in
+    go (same_stream s n.stream) refl (own_within me past s k own drew ns parts.1) (or_parts (is_past n.number (final past n.stream)) ((n.stream.source == me) && nat_lt (drawn_in past n.stream) n.number) parts.0).1
+  where
+    go : (b : Bool) → same_stream s n.stream ≡ b → greatest (flat_map (number_in s) ns) ≤ k → ((n.stream.source == me) && nat_lt (drawn_in past n.stream) n.number) ≡ false
+        → greatest ((if b then n.number ∷ [] else []) ++ flat_map (number_in s) ns) ≤ k
+    go true e more within =
+        let same : n.stream ≡ s = sym (same_stream-is s n.stream e) in
+        let mine : (n.stream.source == me) ≡ true = eq-eqb n.stream.source me (ap (λ (t : Stream). t.source) same ∙ own) in
+        let l : nat_lt (drawn_in past n.stream) n.number ≡ false = sym (ap (λ b. b && nat_lt (drawn_in past n.stream) n.number) mine) ∙ within in
+        let m : n.number ≤ drawn_in past n.stream = ltb-false (drawn_in past n.stream) n.number l in
+        let d : drawn_in past n.stream ≡ k = ap (drawn_in past) same ∙ drew in
+        omega (arith, m, d, more)
+    go false e more within = more
+
+own_known : (k m : ℕ) → m ≤ k → max k m ≡ k
+own_known k m l = omega arith
+
+same_own : {W : Type 0} (c : Config) (made : ℕ) (past : List Entry) (a b : Content W) (moment : ℕ) (g : Datagram) (arms : List Arm) → Heeds c made past a b moment g (heard_entry c.me moment g arms a.state)
+    → (page : Page) → drawn_in (past ++ heard_entry c.me moment g arms a.state ∷ []) (stream_on c.me page) ≡ known (past ++ heard_entry c.me moment g arms a.state ∷ []) (stream_on c.me page)
+same_own c made past a b moment g arms h page =
+    let e : Entry = heard_entry c.me moment g arms a.state in
+    let none : list_any (is_beyond c.me past) (names_in g) ≡ false = (hearing_fine c made past e g (heard_right c made past a b moment g arms h) refl).not_beyond in
+    let drew : drawn_in past (stream_on c.me page) ≡ known past (stream_on c.me page) = h.fits.own page in
+    let less = own_within c.me past (stream_on c.me page) (known past (stream_on c.me page)) refl drew (names_in g) none in
+    let undrawn : drawn (past ++ e ∷ []) ≡ drawn past = drawn-snoc past e ∙ append-nil (drawn past) in
+    ap (λ ds. length (filter (λ (d : Drawop). same_stream (stream_on c.me page) d.name.stream) ds)) undrawn ∙ drew
+    ∙ sym (known-snoc past e (stream_on c.me page) ∙ ap (λ ns. max (known past (stream_on c.me page)) (greatest (flat_map (number_in (stream_on c.me page)) ns))) (append-nil (names_in g))
+    ∙ own_known (known past (stream_on c.me page)) (greatest (flat_map (number_in (stream_on c.me page)) (names_in g))) less)
+
+all_more : {X : Type 0} (P : X → Type 0) (xs ys : List X) → AllByRecursion P xs → AllByRecursion P ys → AllByRecursion P (xs ++ ys)
+all_more P [] ys h k = k
+all_more P (x ∷ xs) ys h k = (h.0, all_more P xs ys h.1 k)
+
+drawops_spelled : (g : Datagram) → IsSpellable g → AllByRecursion is_drawop (drawops_in (Some g))
+drawops_spelled (Data d) h = (h, tt)
+drawops_spelled (Repair s d) h = (h.1, tt)
+drawops_spelled (Request s n m) h = tt
+drawops_spelled (Session a b f p r x) h = tt
+
+pub heard_fits : {W : Type 0} (c : Config) (made : ℕ) (past : List Entry) (a b : Content W) (moment : ℕ) (g : Datagram) (arms : List Arm)
+    → Heeds c made past a b moment g (heard_entry c.me moment g arms a.state) → Fits c made (past ++ heard_entry c.me moment g arms a.state ∷ []) b
+heard_fits c made past a b moment g arms h =
+    let e : Entry = heard_entry c.me moment g arms a.state in
+    record {
+      run = steps_more (EntryRight c made) past e h.fits.run (heard_right c made past a b moment g arms h);
+      config = h.config ∙ h.fits.config;
+      state = h.state ∙ sym (state-snoc past e);
+      last = h.last ∙ sym (last_moment-snoc made past e ∙ clock (last_moment made past) moment h.later);
+      showing = h.showing ∙ h.fits.showing ∙ sym (shown-page-snoc past e);
+      pages = h.pages ∙ ap (λ ps. with_pages_of ps (names_in g)) h.fits.pages ∙ sym (slots-all past e);
+      feeds = rw h.feeds (same_feeds past e a.feeds (λ j. refl) h.fits.feeds);
+      store = rw (held-snoc past e, shown-snoc past e, filter_map-append (λ (x : Entry). settling_of (heard x)) past (e ∷ [])) h.store;
+      distances = rw (flat_map-snoc (calls_in c.me) past e) h.distances;
+      timers = h.timers.fits;
+      bucket = rw h.bucket (bucket_stays c past moment g arms a.state a.bucket h.fits.bucket);
+      due = h.due ∙ h.fits.due ∙ sym (same_due c made past moment g arms a.state);
+      own = same_own c made past a b moment g arms h;
+      spelled = rw (held-snoc past e) (all_more is_drawop (held past) (drawops_in (Some g)) h.fits.spelled (drawops_spelled g h.spellable));
+    }
+  where
+    clock : (l m : ℕ) → l ≤ m → max l (max m 0) ≡ m
+    clock l m k = omega (arith, k)

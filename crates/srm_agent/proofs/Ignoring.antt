@@ -1,0 +1,126 @@
+-- The entries of what is ignored: noise, and datagrams with a cause.
+use Rattle.std.proofs.Common.{◌≡◌, ◌≢◌, ℕ, ◌≤◌, max, Bool, true, false, not, ◌&&◌, inl, inr, List, [], ◌∷◌, refl, ap, sym, ◌∙◌, subst, arith}
+use Rattle.std.specs.Prelude.{Option, Some, None, Result, Ok, Err, IfOk, MatchBool, if◌then◌else◌}
+use Rattle.srm_names.specs.Histories.{greatest}
+use Rattle.srm_codec.specs.declared.datagram.Datagram.{Datagram}
+use Rattle.srm_codec.specs.declared.fault.DecodeFault.{DecodeFault}
+use Rattle.srm_codec.specs.declared.fault.DecodeFault.TheVariants as decoding
+use Rattle.srm_codec.specs.Judging.{judge}
+use Rattle.srm_codec.specs.Reading.{IsJudged}
+use Rattle.srm_agent.specs.declared.cause.Cause.{Cause}
+use Rattle.srm_agent.specs.declared.cause.Cause.TheVariants as causes
+use Rattle.srm_agent.specs.declared.state.AgentState.{AgentState}
+use Rattle.srm_agent.specs.declared.entry.Entry.{Entry}
+use Rattle.srm_agent.specs.declared.entry.Input.{Input}
+use Rattle.srm_agent.specs.declared.entry.Input.TheVariants.{Heard, Noise}
+use Rattle.srm_agent.specs.declared.entry.Verdict.TheVariants.{Done, Ignored}
+use Rattle.srm_agent.specs.Configs.{Config}
+use Rattle.srm_agent.specs.Causes.{ignored_for}
+use Rattle.srm_agent.specs.Entries.{is_tick, takes_moment, last_moment, is_gone, state}
+use Rattle.srm_agent.specs.Verdicts.{VerdictRight, verdict_of}
+use Rattle.srm_agent.specs.Giving.{MessageRight, given_in}
+use Rattle.srm_agent.specs.Hearing.{read_as}
+use Rattle.srm_agent.specs.Heeding.{IsJudgedBy, IsNoiseFor, IsTaken}
+use Rattle.srm_agent.specs.Contents.{Content}
+use Rattle.srm_agent.specs.Fits.{Fits}
+use Rattle.srm_agent.specs.Noting.{Enters, ReadsAs, still_entry}
+use Rattle.srm_agent.proofs.Running.{slots-same}
+use Rattle.srm_agent.proofs.Still.{still_fits, same_feeds}
+use Rattle.srm_agent.proofs.Entering.{of_member, later, moves_on}
+
+ignored_enters : {W : Type 0} (draw : W → ℕ × W) (a : Content W) (now moment : ℕ) (input : Input) (cause : Cause) (e : Entry) → e ≡ still_entry a.config.me moment input (Ignored cause) None a.state → moment ≡ max now a.last
+    → is_tick input ≡ false → takes_moment input ≡ true → ((j : ℕ) → given_in j input None ≡ None) → ((c : Config) (past : List Entry) → MessageRight c past input None)
+    → ((c : Config) (made : ℕ) (past : List Entry) → Fits c made past a → VerdictRight c past input (Ignored cause)) → Enters draw (Some now) input a (record a { last = moment }) e
+ignored_enters draw a now moment input cause e is at unticked takes ungiven message right = record {
+  input_is = ap (λ (x : Entry). x.input) is;
+  words = rw is refl;
+  moment_is = ap (λ (x : Entry). x.moment) is ∙ at;
+  fits = λ c made past h. of_member c made past a (record a { last = moment }) e (λ me. still_entry me moment input (Ignored cause) None a.state) h is
+      (still_fits c made past a (record a { last = moment }) moment input (Ignored cause) None a.state h
+      (record {
+        unheard = refl;
+        undrawn = refl;
+        idle = ap (λ b. b && not (is_gone (state past))) unticked;
+        moment_right = subst (λ (b : Bool). MatchBool b (last_moment made past ≤ moment) (moment ≡ last_moment made past)) (sym takes) (later c made past a now moment h at);
+        verdict_right = right c made past h;
+        message_right = message c past;
+        state_right = h.state;
+      })
+      (record { config = refl; store = refl; distances = refl; timers = refl; bucket = refl; due = refl }) refl
+      (subst (λ (b : Bool). moment ≡ max a.last (greatest (if b then moment ∷ [] else []))) (sym takes) (moves_on now a.last moment at)) refl (h.pages ∙ sym (slots-same past _ refl)) (same_feeds past _ a.feeds ungiven h.feeds));
+}
+
+abbrev pub ignored_entry : {W : Type 0} → Content W → ℕ → Input → Cause → Entry
+ignored_entry a moment input cause = still_entry a.config.me moment input (Ignored cause) None a.state
+
+-- to a gone agent all is noise
+pub gone_enters : {W : Type 0} (draw : W → ℕ × W) (a b : Content W) (now moment : ℕ) (e : Entry) → is_gone a.state ≡ true → b ≡ record a { last = moment } → e ≡ ignored_entry a moment Noise causes.Gone → moment ≡ max now a.last
+    → Enters draw (Some now) e.input a b e
+gone_enters draw a b now moment e gone new is at =
+    subst (λ x. Enters draw (Some now) x.input a b e) (sym is) (subst (λ x. Enters draw (Some now) Noise a x e) (sym new)
+    (ignored_enters draw a now moment Noise causes.Gone e is at refl refl (λ j. refl) (λ c past. refl) (λ c made past h. rw (ap is_gone (sym h.state) ∙ gone) refl)))
+
+pub gone_reads : {W : Type 0} (a : Content W) (moment : ℕ) (bytes : List ℕ) (e : Entry) → is_gone a.state ≡ true → e ≡ ignored_entry a moment Noise causes.Gone → ReadsAs bytes a e
+gone_reads a moment bytes e gone is = record { each = λ c made past h. rw (is, ap is_gone (sym h.state) ∙ gone) refl }
+
+pub noise_enters : {W : Type 0} (draw : W → ℕ × W) (a b : Content W) (moment : ℕ) (fault : DecodeFault) (e : Entry) → is_gone a.state ≡ false → a.last ≤ moment → fault ≢ decoding.Memory
+    → b ≡ record a { last = moment } → e ≡ ignored_entry a moment Noise (causes.Decode fault) → Enters draw (Some moment) Noise a b e
+noise_enters draw a b moment fault e here late other new is = subst (λ x. Enters draw (Some moment) Noise a x e) (sym new)
+    (ignored_enters draw a moment moment Noise (causes.Decode fault) e is (omega (arith, late)) refl refl (λ j. refl) (λ c past. refl) (λ c made past h. rw (ap is_gone (sym h.state) ∙ here) (fault, other, refl)))
+
+pub noise_is : (me moment : ℕ) (s : AgentState) (fault : DecodeFault) (cause : Cause) (e : Entry) → fault ≢ decoding.Memory → cause ≡ causes.Decode fault → e ≡ still_entry me moment Noise (Ignored cause) None s → IsNoiseFor fault e
+noise_is me moment s fault cause e other found is = record { input = ap (λ (x : Entry). x.input) is; verdict = ap (λ (x : Entry). x.verdict) is ∙ ap Ignored found; other = other }
+
+judged_fault : (fault : DecodeFault) (judged : Result Datagram DecodeFault) → fault ≢ decoding.Memory → IsJudged (Err fault) judged → judged ≡ Err fault
+judged_fault fault judged other (inl e) = e
+judged_fault fault judged other (inr e) = absurd (other e)
+
+pub noise_reads : {W : Type 0} (a : Content W) (session : ℕ) (bytes : List ℕ) (fault : DecodeFault) (e : Entry) → is_gone a.state ≡ false → session ≡ a.config.session
+    → IsJudged (Err fault) (judge session bytes) → IsNoiseFor fault e → ReadsAs bytes a e
+noise_reads a session bytes fault e here same judged noise = record {
+  each = λ c made past h.
+      let j : judge c.session bytes ≡ Err fault = ap (λ (s : Config). judge s.session bytes) (sym h.config) ∙ ap (λ n. judge n bytes) (sym same) ∙ judged_fault fault (judge session bytes) noise.other judged in
+      rw (noise.input, noise.verdict, ap is_gone (sym h.state) ∙ here, j) refl;
+}
+
+-- a datagram with a cause
+pub ignored_datagram : {W : Type 0} (draw : W → ℕ × W) (a b : Content W) (moment : ℕ) (g : Datagram) (cause : Cause) (o : Option Cause) (e : Entry) → is_gone a.state ≡ false → a.last ≤ moment → o ≡ Some cause
+    → ((c : Config) (made : ℕ) (past : List Entry) → Fits c made past a → ignored_for o ≡ verdict_of c past (Heard g))
+    → b ≡ record a { last = moment } → e ≡ ignored_entry a moment (Heard g) cause → Enters draw (Some moment) (Heard g) a b e
+ignored_datagram draw a b moment g cause o e here late found judged new is = subst (λ x. Enters draw (Some moment) (Heard g) a x e) (sym new)
+    (ignored_enters draw a moment moment (Heard g) cause e is (omega (arith, late)) refl refl (λ j. refl) (λ c past. refl)
+    (λ c made past h. (ap is_gone (sym h.state) ∙ here, ap ignored_for (sym found) ∙ judged c made past h)))
+
+pub ignored_judged : {W : Type 0} (a : Content W) (moment : ℕ) (g : Datagram) (cause : Cause) (o : Option Cause) (e : Entry) → o ≡ Some cause
+    → ((c : Config) (made : ℕ) (past : List Entry) → Fits c made past a → ignored_for o ≡ verdict_of c past (Heard g)) → e ≡ ignored_entry a moment (Heard g) cause → IsJudgedBy g a e
+ignored_judged a moment g cause o e found judged is = record { each = λ c made past h. ap (λ (x : Entry). x.verdict) is ∙ ap ignored_for (sym found) ∙ judged c made past h }
+
+-- a datagram with no cause to ignore it is taken, and what is done with it is as judged
+pub taken_at_none : {W : Type 0} (a : Content W) (g : Datagram) (o : Option Cause) → o ≡ None → ((c : Config) (made : ℕ) (past : List Entry) → Fits c made past a → ignored_for o ≡ verdict_of c past (Heard g)) → IsTaken g a
+taken_at_none a g o none judged = record { each = λ c made past h. ap ignored_for (sym none) ∙ judged c made past h }
+
+pub done_judged : {W : Type 0} (a : Content W) (g : Datagram) (o : Option Cause) (e : Entry) → o ≡ None → ((c : Config) (made : ℕ) (past : List Entry) → Fits c made past a → ignored_for o ≡ verdict_of c past (Heard g))
+    → e.verdict ≡ Done → IsJudgedBy g a e
+done_judged a g o e none judged done = record { each = λ c made past h. done ∙ ap ignored_for (sym none) ∙ judged c made past h }
+
+-- what was heard as a datagram was read as it
+pub read_enters : {W : Type 0} (draw : W → ℕ × W) (a b : Content W) (now moment : ℕ) (input : Input) (e : Entry) → moment ≡ max now a.last → Enters draw (Some moment) input a b e → Enters draw (Some now) e.input a b e
+read_enters draw a b now moment input e at enters = record { input_is = refl; moment_is = enters.moment_is ∙ omega (arith, at); fits = enters.fits; words = enters.words }
+
+pub heard_reads : {W : Type 0} (draw : W → ℕ × W) (a b : Content W) (moment session : ℕ) (bytes : List ℕ) (g : Datagram) (e : Entry) → is_gone a.state ≡ false → session ≡ a.config.session
+    → judge session bytes ≡ Ok g → Enters draw (Some moment) (Heard g) a b e → IsJudgedBy g a e → ReadsAs bytes a e
+heard_reads draw a b moment session bytes g e here same judged enters by = record {
+  each = λ c made past h.
+      let j : judge c.session bytes ≡ Ok g = ap (λ (s : Config). judge s.session bytes) (sym h.config) ∙ ap (λ n. judge n bytes) (sym same) ∙ judged in
+      ap (λ i. (i, e.verdict)) enters.input_is ∙ ap (λ v. (Heard g, v)) (by.each c made past h)
+      ∙ sym (ap (λ (b : Bool). if b then (Noise, Ignored causes.Gone) else read_as c past (judge c.session bytes)) (ap is_gone (sym h.state) ∙ here) ∙ ap (read_as c past) j);
+}
+
+-- what holds of what is answered, where something is
+pub if_one : {A B : Type 0} {P Q : A → Type 0} (r : Result A B) → IfOk r P → ((x : A) → P x → Q x) → IfOk r Q
+if_one (Ok x) p to = to x p
+if_one (Err y) p to = tt
+
+pub if_two : {A B : Type 0} {P R Q : A → Type 0} (r : Result A B) → IfOk r P → IfOk r R → ((x : A) → P x → R x → Q x) → IfOk r Q
+if_two (Ok x) p r to = to x p r
+if_two (Err y) p r to = tt

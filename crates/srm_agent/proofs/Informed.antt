@@ -1,0 +1,146 @@
+-- The entry in which a session message was heard and taken.
+use Rattle.std.proofs.Common.{◌≡◌, ℕ, ◌≤◌, max, Bool, true, false, List, [], ◌∷◌, ◌++◌, refl, ap, sym, ◌∙◌, subst, arith, append_assoc}
+use Rattle.std.specs.Prelude.{Option, Some, option_map}
+use Rattle.std.specs.List.{flat_map, cons_option}
+use Rattle.std.proofs.lemmas.List.{append-nil}
+use Rattle.srm_names.specs.declared.page.Page.{Page}
+use Rattle.srm_names.specs.declared.echo.Echo.{Echo}
+use Rattle.srm_names.specs.declared.drawop.Drawop.{Drawop}
+use Rattle.srm_names.specs.FullName.{FullName}
+use Rattle.srm_names.specs.Histories.{greatest}
+use Rattle.srm_names.specs.Names.{ascending}
+use Rattle.srm_codec.specs.declared.datagram.Datagram.{Datagram}
+use Rattle.srm_codec.specs.declared.datagram.Datagram.TheVariants.{Data, Request, Repair, Session}
+use Rattle.srm_codec.specs.Spelling.{names_in, row_below, IsSpellable}
+use Rattle.srm_store.specs.Finals.{Settling}
+use Rattle.srm_store.specs.Held.{number_in}
+use Rattle.srm_store.specs.Stores.{StoreContent}
+use Rattle.srm_store.specs.Fits as store
+use Rattle.srm_store.specs.Fits.{StillFits}
+use Rattle.srm_distance.specs.Content.{Content as DistancesContent}
+use Rattle.srm_distance.specs.Distance as defined
+use Rattle.srm_distance.specs.Fits as distances
+use Rattle.srm_distance.specs.Fits.{Adds}
+use Rattle.srm_distance.specs.Calls as calls
+use Rattle.srm_distance.specs.Calls.{Call}
+use Rattle.srm_timers.specs.declared.arm.Arm.{Arm}
+use Rattle.srm_agent.specs.declared.entry.Entry.{Entry}
+use Rattle.srm_agent.specs.declared.entry.Input.TheVariants.{Heard}
+use Rattle.srm_agent.specs.declared.state.AgentState.{AgentState}
+use Rattle.srm_agent.specs.Configs.{Config}
+use Rattle.srm_agent.specs.Entries.{is_gone, held, shown_to_exist, drawops_in}
+use Rattle.srm_agent.specs.Distances.{distance_calls, calls_in, calls_of, echo_for}
+use Rattle.srm_agent.specs.Verdicts.{settlings, settling_of}
+use Rattle.srm_agent.specs.Growth.{IsFreshOf, HearsToo, LearnsToo, ShowsToo, SettlesToo}
+use Rattle.srm_agent.specs.PageTables.{with_pages_of}
+use Rattle.srm_agent.specs.TimersKept.{HaveSettings}
+use Rattle.srm_agent.specs.TimerCalls.{IsTableOf, AreDistancesAfter, TimersHear, WaitsAreDrawn, IsSession}
+use Rattle.srm_agent.specs.Contents.{Content}
+use Rattle.srm_agent.specs.Fits.{Fits}
+use Rattle.srm_agent.specs.Heeding.{IsTaken, heard_entry}
+use Rattle.srm_agent.specs.Noting.{Enters}
+use Rattle.srm_agent.proofs.Adding.{flat_map-snoc}
+use Rattle.srm_agent.proofs.Entering.{of_member}
+use Rattle.srm_agent.proofs.Heeded.{Heeds, heard_fits}
+use Rattle.srm_agent.proofs.Joining.{ShowsRows, fresh_rows}
+use Rattle.srm_agent.proofs.Taken.{Goes}
+
+-- the rows of a session message rise
+pub rows_rise : (g : Datagram) (names : List FullName) → IsSession g → IsSpellable g → names ≡ names_in g → ascending row_below names ≡ true
+rows_rise (Session sender sent farewell shown rows echoes) names is s e = ap (ascending row_below) e ∙ s.3.rising
+rows_rise (Data drawop) names is s e = absurd is
+rows_rise (Request sender name mask) names is s e = absurd is
+rows_rise (Repair sender drawop) names is s e = absurd is
+
+no_drawops : (g : Datagram) → IsSession g → drawops_in (Some g) ≡ []
+no_drawops (Session sender sent farewell shown rows echoes) is = refl
+no_drawops (Data drawop) is = absurd is
+no_drawops (Request sender name mask) is = absurd is
+no_drawops (Repair sender drawop) is = absurd is
+
+shows_rows : (g : Datagram) (me moment : ℕ) (arms : List Arm) (state : AgentState) → IsSession g → ShowsRows (names_in g) (heard_entry me moment g arms state)
+shows_rows (Session sender sent farewell shown rows echoes) me moment arms state is = record { shows = λ s. ap (λ (ns : List FullName). greatest (flat_map (number_in s) ns)) (append-nil rows); gains = λ n. refl }
+shows_rows (Data drawop) me moment arms state is = absurd is
+shows_rows (Request sender name mask) me moment arms state is = absurd is
+shows_rows (Repair sender drawop) me moment arms state is = absurd is
+
+at_least : (last moment : ℕ) → last ≤ moment → moment ≡ max moment last
+at_least last moment l = omega (arith, l)
+
+pub session_enters : {W : Type 0} (draw : W → ℕ × W) (a b : Content W) (moment : ℕ) (g : Datagram) (names fresh : List FullName) (dist : List ℕ) (arms : List Arm) (roomy : StoreContent) (after : DistancesContent) (e : Entry)
+    → IsSession g → names ≡ names_in g → is_gone a.state ≡ false → IsSpellable g → a.last ≤ moment → IsTaken g a → IsFreshOf names a fresh → HearsToo a.config.me moment g a.distances after → IsTableOf after dist
+    → TimersHear IsSession fresh dist moment arms a.timers b.timers → StillFits a.store roomy → LearnsToo g roomy b.store → b.pages ≡ with_pages_of a.pages names → b.distances ≡ after → Goes a b moment
+    → HaveSettings a.config a.timers → WaitsAreDrawn draw a.timers a.words arms b.words → e ≡ heard_entry a.config.me moment g arms a.state
+    → Enters draw (Some moment) (Heard g) a b e
+session_enters draw a b moment g names fresh dist arms roomy after e is named here spellable late taken fresh_of hears_too table hears kept learns pages same goes settings drawn e_is = record {
+  input_is = ap (λ (x : Entry). x.input) e_is;
+  moment_is = ap (λ (x : Entry). x.moment) e_is ∙ at_least a.last moment late;
+  words = rw e_is (drawn.each a.config settings);
+  fits = λ c made past h. of_member c made past a b e (λ me. heard_entry me moment g arms a.state) h e_is (heard_fits c made past a b moment g arms (heeds c made past h));
+}
+  where
+    hears_by : (c : Config) (made : ℕ) (past : List Entry) → Fits c made past a → distances.Fits c.me (distance_calls c.me past ++ calls_of c.me moment (Some g)) after
+    hears_by c made past h = (subst (λ (s : Config). HearsToo s.me moment g a.distances after) h.config hears_too).each (distance_calls c.me past) h.distances
+
+    dist_after : (c : Config) (made : ℕ) (past : List Entry) → Fits c made past a → AreDistancesAfter c (past ++ heard_entry c.me moment g arms a.state ∷ []) dist
+    dist_after c made past h = record {
+      each = λ m l. table.each c.me (distance_calls c.me past ++ calls_of c.me moment (Some g)) (hears_by c made past h) m l
+          ∙ ap (λ (cs : List Call). defined.distance cs c.me m) (sym (flat_map-snoc (calls_in c.me) past (heard_entry c.me moment g arms a.state)));
+    }
+
+    heeds : (c : Config) (made : ℕ) (past : List Entry) → Fits c made past a → Heeds c made past a b moment g (heard_entry c.me moment g arms a.state)
+    heeds c made past h = record {
+      fits = h;
+      later = subst (λ n. n ≤ moment) h.last late;
+      here = ap is_gone (sym h.state) ∙ here;
+      taken = taken.each c made past h;
+      spellable = spellable;
+      timers = hears.each c past (heard_entry c.me moment g arms a.state) g is (record { heard = refl; read = spellable; moment = refl; drawn = refl; arms = refl; asks = refl; fixes = refl }) h.timers
+          (fresh_rows past (heard_entry c.me moment g arms a.state) names fresh (subst (λ ns. ShowsRows ns (heard_entry c.me moment g arms a.state)) (sym named) (shows_rows g c.me moment arms a.state is)) (fresh_of.each c made past h)) (dist_after c made past h);
+      store = subst (λ ds. store.Fits ds (shown_to_exist past ++ names_in g) (settlings past ++ cons_option (settling_of (Some g)) []) b.store) (sym (ap (λ ds. held past ++ ds) (no_drawops g is) ∙ append-nil (held past)))
+          (learns.each (held past) (shown_to_exist past) (settlings past) (kept.each (held past) (shown_to_exist past) (settlings past) h.store));
+      distances = subst (λ d. distances.Fits c.me (distance_calls c.me past ++ calls_of c.me moment (Some g)) d) (sym same) (hears_by c made past h);
+      pages = pages ∙ ap (with_pages_of a.pages) named;
+      last = goes.last;
+      config = goes.config;
+      state = goes.state;
+      showing = goes.showing;
+      feeds = goes.feeds;
+      bucket = goes.bucket;
+      due = goes.due;
+    }
+
+-- what is known of the others after a session message, and after a farewell
+
+hears_farewell : (me now sender sent : ℕ) (shown : Page) (rows : List FullName) (echoes : List Echo) (d a b : DistancesContent) → Adds (calls.Heard sender sent (echo_for me echoes) now) d a → Adds (calls.Forgot sender) a b
+    → HearsToo me now (Session sender sent true shown rows echoes) d b
+hears_farewell me now sender sent shown rows echoes d a b heard forgot = record {
+  each = λ cs h. subst (λ xs. distances.Fits me xs b) (append_assoc cs (calls.Heard sender sent (echo_for me echoes) now ∷ []) (calls.Forgot sender ∷ []))
+      (forgot.fits me (cs ++ calls.Heard sender sent (echo_for me echoes) now ∷ []) (heard.fits me cs h));
+}
+
+pub hears_leaver : (me now sender sent : ℕ) (farewell : Bool) (shown : Page) (rows : List FullName) (echoes : List Echo) (g : Datagram) (echo : Option (ℕ × ℕ)) (d0 d a b : DistancesContent) → g ≡ Session sender sent farewell shown rows echoes → farewell ≡ true
+    → echo ≡ echo_for me echoes → d0 ≡ d → Adds (calls.Heard sender sent echo now) d0 a → Adds (calls.Forgot sender) a b → HearsToo me now g d b
+hears_leaver me now sender sent farewell shown rows echoes g echo d0 d a b is f e same heard forgot =
+    subst (λ x. HearsToo me now x d b) (sym (is ∙ ap (λ f. Session sender sent f shown rows echoes) f))
+    (hears_farewell me now sender sent shown rows echoes d a b (subst (λ x. Adds (calls.Heard sender sent (echo_for me echoes) now) x a) same (subst (λ x. Adds (calls.Heard sender sent x now) d0 a) e heard)) forgot)
+
+pub hears_stayer : (me now sender sent : ℕ) (farewell : Bool) (shown : Page) (rows : List FullName) (echoes : List Echo) (g : Datagram) (echo : Option (ℕ × ℕ)) (d0 d a : DistancesContent) → g ≡ Session sender sent farewell shown rows echoes → farewell ≡ false
+    → echo ≡ echo_for me echoes → d0 ≡ d → Adds (calls.Heard sender sent echo now) d0 a → HearsToo me now g d a
+hears_stayer me now sender sent farewell shown rows echoes g echo d0 d a is f e same heard =
+    subst (λ x. HearsToo me now x d a) (sym (is ∙ ap (λ f. Session sender sent f shown rows echoes) f))
+    (record { each = λ cs h. (subst (λ x. Adds (calls.Heard sender sent (echo_for me echoes) now) x a) same (subst (λ x. Adds (calls.Heard sender sent x now) d0 a) e heard)).fits me cs h })
+
+-- what is learnt of the names, and then of the leaving
+pub learns_by : (g : Datagram) (names : List FullName) (leaver : Option ℕ) (a b d : StoreContent) → names ≡ names_in g → settling_of (Some g) ≡ option_map (λ m. record { member = m; rows = names_in g }) leaver
+    → ShowsToo names a b → SettlesToo leaver names b d → LearnsToo g a d
+learns_by g names leaver a b d named settling shows settles = record {
+  each = λ inserted shown settled h.
+      subst (λ o. store.Fits inserted (shown ++ names_in g) (settled ++ cons_option o []) d) (sym settling)
+      (subst (λ ns. store.Fits inserted (shown ++ ns) (settled ++ cons_option (option_map (λ m. record { member = m; rows = ns }) leaver) []) d) named
+      (settles.each inserted (shown ++ names) settled (shows.each inserted shown settled h)));
+}
+
+pub settles_one : (leaver : Option ℕ) (member : ℕ) (rows : List FullName) (a b : StoreContent) → leaver ≡ Some member
+    → ((inserted : List Drawop) (shown : List FullName) (settled : List Settling) → store.Fits inserted shown settled a → store.Fits inserted shown (settled ++ record { member = member; rows = rows } ∷ []) b) → SettlesToo leaver rows a b
+settles_one leaver member rows a b is fits = subst (λ o. SettlesToo o rows a b) (sym is) (record { each = fits })

@@ -1,0 +1,108 @@
+-- The next moment at which a tick does something.
+use Rattle.std.proofs.Common.{◌≡◌, ℕ, ◌<◌, ◌≤◌, max, Bool, true, false, List, refl, ap, sym, ◌∙◌, inl, inr, arith}
+use Rattle.std.specs.Prelude.{◌⊎◌, Option, Some, None, nat_le, MatchOption}
+use Rattle.std.proofs.lemmas.Bool.Decides.{nat_tests}
+use Rattle.srm_timers.specs.declared.arm.Armed.{Armed}
+use Rattle.srm_timers.specs.Arms.{ran_out}
+use Rattle.srm_timers.specs.Least.{lesser}
+use Rattle.srm_bucket.specs.Classes.{next_of}
+use Rattle.srm_bucket.specs.Fits.{Waits}
+use Rattle.srm_bucket.specs.Law.{IsFirstToGo}
+use Rattle.srm_agent.specs.declared.entry.Entry.{Entry}
+use Rattle.srm_agent.specs.Configs.{Config}
+use Rattle.srm_agent.specs.Contents.{Content}
+use Rattle.srm_agent.specs.Entries.{state, is_gone, last_moment}
+use Rattle.srm_agent.specs.Timers.{fix_running}
+use Rattle.srm_agent.specs.Fits.{Fits}
+use Rattle.srm_agent.specs.Promises.{IsIdle}
+use Rattle.srm_agent.specs.TimerCalls.{RunOutFirst, IsBefore, TimersNext, ask_running}
+use Rattle.srm_agent.specs.Waking.{NextDue, report_next, sooner_of}
+use Rattle.srm_agent.proofs.Midway.{before_first, before_second}
+use Rattle.srm_agent.proofs.NextDueIdle.{idle_before}
+use Rattle.srm_agent.proofs.NextDueRests.{gone_rests, idle_rests}
+use Rattle.srm_agent.proofs.NextDueStirs.{did_nothing, asks_then, fixes_then, reports_then, goes_then}
+
+pub never_due : {W : Type 0} (a : Content W) → is_gone a.state ≡ true → NextDue a None
+never_due a gone = record {
+  each = λ c made past h. let left : is_gone (state past) ≡ true = ap is_gone (sym h.state) ∙ gone in (left, λ u. gone_rests c made past u left);
+}
+
+-- before the sooner of two moments it is before both
+before_one : (u : ℕ) (o : Option ℕ) (r : ℕ) → u < sooner_of o r → IsBefore u o
+before_one u None r l = tt
+before_one u (Some t) r l = omega (arith, l)
+
+before_other : (u : ℕ) (o : Option ℕ) (r : ℕ) → u < sooner_of o r → u < r
+before_other u None r l = l
+before_other u (Some t) r l = omega (arith, l)
+
+-- and one of them is the sooner
+abbrev HasCome : ℕ → Option ℕ → Type 0
+HasCome t None = ⊥
+HasCome t (Some r) = r ≤ t
+
+one_came : (t : ℕ) (a b : Option ℕ) (r : ℕ) → sooner_of (lesser a b) r ≤ t → HasCome t a ⊎ (HasCome t b ⊎ (r ≤ t))
+one_came t None None r l = inr (inr l)
+one_came t None (Some q) r l = go (nat_le q t) refl
+  where
+    go : (x : Bool) → nat_le q t ≡ x → ⊥ ⊎ ((q ≤ t) ⊎ (r ≤ t))
+    go true e = inr (inl (grind (arith, nat_tests)))
+    go false e = inr (inr (grind (arith, nat_tests)))
+one_came t (Some p) None r l = go (nat_le p t) refl
+  where
+    go : (x : Bool) → nat_le p t ≡ x → (p ≤ t) ⊎ (⊥ ⊎ (r ≤ t))
+    go true e = inl (grind (arith, nat_tests))
+    go false e = inr (inr (grind (arith, nat_tests)))
+one_came t (Some p) (Some q) r l = go (nat_le p t) (nat_le q t) refl refl
+  where
+    go : (x y : Bool) → nat_le p t ≡ x → nat_le q t ≡ y → (p ≤ t) ⊎ ((q ≤ t) ⊎ (r ≤ t))
+    go true y e k = inl (grind (arith, nat_tests))
+    go false true e k = inr (inl (grind (arith, nat_tests)))
+    go false false e k = inr (inr (grind (arith, nat_tests)))
+
+-- what ran out has run out later too
+still_out : (now later : ℕ) (o : Option Armed) → now ≤ later → ran_out now o ≡ true → ran_out later o ≡ true
+still_out now later None l e = absurd (cc)
+still_out now later (Some a) l e = grind (arith, nat_tests)
+
+module _ {W : Type 0} (c : Config) (made : ℕ) (past : List Entry) (a : Content W) (t : ℕ) (h : Fits c made past a) (here : is_gone (state past) ≡ false) where
+  timer_stirs : (timers : Option ℕ) → RunOutFirst past timers → HasCome t timers → IsIdle c made past t → ⊥
+  timer_stirs None first come idle = absurd come
+  timer_stirs (Some r) first come idle =
+      let (n, out) = first.is_one in
+      elim out [
+        | inl ask ↦ asks_then c made past t idle.0 n (did_nothing c made past t idle) here (still_out r t (ask_running past n) come ask)
+        | inr fix ↦ fixes_then c made past t idle.0 n (did_nothing c made past t idle) here (still_out r t (fix_running past n) come fix)
+      ]
+
+  item_stirs : (answer : Option ℕ) → MatchOption answer (next_of h.bucket.calls ≡ None) (IsFirstToGo c.rate c.depth h.bucket.calls) → HasCome t answer → IsIdle c made past t → ⊥
+  item_stirs None waits come idle = absurd come
+  item_stirs (Some r) waits come idle = goes_then c made past a t r idle.0 h (did_nothing c made past t idle) here waits.goes come
+
+  report_stirs : report_next a ≤ t → IsIdle c made past t → ⊥
+  report_stirs come idle = reports_then c made past a t idle.0 h (did_nothing c made past t idle) here come
+
+pub first_due : {W : Type 0} (a : Content W) (timers answer : Option ℕ) → is_gone a.state ≡ false → TimersNext a.timers timers → Waits a.bucket answer
+    → NextDue a (Some (max a.last (sooner_of (lesser timers answer) (report_next a))))
+first_due a timers answer active runs waits = record {
+  each = λ c made past h.
+      let here : is_gone (state past) ≡ false = ap is_gone (sym h.state) ∙ active in
+      let first : RunOutFirst past timers = runs.each c past h.timers in
+      let t : ℕ = max a.last (sooner_of (lesser timers answer) (report_next a)) in
+      let last : a.last ≡ last_moment made past = h.last in (
+        here,
+        omega (arith, last),
+        (λ u l before.
+            let sooner : u < sooner_of (lesser timers answer) (report_next a) = omega (arith, last, l, before) in
+            let both : IsBefore u (lesser timers answer) = before_one u (lesser timers answer) (report_next a) sooner in
+            let idle : IsIdle c made past u = idle_before c made past a timers answer u h here first waits l (before_first u timers answer both) (before_second u timers answer both) (before_other u (lesser timers answer) (report_next a) sooner) in
+            (idle, idle_rests c made past u idle)),
+        (λ idle. elim (one_came t timers answer (report_next a) (omega arith)) [
+          | inl timer ↦ timer_stirs c made past a t h here timers first timer idle
+          | inr other ↦ elim other [
+            | inl item ↦ item_stirs c made past a t h here answer (waits.until c.rate c.depth h.bucket.calls h.bucket.fits) item idle
+            | inr report ↦ report_stirs c made past a t h here report idle
+          ]
+        ]),
+      );
+}

@@ -1,0 +1,188 @@
+-- A tick at which no timer runs out, nothing that waits may go and no session message is due: an entry without effects is right.
+use Rattle.std.proofs.Common.{◌≡◌, ℕ, ◌+◌, ◌<◌, ◌≤◌, ◌==◌, Bool, true, false, not, ◌&&◌, List, [], ◌∷◌, ◌++◌, length, map, refl, ap, sym, ◌∙◌, subst, arith}
+use Rattle.std.specs.Prelude.{Option, Some, None, option_to_list, nat_le, count_by, cond, if◌then◌else◌, MatchOption}
+use Rattle.std.specs.Bool.{OnTrue}
+use Rattle.std.specs.List.{AllByRecursion}
+use Rattle.std.proofs.lemmas.List.{append-nil, map-append}
+use Rattle.std.proofs.lemmas.Bool.Decides.{nat_tests}
+use Rattle.std.proofs.lemmas.List.Sums.{sum_by-append}
+use Rattle.srm_names.specs.Histories.{steps}
+use Rattle.srm_timers.specs.declared.arm.Armed.{Armed}
+use Rattle.srm_timers.specs.Arms.{ran_out}
+use Rattle.srm_bucket.specs.declared.class.Class.TheVariants.{New}
+use Rattle.srm_bucket.specs.Calls.{Call, Popped}
+use Rattle.srm_bucket.specs.Classes.{next_of}
+use Rattle.srm_bucket.specs.Fits.{Waits}
+use Rattle.srm_bucket.specs.Law.{BucketLaw, IsFirstToGo, level_at, covered, may_go}
+use Rattle.srm_bucket.specs.Mapping.{read_call}
+use Rattle.srm_bucket.specs.Ticks.{last_moment as last_of_calls}
+use Rattle.srm_bucket.specs.Waiting.{queue}
+use Rattle.srm_bucket.proofs.Mapping.{law-read, last_moment-read}
+use Rattle.srm_bucket.proofs.Pausing.{law-paused}
+use Rattle.srm_agent.specs.declared.entry.Entry.{Entry}
+use Rattle.srm_agent.specs.declared.state.AgentState.{AgentState}
+use Rattle.srm_agent.specs.declared.state.AgentState.TheVariants.{Active, Leaving, Gone}
+use Rattle.srm_agent.specs.Configs.{Config}
+use Rattle.srm_agent.specs.Contents.{Content}
+use Rattle.srm_agent.specs.Entries.{state, is_gone, is_leaving, ticked, last_moment, is_missing, drawn, sent}
+use Rattle.srm_agent.specs.Timers.{last_ask, fix_running, ArmsRight, TimersRight}
+use Rattle.srm_agent.specs.Sessions.{is_data, charged, all_data_sent, ending}
+use Rattle.srm_agent.specs.Bucket.{Going, GoesRight, BucketRight, entries_of, calls_by, bucket_calls}
+use Rattle.srm_agent.specs.Runs.{EntryRight}
+use Rattle.srm_agent.specs.Fits.{Fits, datagram_of, shown_if}
+use Rattle.srm_agent.specs.Promises.{IsIdle}
+use Rattle.srm_agent.specs.TimerCalls.{RunOutFirst, IsBefore}
+use Rattle.srm_agent.specs.Ticking.{tick_entry}
+use Rattle.srm_agent.specs.Waking.{report_next}
+use Rattle.srm_agent.proofs.Adding.{flat_map-snoc}
+use Rattle.srm_agent.proofs.Ending.{ending_of, ending_is}
+use Rattle.srm_agent.proofs.Marking.{bucket_calls-snoc, entries-snoc, went_length}
+use Rattle.srm_agent.proofs.Quiet.{no_arms}
+use Rattle.srm_agent.proofs.Running.{steps_more}
+use Rattle.srm_agent.proofs.Showing.{drawn-snoc}
+use Rattle.srm_agent.proofs.Spending.{Charged, charged_along, charged_start}
+use Rattle.srm_agent.proofs.Ticks.{tick_right}
+use Rattle.srm_agent.proofs.Unsent.{all_sent, kept_data}
+
+-- a tick without effects
+abbrev pub idle_at : Config → List Entry → ℕ → Entry
+idle_at c past u = tick_entry c.me u [] [] [] [] (state past)
+
+-- arms
+
+idle_arms : (c : Config) (past : List Entry) (u : ℕ) → ArmsRight c past (idle_at c past u)
+idle_arms c past u = no_arms c past (idle_at c past u) (record { unheard = refl; drawn = refl; arms = refl; asks = refl; fixes = refl })
+
+-- timers
+
+not_asked : (u : ℕ) (b m : Bool) (o : Option Armed) → ran_out u (shown_if m o) ≡ false → false ≡ (b && m && ran_out u o)
+not_asked u b true o e = sym (ap (λ x. b && true && x) e ∙ no b)
+  where
+    no : (b : Bool) → (b && true && false) ≡ false
+    no true = refl
+    no false = refl
+not_asked u b false o e = sym (no b (ran_out u o))
+  where
+    no : (b x : Bool) → (b && false && x) ≡ false
+    no true x = refl
+    no false x = refl
+
+not_fixed : (b x : Bool) → x ≡ false → false ≡ (b && x)
+not_fixed true x e = sym e
+not_fixed false x e = refl
+
+idle_timers : (c : Config) (past : List Entry) (moment : Option ℕ) (u : ℕ) → RunOutFirst past moment → IsBefore u moment → TimersRight past (idle_at c past u)
+idle_timers c past moment u first before = record {
+  asks = record { in_order = refl; exact = λ n. not_asked u (not (is_gone (state past))) (is_missing past n) (last_ask past n) (first.no_ask u before n) };
+  fixes = record { in_order = refl; exact = λ n. not_fixed (not (is_gone (state past))) (ran_out u (fix_running past n)) (first.no_fix u before n) };
+}
+
+-- the session message
+
+-- an entry that charges and draws nothing leaves waiting what waits
+pub unsent_stays : (past : List Entry) (e : Entry) → charged e ≡ [] → e.effects.drawn ≡ None → all_data_sent (past ++ e ∷ []) ≡ all_data_sent past
+unsent_stays past e uncharged none =
+    ap (λ ds. nat_le (length ds) (count_by is_data (sent (past ++ e ∷ [])))) (drawn-snoc past e ∙ ap (λ o. drawn past ++ option_to_list o) none ∙ append-nil (drawn past))
+    ∙ ap (nat_le (length (drawn past)))
+    (ap (count_by is_data) (flat_map-snoc (λ (x : Entry). x.effects.outs) past e) ∙ sum_by-append (λ g. cond (is_data g) 1 0) (sent past) e.effects.outs
+    ∙ ap (λ n. count_by is_data (sent past) + n) (sym (kept_data e.effects.outs) ∙ ap (count_by is_data) uncharged) ∙ still (count_by is_data (sent past)))
+  where
+    still : (n : ℕ) → n + 0 ≡ n
+    still n = omega arith
+
+-- what such a tick ends with
+pub ends_by : {W : Type 0} (c : Config) (made : ℕ) (past : List Entry) (a : Content W) (e : Entry) → Fits c made past a → ticked e ≡ true → charged e ≡ [] → e.effects.drawn ≡ None
+    → ending c made past e ≡ ending_of a.state (not (length (queue a.bucket.waiting New) == 0)) (nat_le a.due e.moment)
+ends_by c made past a e h t uncharged none =
+    ending_is c made past e a.state (not (length (queue a.bucket.waiting New) == 0)) (nat_le a.due e.moment) t h.state
+    (twice (length (queue a.bucket.waiting New) == 0) ∙ sym (unsent_stays past e uncharged none ∙ all_sent c past a.bucket h.bucket)) (ap (λ n. nat_le n e.moment) h.due)
+  where
+    twice : (b : Bool) → not (not b) ≡ b
+    twice true = refl
+    twice false = refl
+
+ends_not : (old : AgentState) (sent_all : Bool) (last due u : ℕ) → last ≤ u → u < (if is_leaving old && sent_all then last else due) → ending_of old (not sent_all) (nat_le due u) ≡ None
+ends_not Gone b last due u l m = refl
+ends_not Active b last due u l m = let later : nat_le due u ≡ false = grind (arith, nat_tests) in ap (λ (x : Bool). if x then Some false else None) later
+ends_not Leaving true last due u l m = absurd (omega (arith, l, m))
+ends_not Leaving false last due u l m = let later : nat_le due u ≡ false = grind (arith, nat_tests) in ap (λ (x : Bool). if x then Some false else None) later
+
+-- the bucket
+
+nothing_goes : {T : Type 0} (rate depth : ℕ) (calls : List (Call T)) (answer : Option ℕ) (u : ℕ) → MatchOption answer (next_of calls ≡ None) (IsFirstToGo rate depth calls) → last_of_calls calls ≤ u → IsBefore u answer
+    → may_go rate depth calls u ≡ None
+nothing_goes rate depth calls None u until l before = ap (covered (level_at rate depth calls u)) until
+nothing_goes rate depth calls (Some t) u until l before = until.no_sooner u l before
+
+-- the bucket's last moment isn't after the member's
+pub calls_before : {W : Type 0} (c : Config) (made : ℕ) (past : List Entry) (a : Content W) (h : Fits c made past a) → last_of_calls h.bucket.calls ≤ last_moment made past
+calls_before c made past a h =
+    let law : BucketLaw c.rate c.depth (bucket_calls c.me h.bucket.goings) = subst (BucketLaw c.rate c.depth) h.bucket.read (law-read datagram_of c.rate c.depth h.bucket.calls h.bucket.fits.law) in
+    let all : Charged c made h.bucket.goings = charged_along c made [] h.bucket.goings (charged_start c made) h.bucket.goes (subst (λ ys. AllByRecursion (EntryRight c made) (steps ys)) (sym h.bucket.entries) h.run) (went_length c h.bucket.goings h.bucket.goes law) law in
+    subst (λ n. n ≤ last_moment made past) (ap last_of_calls (sym h.bucket.read) ∙ last_moment-read datagram_of h.bucket.calls)
+    (subst (λ ys. last_of_calls (bucket_calls c.me h.bucket.goings) ≤ last_moment made ys) h.bucket.entries all.last)
+
+-- in the calls of such a tick nothing goes
+pub pauses : (me : ℕ) (gs : List Going) (past : List Entry) (e : Entry) → entries_of gs ≡ past → is_gone (state past) ≡ false → ticked e ≡ true → e.effects.drawn ≡ None → e.effects.asks ≡ [] → e.effects.fixes ≡ []
+    → calls_by me (record { before = gs; this = record { entry = e; goes = [] } }) ≡ Popped e.moment None ∷ []
+pauses me gs past e same here t none asks fixes = rw (none, asks, fixes, t, same, here) refl
+
+idle_bucket : {W : Type 0} (c : Config) (made : ℕ) (past : List Entry) (a : Content W) (answer : Option ℕ) (u : ℕ) → Fits c made past a → is_gone (state past) ≡ false → Waits a.bucket answer
+    → last_moment made past ≤ u → IsBefore u answer → BucketRight c (past ++ idle_at c past u ∷ [])
+idle_bucket c made past a answer u h here waits l before = (
+  h.bucket.goings ++ x ∷ [],
+  entries-snoc h.bucket.goings x ∙ ap (λ es. es ++ idle_at c past u ∷ []) h.bucket.entries,
+  steps_more GoesRight h.bucket.goings x h.bucket.goes (record { same = refl; at_ticks = whenever _ }),
+  subst (BucketLaw c.rate c.depth) (sym calls) law,
+)
+  where
+    x : Going
+    x = record { entry = idle_at c past u; goes = [] }
+
+    whenever : (b : Bool) → OnTrue b (x.goes ≡ [])
+    whenever true = refl
+    whenever false = tt
+
+    early : last_of_calls h.bucket.calls ≤ u
+    early = let k : last_of_calls h.bucket.calls ≤ last_moment made past = calls_before c made past a h in omega (arith, k, l)
+
+    none : may_go c.rate c.depth h.bucket.calls u ≡ None
+    none = nothing_goes c.rate c.depth h.bucket.calls answer u (waits.until c.rate c.depth h.bucket.calls h.bucket.fits) early before
+
+    law : BucketLaw c.rate c.depth (map (read_call datagram_of) (h.bucket.calls ++ Popped u None ∷ []))
+    law = law-read datagram_of c.rate c.depth (h.bucket.calls ++ Popped u None ∷ []) (law-paused c.rate c.depth h.bucket.calls a.bucket u h.bucket.fits none)
+
+    calls : bucket_calls c.me (h.bucket.goings ++ x ∷ []) ≡ map (read_call datagram_of) (h.bucket.calls ++ Popped u None ∷ [])
+    calls =
+        bucket_calls-snoc c.me h.bucket.goings x ∙ ap (λ cs. bucket_calls c.me h.bucket.goings ++ cs) (pauses c.me h.bucket.goings past (idle_at c past u) h.bucket.entries here refl refl refl refl)
+        ∙ ap (λ cs. cs ++ Popped u None ∷ []) (sym h.bucket.read) ∙ sym (map-append (read_call datagram_of) h.bucket.calls (Popped u None ∷ []))
+
+-- at a moment before all that is due
+pub idle_before : {W : Type 0} (c : Config) (made : ℕ) (past : List Entry) (a : Content W) (timers answer : Option ℕ) (u : ℕ) → Fits c made past a → is_gone (state past) ≡ false → RunOutFirst past timers → Waits a.bucket answer
+    → last_moment made past ≤ u → IsBefore u timers → IsBefore u answer → u < report_next a → IsIdle c made past u
+idle_before c made past a timers answer u h here first waits l no_timer no_item no_report = (
+  idle_at c past u,
+  refl,
+  refl,
+  refl,
+  refl,
+  refl,
+  record {
+    each = steps_more (EntryRight c made) past (idle_at c past u) h.run (tick_right c made u past [] [] [] [] (state past) None [] None (record {
+      moment = l;
+      arms = idle_arms c past u;
+      timers = idle_timers c past timers u first no_timer;
+      outs = refl;
+      each = tt;
+      charged = tt;
+      last = tt;
+      ending = ends_by c made past a (idle_at c past u) h refl refl refl ∙ ends_not a.state (length (queue a.bucket.waiting New) == 0) a.last a.due u (subst (λ n. n ≤ u) (sym h.last) l) no_report;
+      ends = tt;
+      state = same (state past);
+    }));
+    bucket = idle_bucket c made past a answer u h here waits l no_item;
+  },
+)
+  where
+    same : (s : AgentState) → s ≡ s
+    same s = refl

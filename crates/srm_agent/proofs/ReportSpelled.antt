@@ -1,0 +1,71 @@
+-- The session message with its spelling, put together.
+use Rattle.std.proofs.Common.{◌≡◌, ℕ, ◌<◌, ◌≤◌, Bool, List, [], ◌∷◌, refl, ap, sym, ◌∙◌, subst, arith}
+use Rattle.std.specs.Prelude.{IfOk, Result, Ok, Err}
+use Rattle.std.specs.List.{All, AllByRecursion}
+use Rattle.std.proofs.lemmas.List.Elements.{All-head, All-tail}
+use Rattle.srm_names.specs.declared.limits.TheConstants.{MEMBERS, MOMENT}
+use Rattle.srm_names.specs.declared.page.Page.{Page}
+use Rattle.srm_names.specs.declared.echo.Echo.{Echo}
+use Rattle.srm_names.specs.FullName.{FullName}
+use Rattle.srm_codec.specs.declared.datagram.Datagram.{Datagram}
+use Rattle.srm_codec.specs.declared.datagram.Datagram.TheVariants.{Session}
+use Rattle.srm_codec.specs.Spelling.{IsSpellable, is_page, is_echo, AreRows, AreEchoes}
+use Rattle.srm_distance.specs.Calls.{Call}
+use Rattle.srm_distance.specs.Echoes.{AreSpellable, CanBeSent}
+use Rattle.srm_distance.specs.Echoes as distances
+use Rattle.srm_distance.specs.Fits.{Fits as DistancesFit}
+use Rattle.srm_agent.specs.declared.out.Outgoing.{Outgoing}
+use Rattle.srm_agent.specs.Configs.{Config}
+use Rattle.srm_agent.specs.Contents.{Content}
+use Rattle.srm_agent.specs.Distances.{distance_calls}
+use Rattle.srm_agent.specs.Outs.{IsOutgoing, IsOutgoingOf}
+use Rattle.srm_agent.specs.Reports.{IsReportOf, IsReportSpelled, AreReported, AreOwed}
+
+-- echoes that can be sent at a moment have a spelling
+each_echo : (me now : ℕ) (echoes : List Echo) → now ≤ MOMENT → All (CanBeSent me now) echoes → AllByRecursion is_echo echoes
+each_echo me now [] low all = tt
+each_echo me now (e ∷ es) low all =
+    let one = All-head (CanBeSent me now) e es all in
+    ((one.member, one.t1, omega (arith, one.delay)), each_echo me now es low (All-tail (CanBeSent me now) e es all))
+
+pub are_echoes : (me now : ℕ) (echoes : List Echo) → now ≤ MOMENT → AreSpellable me now echoes → AreEchoes echoes
+are_echoes me now echoes low s = record { few = omega (arith, s.few); each = each_echo me now echoes low s.each; rising = s.rising }
+
+-- what the distances owe
+pub owed : {W : Type 0} (a : Content W) (moment : ℕ) (echoes : List Echo) → moment ≤ MOMENT
+    → ((me : ℕ) (calls : List Call) → DistancesFit me calls a.distances → echoes ≡ distances.echoes_due calls me moment) → AreSpellable a.distances.me moment echoes → AreOwed a moment echoes
+owed a moment echoes low value range = record {
+  is = λ c made past fits. value c.me (distance_calls c.me past) fits.distances;
+  spelled = are_echoes a.distances.me moment echoes low range;
+}
+
+pub owed_if_ok : {W V E : Type 0} (a : Content W) (moment : ℕ) (items : V → List Echo) (r : Result V E) → moment ≤ MOMENT
+    → IfOk r (λ v. (me : ℕ) (calls : List Call) → DistancesFit me calls a.distances → items v ≡ distances.echoes_due calls me moment) → IfOk r (λ v. AreSpellable a.distances.me moment (items v))
+    → IfOk r (λ v. AreOwed a moment (items v))
+owed_if_ok a moment items (Ok v) low value range = owed a moment (items v) low value range
+owed_if_ok a moment items (Err e) low value range = tt
+
+pub is_spellable : {W : Type 0} (a : Content W) (moment : ℕ) (farewell : Bool) (me : ℕ) (page : Page) (rows : List FullName) (echoes : List Echo)
+    → me ≡ a.config.me → moment ≤ MOMENT → me < MEMBERS → is_page page → AreReported a farewell rows → AreOwed a moment echoes → IsSpellable (Session me moment farewell page rows echoes)
+is_spellable a moment farewell me page rows echoes same low below paged reported owed =
+    (below, low, paged, subst (λ m. AreRows farewell m rows) (sym same) reported.spelled, owed.spelled)
+
+-- a session message of these rows and echoes
+pub report_is : {W : Type 0} (a : Content W) (moment : ℕ) (farewell : Bool) (me : ℕ) (page : Page) (rows : List FullName) (echoes : List Echo)
+    → me ≡ a.config.me → page ≡ a.showing → AreReported a farewell rows → AreOwed a moment echoes → IsSpellable (Session me moment farewell page rows echoes)
+    → IsReportOf a moment farewell (Session me moment farewell page rows echoes)
+report_is a moment farewell me page rows echoes same shown reported owed spellable = record {
+  right = λ c made past fits. (same ∙ ap (λ (k : Config). k.me) fits.config, refl, refl, shown ∙ fits.showing, owed.is c made past fits, reported.right c made past moment fits);
+  sender = same;
+  session = refl;
+  farewell = refl;
+  spellable = spellable;
+}
+
+pub spelled_if_ok : {W E : Type 0} (a : Content W) (moment : ℕ) (farewell : Bool) (session : ℕ) (g : Datagram) (r : Result Outgoing E)
+    → session ≡ a.config.session → IsReportOf a moment farewell g → IfOk r (λ o. IsOutgoingOf session g o) → IfOk r (λ o. IsReportSpelled a moment farewell o)
+spelled_if_ok a moment farewell session g (Ok o) same report out = record {
+  report = subst (IsReportOf a moment farewell) (sym out.of) report;
+  outgoing = subst (λ n. IsOutgoing n o) same out.is;
+}
+spelled_if_ok a moment farewell session g (Err e) same report out = tt

@@ -1,0 +1,165 @@
+-- The entry in which data or a repair was heard and taken.
+use Rattle.std.proofs.Common.{◌≡◌, ℕ, ◌≤◌, max, Bool, true, false, ◌||◌, List, [], ◌∷◌, ◌++◌, refl, ap, sym, ◌∙◌, subst, arith}
+use Rattle.std.specs.Prelude.{Some, None, if◌then◌else◌, Result, Ok, Err, OnErr}
+use Rattle.std.proofs.lemmas.List.{append-nil}
+use Rattle.srm_names.specs.declared.stream.Stream.{Stream}
+use Rattle.srm_names.specs.declared.drawop.Drawop.{Drawop}
+use Rattle.srm_names.specs.FullName.{FullName}
+use Rattle.srm_names.specs.Histories.{greatest}
+use Rattle.srm_names.specs.Names.{same_stream, same_name, AreExactly}
+use Rattle.srm_codec.specs.declared.datagram.Datagram.{Datagram}
+use Rattle.srm_codec.specs.declared.datagram.Datagram.TheVariants.{Data, Repair}
+use Rattle.srm_codec.specs.Spelling.{names_in, IsSpellable}
+use Rattle.srm_store.specs.Stores.{StoreContent}
+use Rattle.srm_store.specs.Fits.{StillFits}
+use Rattle.srm_distance.specs.Distance as defined
+use Rattle.srm_distance.specs.Calls.{Call}
+use Rattle.srm_timers.specs.declared.arm.Arm.{Arm}
+use Rattle.srm_timers.proofs.Same.{same_flip}
+use Rattle.srm_agent.specs.declared.entry.Entry.{Entry}
+use Rattle.srm_agent.specs.declared.entry.Input.TheVariants.{Heard}
+use Rattle.srm_agent.specs.declared.state.AgentState.{AgentState}
+use Rattle.srm_agent.specs.Configs.{Config}
+use Rattle.srm_agent.specs.Entries.{is_gone, held, shown_to_exist, drawops_in}
+use Rattle.srm_agent.specs.Distances.{distance_calls, calls_in, calls_of}
+use Rattle.srm_agent.specs.Verdicts.{settlings, settling_of}
+use Rattle.srm_agent.specs.Growth.{is_between}
+use Rattle.srm_agent.specs.PageTables.{with_pages_of}
+use Rattle.srm_agent.specs.TimersKept.{HaveSettings, TimersContent}
+use Rattle.srm_agent.specs.TimerCalls.{IsTableOf, AreDistancesAfter, TimersHear, TimersStay, WaitsAreDrawn}
+use Rattle.srm_agent.specs.Contents.{Content}
+use Rattle.srm_agent.specs.Fits.{Fits}
+use Rattle.srm_agent.specs.Heeding.{IsTaken, HoldsToo, IsFreshBelow, heard_entry}
+use Rattle.srm_agent.specs.Noting.{Enters, Stays}
+use Rattle.srm_agent.proofs.Adding.{flat_map-snoc}
+use Rattle.srm_agent.proofs.Entering.{of_member}
+use Rattle.srm_agent.proofs.Fresh.{Brings, fresh_drawop}
+use Rattle.srm_agent.proofs.Heeded.{Heeds, heard_fits}
+
+-- all but the last moment, the words, the pages, the store, the distances and the timers is as it was
+pub record Goes {W : Type 0} (a b : Content W) (moment : ℕ) : Type 0 where
+  pub last : b.last ≡ moment
+  pub config : b.config ≡ a.config
+  pub state : b.state ≡ a.state
+  pub showing : b.showing ≡ a.showing
+  pub feeds : b.feeds ≡ a.feeds
+  pub bucket : b.bucket ≡ a.bucket
+  pub due : b.due ≡ a.due
+
+-- a datagram that brings one drawop, and no session message
+pub record BringsOne (d : Drawop) (g : Datagram) : Type 0 where
+  pub drawops : drawops_in (Some g) ≡ d ∷ []
+  pub names : names_in g ≡ d.name ∷ []
+  pub unsettled : settling_of (Some g) ≡ None
+  pub uncalled : (me now : ℕ) → calls_of me now (Some g) ≡ []
+  pub brings : (me moment : ℕ) (arms : List Arm) (s : AgentState) → Brings d (heard_entry me moment g arms s)
+
+one_number : (d : Drawop) (b : Bool) → greatest ((if b then d.name.number ∷ [] else []) ++ []) ≡ (if b then d.name.number else 0)
+one_number d true = omega arith
+one_number d false = refl
+
+one_name : (d : Drawop) (n : FullName) → (same_name d.name n || false) ≡ same_name n d.name
+one_name d n = drop (same_name d.name n) ∙ same_flip d.name n
+  where
+    drop : (b : Bool) → (b || false) ≡ b
+    drop true = refl
+    drop false = refl
+
+pub data_brings : (d : Drawop) → BringsOne d (Data d)
+data_brings d = record {
+  drawops = refl;
+  names = refl;
+  unsettled = refl;
+  uncalled = λ me now. refl;
+  brings = λ me moment arms s. record { shows = λ t. one_number d (same_stream t d.name.stream); gains = λ n. one_name d n };
+}
+
+pub repair_brings : (sender : ℕ) (d : Drawop) → BringsOne d (Repair sender d)
+repair_brings sender d = record {
+  drawops = refl;
+  names = refl;
+  unsettled = refl;
+  uncalled = λ me now. refl;
+  brings = λ me moment arms s. record { shows = λ t. one_number d (same_stream t d.name.stream); gains = λ n. one_name d n };
+}
+
+no_calls : (me : ℕ) (past : List Entry) (moment : ℕ) (d : Drawop) (g : Datagram) (arms : List Arm) (s : AgentState) → BringsOne d g → distance_calls me (past ++ heard_entry me moment g arms s ∷ []) ≡ distance_calls me past
+no_calls me past moment d g arms s one =
+    flat_map-snoc (calls_in me) past (heard_entry me moment g arms s) ∙ ap (λ cs. distance_calls me past ++ cs) (one.uncalled me moment) ∙ append-nil (distance_calls me past)
+
+at_least : (last moment : ℕ) → last ≤ moment → moment ≡ max moment last
+at_least last moment l = omega (arith, l)
+
+pub drawop_enters : {W : Type 0} (draw : W → ℕ × W) (a b : Content W) (moment : ℕ) (g : Datagram) (is : Datagram → Type 0) (d : Drawop) (fresh : List FullName) (dist : List ℕ) (arms : List Arm) (roomy : StoreContent) (e : Entry)
+    → BringsOne d g → is g → is_gone a.state ≡ false → IsSpellable g → a.last ≤ moment → IsTaken g a → IsFreshBelow d.name a fresh → IsTableOf a.distances dist
+    → TimersHear is fresh dist moment arms a.timers b.timers → StillFits a.store roomy → HoldsToo d roomy b.store → b.pages ≡ with_pages_of a.pages (d.name ∷ []) → b.distances ≡ a.distances → Goes a b moment
+    → HaveSettings a.config a.timers → WaitsAreDrawn draw a.timers a.words arms b.words → e ≡ heard_entry a.config.me moment g arms a.state
+    → Enters draw (Some moment) (Heard g) a b e
+drawop_enters draw a b moment g is d fresh dist arms roomy e one it here spellable late taken below table hears kept holds pages same goes settings drawn e_is = record {
+  input_is = ap (λ (x : Entry). x.input) e_is;
+  moment_is = ap (λ (x : Entry). x.moment) e_is ∙ at_least a.last moment late;
+  words = rw e_is (drawn.each a.config settings);
+  fits = λ c made past h. of_member c made past a b e (λ me. heard_entry me moment g arms a.state) h e_is (heard_fits c made past a b moment g arms (heeds c made past h));
+}
+  where
+    after : (c : Config) (made : ℕ) (past : List Entry) → Fits c made past a → AreDistancesAfter c (past ++ heard_entry c.me moment g arms a.state ∷ []) dist
+    after c made past h = record {
+      each = λ m l. table.each c.me (distance_calls c.me past) h.distances m l ∙ ap (λ (cs : List Call). defined.distance cs c.me m) (sym (no_calls c.me past moment d g arms a.state one));
+    }
+
+    heeds : (c : Config) (made : ℕ) (past : List Entry) → Fits c made past a → Heeds c made past a b moment g (heard_entry c.me moment g arms a.state)
+    heeds c made past h = record {
+      fits = h;
+      later = subst (λ n. n ≤ moment) h.last late;
+      here = ap is_gone (sym h.state) ∙ here;
+      taken = taken.each c made past h;
+      spellable = spellable;
+      timers = hears.each c past (heard_entry c.me moment g arms a.state) g it (record { heard = refl; read = spellable; moment = refl; drawn = refl; arms = refl; asks = refl; fixes = refl }) h.timers
+          (fresh_drawop past (heard_entry c.me moment g arms a.state) d _ fresh (one.brings c.me moment arms a.state) refl (below.each c made past h)) (after c made past h);
+      store = rw (one.drawops, one.names, one.unsettled, append-nil (settlings past)) (holds.each (held past) (shown_to_exist past) (settlings past) (kept.each (held past) (shown_to_exist past) (settlings past) h.store));
+      distances = rw (one.uncalled c.me moment, append-nil (distance_calls c.me past), same) h.distances;
+      pages = rw one.names pages;
+      last = goes.last;
+      config = goes.config;
+      state = goes.state;
+      showing = goes.showing;
+      feeds = goes.feeds;
+      bucket = goes.bucket;
+      due = goes.due;
+    }
+
+-- what was found between what is known and the name
+pub below_is : (n : FullName) (s : Stream) (k known_of number : ℕ) (names : List FullName) → s ≡ n.stream → k ≡ known_of → number ≡ n.number → AreExactly (is_between s k number) names → AreExactly (is_between n.stream known_of n.number) names
+below_is n s k known_of number names e f g h = record {
+  in_order = h.in_order;
+  exact = λ m. h.exact m ∙ ap (λ t. is_between t k number m) e ∙ ap (λ x. is_between n.stream x number m) f ∙ ap (λ x. is_between n.stream known_of x m) g;
+}
+
+-- want of memory: the store has room, the timers stay, and no word was drawn
+pub stays : {W : Type 0} (a : Content W) (s : StoreContent) (t : TimersContent) (w : W) → StillFits a.store s → TimersStay a.timers t → w ≡ a.words → Stays a (record a { store = s; timers = t; words = w })
+stays a s t w kept timers words = record {
+  fits = λ c made past h. record {
+    run = h.run;
+    config = h.config;
+    state = h.state;
+    last = h.last;
+    showing = h.showing;
+    pages = h.pages;
+    feeds = h.feeds;
+    store = kept.each (held past) (shown_to_exist past) (settlings past) h.store;
+    distances = h.distances;
+    timers = timers.each c past h.timers;
+    bucket = h.bucket;
+    due = h.due;
+    own = h.own;
+    spelled = h.spelled;
+  };
+  words = words;
+}
+
+pub same_timers : (t : TimersContent) → TimersStay t t
+same_timers t = record { each = λ c past h. h }
+
+pub at_err : {A E : Type 0} {P : Type 0} (r : Result A E) → P → OnErr r P
+at_err (Ok x) p = tt
+at_err (Err e) p = p

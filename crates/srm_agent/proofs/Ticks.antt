@@ -1,0 +1,125 @@
+-- The entry of a tick is one that those before it allow, and the agent fits the run with it.
+use Rattle.std.proofs.Common.{◌≡◌, ℕ, ◌≤◌, Bool, List, [], ◌∷◌, ◌++◌, refl, ap, sym, ◌∙◌, subst}
+use Rattle.std.specs.Prelude.{Option, Some, option_to_list}
+use Rattle.std.specs.List.{list_any, AllByRecursion}
+use Rattle.std.proofs.lemmas.List.{append-nil}
+use Rattle.std.proofs.lemmas.List.Elements.{filter_map-append}
+use Rattle.srm_names.specs.FullName.{FullName}
+use Rattle.srm_codec.specs.declared.datagram.Datagram.{Datagram}
+use Rattle.srm_codec.specs.Spelling.{sender_of, IsSpellable}
+use Rattle.srm_timers.specs.declared.arm.Arm.{Arm}
+use Rattle.srm_agent.specs.declared.entry.Entry.{Entry}
+use Rattle.srm_agent.specs.declared.entry.Input.TheVariants.{Ticked}
+use Rattle.srm_agent.specs.declared.state.AgentState.{AgentState}
+use Rattle.srm_agent.specs.Configs.{Config}
+use Rattle.srm_agent.specs.Entries.{state, last_moment, held, shown_to_exist, drawn, heard}
+use Rattle.srm_agent.specs.Distances.{distance_calls, calls_in}
+use Rattle.srm_agent.specs.Timers.{ArmsRight, TimersRight}
+use Rattle.srm_agent.specs.Verdicts.{settlings, settling_of}
+use Rattle.srm_agent.specs.Sessions.{is_farewell, ending}
+use Rattle.srm_agent.specs.Runs.{EntryRight, state_due}
+use Rattle.srm_agent.specs.Ticking.{tick_entry}
+use Rattle.srm_agent.specs.Contents.{Content}
+use Rattle.srm_agent.specs.Fits.{Fits, TimersFit, BucketFits}
+use Rattle.srm_agent.proofs.Adding.{flat_map-snoc}
+use Rattle.srm_agent.proofs.Ending.{EndsIn, NoSessions, session_right, due_by, due_after}
+use Rattle.srm_agent.proofs.Handing.{all-append}
+use Rattle.srm_agent.proofs.Running.{steps_more, shown-page-snoc, slots-same}
+use Rattle.srm_agent.proofs.Showing.{held-snoc, shown-snoc, drawn-snoc, state-snoc}
+use Rattle.srm_agent.proofs.Spending.{tick_is_last}
+use Rattle.srm_agent.proofs.Still.{same_feeds}
+
+-- a tick hears and draws nothing, so what is held, known and told stays
+
+pub tick_held : (me moment : ℕ) (asks fixes : List FullName) (arms : List Arm) (outs : List Datagram) (after : AgentState) (past : List Entry) → held (past ++ tick_entry me moment asks fixes arms outs after ∷ []) ≡ held past
+tick_held me moment asks fixes arms outs after past = held-snoc past _ ∙ append-nil (held past)
+
+pub tick_shown : (me moment : ℕ) (asks fixes : List FullName) (arms : List Arm) (outs : List Datagram) (after : AgentState) (past : List Entry) → shown_to_exist (past ++ tick_entry me moment asks fixes arms outs after ∷ []) ≡ shown_to_exist past
+tick_shown me moment asks fixes arms outs after past = shown-snoc past _ ∙ append-nil (shown_to_exist past)
+
+pub tick_drawn : (me moment : ℕ) (asks fixes : List FullName) (arms : List Arm) (outs : List Datagram) (after : AgentState) (past : List Entry) → drawn (past ++ tick_entry me moment asks fixes arms outs after ∷ []) ≡ drawn past
+tick_drawn me moment asks fixes arms outs after past = drawn-snoc past _ ∙ append-nil (drawn past)
+
+pub tick_settlings : (me moment : ℕ) (asks fixes : List FullName) (arms : List Arm) (outs : List Datagram) (after : AgentState) (past : List Entry) → settlings (past ++ tick_entry me moment asks fixes arms outs after ∷ []) ≡ settlings past
+tick_settlings me moment asks fixes arms outs after past =
+    filter_map-append (λ (x : Entry). settling_of (heard x)) past (tick_entry me moment asks fixes arms outs after ∷ []) ∙ append-nil (settlings past)
+
+pub tick_distances : (me moment : ℕ) (asks fixes : List FullName) (arms : List Arm) (outs : List Datagram) (after : AgentState) (past : List Entry) → distance_calls me (past ++ tick_entry me moment asks fixes arms outs after ∷ []) ≡ distance_calls me past
+tick_distances me moment asks fixes arms outs after past = flat_map-snoc (calls_in me) past _ ∙ append-nil (distance_calls me past)
+
+-- what a member sends: its own, spellable, and under the rate no session message
+pub record IsSent (me : ℕ) (g : Datagram) : Type 0 where
+  pub sender : sender_of g ≡ me
+  pub spellable : IsSpellable g
+
+senders : (me : ℕ) (gs : List Datagram) → AllByRecursion (IsSent me) gs → AllByRecursion (λ g. sender_of g ≡ me) gs
+senders me [] all = tt
+senders me (g ∷ gs) all = (all.0.sender, senders me gs all.1)
+
+spellable : (me : ℕ) (gs : List Datagram) → AllByRecursion (IsSent me) gs → AllByRecursion IsSpellable gs
+spellable me [] all = tt
+spellable me (g ∷ gs) all = (all.0.spellable, spellable me gs all.1)
+
+-- what a tick at a moment does, after these entries
+pub record TickRight (c : Config) (made : ℕ) (past : List Entry) (e : Entry) (wanted : Option Bool) (went : List Datagram) (o : Option Datagram) : Type 0 where
+  pub moment : last_moment made past ≤ e.moment
+  pub arms : ArmsRight c past e
+  pub timers : TimersRight past e
+  pub outs : e.effects.outs ≡ went ++ option_to_list o
+  pub each : AllByRecursion (IsSent c.me) went
+  pub charged : NoSessions went
+  pub last : AllByRecursion (IsSent c.me) (option_to_list o)
+  pub ending : ending c made past e ≡ wanted
+  pub ends : EndsIn c past e.moment wanted o
+  pub state : e.effects.state ≡ state_due (state past) (list_any is_farewell e.effects.outs) (Some Ticked)
+
+pub tick_right : (c : Config) (made moment : ℕ) (past : List Entry) (asks fixes : List FullName) (arms : List Arm) (outs : List Datagram) (after : AgentState) (wanted : Option Bool) (went : List Datagram) (o : Option Datagram)
+    → TickRight c made past (tick_entry c.me moment asks fixes arms outs after) wanted went o → EntryRight c made (record { before = past; this = tick_entry c.me moment asks fixes arms outs after })
+tick_right c made moment past asks fixes arms outs after wanted went o t =
+    let all : AllByRecursion (IsSent c.me) outs = subst (AllByRecursion (IsSent c.me)) (sym t.outs) (all-append (IsSent c.me) went (option_to_list o) t.each t.last) in
+    record {
+      member = refl;
+      moment = t.moment;
+      verdict = refl;
+      drawn = refl;
+      arms = t.arms;
+      timers = t.timers;
+      senders = senders c.me outs all;
+      spelled = spellable c.me outs all;
+      read = tt;
+      session = session_right c made past (tick_entry c.me moment asks fixes arms outs after) wanted went o t.ending t.charged t.outs t.ends;
+      message = refl;
+      state = t.state;
+    }
+
+-- all but state, last moment, timers, bucket and the next due moment are as they were
+pub record TickKeeps {W : Type 0} (a b : Content W) : Type 0 where
+  pub config : b.config ≡ a.config
+  pub showing : b.showing ≡ a.showing
+  pub pages : b.pages ≡ a.pages
+  pub feeds : b.feeds ≡ a.feeds
+  pub store : b.store ≡ a.store
+  pub distances : b.distances ≡ a.distances
+
+pub tick_fits : {W : Type 0} (c : Config) (made moment : ℕ) (past : List Entry) (asks fixes : List FullName) (arms : List Arm) (outs : List Datagram) (after : AgentState) (wanted : Option Bool) (went : List Datagram) (o : Option Datagram) (a b : Content W)
+    → Fits c made past a → TickKeeps a b → TickRight c made past (tick_entry c.me moment asks fixes arms outs after) wanted went o
+    → b.state ≡ after → b.last ≡ moment → TimersFit c (past ++ tick_entry c.me moment asks fixes arms outs after ∷ []) b.timers → BucketFits c (past ++ tick_entry c.me moment asks fixes arms outs after ∷ []) b.bucket
+    → b.due ≡ due_by c past moment a.due o → Fits c made (past ++ tick_entry c.me moment asks fixes arms outs after ∷ []) b
+tick_fits c made moment past asks fixes arms outs after wanted went o a b h keeps t is_state is_last timers bucket is_due =
+    let right = tick_right c made moment past asks fixes arms outs after wanted went o t in
+    record {
+      run = steps_more (EntryRight c made) past _ h.run right;
+      config = keeps.config ∙ h.config;
+      state = is_state ∙ sym (state-snoc past _);
+      last = is_last ∙ sym (tick_is_last c made past _ right refl);
+      showing = keeps.showing ∙ h.showing ∙ sym (shown-page-snoc past _);
+      pages = keeps.pages ∙ h.pages ∙ sym (slots-same past _ refl);
+      feeds = rw keeps.feeds (same_feeds past _ a.feeds (λ j. refl) h.feeds);
+      store = rw (keeps.store, tick_held c.me moment asks fixes arms outs after past, tick_shown c.me moment asks fixes arms outs after past, tick_settlings c.me moment asks fixes arms outs after past) h.store;
+      distances = rw (keeps.distances, tick_distances c.me moment asks fixes arms outs after past) h.distances;
+      timers = timers;
+      bucket = bucket;
+      due = is_due ∙ ap (λ n. due_by c past moment n o) h.due ∙ sym (due_after c made past _ wanted went o t.charged t.outs t.ends);
+      own = λ page. rw (tick_drawn c.me moment asks fixes arms outs after past, tick_shown c.me moment asks fixes arms outs after past) (h.own page);
+      spelled = rw (tick_held c.me moment asks fixes arms outs after past) h.spelled;
+    }

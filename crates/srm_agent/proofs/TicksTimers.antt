@@ -1,0 +1,55 @@
+-- A tick of the timers is one of the agent that keeps them: the distances at it are those before it.
+use Rattle.std.proofs.Common.{◌≡◌, ℕ, List, [], ◌∷◌, ◌++◌, refl, ap, sym, ◌∙◌, subst}
+use Rattle.std.specs.Prelude.{None}
+use Rattle.std.specs.List.{AllByRecursion}
+use Rattle.std.proofs.lemmas.List.{append-nil}
+use Rattle.srm_names.specs.FullName.{FullName}
+use Rattle.srm_timers.specs.declared.arm.Arm.{Arm}
+use Rattle.srm_distance.specs.Fits as distances
+use Rattle.srm_bucket.specs.Waiting.{Waiting, SameQueues}
+use Rattle.srm_agent.specs.declared.agent.due.HandedOut.{HandedOut}
+use Rattle.srm_agent.specs.declared.entry.Entry.{Entry}
+use Rattle.srm_agent.specs.declared.out.Outgoing.{Outgoing}
+use Rattle.srm_agent.specs.Contents.{Content}
+use Rattle.srm_agent.specs.Entries.{heard}
+use Rattle.srm_agent.specs.Distances.{distance_calls, calls_in, calls_of}
+use Rattle.srm_agent.specs.Outs.{IsOwn, AreOwn}
+use Rattle.srm_agent.specs.TimersKept.{TimersContent, HaveSettings}
+use Rattle.srm_agent.specs.TimerCalls.{IsTableOf, AreDistancesAfter, TimersTick, WaitsAreDrawn}
+use Rattle.srm_agent.specs.Ticking.{TicksTimers, HandsOut, HandsOutNothing}
+use Rattle.srm_agent.proofs.Adding.{flat_map-snoc}
+use Rattle.srm_agent.proofs.Dueness.{ticks_right}
+use Rattle.srm_agent.proofs.Quiet.{Quiet, timers_stay, no_arms}
+
+same_calls : (me : ℕ) (past : List Entry) (e : Entry) → heard e ≡ None → distance_calls me (past ++ e ∷ []) ≡ distance_calls me past
+same_calls me past e unheard = flat_map-snoc (calls_in me) past e ∙ ap (λ o. distance_calls me past ++ calls_of me e.moment o) unheard ∙ append-nil (distance_calls me past)
+
+pub ticks_timers : {W : Type 0} (a : Content W) (asks fixes : List FullName) (dist : List ℕ) (moment : ℕ) (arms : List Arm) (new : TimersContent)
+    → IsTableOf a.distances dist → TimersTick asks fixes dist moment arms a.timers new → TicksTimers a asks fixes moment arms new
+ticks_timers a asks fixes dist moment arms new table ticks = record {
+  each = λ c made past e h t here to_ask to_fix.
+      let after : AreDistancesAfter c (past ++ e ∷ []) dist = record {
+        each = λ m lt. table.each c.me (distance_calls c.me (past ++ e ∷ [])) (subst (λ cs. distances.Fits c.me cs a.distances) (sym (same_calls c.me past e t.heard)) h.distances) m lt;
+      } in
+      ticks.each c past e t h.timers here to_ask to_fix after;
+}
+
+-- where nothing is due no timer changes
+pub nothing_due : {W : Type 0} (draw : W → ℕ × W) (a : Content W) (handed : HandedOut) (moment : ℕ) (arms : List Arm) → arms ≡ [] → HandsOutNothing handed → HandsOut draw a handed moment arms a
+nothing_due draw a handed moment arms none nothing = subst (λ as_. HandsOut draw a handed moment as_ a) (sym none) (record {
+  ticks = record {
+    each = λ c made past e h t here to_ask to_fix.
+        let quiet : Quiet e = record { unheard = t.heard; drawn = t.drawn; arms = t.arms; asks = t.asks ∙ nothing.asks; fixes = t.fixes ∙ nothing.fixes } in
+        (record { arms = no_arms c past e quiet; fits = timers_stay c past e a.timers quiet h.timers }, ticks_right moment past e [] handed.asks handed.fixes t here to_ask to_fix);
+  };
+  drawn = refl;
+})
+
+pub hands_out : {W : Type 0} (draw : W → ℕ × W) (a b : Content W) (handed : HandedOut) (dist : List ℕ) (moment : ℕ) (arms : List Arm)
+    → HaveSettings a.config a.timers → IsTableOf a.distances dist → TimersTick handed.asks handed.fixes dist moment arms a.timers b.timers → WaitsAreDrawn draw a.timers a.words arms b.words → HandsOut draw a handed moment arms b
+hands_out draw a b handed dist moment arms settings table ticks drawn =
+    record { ticks = ticks_timers a handed.asks handed.fixes dist moment arms b.timers table ticks; drawn = drawn.each a.config settings }
+
+-- what waits is own where the queues are the same
+pub own_same : (me session : ℕ) (old new : Waiting Outgoing) → AreOwn me session old → SameQueues old new → AreOwn me session new
+own_same me session old new own same = record { each = λ class. subst (AllByRecursion (λ i. IsOwn me session i.value)) (sym (same class)) (own.each class) }

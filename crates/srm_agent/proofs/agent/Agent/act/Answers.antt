@@ -1,0 +1,50 @@
+use Rattle.std.proofs.Common.{◌∙◌, length}
+use Rattle.srm_agent.proofs.Acting.{tick_stays, acts_enters, acts_answer, room_to_send, own_to_send}
+use Rattle.srm_agent.proofs.Taken.{at_err}
+use Rattle.srm_agent.proofs.agent.Agent.act.Goals as goal
+
+pub returns-in_err-arms-clause-err : goal.returns-in_err-arms-clause-err
+returns-in_err-arms-clause-err g c = at_err c.from_residual-in_err-arms.result (tick_stays c.args.self.now c.room_to_go.new.self c.hand_out.new.self c.room_to_go.ensures.rest c.room_to_go.ensures.bucket c.hand_out.ensures.rest c.in_err-arms.ensures.timers c.in_err-arms.ensures.words)
+
+pub send-went-requires-clause-room : goal.send-went-requires-clause-room
+send-went-requires-clause-room g c = room_to_send c.args.self.now c.room_to_go.new.self c.hand_out.new.self (length c.args.due.answers.items) c.len.result c.in_ok-went.went.room
+    c.room_to_go.ensures.rest c.room_to_go.ensures.queues c.hand_out.ensures.rest (c.len.ensures ∙ c.args.due.answers.ok.0) c.in_ok-went.ensures.room
+
+pub send-went-requires-clause-own : goal.send-went-requires-clause-own
+send-went-requires-clause-own g c = own_to_send c.args.self.now c.room_to_go.new.self c.hand_out.new.self c.args.due.answers.items c.room_to_go.ensures.rest c.hand_out.ensures.rest c.requires.due.answers.spelled.own
+
+pub returns-clause-ok : goal.returns-clause-ok
+returns-clause-ok g c = acts_enters g.W.Words.draw c.args.self.now c.room_to_go.new.self c.hand_out.new.self c.send-went.new.self c.end-last.new.self c.args.moment c.args.due c.in_ok-arms.arms c.in_ok-arms.noted_arms c.send-went.result
+    c.end-last.result c.into_items-outs.result.1 c.ticked.result (record {
+      here = c.requires.here;
+      later = c.requires.later;
+      due_is = c.requires.due;
+      room = c.room_to_go.ensures.rest;
+      bucket = c.room_to_go.ensures.bucket;
+      handed = c.in_ok-arms.ensures.ok;
+      handed_rest = c.hand_out.ensures.rest;
+      waited = c.send-went.ensures.waited;
+      sent = c.send-went.ensures.sends;
+      sent_rest = c.send-went.ensures.rest;
+      last_is = c.end-last.ensures.value;
+      ended = c.end-last.ensures.new;
+      outs_are = c.into_items-outs.ensures.noted ∙ c.with_last.ensures.noted;
+    }) c.in_ok-arms.ensures.noted c.ticked.ensures
+
+pub returns-clause-answer : goal.returns-clause-answer
+returns-clause-answer g c = rw (← c.self.view_is) at (acts_answer g.W.Words.draw c.args.self.now c.room_to_go.new.self c.hand_out.new.self c.send-went.new.self c.end-last.new.self c.args.moment c.args.due c.in_ok-arms.arms c.in_ok-arms.noted_arms c.send-went.result
+    c.end-last.result c.into_items-outs.result.1 c.into_items-outs.result.0 c.ticked.result (record {
+      here = c.requires.here;
+      later = c.requires.later;
+      due_is = c.requires.due;
+      room = c.room_to_go.ensures.rest;
+      bucket = c.room_to_go.ensures.bucket;
+      handed = c.in_ok-arms.ensures.ok;
+      handed_rest = c.hand_out.ensures.rest;
+      waited = c.send-went.ensures.waited;
+      sent = c.send-went.ensures.sends;
+      sent_rest = c.send-went.ensures.rest;
+      last_is = c.end-last.ensures.value;
+      ended = c.end-last.ensures.new;
+      outs_are = c.into_items-outs.ensures.noted ∙ c.with_last.ensures.noted;
+    }) c.in_ok-arms.ensures.noted (c.into_items-outs.ensures.outs ∙ c.with_last.ensures.outs) c.ticked.ensures)

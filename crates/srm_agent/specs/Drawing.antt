@@ -1,0 +1,54 @@
+-- What a draw is refused for, what it makes, and what it leaves.
+use Rattle.std.specs.Prelude.{◌≡◌, ℕ, ◌+◌, nat_lt, nat_le, Bool, List, [], ◌∷◌, Option, Some, None, if◌then◌else◌}
+use Rattle.srm_names.specs.declared.limits.TheConstants.{DRAWOPS, BODY}
+use Rattle.srm_names.specs.declared.page.Page.{Page}
+use Rattle.srm_names.specs.declared.stream.Stream.{Stream}
+use Rattle.srm_names.specs.declared.drawop.Drawop.{Drawop}
+use Rattle.srm_names.specs.FullName.{FullName}
+use Rattle.srm_names.specs.Names.{named}
+use Rattle.srm_codec.specs.declared.datagram.Datagram.TheVariants.{Data}
+use Rattle.srm_codec.specs.Spelling.{length_of}
+use Rattle.srm_agent.specs.declared.agent.drawing.Draft.{Draft}
+use Rattle.srm_agent.specs.declared.state.AgentState.{AgentState}
+use Rattle.srm_agent.specs.declared.fault.AgentFault.{AgentFault}
+use Rattle.srm_agent.specs.declared.fault.AgentFault.TheVariants as faults
+use Rattle.srm_agent.specs.declared.entry.Entry.{Entry}
+use Rattle.srm_agent.specs.declared.entry.Input.TheVariants.{Drew}
+use Rattle.srm_agent.specs.declared.entry.Verdict.{Verdict}
+use Rattle.srm_agent.specs.declared.entry.Verdict.TheVariants.{Done, Refused}
+use Rattle.srm_agent.specs.Entries.{is_gone, is_leaving}
+use Rattle.srm_agent.specs.PageTables.{lacks_room}
+use Rattle.srm_agent.specs.Outs.{IsOutgoingOf}
+
+abbrev pub verdict_by : Option AgentFault → Verdict
+verdict_by None = Done
+verdict_by (Some fault) = Refused fault
+
+-- all that a draw may be refused for, but that the stream is full
+abbrev pub refusals : AgentState → List Page → Page → ℕ → List (Bool × Verdict)
+refusals state pages page length =
+    (is_gone state, Refused faults.Gone)
+    ∷ (is_leaving state, Refused faults.Leaving)
+    ∷ (nat_lt BODY length, Refused faults.BodyLong)
+    ∷ (lacks_room pages page, Refused faults.PageLimit) ∷ []
+
+-- the name after so many of a stream, and None where it is full
+abbrev pub name_after : Stream → ℕ → Option FullName
+name_after s count = if nat_le DRAWOPS count then None else Some (named s (count + 1))
+
+-- the entry of a draw that is done
+abbrev pub drawn_entry : ℕ → ℕ → Page → List ℕ → Drawop → AgentState → Entry
+drawn_entry me moment page body drawop after = record {
+  member = me;
+  moment = moment;
+  input = Drew page body;
+  verdict = Done;
+  effects = record { drawn = Some drawop; arms = []; asks = []; fixes = []; outs = []; message = None; state = after };
+}
+
+-- the drawop in each form in which the draw needs it
+pub record IsDraftOf (session : ℕ) (drawop : Drawop) (draft : Draft) : Type 0 where
+  pub held : draft.held ≡ drawop
+  pub noted : draft.noted ≡ drawop
+  pub going : IsOutgoingOf session (Data drawop) draft.going.value
+  pub length : draft.going.length ≡ length_of (Data drawop)

@@ -1,0 +1,55 @@
+-- What hearing one datagram says of its entry.
+use Rattle.std.specs.Prelude.{◌≡◌, ◌≢◌, ℕ, List, [], ◌∷◌, ◌++◌, None}
+use Rattle.srm_names.specs.declared.drawop.Drawop.{Drawop}
+use Rattle.srm_names.specs.FullName.{FullName}
+use Rattle.srm_names.specs.Names.{AreExactly}
+use Rattle.srm_codec.specs.declared.datagram.Datagram.{Datagram}
+use Rattle.srm_codec.specs.declared.fault.DecodeFault.{DecodeFault}
+use Rattle.srm_codec.specs.declared.fault.DecodeFault.TheVariants as decoding
+use Rattle.srm_store.specs.Finals.{Settling}
+use Rattle.srm_store.specs.Fits as store
+use Rattle.srm_store.specs.Stores.{StoreContent}
+use Rattle.srm_timers.specs.declared.arm.Arm.{Arm}
+use Rattle.srm_agent.specs.declared.cause.Cause.TheVariants as causes
+use Rattle.srm_agent.specs.declared.state.AgentState.{AgentState}
+use Rattle.srm_agent.specs.declared.entry.Entry.{Entry}
+use Rattle.srm_agent.specs.declared.entry.Input.TheVariants.{Heard, Noise}
+use Rattle.srm_agent.specs.declared.entry.Verdict.TheVariants.{Done, Ignored}
+use Rattle.srm_agent.specs.Configs.{Config}
+use Rattle.srm_agent.specs.Contents.{Content}
+use Rattle.srm_agent.specs.Fits.{Fits}
+use Rattle.srm_agent.specs.Entries.{known}
+use Rattle.srm_agent.specs.Growth.{is_between}
+use Rattle.srm_agent.specs.Verdicts.{verdict_of}
+
+-- the verdict is that on the datagram, after whatever run the agent fitted
+pub record IsJudgedBy {W : Type 0} (datagram : Datagram) (old : Content W) (e : Entry) : Type 0 where
+  pub each : (c : Config) (made : ℕ) (past : List Entry) → Fits c made past old → e.verdict ≡ verdict_of c past (Heard datagram)
+
+-- what can't be read is noise with its fault, which is none of memory
+pub record IsNoiseFor (fault : DecodeFault) (e : Entry) : Type 0 where
+  pub input : e.input ≡ Noise
+  pub verdict : e.verdict ≡ Ignored (causes.Decode fault)
+  pub other : fault ≢ decoding.Memory
+
+-- the datagram is taken, after whatever run the agent fitted
+pub record IsTaken {W : Type 0} (datagram : Datagram) (old : Content W) : Type 0 where
+  pub each : (c : Config) (made : ℕ) (past : List Entry) → Fits c made past old → Done ≡ verdict_of c past (Heard datagram)
+
+-- the entry in which a datagram was heard and taken: it sets timers, and does nothing else
+abbrev pub heard_entry : ℕ → ℕ → Datagram → List Arm → AgentState → Entry
+heard_entry me moment datagram arms state = record {
+  member = me;
+  moment = moment;
+  input = Heard datagram;
+  verdict = Done;
+  effects = record { drawn = None; arms = arms; asks = []; fixes = []; outs = []; message = None; state = state };
+}
+
+-- a drawop is held, and its name known of
+pub record HoldsToo (d : Drawop) (old new : StoreContent) : Type 0 where
+  pub each : (inserted : List Drawop) (shown : List FullName) (settled : List Settling) → store.Fits inserted shown settled old → store.Fits (inserted ++ d ∷ []) (shown ++ d.name ∷ []) settled new
+
+-- the names are those below this one that aren't known of, in order, after whatever run the agent fitted
+pub record IsFreshBelow {W : Type 0} (name : FullName) (old : Content W) (names : List FullName) : Type 0 where
+  pub each : (c : Config) (made : ℕ) (past : List Entry) → Fits c made past old → AreExactly (is_between name.stream (known past name.stream) name.number) names

@@ -1,0 +1,109 @@
+-- What a tick makes before anything changes, and what each of its steps does.
+use Rattle.std.specs.Prelude.{◌≡◌, ℕ, ◌+◌, ◌==◌, Bool, true, false, not, ◌&&◌, List, [], length, if◌then◌else◌, Option, Some, None, is_some, nat_le}
+use Rattle.srm_names.specs.FullName.{FullName}
+use Rattle.srm_names.specs.Names.{ascending, name_below}
+use Rattle.srm_codec.specs.declared.datagram.Datagram.{Datagram}
+use Rattle.srm_timers.specs.declared.arm.Arm.{Arm}
+use Rattle.srm_timers.specs.Arms.{AreDrawn}
+use Rattle.srm_timers.specs.Deadlines.{DueAmong}
+use Rattle.srm_bucket.specs.declared.class.Class.TheVariants.{New}
+use Rattle.srm_bucket.specs.Content.{Content as BucketContent}
+use Rattle.srm_bucket.specs.Waiting.{queue}
+use Rattle.srm_agent.specs.declared.agent.due.Due.{Due}
+use Rattle.srm_agent.specs.declared.agent.due.Report.{Report}
+use Rattle.srm_agent.specs.declared.agent.due.HandedOut.{HandedOut}
+use Rattle.srm_agent.specs.declared.answers.Answer.{Answer}
+use Rattle.srm_agent.specs.declared.entry.Entry.{Entry}
+use Rattle.srm_agent.specs.declared.entry.Input.TheVariants.{Ticked}
+use Rattle.srm_agent.specs.declared.entry.Verdict.TheVariants.{Done}
+use Rattle.srm_agent.specs.declared.out.Outgoing.{Outgoing}
+use Rattle.srm_agent.specs.declared.state.AgentState.{AgentState}
+use Rattle.srm_agent.specs.declared.state.AgentState.TheVariants.{Gone}
+use Rattle.srm_agent.specs.Configs.{Config}
+use Rattle.srm_agent.specs.Contents.{Content}
+use Rattle.srm_agent.specs.Entries.{state, is_gone, is_leaving}
+use Rattle.srm_agent.specs.Timers.{low_of, high_of, TimersRight}
+use Rattle.srm_agent.specs.Sessions.{session_pause}
+use Rattle.srm_agent.specs.Fits.{Fits}
+use Rattle.srm_agent.specs.TimersKept.{TimersContent}
+use Rattle.srm_agent.specs.TimerCalls.{AsksPending, FixesPending, AreToAsk, AreToFix, TicksWith, TimersAdd}
+use Rattle.srm_agent.specs.Reports.{IsReportSpelled}
+use Rattle.srm_agent.specs.Answering.{AnswersDue}
+use Rattle.srm_agent.specs.Outbox.{WentContent, HandsIn, LetsGo}
+
+-- the entry of a tick: what it hands out, which timers it sets, what it sends, and the state after it
+abbrev pub tick_entry : ℕ → ℕ → List FullName → List FullName → List Arm → List Datagram → AgentState → Entry
+tick_entry me moment asks fixes arms outs after = record {
+  member = me;
+  moment = moment;
+  input = Ticked;
+  verdict = Done;
+  effects = record { drawn = None; arms = arms; asks = asks; fixes = fixes; outs = outs; message = None; state = after };
+}
+
+-- a session message or a farewell of an agent at a moment, and when the next one is due after it
+pub record IsReportAt {W : Type 0} (a : Content W) (moment : ℕ) (farewell : Bool) (r : Report) : Type 0 where
+  pub report : IsReportSpelled a moment farewell r.outgoing
+  pub next : (c : Config) (made : ℕ) (past : List Entry) → Fits c made past a → r.next ≡ moment + session_pause c past r.outgoing.out.datagram
+
+-- there is one exactly where it is wanted
+abbrev pub IsReportIf : {W : Type 0} → Bool → Content W → ℕ → Bool → Option Report → Type 0
+IsReportIf wanted a moment farewell None = wanted ≡ false
+IsReportIf wanted a moment farewell (Some r) = (wanted ≡ true) × IsReportAt a moment farewell r
+
+-- nothing is asked for or repaired
+pub record HandsOutNothing (h : HandedOut) : Type 0 where
+  pub asks : h.asks ≡ []
+  pub fixes : h.fixes ≡ []
+
+-- the names whose timers ran out, over whatever run the agent fits
+pub record IsToHandOut {W : Type 0} (a : Content W) (moment : ℕ) (h : HandedOut) : Type 0 where
+  pub asks : AsksPending moment a.timers h.asks
+  pub rising : ascending name_below h.asks ≡ true
+  pub all_asks : DueAmong moment a.timers.asks.ends.places h.asks
+  pub fixes : FixesPending moment a.timers h.fixes
+  pub all_fixes : DueAmong moment a.timers.fixes.ends.places h.fixes
+
+-- All that a tick hands out, sends and answers: the names whose timers ran out, the requests and repairs for them, the farewell of a
+-- member that is leaving, and the session message that is due.
+pub record IsDue {W : Type 0} (a : Content W) (moment : ℕ) (d : Due) : Type 0 where
+  pub handed : IsToHandOut a moment d.handed
+  pub noted : d.noted ≡ d.handed
+  pub answers : AnswersDue a d.handed.asks d.handed.fixes d.answers.items
+  pub farewell : IsReportIf (is_leaving a.state) a moment true d.farewell
+  pub report : IsReportIf (nat_le a.due moment) a moment false d.report
+
+-- the timers whose moment has come are handed out, and the timers are those after it
+pub record TicksTimers {W : Type 0} (a : Content W) (asks fixes : List FullName) (moment : ℕ) (arms : List Arm) (new : TimersContent) : Type 0 where
+  pub each : (c : Config) (made : ℕ) (past : List Entry) (e : Entry) → Fits c made past a → TicksWith asks fixes moment arms e → is_gone (state past) ≡ false
+      → AreToAsk moment past asks → AreToFix moment past fixes → TimersAdd c past e new × TimersRight past e
+
+-- these names were handed out, and these timers set by the next words
+pub record HandsOut {W : Type 0} (draw : W → ℕ × W) (a : Content W) (handed : HandedOut) (moment : ℕ) (arms : List Arm) (b : Content W) : Type 0 where
+  pub ticks : TicksTimers a handed.asks handed.fixes moment arms b.timers
+  pub drawn : AreDrawn draw (low_of a.config) (high_of a.config) a.words arms b.words
+
+-- answers are handed in, and what may go at a moment goes
+pub record SendsAll (moment : ℕ) (answers : List Answer) (old new : BucketContent Outgoing) (went : WentContent) : Type 0 where
+  pub handed : BucketContent Outgoing
+  pub hands : HandsIn answers old handed
+  pub lets : LetsGo moment handed new went
+
+-- whether data that this member drew still waits
+abbrev pub data_waits : BucketContent Outgoing → Bool
+data_waits b = not (length (queue b.waiting New) == 0)
+
+-- the message that a tick ends with: the farewell of a member that is leaving, once no data of its own waits, else the session message
+abbrev pub last_report : (waits : Bool) → (farewell report : Option Report) → Option Report
+last_report true farewell report = report
+last_report false None report = report
+last_report false (Some farewell) report = Some farewell
+
+-- the state after it
+abbrev pub state_after : (waits : Bool) → (farewell : Option Report) → AgentState → AgentState
+state_after waits farewell old = if is_some farewell && not waits then Gone else old
+
+-- when the next session message is due after it
+abbrev pub due_then : Option Report → ℕ → ℕ
+due_then None old = old
+due_then (Some r) old = r.next

@@ -1,0 +1,23 @@
+-- When an agent next does something, over all runs that it fits, and by what it keeps.
+use Rattle.std.specs.Prelude.{ℕ, ◌==◌, ◌&&◌, min, List, length, if◌then◌else◌, Option, Some, None}
+use Rattle.srm_bucket.specs.declared.class.Class.TheVariants.{New}
+use Rattle.srm_bucket.specs.Waiting.{queue}
+use Rattle.srm_agent.specs.declared.entry.Entry.{Entry}
+use Rattle.srm_agent.specs.Configs.{Config}
+use Rattle.srm_agent.specs.Entries.{is_leaving}
+use Rattle.srm_agent.specs.Contents.{Content}
+use Rattle.srm_agent.specs.Fits.{Fits}
+use Rattle.srm_agent.specs.Promises.{IsNextDue}
+
+-- after whatever run the agent fits, this is the next moment at which a tick does something
+pub record NextDue {W : Type 0} (a : Content W) (moment : Option ℕ) : Type 0 where
+  pub each : (c : Config) (made : ℕ) (past : List Entry) → Fits c made past a → IsNextDue c made past moment
+
+-- from when on a tick sends a session message: a farewell at once where the member is leaving and no new data waits
+abbrev pub report_next : {W : Type 0} → Content W → ℕ
+report_next a = if is_leaving a.state && (length (queue a.bucket.waiting New) == 0) then a.last else a.due
+
+-- the sooner of two moments, the first of which may be none
+abbrev pub sooner_of : Option ℕ → ℕ → ℕ
+sooner_of None r = r
+sooner_of (Some t) r = min t r

@@ -1,0 +1,257 @@
+//! Drawing.
+
+ghost use Rattle.std.specs.Prelude.{◌≡◌, ◌≤◌, ◌<◌, ℕ, List, [], ◌∷◌, Some, Ok, Err, IfOk, OnOk, OnErr, IfSome, true, false, length};
+ghost use Rattle.srm_names.specs.declared.drawop.Drawop.{Drawop as ADrawop};
+ghost use Rattle.srm_names.specs.declared.limits.TheConstants.{MOMENT, BODY, DRAWOPS};
+ghost use Rattle.srm_names.specs.FullName.{FullName};
+ghost use Rattle.srm_codec.specs.declared.datagram.Datagram.TheVariants.{Data};
+ghost use Rattle.srm_codec.specs.Spelling.{is_drawop, length_of};
+ghost use Rattle.srm_store.specs.declared.fault.StoreFault.TheVariants.{PageLimit};
+ghost use Rattle.srm_store.specs.Held.{outgrow};
+ghost use Rattle.srm_store.specs.Finals.{Settling};
+ghost use Rattle.srm_store.specs.Stores.{AreReady};
+ghost use Rattle.srm_store.specs.Fits.{Fits as StoreFits, StillFits};
+ghost use Rattle.srm_bucket.specs.declared.class.Class.TheVariants.{New};
+ghost use Rattle.srm_bucket.specs.declared.limits.TheConstants.{LEAST_LENGTH, GREATEST_LENGTH};
+ghost use Rattle.srm_bucket.specs.Calls.{Handed};
+ghost use Rattle.srm_bucket.specs.Fits.{Adds, Stays as BucketStays};
+ghost use Rattle.srm_agent.specs.declared.entry.Entry.{Entry as AnEntry};
+ghost use Rattle.srm_agent.specs.Configs.{Config as Settings};
+ghost use Rattle.srm_agent.specs.Verdicts.{first_cause, stream_on};
+ghost use Rattle.srm_agent.specs.Entries.{known};
+ghost use Rattle.srm_agent.specs.PageTables.{lacks_room, with_page};
+ghost use Rattle.srm_agent.specs.Drawing.{verdict_by, refusals, name_after, drawn_entry, IsDraftOf};
+ghost use Rattle.srm_agent.specs.Heeding.{HoldsToo};
+ghost use Rattle.srm_agent.specs.Outs.{IsOutgoingOf, IsOwn};
+ghost use Rattle.srm_agent.specs.Fits.{Fits};
+ghost use Rattle.srm_agent.specs.Noting.{Enters, Stays, AnswersAs, Does, IsAllowed, IsDrawnName};
+
+use super::Agent;
+use crate::entry::{Effects, Entry, Input, Verdict};
+use crate::fault::AgentFault;
+use crate::keeping::keep;
+use crate::noted::Noted;
+use crate::out::Outgoing;
+use crate::state::AgentState;
+use bytes::Bytes;
+use srm_bucket::{Class, Item};
+use srm_codec::{Datagram, length};
+use srm_names::{BODY, Drawop, Items, MEMBERS, Name, Page, Stream};
+use srm_store::StoreFault;
+use srm_timers::Words;
+use std::alloc::{AllocError, Global};
+
+/// A drawop that is about to be drawn: one to hold, one for the entry, and one to send.
+#[derive(Debug, Drop)]
+struct Draft {
+    held: Drawop,
+    noted: Drawop,
+    going: Item<Outgoing>,
+}
+
+impl<W: Words + Drop> Agent<W> {
+    /// Draws on a page: the next drawop of this member there, with this body and the moment as its stamp. It is sent to the
+    /// others when the rate lets it go. A page that isn't in the table is added to it. The answer is the drawop's name.
+    ///
+    /// Refused are, in this order: [`AgentFault::Gone`]; [`AgentFault::Leaving`]; [`AgentFault::BodyLong`] where the body has
+    /// more than 1,024 bytes; [`AgentFault::PageLimit`] where the page finds no slot; [`AgentFault::StreamFull`] where this
+    /// member drew 65,536 drawops on the page; [`AgentFault::Memory`].
+    pub fn draw_noted(
+        &mut self,
+        page: Page,
+        body: Bytes,
+        now: u64,
+    ) -> Result<Noted<Name>, AllocError>
+        requires { now ≤ MOMENT }
+        ensures ok { IfOk result (λ noted. Enters W.draw (Some now) (Input.Drew page body) self.old self.new noted.entry) }
+        ensures answer { IfOk result (λ noted. AnswersAs (IsDrawnName noted.entry) noted.entry.verdict noted.answer) }
+        ensures err { OnErr result (Stays self.old self.new) }
+        ensures allowed { OnErr result (IsAllowed (Input.Drew page body) self.old) }
+    {
+        let moment = self.moment(now);
+        if let Some(fault) = self.refusal(&page, body.len()) {
+            return Ok(self.refused(moment, Input::Drew(page, body), fault));
+        }
+        let Some(name) = self.next_name(&page) else {
+            return Ok(self.refused(moment, Input::Drew(page, body), AgentFault::StreamFull));
+        };
+        let draft = match self.draft(name, moment, &body) {
+            Ok(draft) => draft,
+            Err(StoreFault::PageLimit) => {
+                return Ok(self.refused(moment, Input::Drew(page, body), AgentFault::PageLimit));
+            }
+            Err(StoreFault::Memory) => return Err(AllocError),
+        };
+        let entry = self.drew(moment, page, body, draft.noted);
+        self.take_up(&page, moment, draft.held, draft.going);
+        Ok(Noted {
+            answer: Ok(name),
+            entry,
+        })
+    }
+
+    /// [`draw_noted`](Agent::draw_noted) without its entry.
+    pub fn draw(&mut self, page: Page, body: Bytes, now: u64) -> Result<Name, AgentFault>
+        requires { now ≤ MOMENT }
+        ensures { Does W.draw (Some now) (Input.Drew page body) IsDrawnName self.old self.new result }
+    {
+        self.draw_noted(page, body, now)?.answer
+    }
+
+    /// What a draw is refused for, but that the stream is full: the first that holds.
+    fn refusal(&self, page: &Page, length: usize) -> Option<AgentFault>
+        ensures { verdict_by result ≡ first_cause (refusals self.now.state self.now.pages page.now length) }
+    {
+        match self.state {
+            AgentState::Gone => return Some(AgentFault::Gone),
+            AgentState::Leaving => return Some(AgentFault::Leaving),
+            AgentState::Active => {}
+        }
+        if length > usize::from(BODY) {
+            return Some(AgentFault::BodyLong);
+        }
+        if !self.pages.has_room(page) {
+            return Some(AgentFault::PageLimit);
+        }
+        None
+    }
+
+    /// The name of this member's next drawop on a page, and `None` where the stream is full. All that it drew there is known.
+    fn next_name(&self, page: &Page) -> Option<Name>
+        ensures value { (c : Settings) (made : ℕ) (past : List AnEntry) → Fits c made past self.now → result ≡ name_after (stream_on c.me page.now) (known past (stream_on c.me page.now)) }
+        ensures own { IfSome result (λ name. name.stream.source ≡ self.now.config.me) }
+    {
+        self.next_in(Stream {
+            source: self.config.me(),
+            page: *page,
+        })
+    }
+
+    /// The name after all that is known of a stream.
+    fn next_in(&self, stream: Stream) -> Option<Name>
+        ensures value { (c : Settings) (made : ℕ) (past : List AnEntry) → Fits c made past self.now → result ≡ name_after stream (known past stream) }
+        ensures of { IfSome result (λ name. name.stream ≡ stream) }
+    {
+        let known = self.store.known(stream);
+        name_after(&stream, known)
+    }
+
+    /// Makes a drawop in each form in which it is needed, and room for it, so that drawing it takes no memory.
+    fn draft(&mut self, name: Name, moment: u64, body: &Bytes) -> Result<Draft, StoreFault>
+        requires moment { moment ≤ MOMENT }
+        requires short { length body.now ≤ BODY }
+        ensures rest { self.new ≡ record self.old { store = self.new.store; bucket = self.new.bucket } }
+        ensures store { StillFits self.old.store self.new.store }
+        ensures bucket { BucketStays self.old.bucket self.new.bucket }
+        ensures made { IfOk result (IsDraftOf self.old.config.session (record { name = name; stamp = moment; body = body.now })) }
+        ensures spellable { OnOk result (is_drawop (record { name = name; stamp = moment; body = body.now })) }
+        ensures ready { OnOk result (AreReady (name ∷ []) self.new.store) }
+        ensures room { OnOk result (0 < self.new.bucket.waiting.room) }
+        ensures limit { result ≡ Err PageLimit → (inserted : List ADrawop) (shown : List FullName) (settled : List Settling) → StoreFits inserted shown settled self.old.store
+            → outgrow inserted shown (name.stream.page ∷ []) ≡ true }
+        ensures same { result ≡ Err PageLimit → self.new ≡ self.old }
+    {
+        self.store.room(&[name])?;
+        self.bucket.room(1)?;
+        let draft = make_draft(self.alloc, self.config.session(), name, moment, body)?;
+        Ok(draft)
+    }
+
+    /// From this moment on the drawop is held, and waits to be sent, and its page is in the table.
+    fn take_up(&mut self, page: &Page, moment: u64, drawop: Drawop, going: Item<Outgoing>)
+        requires room { lacks_room self.old.pages page.now ≡ false }
+        requires moment { moment ≤ MOMENT }
+        requires ready { AreReady (drawop.name ∷ []) self.old.store }
+        requires waiting { 0 < self.old.bucket.waiting.room }
+        requires least { LEAST_LENGTH ≤ going.length }
+        requires greatest { going.length ≤ GREATEST_LENGTH }
+        requires own { IsOwn self.old.config.me self.old.config.session going.value }
+        ensures rest { self.new ≡ record self.old { last = moment; pages = with_page self.old.pages page.now; store = self.new.store; bucket = self.new.bucket } }
+        ensures store { HoldsToo drawop self.old.store self.new.store }
+        ensures bucket { Adds (Handed (record { class = New; item = going })) self.old.bucket self.new.bucket }
+    {
+        self.pages.add(*page);
+        keep(&mut self.store, drawop);
+        self.bucket.hand(Class::New, going).unwrap();
+        self.last = moment;
+    }
+
+    /// The entry of a draw that is done. It takes no memory.
+    fn drew(&self, moment: u64, page: Page, body: Bytes, drawop: Drawop) -> Entry
+        ensures { result ≡ drawn_entry self.now.config.me moment page body drawop self.now.state }
+    {
+        Entry {
+            member: self.config.me(),
+            moment,
+            input: Input::Drew(page, body),
+            verdict: Verdict::Done,
+            effects: Effects {
+                drawn: Some(drawop),
+                arms: Items::new(Vec::new(self.alloc)),
+                asks: Items::new(Vec::new(self.alloc)),
+                fixes: Items::new(Vec::new(self.alloc)),
+                outs: Items::new(Vec::new(self.alloc)),
+                message: None,
+                state: self.state,
+            },
+        }
+    }
+}
+
+/// The name after so many of a stream.
+fn name_after(stream: &Stream, count: u32) -> Option<Name>
+    requires { count ≤ DRAWOPS }
+    ensures value { result ≡ name_after stream.now count }
+    ensures of { IfSome result (λ name. name.stream ≡ stream.now) }
+{
+    Name::new(stream.source, stream.page, count + 1)
+}
+
+/// A drawop to hold, to note and to send.
+fn make_draft(
+    alloc: Global,
+    session: u32,
+    name: Name,
+    moment: u64,
+    body: &Bytes,
+) -> Result<Draft, AllocError>
+    requires moment { moment ≤ MOMENT }
+    requires short { length body.now ≤ BODY }
+    ensures made { IfOk result (IsDraftOf session (record { name = name; stamp = moment; body = body.now })) }
+    ensures spellable { OnOk result (is_drawop (record { name = name; stamp = moment; body = body.now })) }
+{
+    let held = stamped(name, moment, body)?;
+    let noted = held.copy()?;
+    let going = going(alloc, session, held.copy()?)?;
+    Ok(Draft { held, noted, going })
+}
+
+/// A drawop with its own moment as stamp.
+fn stamped(name: Name, moment: u64, body: &Bytes) -> Result<Drawop, AllocError>
+    requires moment { moment ≤ MOMENT }
+    requires short { length body.now ≤ BODY }
+    ensures value { IfOk result (λ drawop. drawop ≡ record { name = name; stamp = moment; body = body.now }) }
+    ensures spellable { IfOk result is_drawop }
+{
+    prove!(name.source().number() < MEMBERS);
+    prove!(name.stream().page.creator.number() < MEMBERS);
+    Ok(Drawop {
+        name,
+        stamp: moment,
+        body: body.clone()?,
+    })
+}
+
+/// A drawop to send, which is charged the bytes of its datagram.
+fn going(alloc: Global, session: u32, drawop: Drawop) -> Result<Item<Outgoing>, AllocError>
+    requires { is_drawop drawop }
+    ensures value { IfOk result (λ item. IsOutgoingOf session (Data drawop) item.value) }
+    ensures length { IfOk result (λ item. item.length ≡ length_of (Data drawop)) }
+{
+    let datagram = Datagram::Data(drawop);
+    let length = length(&datagram) as u32;
+    Ok(Item {
+        value: Outgoing::new(alloc, session, datagram)?,
+        length,
+    })
+}

@@ -1,0 +1,149 @@
+//! What is due at a moment.
+
+ghost use Rattle.std.specs.Prelude.{◌≡◌, ◌≤◌, true, IfOk};
+ghost use Rattle.std.specs.Bool.{OnTrue};
+ghost use Rattle.srm_names.specs.declared.limits.TheConstants.{MOMENT};
+ghost use Rattle.srm_names.specs.Names.{ascending, name_below};
+ghost use Rattle.srm_agent.specs.Answering.{AnswersDue};
+ghost use Rattle.srm_agent.specs.Entries.{is_leaving};
+ghost use Rattle.srm_agent.specs.Ticking.{HandsOutNothing, IsDue, IsReportAt, IsReportIf, IsToHandOut};
+
+use super::Agent;
+use crate::answers::{Answer, answering, spelled};
+use crate::out::Outgoing;
+use crate::state::AgentState;
+use srm_names::{Items, Name};
+use srm_timers::Words;
+use std::alloc::{AllocError, Global};
+use std::collections::VecDeque;
+
+/// What is due at a moment. It is made before anything changes.
+#[derive(Drop)]
+pub(super) struct Due {
+    pub handed: HandedOut,
+    /// The same, for the entry.
+    pub noted: HandedOut,
+    /// The requests and the repairs for them.
+    pub answers: VecDeque<Answer>,
+    /// What a member that is leaving ends with, once no data of its own waits.
+    pub farewell: Option<Report>,
+    /// The session message, where one is due.
+    pub report: Option<Report>,
+}
+
+/// What a tick hands out.
+#[derive(Drop)]
+pub(super) struct HandedOut {
+    /// The names to ask for, in order.
+    pub asks: Items<Name>,
+    /// The names to repair, in order.
+    pub fixes: Items<Name>,
+}
+
+impl HandedOut {
+    pub(super) fn is_empty(&self) -> bool
+        ensures { OnTrue result (HandsOutNothing self.now) }
+    {
+        self.asks.as_slice().is_empty() && self.fixes.as_slice().is_empty()
+    }
+}
+
+/// A session message or a farewell.
+#[derive(Drop)]
+pub(super) struct Report {
+    pub outgoing: Outgoing,
+    /// When the next one is due after it, in microseconds.
+    pub next: u64,
+}
+
+impl<W: Words + Drop> Agent<W> {
+    /// What is due at a moment, in microseconds, where the member isn't gone. Only want of memory refuses it.
+    pub(super) fn due_at(&self, moment: u64) -> Result<Due, AllocError>
+        requires { moment ≤ MOMENT }
+        ensures { IfOk result (IsDue self.now moment) }
+    {
+        let handed = self.to_hand_out(moment)?;
+        let noted = copy_of(self.alloc, &handed)?;
+        let answers = self.answers_due(handed.asks.as_slice(), handed.fixes.as_slice())?;
+        let farewell = self.report_if(self.is_leaving(), true, moment)?;
+        let report = self.report_if(self.due <= moment, false, moment)?;
+        Ok(Due {
+            handed,
+            noted,
+            answers,
+            farewell,
+            report,
+        })
+    }
+
+    /// The names whose timers have run out at a moment. Only want of memory refuses it.
+    fn to_hand_out(&self, moment: u64) -> Result<HandedOut, AllocError>
+        ensures { IfOk result (IsToHandOut self.now moment) }
+    {
+        let asks = self.timers.pending_asks(moment)?;
+        let fixes = self.timers.pending_fixes(moment)?;
+        Ok(HandedOut {
+            asks: Items::new(asks),
+            fixes: Items::new(fixes),
+        })
+    }
+
+    pub(super) fn is_leaving(&self) -> bool
+        ensures { result ≡ is_leaving self.now.state }
+    {
+        matches!(self.state, AgentState::Leaving)
+    }
+
+    /// The session message or the farewell of a moment, where it is wanted. Only want of memory refuses it.
+    fn report_if(
+        &self,
+        is_wanted: bool,
+        farewell: bool,
+        moment: u64,
+    ) -> Result<Option<Report>, AllocError>
+        requires { moment ≤ MOMENT }
+        ensures { IfOk result (IsReportIf is_wanted self.now moment farewell) }
+    {
+        if is_wanted {
+            Ok(Some(self.report_at(farewell, moment)?))
+        } else {
+            Ok(None)
+        }
+    }
+
+    /// The session message or the farewell of a moment. Only want of memory refuses it.
+    fn report_at(&self, farewell: bool, moment: u64) -> Result<Report, AllocError>
+        requires { moment ≤ MOMENT }
+        ensures { IfOk result (IsReportAt self.now moment farewell) }
+    {
+        let outgoing = self.report(farewell, moment)?;
+        let next = moment + self.pause(&outgoing.out.datagram);
+        Ok(Report { outgoing, next })
+    }
+
+    /// The requests for names, and then the repairs of those of the others that are held: spelled, each with the class that it has
+    /// while this page is shown. Only want of memory refuses them.
+    fn answers_due(&self, asks: &[Name], fixes: &[Name]) -> Result<VecDeque<Answer>, AllocError>
+        requires { ascending name_below asks.now ≡ true }
+        ensures { IfOk result (λ answers. AnswersDue self.now asks.now fixes.now answers.items) }
+    {
+        let me = self.config.me();
+        let answers = answering(self.alloc, me, &self.store, asks, fixes)?;
+        spelled(
+            self.alloc,
+            me,
+            self.config.session(),
+            &self.showing,
+            answers,
+        )
+    }
+}
+
+fn copy_of(alloc: Global, handed: &HandedOut) -> Result<HandedOut, AllocError>
+    ensures { IfOk result (λ copy. copy ≡ handed.now) }
+{
+    Ok(HandedOut {
+        asks: Items::new(Vec::from_slice(alloc, handed.asks.as_slice())?),
+        fixes: Items::new(Vec::from_slice(alloc, handed.fixes.as_slice())?),
+    })
+}

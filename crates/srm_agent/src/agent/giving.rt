@@ -1,0 +1,162 @@
+//! Giving the messages of a slot.
+
+ghost use Rattle.std.specs.Prelude.{◌≡◌, ◌<◌, ℕ, List, IfOk, OnErr, Ok, Some, None, if◌then◌else◌, slice_get, not, ◌&&◌, false};
+ghost use Rattle.srm_names.specs.declared.limits.TheConstants.{PAGES};
+ghost use Rattle.srm_agent.specs.Configs.{Config as Settings};
+ghost use Rattle.std.specs.Option.{option_copied};
+ghost use Rattle.srm_names.specs.declared.page_msg.PageMsg.{PageMsg as APageMsg};
+ghost use Rattle.srm_names.specs.declared.page_msg.PageMsg.TheVariants.{Close};
+ghost use Rattle.srm_agent.specs.declared.entry.Entry.{Entry as AnEntry};
+ghost use Rattle.srm_agent.specs.Entries.{is_gone, released};
+ghost use Rattle.srm_agent.specs.Feeds.{FeedFits};
+ghost use Rattle.srm_agent.specs.Giving.{GiveRight, is_some_of};
+ghost use Rattle.srm_agent.specs.Verdicts.{final};
+ghost use Rattle.srm_agent.specs.Nexts.{IsNextOf, IsNextOn, PrefersSmallest};
+ghost use Rattle.srm_agent.specs.Fits.{Fits};
+ghost use Rattle.srm_agent.specs.Noting.{Enters, Stays, AnswersAs, Does};
+
+use super::Agent;
+use crate::entry::{Entry, Input, Verdict};
+use crate::fault::AgentFault;
+use crate::feed::Feed;
+use crate::noted::Noted;
+use crate::roster::member;
+use srm_names::{Drawop, Name, PAGES, Page, PageMsg, Stream};
+use srm_timers::Words;
+use std::alloc::AllocError;
+
+impl<W: Words + Drop> Agent<W> {
+    /// Gives the next message of a slot, 0 to 7: its page, once; then, of the smallest source that has something, its next
+    /// drawop, or that it left, once all that it drew on the page was given; and the close, once, when this member is gone
+    /// and there is nothing else. `None` where there is nothing.
+    pub fn give_noted(&mut self, slot: u8) -> Result<Noted<Option<PageMsg>>, AllocError>
+        requires { slot < PAGES }
+        ensures ok { IfOk result (λ noted. Enters W.draw None (Input.Gave slot) self.old self.new noted.entry) }
+        ensures answer { IfOk result (λ noted. AnswersAs (λ message. message ≡ noted.entry.effects.message) noted.entry.verdict noted.answer) }
+        ensures smallest { IfOk result (λ noted. PrefersSmallest slot self.old noted.entry.effects.message) }
+        ensures err { OnErr result (Stays self.old self.new) }
+    {
+        let Some(message) = self.next_message(slot)? else {
+            let entry = self.entry(self.last, Input::Gave(slot), Verdict::Done, None);
+            return Ok(gave(None, entry));
+        };
+        let noted = message.copy()?;
+        self.feeds[usize::from(slot)].give(&message);
+        let entry = self.entry(self.last, Input::Gave(slot), Verdict::Done, Some(noted));
+        Ok(gave(Some(message), entry))
+    }
+
+    /// [`give_noted`](Agent::give_noted) without its entry.
+    #[tactic(auto, using(crate::proofs::Entering::give_allowed))]
+    pub fn give(&mut self, slot: u8) -> Result<Option<PageMsg>, AgentFault>
+        requires { slot < PAGES }
+        ensures does { Does W.draw None (Input.Gave slot) (λ e message. message ≡ e.effects.message) self.old self.new result }
+        ensures smallest { IfOk result (PrefersSmallest slot self.old) }
+    {
+        self.give_noted(slot)?.answer
+    }
+
+    /// The message that a slot may be given next.
+    fn next_message(&self, slot: u8) -> Result<Option<PageMsg>, AllocError>
+        requires { slot < PAGES }
+        ensures right { IfOk result (λ message. (c : Settings) (made : ℕ) (past : List AnEntry) → Fits c made past self.now → GiveRight c past slot message) }
+        ensures smallest { IfOk result (PrefersSmallest slot self.now) }
+    {
+        let feed = &self.feeds[usize::from(slot)];
+        if feed.is_closed() {
+            return Ok(None);
+        }
+        let Some(page) = self.pages.get(slot) else {
+            return Ok(self.close_if_gone());
+        };
+        if !feed.is_opened() {
+            return Ok(Some(PageMsg::Open(page)));
+        }
+        if let Some(message) = self.next_on(&page, feed)? {
+            return Ok(Some(message));
+        }
+        Ok(self.close_if_gone())
+    }
+
+    fn close_if_gone(&self) -> Option<PageMsg>
+        ensures { result ≡ (if is_gone self.now.state then Some Close else None) }
+    {
+        if self.is_gone() {
+            Some(PageMsg::Close)
+        } else {
+            None
+        }
+    }
+
+    /// The next message of the smallest source that has one, on a page that was opened.
+    fn next_on(&self, page: &Page, feed: &Feed) -> Result<Option<PageMsg>, AllocError>
+        ensures { IfOk result (λ message. (c : Settings) (made : ℕ) (past : List AnEntry) (given : List APageMsg) → Fits c made past self.now → FeedFits given feed.now
+            → IsNextOn c past page.now given message) }
+    {
+        for number in 0..self.config.members() {
+            let source = member(number);
+            let stream = Stream {
+                source,
+                page: *page,
+            };
+            if let Some(message) = self.next_of(stream, feed)? {
+                return Ok(Some(message));
+            }
+        }
+        Ok(None)
+    }
+
+    /// The next message of one source.
+    fn next_of(&self, stream: Stream, feed: &Feed) -> Result<Option<PageMsg>, AllocError>
+        ensures { IfOk result (λ message. (c : Settings) (made : ℕ) (past : List AnEntry) (given : List APageMsg) → Fits c made past self.now → FeedFits given feed.now
+            → IsNextOf past stream.page given stream.source message) }
+    {
+        let given = feed.number(stream.source);
+        if let Some(drawop) = self.released_after(stream, given) {
+            return Ok(Some(PageMsg::Draw(drawop.copy()?)));
+        }
+        if all_and_new(self.is_all(stream, given), feed.has_left(stream.source)) {
+            return Ok(Some(PageMsg::Left(stream.source)));
+        }
+        Ok(None)
+    }
+
+    /// Whether a stream goes so far and no further, its source having left.
+    fn is_all(&self, stream: Stream, given: u32) -> bool
+        ensures { (c : Settings) (made : ℕ) (past : List AnEntry) → Fits c made past self.now → result ≡ is_some_of given (final past stream) }
+    {
+        match self.store.final_of(stream) {
+            Some(last) => given == last,
+            None => false,
+        }
+    }
+
+    /// The released drawop of a stream behind so many.
+    fn released_after(&self, stream: Stream, given: u32) -> Option<&Drawop>
+        ensures { (c : Settings) (made : ℕ) (past : List AnEntry) → Fits c made past self.now → option_copied result ≡ slice_get (released past stream) given }
+    {
+        if given >= self.store.released(stream) {
+            return None;
+        }
+        self.store
+            .get(Name::new(stream.source, stream.page, given + 1)?)
+    }
+}
+
+/// Whether all was given, and the leaving wasn't.
+fn all_and_new(all: bool, left: bool) -> bool
+    ensures { result ≡ all && not left }
+{
+    all && !left
+}
+
+/// What a give answered, and its entry.
+fn gave(message: Option<PageMsg>, entry: Entry) -> Noted<Option<PageMsg>>
+    ensures entry { result.entry ≡ entry }
+    ensures answer { result.answer ≡ Ok message }
+{
+    Noted {
+        answer: Ok(message),
+        entry,
+    }
+}

@@ -1,0 +1,67 @@
+//! Handing out the requests and repairs that are due.
+
+ghost use Rattle.std.specs.Prelude.{◌≡◌, ◌≤◌, length, IfOk, OnErr};
+ghost use Rattle.srm_names.specs.declared.limits.TheConstants.{MOMENT};
+ghost use Rattle.srm_timers.specs.Deadlines.{DueAmong};
+ghost use Rattle.srm_agent.specs.TimerCalls.{TimersStay};
+ghost use Rattle.srm_agent.specs.Ticking.{HandsOut};
+
+use super::Agent;
+use super::due::HandedOut;
+use crate::distance_table::distance_table;
+use srm_names::Items;
+use srm_timers::{Arm, Words};
+use std::alloc::AllocError;
+
+impl<W: Words + Drop> Agent<W> {
+    /// Hands out what is due: its timers are set again, or gone. Answers the timers that were set, once for the answer and once for
+    /// the entry. Only want of memory refuses it, and then no timer has changed and no word was drawn.
+    pub(super) fn hand_out(
+        &mut self,
+        due: &HandedOut,
+        moment: u64,
+    ) -> Result<(Items<Arm>, Items<Arm>), AllocError>
+        requires asks { DueAmong moment self.old.timers.asks.ends.places due.now.asks }
+        requires fixes { DueAmong moment self.old.timers.fixes.ends.places due.now.fixes }
+        requires moment { moment ≤ MOMENT }
+        ensures ok { IfOk result (λ arms. HandsOut W.draw self.old due.now moment arms.0 self.new) }
+        ensures noted { IfOk result (λ arms. arms.1 ≡ arms.0) }
+        ensures rest { self.new ≡ record self.old { timers = self.new.timers; words = self.new.words } }
+        ensures timers { OnErr result (TimersStay self.old.timers self.new.timers) }
+        ensures words { OnErr result (self.new.words ≡ self.old.words) }
+    {
+        if due.is_empty() {
+            return Ok((
+                Items::new(Vec::new(self.alloc)),
+                Items::new(Vec::new(self.alloc)),
+            ));
+        }
+        self.hand_out_some(due, moment)
+    }
+
+    /// The same, whether anything is due or not.
+    fn hand_out_some(
+        &mut self,
+        due: &HandedOut,
+        moment: u64,
+    ) -> Result<(Items<Arm>, Items<Arm>), AllocError>
+        requires asks { DueAmong moment self.old.timers.asks.ends.places due.now.asks }
+        requires fixes { DueAmong moment self.old.timers.fixes.ends.places due.now.fixes }
+        requires moment { moment ≤ MOMENT }
+        ensures ok { IfOk result (λ arms. HandsOut W.draw self.old due.now moment arms.0 self.new) }
+        ensures noted { IfOk result (λ arms. arms.1 ≡ arms.0) }
+        ensures rest { self.new ≡ record self.old { timers = self.new.timers; words = self.new.words } }
+        ensures timers { OnErr result (TimersStay self.old.timers self.new.timers) }
+        ensures words { OnErr result (self.new.words ≡ self.old.words) }
+    {
+        let asks = due.asks.as_slice();
+        let fixes = due.fixes.as_slice();
+        let mut noted = Vec::with_capacity(self.alloc, asks.len())?;
+        let dist = distance_table(&self.distances);
+        let arms = self
+            .timers
+            .tick(asks, fixes, &dist, moment, &mut self.words)?;
+        noted.extend_from_slice(&arms).unwrap();
+        Ok((Items::new(arms), Items::new(noted)))
+    }
+}

@@ -1,0 +1,62 @@
+//! Beginning to leave.
+
+ghost use Rattle.std.specs.Prelude.{◌≡◌, ◌≤◌, IfOk, OnErr, Ok, Some};
+ghost use Rattle.srm_names.specs.declared.limits.TheConstants.{MOMENT};
+ghost use Rattle.srm_agent.specs.declared.state.AgentState.TheVariants.{Leaving};
+ghost use Rattle.srm_agent.specs.Noting.{Enters, Stays, AnswersAs, HasEntry};
+
+use super::Agent;
+use crate::entry::Input;
+use crate::fault::AgentFault;
+use crate::noted::Noted;
+use crate::state::AgentState;
+use srm_timers::Words;
+use std::alloc::AllocError;
+
+impl<W: Words + Drop> Agent<W> {
+    /// Begins to leave: draws are refused from now on, and the tick at which no new data waits sends a farewell.
+    ///
+    /// Refused are, in this order: [`AgentFault::Gone`], [`AgentFault::Leaving`].
+    pub fn leave_noted(&mut self, now: u64) -> Result<Noted<()>, AllocError>
+        requires { now ≤ MOMENT }
+        ensures ok { IfOk result (λ noted. Enters W.draw (Some now) Input.AskedLeave self.old self.new noted.entry) }
+        ensures answer { IfOk result (λ noted. AnswersAs (λ _. Unit {0}) noted.entry.verdict noted.answer) }
+        ensures err { OnErr result (Stays self.old self.new) }
+    {
+        Ok(self.leave_now(now))
+    }
+
+    /// [`leave_noted`](Agent::leave_noted) without its entry. It takes no memory.
+    pub fn leave(&mut self, now: u64) -> Result<(), AgentFault>
+        requires { now ≤ MOMENT }
+        ensures { HasEntry W.draw (Some now) Input.AskedLeave (λ _ _. Unit {0}) self.old self.new result }
+    {
+        self.leave_now(now).answer
+    }
+
+    /// The same, with its entry. It takes no memory.
+    fn leave_now(&mut self, now: u64) -> Noted<()>
+        requires { now ≤ MOMENT }
+        ensures enters { Enters W.draw (Some now) Input.AskedLeave self.old self.new result.entry }
+        ensures answer { AnswersAs (λ _. Unit {0}) result.entry.verdict result.answer }
+    {
+        let moment = self.moment(now);
+        match self.state {
+            AgentState::Gone => self.refused(moment, Input::AskedLeave, AgentFault::Gone),
+            AgentState::Leaving => self.refused(moment, Input::AskedLeave, AgentFault::Leaving),
+            AgentState::Active => {
+                self.begin_to_leave(moment);
+                self.done(moment, Input::AskedLeave)
+            }
+        }
+    }
+
+    /// From this moment on the member is leaving.
+    fn begin_to_leave(&mut self, moment: u64)
+        requires { moment ≤ MOMENT }
+        ensures { self.new ≡ record self.old { state = Leaving; last = moment } }
+    {
+        self.state = AgentState::Leaving;
+        self.last = moment;
+    }
+}

@@ -1,0 +1,50 @@
+//! The name of the next page of this member.
+
+ghost use Rattle.std.specs.Prelude.{◌≡◌, ℕ, max, List, Some, None, if◌then◌else◌, ◌+◌, ◌==◌};
+ghost use Rattle.srm_names.specs.declared.limits.TheConstants.{PAGES};
+ghost use Rattle.srm_agent.specs.Configs.{Config as Settings};
+ghost use Rattle.srm_agent.specs.declared.entry.Entry.{Entry as AnEntry};
+ghost use Rattle.srm_agent.specs.Promises.{next_number, page_to_come};
+ghost use Rattle.srm_agent.specs.Fits.{Fits};
+
+use super::Agent;
+use srm_names::{Member, PAGES, Page};
+use srm_timers::Words;
+
+impl<W: Words + Drop> Agent<W> {
+    /// The name of the next page of this member: its number is one more than the greatest that a page of this member has in
+    /// the table, and 0 where there is none. `None` where the table is full, or the number would pass 65,535. It takes no
+    /// memory and changes nothing: a page enters the table when it is drawn on or shown.
+    pub fn new_page(&self) -> Option<Page>
+        ensures { (c : Settings) (made : ℕ) (past : List AnEntry) → Fits c made past self.now → result ≡ page_to_come c past }
+    {
+        if self.pages.as_slice().len() >= usize::from(PAGES) {
+            return None;
+        }
+        let creator = self.config.me();
+        let number = u16::try_from(next_number(self.pages.as_slice(), &creator)).ok()?;
+        Some(Page { creator, number })
+    }
+}
+
+/// One more than the greatest number of a page of this creator, and 0 where there is none.
+fn next_number(pages: &[Page], creator: &Member) -> u32
+    ensures { result ≡ next_number creator.now pages.now }
+{
+    let mut next = 0;
+    for page in pages {
+        next = greatest_after(next, page, creator);
+    }
+    next
+}
+
+/// The greater of a number and one more than the number of a page, where that is of this creator.
+fn greatest_after(next: u32, page: &Page, creator: &Member) -> u32
+    ensures { result ≡ max next (if page.now.creator == creator.now then page.now.number + 1 else 0) }
+{
+    if page.creator == *creator {
+        next.max(u32::from(page.number) + 1)
+    } else {
+        next
+    }
+}

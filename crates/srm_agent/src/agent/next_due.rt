@@ -1,0 +1,73 @@
+//! When a tick next does something.
+
+ghost use Rattle.std.specs.Prelude.{◌≡◌, ◌&&◌, ◌==◌, max, length};
+ghost use Rattle.srm_bucket.specs.declared.class.Class.TheVariants.{New};
+ghost use Rattle.srm_bucket.specs.Fits.{Waits};
+ghost use Rattle.srm_bucket.specs.Waiting.{queue};
+ghost use Rattle.srm_timers.specs.Least.{lesser};
+ghost use Rattle.srm_agent.specs.Entries.{is_leaving};
+ghost use Rattle.srm_agent.specs.TimerCalls.{TimersNext};
+ghost use Rattle.srm_agent.specs.Waking.{NextDue, report_next, sooner_of};
+
+use super::Agent;
+use crate::timers::earlier;
+use srm_bucket::Class;
+use srm_timers::Words;
+
+impl<W: Words + Drop> Agent<W> {
+    /// The least moment, in microseconds, from the last one that counted on, at which a tick hands out or sends something: a
+    /// timer runs out, the rate lets something go that waits, a session message is due, or the farewell of a member that is
+    /// leaving and has sent all that it drew, which is due at once. `None` where this member is gone. It takes no memory and
+    /// changes nothing.
+    #[tactic(auto, using(crate::proofs::NextDue::never_due, crate::proofs::NextDue::first_due))]
+    pub fn next_due(&self) -> Option<u64>
+        ensures { NextDue self.now result }
+    {
+        if self.is_gone() {
+            return None;
+        }
+        let first = earlier(self.next_timer(), self.next_to_go());
+        Some(self.last.max(sooner(first, self.next_report())))
+    }
+
+    /// When the first timer runs out.
+    fn next_timer(&self) -> Option<u64>
+        ensures { TimersNext self.now.timers result }
+    {
+        self.timers.next()
+    }
+
+    /// When the first of what waits for the bucket goes.
+    fn next_to_go(&self) -> Option<u64>
+        ensures { Waits self.now.bucket result }
+    {
+        self.bucket.wait_until()
+    }
+
+    /// From when on a tick ends with a session message or a farewell, if nothing is drawn or heard before.
+    fn next_report(&self) -> u64
+        ensures { result ≡ report_next self.now }
+    {
+        if self.is_parting() {
+            return self.last;
+        }
+        self.due
+    }
+
+    /// Whether this member is leaving, and no data that it drew waits.
+    fn is_parting(&self) -> bool
+        ensures { result ≡ is_leaving self.now.state && (length (queue self.now.bucket.waiting New) == 0) }
+    {
+        self.is_leaving() && self.bucket.waiting(Class::New) == 0
+    }
+}
+
+/// The sooner of two moments, the first of which may be none.
+fn sooner(first: Option<u64>, second: u64) -> u64
+    ensures { result ≡ sooner_of first second }
+{
+    match first {
+        Some(first) => first.min(second),
+        None => second,
+    }
+}

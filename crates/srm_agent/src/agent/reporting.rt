@@ -1,0 +1,241 @@
+//! Session messages, and when the next one is due.
+
+ghost use Rattle.std.specs.Prelude.{◌≡◌, ◌≤◌, ◌<◌, ◌*◌, ◌/◌, max, map, ℕ, List, IfOk, option_map};
+ghost use Rattle.srm_bucket.specs.declared.limits.TheConstants.{LEAST_RATE};
+ghost use Rattle.srm_names.specs.declared.limits.TheConstants.{MOMENT, MEMBERS, DRAWOPS};
+ghost use Rattle.srm_names.specs.Names.{named};
+ghost use Rattle.srm_codec.specs.declared.datagram.Datagram.TheVariants.{Session};
+ghost use Rattle.srm_codec.specs.Spelling.{IsSpellable, is_page};
+ghost use Rattle.srm_agent.specs.Configs.{Config as Settings};
+ghost use Rattle.srm_agent.specs.declared.agent.reporting.TheConstants.{LONGEST_PAUSE, LONGEST_REPORT};
+ghost use Rattle.srm_agent.specs.declared.entry.Entry.{Entry as AnEntry};
+ghost use Rattle.srm_agent.specs.Fits.{Fits};
+ghost use Rattle.srm_agent.specs.Reports.{IsReportOf, IsReportSpelled, AreReported, AreOwed, AreShown, AreOwn, AreInOrder, AreRowsOf, IsRow, SaysLeft, CountsOnce};
+ghost use Rattle.srm_agent.specs.Sessions.{members_left, session_pause, if_positive};
+ghost use Rattle.srm_agent.specs.Verdicts.{stream_on};
+
+#[cfg(test)]
+mod tests;
+
+use super::Agent;
+use crate::out::Outgoing;
+use crate::page_table::first_page;
+use crate::roster::{member, page_in_range, stream_in_range};
+use srm_codec::{Datagram, length};
+use srm_names::{Echo, Items, Member, Name, Page, Stream};
+use srm_timers::Words;
+use std::alloc::{AllocError, Global};
+
+/// The least time from a session message to the next, in microseconds.
+const SHORTEST_PAUSE: u64 = 1_000_000;
+
+/// No datagram has more bytes: 255 rows and 255 echoes.
+const LONGEST_REPORT: usize = 6_398;
+
+/// No pause is longer, in microseconds: that of 32 members at one byte a second.
+pub const LONGEST_PAUSE: u64 = 4_094_720_000_000;
+
+impl<W: Words + Drop> Agent<W> {
+    /// The session message, or the farewell, that this member sends at a moment, in microseconds. Only want of memory
+    /// refuses it.
+    pub(super) fn report(&self, farewell: bool, moment: u64) -> Result<Outgoing, AllocError>
+        requires { moment ≤ MOMENT }
+        ensures { IfOk result (λ report. IsReportSpelled self.now moment farewell report) }
+    {
+        let message = self.message(farewell, moment)?;
+        Outgoing::new(self.alloc, self.config.session(), message)
+    }
+
+    /// The same, not yet spelled.
+    fn message(&self, farewell: bool, moment: u64) -> Result<Datagram, AllocError>
+        requires { moment ≤ MOMENT }
+        ensures { IfOk result (λ message. IsReportOf self.now moment farewell message) }
+    {
+        let rows = self.rows(farewell)?;
+        let echoes = self.echoes(moment)?;
+        self.is_in_range();
+        Ok(session(
+            self.config.me(),
+            moment,
+            farewell,
+            self.showing,
+            rows,
+            echoes,
+        ))
+    }
+
+    /// Does nothing. By their types this member and the page that it shows are ones that a datagram can name.
+    fn is_in_range(&self)
+        ensures me { self.now.config.me < MEMBERS }
+        ensures showing { is_page self.now.showing }
+    {
+        let _ = self.config.me().number();
+        let shown = self.showing;
+        page_in_range(shown);
+    }
+
+    /// The echoes that are owed at a moment, in microseconds.
+    fn echoes(&self, moment: u64) -> Result<Vec<Echo>, AllocError>
+        requires { moment ≤ MOMENT }
+        ensures { IfOk result (λ echoes. AreOwed self.now moment echoes.items) }
+    {
+        self.distances.echoes(self.alloc, moment)
+    }
+
+    /// The rows of the page shown, or in a farewell of all that this member drew.
+    #[tactic(auto, using(crate::proofs::Rows::rows_of_page, crate::proofs::Rows::rows_of_own))]
+    fn rows(&self, farewell: bool) -> Result<Vec<Name>, AllocError>
+        ensures { IfOk result (λ rows. AreReported self.now farewell rows.items) }
+    {
+        if farewell {
+            return self.rows_of(&self.own_streams()?);
+        }
+        self.rows_of(&self.streams_shown()?)
+    }
+
+    /// The streams of the page shown, in order.
+    fn streams_shown(&self) -> Result<Vec<Stream>, AllocError>
+        ensures { IfOk result (λ streams. AreShown self.now streams.items) }
+    {
+        let mut streams = Vec::new(self.alloc);
+        for number in 0..self.config.members() {
+            streams.push(Stream {
+                source: member(number),
+                page: self.showing,
+            })?;
+        }
+        Ok(streams)
+    }
+
+    /// The streams of this member, in order.
+    fn own_streams(&self) -> Result<Vec<Stream>, AllocError>
+        ensures { IfOk result (λ streams. AreOwn self.now streams.items) }
+    {
+        let pages = self.pages_in_order()?;
+        own(self.alloc, self.config.me(), &pages)
+    }
+
+    /// The pages of the table, in order.
+    fn pages_in_order(&self) -> Result<Vec<Page>, AllocError>
+        ensures { IfOk result (λ pages. AreInOrder self.now.pages pages.items) }
+    {
+        let mut pages = Vec::from_slice(self.alloc, self.pages.as_slice())?;
+        pages.sort_unstable();
+        Ok(pages)
+    }
+
+    /// The rows of streams, in their order: for each of which something is known the greatest number.
+    fn rows_of(&self, streams: &[Stream]) -> Result<Vec<Name>, AllocError>
+        ensures { IfOk result (λ rows. AreRowsOf self.now streams.now rows.items) }
+    {
+        let mut rows = Vec::new(self.alloc);
+        for stream in streams {
+            if let Some(row) = self.row(stream) {
+                rows.push(row)?;
+            }
+        }
+        Ok(rows)
+    }
+
+    /// The row of a stream, if anything of it is known.
+    fn row(&self, stream: &Stream) -> Option<Name>
+        ensures { IsRow self.now stream.now result }
+    {
+        stream_in_range(stream);
+        numbered(stream, self.store.known(*stream))
+    }
+
+    /// How long after a session message the next one is due, in microseconds.
+    pub(super) fn pause(&self, report: &Datagram) -> u64
+        requires { IsSpellable report.now }
+        ensures value { (c : Settings) (made : ℕ) (past : List AnEntry) → Fits c made past self.now → result ≡ session_pause c past report.now }
+        ensures longest { result ≤ LONGEST_PAUSE }
+    {
+        pause_after(self.members_left(), length(report), self.config.rate())
+    }
+
+    /// How many members of the roster aren't known to have left, this one among them.
+    fn members_left(&self) -> u8
+        ensures value { (c : Settings) (made : ℕ) (past : List AnEntry) → Fits c made past self.now → result ≡ members_left c past }
+        ensures few { result ≤ MEMBERS }
+    {
+        let mut count = 0;
+        for number in 0..self.config.members() {
+            count += self.once(member(number));
+        }
+        count
+    }
+
+    /// 1 for a member that isn't known to have left, else 0.
+    #[tactic(auto, using(crate::proofs::Leavers::once_unless_left))]
+    fn once(&self, member: Member) -> u8
+        ensures { CountsOnce self.now member result }
+    {
+        if self.has_left(member) { 0 } else { 1 }
+    }
+
+    /// Whether a member is known to have left.
+    fn has_left(&self, member: Member) -> bool
+        ensures { SaysLeft self.now member result }
+    {
+        let stream = Stream {
+            source: member,
+            page: first_page(),
+        };
+        self.store.final_of(stream).is_some()
+    }
+}
+
+/// The pause after so many bytes, where so many members are left, at a rate in bytes a second. Rounded down.
+fn pause_after(members: u8, bytes: usize, rate: u32) -> u64
+    requires members { members ≤ MEMBERS }
+    requires bytes { bytes ≤ LONGEST_REPORT }
+    requires rate { LEAST_RATE ≤ rate }
+    ensures value { result ≡ max 1000000 (20 * members * bytes * 1000000 / rate) }
+    ensures longest { result ≤ LONGEST_PAUSE }
+{
+    let bytes = 20 * u64::from(members) * bytes as u64;
+    SHORTEST_PAUSE.max(bytes * 1_000_000 / u64::from(rate))
+}
+
+/// The streams of a member on these pages.
+fn own(alloc: Global, source: Member, pages: &[Page]) -> Result<Vec<Stream>, AllocError>
+    ensures { IfOk result (λ streams. streams.items ≡ map (stream_on source) pages.now) }
+{
+    pages
+        .iter()
+        .map(|page| Stream {
+            source,
+            page: *page,
+        })
+        .collect(alloc)
+}
+
+/// The name of this number in a stream, and none for 0.
+#[tactic(auto, using(crate::proofs::Rows::row_is))]
+fn numbered(stream: &Stream, known: u32) -> Option<Name>
+    requires { known ≤ DRAWOPS }
+    ensures { result ≡ option_map (named stream.now) (if_positive known) }
+{
+    Name::new(stream.source, stream.page, known)
+}
+
+fn session(
+    sender: Member,
+    sent: u64,
+    farewell: bool,
+    shown: Page,
+    rows: Vec<Name>,
+    echoes: Vec<Echo>,
+) -> Datagram
+    ensures { result ≡ Session sender sent farewell shown rows.items echoes.items }
+{
+    Datagram::Session {
+        sender,
+        sent,
+        farewell,
+        shown,
+        rows: Items::new(rows),
+        echoes: Items::new(echoes),
+    }
+}

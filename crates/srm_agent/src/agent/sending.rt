@@ -1,0 +1,112 @@
+//! What goes in a tick.
+
+ghost use Rattle.std.specs.Prelude.{◌≡◌, ◌≤◌, ◌<◌, ◌+◌, ◌++◌, length, option_map, option_to_list, IfOk, IfSome, OnOk};
+ghost use Rattle.std.specs.List.{AllByRecursion};
+ghost use Rattle.srm_names.specs.declared.limits.TheConstants.{MOMENT};
+ghost use Rattle.srm_bucket.specs.Fits.{Stays as BucketStays};
+ghost use Rattle.srm_bucket.specs.Waiting.{HasLength, SameQueues, count_of};
+ghost use Rattle.srm_agent.specs.Outs.{IsOwn, AreOwn};
+ghost use Rattle.srm_agent.specs.Outbox.{NothingWent};
+ghost use Rattle.srm_agent.specs.Ticking.{SendsAll, data_waits, last_report, state_after, due_then};
+
+use super::Agent;
+use super::due::Report;
+use crate::answers::Answer;
+use crate::out::Outgoing;
+use crate::outbox::{Went, hand_in, let_go};
+use crate::state::AgentState;
+use srm_bucket::{Bucket, Class};
+use srm_timers::Words;
+use std::alloc::AllocError;
+use std::collections::VecDeque;
+
+impl<W: Words + Drop> Agent<W> {
+    /// Makes room for so many answers, for all that may go after them, and for the message that ends the tick. Only want of
+    /// memory refuses it; nothing that waits changes.
+    pub(super) fn room_to_go(&mut self, answers: usize) -> Result<Went, AllocError>
+        ensures rest { self.new ≡ record self.old { bucket = self.new.bucket } }
+        ensures bucket { BucketStays self.old.bucket self.new.bucket }
+        ensures queues { SameQueues self.old.bucket.waiting self.new.bucket.waiting }
+        ensures empty { IfOk result NothingWent }
+        ensures room { IfOk result (λ went. count_of self.old.bucket.waiting + answers < went.room) }
+        ensures waiting { OnOk result (answers ≤ self.new.bucket.waiting.room) }
+    {
+        let count = most_to_go(&self.bucket, answers).ok_or(AllocError)?;
+        let went = Went::with_room(self.alloc, count)?;
+        self.bucket.room(answers)?;
+        Ok(went)
+    }
+
+    /// Hands in answers, and lets go what may go at a moment. It takes no memory.
+    pub(super) fn send(&mut self, answers: VecDeque<Answer>, went: Went, moment: u64) -> Went
+        requires moment { moment ≤ MOMENT }
+        requires empty { NothingWent went }
+        requires room { count_of self.old.bucket.waiting + length answers.items < went.room }
+        requires waiting { length answers.items ≤ self.old.bucket.waiting.room }
+        requires lengths { AllByRecursion (λ answer. HasLength answer.item) answers.items }
+        requires own { AllByRecursion (λ answer. IsOwn self.old.config.me self.old.config.session answer.item.value) answers.items }
+        ensures rest { self.new ≡ record self.old { bucket = self.new.bucket } }
+        ensures waited { AreOwn self.old.config.me self.old.config.session self.old.bucket.waiting }
+        ensures sends { SendsAll moment answers.items self.old.bucket self.new.bucket result }
+    {
+        hand_in(&mut self.bucket, answers);
+        let_go(&mut self.bucket, moment, went)
+    }
+
+    /// Ends a tick: a member that is leaving is gone once no data of its own waits. Answers what goes at last, under no rate.
+    pub(super) fn end(
+        &mut self,
+        farewell: Option<Report>,
+        report: Option<Report>,
+        moment: u64,
+    ) -> Option<Report>
+        requires { moment ≤ MOMENT }
+        ensures value { result ≡ last_report (data_waits self.old.bucket) farewell report }
+        ensures new { self.new ≡ record self.old { state = state_after (data_waits self.old.bucket) farewell self.old.state; last = moment; due = due_then result self.old.due } }
+    {
+        let waits = self.bucket.waiting(Class::New) > 0;
+        if farewell.is_some() && !waits {
+            self.state = AgentState::Gone;
+        }
+        let last = last_report(waits, farewell, report);
+        if let Some(report) = &last {
+            self.due = report.next;
+        }
+        self.last = moment;
+        last
+    }
+}
+
+/// What went, with what a tick ends with. It takes no memory.
+pub(super) fn with_last(mut went: Went, last: Option<Report>) -> Went
+    requires { 0 < went.room }
+    ensures outs { result.outs ≡ went.outs ++ option_to_list (option_map (λ r. r.outgoing.out) last) }
+    ensures noted { result.noted ≡ went.noted ++ option_to_list (option_map (λ r. r.outgoing.noted) last) }
+{
+    if let Some(report) = last {
+        went.add(report.outgoing);
+    }
+    went
+}
+
+/// What a tick ends with, by whether data of the member's own waits.
+fn last_report(waits: bool, farewell: Option<Report>, report: Option<Report>) -> Option<Report>
+    ensures { result ≡ last_report waits farewell report }
+{
+    if waits { report } else { farewell.or(report) }
+}
+
+/// How many datagrams go in a tick at most, with so many answers and the message that ends it; `None` where that is more than is
+/// counted.
+fn most_to_go(bucket: &Bucket<Outgoing>, answers: usize) -> Option<usize>
+    ensures { IfSome result (λ count. count ≡ count_of bucket.now.waiting + answers + 1) }
+{
+    let shown = bucket.waiting(Class::Shown);
+    let fresh = bucket.waiting(Class::New);
+    let other = bucket.waiting(Class::Other);
+    shown
+        .checked_add(fresh)?
+        .checked_add(other)?
+        .checked_add(answers)?
+        .checked_add(1)
+}

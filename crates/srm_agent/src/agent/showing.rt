@@ -1,0 +1,57 @@
+//! Showing a page.
+
+ghost use Rattle.std.specs.Prelude.{◌≡◌, ◌≤◌, IfOk, OnErr, Ok, Some, false};
+ghost use Rattle.srm_names.specs.declared.limits.TheConstants.{MOMENT};
+ghost use Rattle.srm_agent.specs.PageTables.{lacks_room, with_page};
+ghost use Rattle.srm_agent.specs.Noting.{Enters, Stays, AnswersAs, IsAllowed, Does};
+
+use super::Agent;
+use crate::entry::Input;
+use crate::fault::AgentFault;
+use crate::noted::Noted;
+use srm_names::Page;
+use srm_timers::Words;
+use std::alloc::AllocError;
+
+impl<W: Words + Drop> Agent<W> {
+    /// Shows a page. A page that isn't in the table is added to it.
+    ///
+    /// Refused are, in this order: [`AgentFault::Gone`]; [`AgentFault::PageLimit`] where the page finds no slot;
+    /// [`AgentFault::Memory`].
+    pub fn show_noted(&mut self, page: Page, now: u64) -> Result<Noted<()>, AllocError>
+        requires { now ≤ MOMENT }
+        ensures ok { IfOk result (λ noted. Enters W.draw (Some now) (Input.Showed page) self.old self.new noted.entry) }
+        ensures answer { IfOk result (λ noted. AnswersAs (λ _. Unit {0}) noted.entry.verdict noted.answer) }
+        ensures err { OnErr result (Stays self.old self.new) }
+        ensures allowed { OnErr result (IsAllowed (Input.Showed page) self.old) }
+    {
+        let moment = self.moment(now);
+        if self.is_gone() {
+            return Ok(self.refused(moment, Input::Showed(page), AgentFault::Gone));
+        }
+        if !self.pages.has_room(&page) {
+            return Ok(self.refused(moment, Input::Showed(page), AgentFault::PageLimit));
+        }
+        self.turn_to(&page, moment);
+        Ok(self.done(moment, Input::Showed(page)))
+    }
+
+    /// [`show_noted`](Agent::show_noted) without its entry.
+    pub fn show(&mut self, page: Page, now: u64) -> Result<(), AgentFault>
+        requires { now ≤ MOMENT }
+        ensures { Does W.draw (Some now) (Input.Showed page) (λ _ _. Unit {0}) self.old self.new result }
+    {
+        self.show_noted(page, now)?.answer
+    }
+
+    /// From this moment on a page is in the table, and shown.
+    fn turn_to(&mut self, page: &Page, moment: u64)
+        requires room { lacks_room self.old.pages page.now ≡ false }
+        requires moment { moment ≤ MOMENT }
+        ensures { self.new ≡ record self.old { last = moment; showing = page.now; pages = with_page self.old.pages page.now } }
+    {
+        self.pages.add(*page);
+        self.showing = *page;
+        self.last = moment;
+    }
+}

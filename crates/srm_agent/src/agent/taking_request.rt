@@ -1,0 +1,79 @@
+//! Taking requests.
+
+ghost use Rattle.std.specs.Prelude.{◌≡◌, ◌≤◌, Some, Ok, IfOk, OnErr, true, false};
+ghost use Rattle.srm_names.specs.declared.limits.TheConstants.{MOMENT};
+ghost use Rattle.srm_names.specs.Names.{ascending, name_below};
+ghost use Rattle.srm_codec.specs.declared.datagram.Datagram.TheVariants.{Request};
+ghost use Rattle.srm_codec.specs.Spelling.{IsSpellable, asked_by};
+ghost use Rattle.srm_agent.specs.Entries.{is_gone};
+ghost use Rattle.srm_agent.specs.Growth.{IsFreshUpTo};
+ghost use Rattle.srm_agent.specs.PageTables.{lacks_room_for};
+ghost use Rattle.srm_agent.specs.Heeding.{IsTaken};
+ghost use Rattle.srm_agent.specs.Noting.{Enters, Stays, AnswersHeard};
+
+use super::Agent;
+use crate::between::names_between;
+use crate::distance_table::distance_table;
+use crate::entry::{Input, Verdict};
+use crate::evidence::{greatest_in, show_all};
+use crate::heard::Heard;
+use crate::keeping::make_room;
+use crate::noted::Noted;
+use srm_codec::Datagram;
+use srm_names::{Member, Name, Stream};
+use srm_timers::Words;
+use std::alloc::AllocError;
+
+impl<W: Words + Drop> Agent<W> {
+    /// Takes a request for these names.
+    pub(super) fn take_request(
+        &mut self,
+        sender: Member,
+        name: Name,
+        mask: u32,
+        names: &[Name],
+        moment: u64,
+    ) -> Result<Noted<Heard>, AllocError>
+        requires here { is_gone self.old.state ≡ false }
+        requires spelled { IsSpellable (Request sender name mask) }
+        requires later { self.old.last ≤ moment }
+        requires moment { moment ≤ MOMENT }
+        requires taken { IsTaken (Request sender name mask) self.old }
+        requires names { names.now ≡ asked_by name mask }
+        requires pages { lacks_room_for self.old.pages names.now ≡ false }
+        ensures ok { IfOk result (λ noted. Enters W.draw (Some moment) (Input.Heard (Request sender name mask)) self.old self.new noted.entry) }
+        ensures done { IfOk result (λ noted. noted.entry.verdict ≡ Verdict.Done) }
+        ensures answer { IfOk result (λ noted. AnswersHeard noted.entry noted.answer) }
+        ensures err { OnErr result (Stays self.old self.new) }
+    {
+        let fresh = self.fresh_up_to(&name.stream(), names)?;
+        let mut copies = Vec::with_capacity(self.alloc, names.len().saturating_add(fresh.len()))?;
+        make_room(&mut self.store, names)?;
+        let dist = distance_table(&self.distances);
+        let arms = self.timers.hear_request(
+            &self.store,
+            sender,
+            names,
+            &fresh,
+            &dist,
+            moment,
+            &mut self.words,
+        )?;
+        copies.extend_from_slice(&arms).unwrap();
+        show_all(&mut self.store, names);
+        self.pages.add_all(names);
+        self.last = moment;
+        let request = Datagram::Request { sender, name, mask };
+        Ok(self.took(moment, request, arms, copies))
+    }
+
+    /// The names of a stream that aren't known of, up to the greatest of these, in order. Only want of memory refuses it.
+    fn fresh_up_to(&self, stream: &Stream, names: &[Name]) -> Result<Vec<Name>, AllocError>
+        ensures value { IfOk result (λ fresh. IsFreshUpTo stream.now names.now self.now fresh.items) }
+        ensures rising { IfOk result (λ fresh. ascending name_below fresh.items ≡ true) }
+    {
+        let known = self.store.known(*stream);
+        let last = greatest_in(names, stream);
+        names_between(self.alloc, *stream, known, last + 1)
+    }
+}

@@ -1,0 +1,32 @@
+//! Why a datagram was not taken.
+
+use srm_codec::DecodeFault;
+
+/// Why a datagram was not taken.
+#[derive(Clone, Copy, Debug, PartialEq, Eq)]
+pub enum Cause {
+    /// Its sender is this member.
+    Own,
+    /// This member has left.
+    Gone,
+    /// It brings a drawop under a name that is held with another stamp or body.
+    Conflict,
+    /// It names pages for which the table has no slots left.
+    PageLimit,
+    /// It names a number above the last of a source that left, or of this member's own above what it drew; or it is a
+    /// farewell that says less than is known.
+    BeyondFinal,
+    /// It is no datagram of this session.
+    Decode(DecodeFault),
+    /// Its sender, or a source that it names, isn't in the roster.
+    Stranger,
+}
+
+/// What became of a datagram.
+#[derive(Clone, Copy, Debug, PartialEq, Eq)]
+pub enum Outcome {
+    /// It was heard.
+    Taken,
+    /// It counts as not heard: nothing but the last moment changed.
+    Ignored(Cause),
+}

@@ -1,0 +1,11 @@
+//! What a call answered, with its entry.
+
+use crate::entry::Entry;
+use crate::fault::AgentFault;
+
+/// What a call answered, and its entry. Both were made before anything changed.
+#[derive(Debug, Drop)]
+pub struct Noted<A> {
+    pub answer: Result<A, AgentFault>,
+    pub entry: Entry,
+}

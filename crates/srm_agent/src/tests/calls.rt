@@ -1,0 +1,129 @@
+//! Calls of an agent. A call that memory refuses is made again, so that with each allocation refused in turn every test shows
+//! that nothing was changed by it.
+
+use super::datagrams::Sent;
+use super::page;
+use crate::{Agent, AgentFault, Heard, Ticked};
+use bytes::Bytes;
+use srm_names::{MOMENT, Name, PAGES, PageMsg};
+use srm_timers::Listed;
+use std::alloc::{AllocError, Global};
+use std::process::Abort;
+
+/// A body of so many bytes.
+fn make_body(alloc: Global, count: usize) -> Result<Bytes, AllocError> {
+    let mut bytes = Vec::new(alloc);
+    bytes.resize(count, 7)?;
+    Bytes::copy_from_slice(alloc, &bytes)
+}
+
+pub(super) fn body(rt: &impl Abort, alloc: Global, count: usize) -> Bytes {
+    match make_body(alloc, count) {
+        Ok(body) => body,
+        Err(_) => make_body(alloc, count).expect(rt, "memory"),
+    }
+}
+
+/// Draws a body of so many bytes on a page of member 0.
+pub(super) fn draw(
+    rt: &impl Abort,
+    alloc: Global,
+    agent: &mut Agent<Listed>,
+    number: u16,
+    length: usize,
+    now: u64,
+) -> Result<Name, AgentFault> {
+    assert!(rt; now <= MOMENT);
+    match agent.draw(page(rt, 0, number), body(rt, alloc, length), now) {
+        Err(AgentFault::Memory) => agent.draw(page(rt, 0, number), body(rt, alloc, length), now),
+        drawn => drawn,
+    }
+}
+
+/// Shows a page of member 0.
+pub(super) fn show(
+    rt: &impl Abort,
+    agent: &mut Agent<Listed>,
+    number: u16,
+    now: u64,
+) -> Result<(), AgentFault> {
+    assert!(rt; now <= MOMENT);
+    agent.show(page(rt, 0, number), now)
+}
+
+/// Shows so many pages of member 0 from number 1 on.
+pub(super) fn show_pages(rt: &impl Abort, agent: &mut Agent<Listed>, count: u16) {
+    for number in 0..count {
+        let _ = show(rt, agent, number + 1, 5);
+    }
+}
+
+pub(super) fn leave(
+    rt: &impl Abort,
+    agent: &mut Agent<Listed>,
+    now: u64,
+) -> Result<(), AgentFault> {
+    assert!(rt; now <= MOMENT);
+    agent.leave(now)
+}
+
+pub(super) fn give(rt: &impl Abort, agent: &mut Agent<Listed>, slot: u8) -> Option<PageMsg> {
+    assert!(rt; slot < PAGES);
+    match agent.give(slot) {
+        Ok(given) => given,
+        Err(_) => agent.give(slot).expect(rt, "memory"),
+    }
+}
+
+pub(super) fn tick(rt: &impl Abort, agent: &mut Agent<Listed>, now: u64) -> Ticked {
+    assert!(rt; now <= MOMENT);
+    match agent.tick(now) {
+        Ok(ticked) => ticked,
+        Err(_) => agent.tick(now).expect(rt, "memory"),
+    }
+}
+
+pub(super) fn hear_bytes(
+    rt: &impl Abort,
+    agent: &mut Agent<Listed>,
+    bytes: &[u8],
+    now: u64,
+) -> Heard {
+    assert!(rt; now <= MOMENT);
+    match agent.hear(bytes, now) {
+        Ok(heard) => heard,
+        Err(_) => agent.hear(bytes, now).expect(rt, "memory"),
+    }
+}
+
+pub(super) fn hear(rt: &impl Abort, agent: &mut Agent<Listed>, sent: Sent, now: u64) -> Heard {
+    let (bytes, count) = sent.bytes();
+    assert!(rt; count <= 31);
+    hear_bytes(rt, agent, &bytes[..count], now)
+}
+
+/// Hears data of member 0 from one number to the one before another.
+pub(super) fn hear_numbers(
+    rt: &impl Abort,
+    agent: &mut Agent<Listed>,
+    from: u32,
+    to: u32,
+    now: u64,
+) {
+    for number in from..to {
+        let _ = hear(rt, agent, Sent::Data(0, number), now);
+    }
+}
+
+/// Hears number 1 of a member and its session message.
+fn hear_both(rt: &impl Abort, agent: &mut Agent<Listed>, source: u8, now: u64) {
+    let _ = hear(rt, agent, Sent::Data(source, 1), now);
+    let _ = hear(rt, agent, Sent::Report(source, 1, 0, source, 1), now);
+}
+
+/// Hears number 1 and a session message of each member from 1 to 31.
+pub(super) fn hear_others(rt: &impl Abort, agent: &mut Agent<Listed>, now: u64) {
+    for source in 1..32 {
+        hear_both(rt, agent, source, now);
+    }
+}

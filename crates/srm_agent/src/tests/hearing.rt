@@ -1,0 +1,147 @@
+//! An agent that hears bytes: member 0 or 1 of four.
+
+use super::agent;
+use super::calls::hear_bytes;
+use super::datagrams::Sent;
+use super::steps::{Step, play};
+use super::told::Told;
+use crate::{Agent, Cause, Outcome};
+use srm_codec::DecodeFault;
+use srm_timers::Listed;
+use std::process::Abort;
+
+fn check_noise(rt: &impl Abort, agent: &mut Agent<Listed>, bytes: &[u8], fault: DecodeFault) {
+    let heard = hear_bytes(rt, agent, bytes, 5);
+    assert_eq!(rt; heard.outcome, Outcome::Ignored(Cause::Decode(fault)));
+}
+
+#[test]
+fn noise_is_ignored(rt: HostRuntime) {
+    let mut agent = agent(&rt, rt.alloc(), 1);
+    check_noise(&rt, &mut agent, &[], DecodeFault::Short);
+    check_noise(&rt, &mut agent, &[0xff; 4_096], DecodeFault::Magic);
+    check_noise(&rt, &mut agent, &[0x53, 0x52, 3], DecodeFault::Version);
+}
+
+#[test]
+fn own_data_and_that_of_strangers_is_ignored(rt: HostRuntime) {
+    let steps = [
+        Step::Hear(Sent::Data(1, 1), 5),
+        Step::Tells(Told::Ignored(Cause::Own)),
+        Step::Hear(Sent::Data(4, 1), 5),
+        Step::Tells(Told::Ignored(Cause::Stranger)),
+        Step::Hear(Sent::Report(2, 1, 0, 5, 1), 5),
+        Step::Tells(Told::Ignored(Cause::Stranger)),
+    ];
+    play(&rt, rt.alloc(), 1, &steps);
+}
+
+#[test]
+fn of_two_causes_the_first_counts(rt: HostRuntime) {
+    let steps = [
+        Step::ShowPages(7),
+        Step::Hear(Sent::Request(1, 4, 9, 1), 5),
+        Step::Tells(Told::Ignored(Cause::Own)),
+        Step::Hear(Sent::Request(2, 4, 9, 1), 5),
+        Step::Tells(Told::Ignored(Cause::Stranger)),
+        Step::Hear(Sent::Request(2, 1, 9, 1), 5),
+        Step::Tells(Told::Ignored(Cause::PageLimit)),
+        Step::Hear(Sent::Request(2, 1, 0, 1), 5),
+        Step::Tells(Told::Ignored(Cause::BeyondFinal)),
+    ];
+    play(&rt, rt.alloc(), 1, &steps);
+}
+
+#[test]
+fn data_is_taken_again(rt: HostRuntime) {
+    let steps = [
+        Step::Hear(Sent::Data(0, 1), 5),
+        Step::Tells(Told::Taken),
+        Step::Hear(Sent::Data(0, 1), 6),
+        Step::Tells(Told::Taken),
+    ];
+    play(&rt, rt.alloc(), 1, &steps);
+}
+
+#[test]
+fn another_stamp_or_body_under_a_held_name_conflicts(rt: HostRuntime) {
+    let steps = [
+        Step::Hear(Sent::Data(0, 1), 5),
+        Step::Tells(Told::Taken),
+        Step::Hear(Sent::Drawop(1, 0, 0, 1, 1, 7), 5),
+        Step::Tells(Told::Ignored(Cause::Conflict)),
+        Step::Hear(Sent::Drawop(3, 2, 0, 1, 0, 8), 5),
+        Step::Tells(Told::Ignored(Cause::Conflict)),
+        Step::Hear(Sent::Repair(2, 1), 5),
+        Step::Tells(Told::Taken),
+    ];
+    play(&rt, rt.alloc(), 1, &steps);
+}
+
+#[test]
+fn a_repair_of_an_own_drawop_with_another_body_conflicts(rt: HostRuntime) {
+    let steps = [
+        Step::Draw(0, 1, 5),
+        Step::Tells(Told::Drew(1)),
+        Step::Hear(Sent::Drawop(3, 2, 0, 1, 5, 8), 6),
+        Step::Tells(Told::Ignored(Cause::Conflict)),
+        Step::Hear(Sent::Drawop(3, 2, 0, 1, 5, 7), 6),
+        Step::Tells(Told::Taken),
+    ];
+    play(&rt, rt.alloc(), 0, &steps);
+}
+
+#[test]
+fn a_request_for_what_was_not_drawn_is_ignored(rt: HostRuntime) {
+    let steps = [
+        Step::Draw(0, 1, 5),
+        Step::Tells(Told::Drew(1)),
+        Step::Hear(Sent::Request(1, 0, 0, 2), 6),
+        Step::Tells(Told::Ignored(Cause::BeyondFinal)),
+    ];
+    play(&rt, rt.alloc(), 0, &steps);
+}
+
+#[test]
+fn a_farewell_that_says_less_than_is_known_is_ignored(rt: HostRuntime) {
+    let steps = [
+        Step::Hear(Sent::Data(0, 1), 5),
+        Step::Tells(Told::Taken),
+        Step::Hear(Sent::LastWord(0), 5),
+        Step::Tells(Told::Ignored(Cause::BeyondFinal)),
+        Step::Hear(Sent::Data(0, 2), 5),
+        Step::Tells(Told::Taken),
+        Step::Hear(Sent::Report(0, 1, 1, 0, 1), 5),
+        Step::Tells(Told::Ignored(Cause::BeyondFinal)),
+        Step::Hear(Sent::Data(0, 3), 5),
+        Step::Tells(Told::Taken),
+    ];
+    play(&rt, rt.alloc(), 1, &steps);
+}
+
+#[test]
+fn nothing_is_after_the_last_of_a_farewell(rt: HostRuntime) {
+    let steps = [
+        Step::Hear(Sent::Data(0, 1), 5),
+        Step::Tells(Told::Taken),
+        Step::Hear(Sent::Report(0, 1, 1, 0, 1), 5),
+        Step::Tells(Told::Taken),
+        Step::Hear(Sent::Data(0, 2), 5),
+        Step::Tells(Told::Ignored(Cause::BeyondFinal)),
+    ];
+    play(&rt, rt.alloc(), 1, &steps);
+}
+
+#[test]
+fn a_ninth_page_counts_before_the_last_of_a_farewell(rt: HostRuntime) {
+    let steps = [
+        Step::Hear(Sent::LastWord(0), 5),
+        Step::Tells(Told::Taken),
+        Step::ShowPages(7),
+        Step::Hear(Sent::Request(2, 0, 9, 1), 5),
+        Step::Tells(Told::Ignored(Cause::PageLimit)),
+        Step::Hear(Sent::Request(2, 0, 7, 1), 5),
+        Step::Tells(Told::Ignored(Cause::BeyondFinal)),
+    ];
+    play(&rt, rt.alloc(), 1, &steps);
+}

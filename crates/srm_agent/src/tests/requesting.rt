@@ -1,0 +1,170 @@
+//! Names that are found missing and asked for.
+
+use super::agent;
+use super::calls::hear;
+use super::datagrams::Sent;
+use super::steps::{Step, play, play_with};
+use super::told::{Told, of_arm};
+use crate::Arm;
+use std::alloc::Global;
+use std::process::Abort;
+
+#[test]
+fn a_number_that_was_passed_over_is_asked_for(rt: HostRuntime) {
+    let steps = [
+        Step::Hear(Sent::Data(0, 2), 1_000_000),
+        Step::Tells(Told::Taken),
+        Step::Tells(Told::AsksIn(1, 0, 200_000)),
+        Step::Tick(1_199_999),
+        Step::Tells(Told::Sent(31)),
+        Step::Tick(1_200_000),
+        Step::Tells(Told::Asked(1)),
+        Step::Tells(Told::AsksIn(1, 1, 400_000)),
+        Step::Tells(Told::Sent(17)),
+    ];
+    play(&rt, rt.alloc(), 2, &steps);
+}
+
+/// Checks the first wait of a timer that is drawn by a word.
+fn check_wait(rt: &impl Abort, alloc: Global, word: u64, wait: u64) {
+    let steps = [
+        Step::Hear(Sent::Data(0, 2), 1_000_000),
+        Step::Tells(Told::Taken),
+        Step::Tells(Told::AsksIn(1, 0, wait)),
+    ];
+    play_with(rt, alloc, 2, 4, 4_204, &[word], &steps);
+}
+
+#[test]
+fn a_first_wait_goes_round_its_interval(rt: HostRuntime) {
+    check_wait(&rt, rt.alloc(), 200_000, 400_000);
+    check_wait(&rt, rt.alloc(), 200_001, 200_000);
+}
+
+#[test]
+fn each_timer_takes_the_next_word(rt: HostRuntime) {
+    let steps = [
+        Step::Hear(Sent::Data(0, 3), 100_000),
+        Step::Tells(Told::Taken),
+        Step::Tells(Told::AsksIn(1, 0, 200_001)),
+        Step::Tells(Told::AsksIn(2, 0, 200_002)),
+        Step::Tick(300_002),
+        Step::Tells(Told::Asked(1)),
+        Step::Tells(Told::Asked(2)),
+        Step::Tells(Told::AsksIn(1, 1, 400_003)),
+        Step::Tells(Told::AsksIn(2, 1, 400_004)),
+        Step::Tells(Told::Sent(21)),
+    ];
+    play_with(&rt, rt.alloc(), 2, 4, 4_204, &[1, 2, 3, 4], &steps);
+}
+
+#[test]
+fn a_request_of_another_backs_off(rt: HostRuntime) {
+    let steps = [
+        Step::Get(Sent::Data(0, 2), 1_000_000),
+        Step::Hear(Sent::Request(1, 0, 0, 1), 1_050_000),
+        Step::Tells(Told::Taken),
+        Step::Tells(Told::AsksIn(1, 1, 400_000)),
+        Step::Hear(Sent::Request(1, 0, 0, 1), 1_249_999),
+        Step::Tells(Told::Taken),
+        Step::Hear(Sent::Request(1, 0, 0, 1), 1_250_000),
+        Step::Tells(Told::Taken),
+        Step::Tells(Told::AsksIn(1, 2, 800_000)),
+        Step::Tick(2_049_999),
+        Step::Tells(Told::Sent(31)),
+        Step::Tick(2_050_000),
+        Step::Tells(Told::Asked(1)),
+        Step::Tells(Told::AsksIn(1, 3, 1_600_000)),
+        Step::Tells(Told::Sent(17)),
+    ];
+    play(&rt, rt.alloc(), 2, &steps);
+}
+
+#[test]
+fn what_is_gained_is_asked_for_no_more(rt: HostRuntime) {
+    let steps = [
+        Step::Get(Sent::Data(0, 2), 100_000),
+        Step::Hear(Sent::Repair(1, 1), 299_999),
+        Step::Tells(Told::Taken),
+        Step::Tick(999_999),
+    ];
+    play(&rt, rt.alloc(), 2, &steps);
+}
+
+#[test]
+fn a_request_shows_what_is_missing(rt: HostRuntime) {
+    let steps = [
+        Step::Hear(Sent::Request(1, 0, 0, 3), 1_000_000),
+        Step::Tells(Told::Taken),
+        Step::Tells(Told::AsksIn(1, 0, 200_000)),
+        Step::Tells(Told::AsksIn(2, 0, 200_000)),
+        Step::Tells(Told::AsksIn(3, 1, 400_000)),
+    ];
+    play(&rt, rt.alloc(), 2, &steps);
+}
+
+#[test]
+fn a_request_for_several_shows_what_is_missing(rt: HostRuntime) {
+    let steps = [
+        Step::Hear(Sent::Requests(1, 2), 1_000_000),
+        Step::Tells(Told::Taken),
+        Step::Tells(Told::AsksIn(1, 1, 400_000)),
+        Step::Tells(Told::AsksIn(2, 0, 200_000)),
+        Step::Tells(Told::AsksIn(3, 1, 400_000)),
+    ];
+    play(&rt, rt.alloc(), 2, &steps);
+}
+
+#[test]
+fn neighbours_are_asked_for_in_one_request(rt: HostRuntime) {
+    let steps = [
+        Step::Get(Sent::Data(0, 5), 1_000_000),
+        Step::Tick(1_200_000),
+        Step::Tells(Told::Asked(1)),
+        Step::Tells(Told::Asked(2)),
+        Step::Tells(Told::Asked(3)),
+        Step::Tells(Told::Asked(4)),
+        Step::Tells(Told::AsksIn(1, 1, 400_000)),
+        Step::Tells(Told::AsksIn(2, 1, 400_000)),
+        Step::Tells(Told::AsksIn(3, 1, 400_000)),
+        Step::Tells(Told::AsksIn(4, 1, 400_000)),
+        Step::Tells(Told::Sent(21)),
+        Step::Tells(Told::Sent(31)),
+    ];
+    play(&rt, rt.alloc(), 2, &steps);
+}
+
+#[test]
+fn a_request_names_its_neighbours_by_a_mask(rt: HostRuntime) {
+    let steps = [
+        Step::Get(Sent::Data(0, 5), 100_000),
+        Step::First(300_000, Sent::Requests(2, 7)),
+    ];
+    play(&rt, rt.alloc(), 2, &steps);
+}
+
+#[test]
+fn a_request_reaches_32_numbers_on(rt: HostRuntime) {
+    let steps = [
+        Step::HearNumbers(2, 3, 100_000),
+        Step::HearNumbers(4, 33, 100_000),
+        Step::HearNumbers(35, 36, 100_000),
+        Step::First(300_000, Sent::Requests(1, 0x8000_0002)),
+    ];
+    play(&rt, rt.alloc(), 1, &steps);
+}
+
+/// Checks that these are the timers of so many numbers, from 1 on.
+fn check_all(rt: &impl Abort, arms: &[Arm], count: usize) {
+    assert_eq!(rt; arms.len(), count);
+    for (arm, number) in arms.iter().zip(1..65_536) {
+        assert_eq!(rt; of_arm(arm), Told::AsksIn(number, 0, 200_000));
+    }
+}
+
+#[test]
+fn the_last_number_first_leaves_all_others_missing(rt: HostRuntime) {
+    let mut agent = agent(&rt, rt.alloc(), 1);
+    let heard = hear(&rt, &mut agent, Sent::Data(0, 65_536), 1_000_000);
+    check_all(&rt, heard.arms.as_slice(), 65_535);
+}

@@ -1,0 +1,148 @@
+//! Lists of calls of an agent, each followed by what it tells.
+
+use super::agent_with;
+use super::calls::{draw, give, hear, hear_numbers, hear_others, leave, show, show_pages, tick};
+use super::datagrams::Sent;
+use super::told::{Tales, Told, of_drawn, of_given, of_result, tell, tell_heard, tell_ticked};
+use crate::{Agent, Out};
+use srm_timers::Listed;
+use std::alloc::Global;
+use std::process::Abort;
+
+/// A call, or what the call before tells.
+#[derive(Clone, Copy)]
+pub(super) enum Step {
+    /// A body of so many bytes is drawn on a page of member 0 at a moment.
+    Draw(u16, usize, u64),
+    /// A page of member 0 is shown at a moment.
+    Show(u16, u64),
+    /// So many pages of member 0 are shown, from number 1 on. It tells nothing.
+    ShowPages(u16),
+    Leave(u64),
+    Hear(Sent, u64),
+    /// A datagram is heard. It tells nothing.
+    Get(Sent, u64),
+    /// Data of member 0 is heard, from one number to the one before another. It tells nothing.
+    HearNumbers(u32, u32, u64),
+    /// Number 1 and a session message of each member from 1 to 31 are heard. It tells nothing.
+    HearOthers(u64),
+    Give(u8),
+    Tick(u64),
+    /// A tick whose first datagram is this. It tells nothing.
+    First(u64, Sent),
+    Next,
+    Tells(Told),
+}
+
+/// Whether the first datagram is this.
+fn begins_with(outs: &[Out], sent: Sent) -> bool {
+    let (bytes, count) = sent.bytes();
+    match outs {
+        [first, ..] => bytes.get(..count) == Some(first.bytes.as_slice()),
+        [] => false,
+    }
+}
+
+fn check_first(rt: &impl Abort, agent: &mut Agent<Listed>, now: u64, sent: Sent) {
+    let ticked = tick(rt, agent, now);
+    assert!(rt; begins_with(ticked.outs.as_slice(), sent));
+}
+
+fn check_told(rt: &impl Abort, tales: &mut Tales, wanted: Told) {
+    assert_eq!(rt; tales.pop_front(), Some(wanted));
+}
+
+fn check_all_told(rt: &impl Abort, tales: &Tales) {
+    assert_eq!(rt; tales.front(), None);
+}
+
+fn hear_and_tell(
+    rt: &impl Abort,
+    agent: &mut Agent<Listed>,
+    tales: &mut Tales,
+    sent: Sent,
+    now: u64,
+) {
+    let heard = hear(rt, agent, sent, now);
+    tell_heard(rt, tales, &heard);
+}
+
+fn tick_and_tell(rt: &impl Abort, agent: &mut Agent<Listed>, tales: &mut Tales, now: u64) {
+    let ticked = tick(rt, agent, now);
+    tell_ticked(rt, tales, &ticked);
+}
+
+fn give_and_tell(rt: &impl Abort, agent: &mut Agent<Listed>, tales: &mut Tales, slot: u8) {
+    let given = give(rt, agent, slot);
+    tell(rt, tales, of_given(&given));
+}
+
+fn draw_and_tell(
+    rt: &impl Abort,
+    alloc: Global,
+    agent: &mut Agent<Listed>,
+    tales: &mut Tales,
+    page: u16,
+    length: usize,
+    now: u64,
+) {
+    let drawn = draw(rt, alloc, agent, page, length, now);
+    tell(rt, tales, of_drawn(drawn));
+}
+
+/// Makes a call.
+fn call(rt: &impl Abort, alloc: Global, agent: &mut Agent<Listed>, tales: &mut Tales, step: Step) {
+    match step {
+        Step::Draw(page, length, now) => {
+            draw_and_tell(rt, alloc, agent, tales, page, length, now);
+        }
+        Step::Show(page, now) => tell(rt, tales, of_result(show(rt, agent, page, now))),
+        Step::ShowPages(count) => show_pages(rt, agent, count),
+        Step::Leave(now) => tell(rt, tales, of_result(leave(rt, agent, now))),
+        Step::Hear(sent, now) => hear_and_tell(rt, agent, tales, sent, now),
+        Step::Get(sent, now) => {
+            let _ = hear(rt, agent, sent, now);
+        }
+        Step::HearNumbers(from, to, now) => hear_numbers(rt, agent, from, to, now),
+        Step::HearOthers(now) => hear_others(rt, agent, now),
+        Step::Give(slot) => give_and_tell(rt, agent, tales, slot),
+        Step::Tick(now) => tick_and_tell(rt, agent, tales, now),
+        Step::First(now, sent) => check_first(rt, agent, now, sent),
+        Step::Next => tell(rt, tales, Told::Next(agent.next_due())),
+        Step::Tells(_) => {}
+    }
+}
+
+/// Makes a call, where all that was told before has been compared, or compares what comes next of what was told.
+fn take(rt: &impl Abort, alloc: Global, agent: &mut Agent<Listed>, tales: &mut Tales, step: Step) {
+    match step {
+        Step::Tells(wanted) => check_told(rt, tales, wanted),
+        _ => {
+            check_all_told(rt, tales);
+            call(rt, alloc, agent, tales, step);
+        }
+    }
+}
+
+/// Takes these steps with the agent of a member of so many, with a bucket of so many bytes, these words and then 0.
+pub(super) fn play_with(
+    rt: &impl Abort,
+    alloc: Global,
+    me: u8,
+    members: u8,
+    depth: u32,
+    words: &[u64],
+    steps: &[Step],
+) {
+    let mut agent = agent_with(rt, alloc, me, members, depth, words);
+    let mut tales = Tales::new(alloc);
+    for step in steps {
+        take(rt, alloc, &mut agent, &mut tales, *step);
+    }
+    check_all_told(rt, &tales);
+}
+
+/// The same with a member of four, a bucket of 4,204 bytes, and no words but 0.
+pub(super) fn play(rt: &impl Abort, alloc: Global, me: u8, steps: &[Step]) {
+    play_with(rt, alloc, me, 4, 4_204, &[], steps);
+}

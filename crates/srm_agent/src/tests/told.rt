@@ -1,0 +1,119 @@
+//! What an agent tells, in short.
+
+use crate::{AgentFault, Arm, ArmKind, Cause, Heard, Out, Outcome, Ticked};
+use srm_names::{Name, PageMsg};
+use std::collections::VecDeque;
+use std::process::Abort;
+
+/// What a call tells. Drawops and timers are of member 0 on page 0.0, given by their numbers.
+#[derive(Clone, Copy, Debug, PartialEq, Eq)]
+pub(super) enum Told {
+    Done,
+    Refused(AgentFault),
+    Drew(u32),
+    Taken,
+    Ignored(Cause),
+    /// A request timer was set, with this exponent and wait.
+    AsksIn(u32, u8, u64),
+    /// A repair timer was set, with this wait.
+    RepairsIn(u32, u64),
+    Asked(u32),
+    Repaired(u32),
+    /// A datagram of so many bytes was sent.
+    Sent(usize),
+    /// The next moment at which a tick does something.
+    Next(Option<u64>),
+    /// A page of member 0 was given.
+    Open(u16),
+    /// A number of a source was given.
+    Draw(u8, u32),
+    Left(u8),
+    Close,
+    Nothing,
+}
+
+/// What was told and not yet compared.
+pub(super) type Tales = VecDeque<Told>;
+
+pub(super) fn tell(rt: &impl Abort, tales: &mut Tales, told: Told) {
+    if tales.push_back(told).is_err() {
+        tales.push_back(told).expect(rt, "memory");
+    }
+}
+
+/// What a call tells that answers nothing.
+pub(super) fn of_result(answer: Result<(), AgentFault>) -> Told {
+    match answer {
+        Ok(()) => Told::Done,
+        Err(fault) => Told::Refused(fault),
+    }
+}
+
+pub(super) fn of_drawn(drawn: Result<Name, AgentFault>) -> Told {
+    match drawn {
+        Ok(name) => Told::Drew(name.number()),
+        Err(fault) => Told::Refused(fault),
+    }
+}
+
+pub(super) fn of_given(given: &Option<PageMsg>) -> Told {
+    match given {
+        Some(PageMsg::Open(page)) => Told::Open(page.number),
+        Some(PageMsg::Draw(drawop)) => {
+            Told::Draw(drawop.name.source().number(), drawop.name.number())
+        }
+        Some(PageMsg::Left(source)) => Told::Left(source.number()),
+        Some(PageMsg::Close) => Told::Close,
+        None => Told::Nothing,
+    }
+}
+
+fn of_outcome(outcome: Outcome) -> Told {
+    match outcome {
+        Outcome::Taken => Told::Taken,
+        Outcome::Ignored(cause) => Told::Ignored(cause),
+    }
+}
+
+pub(super) fn of_arm(arm: &Arm) -> Told {
+    match arm.kind {
+        ArmKind::Ask => Told::AsksIn(arm.name.number(), arm.exponent, arm.wait),
+        ArmKind::Fix => Told::RepairsIn(arm.name.number(), arm.wait),
+    }
+}
+
+fn tell_arms(rt: &impl Abort, tales: &mut Tales, arms: &[Arm]) {
+    for arm in arms {
+        tell(rt, tales, of_arm(arm));
+    }
+}
+
+fn tell_asks(rt: &impl Abort, tales: &mut Tales, names: &[Name]) {
+    for name in names {
+        tell(rt, tales, Told::Asked(name.number()));
+    }
+}
+
+fn tell_repairs(rt: &impl Abort, tales: &mut Tales, names: &[Name]) {
+    for name in names {
+        tell(rt, tales, Told::Repaired(name.number()));
+    }
+}
+
+fn tell_outs(rt: &impl Abort, tales: &mut Tales, outs: &[Out]) {
+    for out in outs {
+        tell(rt, tales, Told::Sent(out.bytes.as_slice().len()));
+    }
+}
+
+pub(super) fn tell_heard(rt: &impl Abort, tales: &mut Tales, heard: &Heard) {
+    tell(rt, tales, of_outcome(heard.outcome));
+    tell_arms(rt, tales, heard.arms.as_slice());
+}
+
+pub(super) fn tell_ticked(rt: &impl Abort, tales: &mut Tales, ticked: &Ticked) {
+    tell_asks(rt, tales, ticked.asks.as_slice());
+    tell_repairs(rt, tales, ticked.fixes.as_slice());
+    tell_arms(rt, tales, ticked.arms.as_slice());
+    tell_outs(rt, tales, ticked.outs.as_slice());
+}

@@ -1,0 +1,208 @@
+-- Slots for several pages.
+use Rattle.std.proofs.Common.{◌≡◌, ℕ, ◌+◌, ◌<◌, ◌≤◌, List, [], ◌∷◌, ◌++◌, Bool, true, false, length, get_or, take, drop, drop-cons, add-one, map, refl, sym, ap, ◌∙◌, arith}
+use Rattle.std.specs.Prelude.{if◌then◌else◌, ◌||◌, nat_lt, nat_le}
+use Rattle.std.proofs.lemmas.Bool.{false≢true}
+use Rattle.std.proofs.lemmas.Bool.Decides.{nat_tests}
+use Rattle.std.proofs.lemmas.List.{length-append, take-append-le}
+use Rattle.srm_names.specs.declared.limits.TheConstants.{PAGES}
+use Rattle.srm_names.specs.declared.page.Page.{Page}
+use Rattle.srm_names.specs.declared.drawop.Drawop.{Drawop}
+use Rattle.srm_names.specs.FullName.{FullName}
+use Rattle.srm_names.specs.Histories.{firsts}
+use Rattle.srm_names.specs.Names.{same_page, same_name, among}
+use Rattle.srm_names.proofs.Same.{same_page-is, same_page-itself, same_name-is}
+use Rattle.srm_store.specs.Held.{pages_named, page_of_name, outgrow}
+use Rattle.srm_store.specs.Finals.{Settling}
+use Rattle.srm_store.specs.Tables.{is_in, slot_of, with_page, with_pages, each_once}
+use Rattle.srm_store.specs.Stores.{StoreContent, KeepsSlots}
+use Rattle.srm_store.specs.Fits.{Fits}
+use Rattle.srm_store.proofs.Slots.{is_in-with_page, with_page-longer, slot_of-in, slot_of-absent}
+use Rattle.srm_store.proofs.Pages.{length-included, each_once-firsts, is_in-firsts, once_with}
+use Rattle.std.proofs.lemmas.List.Folds.{list_any-append}
+
+-- two tables with the same pages, each as many
+pub record SamePages (a b : List Page) : Type 0 where
+  pub each : (q : Page) → is_in a q ≡ is_in b q
+  pub count : length a ≡ length b
+
+length-with_page : (pages : List Page) (p : Page) → length (with_page pages p) ≡ (if is_in pages p then length pages else length pages + 1)
+length-with_page pages p = go (is_in pages p)
+  where
+    go : (b : Bool) → length (if b then pages else pages ++ p ∷ []) ≡ (if b then length pages else length pages + 1)
+    go true = refl
+    go false = omega (arith, length-append pages (p ∷ []))
+
+same_with : (a b : List Page) (p : Page) → SamePages a b → SamePages (with_page a p) (with_page b p)
+same_with a b p h = record {
+  each = λ q. is_in-with_page a p q ∙ ap (λ x. x || same_page p q) (h.each q) ∙ sym (is_in-with_page b p q);
+  count = length-with_page a p ∙ rw (h.each p, h.count) refl ∙ sym (length-with_page b p);
+}
+
+as_many : (a b ps : List Page) → SamePages a b → length (with_pages a ps) ≡ length (with_pages b ps)
+as_many a b [] h = h.count
+as_many a b (p ∷ ps) h = as_many (with_page a p) (with_page b p) ps (same_with a b p h)
+
+-- naming one page and then another is naming them the other way round
+or_swap : (a b d : Bool) → ((a || b) || d) ≡ ((a || d) || b)
+or_swap true b d = refl
+or_swap false true true = refl
+or_swap false true false = refl
+or_swap false false true = refl
+or_swap false false false = refl
+
+swapped : (pages : List Page) (p q : Page) → SamePages (with_page (with_page pages p) q) (with_page (with_page pages q) p)
+swapped pages p q = record {
+  each = λ r.
+      is_in-with_page (with_page pages p) q r ∙ ap (λ x. x || same_page q r) (is_in-with_page pages p r)
+      ∙ or_swap (is_in pages r) (same_page p r) (same_page q r)
+      ∙ ap (λ x. x || same_page p r) (sym (is_in-with_page pages q r)) ∙ sym (is_in-with_page (with_page pages q) p r);
+  count = counts (is_in pages p) refl (is_in pages q) refl (same_page p q) refl (same_page q p) refl;
+}
+  where
+    twice : (p q : Page) → length (with_page (with_page pages p) q) ≡ (if is_in pages q || same_page p q then (if is_in pages p then length pages else length pages + 1) else (if is_in pages p then length pages else length pages + 1) + 1)
+    twice p q = length-with_page (with_page pages p) q ∙ rw (is_in-with_page pages p q, length-with_page pages p) refl
+
+    counts : (b : Bool) → is_in pages p ≡ b → (d : Bool) → is_in pages q ≡ d → (s : Bool) → same_page p q ≡ s → (t : Bool) → same_page q p ≡ t → length (with_page (with_page pages p) q) ≡ length (with_page (with_page pages q) p)
+    counts b e d f s g t h = twice p q ∙ rw (e, f, g, h) (go b d s t g h e f) ∙ sym (twice q p)
+      where
+        go : (b d s t : Bool) → same_page p q ≡ s → same_page q p ≡ t → is_in pages p ≡ b → is_in pages q ≡ d
+            → (if d || s then (if b then length pages else length pages + 1) else (if b then length pages else length pages + 1) + 1) ≡ (if b || t then (if d then length pages else length pages + 1) else (if d then length pages else length pages + 1) + 1)
+        go true true s t g h e f = refl
+        go true false true t g h e f = absurd (false≢true (sym f ∙ ap (is_in pages) (sym (same_page-is p q g)) ∙ e))
+        go true false false t g h e f = refl
+        go false true s true g h e f = absurd (false≢true (sym e ∙ ap (is_in pages) (sym (same_page-is q p h)) ∙ f))
+        go false true s false g h e f = refl
+        go false false true true g h e f = refl
+        go false false false false g h e f = refl
+        go false false true false g h e f = absurd (false≢true (sym h ∙ ap (same_page q) (same_page-is p q g) ∙ same_page-itself q))
+        go false false false true g h e f = absurd (false≢true (sym g ∙ ap (same_page p) (same_page-is q p h) ∙ same_page-itself p))
+
+twice_with : (pages : List Page) (p : Page) → with_page (with_page pages p) p ≡ with_page pages p
+twice_with pages p = ap (λ b. if b then with_page pages p else with_page pages p ++ p ∷ []) there
+  where
+    last : (b : Bool) → b || true ≡ true
+    last true = refl
+    last false = refl
+
+    there : is_in (with_page pages p) p ≡ true
+    there = is_in-with_page pages p p ∙ ap (λ b. is_in pages p || b) (same_page-itself p) ∙ last (is_in pages p)
+
+-- naming one of the pages before makes no difference to how many there are
+pub named_before : (pages : List Page) (p : Page) (ps : List Page) → is_in ps p ≡ true → length (with_pages (with_page pages p) ps) ≡ length (with_pages pages ps)
+named_before pages p [] h = absurd (false≢true h)
+named_before pages p (q ∷ ps) h = go (same_page q p) refl h (named_before (with_page pages q) p ps)
+  where
+    go : (b : Bool) → same_page q p ≡ b → (b || is_in ps p) ≡ true → (is_in ps p ≡ true → length (with_pages (with_page (with_page pages q) p) ps) ≡ length (with_pages (with_page pages q) ps)) → length (with_pages (with_page (with_page pages p) q) ps) ≡ length (with_pages (with_page pages q) ps)
+    go true e there rest = ap (λ r. length (with_pages (with_page (with_page pages r) q) ps)) (sym (same_page-is q p e)) ∙ ap (λ xs. length (with_pages xs ps)) (twice_with pages q)
+    go false e there rest = as_many _ _ ps (swapped pages p q) ∙ rest there
+
+pub with_pages-longer : (pages ps : List Page) → length pages ≤ length (with_pages pages ps)
+with_pages-longer pages [] = omega arith
+with_pages-longer pages (p ∷ ps) = omega (arith, with_page-longer pages p, with_pages-longer (with_page pages p) ps)
+
+-- each of pages that all have slots has one
+pub slot_left : (pages : List Page) (p : Page) (ps : List Page) → is_in ps p ≡ true → length (with_pages pages ps) ≤ PAGES → slot_of pages p < PAGES
+slot_left pages p ps there few = go (is_in pages p) refl
+  where
+    go : (b : Bool) → is_in pages p ≡ b → slot_of pages p < PAGES
+    go true e = omega (arith, slot_of-in pages p e, with_pages-longer pages ps, few)
+    go false e =
+        let one_more : length (with_page pages p) ≡ length pages + 1 = length-with_page pages p ∙ rw e refl in
+        omega (arith, slot_of-absent pages p e, one_more, with_pages-longer (with_page pages p) ps, named_before pages p ps there, few)
+
+pub keeps_slots : (old new : StoreContent) (p : Page) → new.table.pages ≡ with_page old.table.pages p → KeepsSlots p old new
+keeps_slots old new p e = record { each = λ ps there had. record { few = omega (arith, ap (λ xs. length (with_pages xs ps)) e, named_before old.table.pages p ps there, had.few) } }
+
+pub keeps_slots_same : (old new : StoreContent) (p : Page) → new.table.pages ≡ old.table.pages → KeepsSlots p old new
+keeps_slots_same old new p e = record { each = λ ps there had. record { few = omega (arith, ap (λ xs. length (with_pages xs ps)) e, had.few) } }
+
+or_assoc : (a b c : Bool) → ((a || b) || c) ≡ (a || (b || c))
+or_assoc true b c = refl
+or_assoc false b c = refl
+
+or_none : (a : Bool) → a ≡ a || false
+or_none true = refl
+or_none false = refl
+
+is_in-with_pages : (pages ps : List Page) (q : Page) → is_in (with_pages pages ps) q ≡ is_in pages q || is_in ps q
+is_in-with_pages pages [] q = or_none (is_in pages q)
+is_in-with_pages pages (p ∷ ps) q =
+    is_in-with_pages (with_page pages p) ps q ∙ ap (λ b. b || is_in ps q) (is_in-with_page pages p q) ∙ or_assoc (is_in pages q) (same_page p q) (is_in ps q)
+
+once_with_pages : (pages ps : List Page) → each_once pages ≡ true → each_once (with_pages pages ps) ≡ true
+once_with_pages pages [] once = once
+once_with_pages pages (p ∷ ps) once = once_with_pages (with_page pages p) ps (once_with pages p once)
+
+-- there would be too many pages exactly where the table with them has too many
+pub outgrows : {inserted : List Drawop} {shown : List FullName} {settled : List Settling} {s : StoreContent} → Fits inserted shown settled s → (ps : List Page) → outgrow inserted shown ps ≡ nat_lt PAGES (length (with_pages s.table.pages ps))
+outgrows {inserted} {shown} {settled} {s} h ps = ap (nat_lt PAGES) count
+  where
+    all : List Page
+    all = pages_named inserted shown ++ ps
+
+    same : (q : Page) → is_in (with_pages s.table.pages ps) q ≡ is_in (firsts same_page all) q
+    same q = is_in-with_pages s.table.pages ps q ∙ ap (λ b. b || is_in ps q) (h.pages q) ∙ sym (list_any-append (λ r. same_page r q) (pages_named inserted shown) ps) ∙ sym (is_in-firsts all q)
+
+    count : length (firsts same_page all) ≡ length (with_pages s.table.pages ps)
+    count =
+        let up = length-included (with_pages s.table.pages ps) (firsts same_page all) (once_with_pages s.table.pages ps h.once) (λ q there. sym (same q) ∙ there) in
+        let down = length-included (firsts same_page all) (with_pages s.table.pages ps) (each_once-firsts all) (λ q there. same q ∙ there) in
+        omega arith
+
+-- the page of a name among names is among their pages
+pub page_among : (names : List FullName) (n : FullName) → among names n ≡ true → is_in (map page_of_name names) n.stream.page ≡ true
+page_among [] n h = absurd (false≢true h)
+page_among (m ∷ names) n h = go (same_name n m) refl h (page_among names n)
+  where
+    go : (b : Bool) → same_name n m ≡ b → (b || among names n) ≡ true → (among names n ≡ true → is_in (map page_of_name names) n.stream.page ≡ true) → (same_page m.stream.page n.stream.page || is_in (map page_of_name names) n.stream.page) ≡ true
+    go true e h rest = ap (λ b. b || is_in (map page_of_name names) n.stream.page) (ap (λ (k : FullName). same_page m.stream.page k.stream.page) (same_name-is n m e) ∙ same_page-itself m.stream.page)
+    go false e h rest = rw (rest h) (or_true (same_page m.stream.page n.stream.page))
+      where
+        or_true : (b : Bool) → b || true ≡ true
+        or_true true = refl
+        or_true false = refl
+
+-- seating the names in turn
+next_left : (names : List FullName) (i : ℕ) (name : FullName) → name ≡ get_or names i name → i < length names → name ∷ drop (i + 1) names ≡ drop i names
+next_left names i name at lt = ap (λ n. n ∷ drop (i + 1) names) at ∙ ap (λ k. get_or names i name ∷ drop k names) (add-one i) ∙ sym (drop-cons names i name lt)
+
+pub one_seated : (pages : List Page) (names : List FullName) (i : ℕ) (name : FullName) (page : Page) → page ≡ name.stream.page → name ≡ get_or names i name → i < length names
+    → with_pages (with_page pages page) (map page_of_name (drop (i + 1) names)) ≡ with_pages pages (map page_of_name (drop i names))
+one_seated pages names i name page e at lt =
+    ap (λ q. with_pages (with_page pages q) (map page_of_name (drop (i + 1) names))) e
+    ∙ ap (λ ns. with_pages pages (map page_of_name ns)) (next_left names i name at lt)
+
+pub not_seated : (pages : List Page) (names : List FullName) (i : ℕ) (name : FullName) (page : Page) (all : List Page) → page ≡ name.stream.page → name ≡ get_or names i name → i < length names
+    → with_pages pages (map page_of_name (drop i names)) ≡ all → slot_of pages page ≡ PAGES → false ≡ nat_le (length all) PAGES
+not_seated pages names i name page all e at lt whole full = go (nat_le (length all) PAGES) refl
+  where
+    left : List FullName
+    left = name ∷ drop (i + 1) names
+
+    there : is_in (map page_of_name left) page ≡ true
+    there = ap (λ b. b || is_in (map page_of_name (drop (i + 1) names)) page) (ap (λ q. same_page q page) (sym e) ∙ same_page-itself page)
+
+    is_left : with_pages pages (map page_of_name left) ≡ all
+    is_left = ap (λ ns. with_pages pages (map page_of_name ns)) (next_left names i name at lt) ∙ whole
+
+    go : (b : Bool) → nat_le (length all) PAGES ≡ b → false ≡ b
+    go false f = refl
+    go true f =
+        let few : length all ≤ PAGES = grind (arith, nat_tests) in
+        absurd (omega (arith, slot_left pages page (map page_of_name left) there (omega (arith, few, ap length is_left)), full))
+
+pub front_kept : (start pages : List Page) (p : Page) → length start ≤ length pages → take (length start) pages ≡ start → take (length start) (with_page pages p) ≡ start
+front_kept start pages p le e = go (is_in pages p)
+  where
+    go : (b : Bool) → take (length start) (if b then pages else pages ++ p ∷ []) ≡ start
+    go true = e
+    go false = take-append-le (length start) pages (p ∷ []) le ∙ e
+
+-- a store is refused for want of slots exactly where there would be too many pages
+pub too_many : {inserted : List Drawop} {shown : List FullName} {settled : List Settling} {s : StoreContent} → Fits inserted shown settled s → (ps : List Page) → nat_le (length (with_pages s.table.pages ps)) PAGES ≡ false → outgrow inserted shown ps ≡ true
+too_many {s = s} h ps e = outgrows h ps ∙ (let over : PAGES < length (with_pages s.table.pages ps) = grind (arith, nat_tests) in grind (arith, nat_tests))
+
+pub not_too_many : {inserted : List Drawop} {shown : List FullName} {settled : List Settling} {s : StoreContent} → Fits inserted shown settled s → (ps : List Page) → nat_le (length (with_pages s.table.pages ps)) PAGES ≡ true → outgrow inserted shown ps ≡ true → ⊥
+not_too_many {s = s} h ps e over =
+    let past : nat_lt PAGES (length (with_pages s.table.pages ps)) ≡ true = sym (outgrows h ps) ∙ over in
+    absurd (grind (arith, nat_tests))

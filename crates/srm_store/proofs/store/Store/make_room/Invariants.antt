@@ -1,0 +1,15 @@
+use Rattle.std.proofs.Common.{◌≡◌, take, length}
+use Rattle.srm_store.specs.Stores.{IsReady, IsReadyToSettle}
+use Rattle.srm_store.specs.Fits.{StillFits}
+use Rattle.srm_names.specs.FullName.{FullName}
+use Rattle.srm_names.specs.Names.{among}
+use Rattle.std.specs.Prelude.{true}
+use Rattle.srm_store.proofs.store.Store.make_room.Given as goal
+
+abbrev pub invariant-loop-name : goal.invariant-loop-name
+invariant-loop-name l = record {
+  kept : StillFits l.fn.self l.self;
+  so_far : (n : FullName) → among (take l.name-index l.names) n ≡ true → IsReady n l.self;
+  pages : l.self.table.pages ≡ l.fn.self.table.pages;
+  settling : IsReadyToSettle (length l.names) l.self;
+}
