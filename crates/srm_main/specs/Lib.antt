@@ -1,14 +1,2 @@
-pub mod Feeds
-pub mod PageTables
-pub mod Entries
-pub mod Giving
-pub mod Verdicts
-pub mod Runs
-pub mod Traces
-pub mod Events
-pub mod Claims
-pub mod Participants
-pub mod Worlds
-pub mod Laws
-pub mod Examples
 pub mod Decimals
+pub mod Examples

@@ -1,5 +1,6 @@
 //! Why a script isn't run to its end.
 
+use srm_world::WorldFault;
 use std::alloc::AllocError;
 use std::io;
 use std::io::Write;
@@ -47,5 +48,13 @@ impl Fault {
 impl From<AllocError> for Fault {
     fn from(_error: AllocError) -> Fault {
         Fault::Memory
+    }
+}
+
+impl From<WorldFault> for Fault {
+    fn from(fault: WorldFault) -> Fault {
+        match fault {
+            WorldFault::Memory => Fault::Memory,
+        }
     }
 }

@@ -2,13 +2,16 @@
 #![tactic(auto)]
 
 mod fault;
+mod help;
 mod input;
 mod report;
 mod run_script;
 mod script;
-mod world;
+#[cfg(test)]
+mod tests;
 
 use fault::Fault;
+use help::{HELP, USAGE};
 use run_script::run_script;
 use std::io::{ErrorKind, Write, writer};
 use std::process::ExitCode;
@@ -16,30 +19,70 @@ use std::rt::Env;
 use std::{env, io};
 
 /// The status of a command line that asks for nothing that the program does.
-const USAGE: u8 = 2;
+const WRONG_USAGE: u8 = 2;
+
+/// What a command line asks for.
+#[derive(Clone, Copy, Debug, PartialEq, Eq)]
+enum Asked {
+    World,
+    Help,
+    Nothing,
+}
 
 fn main(rt: HostRuntime) -> ExitCode {
     let alloc = rt.alloc();
     let mut err = rt.stderr();
-    let status = match asks_for_world(&rt) {
-        Ok(true) => run_script(alloc, &mut rt.stdin(), &mut writer(&rt), &mut err),
+    let status = match read_command_line(&rt) {
+        Ok(Asked::World) => run_script(alloc, &mut rt.stdin(), &mut writer(&rt), &mut err),
+        Ok(Asked::Help) => print_help(&mut writer(&rt), &mut err),
         Err(error) if error.kind() == ErrorKind::OutOfMemory => Fault::Memory.tell(&mut err),
         // A command line that isn't text asks for nothing either.
-        Ok(false) | Err(_) => {
-            let _ = writeln!(err, "usage: srm world < SCRIPT");
-            USAGE
+        Ok(Asked::Nothing) | Err(_) => {
+            let _ = write!(err, "{USAGE}");
+            WRONG_USAGE
         }
     };
     ExitCode::from(status)
 }
 
-/// Whether the command line is the one word `world`.
-fn asks_for_world<R: Env + AllocGlobal>(rt: &R) -> io::Result<bool> {
+/// Prints what the program does, and answers its status.
+fn print_help<O: Write, E: Write>(out: &mut O, err: &mut E) -> u8 {
+    match write!(out, "{HELP}") {
+        Ok(()) => 0,
+        Err(error) => Fault::of_output(error).tell(err),
+    }
+}
+
+/// What the command line asks for: `world`, or `--help` alone or behind it.
+fn read_command_line<R: Env + AllocGlobal>(rt: &R) -> io::Result<Asked> {
     let mut words = env::args(rt)?;
     let _program = words.next();
-    let asked = match words.next() {
-        Some(word) => word.as_str() == "world",
-        None => false,
+    let Some(first) = words.next() else {
+        return Ok(Asked::Nothing);
     };
-    Ok(asked && words.next().is_none())
+    let second = words.next();
+    if words.next().is_some() {
+        return Ok(Asked::Nothing);
+    }
+    Ok(match second {
+        None => asked_by(first.as_str()),
+        Some(second) => asked_of_world(first.as_str(), second.as_str()),
+    })
+}
+
+/// What one word asks for.
+fn asked_by(word: &str) -> Asked {
+    match word {
+        "world" => Asked::World,
+        "--help" | "-h" => Asked::Help,
+        _ => Asked::Nothing,
+    }
+}
+
+/// What two words ask for.
+fn asked_of_world(first: &str, second: &str) -> Asked {
+    match (asked_by(first), asked_by(second)) {
+        (Asked::World, Asked::Help) => Asked::Help,
+        _ => Asked::Nothing,
+    }
 }

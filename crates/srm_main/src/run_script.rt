@@ -1,18 +1,17 @@
 //! Running a script over any streams.
 
 ghost use Rattle.std.specs.Prelude.{All};
-ghost use Rattle.srm_main.specs.Claims.{IsLawful};
-ghost use Rattle.srm_main.specs.Events.{IsTimely};
+ghost use Rattle.srm_world.specs.Events.{IsTimely};
 
 #[cfg(test)]
 mod tests;
 
 use crate::fault::Fault;
 use crate::input::read_input;
-use crate::report::print_entry;
-use crate::script::read_script;
-use crate::world::World;
-use crate::world::event::Event;
+use crate::report::Report;
+use crate::script::{Script, read_script};
+use srm_timers::Listed;
+use srm_world::{Event, World};
 use std::alloc::Global;
 use std::io;
 use std::io::{BufWriter, Read, Write};
@@ -33,37 +32,46 @@ pub fn run_script<I: Read, O: Write, E: Write>(
 
 fn run<I: Read, O: Write>(alloc: Global, reader: &mut I, out: &mut O) -> Result<(), Fault> {
     let input = read_input(alloc, reader)?;
-    let script = read_script(alloc, input.as_slice())?;
-    let mut world = World::new(alloc, script.members)?;
+    let Script {
+        configs,
+        words,
+        timers,
+        events,
+    } = read_script(alloc, input.as_slice())?;
+    let mut world = World::new(alloc, configs, words)?;
     let mut out = BufWriter::new(alloc, out).map_err(Fault::of_output)?;
-    let ran = run_events(&mut world, script.events.as_slice(), &mut out);
+    let ran = run_events(&mut world, events, &mut Report::new(timers), &mut out);
     // What was printed before want of memory is still written.
     let flushed = out.flush();
     ran?;
     flushed.map_err(Fault::of_output)
 }
 
-fn run_events<O: Write>(world: &mut World, events: &[Event], out: &mut O) -> Result<(), Fault>
-    requires { All IsTimely events.now }
+fn run_events<O: Write>(
+    world: &mut World<Listed>,
+    events: Vec<Event>,
+    report: &mut Report,
+    out: &mut O,
+) -> Result<(), Fault>
+    requires { All IsTimely events.items }
 {
-    let mut sent = 0;
     for event in events {
-        run_event(world, event, out, &mut sent)?;
+        run_event(world, event, report, out)?;
     }
     Ok(())
 }
 
-/// Applies an event and prints what it did. `sent` is how many datagrams were sent before, and then with this event.
+/// Applies an event and prints what it did.
 fn run_event<O: Write>(
-    world: &mut World,
-    event: &Event,
+    world: &mut World<Listed>,
+    event: Event,
+    report: &mut Report,
     out: &mut O,
-    sent: &mut u64,
 ) -> Result<(), Fault>
-    requires { IsTimely event.now }
+    requires { IsTimely event }
 {
     let printed = if world.apply(event)? {
-        print_newest(world, out, sent)
+        print_newest(world, report, out)
     } else {
         writeln!(out, "skipped")
     };
@@ -71,11 +79,13 @@ fn run_event<O: Write>(
 }
 
 /// Prints the newest entry of a world.
-fn print_newest<O: Write>(world: &World, out: &mut O, sent: &mut u64) -> io::Result<()>
-    requires { IsLawful world.now.members world.now.trace }
-{
-    match world.trace().last() {
+fn print_newest<O: Write>(
+    world: &World<Listed>,
+    report: &mut Report,
+    out: &mut O,
+) -> io::Result<()> {
+    match world.trace().entries().last() {
         None => Ok(()),
-        Some(entry) => print_entry(out, entry, sent),
+        Some(entry) => report.print_entry(out, entry),
     }
 }

@@ -1,28 +1,38 @@
-//! Scripts: how many members a world has, and what happens in it.
+//! Scripts: the members of a world, and what happens in it.
 
-ghost use Rattle.std.specs.Prelude.{◌≤◌, All, IfOk};
-ghost use Rattle.srm_names.specs.declared.limits.TheConstants.{MEMBERS};
-ghost use Rattle.srm_main.specs.Events.{IsTimely};
+ghost use Rattle.std.specs.Prelude.{◌≡◌, length, All, IfOk};
+ghost use Rattle.srm_world.specs.Traces.{IsRoster, started};
+ghost use Rattle.srm_world.specs.Events.{IsTimely};
 
+mod event;
+mod header;
 mod line;
 mod number;
+mod roster;
 mod words;
 
 use crate::fault::Fault;
-use crate::world::event::Event;
-use line::{read_event, read_members};
-use std::alloc::{AllocError, Global};
+use header::Header;
+use line::{read_line, read_members};
+use srm_agent::Config;
+use srm_timers::Listed;
+use srm_world::Event;
+use std::alloc::Global;
 
-/// The members of a world have the numbers from 0. The events happen in order.
-#[derive(Debug, Drop)]
+/// The settings of all members, and the words of each. The events happen in order.
+#[derive(Drop)]
 pub struct Script {
-    pub members: u8,
+    pub configs: Vec<Config>,
+    pub words: Vec<Listed>,
+    /// Whether timers are printed.
+    pub timers: bool,
     pub events: Vec<Event>,
 }
 
 /// Reads a whole script, and runs nothing of it. Refused is its first bad line, and want of memory.
 pub fn read_script(alloc: Global, text: &[u8]) -> Result<Script, Fault>
-    ensures members { IfOk result (λ script. script.members ≤ MEMBERS) }
+    ensures roster { IfOk result (λ script. IsRoster (started script.configs.items)) }
+    ensures words { IfOk result (λ script. length script.words.items ≡ length script.configs.items) }
     ensures timely { IfOk result (λ script. All IsTimely script.events.items) }
 {
     let mut lines = text
@@ -31,10 +41,17 @@ pub fn read_script(alloc: Global, text: &[u8]) -> Result<Script, Fault>
         .split(|byte| *byte == b'\n');
     let first = lines.next().unwrap_or(b"");
     let members = read_members(first).map_err(|fault| fault.at(1))?;
+    let mut header = Header::new(alloc, members);
     let mut events = Vec::new(alloc);
     for (number, line) in (2..=u64::MAX).zip(lines) {
-        let event = read_event(alloc, line).map_err(|fault| fault.at(number))?;
-        events.push(event).map_err(AllocError::from)?;
+        read_line(alloc, line, &mut header, &mut events).map_err(|fault| fault.at(number))?;
     }
-    Ok(Script { members, events })
+    let configs = header.configs(alloc)?;
+    let timers = header.has_timers();
+    Ok(Script {
+        configs,
+        words: header.words(alloc)?,
+        timers,
+        events,
+    })
 }

@@ -1,10 +1,11 @@
 -- All that holds of an honest run, and of the run of one member.
 use Rattle.srm_agent.proofs.Given.{gives_law}
+use Rattle.srm_agent.proofs.Rating.{rate_law}
 use Rattle.srm_agent.proofs.Responding.{response_law}
 use Rattle.srm_agent.specs.Runs.{IsMemberRun}
 use Rattle.srm_world.specs.Traces.{Trace, Journal, IsRun, IsHonest}
 use Rattle.srm_world.specs.Claims.{IsLawful, IsLawfulJournal}
-use Rattle.srm_world.proofs.Members.{responds_each, gives_each}
+use Rattle.srm_world.proofs.Members.{responds_each, gives_each, keeps_rate_each}
 use Rattle.srm_world.proofs.Taking.{takes_law}
 use Rattle.srm_world.proofs.Resting.{rest_law}
 
@@ -16,6 +17,7 @@ lawful t run honest = record {
   rest = rest_law t run honest;
   responds = responds_each t run;
   gives = gives_each t run;
+  rates = keeps_rate_each t run;
 }
 
 pub lawful_journal : (j : Journal) → IsMemberRun j.start.config j.start.made j.entries → IsLawfulJournal j
@@ -23,4 +25,5 @@ lawful_journal j run = record {
   run = run;
   responds = response_law j.start.config j.start.made j.entries run;
   gives = gives_law j.start.config j.start.made j.entries run;
+  rate = rate_law j.start.config j.start.made j.entries run;
 }

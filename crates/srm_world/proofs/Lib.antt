@@ -6,3 +6,9 @@ pub mod Resting
 pub mod TakesExample
 pub mod RestExample
 pub mod Lawful
+pub mod Laning
+pub mod Going
+pub mod Silent
+pub mod Stepping
+pub mod Beginning
+pub mod Journaling

@@ -12,9 +12,10 @@ use Rattle.srm_agent.specs.Runs.{IsMemberRun}
 use Rattle.srm_agent.proofs.Cutting.{run_part}
 use Rattle.srm_agent.proofs.Responding.{response_law}
 use Rattle.srm_agent.proofs.Given.{gives_law}
+use Rattle.srm_agent.proofs.Rating.{rate_law}
 use Rattle.srm_world.specs.declared.start.Start.{Start}
 use Rattle.srm_world.specs.Traces.{Trace, of_member, IsAtPlace, IsRunOfMember, IsRunOf, IsRun}
-use Rattle.srm_world.specs.Claims.{RespondsEach, RespondsByItself, GivesEach, GivesByItself}
+use Rattle.srm_world.specs.Claims.{RespondsEach, RespondsByItself, GivesEach, GivesByItself, KeepsRateEach, KeepsRateByItself}
 
 -- the entries of the member are a run
 pub record MemberRun (m : ℕ) (es : List Entry) : Type 0 where
@@ -87,3 +88,6 @@ responds_each t r = all_by (IsRunOfMember t.entries) (RespondsByItself t.entries
 
 pub gives_each : (t : Trace) → IsRun t → GivesEach t
 gives_each t r = all_by (IsRunOfMember t.entries) (GivesByItself t.entries) t.starts (λ (a : Start) run. gives_law a.config a.made (of_member a.config.me t.entries) run) r.each
+
+pub keeps_rate_each : (t : Trace) → IsRun t → KeepsRateEach t
+keeps_rate_each t r = all_by (IsRunOfMember t.entries) (KeepsRateByItself t.entries) t.starts (λ (a : Start) run. rate_law a.config a.made (of_member a.config.me t.entries) run) r.each

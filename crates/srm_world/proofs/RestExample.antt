@@ -17,7 +17,7 @@ use Rattle.srm_bucket.specs.Classes.{rank, handed, gone}
 use Rattle.srm_bucket.specs.Law.{IsPrefixOf, BucketLaw, GoesRight as CallRight}
 use Rattle.srm_agent.specs.Configs.{Config}
 use Rattle.srm_agent.specs.declared.entry.Entry.{Entry}
-use Rattle.srm_agent.specs.declared.entry.AgentState.TheVariants.{Active}
+use Rattle.srm_agent.specs.declared.state.AgentState.TheVariants.{Active}
 use Rattle.srm_agent.specs.declared.entry.Input.TheVariants.{Drew, Heard, Ticked}
 use Rattle.srm_agent.specs.Entries.{shown, known, is_missing, released}
 use Rattle.srm_agent.specs.Sessions.{row_due, row_at, if_positive, ReportRight}
@@ -187,7 +187,7 @@ trace = record { starts = record { config = config 0; made = 0 } ∷ record { co
 
 pub run : IsRun trace
 run = record {
-  roster = record { places = ((refl, refl), ((refl, refl), tt)); session = ((refl, (refl, tt)), ((refl, (refl, tt)), tt)) };
+  roster = record { some = lit< tt; places = ((refl, refl), ((refl, refl), tt)); session = ((refl, (refl, tt)), ((refl, (refl, tt)), tt)) };
   inside = (lit< tt, (lit< tt, (lit< tt, (lit< tt, (lit< tt, (lit< tt, tt))))));
   each = (run_0, (run_1, tt));
 }

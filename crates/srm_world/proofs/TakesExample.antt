@@ -19,7 +19,7 @@ use Rattle.srm_bucket.specs.Calls.{Classed, Call, Handed, Popped}
 use Rattle.srm_bucket.specs.Classes.{rank, handed, gone}
 use Rattle.srm_bucket.specs.Law.{IsPrefixOf, BucketLaw, GoesRight as CallRight}
 use Rattle.srm_agent.specs.declared.entry.Entry.{Entry}
-use Rattle.srm_agent.specs.declared.entry.AgentState.TheVariants.{Active, Leaving, Gone}
+use Rattle.srm_agent.specs.declared.state.AgentState.TheVariants.{Active, Leaving, Gone}
 use Rattle.srm_agent.specs.declared.entry.Input.{Input}
 use Rattle.srm_agent.specs.declared.entry.Input.TheVariants.{Drew, Heard, Ticked, AskedLeave, Gave, Took}
 use Rattle.srm_agent.specs.Entries.{heard_in, is_missing, state}
@@ -183,7 +183,7 @@ trace = record { starts = record { config = config 0; made = 0 } ∷ record { co
 
 pub run : IsRun trace
 run = record {
-  roster = record { places = ((refl, refl), ((refl, refl), tt)); session = ((refl, (refl, tt)), ((refl, (refl, tt)), tt)) };
+  roster = record { some = lit< tt; places = ((refl, refl), ((refl, refl), tt)); session = ((refl, (refl, tt)), ((refl, (refl, tt)), tt)) };
   inside = (lit< tt, (lit< tt, (lit< tt, (lit< tt, (lit< tt, (lit< tt, (lit< tt, (lit< tt, (lit< tt, (lit< tt, (lit< tt, (lit< tt, tt))))))))))));
   each = (first_right, (second_right, tt));
 }

@@ -12,6 +12,7 @@ use Rattle.srm_agent.specs.Entries.{heard, known, is_missing, released, slots}
 use Rattle.srm_agent.specs.Verdicts.{stream_on}
 use Rattle.srm_agent.specs.Runs.{IsMemberRun, RespondsInTime}
 use Rattle.srm_agent.specs.Promises.{GivesReleased}
+use Rattle.srm_agent.specs.Rates.{KeepsRate}
 use Rattle.srm_world.specs.declared.start.Start.{Start}
 use Rattle.srm_world.specs.Traces.{Trace, Journal, of_member, drawn_by, taken_by, IsHonest, IsRun}
 
@@ -80,6 +81,13 @@ GivesByItself es a = GivesReleased (of_member a.config.me es)
 abbrev pub GivesEach : Trace → Type 0
 GivesEach t = AllByRecursion (GivesByItself t.entries) t.starts
 
+abbrev pub KeepsRateByItself : List Entry → Start → Type 0
+KeepsRateByItself es a = KeepsRate a.config (of_member a.config.me es)
+
+-- each member sends in the order and no faster than its rate lets it, and keeps nothing back that its tokens would pay for
+abbrev pub KeepsRateEach : Trace → Type 0
+KeepsRateEach t = AllByRecursion (KeepsRateByItself t.entries) t.starts
+
 -- the trace is an honest run, and all that holds of one
 pub record IsLawful (t : Trace) : Type 0 where
   pub run : IsRun t
@@ -88,10 +96,12 @@ pub record IsLawful (t : Trace) : Type 0 where
   pub rest : AgreesAtRest t.entries
   pub responds : RespondsEach t
   pub gives : GivesEach t
+  pub rates : KeepsRateEach t
 
 -- The journal is a run of its member, whatever came to it: timers, bucket, session messages and verdicts are right. And so it
--- responds in time, and what it gives is a page feed of what is released.
+-- responds in time, what it gives is a page feed of what is released, and what it sends keeps to its rate.
 pub record IsLawfulJournal (j : Journal) : Type 0 where
   pub run : IsMemberRun j.start.config j.start.made j.entries
   pub responds : RespondsInTime j.start.config j.entries
   pub gives : GivesReleased j.entries
+  pub rate : KeepsRate j.start.config j.entries

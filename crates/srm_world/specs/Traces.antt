@@ -1,11 +1,12 @@
 -- Traces of several members: which are runs, and which are honest.
-use Rattle.std.specs.Prelude.{◌≡◌, ℕ, ◌==◌, ◌<◌, List, length, filter, IfSome, Contains}
+use Rattle.std.specs.Prelude.{◌≡◌, ℕ, ◌==◌, ◌<◌, List, length, map, filter, IfSome, Contains}
 use Rattle.std.specs.List.{AllByRecursion, enumerate_from}
 use Rattle.srm_names.specs.declared.page.Page.{Page}
 use Rattle.srm_names.specs.declared.drawop.Drawop.{Drawop}
 use Rattle.srm_names.specs.declared.page_msg.PageMsg.{PageMsg}
 use Rattle.srm_names.specs.Histories.{Step, steps}
 use Rattle.srm_agent.specs.declared.entry.Entry.{Entry}
+use Rattle.srm_agent.specs.Configs.{Config}
 use Rattle.srm_agent.specs.Entries.{heard, sent, drawn_on}
 use Rattle.srm_agent.specs.Giving.{taken}
 use Rattle.srm_agent.specs.Runs.{IsMemberRun}
@@ -20,6 +21,10 @@ pub record Trace : Type 0 where
 pub record Journal : Type 0 where
   pub start : Start
   pub entries : List Entry
+
+-- how members with these settings begin, at moment 0
+abbrev pub started : List Config → List Start
+started configs = map (λ (c : Config). record { config = c; made = 0 }) configs
 
 -- the entries of one member
 abbrev pub of_member : ℕ → List Entry → List Entry
@@ -44,8 +49,9 @@ IsAtPlace members p = (p.1.config.me ≡ p.0) × (p.1.config.members ≡ members
 abbrev pub SameSession : Start → Start → Type 0
 SameSession a b = a.config.session ≡ b.config.session
 
--- one configuration for each member of one roster, in order, in one session
+-- at least one member; one configuration for each member of one roster, in order, in one session
 pub record IsRoster (starts : List Start) : Type 0 where
+  pub some : 0 < length starts
   pub places : AllByRecursion (IsAtPlace (length starts)) (enumerate_from 0 starts)
   pub session : AllByRecursion (λ (a : Start). AllByRecursion (SameSession a) starts) starts
 

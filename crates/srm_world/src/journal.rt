@@ -1,24 +1,28 @@
 //! What one member did.
 
 ghost use Rattle.std.specs.Prelude.{◌≡◌};
+ghost use Rattle.srm_world.specs.Claims.{IsLawfulJournal};
 
 use crate::start::Start;
 use srm_agent::Entry;
 use std::marker::Model;
 
-/// How a member began, and what it did. Contracts see it as a record.
+/// How a member began, and what it did. A [`Recorder`](crate::Recorder) alone makes it. Contracts see it as a record.
 #[derive(Debug, Drop)]
 pub struct Journal {
-    start: Start,
-    entries: Vec<Entry>,
+    pub(crate) start: Start,
+    pub(crate) entries: Vec<Entry>,
 }
 
 impl Model for Journal {
+    ghost use Rattle.srm_agent.specs.Runs.{IsMemberRun};
     ghost use Rattle.srm_world.specs.Traces.{Journal as Content};
 
     ghost Value = { Content };
 
     ghost view = { λ j. record { start = j.start; entries = j.entries.items } };
+
+    ghost invariant = { λ j. IsMemberRun j.start.config j.start.made j.entries.items };
 }
 
 impl Journal {
@@ -29,9 +33,10 @@ impl Journal {
         self.start
     }
 
-    /// The entries of the member, oldest first.
+    /// The entries of the member, oldest first: a run of it, whatever came to it. It takes no memory.
     pub fn entries(&self) -> &[Entry]
-        ensures { result.now ≡ self.now.entries }
+        ensures value { result.now ≡ self.now.entries }
+        ensures lawful { IsLawfulJournal self.now }
     {
         self.entries.as_slice()
     }

@@ -9,8 +9,8 @@ use std::marker::Model;
 /// How the members of one session began, and what they did, in one order. Contracts see it as a record.
 #[derive(Debug, Drop)]
 pub struct Trace {
-    starts: Vec<Start>,
-    entries: Vec<Entry>,
+    pub(crate) starts: Vec<Start>,
+    pub(crate) entries: Vec<Entry>,
 }
 
 impl Model for Trace {
@@ -22,14 +22,14 @@ impl Model for Trace {
 }
 
 impl Trace {
-    /// How the members began, in order of their numbers.
+    /// How the members began, in order of their numbers. It takes no memory.
     pub fn starts(&self) -> &[Start]
         ensures { result.now ≡ self.now.starts }
     {
         self.starts.as_slice()
     }
 
-    /// The entries of all members, oldest first.
+    /// The entries of all members, oldest first. It takes no memory.
     pub fn entries(&self) -> &[Entry]
         ensures { result.now ≡ self.now.entries }
     {

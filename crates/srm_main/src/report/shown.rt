@@ -1,6 +1,7 @@
-//! How pages, messages and bodies are printed.
+//! How pages, names, timers, messages and bodies are printed.
 
-use srm_names::{Page, PageMsg};
+use srm_agent::{Arm, ArmKind};
+use srm_names::{Name, Page, PageMsg};
 use std::fmt;
 
 /// A page, as the number of its creator, a dot and its own number.
@@ -12,6 +13,35 @@ impl fmt::Display for ShownPage {
         let creator = self.0.creator.number();
         let number = self.0.number;
         write!(f, "{creator}.{number}")
+    }
+}
+
+/// A name, as the number of its source, its page and its own number.
+#[derive(Drop)]
+pub struct ShownName(pub Name);
+
+impl fmt::Display for ShownName {
+    fn fmt<W: fmt::Write>(&self, f: &mut fmt::Formatter<W>) -> fmt::Result {
+        let stream = self.0.stream();
+        let source = stream.source.number();
+        let number = self.0.number();
+        write!(f, "{source} {} {number}", ShownPage(stream.page))
+    }
+}
+
+/// A timer that was set: what for, the name, the exponent and the wait in microseconds.
+#[derive(Drop)]
+pub struct ShownArm<'a>(pub &'a Arm);
+
+impl fmt::Display for ShownArm<'_> {
+    fn fmt<W: fmt::Write>(&self, f: &mut fmt::Formatter<W>) -> fmt::Result {
+        let kind = match self.0.kind {
+            ArmKind::Ask => "ask",
+            ArmKind::Fix => "fix",
+        };
+        let exponent = self.0.exponent;
+        let wait = self.0.wait;
+        write!(f, "{kind} {} {exponent} {wait}", ShownName(self.0.name))
     }
 }
 

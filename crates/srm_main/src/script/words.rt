@@ -1,7 +1,7 @@
 //! The words of a line.
 
 ghost use Rattle.std.specs.Prelude.{◌≤◌, IfOk};
-ghost use Rattle.srm_names.specs.declared.limits.TheConstants.{MEMBERS, MOMENT};
+ghost use Rattle.srm_names.specs.declared.limits.TheConstants.{MOMENT};
 
 use super::number::read_number;
 use crate::fault::Fault;
@@ -83,6 +83,18 @@ impl<'a> Words<'a> {
     {
         let word = self.next()?;
         read_number(word, greatest).ok_or(LineFault::Bad)
+    }
+
+    /// A number in decimal, within bounds.
+    pub fn number_from(&mut self, least: u32, greatest: u32) -> Result<u32, LineFault>
+        ensures least { IfOk result (λ number. least ≤ number) }
+        ensures greatest { IfOk result (λ number. number ≤ greatest) }
+    {
+        let number = self.number(u64::from(greatest))? as u32;
+        if number < least {
+            return Err(LineFault::Bad);
+        }
+        Ok(number)
     }
 
     /// The number of a member. It may lie outside the world.

@@ -1,5 +1,5 @@
 use Rattle.std.specs.Prelude.{All}
-use Rattle.srm_main.specs.Events.{IsTimely}
+use Rattle.srm_world.specs.Events.{IsTimely}
 use Rattle.srm_main.proofs.script.read_script.Given as goal
 
 abbrev pub invariant-loop-number : goal.invariant-loop-number

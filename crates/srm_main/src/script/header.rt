@@ -1,0 +1,158 @@
+//! The first lines of a script.
+
+ghost use Rattle.std.specs.Prelude.{◌≡◌, ◌≤◌, ◌<◌, length, IfOk, OnOk};
+ghost use Rattle.srm_names.specs.declared.limits.TheConstants.{MEMBERS};
+ghost use Rattle.srm_bucket.specs.declared.limits.TheConstants.{LEAST_RATE, GREATEST_RATE, LEAST_DEPTH, GREATEST_DEPTH};
+ghost use Rattle.srm_world.specs.Traces.{IsRoster, started};
+
+use super::number::read_number;
+use super::roster::roster;
+use super::words::{LineFault, Words};
+use srm_agent::Config;
+use srm_bucket::{GREATEST_DEPTH, GREATEST_RATE, LEAST_DEPTH, LEAST_RATE};
+use srm_timers::Listed;
+use std::alloc::{AllocError, Global};
+
+/// Bytes a second that a member may send, where a script doesn't say it.
+const RATE: u32 = 8_000;
+
+/// Bytes of a member's bucket, where a script doesn't say it.
+const DEPTH: u32 = 4_204;
+
+/// The kind of the last line. The first lines have an order.
+#[derive(Clone, Copy, Debug, PartialEq, Eq)]
+enum Kind {
+    Members,
+    Bucket,
+    Words,
+    Timers,
+    Event,
+}
+
+/// What the first lines of a script say.
+#[derive(Drop)]
+pub struct Header {
+    members: u8,
+    rate: u32,
+    depth: u32,
+    /// The words of the members from 0 on, as far as lines spoke of them.
+    words: Vec<Listed>,
+    timers: bool,
+    last: Kind,
+    ghost some: { 0 < members },
+    ghost few: { members ≤ MEMBERS },
+    ghost least_rate: { LEAST_RATE ≤ rate },
+    ghost greatest_rate: { rate ≤ GREATEST_RATE },
+    ghost least_depth: { LEAST_DEPTH ≤ depth },
+    ghost greatest_depth: { depth ≤ GREATEST_DEPTH },
+    ghost told: { length words.items ≤ members },
+}
+
+impl Header {
+    /// The header of a script that says how many members there are, and nothing more.
+    pub fn new(alloc: Global, members: u8) -> Header
+        requires some { 0 < members }
+        requires few { members ≤ MEMBERS }
+    {
+        Header {
+            members,
+            rate: RATE,
+            depth: DEPTH,
+            words: Vec::new(alloc),
+            timers: false,
+            last: Kind::Members,
+        }
+    }
+
+    /// `R D`.
+    pub fn read_bucket(&mut self, mut words: Words<'_>) -> Result<(), LineFault> {
+        if !matches!(self.last, Kind::Members) {
+            return Err(LineFault::Bad);
+        }
+        let rate = words.number_from(LEAST_RATE, GREATEST_RATE)?;
+        let depth = words.number_from(LEAST_DEPTH, GREATEST_DEPTH)?;
+        words.end()?;
+        self.rate = rate;
+        self.depth = depth;
+        self.last = Kind::Bucket;
+        Ok(())
+    }
+
+    /// `M W ..`, where no line spoke of this member or one behind it.
+    pub fn read_words(&mut self, alloc: Global, mut words: Words<'_>) -> Result<(), LineFault> {
+        if matches!(self.last, Kind::Timers | Kind::Event) {
+            return Err(LineFault::Bad);
+        }
+        let member = words.member()?;
+        if member >= self.members || usize::from(member) < self.words.len() {
+            return Err(LineFault::Bad);
+        }
+        let listed = read_list(alloc, words)?;
+        fill(alloc, &mut self.words, member)?;
+        self.words
+            .push(Listed::new(listed))
+            .map_err(AllocError::from)?;
+        self.last = Kind::Words;
+        Ok(())
+    }
+
+    /// Nothing more.
+    pub fn read_timers(&mut self, words: Words<'_>) -> Result<(), LineFault> {
+        if matches!(self.last, Kind::Timers | Kind::Event) {
+            return Err(LineFault::Bad);
+        }
+        words.end()?;
+        self.timers = true;
+        self.last = Kind::Timers;
+        Ok(())
+    }
+
+    /// The first event ends the first lines.
+    pub fn end(&mut self) {
+        self.last = Kind::Event;
+    }
+
+    /// Whether timers are printed.
+    pub fn has_timers(&self) -> bool {
+        self.timers
+    }
+
+    /// The settings of all members.
+    pub fn configs(&self, alloc: Global) -> Result<Vec<Config>, AllocError>
+        ensures roster { IfOk result (λ configs. IsRoster (started configs.items)) }
+        ensures count { IfOk result (λ configs. length configs.items ≡ self.now.members) }
+    {
+        roster(alloc, self.members, self.rate, self.depth)
+    }
+
+    /// The words of all members.
+    pub fn words(self, alloc: Global) -> Result<Vec<Listed>, AllocError>
+        ensures { IfOk result (λ words. length words.items ≡ self.members) }
+    {
+        let mut words = self.words;
+        fill(alloc, &mut words, self.members)?;
+        Ok(words)
+    }
+}
+
+/// Puts in empty lists of words up to so many.
+fn fill(alloc: Global, words: &mut Vec<Listed>, count: u8) -> Result<(), AllocError>
+    requires { length words.old.items ≤ count }
+    ensures ok { OnOk result (length words.new.items ≡ count) }
+    ensures most { length words.new.items ≤ count }
+{
+    for _ in words.len()..usize::from(count) {
+        words.push(Listed::new(Vec::new(alloc)))?;
+    }
+    Ok(())
+}
+
+/// One word or more, separated by one space.
+fn read_list(alloc: Global, words: Words<'_>) -> Result<Vec<u64>, LineFault> {
+    let mut listed = Vec::new(alloc);
+    for word in words.rest().ok_or(LineFault::Bad)?.split(' ') {
+        let number = read_number(word, u64::MAX).ok_or(LineFault::Bad)?;
+        listed.push(number).map_err(AllocError::from)?;
+    }
+    Ok(listed)
+}

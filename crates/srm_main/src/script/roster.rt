@@ -1,0 +1,43 @@
+//! The settings of all members.
+
+ghost use Rattle.std.specs.Prelude.{◌≡◌, ◌≤◌, ◌<◌, length, IfOk};
+ghost use Rattle.srm_names.specs.declared.limits.TheConstants.{MEMBERS};
+ghost use Rattle.srm_bucket.specs.declared.limits.TheConstants.{LEAST_RATE, GREATEST_RATE, LEAST_DEPTH, GREATEST_DEPTH};
+ghost use Rattle.srm_world.specs.Traces.{IsRoster, started};
+
+use srm_agent::Config;
+use srm_names::Member;
+use std::alloc::{AllocError, Global};
+
+/// The number of the session of each script.
+const SESSION: u32 = 1;
+
+/// A request waits from this many distances..
+const C1: u8 = 2;
+
+/// ..to so many more.
+const C2: u8 = 2;
+
+/// A repair waits from this many distances..
+const D1: u8 = 1;
+
+/// ..to so many more.
+const D2: u8 = 1;
+
+/// The settings of members of one roster, in order, in one session, with one rate and depth.
+pub fn roster(alloc: Global, members: u8, rate: u32, depth: u32) -> Result<Vec<Config>, AllocError>
+    requires some { 0 < members }
+    requires few { members ≤ MEMBERS }
+    requires rate { (LEAST_RATE ≤ rate) × (rate ≤ GREATEST_RATE) }
+    requires depth { (LEAST_DEPTH ≤ depth) × (depth ≤ GREATEST_DEPTH) }
+    ensures roster { IfOk result (λ configs. IsRoster (started configs.items)) }
+    ensures count { IfOk result (λ configs. length configs.items ≡ members) }
+{
+    let mut configs = Vec::new(alloc);
+    for number in 0..members {
+        let me = Member::new(number).unwrap();
+        let config = Config::new(me, members, SESSION, rate, depth, C1, C2, D1, D2).unwrap();
+        configs.push(config)?;
+    }
+    Ok(configs)
+}

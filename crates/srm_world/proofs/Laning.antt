@@ -1,0 +1,96 @@
+-- The lanes of a member after one of them was written.
+use Rattle.std.proofs.Common.{◌≡◌, ◌≢◌, ℕ, zero, suc, ◌<◌, ◌==◌, Bool, true, false, List, [], ◌∷◌, ◌++◌, length, get_or, refl, ap, sym, ◌∙◌, subst, arith, inl, inr, eq-eqb}
+use Rattle.std.specs.Prelude.{◌⊎◌, Result, Ok, Err, OnOk, Option, Some, slice_get, slice_set, option_to_list, drop, cond}
+use Rattle.std.proofs.lemmas.Bool.{cases_eq, ne_eqb}
+use Rattle.std.proofs.lemmas.List.{append-nil}
+use Rattle.std.proofs.lemmas.Option.{same_Some, slice_get-get_or}
+use Rattle.srm_names.specs.declared.page_msg.PageMsg.{PageMsg}
+use Rattle.srm_names.proofs.Lists.{slice_get-snoc}
+use Rattle.srm_world.specs.Lane.{LaneContent}
+use Rattle.srm_world.specs.Lanes.{AreEmpty, HasRoom, Gains, Loses, in_lane}
+
+-- what is read, of a list with one place written
+pub get_set_same : {X : Type 0} (xs : List X) (i : ℕ) (x y : X) → slice_get xs i ≡ Some x → slice_get (slice_set xs i y) i ≡ Some y
+get_set_same [] i x y h = cc
+get_set_same (z ∷ xs) zero x y h = refl
+get_set_same (z ∷ xs) (suc i) x y h = get_set_same xs i x y h
+
+pub get_set_other : {X : Type 0} (xs : List X) (i k : ℕ) (y : X) → k ≢ i → slice_get (slice_set xs i y) k ≡ slice_get xs k
+get_set_other [] i k y ne = refl
+get_set_other (x ∷ xs) zero zero y ne = absurd (ne refl)
+get_set_other (x ∷ xs) zero (suc k) y ne = refl
+get_set_other (x ∷ xs) (suc i) zero y ne = refl
+get_set_other (x ∷ xs) (suc i) (suc k) y ne = get_set_other xs i k y (λ e. ne (ap suc e))
+
+-- a new lane is empty
+pub empty_more : (lanes : List LaneContent) (l : LaneContent) → AreEmpty lanes → l.waiting ≡ [] → AreEmpty (lanes ++ l ∷ [])
+empty_more lanes l h e = record {
+  each = λ j x at. elim (slice_get-snoc lanes l j x at) [
+    | inl old ↦ h.each j x old
+    | inr last ↦ subst (λ (w : LaneContent). w.waiting ≡ []) last.1 e
+  ];
+}
+
+-- one lane is written, and gains these messages
+pub gains_at : (lanes : List LaneContent) (slot : ℕ) (w l : LaneContent) (more : List PageMsg) → slice_get lanes slot ≡ Some w → l.waiting ≡ w.waiting ++ more → Gains slot more lanes (slice_set lanes slot l)
+gains_at lanes slot w l more at e = record { each = λ j x there. which j x there (cases_eq j slot) }
+  where
+    which : (j : ℕ) (x : LaneContent) → slice_get (slice_set lanes slot l) j ≡ Some x → ((j ≡ slot) ⊎ (j ≢ slot)) → (v : LaneContent) × (slice_get lanes j ≡ Some v) × (x.waiting ≡ v.waiting ++ in_lane slot more j)
+    which j x there (inl same) =
+        let is : l ≡ x = same_Some l x (sym (get_set_same lanes slot w l at) ∙ ap (slice_get (slice_set lanes slot l)) (sym same) ∙ there) in
+        (w, ap (slice_get lanes) same ∙ at, ap (λ (v : LaneContent). v.waiting) (sym is) ∙ e ∙ ap (λ b. w.waiting ++ cond b more []) (sym (eq-eqb j slot same)))
+    which j x there (inr differ) =
+        (x, sym (get_set_other lanes slot j l differ) ∙ there, sym (append-nil x.waiting) ∙ ap (λ b. x.waiting ++ cond b more []) (sym (ne_eqb j slot differ)))
+
+pub gains_nothing : (lanes : List LaneContent) (slot : ℕ) → Gains slot [] lanes lanes
+gains_nothing lanes slot = record { each = λ j x there. (x, there, sym (append-nil x.waiting) ∙ ap (λ ms. x.waiting ++ ms) (nothing (j == slot))) }
+  where
+    none : List PageMsg
+    none = []
+
+    nothing : (b : Bool) → none ≡ cond b none none
+    nothing true = refl
+    nothing false = refl
+
+first_and_rest : (ms : List PageMsg) → ms ≡ option_to_list (slice_get ms 0) ++ drop 1 ms
+first_and_rest [] = refl
+first_and_rest (m ∷ ms) = refl
+
+-- one lane is written, and has lost its first message
+pub loses_at : (lanes : List LaneContent) (slot : ℕ) (w l : LaneContent) (message : Option PageMsg) → slice_get lanes slot ≡ Some w → message ≡ slice_get w.waiting 0 → l.waiting ≡ drop 1 w.waiting → Loses slot message lanes (slice_set lanes slot l)
+loses_at lanes slot w l message at m rest = record {
+  each = λ j x there. which j x there (cases_eq j slot);
+  first = (w, at, m);
+}
+  where
+    taken : w.waiting ≡ option_to_list message ++ l.waiting
+    taken = first_and_rest w.waiting ∙ ap (λ o. option_to_list o ++ drop 1 w.waiting) (sym m) ∙ ap (λ ms. option_to_list message ++ ms) (sym rest)
+
+    which : (j : ℕ) (x : LaneContent) → slice_get (slice_set lanes slot l) j ≡ Some x → ((j ≡ slot) ⊎ (j ≢ slot)) → (v : LaneContent) × (slice_get lanes j ≡ Some v) × (v.waiting ≡ in_lane slot (option_to_list message) j ++ x.waiting)
+    which j x there (inl same) =
+        let is : l ≡ x = same_Some l x (sym (get_set_same lanes slot w l at) ∙ ap (slice_get (slice_set lanes slot l)) (sym same) ∙ there) in
+        (w, ap (slice_get lanes) same ∙ at, taken ∙ ap (λ (v : LaneContent). option_to_list message ++ v.waiting) is ∙ ap (λ b. cond b (option_to_list message) [] ++ x.waiting) (sym (eq-eqb j slot same)))
+    which j x there (inr differ) =
+        (x, sym (get_set_other lanes slot j l differ) ∙ there, ap (λ b. cond b (option_to_list message) [] ++ x.waiting) (sym (ne_eqb j slot differ)))
+
+-- the lane at a slot that is read
+pub read_at : (lanes : List LaneContent) (slot place : ℕ) (w : LaneContent) → w ≡ get_or lanes place w → place ≡ slot → slot < 8 → length lanes ≡ 8 → slice_get lanes slot ≡ Some w
+read_at lanes slot place w is at l long = subst (λ k. slice_get lanes k ≡ Some w) at (slice_get-get_or lanes place w (omega (arith, at, long, l)) ∙ ap Some (sym is))
+
+-- the same, of the lane that the code reads and writes at a place
+
+pub gains : (lanes : List LaneContent) (slot place : ℕ) (w l : LaneContent) (more : List PageMsg) → w ≡ get_or lanes place w → place ≡ slot → slot < 8 → length lanes ≡ 8 → l.waiting ≡ w.waiting ++ more
+    → Gains slot more lanes (slice_set lanes place l)
+gains lanes slot place w l more is at below long e = subst (λ k. Gains slot more lanes (slice_set lanes k l)) (sym at) (gains_at lanes slot w l more (read_at lanes slot place w is at below long) e)
+
+pub loses : (lanes : List LaneContent) (slot place : ℕ) (w l : LaneContent) (message : Option PageMsg) → w ≡ get_or lanes place w → place ≡ slot → slot < 8 → length lanes ≡ 8 → message ≡ slice_get w.waiting 0
+    → l.waiting ≡ drop 1 w.waiting → Loses slot message lanes (slice_set lanes place l)
+loses lanes slot place w l message is at below long m rest = subst (λ k. Loses slot message lanes (slice_set lanes k l)) (sym at) (loses_at lanes slot w l message (read_at lanes slot place w is at below long) m rest)
+
+pub has_room : {T E : Type 0} (r : Result T E) (lanes : List LaneContent) (slot place : ℕ) (w l : LaneContent) → w ≡ get_or lanes place w → place ≡ slot → slot < 8 → length lanes ≡ 8 → OnOk r (length l.waiting < l.capacity)
+    → OnOk r (HasRoom slot (slice_set lanes place l))
+has_room (Err e) lanes slot place w l is at below long room = tt
+has_room (Ok x) lanes slot place w l is at below long room = record {
+  at = λ v there. subst (λ (u : LaneContent). length u.waiting < u.capacity)
+      (same_Some l v (sym (get_set_same lanes slot w l (read_at lanes slot place w is at below long)) ∙ ap (λ k. slice_get (slice_set lanes k l) slot) (sym at) ∙ there)) room;
+}

@@ -1,0 +1,41 @@
+-- An entry that is no tick sends nothing.
+use Rattle.std.proofs.Common.{◌≡◌, ℕ, Bool, true, false, List, [], ◌∷◌, ◌++◌, refl, ap, sym, ◌∙◌, subst, arith}
+use Rattle.std.specs.Prelude.{Option, Some, None, not, ◌&&◌, ◌||◌, if◌then◌else◌, nat_le}
+use Rattle.std.specs.List.{AllByRecursion}
+use Rattle.std.proofs.lemmas.Bool.{OnTrue_at}
+use Rattle.srm_names.specs.Histories.{steps, steps_after}
+use Rattle.srm_names.proofs.Lists.{at_parts, map-split}
+use Rattle.srm_agent.specs.Configs.{Config}
+use Rattle.srm_agent.specs.declared.entry.Entry.{Entry}
+use Rattle.srm_agent.specs.Entries.{ticked, state, is_gone, is_leaving}
+use Rattle.srm_agent.specs.Sessions.{charged, ending, EndsWith, all_data_sent, session_due}
+use Rattle.srm_agent.specs.Bucket.{Going, GoesRight, BucketRight, entries_of, datagrams_of}
+use Rattle.srm_agent.specs.Runs.{EntryRight, IsMemberRun}
+
+not_charged : (us : List Going) (x : Going) → GoesRight (record { before = us; this = x }) → ticked x.entry ≡ false → charged x.entry ≡ []
+not_charged us x right still =
+    let none : x.goes ≡ [] = OnTrue_at (ap (λ b. not (b && not (is_gone (state (entries_of us))))) still) right.at_ticks in
+    sym right.same ∙ ap datagrams_of none
+
+charged_none : (c : Config) (before : List Entry) (e : Entry) → BucketRight c (before ++ e ∷ []) → ticked e ≡ false → charged e ≡ []
+charged_none c before e (gs, q, all, law) still =
+    let (us, vs, p, r, t) = map-split (λ (g : Going). g.entry) gs before (e ∷ []) q in
+    from us vs r t (at_parts GoesRight us vs (subst (λ w. AllByRecursion GoesRight (steps w)) p all)).1
+  where
+    head : {y z : Entry} {ys zs : List Entry} → y ∷ ys ≡ z ∷ zs → y ≡ z
+    head e = cc
+
+    from : (us vs : List Going) → entries_of us ≡ before → entries_of vs ≡ e ∷ [] → AllByRecursion GoesRight (steps_after us vs) → charged e ≡ []
+    from us [] r t all = absurd (grind arith)
+    from us (x ∷ vs) r t all = subst (λ w. charged w ≡ []) (head t) (not_charged us x all.0 (ap ticked (head t) ∙ still))
+
+no_ending : (t gone : Bool) (x : Option Bool) → t ≡ false → (if not t || gone then None else x) ≡ None
+no_ending false gone x e = refl
+no_ending true gone x e = absurd (grind arith)
+
+pub unticked_sends_nothing : (c : Config) (made : ℕ) (before : List Entry) (e : Entry) → IsMemberRun c made (before ++ e ∷ []) → ticked e ≡ false → e.effects.outs ≡ []
+unticked_sends_nothing c made before e run still =
+    let right : EntryRight c made (record { before = before; this = e }) = (at_parts (EntryRight c made) before (e ∷ []) run.each).1.0 in
+    let none : ending c made before e ≡ None = no_ending (ticked e) (is_gone (state before))
+    (if is_leaving (state before) && all_data_sent (before ++ e ∷ []) then Some true else if nat_le (session_due c made before) e.moment then Some false else None) still in
+    subst (EndsWith c before e) none right.session ∙ charged_none c before e run.bucket still

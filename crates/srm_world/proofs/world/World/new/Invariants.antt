@@ -1,0 +1,10 @@
+use Rattle.std.proofs.Common.{◌≡◌, ◌+◌, length}
+use Rattle.std.specs.Vec.Iter.{into_iter_len}
+use Rattle.srm_world.proofs.Beginning.{HaveBegun}
+use Rattle.srm_world.proofs.world.World.new.Given as goal
+
+abbrev pub invariant-loop-config : goal.invariant-loop-config
+invariant-loop-config g l = record {
+  begun : HaveBegun l.config-items l.config-index l.starts.items l.participants.items;
+  words : into_iter_len l.words + l.config-index ≡ length l.config-items;
+}

@@ -1,0 +1,76 @@
+-- One member of a world: its agent, and what the world keeps of it beside.
+use Rattle.std.specs.Prelude.{◌≡◌, ℕ, List, [], ◌∷◌, ◌++◌, map, Option, Some, slice_get}
+use Rattle.std.specs.List.{AllByRecursion}
+use Rattle.srm_codec.specs.declared.datagram.Datagram.{Datagram}
+use Rattle.srm_codec.specs.Spelling.{Spells}
+use Rattle.srm_agent.specs.declared.out.Out.{Out}
+use Rattle.srm_agent.specs.declared.state.AgentState.{AgentState}
+use Rattle.srm_agent.specs.declared.entry.Entry.{Entry}
+use Rattle.srm_agent.specs.declared.entry.Input.{Input}
+use Rattle.srm_agent.specs.declared.entry.Verdict.{Verdict}
+use Rattle.srm_agent.specs.declared.entry.Verdict.TheVariants.{Refused}
+use Rattle.srm_agent.specs.Configs.{Config}
+use Rattle.srm_agent.specs.Contents as agents
+use Rattle.srm_agent.specs.Entries.{state, is_gone, last_moment}
+use Rattle.srm_agent.specs.Giving.{given, taken}
+use Rattle.srm_agent.specs.Fits as agents_fit
+use Rattle.srm_agent.specs.Noting.{moment_that_counts}
+use Rattle.srm_agent.specs.Outs.{IsOut}
+use Rattle.srm_world.specs.declared.participant.Participant.TheInside.{Inside}
+use Rattle.srm_world.specs.Events.{comes}
+use Rattle.srm_world.specs.Lane.{LaneContent}
+
+pub record Content (W : Type 0) : Type 0 where
+  pub agent : agents.Content W
+  pub config : Config
+  pub last : ℕ
+  pub state : AgentState
+  pub lanes : List LaneContent
+
+abbrev pub content_of : {W : Type 0} → Inside W → Content W
+content_of p = record { agent = p.agent; config = p.config; last = p.last; state = p.state; lanes = p.lanes }
+
+-- what was given in a slot is what was taken there, followed by what waits in its lane
+abbrev pub LanesFit : List Entry → List LaneContent → Type 0
+LanesFit past lanes = (j : ℕ) (l : LaneContent) → slice_get lanes j ≡ Some l → given past j ≡ taken past j ++ l.waiting
+
+-- all that is kept of a member is what the definitions say of its entries
+pub record Fits {W : Type 0} (c : Config) (made : ℕ) (past : List Entry) (p : Content W) : Type 0 where
+  pub agent : agents_fit.Fits c made past p.agent
+  pub config : p.config ≡ c
+  pub last : p.last ≡ last_moment made past
+  pub state : p.state ≡ state past
+  pub lanes : LanesFit past p.lanes
+
+-- the last moment after an entry: that of a refused call doesn't count
+abbrev pub last_with : ℕ → Verdict → ℕ → ℕ
+last_with last (Refused fault) moment = last
+last_with last _ moment = moment
+
+-- the entry is at the moment that counts, and the member then fits the entries with this one added
+pub record Adds {W : Type 0} (c : Config) (made : ℕ) (past : List Entry) (now : Option ℕ) (new : Content W) (e : Entry) : Type 0 where
+  pub moment : e.moment ≡ moment_that_counts now (last_moment made past)
+  pub fits : Fits c made (past ++ e ∷ []) new
+
+-- the same of whatever entries the member fitted, where the entry is of this input
+pub record GoesOn {W : Type 0} (now : Option ℕ) (input : Input) (old new : Content W) (e : Entry) : Type 0 where
+  pub input_is : e.input ≡ input
+  pub adds : (c : Config) (made : ℕ) (past : List Entry) → Fits c made past old → Adds c made past now new e
+
+-- whatever entries the member fitted, it still fits
+pub record Stays {W : Type 0} (old new : Content W) : Type 0 where
+  pub fits : (c : Config) (made : ℕ) (past : List Entry) → Fits c made past old → Fits c made past new
+
+-- where the bytes spell a datagram, the entry is of this datagram, or of noise where the member is gone
+pub record HearsBytes {W : Type 0} (bytes : List ℕ) (old : Content W) (e : Entry) : Type 0 where
+  pub each : (c : Config) (made : ℕ) (past : List Entry) (g : Datagram) → Fits c made past old → Spells c.session g bytes
+      → e.input ≡ comes (is_gone (state past)) g
+
+-- these are the datagrams of the entry, each with its spelling in the session
+pub record AreOutsOf (session : ℕ) (e : Entry) (outs : List Out) : Type 0 where
+  pub same : map (λ (o : Out). o.datagram) outs ≡ e.effects.outs
+  pub spelled : AllByRecursion (IsOut session) outs
+
+-- the same of whatever entries the member fitted
+pub record SendsOuts {W : Type 0} (old : Content W) (e : Entry) (outs : List Out) : Type 0 where
+  pub each : (c : Config) (made : ℕ) (past : List Entry) → Fits c made past old → AreOutsOf c.session e outs

@@ -1,0 +1,53 @@
+-- What a world and a recorder keep, at small values.
+use Rattle.std.specs.Prelude.{◌≡◌, List, [], ◌∷◌, map, Some, None, Ok, Err, refl}
+use Rattle.std.proofs.Common.{inl, inr}
+use Rattle.srm_names.specs.declared.page_msg.PageMsg.TheVariants.{Close, Left}
+use Rattle.srm_names.specs.Names.{first_page}
+use Rattle.srm_agent.specs.declared.fault.AgentFault.TheVariants.{Memory, Leaving}
+use Rattle.srm_agent.specs.declared.entry.Entry.{Entry}
+use Rattle.srm_agent.specs.declared.entry.Input.TheVariants.{Showed, AskedLeave}
+use Rattle.srm_agent.specs.declared.entry.Verdict.TheVariants.{Done, Refused}
+use Rattle.srm_agent.specs.declared.state.AgentState.TheVariants.{Active}
+use Rattle.srm_agent.specs.declared.state.AgentState.TheVariants as states
+use Rattle.srm_agent.specs.Noting.{still_entry}
+use Rattle.srm_agent.specs.Sample.{in_roster}
+use Rattle.srm_world.specs.declared.start.Start.{Start}
+use Rattle.srm_world.specs.Traces.{Journal, started}
+use Rattle.srm_world.specs.Lanes.{in_lane}
+use Rattle.srm_world.specs.Participants.{last_with}
+use Rattle.srm_world.specs.Recording.{Grows, Records}
+
+-- members begin at moment 0
+begins : started (in_roster 0 2 4204 ∷ in_roster 1 2 4204 ∷ []) ≡ record { config = in_roster 0 2 4204; made = 0 } ∷ record { config = in_roster 1 2 4204; made = 0 } ∷ []
+begins = refl
+
+-- messages of slot 3, by slot
+by_slot : map (in_lane 3 (Left 0 ∷ Close ∷ [])) (2 ∷ 3 ∷ 4 ∷ []) ≡ [] ∷ (Left 0 ∷ Close ∷ []) ∷ [] ∷ []
+by_slot = refl
+
+-- the moment of a refused call doesn't count
+counted : last_with 5 Done 9 ∷ last_with 5 (Refused Leaving) 9 ∷ [] ≡ 9 ∷ 5 ∷ []
+counted = refl
+
+-- a journal
+abbrev start : Start
+start = record { config = in_roster 0 2 4204; made = 3 }
+
+abbrev shows : Entry
+shows = still_entry 0 7 (Showed first_page) Done None Active
+
+abbrev leaves : Entry
+leaves = still_entry 0 7 AskedLeave Done None states.Leaving
+
+abbrev journal : List Entry → Journal
+journal es = record { start = start; entries = es }
+
+-- a call before the last moment is at the last moment
+grows : Grows (Some 2) (journal (shows ∷ [])) (journal (shows ∷ leaves ∷ [])) leaves
+grows = record { moment = refl; grown = refl }
+
+recorded : Records {A = Unit {0}} (Some 2) AskedLeave (λ _ _. Unit {0}) (journal (shows ∷ [])) (journal (shows ∷ leaves ∷ [])) (Ok tt)
+recorded = inl (leaves, grows, refl, tt)
+
+unrecorded : Records {A = Unit {0}} (Some 2) AskedLeave (λ _ _. Unit {0}) (journal (shows ∷ [])) (journal (shows ∷ [])) (Err Memory)
+unrecorded = inr (refl, refl)

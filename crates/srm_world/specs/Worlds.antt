@@ -1,0 +1,68 @@
+-- What a world keeps, and what an event does to it.
+use Rattle.std.specs.Prelude.{◌≡◌, ℕ, ◌<◌, Bool, true, false, List, [], ◌∷◌, ◌++◌, length, map, Some, None, slice_get, IfSome, Contains}
+use Rattle.std.specs.List.{AllByRecursion}
+use Rattle.srm_agent.specs.declared.entry.Entry.{Entry}
+use Rattle.srm_agent.specs.declared.out.Out.{Out}
+use Rattle.srm_agent.specs.Entries.{sent, heard}
+use Rattle.srm_agent.specs.Outs.{IsOut}
+use Rattle.srm_world.specs.declared.event.Event.{Event}
+use Rattle.srm_world.specs.declared.start.Start.{Start}
+use Rattle.srm_world.specs.declared.world.World.TheInside.{Inside}
+use Rattle.srm_world.specs.Traces.{Trace, of_member}
+use Rattle.srm_world.specs.Events.{IsEntryOf, asked}
+use Rattle.srm_world.specs.Claims.{IsLawful}
+use Rattle.srm_world.specs.Participants.{Content, Fits}
+use Rattle.srm_world.specs.Sent.{all_of}
+
+-- each member fits its own entries
+abbrev pub AllFit : {W : Type 0} → List Start → List (Content W) → List Entry → Type 0
+AllFit {W = W} starts ps es = (m : ℕ) (a : Start) (p : Content W) → slice_get starts m ≡ Some a → slice_get ps m ≡ Some p → Fits a.config a.made (of_member m es) p
+
+-- what was sent is what the entries say, each with its spelling in the session of every member
+pub record AreSent (starts : List Start) (sents : List Out) (es : List Entry) : Type 0 where
+  pub same : map (λ (o : Out). o.datagram) sents ≡ sent es
+  pub spelled : (m : ℕ) (a : Start) → slice_get starts m ≡ Some a → AllByRecursion (IsOut a.config.session) sents
+
+-- the members and what was sent are those of the trace, which is lawful
+pub record AreWorld {W : Type 0} (ps : List (Content W)) (sents : List Out) (t : Trace) : Type 0 where
+  pub count : length ps ≡ length t.starts
+  pub fit : AllFit t.starts ps t.entries
+  pub sent : AreSent t.starts sents t.entries
+  pub lawful : IsLawful t
+
+abbrev pub IsWorld : {W : Type 0} → Inside W → Type 0
+IsWorld w = AreWorld w.participants.items (all_of w.sent) w.trace
+
+-- the entry is of the event and hears only what was sent; the members and what was sent go on with it
+pub record Enters {W : Type 0} (starts : List Start) (es : List Entry) (event : Event) (ps : List (Content W)) (sents : List Out) (e : Entry) : Type 0 where
+  pub asks : asked starts es event ≡ Some e.input
+  pub is_entry : IsEntryOf starts es event e.input e
+  pub inside : e.member < length starts
+  pub hears : IfSome (heard e) (Contains (sent es))
+  pub fit : AllFit starts ps (es ++ e ∷ [])
+  pub sent : AreSent starts sents (es ++ e ∷ [])
+
+-- the same, in whatever world these were the members and what was sent
+pub record EntersAll {W : Type 0} (old new : List (Content W)) (sents more : List Out) (event : Event) (e : Entry) : Type 0 where
+  pub enters : (t : Trace) → AreWorld old sents t → Enters t.starts t.entries event new more e
+  pub count : length new ≡ length old
+
+-- the event asks nothing of any member
+pub record Skips {W : Type 0} (old new : List (Content W)) (sents more : List Out) (event : Event) : Type 0 where
+  pub nothing : (t : Trace) → AreWorld old sents t → asked t.starts t.entries event ≡ None
+  pub same : new ≡ old
+  pub sent : more ≡ sents
+
+-- nothing was sent, and the members fit what they did
+pub record Keeps {W : Type 0} (old new : List (Content W)) (sents more : List Out) : Type 0 where
+  pub fits : (starts : List Start) (es : List Entry) → AllFit starts old es → AllFit starts new es
+  pub count : length new ≡ length old
+  pub sent : more ≡ sents
+
+abbrev pub after_entry : Trace → Entry → Trace
+after_entry t e = record { starts = t.starts; entries = t.entries ++ e ∷ [] }
+
+-- the trace has one entry more, which is of the event; or the event was skipped, and the trace is the same
+abbrev pub Appends : {W : Type 0} → List (Content W) → List (Content W) → List Out → List Out → Event → Trace → Trace → Bool → Type 0
+Appends old new sents more event t now true = (e : Entry) × EntersAll old new sents more event e × (now ≡ after_entry t e)
+Appends old new sents more event t now false = Skips old new sents more event × (now ≡ t)

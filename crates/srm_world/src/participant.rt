@@ -1,0 +1,101 @@
+//! One member of a world.
+
+ghost use Rattle.std.specs.Prelude.{◌≡◌, ◌≤◌, [], Some, IfOk, OnErr};
+ghost use Rattle.srm_names.specs.declared.limits.TheConstants.{MOMENT};
+ghost use Rattle.srm_world.specs.Participants.{Fits, GoesOn, Stays, last_with};
+
+mod taking;
+mod ticking;
+
+use crate::lanes::Lanes;
+use bytes::Bytes;
+use srm_agent::{Agent, AgentState, Config, Entry, Input, Verdict};
+use srm_names::Page;
+use srm_timers::Words;
+use std::alloc::{AllocError, Global};
+use std::marker::Model;
+
+/// One member of a world: its agent, and what its page workers were given and didn't take yet.
+#[derive(Drop)]
+pub struct Participant<W: Words + Drop> {
+    alloc: Global,
+    agent: Agent<W>,
+    config: Config,
+    /// The last moment that counted, in microseconds.
+    last: u64,
+    state: AgentState,
+    lanes: Lanes,
+}
+
+impl<W: Words + Drop> Model for Participant<W> {
+    ghost use Rattle.srm_world.specs.Participants.{Content, content_of};
+
+    ghost Value = { Content W };
+
+    ghost view = { content_of };
+}
+
+impl<W: Words + Drop> Participant<W> {
+    /// A member that was made at a moment, in microseconds, and did nothing yet. Only want of memory refuses it.
+    pub fn new(
+        alloc: Global,
+        config: Config,
+        words: W,
+        now: u64,
+    ) -> Result<Participant<W>, AllocError>
+        requires { now ≤ MOMENT }
+        ensures { IfOk result (Fits config now []) }
+    {
+        Ok(Participant {
+            alloc,
+            agent: Agent::new(alloc, config, words, now)?,
+            config,
+            last: now,
+            state: AgentState::Active,
+            lanes: Lanes::new(alloc)?,
+        })
+    }
+
+    /// Draws on a page.
+    pub fn draw(&mut self, page: Page, body: Bytes, now: u64) -> Result<Entry, AllocError>
+        requires { now ≤ MOMENT }
+        ensures ok { IfOk result (GoesOn (Some now) (Input.Drew page body) self.old self.new) }
+        ensures err { OnErr result (Stays self.old self.new) }
+    {
+        let entry = self.agent.draw_noted(page, body, now)?.entry;
+        self.note(&entry);
+        Ok(entry)
+    }
+
+    /// Shows a page.
+    pub fn show(&mut self, page: Page, now: u64) -> Result<Entry, AllocError>
+        requires { now ≤ MOMENT }
+        ensures ok { IfOk result (GoesOn (Some now) (Input.Showed page) self.old self.new) }
+        ensures err { OnErr result (Stays self.old self.new) }
+    {
+        let entry = self.agent.show_noted(page, now)?.entry;
+        self.note(&entry);
+        Ok(entry)
+    }
+
+    /// Begins to leave.
+    pub fn leave(&mut self, now: u64) -> Result<Entry, AllocError>
+        requires { now ≤ MOMENT }
+        ensures ok { IfOk result (GoesOn (Some now) Input.AskedLeave self.old self.new) }
+        ensures err { OnErr result (Stays self.old self.new) }
+    {
+        let entry = self.agent.leave_noted(now)?.entry;
+        self.note(&entry);
+        Ok(entry)
+    }
+
+    /// Takes note of the moment that counts last after an entry, and of the state.
+    fn note(&mut self, entry: &Entry)
+        ensures { self.new ≡ record self.old { last = last_with self.old.last entry.now.verdict entry.now.moment; state = entry.now.effects.state } }
+    {
+        if !matches!(entry.verdict, Verdict::Refused(_)) {
+            self.last = entry.moment;
+        }
+        self.state = entry.effects.state;
+    }
+}

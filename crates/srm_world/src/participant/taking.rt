@@ -1,0 +1,68 @@
+//! What page workers are given, and what they take.
+
+ghost use Rattle.std.specs.Prelude.{◌≡◌, ◌<◌, None, IfOk, OnErr};
+ghost use Rattle.srm_names.specs.declared.limits.TheConstants.{PAGES};
+ghost use Rattle.srm_agent.specs.declared.entry.Verdict.TheVariants.{Done};
+ghost use Rattle.srm_agent.specs.Noting.{still_entry};
+ghost use Rattle.srm_world.specs.Participants.{GoesOn, Stays};
+
+use super::Participant;
+use srm_agent::{AgentFault, Effects, Entry, Input, Noted, Verdict};
+use srm_names::{Items, PageMsg};
+use srm_timers::Words;
+use std::alloc::AllocError;
+
+impl<W: Words + Drop> Participant<W> {
+    /// Gives the next message of a slot to its page worker.
+    pub fn give(&mut self, slot: u8) -> Result<Entry, AllocError>
+        requires { slot < PAGES }
+        ensures ok { IfOk result (GoesOn None (Input.Gave slot) self.old self.new) }
+        ensures err { OnErr result (Stays self.old self.new) }
+    {
+        self.lanes.reserve(slot)?;
+        let Noted { answer, entry } = self.agent.give_noted(slot)?;
+        self.lanes.give(slot, message_of(answer));
+        self.note(&entry);
+        Ok(entry)
+    }
+
+    /// The page worker of a slot takes the next message that it was given. It takes no memory.
+    pub fn take(&mut self, slot: u8) -> Entry
+        requires { slot < PAGES }
+        ensures { GoesOn None (Input.Took slot) self.old self.new result }
+    {
+        let message = self.lanes.take(slot);
+        self.took(slot, message)
+    }
+
+    /// The entry of a take.
+    fn took(&self, slot: u8, message: Option<PageMsg>) -> Entry
+        ensures { result ≡ still_entry self.now.config.me self.now.last (Input.Took slot) Done message self.now.state }
+    {
+        Entry {
+            member: self.config.me(),
+            moment: self.last,
+            input: Input::Took(slot),
+            verdict: Verdict::Done,
+            effects: Effects {
+                drawn: None,
+                arms: Items::new(Vec::new(self.alloc)),
+                asks: Items::new(Vec::new(self.alloc)),
+                fixes: Items::new(Vec::new(self.alloc)),
+                outs: Items::new(Vec::new(self.alloc)),
+                message,
+                state: self.state,
+            },
+        }
+    }
+}
+
+/// The message that was given. A give that has an entry isn't refused.
+fn message_of(answer: Result<Option<PageMsg>, AgentFault>) -> Option<PageMsg>
+    ensures { IfOk answer (λ message. result ≡ message) }
+{
+    match answer {
+        Ok(message) => message,
+        Err(_) => None,
+    }
+}

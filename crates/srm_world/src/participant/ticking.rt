@@ -1,0 +1,49 @@
+//! What comes to a member, and what it sends.
+
+ghost use Rattle.std.specs.Prelude.{◌≡◌, ◌≤◌, Some, IfOk, OnErr};
+ghost use Rattle.srm_names.specs.declared.limits.TheConstants.{MOMENT};
+ghost use Rattle.srm_world.specs.Participants.{GoesOn, Stays, HearsBytes, SendsOuts};
+
+use super::Participant;
+use srm_agent::{AgentFault, Entry, Input, Noted, Out, Ticked};
+use srm_names::Items;
+use srm_timers::Words;
+use std::alloc::AllocError;
+
+impl<W: Words + Drop> Participant<W> {
+    /// Hears bytes that came from another member.
+    pub fn hear(&mut self, bytes: &[u8], now: u64) -> Result<Entry, AllocError>
+        requires { now ≤ MOMENT }
+        ensures ok { IfOk result (λ e. GoesOn (Some now) e.input self.old self.new e) }
+        ensures reading { IfOk result (HearsBytes bytes.now self.old) }
+        ensures err { OnErr result (Stays self.old self.new) }
+    {
+        // The number of the session, below 2^32, is the one in which the bytes are read.
+        let _session = self.config.session();
+        let entry = self.agent.hear_noted(bytes, now)?.entry;
+        self.note(&entry);
+        Ok(entry)
+    }
+
+    /// A moment has come. The answer has what is to be sent to all others, with the bytes.
+    pub fn tick(&mut self, now: u64) -> Result<(Entry, Items<Out>), AllocError>
+        requires { now ≤ MOMENT }
+        ensures ok { IfOk result (λ sent. GoesOn (Some now) Input.Ticked self.old self.new sent.0) }
+        ensures outs { IfOk result (λ sent. SendsOuts self.old sent.0 sent.1) }
+        ensures err { OnErr result (Stays self.old self.new) }
+    {
+        let Noted { answer, entry } = self.agent.tick_noted(now)?;
+        self.note(&entry);
+        Ok((entry, self.outs_of(answer)))
+    }
+
+    /// What is to be sent. A tick that has an entry isn't refused.
+    fn outs_of(&self, answer: Result<Ticked, AgentFault>) -> Items<Out>
+        ensures { IfOk answer (λ ticked. result ≡ ticked.outs) }
+    {
+        match answer {
+            Ok(ticked) => ticked.outs,
+            Err(_) => Items::new(Vec::new(self.alloc)),
+        }
+    }
+}

@@ -1,0 +1,150 @@
+//! An agent that keeps its journal.
+
+ghost use Rattle.std.specs.Prelude.{◌≡◌, ◌≤◌, ◌<◌, [], Some, None, IfOk};
+ghost use Rattle.srm_names.specs.declared.limits.TheConstants.{MOMENT, PAGES};
+ghost use Rattle.srm_agent.specs.Noting.{IsDrawnName, IsTicked};
+ghost use Rattle.srm_agent.specs.Promises.{page_to_come, IsNextDue};
+ghost use Rattle.srm_world.specs.Claims.{IsLawfulJournal};
+ghost use Rattle.srm_world.specs.Recording.{Records, RecordsHeard};
+
+use crate::appending::append;
+use crate::journal::Journal;
+use crate::start::Start;
+use bytes::Bytes;
+use srm_agent::{Agent, AgentFault, Config, Entry, Heard, Input, Noted, Ticked};
+use srm_names::{Name, Page, PageMsg};
+use srm_timers::Words;
+use std::alloc::{AllocError, Global};
+use std::marker::Model;
+
+/// An agent that keeps its journal: each call answers as the agent's, and appends its entry. A call that is refused for memory
+/// changes nothing, and has no entry. Contracts see the journal.
+#[derive(Drop)]
+pub struct Recorder<W: Words + Drop> {
+    agent: Agent<W>,
+    start: Start,
+    entries: Vec<Entry>,
+}
+
+impl<W: Words + Drop> Model for Recorder<W> {
+    ghost use Rattle.srm_world.specs.Traces.{Journal as Content};
+    ghost use Rattle.srm_world.specs.Recorders.{journal_of, IsRecorder};
+
+    ghost Value = { Content };
+
+    ghost view = { journal_of };
+
+    ghost invariant = { IsRecorder };
+}
+
+impl<W: Words + Drop> Recorder<W> {
+    /// An agent that was made at a moment, in microseconds, and did nothing yet. Only want of memory refuses it.
+    pub fn new(alloc: Global, config: Config, words: W, now: u64) -> Result<Recorder<W>, AllocError>
+        requires { now ≤ MOMENT }
+        ensures value { IfOk result (λ recorder. recorder ≡ record { start = record { config = config; made = now }; entries = [] }) }
+    {
+        Ok(Recorder {
+            agent: Agent::new(alloc, config, words, now)?,
+            start: Start { config, made: now },
+            entries: Vec::new(alloc),
+        })
+    }
+
+    /// [`Agent::new_page`]. It has no entry.
+    pub fn new_page(&self) -> Option<Page>
+        ensures { result ≡ page_to_come self.now.start.config self.now.entries }
+    {
+        self.agent.new_page()
+    }
+
+    /// [`Agent::next_due`]. It has no entry.
+    pub fn next_due(&self) -> Option<u64>
+        ensures { IsNextDue self.now.start.config self.now.start.made self.now.entries result }
+    {
+        self.agent.next_due()
+    }
+
+    /// [`Agent::draw`].
+    pub fn draw(&mut self, page: Page, body: Bytes, now: u64) -> Result<Name, AgentFault>
+        requires { now ≤ MOMENT }
+        ensures records { Records (Some now) (Input.Drew page body) IsDrawnName self.old self.new result }
+        ensures lawful { IsLawfulJournal self.new }
+    {
+        self.entries.reserve(1)?;
+        let Noted { answer, entry } = self.agent.draw_noted(page, body, now)?;
+        append(&mut self.entries, entry);
+        answer
+    }
+
+    /// [`Agent::show`].
+    pub fn show(&mut self, page: Page, now: u64) -> Result<(), AgentFault>
+        requires { now ≤ MOMENT }
+        ensures records { Records (Some now) (Input.Showed page) (λ _ _. Unit {0}) self.old self.new result }
+        ensures lawful { IsLawfulJournal self.new }
+    {
+        self.entries.reserve(1)?;
+        let Noted { answer, entry } = self.agent.show_noted(page, now)?;
+        append(&mut self.entries, entry);
+        answer
+    }
+
+    /// [`Agent::hear`].
+    #[tactic(auto, using(crate::proofs::Journaling::records_heard))]
+    pub fn hear(&mut self, bytes: &[u8], now: u64) -> Result<Heard, AgentFault>
+        requires { now ≤ MOMENT }
+        ensures records { RecordsHeard now bytes.now self.old self.new result }
+        ensures lawful { IsLawfulJournal self.new }
+    {
+        self.entries.reserve(1)?;
+        let Noted { answer, entry } = self.agent.hear_noted(bytes, now)?;
+        append(&mut self.entries, entry);
+        answer
+    }
+
+    /// [`Agent::tick`].
+    pub fn tick(&mut self, now: u64) -> Result<Ticked, AgentFault>
+        requires { now ≤ MOMENT }
+        ensures records { Records (Some now) Input.Ticked (IsTicked self.old.start.config.session) self.old self.new result }
+        ensures lawful { IsLawfulJournal self.new }
+    {
+        self.entries.reserve(1)?;
+        let Noted { answer, entry } = self.agent.tick_noted(now)?;
+        append(&mut self.entries, entry);
+        answer
+    }
+
+    /// [`Agent::leave`]. Here it can be refused for memory, which its entry takes.
+    pub fn leave(&mut self, now: u64) -> Result<(), AgentFault>
+        requires { now ≤ MOMENT }
+        ensures records { Records (Some now) Input.AskedLeave (λ _ _. Unit {0}) self.old self.new result }
+        ensures lawful { IsLawfulJournal self.new }
+    {
+        self.entries.reserve(1)?;
+        let Noted { answer, entry } = self.agent.leave_noted(now)?;
+        append(&mut self.entries, entry);
+        answer
+    }
+
+    /// [`Agent::give`].
+    pub fn give(&mut self, slot: u8) -> Result<Option<PageMsg>, AgentFault>
+        requires { slot < PAGES }
+        ensures records { Records None (Input.Gave slot) (λ e message. message ≡ e.effects.message) self.old self.new result }
+        ensures lawful { IsLawfulJournal self.new }
+    {
+        self.entries.reserve(1)?;
+        let Noted { answer, entry } = self.agent.give_noted(slot)?;
+        append(&mut self.entries, entry);
+        answer
+    }
+
+    /// The journal as it stands. It takes no memory.
+    pub fn finish(self) -> Journal
+        ensures value { result ≡ self }
+        ensures lawful { IsLawfulJournal result }
+    {
+        Journal {
+            start: self.start,
+            entries: self.entries,
+        }
+    }
+}

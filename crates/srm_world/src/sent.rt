@@ -1,0 +1,62 @@
+//! The datagrams that were sent.
+
+ghost use Rattle.std.specs.Prelude.{◌≡◌, ◌++◌, [], OnOk, OnErr, slice_get};
+ghost use Rattle.std.specs.Option.{option_copied};
+ghost use Rattle.srm_world.specs.Sent.{all_of};
+
+use srm_agent::Out;
+use srm_names::Items;
+use std::alloc::{AllocError, Global};
+use std::marker::Model;
+
+/// All datagrams that were sent, with their bytes, in order of sending. Contracts see two lists.
+#[derive(Drop)]
+pub struct Sent {
+    settled: Vec<Out>,
+    /// What the last tick sent. It is settled before the next event, when a refusal of memory still changes nothing.
+    newest: Vec<Out>,
+}
+
+impl Model for Sent {
+    ghost use Rattle.srm_world.specs.Sent.{SentContent, sent_of};
+
+    ghost Value = { SentContent };
+
+    ghost view = { sent_of };
+}
+
+impl Sent {
+    /// Nothing was sent. It takes no memory.
+    pub fn new(alloc: Global) -> Sent
+        ensures { all_of result ≡ [] }
+    {
+        Sent {
+            settled: Vec::new(alloc),
+            newest: Vec::new(alloc),
+        }
+    }
+
+    /// Makes room for what a tick sends.
+    pub fn settle(&mut self) -> Result<(), AllocError>
+        ensures same { all_of self.new ≡ all_of self.old }
+        ensures ok { OnOk result (self.new.newest ≡ []) }
+    {
+        self.settled.append(&mut self.newest)
+    }
+
+    /// A tick sent these datagrams.
+    pub fn add(&mut self, outs: Items<Out>)
+        requires { self.old.newest ≡ [] }
+        ensures { all_of self.new ≡ all_of self.old ++ outs }
+    {
+        self.newest = outs.into_vec();
+    }
+
+    /// A datagram by its number from 0.
+    pub fn get(&self, index: usize) -> Option<&Out>
+        requires { self.now.newest ≡ [] }
+        ensures { option_copied result ≡ slice_get (all_of self.now) index }
+    {
+        self.settled.get(index)
+    }
+}

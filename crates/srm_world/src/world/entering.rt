@@ -1,0 +1,96 @@
+//! The entry of an event.
+
+ghost use Rattle.std.specs.Prelude.{◌≡◌, [], length, IfOk, IfNone, IfSome, OnErr};
+ghost use Rattle.srm_world.specs.Events.{IsTimely};
+ghost use Rattle.srm_world.specs.Sent.{all_of};
+ghost use Rattle.srm_world.specs.Worlds.{Appends, EntersAll, Keeps, Skips};
+
+use crate::appending::append;
+use crate::event::Event;
+use crate::participant::Participant;
+use crate::sent::Sent;
+use crate::trace::Trace;
+use srm_agent::Entry;
+use srm_names::PAGES;
+use srm_timers::Words;
+use std::alloc::AllocError;
+
+impl Trace {
+    /// Appends the entry of an event, and answers whether there is one. The members and what was sent go on with it.
+    pub(crate) fn append<W: Words + Drop>(
+        &mut self,
+        participants: &mut [Participant<W>],
+        sent: &mut Sent,
+        event: &Event,
+    ) -> Result<bool, AllocError>
+        requires timely { IsTimely event.now }
+        requires settled { sent.old.newest ≡ [] }
+        ensures ok { IfOk result (Appends participants.old participants.new (all_of sent.old) (all_of sent.new) event.now self.old self.new) }
+        ensures err { OnErr result (Keeps participants.old participants.new (all_of sent.old) (all_of sent.new)) }
+        ensures same { OnErr result (self.new ≡ self.old) }
+    {
+        self.entries.reserve(1)?;
+        match entry_of(participants, sent, event)? {
+            None => Ok(false),
+            Some(entry) => {
+                append(&mut self.entries, entry);
+                Ok(true)
+            }
+        }
+    }
+}
+
+/// The entry of an event, unless it is skipped. The members and what was sent go on with it.
+fn entry_of<W: Words + Drop>(
+    participants: &mut [Participant<W>],
+    sent: &mut Sent,
+    event: &Event,
+) -> Result<Option<Entry>, AllocError>
+    requires timely { IsTimely event.now }
+    requires settled { sent.old.newest ≡ [] }
+    ensures entry { IfOk result (λ entry. IfSome entry (EntersAll participants.old participants.new (all_of sent.old) (all_of sent.new) event.now)) }
+    ensures skipped { IfOk result (λ entry. IfNone entry (Skips participants.old participants.new (all_of sent.old) (all_of sent.new) event.now)) }
+    ensures err { OnErr result (Keeps participants.old participants.new (all_of sent.old) (all_of sent.new)) }
+{
+    let place = usize::from(event.member());
+    if place >= participants.len() {
+        return Ok(None);
+    }
+    match event {
+        Event::Draw {
+            now,
+            page,
+            body,
+            ..
+        } => {
+            let body = body.clone()?;
+            Ok(Some(participants[place].draw(*page, body, *now)?))
+        }
+        Event::Deliver { now, index, .. } => {
+            let Some(out) = sent.get(*index) else {
+                return Ok(None);
+            };
+            let entry = participants[place].hear(out.bytes.as_slice(), *now)?;
+            Ok(Some(entry))
+        }
+        Event::Tick { now, .. } => {
+            let (entry, outs) = participants[place].tick(*now)?;
+            sent.add(outs);
+            Ok(Some(entry))
+        }
+        Event::Show { now, page, .. } => Ok(Some(participants[place].show(*page, *now)?)),
+        Event::Leave { now, .. } => Ok(Some(participants[place].leave(*now)?)),
+        Event::Give { slot, .. } => {
+            if *slot >= PAGES {
+                return Ok(None);
+            }
+            Ok(Some(participants[place].give(*slot)?))
+        }
+        Event::Take { slot, .. } => {
+            if *slot >= PAGES {
+                return Ok(None);
+            }
+            Ok(Some(participants[place].take(*slot)))
+        }
+    }
+}
