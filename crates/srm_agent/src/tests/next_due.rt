@@ -88,6 +88,11 @@ fn what_is_late_is_due_at_the_last_moment(rt: HostRuntime) {
 
 #[test]
 fn the_next_session_message_is_due_a_second_later(rt: HostRuntime) {
-    let steps = [Step::Send(1_000_000, &[23]), Step::Next(Some(2_000_000))];
+    let steps = [
+        Step::Tick(1_000_000),
+        Step::Tells(Told::Sent(23)),
+        Step::Next,
+        Step::Tells(Told::Next(Some(2_000_000))),
+    ];
     play(&rt, rt.alloc(), 1, &steps);
 }

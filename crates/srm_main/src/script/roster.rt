@@ -13,16 +13,16 @@ use std::alloc::{AllocError, Global};
 const SESSION: u32 = 1;
 
 /// A request waits from this many distances..
-const C1: u8 = 2;
+const REQUEST_FROM: u8 = 2;
 
 /// ..to so many more.
-const C2: u8 = 2;
+const REQUEST_MORE: u8 = 2;
 
 /// A repair waits from this many distances..
-const D1: u8 = 1;
+const REPAIR_FROM: u8 = 1;
 
 /// ..to so many more.
-const D2: u8 = 1;
+const REPAIR_MORE: u8 = 1;
 
 /// The settings of members of one roster, in order, in one session, with one rate and depth.
 pub fn roster(alloc: Global, members: u8, rate: u32, depth: u32) -> Result<Vec<Config>, AllocError>
@@ -36,7 +36,18 @@ pub fn roster(alloc: Global, members: u8, rate: u32, depth: u32) -> Result<Vec<C
     let mut configs = Vec::new(alloc);
     for number in 0..members {
         let me = Member::new(number).unwrap();
-        let config = Config::new(me, members, SESSION, rate, depth, C1, C2, D1, D2).unwrap();
+        let config = Config::new(
+            me,
+            members,
+            SESSION,
+            rate,
+            depth,
+            REQUEST_FROM,
+            REQUEST_MORE,
+            REPAIR_FROM,
+            REPAIR_MORE,
+        )
+        .unwrap();
         configs.push(config)?;
     }
     Ok(configs)
