@@ -1,3 +1,4 @@
 pub mod Steps
 pub mod Collecting
 pub mod Ties
+pub mod Table

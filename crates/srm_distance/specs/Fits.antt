@@ -1,9 +1,10 @@
 -- What is kept fits a list of calls: it is what the definitions say of them.
-use Rattle.std.specs.Prelude.{◌≡◌, ℕ, ◌<◌, List, [], ◌∷◌, ◌++◌, length, Some, slice_get}
+use Rattle.std.specs.Prelude.{◌≡◌, ℕ, ◌<◌, List, [], ◌∷◌, ◌++◌, length, Some, slice_get, slice_index}
 use Rattle.srm_names.specs.declared.limits.TheConstants.{MEMBERS}
 use Rattle.srm_distance.specs.Calls.{Call}
 use Rattle.srm_distance.specs.Peers.{peer_of}
 use Rattle.srm_distance.specs.Content.{Content}
+use Rattle.srm_distance.specs.Distance.{distance}
 
 pub record Fits (me : ℕ) (calls : List Call) (d : Content) : Type 0 where
   pub me_is : d.me ≡ me
@@ -14,3 +15,7 @@ pub record Fits (me : ℕ) (calls : List Call) (d : Content) : Type 0 where
 pub record Adds (call : Call) (old new : Content) : Type 0 where
   pub me_stays : new.me ≡ old.me
   pub fits : (me : ℕ) (calls : List Call) → Fits me calls old → Fits me (calls ++ call ∷ []) new
+
+-- a table has the distance to each member, by its number
+pub record IsTableOf (d : Content) (table : List ℕ) : Type 0 where
+  pub each : (me : ℕ) (calls : List Call) → Fits me calls d → (member : ℕ) → member < MEMBERS → slice_index table member ≡ distance calls me member

@@ -1,11 +1,14 @@
 //! Distances and echoes, by the session messages heard so far.
 
-ghost use Rattle.std.specs.Prelude.{◌≡◌, ◌≢◌, ◌≤◌, ◌<◌, ◌↔◌, ℕ, List, [], ◌∷◌, ◌++◌, IfOk, IfSome};
+ghost use Rattle.std.specs.Prelude.{◌≡◌, ◌≢◌, ◌≤◌, ◌<◌, ◌↔◌, ℕ, List, [], ◌∷◌, ◌++◌, IfOk, IfSome, length, slice_index};
+ghost use Rattle.srm_names.specs.declared.limits.TheConstants.{MEMBERS};
 ghost use Rattle.srm_distance.specs.Calls.{Call, Heard, Forgot};
+ghost use Rattle.srm_distance.specs.Content.{distance_by};
 ghost use Rattle.srm_distance.specs.Distance.{distance};
 ghost use Rattle.srm_distance.specs.Echoes.{echo_to, echoes_due, AreSpellable, CanBeSent};
-ghost use Rattle.srm_distance.specs.Fits.{Fits, Adds};
+ghost use Rattle.srm_distance.specs.Fits.{Fits, Adds, IsTableOf};
 
+use crate::limits::FIRST_DISTANCE;
 use crate::peer::Peer;
 use srm_names::{Echo, LONGEST_DISTANCE, MEMBERS, MOMENT, Member};
 use std::alloc::{AllocError, Global};
@@ -17,16 +20,18 @@ use std::marker::Model;
 pub struct Distances {
     me: Member,
     peers: [Peer; MEMBERS as usize],
+    /// The distance to each member, by its number: kept beside the peers, so that all of them are at hand at once.
+    table: [u64; MEMBERS as usize],
 }
 
 impl Model for Distances {
-    ghost use Rattle.srm_distance.specs.Content.{Content, content_of, AreSentWithin};
+    ghost use Rattle.srm_distance.specs.Content.{Content, content_of, IsKept};
 
     ghost Value = { Content };
 
     ghost view = { content_of };
 
-    ghost invariant = { AreSentWithin };
+    ghost invariant = { IsKept };
 }
 
 impl Distances {
@@ -34,9 +39,12 @@ impl Distances {
     pub fn new(me: Member) -> Distances
         ensures fits { Fits me [] result }
     {
+        let mut table = [FIRST_DISTANCE; MEMBERS as usize];
+        table[me.index()] = 0;
         Distances {
             me,
             peers: [Peer::unknown(); MEMBERS as usize],
+            table,
         }
     }
 
@@ -47,6 +55,7 @@ impl Distances {
         Distances {
             me: self.me,
             peers: self.peers,
+            table: self.table,
         }
     }
 
@@ -62,7 +71,9 @@ impl Distances {
         ensures { Adds (Heard from sent echo now) self.old self.new }
     {
         let place = from.index();
-        self.peers[place] = self.peers[place].after_session(sent, echo, now);
+        let peer = self.peers[place].after_session(sent, echo, now);
+        self.peers[place] = peer;
+        self.table[place] = distance_by(self.me, from, peer);
     }
 
     /// A member left: no more echoes to it. The distance to it stays.
@@ -115,9 +126,25 @@ impl Distances {
         ensures to_oneself { (result ≡ 0) ↔ (member ≡ self.now.me) }
         ensures longest { result ≤ LONGEST_DISTANCE }
     {
-        if member == self.me {
-            return 0;
-        }
-        self.peers[member.index()].distance()
+        self.table[member.index()]
     }
+
+    /// The distances to all members, by their numbers: [`distance`](Distances::distance) of each. It takes no memory.
+    pub fn all(&self) -> &[u64]
+        ensures value { IsTableOf self.now result.now }
+        ensures size { length result.now ≡ MEMBERS }
+        ensures longest { (member : ℕ) → slice_index result.now member ≤ LONGEST_DISTANCE }
+    {
+        &self.table
+    }
+}
+
+/// The distance of a member to another, or to itself, of which this is kept.
+fn distance_by(me: Member, member: Member, peer: Peer) -> u64
+    ensures { result ≡ distance_by me member peer }
+{
+    if member == me {
+        return 0;
+    }
+    peer.distance()
 }

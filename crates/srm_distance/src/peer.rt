@@ -53,6 +53,7 @@ impl Peer {
     pub(crate) fn after_forget(self) -> Peer
         ensures fits { (calls : List Call) (b : ℕ) → self ≡ peer_of calls b
             → result ≡ peer_of (calls ++ Forgot b ∷ []) b }
+        ensures distance { result.returned ≡ self.returned }
         ensures range { SentWithin self.report → SentWithin result.report }
     {
         Peer {

@@ -90,3 +90,20 @@ fn every_other_member_is_echoed_in_order(rt: HostRuntime) -> Result<(), Fail> {
     }
     Ok(())
 }
+
+#[test]
+fn the_distances_to_all_are_by_their_numbers(rt: HostRuntime) -> Result<(), Fail> {
+    let (me, near, left) = (member(3)?, member(1)?, member(2)?);
+    let mut distances = Distances::new(me);
+    let mut expected = [100_000; MEMBERS as usize];
+    expected[3] = 0;
+    assert_eq!(rt; distances.all(), expected.as_slice());
+    distances.heard_session(near, 0, Some((1_000_000, 30_000)), 1_110_000);
+    distances.heard_session(left, 0, Some((1_000_000, 0)), 1_000_010);
+    distances.forget(left);
+    expected[1] = 40_000;
+    expected[2] = 5;
+    assert_eq!(rt; distances.all(), expected.as_slice());
+    assert_eq!(rt; distances.copy().all(), expected.as_slice());
+    Ok(())
+}

@@ -4,5 +4,5 @@ use Rattle.srm_distance.proofs.distances.Distances.heard_session.Goals as goal
 pub returns : goal.returns
 returns c = rw (← c.self.view_is)
     (adds_at _ _ c.args.from _ _ c.index-place.ensures.value c.index-place.ensures.below
-    (λ calls fits. c.after_session.ensures.fits calls c.args.from fits)
+    (λ calls fits. c.after_session-peer.ensures.fits calls c.args.from fits)
     (heard-other c.args.from c.args.sent c.args.echo c.args.now))
