@@ -34,7 +34,8 @@ use Rattle.srm_agent.specs.Verdicts.{settlings, settling_of}
 use Rattle.srm_agent.specs.Growth.{IsFreshOf, HearsToo, LearnsToo, ShowsToo, SettlesToo}
 use Rattle.srm_agent.specs.PageTables.{with_pages_of}
 use Rattle.srm_agent.specs.TimersKept.{HaveSettings}
-use Rattle.srm_agent.specs.TimerCalls.{IsTableOf, AreDistancesAfter, TimersHear, WaitsAreDrawn, IsSession}
+use Rattle.srm_distance.specs.Fits.{IsTableOf}
+use Rattle.srm_agent.specs.TimerCalls.{AreDistancesAfter, TimersHear, WaitsAreDrawn, IsSession}
 use Rattle.srm_agent.specs.Contents.{Content}
 use Rattle.srm_agent.specs.Fits.{Fits}
 use Rattle.srm_agent.specs.Heeding.{IsTaken, heard_entry}

@@ -34,7 +34,6 @@ pub mod Naming
 pub mod Drawn
 pub mod Marks
 pub mod Fitting
-pub mod Distancing
 pub mod Asked
 pub mod Roomy
 pub mod Deciding

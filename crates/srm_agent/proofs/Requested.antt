@@ -24,7 +24,8 @@ use Rattle.srm_agent.specs.Verdicts.{settlings}
 use Rattle.srm_agent.specs.Growth.{is_between, ShowsToo, IsFreshUpTo}
 use Rattle.srm_agent.specs.PageTables.{with_pages_of}
 use Rattle.srm_agent.specs.TimersKept.{HaveSettings}
-use Rattle.srm_agent.specs.TimerCalls.{IsTableOf, AreDistancesAfter, TimersHearRequest, WaitsAreDrawn}
+use Rattle.srm_distance.specs.Fits.{IsTableOf}
+use Rattle.srm_agent.specs.TimerCalls.{AreDistancesAfter, TimersHearRequest, WaitsAreDrawn}
 use Rattle.srm_agent.specs.Contents.{Content}
 use Rattle.srm_agent.specs.Fits.{Fits}
 use Rattle.srm_agent.specs.Heeding.{IsTaken, heard_entry}

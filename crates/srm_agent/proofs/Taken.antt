@@ -26,7 +26,8 @@ use Rattle.srm_agent.specs.Verdicts.{settlings, settling_of}
 use Rattle.srm_agent.specs.Growth.{is_between}
 use Rattle.srm_agent.specs.PageTables.{with_pages_of}
 use Rattle.srm_agent.specs.TimersKept.{HaveSettings, TimersContent}
-use Rattle.srm_agent.specs.TimerCalls.{IsTableOf, AreDistancesAfter, TimersHear, TimersStay, WaitsAreDrawn}
+use Rattle.srm_distance.specs.Fits.{IsTableOf}
+use Rattle.srm_agent.specs.TimerCalls.{AreDistancesAfter, TimersHear, TimersStay, WaitsAreDrawn}
 use Rattle.srm_agent.specs.Contents.{Content}
 use Rattle.srm_agent.specs.Fits.{Fits}
 use Rattle.srm_agent.specs.Heeding.{IsTaken, HoldsToo, IsFreshBelow, heard_entry}

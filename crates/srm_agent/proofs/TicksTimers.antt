@@ -15,7 +15,8 @@ use Rattle.srm_agent.specs.Entries.{heard}
 use Rattle.srm_agent.specs.Distances.{distance_calls, calls_in, calls_of}
 use Rattle.srm_agent.specs.Outs.{IsOwn, AreOwn}
 use Rattle.srm_agent.specs.TimersKept.{TimersContent, HaveSettings}
-use Rattle.srm_agent.specs.TimerCalls.{IsTableOf, AreDistancesAfter, TimersTick, WaitsAreDrawn}
+use Rattle.srm_distance.specs.Fits.{IsTableOf}
+use Rattle.srm_agent.specs.TimerCalls.{AreDistancesAfter, TimersTick, WaitsAreDrawn}
 use Rattle.srm_agent.specs.Ticking.{TicksTimers, HandsOut, HandsOutNothing}
 use Rattle.srm_agent.proofs.Adding.{flat_map-snoc}
 use Rattle.srm_agent.proofs.Dueness.{ticks_right}

@@ -40,10 +40,6 @@ pub record WaitsAreDrawn {W : Type 0} (draw : W → ℕ × W) (t : TimersContent
 
 -- distances
 
--- a table of distances has those that distances keep
-pub record IsTableOf (d : DistancesContent) (dist : List ℕ) : Type 0 where
-  pub each : (me : ℕ) (calls : List Call) → distances.Fits me calls d → (m : ℕ) → m < MEMBERS → distance_to dist m ≡ defined.distance calls me m
-
 -- a table of distances has those after these entries
 pub record AreDistancesAfter (c : Config) (es : List Entry) (dist : List ℕ) : Type 0 where
   pub each : (m : ℕ) → m < MEMBERS → distance_to dist m ≡ distance es c.me m

@@ -23,8 +23,6 @@ mod page_table;
 mod reports;
 mod roster;
 mod state;
-#[cfg(test)]
-mod tests;
 mod ticked;
 mod timers;
 

@@ -60,7 +60,7 @@ impl<W: Words + Drop> Agent<W> {
         let dist = distance_table(&self.distances);
         let arms = self
             .timers
-            .tick(asks, fixes, &dist, moment, &mut self.words)?;
+            .tick(asks, fixes, dist, moment, &mut self.words)?;
         noted.extend_from_slice(&arms).unwrap();
         Ok((Items::new(arms), Items::new(noted)))
     }

@@ -49,7 +49,7 @@ impl<W: Words + Drop> Agent<W> {
         let dist = distance_table(&self.distances);
         let arms = self
             .timers
-            .hear_data(name, &fresh, &dist, moment, &mut self.words)?;
+            .hear_data(name, &fresh, dist, moment, &mut self.words)?;
         copies.extend_from_slice(&arms).unwrap();
         keep(&mut self.store, kept);
         self.pages.add_all(&[name]);
@@ -83,7 +83,7 @@ impl<W: Words + Drop> Agent<W> {
         let dist = distance_table(&self.distances);
         let arms = self
             .timers
-            .hear_repair(name, &fresh, &dist, moment, &mut self.words)?;
+            .hear_repair(name, &fresh, dist, moment, &mut self.words)?;
         copies.extend_from_slice(&arms).unwrap();
         keep(&mut self.store, kept);
         self.pages.add_all(&[name]);

@@ -55,7 +55,7 @@ impl<W: Words + Drop> Agent<W> {
             sender,
             names,
             &fresh,
-            &dist,
+            dist,
             moment,
             &mut self.words,
         )?;

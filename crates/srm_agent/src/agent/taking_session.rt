@@ -52,7 +52,7 @@ impl<W: Words + Drop> Agent<W> {
         let dist = distance_table(&after);
         let arms = self
             .timers
-            .hear_rows(&fresh, &dist, moment, &mut self.words)?;
+            .hear_rows(&fresh, dist, moment, &mut self.words)?;
         copies.extend_from_slice(&arms).unwrap();
         learn(&mut self.store, &datagram, names);
         self.distances = after;

@@ -20,7 +20,7 @@ pub invariant_of-self-2 : goal.invariant_of-self-2
 invariant_of-self-2 g c = record { last = c.requires.moment; feeds = c.self.invariant.feeds; settings = c.hear_data.ensures.settings.each _ c.self.invariant.settings; waiting = c.self.invariant.waiting }
 
 pub returns-clause-ok : goal.returns-clause-ok
-returns-clause-ok g c = rw (← c.self.view_is) (drawop_enters g.W.Words.draw _ _ c.args.moment (Data c.args.drawop) (IsDataOf c.args.drawop.name) c.args.drawop c.in_ok-fresh.fresh.items c.distance_table-dist.result c.in_ok-arms.arms.items
+returns-clause-ok g c = rw (← c.self.view_is) (drawop_enters g.W.Words.draw _ _ c.args.moment (Data c.args.drawop) (IsDataOf c.args.drawop.name) c.args.drawop c.in_ok-fresh.fresh.items c.distance_table-dist.result.now c.in_ok-arms.arms.items
     c.make_room.new.store c.took.result.entry (data_brings c.args.drawop) refl (rw (← c.self.view_is) at c.requires.here) c.requires.spelled (rw (← c.self.view_is) at c.requires.later) (rw (← c.self.view_is) at c.requires.taken)
     (rw (← c.self.view_is) at c.in_ok-fresh.ensures.value) c.distance_table-dist.ensures.value (rw c.deref.ensures.value at c.in_ok-arms.ensures.hears) c.make_room.ensures.kept (rw c.in_ok-kept.ensures at c.keep.ensures)
     c.add_all.ensures refl (record { last = refl; config = refl; state = refl; showing = refl; feeds = refl; bucket = refl; due = refl }) c.self.invariant.settings c.in_ok-arms.ensures.drawn c.took.ensures.entry)

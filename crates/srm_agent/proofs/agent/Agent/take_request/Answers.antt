@@ -19,7 +19,7 @@ pub invariant_of-self-2 : goal.invariant_of-self-2
 invariant_of-self-2 g c = record { last = c.requires.moment; feeds = c.self.invariant.feeds; settings = c.hear_request.ensures.settings.each _ c.self.invariant.settings; waiting = c.self.invariant.waiting }
 
 pub returns-clause-ok : goal.returns-clause-ok
-returns-clause-ok g c = rw (← c.self.view_is) (request_enters g.W.Words.draw _ _ c.args.moment c.args.sender c.args.name c.args.mask c.args.names.now c.in_ok-fresh.fresh.items c.distance_table-dist.result c.in_ok-arms.arms.items
+returns-clause-ok g c = rw (← c.self.view_is) (request_enters g.W.Words.draw _ _ c.args.moment c.args.sender c.args.name c.args.mask c.args.names.now c.in_ok-fresh.fresh.items c.distance_table-dist.result.now c.in_ok-arms.arms.items
     c.make_room.new.store c.took.result.entry c.requires.names (rw (← c.self.view_is) at c.requires.here) c.requires.spelled (rw (← c.self.view_is) at c.requires.later) (rw (← c.self.view_is) at c.requires.taken)
     (fresh_in c.stream.ensures (rw (← c.self.view_is) at c.in_ok-fresh.ensures.value)) c.distance_table-dist.ensures.value (rw c.deref.ensures.value at c.in_ok-arms.ensures.hears) c.make_room.ensures.kept c.show_all.ensures
     c.add_all.ensures refl (record { last = refl; config = refl; state = refl; showing = refl; feeds = refl; bucket = refl; due = refl }) c.self.invariant.settings c.in_ok-arms.ensures.drawn c.took.ensures.entry)

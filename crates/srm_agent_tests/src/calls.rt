@@ -1,10 +1,10 @@
 //! Calls of an agent. A call that memory refuses is made again, so that with each allocation refused in turn every test shows
 //! that nothing was changed by it.
 
-use super::datagrams::Sent;
-use super::page;
-use crate::{Agent, AgentFault, Heard, Ticked};
+use crate::datagrams::Sent;
+use crate::making::page;
 use bytes::Bytes;
+use srm_agent::{Agent, AgentFault, Heard, Ticked};
 use srm_names::{MOMENT, Name, PAGES, PageMsg};
 use srm_timers::Listed;
 use std::alloc::{AllocError, Global};
@@ -17,7 +17,7 @@ fn make_body(alloc: Global, count: usize) -> Result<Bytes, AllocError> {
     Bytes::copy_from_slice(alloc, &bytes)
 }
 
-pub(super) fn body(rt: &impl Abort, alloc: Global, count: usize) -> Bytes {
+pub(crate) fn body(rt: &impl Abort, alloc: Global, count: usize) -> Bytes {
     match make_body(alloc, count) {
         Ok(body) => body,
         Err(_) => make_body(alloc, count).expect(rt, "memory"),
@@ -25,7 +25,7 @@ pub(super) fn body(rt: &impl Abort, alloc: Global, count: usize) -> Bytes {
 }
 
 /// Draws a body of so many bytes on a page of member 0.
-pub(super) fn draw(
+pub(crate) fn draw(
     rt: &impl Abort,
     alloc: Global,
     agent: &mut Agent<Listed>,
@@ -41,7 +41,7 @@ pub(super) fn draw(
 }
 
 /// Shows a page of member 0.
-pub(super) fn show(
+pub(crate) fn show(
     rt: &impl Abort,
     agent: &mut Agent<Listed>,
     number: u16,
@@ -52,13 +52,13 @@ pub(super) fn show(
 }
 
 /// Shows so many pages of member 0 from number 1 on.
-pub(super) fn show_pages(rt: &impl Abort, agent: &mut Agent<Listed>, count: u16) {
+pub(crate) fn show_pages(rt: &impl Abort, agent: &mut Agent<Listed>, count: u16) {
     for number in 0..count {
         let _ = show(rt, agent, number + 1, 5);
     }
 }
 
-pub(super) fn leave(
+pub(crate) fn leave(
     rt: &impl Abort,
     agent: &mut Agent<Listed>,
     now: u64,
@@ -67,7 +67,7 @@ pub(super) fn leave(
     agent.leave(now)
 }
 
-pub(super) fn give(rt: &impl Abort, agent: &mut Agent<Listed>, slot: u8) -> Option<PageMsg> {
+pub(crate) fn give(rt: &impl Abort, agent: &mut Agent<Listed>, slot: u8) -> Option<PageMsg> {
     assert!(rt; slot < PAGES);
     match agent.give(slot) {
         Ok(given) => given,
@@ -75,7 +75,7 @@ pub(super) fn give(rt: &impl Abort, agent: &mut Agent<Listed>, slot: u8) -> Opti
     }
 }
 
-pub(super) fn tick(rt: &impl Abort, agent: &mut Agent<Listed>, now: u64) -> Ticked {
+pub(crate) fn tick(rt: &impl Abort, agent: &mut Agent<Listed>, now: u64) -> Ticked {
     assert!(rt; now <= MOMENT);
     match agent.tick(now) {
         Ok(ticked) => ticked,
@@ -83,7 +83,7 @@ pub(super) fn tick(rt: &impl Abort, agent: &mut Agent<Listed>, now: u64) -> Tick
     }
 }
 
-pub(super) fn hear_bytes(
+pub(crate) fn hear_bytes(
     rt: &impl Abort,
     agent: &mut Agent<Listed>,
     bytes: &[u8],
@@ -96,14 +96,14 @@ pub(super) fn hear_bytes(
     }
 }
 
-pub(super) fn hear(rt: &impl Abort, agent: &mut Agent<Listed>, sent: Sent, now: u64) -> Heard {
+pub(crate) fn hear(rt: &impl Abort, agent: &mut Agent<Listed>, sent: Sent, now: u64) -> Heard {
     let (bytes, count) = sent.bytes();
     assert!(rt; count <= 31);
     hear_bytes(rt, agent, &bytes[..count], now)
 }
 
 /// Hears data of member 0 from one number to the one before another.
-pub(super) fn hear_numbers(
+pub(crate) fn hear_numbers(
     rt: &impl Abort,
     agent: &mut Agent<Listed>,
     from: u32,
@@ -122,7 +122,7 @@ fn hear_both(rt: &impl Abort, agent: &mut Agent<Listed>, source: u8, now: u64) {
 }
 
 /// Hears number 1 and a session message of each member from 1 to 31.
-pub(super) fn hear_others(rt: &impl Abort, agent: &mut Agent<Listed>, now: u64) {
+pub(crate) fn hear_others(rt: &impl Abort, agent: &mut Agent<Listed>, now: u64) {
     for source in 1..32 {
         hear_both(rt, agent, source, now);
     }

@@ -1,9 +1,9 @@
 //! Members that leave.
 
-use super::datagrams::Sent;
-use super::steps::{Step, play, play_with};
-use super::told::Told;
-use crate::{AgentFault, Cause};
+use crate::datagrams::Sent;
+use crate::steps::{Step, play, play_with};
+use crate::told::Told;
+use srm_agent::{AgentFault, Cause};
 
 #[test]
 fn who_leaves_cannot_leave_again(rt: HostRuntime) {

@@ -1,8 +1,8 @@
 //! The pages of an agent.
 
-use super::calls::{draw, show, show_pages};
-use super::{agent, page};
-use crate::{Agent, AgentFault};
+use crate::calls::{draw, show, show_pages};
+use crate::making::{agent, page};
+use srm_agent::{Agent, AgentFault};
 use srm_names::Page;
 use srm_timers::Listed;
 use std::process::Abort;

@@ -1,8 +1,8 @@
 //! What page workers are given.
 
-use super::datagrams::Sent;
-use super::steps::{Step, play};
-use super::told::Told;
+use crate::datagrams::Sent;
+use crate::steps::{Step, play};
+use crate::told::Told;
 
 #[test]
 fn a_slot_is_given_its_page_once(rt: HostRuntime) {

@@ -2,7 +2,7 @@
 
 /// What another member sent. Where nothing else is said it is about page 0.0, with stamp 0 and the body 7.
 #[derive(Clone, Copy)]
-pub(super) enum Sent {
+pub(crate) enum Sent {
     /// The sender and the number.
     Data(u8, u32),
     /// Who repairs, and the number of member 0.
@@ -22,7 +22,7 @@ pub(super) enum Sent {
 
 impl Sent {
     /// Its bytes, which stand first, and how many they are.
-    pub(super) fn bytes(self) -> ([u8; 31], usize) {
+    pub(crate) fn bytes(self) -> ([u8; 31], usize) {
         match self {
             Sent::Data(source, number) => (drawop(1, source, source, number, 0, 7), 28),
             Sent::Repair(sender, number) => (drawop(3, sender, 0, number, 0, 7), 28),

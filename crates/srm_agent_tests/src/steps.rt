@@ -1,17 +1,17 @@
 //! Lists of calls of an agent, each followed by what it tells.
 
-use super::agent_with;
-use super::calls::{draw, give, hear, hear_numbers, hear_others, leave, show, show_pages, tick};
-use super::datagrams::Sent;
-use super::told::{Tales, Told, of_drawn, of_given, of_result, tell, tell_heard, tell_ticked};
-use crate::{Agent, Out};
+use crate::calls::{draw, give, hear, hear_numbers, hear_others, leave, show, show_pages, tick};
+use crate::datagrams::Sent;
+use crate::making::agent_with;
+use crate::told::{Tales, Told, of_drawn, of_given, of_result, tell, tell_heard, tell_ticked};
+use srm_agent::{Agent, Out};
 use srm_timers::Listed;
 use std::alloc::Global;
 use std::process::Abort;
 
 /// A call, or what the call before tells.
 #[derive(Clone, Copy)]
-pub(super) enum Step {
+pub(crate) enum Step {
     /// A body of so many bytes is drawn on a page of member 0 at a moment.
     Draw(u16, usize, u64),
     /// A page of member 0 is shown at a moment.
@@ -125,7 +125,7 @@ fn take(rt: &impl Abort, alloc: Global, agent: &mut Agent<Listed>, tales: &mut T
 }
 
 /// Takes these steps with the agent of a member of so many, with a bucket of so many bytes, these words and then 0.
-pub(super) fn play_with(
+pub(crate) fn play_with(
     rt: &impl Abort,
     alloc: Global,
     me: u8,
@@ -143,6 +143,6 @@ pub(super) fn play_with(
 }
 
 /// The same with a member of four, a bucket of 4,204 bytes, and no words but 0.
-pub(super) fn play(rt: &impl Abort, alloc: Global, me: u8, steps: &[Step]) {
+pub(crate) fn play(rt: &impl Abort, alloc: Global, me: u8, steps: &[Step]) {
     play_with(rt, alloc, me, 4, 4_204, &[], steps);
 }

@@ -1,7 +1,7 @@
 //! Session messages: when they go, and how long they are.
 
-use super::steps::{Step, play, play_with};
-use super::told::Told;
+use crate::steps::{Step, play, play_with};
+use crate::told::Told;
 
 #[test]
 fn a_session_message_goes_each_second(rt: HostRuntime) {

@@ -1,8 +1,8 @@
 //! When a tick of an agent next does something.
 
-use super::datagrams::Sent;
-use super::steps::{Step, play, play_with};
-use super::told::Told;
+use crate::datagrams::Sent;
+use crate::steps::{Step, play, play_with};
+use crate::told::Told;
 
 #[test]
 fn new_data_is_due_at_once(rt: HostRuntime) {

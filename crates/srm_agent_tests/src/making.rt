@@ -1,32 +1,16 @@
-//! An agent at worked calls.
+//! Agents, members and pages to try calls with.
 
-mod calls;
-mod datagrams;
-mod drawing;
-mod giving;
-mod hearing;
-mod leaving;
-mod next_due;
-mod noting;
-mod pages;
-mod repairing;
-mod reporting;
-mod requesting;
-mod settings;
-mod steps;
-mod told;
-
-use crate::{Agent, Config};
+use srm_agent::{Agent, Config};
 use srm_names::{Member, Page};
 use srm_timers::Listed;
 use std::alloc::{AllocError, Global};
 use std::process::Abort;
 
-fn member(rt: &impl Abort, number: u8) -> Member {
+pub(crate) fn member(rt: &impl Abort, number: u8) -> Member {
     Member::new(number).expect(rt, "a member")
 }
 
-fn page(rt: &impl Abort, creator: u8, number: u16) -> Page {
+pub(crate) fn page(rt: &impl Abort, creator: u8, number: u16) -> Page {
     Page {
         creator: member(rt, creator),
         number,
@@ -39,7 +23,7 @@ fn make_agent(alloc: Global, config: Config, words: &[u64]) -> Result<Agent<List
 }
 
 /// The agent of a member of so many in session 7, with 8,000 bytes a second and a bucket of so many.
-fn agent_with(
+pub(crate) fn agent_with(
     rt: &impl Abort,
     alloc: Global,
     me: u8,
@@ -56,6 +40,6 @@ fn agent_with(
 }
 
 /// The agent of a member of four, with no words but 0.
-fn agent(rt: &impl Abort, alloc: Global, me: u8) -> Agent<Listed> {
+pub(crate) fn agent(rt: &impl Abort, alloc: Global, me: u8) -> Agent<Listed> {
     agent_with(rt, alloc, me, 4, 4_204, &[])
 }

@@ -1,8 +1,8 @@
 //! An agent that draws.
 
-use super::steps::{Step, play};
-use super::told::Told;
-use crate::AgentFault;
+use crate::steps::{Step, play};
+use crate::told::Told;
+use srm_agent::AgentFault;
 
 #[test]
 fn a_draw_has_the_next_number_on_its_page(rt: HostRuntime) {

@@ -1,11 +1,11 @@
 //! An agent that hears bytes: member 0 or 1 of four.
 
-use super::agent;
-use super::calls::hear_bytes;
-use super::datagrams::Sent;
-use super::steps::{Step, play};
-use super::told::Told;
-use crate::{Agent, Cause, Outcome};
+use crate::calls::hear_bytes;
+use crate::datagrams::Sent;
+use crate::making::agent;
+use crate::steps::{Step, play};
+use crate::told::Told;
+use srm_agent::{Agent, Cause, Outcome};
 use srm_codec::DecodeFault;
 use srm_timers::Listed;
 use std::process::Abort;

@@ -1,11 +1,11 @@
 //! Names that are found missing and asked for.
 
-use super::agent;
-use super::calls::hear;
-use super::datagrams::Sent;
-use super::steps::{Step, play, play_with};
-use super::told::{Told, of_arm};
-use crate::Arm;
+use crate::calls::hear;
+use crate::datagrams::Sent;
+use crate::making::agent;
+use crate::steps::{Step, play, play_with};
+use crate::told::{Told, of_arm};
+use srm_agent::Arm;
 use std::alloc::Global;
 use std::process::Abort;
 

@@ -1,9 +1,9 @@
 //! The entries of an agent's calls.
 
-use super::calls::{body, hear};
-use super::datagrams::Sent;
-use super::{agent, page};
-use crate::{Agent, AgentState, Cause, Entry, Verdict};
+use crate::calls::{body, hear};
+use crate::datagrams::Sent;
+use crate::making::{agent, page};
+use srm_agent::{Agent, AgentState, Cause, Entry, Verdict};
 use srm_codec::DecodeFault;
 use srm_names::MOMENT;
 use srm_timers::Listed;

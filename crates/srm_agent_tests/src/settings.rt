@@ -1,7 +1,7 @@
 //! Settings in and out of their ranges.
 
-use super::member;
-use crate::Config;
+use crate::making::member;
+use srm_agent::Config;
 use std::process::Abort;
 
 /// Whether there are settings of member 1 of so many, with this rate and depth, and this for each factor.

@@ -1,13 +1,13 @@
 //! What an agent tells, in short.
 
-use crate::{AgentFault, Arm, ArmKind, Cause, Heard, Out, Outcome, Ticked};
+use srm_agent::{AgentFault, Arm, ArmKind, Cause, Heard, Out, Outcome, Ticked};
 use srm_names::{Name, PageMsg};
 use std::collections::VecDeque;
 use std::process::Abort;
 
 /// What a call tells. Drawops and timers are of member 0 on page 0.0, given by their numbers.
 #[derive(Clone, Copy, Debug, PartialEq, Eq)]
-pub(super) enum Told {
+pub(crate) enum Told {
     Done,
     Refused(AgentFault),
     Drew(u32),
@@ -33,30 +33,30 @@ pub(super) enum Told {
 }
 
 /// What was told and not yet compared.
-pub(super) type Tales = VecDeque<Told>;
+pub(crate) type Tales = VecDeque<Told>;
 
-pub(super) fn tell(rt: &impl Abort, tales: &mut Tales, told: Told) {
+pub(crate) fn tell(rt: &impl Abort, tales: &mut Tales, told: Told) {
     if tales.push_back(told).is_err() {
         tales.push_back(told).expect(rt, "memory");
     }
 }
 
 /// What a call tells that answers nothing.
-pub(super) fn of_result(answer: Result<(), AgentFault>) -> Told {
+pub(crate) fn of_result(answer: Result<(), AgentFault>) -> Told {
     match answer {
         Ok(()) => Told::Done,
         Err(fault) => Told::Refused(fault),
     }
 }
 
-pub(super) fn of_drawn(drawn: Result<Name, AgentFault>) -> Told {
+pub(crate) fn of_drawn(drawn: Result<Name, AgentFault>) -> Told {
     match drawn {
         Ok(name) => Told::Drew(name.number()),
         Err(fault) => Told::Refused(fault),
     }
 }
 
-pub(super) fn of_given(given: &Option<PageMsg>) -> Told {
+pub(crate) fn of_given(given: &Option<PageMsg>) -> Told {
     match given {
         Some(PageMsg::Open(page)) => Told::Open(page.number),
         Some(PageMsg::Draw(drawop)) => {
@@ -75,7 +75,7 @@ fn of_outcome(outcome: Outcome) -> Told {
     }
 }
 
-pub(super) fn of_arm(arm: &Arm) -> Told {
+pub(crate) fn of_arm(arm: &Arm) -> Told {
     match arm.kind {
         ArmKind::Ask => Told::AsksIn(arm.name.number(), arm.exponent, arm.wait),
         ArmKind::Fix => Told::RepairsIn(arm.name.number(), arm.wait),
@@ -106,12 +106,12 @@ fn tell_outs(rt: &impl Abort, tales: &mut Tales, outs: &[Out]) {
     }
 }
 
-pub(super) fn tell_heard(rt: &impl Abort, tales: &mut Tales, heard: &Heard) {
+pub(crate) fn tell_heard(rt: &impl Abort, tales: &mut Tales, heard: &Heard) {
     tell(rt, tales, of_outcome(heard.outcome));
     tell_arms(rt, tales, heard.arms.as_slice());
 }
 
-pub(super) fn tell_ticked(rt: &impl Abort, tales: &mut Tales, ticked: &Ticked) {
+pub(crate) fn tell_ticked(rt: &impl Abort, tales: &mut Tales, ticked: &Ticked) {
     tell_asks(rt, tales, ticked.asks.as_slice());
     tell_repairs(rt, tales, ticked.fixes.as_slice());
     tell_arms(rt, tales, ticked.arms.as_slice());

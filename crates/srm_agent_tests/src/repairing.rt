@@ -1,8 +1,8 @@
 //! Requests that are answered.
 
-use super::datagrams::Sent;
-use super::steps::{Step, play};
-use super::told::Told;
+use crate::datagrams::Sent;
+use crate::steps::{Step, play};
+use crate::told::Told;
 
 #[test]
 fn a_repair_of_another_cancels_and_holds_off(rt: HostRuntime) {

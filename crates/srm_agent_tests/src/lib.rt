@@ -1,0 +1,37 @@
+//! A member's agent at worked calls, as its callers see it.
+//!
+//! They stand in a crate of their own: the agent is proved once, and not a second time with its tests.
+#![tactic(auto)]
+
+#[cfg(test)]
+mod calls;
+#[cfg(test)]
+mod datagrams;
+#[cfg(test)]
+mod drawing;
+#[cfg(test)]
+mod giving;
+#[cfg(test)]
+mod hearing;
+#[cfg(test)]
+mod leaving;
+#[cfg(test)]
+mod making;
+#[cfg(test)]
+mod next_due;
+#[cfg(test)]
+mod noting;
+#[cfg(test)]
+mod pages;
+#[cfg(test)]
+mod repairing;
+#[cfg(test)]
+mod reporting;
+#[cfg(test)]
+mod requesting;
+#[cfg(test)]
+mod settings;
+#[cfg(test)]
+mod steps;
+#[cfg(test)]
+mod told;
