@@ -14,27 +14,28 @@ use Rattle.srm_bucket.specs.Waiting.{Waiting, SameQueues, queue, count_of}
 use Rattle.srm_agent.specs.declared.agent.due.Due.{Due}
 use Rattle.srm_agent.specs.declared.agent.due.Report.{Report}
 use Rattle.srm_agent.specs.declared.answers.Answer.{Answer}
-use Rattle.srm_agent.specs.declared.entry.Entry.{Entry}
-use Rattle.srm_agent.specs.declared.entry.Input.TheVariants.{Ticked}
-use Rattle.srm_agent.specs.declared.out.Out.{Out}
-use Rattle.srm_agent.specs.declared.out.Outgoing.{Outgoing}
-use Rattle.srm_agent.specs.declared.state.AgentState.{AgentState}
-use Rattle.srm_agent.specs.declared.state.AgentState.TheVariants.{Active, Leaving, Gone}
-use Rattle.srm_agent.specs.Configs.{Config}
+use Rattle.srm_entries.specs.declared.entry.Entry.{Entry}
+use Rattle.srm_entries.specs.declared.entry.Input.TheVariants.{Ticked}
+use Rattle.srm_agent_parts.specs.declared.out.Out.{Out}
+use Rattle.srm_agent_parts.specs.declared.out.Outgoing.{Outgoing}
+use Rattle.srm_entries.specs.declared.state.AgentState.{AgentState}
+use Rattle.srm_entries.specs.declared.state.AgentState.TheVariants.{Active, Leaving, Gone}
+use Rattle.srm_entries.specs.Configs.{Config}
 use Rattle.srm_agent.specs.Contents.{Content}
-use Rattle.srm_agent.specs.Entries.{state, is_gone, is_leaving}
-use Rattle.srm_agent.specs.Timers.{low_of, high_of, TimersRight}
-use Rattle.srm_agent.specs.Sessions.{is_session, is_farewell, session_pause, IsReport, ending}
-use Rattle.srm_agent.specs.Runs.{state_due}
-use Rattle.srm_agent.specs.Fits.{Fits, TimersFit, BucketFits}
-use Rattle.srm_agent.specs.Outs.{IsOut, IsOutgoing, IsOwn, AreOwn}
-use Rattle.srm_agent.specs.TimerCalls.{TicksWith, TimersAdd, TimersStay}
+use Rattle.srm_entries.specs.Entries.{state, is_gone, is_leaving}
+use Rattle.srm_entries.specs.Timers.{low_of, high_of, TimersRight}
+use Rattle.srm_entries.specs.Sessions.{is_session, is_farewell, session_pause, IsReport, ending}
+use Rattle.srm_entries.specs.Runs.{state_due}
+use Rattle.srm_agent.specs.Fits.{Fits, BucketFits}
+use Rattle.srm_agent_parts.specs.TimersKept.{TimersFit}
+use Rattle.srm_agent_parts.specs.Outs.{IsOut, IsOutgoing, IsOwn, AreOwn}
+use Rattle.srm_agent_parts.specs.TimerCalls.{TicksWith, TimersAdd, TimersStay}
 use Rattle.srm_agent.specs.Answering.{AreAnswers}
 use Rattle.srm_agent.specs.Outbox.{WentContent}
 use Rattle.srm_agent.specs.Noting.{Enters, Stays, AnswersAs, IsTicked}
 use Rattle.srm_agent.specs.Ticking.{tick_entry, IsReportAt, IsReportIf, IsDue, HandsOut, SendsAll, data_waits, last_report, state_after, due_then}
 use Rattle.srm_agent.proofs.Handing.{all-append}
-use Rattle.srm_agent.proofs.Ending.{ending_of, ending_is, EndsIn, NoSessions, charged_is, due_by}
+use Rattle.srm_entries.proofs.Ending.{ending_of, ending_is, EndsIn, NoSessions, charged_is, due_by}
 use Rattle.srm_agent.proofs.Sent.{bucket_ticks}
 use Rattle.srm_agent.proofs.Ticks.{IsSent, TickKeeps, TickRight, tick_fits}
 use Rattle.srm_agent.proofs.Unsent.{all_sent}

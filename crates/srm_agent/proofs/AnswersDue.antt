@@ -11,10 +11,10 @@ use Rattle.srm_store.specs.Held.{held_at}
 use Rattle.srm_store.specs.Finals.{Settling}
 use Rattle.srm_store.specs.Fits as store
 use Rattle.srm_agent.specs.declared.answers.Answer.{Answer}
-use Rattle.srm_agent.specs.Configs.{Config}
-use Rattle.srm_agent.specs.Entries.{held, shown_to_exist}
-use Rattle.srm_agent.specs.Verdicts.{settlings}
-use Rattle.srm_agent.specs.Packing.{packed}
+use Rattle.srm_entries.specs.Configs.{Config}
+use Rattle.srm_entries.specs.Entries.{held, shown_to_exist}
+use Rattle.srm_entries.specs.Verdicts.{settlings}
+use Rattle.srm_entries.specs.Packing.{packed}
 use Rattle.srm_agent.specs.Contents.{Content}
 use Rattle.srm_agent.specs.Answering.{AreAnswers, AnswersDue}
 

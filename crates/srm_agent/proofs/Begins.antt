@@ -8,34 +8,14 @@ use Rattle.srm_timers.specs.FixCalls.{FixContent, FixFits}
 use Rattle.srm_bucket.specs.Calls.{Call}
 use Rattle.srm_bucket.specs.Content.{Content as BucketContent}
 use Rattle.srm_bucket.specs.Fits as bucket
-use Rattle.srm_agent.specs.declared.state.AgentState.TheVariants.{Active}
-use Rattle.srm_agent.specs.declared.out.Outgoing.{Outgoing}
-use Rattle.srm_agent.specs.Configs.{Config}
-use Rattle.srm_agent.specs.Entries.{is_missing}
+use Rattle.srm_entries.specs.declared.state.AgentState.TheVariants.{Active}
+use Rattle.srm_agent_parts.specs.declared.out.Outgoing.{Outgoing}
+use Rattle.srm_entries.specs.Configs.{Config}
+use Rattle.srm_entries.specs.Entries.{is_missing}
 use Rattle.srm_agent.specs.Contents.{Content}
-use Rattle.srm_agent.specs.TimersKept.{TimersContent, HaveSettings}
-use Rattle.srm_agent.specs.Fits.{Fits, TimersFit, AreEmptyFeeds, shown_if}
-
-none_shown : (b : Bool) → None ≡ shown_if b None
-none_shown true = refl
-none_shown false = refl
-
--- where no call was made no timer runs
-pub timers_begin : (c : Config) (t : TimersContent) → AskFits c.c1 c.c2 [] t.asks → FixFits c.d1 c.d2 [] t.fixes → TimersFit c [] t
-timers_begin c t asks fixes = record {
-  ask_calls = [];
-  asks = asks;
-  ask_timers = λ n. none_shown (is_missing [] n);
-  fix_calls = [];
-  fixes = fixes;
-  fix_timers = λ n. refl;
-  askers = λ n. refl;
-  offs = λ n now. refl;
-}
-
--- and the settings are those that they were made with
-pub settings_begin : (c : Config) (t : TimersContent) → AskFits c.c1 c.c2 [] t.asks → FixFits c.d1 c.d2 [] t.fixes → HaveSettings c t
-settings_begin c t asks fixes = record { c1 = asks.c1_is; c2 = asks.c2_is; d1 = fixes.d1_is; d2 = fixes.d2_is }
+use Rattle.srm_agent_parts.specs.TimersKept.{TimersContent, HaveSettings}
+use Rattle.srm_agent.specs.Fits.{Fits, AreEmptyFeeds}
+use Rattle.srm_agent_parts.specs.TimersKept.{TimersFit, shown_if}
 
 pub fits_begins : {W : Type 0} (c : Config) (made : ℕ) (a : Content W) → a.config ≡ c → a.state ≡ Active → a.last ≡ made → a.showing ≡ first_page → a.pages ≡ first_page ∷ []
     → AreEmptyFeeds a.feeds → store.Fits [] [] [] a.store → distances.Fits c.me [] a.distances → TimersFit c [] a.timers
@@ -59,12 +39,6 @@ fits_begins c made a config state last showing pages feeds kept heard timers buc
   where
     least : (n : ℕ) → n ≡ max n 0
     least n = omega arith
-
-pub asks_with : {c1 c2 c1' c2' : ℕ} {a : AskContent} → c1 ≡ c1' → c2 ≡ c2' → AskFits c1 c2 [] a → AskFits c1' c2' [] a
-asks_with {c1 = c1} {c2' = c2'} {a = a} p q h = subst (λ x. AskFits x c2' [] a) p (subst (λ x. AskFits c1 x [] a) q h)
-
-pub fixes_with : {d1 d2 d1' d2' : ℕ} {a : FixContent} → d1 ≡ d1' → d2 ≡ d2' → FixFits d1 d2 [] a → FixFits d1' d2' [] a
-fixes_with {d1 = d1} {d2' = d2'} {a = a} p q h = subst (λ x. FixFits x d2' [] a) p (subst (λ x. FixFits d1 x [] a) q h)
 
 pub bucket_with : {rate depth rate' depth' : ℕ} {b : BucketContent Outgoing} → rate ≡ rate' → depth ≡ depth' → (let calls : List (Call Outgoing) = [] in bucket.Fits rate depth calls b)
     → (let calls : List (Call Outgoing) = [] in bucket.Fits rate' depth' calls b)

@@ -7,16 +7,16 @@ use Rattle.srm_names.specs.FullName.{FullName}
 use Rattle.srm_names.proofs.Same.{stream_parts}
 use Rattle.srm_codec.specs.declared.datagram.Datagram.{Datagram}
 use Rattle.srm_codec.specs.Spelling.{sender_of, names_in}
-use Rattle.srm_agent.specs.declared.cause.Cause.{Cause}
-use Rattle.srm_agent.specs.declared.cause.Cause.TheVariants as causes
-use Rattle.srm_agent.specs.declared.entry.Entry.{Entry}
-use Rattle.srm_agent.specs.declared.entry.Input.TheVariants.{Heard}
-use Rattle.srm_agent.specs.declared.entry.Verdict.TheVariants.{Ignored}
-use Rattle.srm_agent.specs.Causes.{ignored_for}
-use Rattle.srm_agent.specs.Configs.{Config}
-use Rattle.srm_agent.specs.Entries.{is_gone, state, known, held_at, drawops_in}
-use Rattle.srm_agent.specs.PageTables.{lacks_room_for}
-use Rattle.srm_agent.specs.Verdicts.{verdict_of, first_cause, is_stranger, is_beyond, is_short, overflows, differs, drawn_in, stream_on}
+use Rattle.srm_entries.specs.declared.cause.Cause.{Cause}
+use Rattle.srm_entries.specs.declared.cause.Cause.TheVariants as causes
+use Rattle.srm_entries.specs.declared.entry.Entry.{Entry}
+use Rattle.srm_entries.specs.declared.entry.Input.TheVariants.{Heard}
+use Rattle.srm_entries.specs.declared.entry.Verdict.TheVariants.{Ignored}
+use Rattle.srm_entries.specs.Causes.{ignored_for}
+use Rattle.srm_entries.specs.Configs.{Config}
+use Rattle.srm_entries.specs.Entries.{is_gone, state, known, held_at, drawops_in}
+use Rattle.srm_agent_parts.specs.PageTables.{lacks_room_for}
+use Rattle.srm_entries.specs.Verdicts.{verdict_of, first_cause, is_stranger, is_beyond, is_short, overflows, differs, drawn_in, stream_on}
 use Rattle.srm_agent.specs.Contents.{Content}
 use Rattle.srm_agent.specs.Fits.{Fits}
 

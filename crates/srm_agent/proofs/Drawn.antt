@@ -33,36 +33,37 @@ use Rattle.srm_bucket.specs.Calls.{Classed, Handed}
 use Rattle.srm_bucket.specs.Mapping.{read_call}
 use Rattle.srm_bucket.specs.Content.{Content as BucketContent}
 use Rattle.srm_bucket.specs.Fits as bucket
-use Rattle.srm_agent.specs.declared.state.AgentState.{AgentState}
-use Rattle.srm_agent.specs.declared.fault.AgentFault.{AgentFault}
-use Rattle.srm_agent.specs.declared.fault.AgentFault.TheVariants as faults
-use Rattle.srm_agent.specs.declared.entry.Entry.{Entry}
-use Rattle.srm_agent.specs.declared.entry.Input.TheVariants.{Drew}
-use Rattle.srm_agent.specs.declared.entry.Verdict.{Verdict}
-use Rattle.srm_agent.specs.declared.entry.Verdict.TheVariants.{Done, Refused}
-use Rattle.srm_agent.specs.declared.out.Outgoing.{Outgoing}
-use Rattle.srm_agent.specs.Configs.{Config}
-use Rattle.srm_agent.specs.Entries.{done, heard, held, shown_by, shown_to_exist, drawn, is_held, is_missing, known, slots, pages_in, state, is_gone, is_leaving, last_moment}
-use Rattle.srm_agent.specs.Distances.{distance_calls, calls_in}
-use Rattle.srm_agent.specs.Timers.{last_ask, fix_running, held_off, asker, setting_of, fix_setting, ask_setting, ask_exponent, ArmsRight, TimersRight}
-use Rattle.srm_agent.specs.Verdicts.{first_cause, verdict_of, overflows, drawn_in, stream_on, settlings, settling_of}
-use Rattle.srm_agent.specs.Sessions.{session_due, pause_after, is_session}
-use Rattle.srm_agent.specs.Bucket.{Going, GoesRight, bucket_calls, classed}
-use Rattle.srm_agent.specs.Runs.{EntryRight}
-use Rattle.srm_agent.specs.PageTables.{with_page}
-use Rattle.srm_agent.specs.TimersKept.{TimersContent}
+use Rattle.srm_entries.specs.declared.state.AgentState.{AgentState}
+use Rattle.srm_entries.specs.declared.fault.AgentFault.{AgentFault}
+use Rattle.srm_entries.specs.declared.fault.AgentFault.TheVariants as faults
+use Rattle.srm_entries.specs.declared.entry.Entry.{Entry}
+use Rattle.srm_entries.specs.declared.entry.Input.TheVariants.{Drew}
+use Rattle.srm_entries.specs.declared.entry.Verdict.{Verdict}
+use Rattle.srm_entries.specs.declared.entry.Verdict.TheVariants.{Done, Refused}
+use Rattle.srm_agent_parts.specs.declared.out.Outgoing.{Outgoing}
+use Rattle.srm_entries.specs.Configs.{Config}
+use Rattle.srm_entries.specs.Entries.{done, heard, held, shown_by, shown_to_exist, drawn, is_held, is_missing, known, slots, pages_in, state, is_gone, is_leaving, last_moment}
+use Rattle.srm_entries.specs.Distances.{distance_calls, calls_in}
+use Rattle.srm_entries.specs.Timers.{last_ask, fix_running, held_off, asker, setting_of, fix_setting, ask_setting, ask_exponent, ArmsRight, TimersRight}
+use Rattle.srm_entries.specs.Verdicts.{first_cause, verdict_of, overflows, drawn_in, stream_on, settlings, settling_of}
+use Rattle.srm_entries.specs.Sessions.{session_due, pause_after, is_session}
+use Rattle.srm_entries.specs.Bucket.{Going, GoesRight, bucket_calls, classed}
+use Rattle.srm_entries.specs.Runs.{EntryRight}
+use Rattle.srm_agent_parts.specs.PageTables.{with_page}
+use Rattle.srm_agent_parts.specs.TimersKept.{TimersContent}
 use Rattle.srm_agent.specs.Contents.{Content}
-use Rattle.srm_agent.specs.Fits.{Fits, FeedsFit, TimersFit, BucketFits, datagram_of, shown_if}
+use Rattle.srm_agent.specs.Fits.{Fits, FeedsFit, BucketFits, datagram_of}
+use Rattle.srm_agent_parts.specs.TimersKept.{TimersFit, shown_if}
 use Rattle.srm_agent.specs.Noting.{IsAllowed, Enters, Stays, still_entry}
 use Rattle.srm_agent.specs.declared.agent.drawing.Draft.{Draft}
-use Rattle.srm_agent.specs.Outs.{IsOwn}
+use Rattle.srm_agent_parts.specs.Outs.{IsOwn}
 use Rattle.srm_agent.specs.Drawing.{refusals, name_after, drawn_entry, IsDraftOf}
 use Rattle.srm_agent.specs.Heeding.{HoldsToo}
-use Rattle.srm_agent.proofs.Adding.{known-snoc, is_missing-snoc, flat_map-snoc, last_ask-snoc, fix_running-snoc, held_off-snoc}
-use Rattle.srm_agent.proofs.Showing.{kind, shown_drawing, shown_hearing, shown_quiet, shown-snoc, held-snoc, drawn-snoc, state-snoc, held_is_shown, refused_is_not_done}
-use Rattle.srm_agent.proofs.Running.{steps_more, last_moment-snoc, shown-page-snoc, slots-one}
-use Rattle.srm_agent.proofs.Arming.{ask_at}
-use Rattle.srm_agent.proofs.Marking.{bucket_calls-snoc, entries-snoc}
+use Rattle.srm_entries.proofs.Adding.{known-snoc, is_missing-snoc, flat_map-snoc, last_ask-snoc, fix_running-snoc, held_off-snoc}
+use Rattle.srm_entries.proofs.Showing.{kind, shown_drawing, shown_hearing, shown_quiet, shown-snoc, held-snoc, drawn-snoc, state-snoc, held_is_shown, refused_is_not_done}
+use Rattle.srm_agent_parts.proofs.Running.{steps_more, last_moment-snoc, shown-page-snoc, slots-one}
+use Rattle.srm_entries.proofs.Arming.{ask_at}
+use Rattle.srm_entries.proofs.Marking.{bucket_calls-snoc, entries-snoc}
 use Rattle.srm_agent.proofs.Still.{same_feeds}
 use Rattle.srm_agent.proofs.Entering.{later, moves_on, refused_enters}
 

@@ -2,23 +2,23 @@
 use Rattle.std.proofs.Common.{◌≡◌, ℕ, ◌≤◌, max, Bool, true, false, not, ◌&&◌, List, [], ◌∷◌, ◌++◌, refl, ap, sym, ◌∙◌, subst, arith}
 use Rattle.std.specs.Prelude.{Some, None, MatchBool}
 use Rattle.srm_names.specs.declared.page.Page.{Page}
-use Rattle.srm_agent.specs.declared.fault.AgentFault.{AgentFault}
-use Rattle.srm_agent.specs.declared.fault.AgentFault.TheVariants as faults
-use Rattle.srm_agent.specs.declared.state.AgentState.{AgentState}
-use Rattle.srm_agent.specs.declared.state.AgentState.TheVariants.{Active, Leaving, Gone}
-use Rattle.srm_agent.specs.declared.entry.Entry.{Entry}
-use Rattle.srm_agent.specs.declared.entry.Input.{Input}
-use Rattle.srm_agent.specs.declared.entry.Input.TheVariants.{Showed, AskedLeave, Ticked, Gave}
-use Rattle.srm_agent.specs.declared.entry.Verdict.TheVariants.{Done, Refused}
-use Rattle.srm_agent.specs.Configs.{Config}
-use Rattle.srm_agent.specs.Entries.{is_tick, takes_moment, last_moment, is_gone, state}
-use Rattle.srm_agent.specs.PageTables.{lacks_room, with_page}
-use Rattle.srm_agent.specs.Verdicts.{VerdictRight}
-use Rattle.srm_agent.specs.Giving.{MessageRight, given_in}
+use Rattle.srm_entries.specs.declared.fault.AgentFault.{AgentFault}
+use Rattle.srm_entries.specs.declared.fault.AgentFault.TheVariants as faults
+use Rattle.srm_entries.specs.declared.state.AgentState.{AgentState}
+use Rattle.srm_entries.specs.declared.state.AgentState.TheVariants.{Active, Leaving, Gone}
+use Rattle.srm_entries.specs.declared.entry.Entry.{Entry}
+use Rattle.srm_entries.specs.declared.entry.Input.{Input}
+use Rattle.srm_entries.specs.declared.entry.Input.TheVariants.{Showed, AskedLeave, Ticked, Gave}
+use Rattle.srm_entries.specs.declared.entry.Verdict.TheVariants.{Done, Refused}
+use Rattle.srm_entries.specs.Configs.{Config}
+use Rattle.srm_entries.specs.Entries.{is_tick, takes_moment, last_moment, is_gone, state}
+use Rattle.srm_agent_parts.specs.PageTables.{lacks_room, with_page}
+use Rattle.srm_entries.specs.Verdicts.{VerdictRight}
+use Rattle.srm_entries.specs.Giving.{MessageRight, given_in}
 use Rattle.srm_agent.specs.Contents.{Content}
 use Rattle.srm_agent.specs.Fits.{Fits}
 use Rattle.srm_agent.specs.Noting.{Enters, IsAllowed, still_entry}
-use Rattle.srm_agent.proofs.Running.{slots-same, slots-one}
+use Rattle.srm_agent_parts.proofs.Running.{slots-same, slots-one}
 use Rattle.srm_agent.proofs.Still.{SameParts, still_fits, same_feeds}
 
 -- an entry of this agent is one of the member whose run it fits

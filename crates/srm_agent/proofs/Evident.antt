@@ -15,13 +15,13 @@ use Rattle.srm_codec.specs.Spelling.{asked_by, bits_set}
 use Rattle.srm_store.specs.Held.{greatest_in, number_in}
 use Rattle.srm_timers.proofs.Same.{same_itself}
 use Rattle.srm_timers.specs.declared.arm.Arm.{Arm}
-use Rattle.srm_agent.specs.declared.entry.Entry.{Entry}
-use Rattle.srm_agent.specs.declared.state.AgentState.{AgentState}
-use Rattle.srm_agent.specs.Entries.{is_held, is_missing, known}
+use Rattle.srm_entries.specs.declared.entry.Entry.{Entry}
+use Rattle.srm_entries.specs.declared.state.AgentState.{AgentState}
+use Rattle.srm_entries.specs.Entries.{is_held, is_missing, known}
 use Rattle.srm_agent.specs.Growth.{is_between}
 use Rattle.srm_agent.specs.Heeding.{heard_entry}
-use Rattle.srm_agent.specs.TimerCalls.{AreFresh}
-use Rattle.srm_agent.proofs.Adding.{flat_map-snoc, greatest-append, shows, is_missing-snoc}
+use Rattle.srm_agent_parts.specs.TimerCalls.{AreFresh}
+use Rattle.srm_entries.proofs.Adding.{flat_map-snoc, greatest-append, shows, is_missing-snoc}
 use Rattle.srm_agent.proofs.Fresh.{held_known}
 
 -- the greatest number of a stream among names, and one more

@@ -10,12 +10,12 @@ use Rattle.srm_names.specs.Names.{same_stream, same_name, AreExactly}
 use Rattle.srm_names.proofs.Lists.{Has}
 use Rattle.srm_names.proofs.Same.{same_name-is, same_stream-is}
 use Rattle.srm_store.specs.Held.{has_name}
-use Rattle.srm_agent.specs.declared.entry.Entry.{Entry}
-use Rattle.srm_agent.specs.Entries.{held, is_held, is_missing, known}
+use Rattle.srm_entries.specs.declared.entry.Entry.{Entry}
+use Rattle.srm_entries.specs.Entries.{held, is_held, is_missing, known}
 use Rattle.srm_agent.specs.Growth.{is_between}
-use Rattle.srm_agent.specs.TimerCalls.{AreFresh}
-use Rattle.srm_agent.proofs.Adding.{shows, gains, is_missing-snoc}
-use Rattle.srm_agent.proofs.Showing.{held_is_shown, known_has}
+use Rattle.srm_agent_parts.specs.TimerCalls.{AreFresh}
+use Rattle.srm_entries.proofs.Adding.{shows, gains, is_missing-snoc}
+use Rattle.srm_entries.proofs.Showing.{held_is_shown, known_has}
 
 any_Has : {X : Type 0} (p : X → Bool) (xs : List X) → list_any p xs ≡ true → (x : X) × Has x xs × (p x ≡ true)
 any_Has p [] e = absurd (cc)

@@ -9,18 +9,18 @@ use Rattle.srm_names.specs.declared.page_msg.PageMsg.{PageMsg}
 use Rattle.srm_names.specs.Histories.{Step, steps}
 use Rattle.srm_names.specs.PageFeeds.{continues, is_page_feed}
 use Rattle.srm_names.proofs.Snoc.{steps-snoc, list_all-append}
-use Rattle.srm_agent.specs.declared.entry.Entry.{Entry}
-use Rattle.srm_agent.specs.declared.entry.Input.TheVariants.{Gave}
-use Rattle.srm_agent.specs.declared.entry.Verdict.TheVariants.{Done}
-use Rattle.srm_agent.specs.Configs.{Config}
-use Rattle.srm_agent.specs.Entries.{slots}
-use Rattle.srm_agent.specs.Giving.{given, given_in, GiveRight}
-use Rattle.srm_agent.specs.Feeds.{FeedContent, FeedFits}
+use Rattle.srm_entries.specs.declared.entry.Entry.{Entry}
+use Rattle.srm_entries.specs.declared.entry.Input.TheVariants.{Gave}
+use Rattle.srm_entries.specs.declared.entry.Verdict.TheVariants.{Done}
+use Rattle.srm_entries.specs.Configs.{Config}
+use Rattle.srm_entries.specs.Entries.{slots}
+use Rattle.srm_entries.specs.Giving.{given, given_in, GiveRight}
+use Rattle.srm_agent_parts.specs.Feeds.{FeedContent, FeedFits}
 use Rattle.srm_agent.specs.Contents.{Content}
 use Rattle.srm_agent.specs.Fits.{Fits, FeedsFit}
 use Rattle.srm_agent.specs.Noting.{Enters, still_entry}
-use Rattle.srm_agent.proofs.Feeding.{feeds_right, fed_gives, given-snoc}
-use Rattle.srm_agent.proofs.Running.{slots-same}
+use Rattle.srm_entries.proofs.Feeding.{feeds_right, fed_gives, given-snoc}
+use Rattle.srm_agent_parts.proofs.Running.{slots-same}
 use Rattle.srm_agent.proofs.Still.{MayFollow, still_fits, same_feeds}
 use Rattle.srm_agent.proofs.Entering.{of_member, stays_at}
 

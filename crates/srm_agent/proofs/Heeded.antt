@@ -20,30 +20,30 @@ use Rattle.srm_store.specs.Held.{number_in}
 use Rattle.srm_store.specs.Fits as store
 use Rattle.srm_distance.specs.Fits as distances
 use Rattle.srm_timers.specs.declared.arm.Arm.{Arm}
-use Rattle.srm_agent.specs.declared.entry.Entry.{Entry}
-use Rattle.srm_agent.specs.declared.entry.Input.TheVariants.{Heard}
-use Rattle.srm_agent.specs.declared.entry.Verdict.TheVariants.{Done}
-use Rattle.srm_agent.specs.declared.state.AgentState.{AgentState}
-use Rattle.srm_agent.specs.declared.out.Outgoing.{Outgoing}
-use Rattle.srm_agent.specs.Configs.{Config}
-use Rattle.srm_agent.specs.Entries.{done, heard, is_gone, state, slots, pages_in, last_moment, held, shown_to_exist, known, drawn, drawops_in}
-use Rattle.srm_agent.specs.Distances.{distance_calls, calls_in, calls_of}
-use Rattle.srm_agent.specs.Timers.{TimersRight}
-use Rattle.srm_agent.specs.TimerCalls.{TimersAdd}
-use Rattle.srm_agent.specs.PageTables.{with_pages_of}
-use Rattle.srm_agent.specs.Verdicts.{verdict_of, settlings, settling_of, drawn_in, stream_on, is_past, is_beyond, final}
-use Rattle.srm_agent.specs.Sessions.{session_due, pause_after}
-use Rattle.srm_agent.specs.Bucket.{Going, GoesRight, bucket_calls}
-use Rattle.srm_agent.specs.Runs.{EntryRight}
+use Rattle.srm_entries.specs.declared.entry.Entry.{Entry}
+use Rattle.srm_entries.specs.declared.entry.Input.TheVariants.{Heard}
+use Rattle.srm_entries.specs.declared.entry.Verdict.TheVariants.{Done}
+use Rattle.srm_entries.specs.declared.state.AgentState.{AgentState}
+use Rattle.srm_agent_parts.specs.declared.out.Outgoing.{Outgoing}
+use Rattle.srm_entries.specs.Configs.{Config}
+use Rattle.srm_entries.specs.Entries.{done, heard, is_gone, state, slots, pages_in, last_moment, held, shown_to_exist, known, drawn, drawops_in}
+use Rattle.srm_entries.specs.Distances.{distance_calls, calls_in, calls_of}
+use Rattle.srm_entries.specs.Timers.{TimersRight}
+use Rattle.srm_agent_parts.specs.TimerCalls.{TimersAdd}
+use Rattle.srm_agent_parts.specs.PageTables.{with_pages_of}
+use Rattle.srm_entries.specs.Verdicts.{verdict_of, settlings, settling_of, drawn_in, stream_on, is_past, is_beyond, final}
+use Rattle.srm_entries.specs.Sessions.{session_due, pause_after}
+use Rattle.srm_entries.specs.Bucket.{Going, GoesRight, bucket_calls}
+use Rattle.srm_entries.specs.Runs.{EntryRight}
 use Rattle.srm_agent.specs.Contents.{Content}
 use Rattle.srm_agent.specs.Fits.{Fits, BucketFits}
 use Rattle.srm_agent.specs.Heeding.{heard_entry}
 use Rattle.srm_bucket.specs.Content.{Content as BucketContent}
-use Rattle.srm_agent.proofs.Adding.{flat_map-snoc, known-snoc}
-use Rattle.srm_agent.proofs.Cutting.{bucket_calls-append}
-use Rattle.srm_agent.proofs.Listing.{firsts_more, firsts_again}
-use Rattle.srm_agent.proofs.Showing.{state-snoc, held-snoc, shown-snoc, drawn-snoc, hearing_fine}
-use Rattle.srm_agent.proofs.Running.{steps_more, last_moment-snoc, shown-page-snoc}
+use Rattle.srm_entries.proofs.Adding.{flat_map-snoc, known-snoc}
+use Rattle.srm_entries.proofs.Cutting.{bucket_calls-append}
+use Rattle.srm_agent_parts.proofs.Listing.{firsts_more, firsts_again}
+use Rattle.srm_entries.proofs.Showing.{state-snoc, held-snoc, shown-snoc, drawn-snoc, hearing_fine}
+use Rattle.srm_agent_parts.proofs.Running.{steps_more, last_moment-snoc, shown-page-snoc}
 use Rattle.srm_agent.proofs.Still.{same_feeds}
 
 -- what an agent keeps of a datagram that was heard and taken; its entry is e

@@ -7,24 +7,24 @@ use Rattle.srm_codec.specs.declared.fault.DecodeFault.{DecodeFault}
 use Rattle.srm_codec.specs.declared.fault.DecodeFault.TheVariants as decoding
 use Rattle.srm_codec.specs.Judging.{judge}
 use Rattle.srm_codec.specs.Reading.{IsJudged}
-use Rattle.srm_agent.specs.declared.cause.Cause.{Cause}
-use Rattle.srm_agent.specs.declared.cause.Cause.TheVariants as causes
-use Rattle.srm_agent.specs.declared.state.AgentState.{AgentState}
-use Rattle.srm_agent.specs.declared.entry.Entry.{Entry}
-use Rattle.srm_agent.specs.declared.entry.Input.{Input}
-use Rattle.srm_agent.specs.declared.entry.Input.TheVariants.{Heard, Noise}
-use Rattle.srm_agent.specs.declared.entry.Verdict.TheVariants.{Done, Ignored}
-use Rattle.srm_agent.specs.Configs.{Config}
-use Rattle.srm_agent.specs.Causes.{ignored_for}
-use Rattle.srm_agent.specs.Entries.{is_tick, takes_moment, last_moment, is_gone, state}
-use Rattle.srm_agent.specs.Verdicts.{VerdictRight, verdict_of}
-use Rattle.srm_agent.specs.Giving.{MessageRight, given_in}
-use Rattle.srm_agent.specs.Hearing.{read_as}
+use Rattle.srm_entries.specs.declared.cause.Cause.{Cause}
+use Rattle.srm_entries.specs.declared.cause.Cause.TheVariants as causes
+use Rattle.srm_entries.specs.declared.state.AgentState.{AgentState}
+use Rattle.srm_entries.specs.declared.entry.Entry.{Entry}
+use Rattle.srm_entries.specs.declared.entry.Input.{Input}
+use Rattle.srm_entries.specs.declared.entry.Input.TheVariants.{Heard, Noise}
+use Rattle.srm_entries.specs.declared.entry.Verdict.TheVariants.{Done, Ignored}
+use Rattle.srm_entries.specs.Configs.{Config}
+use Rattle.srm_entries.specs.Causes.{ignored_for}
+use Rattle.srm_entries.specs.Entries.{is_tick, takes_moment, last_moment, is_gone, state}
+use Rattle.srm_entries.specs.Verdicts.{VerdictRight, verdict_of}
+use Rattle.srm_entries.specs.Giving.{MessageRight, given_in}
+use Rattle.srm_entries.specs.Hearing.{read_as}
 use Rattle.srm_agent.specs.Heeding.{IsJudgedBy, IsNoiseFor, IsTaken}
 use Rattle.srm_agent.specs.Contents.{Content}
 use Rattle.srm_agent.specs.Fits.{Fits}
 use Rattle.srm_agent.specs.Noting.{Enters, ReadsAs, still_entry}
-use Rattle.srm_agent.proofs.Running.{slots-same}
+use Rattle.srm_agent_parts.proofs.Running.{slots-same}
 use Rattle.srm_agent.proofs.Still.{still_fits, same_feeds}
 use Rattle.srm_agent.proofs.Entering.{of_member, later, moves_on}
 

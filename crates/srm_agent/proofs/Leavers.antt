@@ -6,12 +6,12 @@ use Rattle.srm_names.specs.declared.stream.Stream.{Stream}
 use Rattle.srm_names.specs.FullName.{FullName}
 use Rattle.srm_names.specs.Histories.{count_up}
 use Rattle.srm_store.specs.Finals.{final_in}
-use Rattle.srm_agent.specs.declared.entry.Entry.{Entry}
-use Rattle.srm_agent.specs.Configs.{Config}
+use Rattle.srm_entries.specs.declared.entry.Entry.{Entry}
+use Rattle.srm_entries.specs.Configs.{Config}
 use Rattle.srm_agent.specs.Contents.{Content}
 use Rattle.srm_agent.specs.Fits.{Fits}
 use Rattle.srm_agent.specs.Reports.{SaysLeft, CountsOnce}
-use Rattle.srm_agent.specs.Verdicts.{told}
+use Rattle.srm_entries.specs.Verdicts.{told}
 
 -- a stream has an end exactly where its source was told
 pub told_by_final : (o : Option (List FullName)) (s : Stream) → is_some (final_in o s) ≡ is_some o

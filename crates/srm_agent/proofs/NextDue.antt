@@ -8,16 +8,16 @@ use Rattle.srm_timers.specs.Least.{lesser}
 use Rattle.srm_bucket.specs.Classes.{next_of}
 use Rattle.srm_bucket.specs.Fits.{Waits}
 use Rattle.srm_bucket.specs.Law.{IsFirstToGo}
-use Rattle.srm_agent.specs.declared.entry.Entry.{Entry}
-use Rattle.srm_agent.specs.Configs.{Config}
+use Rattle.srm_entries.specs.declared.entry.Entry.{Entry}
+use Rattle.srm_entries.specs.Configs.{Config}
 use Rattle.srm_agent.specs.Contents.{Content}
-use Rattle.srm_agent.specs.Entries.{state, is_gone, last_moment}
-use Rattle.srm_agent.specs.Timers.{fix_running}
+use Rattle.srm_entries.specs.Entries.{state, is_gone, last_moment}
+use Rattle.srm_entries.specs.Timers.{fix_running}
 use Rattle.srm_agent.specs.Fits.{Fits}
-use Rattle.srm_agent.specs.Promises.{IsIdle}
-use Rattle.srm_agent.specs.TimerCalls.{RunOutFirst, IsBefore, TimersNext, ask_running}
+use Rattle.srm_entries.specs.Promises.{IsIdle}
+use Rattle.srm_agent_parts.specs.TimerCalls.{RunOutFirst, IsBefore, TimersNext, ask_running}
 use Rattle.srm_agent.specs.Waking.{NextDue, report_next, sooner_of}
-use Rattle.srm_agent.proofs.Midway.{before_first, before_second}
+use Rattle.srm_agent_parts.proofs.Midway.{before_first, before_second}
 use Rattle.srm_agent.proofs.NextDueIdle.{idle_before}
 use Rattle.srm_agent.proofs.NextDueRests.{gone_rests, idle_rests}
 use Rattle.srm_agent.proofs.NextDueStirs.{did_nothing, asks_then, fixes_then, reports_then, goes_then}

@@ -7,23 +7,23 @@ use Rattle.srm_names.specs.Names.{first_page}
 use Rattle.srm_codec.specs.declared.datagram.Datagram.{Datagram}
 use Rattle.srm_codec.specs.declared.datagram.Datagram.TheVariants.{Session}
 use Rattle.srm_bucket.specs.Law.{BucketLaw}
-use Rattle.srm_agent.specs.declared.entry.Entry.{Entry}
-use Rattle.srm_agent.specs.declared.state.AgentState.TheVariants.{Active, Leaving, Gone}
-use Rattle.srm_agent.specs.declared.entry.Input.{Input}
-use Rattle.srm_agent.specs.declared.entry.Input.TheVariants.{Drew, Ticked, AskedLeave}
-use Rattle.srm_agent.specs.Entries.{is_missing, is_tick}
-use Rattle.srm_agent.specs.Sessions.{SessionRight, EndsWith, ending, charged}
-use Rattle.srm_agent.specs.Bucket.{Going, GoesRight, entries_of, datagrams_of, bucket_calls}
-use Rattle.srm_agent.specs.Runs.{EntryRight, IsMemberRun}
-use Rattle.srm_agent.proofs.Parting.{tick_draws_nothing}
-use Rattle.srm_agent.proofs.Rating.{rate_law}
+use Rattle.srm_entries.specs.declared.entry.Entry.{Entry}
+use Rattle.srm_entries.specs.declared.state.AgentState.TheVariants.{Active, Leaving, Gone}
+use Rattle.srm_entries.specs.declared.entry.Input.{Input}
+use Rattle.srm_entries.specs.declared.entry.Input.TheVariants.{Drew, Ticked, AskedLeave}
+use Rattle.srm_entries.specs.Entries.{is_missing, is_tick}
+use Rattle.srm_entries.specs.Sessions.{SessionRight, EndsWith, ending, charged}
+use Rattle.srm_entries.specs.Bucket.{Going, GoesRight, entries_of, datagrams_of, bucket_calls}
+use Rattle.srm_entries.specs.Runs.{EntryRight, IsMemberRun}
+use Rattle.srm_entries.proofs.Parting.{tick_draws_nothing}
+use Rattle.srm_entries.proofs.Rating.{rate_law}
 use Rattle.srm_names.specs.Histories.{steps}
 use Rattle.srm_names.specs.Names.{first_page, named}
 use Rattle.srm_bucket.specs.Calls.{Classed}
 use Rattle.std.specs.List.{AllByRecursion}
-use Rattle.srm_agent.specs.Promises.{IsIdle, IsNextDue}
+use Rattle.srm_entries.specs.Promises.{IsIdle, IsNextDue}
 use Rattle.srm_agent.proofs.NextDueRests.{gone_rests, idle_rests}
-use Rattle.srm_agent.proofs.Plain.{zeros, config, plain, idle, idle_right, right, missing_none, unknown_unmissed}
+use Rattle.srm_entries.proofs.Plain.{zeros, config, plain, idle, idle_right, right, missing_none, unknown_unmissed}
 
 -- a new member: its first session message is due after a second
 

@@ -19,28 +19,29 @@ use Rattle.srm_bucket.specs.Ticks.{last_moment as last_of_calls}
 use Rattle.srm_bucket.specs.Waiting.{queue}
 use Rattle.srm_bucket.proofs.Mapping.{law-read, last_moment-read}
 use Rattle.srm_bucket.proofs.Pausing.{law-paused}
-use Rattle.srm_agent.specs.declared.entry.Entry.{Entry}
-use Rattle.srm_agent.specs.declared.state.AgentState.{AgentState}
-use Rattle.srm_agent.specs.declared.state.AgentState.TheVariants.{Active, Leaving, Gone}
-use Rattle.srm_agent.specs.Configs.{Config}
+use Rattle.srm_entries.specs.declared.entry.Entry.{Entry}
+use Rattle.srm_entries.specs.declared.state.AgentState.{AgentState}
+use Rattle.srm_entries.specs.declared.state.AgentState.TheVariants.{Active, Leaving, Gone}
+use Rattle.srm_entries.specs.Configs.{Config}
 use Rattle.srm_agent.specs.Contents.{Content}
-use Rattle.srm_agent.specs.Entries.{state, is_gone, is_leaving, ticked, last_moment, is_missing, drawn, sent}
-use Rattle.srm_agent.specs.Timers.{last_ask, fix_running, ArmsRight, TimersRight}
-use Rattle.srm_agent.specs.Sessions.{is_data, charged, all_data_sent, ending}
-use Rattle.srm_agent.specs.Bucket.{Going, GoesRight, BucketRight, entries_of, calls_by, bucket_calls}
-use Rattle.srm_agent.specs.Runs.{EntryRight}
-use Rattle.srm_agent.specs.Fits.{Fits, datagram_of, shown_if}
-use Rattle.srm_agent.specs.Promises.{IsIdle}
-use Rattle.srm_agent.specs.TimerCalls.{RunOutFirst, IsBefore}
+use Rattle.srm_entries.specs.Entries.{state, is_gone, is_leaving, ticked, last_moment, is_missing, drawn, sent}
+use Rattle.srm_entries.specs.Timers.{last_ask, fix_running, ArmsRight, TimersRight}
+use Rattle.srm_entries.specs.Sessions.{is_data, charged, all_data_sent, ending}
+use Rattle.srm_entries.specs.Bucket.{Going, GoesRight, BucketRight, entries_of, calls_by, bucket_calls}
+use Rattle.srm_entries.specs.Runs.{EntryRight}
+use Rattle.srm_agent.specs.Fits.{Fits, datagram_of}
+use Rattle.srm_agent_parts.specs.TimersKept.{shown_if}
+use Rattle.srm_entries.specs.Promises.{IsIdle}
+use Rattle.srm_agent_parts.specs.TimerCalls.{RunOutFirst, IsBefore}
 use Rattle.srm_agent.specs.Ticking.{tick_entry}
 use Rattle.srm_agent.specs.Waking.{report_next}
-use Rattle.srm_agent.proofs.Adding.{flat_map-snoc}
-use Rattle.srm_agent.proofs.Ending.{ending_of, ending_is}
-use Rattle.srm_agent.proofs.Marking.{bucket_calls-snoc, entries-snoc, went_length}
+use Rattle.srm_entries.proofs.Adding.{flat_map-snoc}
+use Rattle.srm_entries.proofs.Ending.{ending_of, ending_is}
+use Rattle.srm_entries.proofs.Marking.{bucket_calls-snoc, entries-snoc, went_length}
 use Rattle.srm_agent.proofs.Quiet.{no_arms}
-use Rattle.srm_agent.proofs.Running.{steps_more}
-use Rattle.srm_agent.proofs.Showing.{drawn-snoc}
-use Rattle.srm_agent.proofs.Spending.{Charged, charged_along, charged_start}
+use Rattle.srm_agent_parts.proofs.Running.{steps_more}
+use Rattle.srm_entries.proofs.Showing.{drawn-snoc}
+use Rattle.srm_entries.proofs.Spending.{Charged, charged_along, charged_start}
 use Rattle.srm_agent.proofs.Ticks.{tick_right}
 use Rattle.srm_agent.proofs.Unsent.{all_sent, kept_data}
 

@@ -12,23 +12,23 @@ use Rattle.srm_bucket.specs.Calls.{Classed, Popped}
 use Rattle.srm_bucket.specs.Law.{BucketLaw, may_go}
 use Rattle.srm_bucket.proofs.Pausing.{paused-none, popped-may_go}
 use Rattle.srm_codec.specs.declared.datagram.Datagram.{Datagram}
-use Rattle.srm_agent.specs.declared.entry.Entry.{Entry}
-use Rattle.srm_agent.specs.declared.entry.Input.TheVariants.{Ticked}
-use Rattle.srm_agent.specs.Configs.{Config}
-use Rattle.srm_agent.specs.Entries.{state, is_gone, is_tick, ticked}
-use Rattle.srm_agent.specs.Timers.{ask_due, fix_due}
-use Rattle.srm_agent.specs.Sessions.{is_session, charged, session_due, all_data_sent, ending, EndsWith}
-use Rattle.srm_agent.specs.Bucket.{Going, GoesRight, entries_of, datagrams_of, lets_go, pops, calls_by, bucket_calls}
-use Rattle.srm_agent.specs.Runs.{EntryRight, IsMemberRun}
-use Rattle.srm_agent.specs.Promises.{IsIdle, DoesNothing, Rests}
-use Rattle.srm_agent.proofs.Charging.{law_at}
-use Rattle.srm_agent.proofs.Ending.{ending_of, ending_is}
-use Rattle.srm_agent.proofs.Marking.{bucket_calls-snoc}
-use Rattle.srm_agent.proofs.Marks.{marks_same, pop_is_next}
+use Rattle.srm_entries.specs.declared.entry.Entry.{Entry}
+use Rattle.srm_entries.specs.declared.entry.Input.TheVariants.{Ticked}
+use Rattle.srm_entries.specs.Configs.{Config}
+use Rattle.srm_entries.specs.Entries.{state, is_gone, is_tick, ticked}
+use Rattle.srm_entries.specs.Timers.{ask_due, fix_due}
+use Rattle.srm_entries.specs.Sessions.{is_session, charged, session_due, all_data_sent, ending, EndsWith}
+use Rattle.srm_entries.specs.Bucket.{Going, GoesRight, entries_of, datagrams_of, lets_go, pops, calls_by, bucket_calls}
+use Rattle.srm_entries.specs.Runs.{EntryRight, IsMemberRun}
+use Rattle.srm_entries.specs.Promises.{IsIdle, DoesNothing, Rests}
+use Rattle.srm_entries.proofs.Charging.{law_at}
+use Rattle.srm_entries.proofs.Ending.{ending_of, ending_is}
+use Rattle.srm_entries.proofs.Marking.{bucket_calls-snoc}
+use Rattle.srm_entries.proofs.Marks.{marks_same, pop_is_next}
 use Rattle.srm_agent.proofs.NextDueIdle.{unsent_stays, pauses}
 use Rattle.srm_agent.proofs.NextDueStirs.{DidNothing, did_nothing, not_empty, nothing_went}
-use Rattle.srm_agent.proofs.Parting.{tick_draws_nothing}
-use Rattle.srm_agent.proofs.Spending.{law_to}
+use Rattle.srm_entries.proofs.Parting.{tick_draws_nothing}
+use Rattle.srm_entries.proofs.Spending.{law_to}
 
 -- a tick that may come
 record MayCome (c : Config) (made : ℕ) (past : List Entry) (now : ℕ) (e : Entry) : Type 0 where

@@ -17,28 +17,29 @@ use Rattle.srm_bucket.specs.Waiting.{queue}
 use Rattle.srm_bucket.proofs.Mapping.{law-read, may_go-read}
 use Rattle.srm_bucket.proofs.Pausing.{paused-none, none-before}
 use Rattle.srm_codec.specs.declared.datagram.Datagram.{Datagram}
-use Rattle.srm_agent.specs.declared.entry.Entry.{Entry}
-use Rattle.srm_agent.specs.declared.out.Outgoing.{Outgoing}
-use Rattle.srm_agent.specs.declared.state.AgentState.{AgentState}
-use Rattle.srm_agent.specs.declared.state.AgentState.TheVariants.{Active, Leaving, Gone}
-use Rattle.srm_agent.specs.Configs.{Config}
+use Rattle.srm_entries.specs.declared.entry.Entry.{Entry}
+use Rattle.srm_agent_parts.specs.declared.out.Outgoing.{Outgoing}
+use Rattle.srm_entries.specs.declared.state.AgentState.{AgentState}
+use Rattle.srm_entries.specs.declared.state.AgentState.TheVariants.{Active, Leaving, Gone}
+use Rattle.srm_entries.specs.Configs.{Config}
 use Rattle.srm_agent.specs.Contents.{Content}
-use Rattle.srm_agent.specs.Entries.{state, is_gone, is_leaving, is_tick, ticked, is_missing}
-use Rattle.srm_agent.specs.Timers.{last_ask, fix_running}
-use Rattle.srm_agent.specs.Sessions.{is_session, charged, ending, EndsWith}
-use Rattle.srm_agent.specs.Bucket.{Going, GoesRight, entries_of, datagrams_of, bucket_calls}
-use Rattle.srm_agent.specs.Runs.{EntryRight, IsMemberRun}
-use Rattle.srm_agent.specs.Fits.{Fits, datagram_of, shown_if}
-use Rattle.srm_agent.specs.Promises.{IsIdle}
-use Rattle.srm_agent.specs.TimerCalls.{ask_running}
+use Rattle.srm_entries.specs.Entries.{state, is_gone, is_leaving, is_tick, ticked, is_missing}
+use Rattle.srm_entries.specs.Timers.{last_ask, fix_running}
+use Rattle.srm_entries.specs.Sessions.{is_session, charged, ending, EndsWith}
+use Rattle.srm_entries.specs.Bucket.{Going, GoesRight, entries_of, datagrams_of, bucket_calls}
+use Rattle.srm_entries.specs.Runs.{EntryRight, IsMemberRun}
+use Rattle.srm_agent.specs.Fits.{Fits, datagram_of}
+use Rattle.srm_agent_parts.specs.TimersKept.{shown_if}
+use Rattle.srm_entries.specs.Promises.{IsIdle}
+use Rattle.srm_agent_parts.specs.TimerCalls.{ask_running}
 use Rattle.srm_agent.specs.Waking.{report_next}
-use Rattle.srm_agent.proofs.Charging.{law_at}
-use Rattle.srm_agent.proofs.Ending.{ending_of}
-use Rattle.srm_agent.proofs.Marking.{bucket_calls-snoc}
-use Rattle.srm_agent.proofs.Marks.{marks_same}
+use Rattle.srm_entries.proofs.Charging.{law_at}
+use Rattle.srm_entries.proofs.Ending.{ending_of}
+use Rattle.srm_entries.proofs.Marking.{bucket_calls-snoc}
+use Rattle.srm_entries.proofs.Marks.{marks_same}
 use Rattle.srm_agent.proofs.NextDueIdle.{ends_by, pauses}
-use Rattle.srm_agent.proofs.Parting.{tick_draws_nothing}
-use Rattle.srm_agent.proofs.Spending.{law_to}
+use Rattle.srm_entries.proofs.Parting.{tick_draws_nothing}
+use Rattle.srm_entries.proofs.Spending.{law_to}
 
 -- a tick of a run that does nothing, at a moment
 pub record DidNothing (c : Config) (made : ℕ) (past : List Entry) (now : ℕ) (e : Entry) : Type 0 where

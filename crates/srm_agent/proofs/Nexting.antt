@@ -17,12 +17,12 @@ use Rattle.srm_names.specs.PageFeeds.{drawops_of, leaves, is_close, opened}
 use Rattle.srm_names.proofs.Lists.{until_none-at, find-Has}
 use Rattle.srm_names.proofs.Same.{same_name-is}
 use Rattle.srm_store.specs.Held as store
-use Rattle.srm_agent.specs.declared.entry.Entry.{Entry}
-use Rattle.srm_agent.specs.Configs.{Config}
-use Rattle.srm_agent.specs.Entries.{held, released, slots, state, is_gone}
-use Rattle.srm_agent.specs.Verdicts.{final}
-use Rattle.srm_agent.specs.Giving.{next_drawop, may_leave, has_more, is_some_of, is_quiet, given, GivesAfter, GiveRight}
-use Rattle.srm_agent.specs.Feeds.{FeedContent, FeedFits}
+use Rattle.srm_entries.specs.declared.entry.Entry.{Entry}
+use Rattle.srm_entries.specs.Configs.{Config}
+use Rattle.srm_entries.specs.Entries.{held, released, slots, state, is_gone}
+use Rattle.srm_entries.specs.Verdicts.{final}
+use Rattle.srm_entries.specs.Giving.{next_drawop, may_leave, has_more, is_some_of, is_quiet, given, GivesAfter, GiveRight}
+use Rattle.srm_agent_parts.specs.Feeds.{FeedContent, FeedFits}
 use Rattle.srm_agent.specs.Contents.{Content}
 use Rattle.srm_agent.specs.Fits.{Fits, FeedsFit}
 use Rattle.srm_agent.specs.Nexts.{IsNextOf, IsNextOn, IsSmallest, IsOfSmallest, PrefersSmallest}

@@ -13,21 +13,22 @@ use Rattle.srm_timers.specs.declared.arm.ArmKind.{ArmKind}
 use Rattle.srm_timers.specs.declared.arm.ArmKind.TheVariants.{Ask, Fix}
 use Rattle.srm_timers.specs.Arms.{Setting, setting, ran_out}
 use Rattle.srm_bucket.specs.Content.{Content as BucketContent}
-use Rattle.srm_agent.specs.declared.entry.Entry.{Entry}
-use Rattle.srm_agent.specs.declared.out.Outgoing.{Outgoing}
-use Rattle.srm_agent.specs.Configs.{Config}
-use Rattle.srm_agent.specs.Entries.{heard, ticked, state, is_gone, held, held_by, drawops_in, shown_to_exist, drawn, is_missing, is_held}
-use Rattle.srm_agent.specs.Distances.{distance_calls, calls_in, calls_of}
-use Rattle.srm_agent.specs.Timers.{arm_of, arm_in, last_ask, fix_running, held_off, asker, asker_in, repaired, repairs_in, ask_exponent, ask_setting, fix_setting, setting_of, ArmsRight, TimersRight}
-use Rattle.srm_agent.specs.Verdicts.{settlings, settling_of}
-use Rattle.srm_agent.specs.Sessions.{session_due, pause_after, ending, EndsWith, SessionRight}
-use Rattle.srm_agent.specs.Bucket.{Going, GoesRight, entries_of, bucket_calls, calls_by}
-use Rattle.srm_agent.specs.TimersKept.{TimersContent}
-use Rattle.srm_agent.specs.Fits.{TimersFit, BucketFits, shown_if}
-use Rattle.srm_agent.proofs.Adding.{flat_map-snoc, last_ask-snoc, fix_running-snoc, held_off-snoc}
-use Rattle.srm_agent.proofs.Showing.{held-snoc, shown-snoc, shown_quiet, drawn-snoc}
-use Rattle.srm_agent.proofs.Arming.{ask_at}
-use Rattle.srm_agent.proofs.Cutting.{bucket_calls-append}
+use Rattle.srm_entries.specs.declared.entry.Entry.{Entry}
+use Rattle.srm_agent_parts.specs.declared.out.Outgoing.{Outgoing}
+use Rattle.srm_entries.specs.Configs.{Config}
+use Rattle.srm_entries.specs.Entries.{heard, ticked, state, is_gone, held, held_by, drawops_in, shown_to_exist, drawn, is_missing, is_held}
+use Rattle.srm_entries.specs.Distances.{distance_calls, calls_in, calls_of}
+use Rattle.srm_entries.specs.Timers.{arm_of, arm_in, last_ask, fix_running, held_off, asker, asker_in, repaired, repairs_in, ask_exponent, ask_setting, fix_setting, setting_of, ArmsRight, TimersRight}
+use Rattle.srm_entries.specs.Verdicts.{settlings, settling_of}
+use Rattle.srm_entries.specs.Sessions.{session_due, pause_after, ending, EndsWith, SessionRight}
+use Rattle.srm_entries.specs.Bucket.{Going, GoesRight, entries_of, bucket_calls, calls_by}
+use Rattle.srm_agent_parts.specs.TimersKept.{TimersContent}
+use Rattle.srm_agent.specs.Fits.{BucketFits}
+use Rattle.srm_agent_parts.specs.TimersKept.{TimersFit, shown_if}
+use Rattle.srm_entries.proofs.Adding.{flat_map-snoc, last_ask-snoc, fix_running-snoc, held_off-snoc}
+use Rattle.srm_entries.proofs.Showing.{held-snoc, shown-snoc, shown_quiet, drawn-snoc}
+use Rattle.srm_entries.proofs.Arming.{ask_at}
+use Rattle.srm_entries.proofs.Cutting.{bucket_calls-append}
 
 pub record Quiet (e : Entry) : Type 0 where
   pub unheard : heard e ≡ None

@@ -14,23 +14,23 @@ use Rattle.srm_store.specs.Fits.{StillFits}
 use Rattle.srm_distance.specs.Distance as defined
 use Rattle.srm_distance.specs.Calls.{Call}
 use Rattle.srm_timers.specs.declared.arm.Arm.{Arm}
-use Rattle.srm_agent.specs.declared.entry.Entry.{Entry}
-use Rattle.srm_agent.specs.declared.entry.Input.TheVariants.{Heard}
-use Rattle.srm_agent.specs.declared.state.AgentState.{AgentState}
-use Rattle.srm_agent.specs.Configs.{Config}
-use Rattle.srm_agent.specs.Entries.{is_gone, known, held, shown_to_exist}
-use Rattle.srm_agent.specs.Distances.{distance_calls, calls_in}
-use Rattle.srm_agent.specs.Verdicts.{settlings}
+use Rattle.srm_entries.specs.declared.entry.Entry.{Entry}
+use Rattle.srm_entries.specs.declared.entry.Input.TheVariants.{Heard}
+use Rattle.srm_entries.specs.declared.state.AgentState.{AgentState}
+use Rattle.srm_entries.specs.Configs.{Config}
+use Rattle.srm_entries.specs.Entries.{is_gone, known, held, shown_to_exist}
+use Rattle.srm_entries.specs.Distances.{distance_calls, calls_in}
+use Rattle.srm_entries.specs.Verdicts.{settlings}
 use Rattle.srm_agent.specs.Growth.{is_between, ShowsToo, IsFreshUpTo}
-use Rattle.srm_agent.specs.PageTables.{with_pages_of}
-use Rattle.srm_agent.specs.TimersKept.{HaveSettings}
+use Rattle.srm_agent_parts.specs.PageTables.{with_pages_of}
+use Rattle.srm_agent_parts.specs.TimersKept.{HaveSettings}
 use Rattle.srm_distance.specs.Fits.{IsTableOf}
-use Rattle.srm_agent.specs.TimerCalls.{AreDistancesAfter, TimersHearRequest, WaitsAreDrawn}
+use Rattle.srm_agent_parts.specs.TimerCalls.{AreDistancesAfter, TimersHearRequest, WaitsAreDrawn}
 use Rattle.srm_agent.specs.Contents.{Content}
 use Rattle.srm_agent.specs.Fits.{Fits}
 use Rattle.srm_agent.specs.Heeding.{IsTaken, heard_entry}
 use Rattle.srm_agent.specs.Noting.{Enters}
-use Rattle.srm_agent.proofs.Adding.{flat_map-snoc}
+use Rattle.srm_entries.proofs.Adding.{flat_map-snoc}
 use Rattle.srm_agent.proofs.Entering.{of_member}
 use Rattle.srm_agent.proofs.Evident.{fresh_request}
 use Rattle.srm_agent.proofs.Heeded.{Heeds, heard_fits}

@@ -19,9 +19,9 @@ use Rattle.srm_codec.specs.declared.datagram.Datagram.TheVariants.{Request}
 use Rattle.srm_codec.specs.Spelling.{IsSpellable, is_name, sender_of}
 use Rattle.srm_codec.proofs.ContentLaws.{asked_answer}
 use Rattle.srm_codec.proofs.Masks.{named_within}
-use Rattle.srm_agent.specs.Sessions.{is_session}
+use Rattle.srm_entries.specs.Sessions.{is_session}
 use Rattle.srm_agent.specs.Answering.{IsAnswerOf}
-use Rattle.srm_agent.specs.Packing.{is_covered, is_covered_by, mask_of, packed_after, packed}
+use Rattle.srm_entries.specs.Packing.{is_covered, is_covered_by, mask_of, packed_after, packed}
 
 never : (b : Bool) → (b ≡ true → ⊥) → b ≡ false
 never true h = absurd (h refl)

@@ -18,15 +18,15 @@ use Rattle.srm_names.proofs.Same.{same_stream-is, Has-firsts}
 use Rattle.srm_names.proofs.Orders.{and_left, and_right}
 use Rattle.srm_codec.specs.Spelling.{is_name, is_page, row_below, AreRows}
 use Rattle.srm_store.specs.Held.{number_in}
-use Rattle.srm_agent.specs.declared.entry.Entry.{Entry}
-use Rattle.srm_agent.specs.Configs.{Config}
+use Rattle.srm_entries.specs.declared.entry.Entry.{Entry}
+use Rattle.srm_entries.specs.Configs.{Config}
 use Rattle.srm_agent.specs.Contents.{Content}
-use Rattle.srm_agent.specs.Entries.{done, pages_in, known, shown, slots, shown_to_exist}
-use Rattle.srm_agent.specs.Runs.{EntryRight}
-use Rattle.srm_agent.specs.Sessions.{if_positive, row_at}
-use Rattle.srm_agent.specs.Verdicts.{stream_on}
+use Rattle.srm_entries.specs.Entries.{done, pages_in, known, shown, slots, shown_to_exist}
+use Rattle.srm_entries.specs.Runs.{EntryRight}
+use Rattle.srm_entries.specs.Sessions.{if_positive, row_at}
+use Rattle.srm_entries.specs.Verdicts.{stream_on}
 use Rattle.srm_agent.specs.Reports.{row_for, IsRow, AreOf, AreRowsOf, streams_on, AreShown, AreOwn, AreReported}
-use Rattle.srm_agent.proofs.Telling.{ToldRight, told_step, told_start}
+use Rattle.srm_entries.proofs.Telling.{ToldRight, told_step, told_start}
 use Rattle.srm_agent.proofs.Leavers.{up_to_more}
 
 -- ---- one row

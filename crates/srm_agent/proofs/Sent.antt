@@ -10,18 +10,18 @@ use Rattle.srm_bucket.specs.Calls.{Classed, Handed, Popped}
 use Rattle.srm_bucket.specs.Content.{Content as BucketContent}
 use Rattle.srm_bucket.specs.Mapping.{read_classed, read_call}
 use Rattle.srm_agent.specs.declared.answers.Answer.{Answer}
-use Rattle.srm_agent.specs.declared.entry.Entry.{Entry}
-use Rattle.srm_agent.specs.declared.out.Outgoing.{Outgoing}
-use Rattle.srm_agent.specs.Configs.{Config}
-use Rattle.srm_agent.specs.Entries.{ticked, state, is_gone, shown}
-use Rattle.srm_agent.specs.Sessions.{charged}
-use Rattle.srm_agent.specs.Bucket.{Going, GoesRight, entries_of, lets_go, pops, bucket_calls, handed_by, answers_in, answer_item, data_item, datagrams_of}
+use Rattle.srm_entries.specs.declared.entry.Entry.{Entry}
+use Rattle.srm_agent_parts.specs.declared.out.Outgoing.{Outgoing}
+use Rattle.srm_entries.specs.Configs.{Config}
+use Rattle.srm_entries.specs.Entries.{ticked, state, is_gone, shown}
+use Rattle.srm_entries.specs.Sessions.{charged}
+use Rattle.srm_entries.specs.Bucket.{Going, GoesRight, entries_of, lets_go, pops, bucket_calls, handed_by, answers_in, answer_item, data_item, datagrams_of}
 use Rattle.srm_agent.specs.Fits.{BucketFits, datagram_of}
-use Rattle.srm_agent.specs.Outs.{IsOwn, AreOwn}
+use Rattle.srm_agent_parts.specs.Outs.{IsOwn, AreOwn}
 use Rattle.srm_agent.specs.Answering.{AreAnswers, classed_of}
 use Rattle.srm_agent.specs.Outbox.{WentContent, HandsIn, Goes, LetsGo, pops_of}
-use Rattle.srm_agent.proofs.Running.{steps_more}
-use Rattle.srm_agent.proofs.Marking.{bucket_calls-snoc, entries-snoc}
+use Rattle.srm_agent_parts.proofs.Running.{steps_more}
+use Rattle.srm_entries.proofs.Marking.{bucket_calls-snoc, entries-snoc}
 
 -- what is noted is what goes
 noted_are : (me session : ℕ) (items : List Outgoing) → AllByRecursion (IsOwn me session) items → map (λ o. o.noted) items ≡ map datagram_of items

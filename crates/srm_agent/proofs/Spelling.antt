@@ -18,9 +18,9 @@ use Rattle.srm_store.specs.Stores.{StoreContent}
 use Rattle.srm_bucket.specs.Mapping.{read_classed}
 use Rattle.srm_bucket.specs.Waiting.{HasLength}
 use Rattle.srm_agent.specs.declared.answers.Answer.{Answer}
-use Rattle.srm_agent.specs.Bucket.{answer_item}
+use Rattle.srm_entries.specs.Bucket.{answer_item}
 use Rattle.srm_agent.specs.Fits.{datagram_of}
-use Rattle.srm_agent.specs.Outs.{IsOwn}
+use Rattle.srm_agent_parts.specs.Outs.{IsOwn}
 use Rattle.srm_agent.specs.Answering.{IsAnswerOf, IsAnswer, AreAnswers, classed_of}
 use Rattle.srm_agent.proofs.Handing.{all-append}
 

@@ -5,22 +5,22 @@ use Rattle.std.specs.List.{cons_option}
 use Rattle.std.proofs.lemmas.List.{append-nil}
 use Rattle.srm_names.specs.declared.page_msg.PageMsg.{PageMsg}
 use Rattle.srm_names.specs.Histories.{greatest}
-use Rattle.srm_agent.specs.declared.state.AgentState.{AgentState}
-use Rattle.srm_agent.specs.declared.entry.Entry.{Entry}
-use Rattle.srm_agent.specs.declared.entry.Input.{Input}
-use Rattle.srm_agent.specs.declared.entry.Verdict.{Verdict}
-use Rattle.srm_agent.specs.Configs.{Config}
-use Rattle.srm_agent.specs.Entries.{done_input, heard_in, page_shown, is_tick, clock_of, state, is_gone, slots}
-use Rattle.srm_agent.specs.Verdicts.{VerdictRight}
-use Rattle.srm_agent.specs.Giving.{given, given_in, MessageRight}
-use Rattle.srm_agent.specs.Runs.{EntryRight, MomentRight, drawop_due, state_due}
-use Rattle.srm_agent.specs.Feeds.{FeedContent, FeedFits}
+use Rattle.srm_entries.specs.declared.state.AgentState.{AgentState}
+use Rattle.srm_entries.specs.declared.entry.Entry.{Entry}
+use Rattle.srm_entries.specs.declared.entry.Input.{Input}
+use Rattle.srm_entries.specs.declared.entry.Verdict.{Verdict}
+use Rattle.srm_entries.specs.Configs.{Config}
+use Rattle.srm_entries.specs.Entries.{done_input, heard_in, page_shown, is_tick, clock_of, state, is_gone, slots}
+use Rattle.srm_entries.specs.Verdicts.{VerdictRight}
+use Rattle.srm_entries.specs.Giving.{given, given_in, MessageRight}
+use Rattle.srm_entries.specs.Runs.{EntryRight, MomentRight, drawop_due, state_due}
+use Rattle.srm_agent_parts.specs.Feeds.{FeedContent, FeedFits}
 use Rattle.srm_agent.specs.Contents.{Content}
 use Rattle.srm_agent.specs.Fits.{Fits, FeedsFit}
 use Rattle.srm_agent.specs.Noting.{still_entry}
-use Rattle.srm_agent.proofs.Feeding.{given-snoc}
-use Rattle.srm_agent.proofs.Showing.{state-snoc}
-use Rattle.srm_agent.proofs.Running.{steps_more, last_moment-snoc, shown-page-snoc}
+use Rattle.srm_entries.proofs.Feeding.{given-snoc}
+use Rattle.srm_entries.proofs.Showing.{state-snoc}
+use Rattle.srm_agent_parts.proofs.Running.{steps_more, last_moment-snoc, shown-page-snoc}
 use Rattle.srm_agent.proofs.Quiet.{Quiet, same_held, same_shown, same_drawn, same_settlings, same_distances, timers_stay, bucket_stays, same_due, no_arms, no_timers, no_session}
 
 -- what an entry without effects may be, after these entries

@@ -8,25 +8,26 @@ use Rattle.srm_names.specs.FullName.{FullName}
 use Rattle.srm_codec.specs.declared.datagram.Datagram.{Datagram}
 use Rattle.srm_codec.specs.Spelling.{sender_of, IsSpellable}
 use Rattle.srm_timers.specs.declared.arm.Arm.{Arm}
-use Rattle.srm_agent.specs.declared.entry.Entry.{Entry}
-use Rattle.srm_agent.specs.declared.entry.Input.TheVariants.{Ticked}
-use Rattle.srm_agent.specs.declared.state.AgentState.{AgentState}
-use Rattle.srm_agent.specs.Configs.{Config}
-use Rattle.srm_agent.specs.Entries.{state, last_moment, held, shown_to_exist, drawn, heard}
-use Rattle.srm_agent.specs.Distances.{distance_calls, calls_in}
-use Rattle.srm_agent.specs.Timers.{ArmsRight, TimersRight}
-use Rattle.srm_agent.specs.Verdicts.{settlings, settling_of}
-use Rattle.srm_agent.specs.Sessions.{is_farewell, ending}
-use Rattle.srm_agent.specs.Runs.{EntryRight, state_due}
+use Rattle.srm_entries.specs.declared.entry.Entry.{Entry}
+use Rattle.srm_entries.specs.declared.entry.Input.TheVariants.{Ticked}
+use Rattle.srm_entries.specs.declared.state.AgentState.{AgentState}
+use Rattle.srm_entries.specs.Configs.{Config}
+use Rattle.srm_entries.specs.Entries.{state, last_moment, held, shown_to_exist, drawn, heard}
+use Rattle.srm_entries.specs.Distances.{distance_calls, calls_in}
+use Rattle.srm_entries.specs.Timers.{ArmsRight, TimersRight}
+use Rattle.srm_entries.specs.Verdicts.{settlings, settling_of}
+use Rattle.srm_entries.specs.Sessions.{is_farewell, ending}
+use Rattle.srm_entries.specs.Runs.{EntryRight, state_due}
 use Rattle.srm_agent.specs.Ticking.{tick_entry}
 use Rattle.srm_agent.specs.Contents.{Content}
-use Rattle.srm_agent.specs.Fits.{Fits, TimersFit, BucketFits}
-use Rattle.srm_agent.proofs.Adding.{flat_map-snoc}
-use Rattle.srm_agent.proofs.Ending.{EndsIn, NoSessions, session_right, due_by, due_after}
+use Rattle.srm_agent.specs.Fits.{Fits, BucketFits}
+use Rattle.srm_agent_parts.specs.TimersKept.{TimersFit}
+use Rattle.srm_entries.proofs.Adding.{flat_map-snoc}
+use Rattle.srm_entries.proofs.Ending.{EndsIn, NoSessions, session_right, due_by, due_after}
 use Rattle.srm_agent.proofs.Handing.{all-append}
-use Rattle.srm_agent.proofs.Running.{steps_more, shown-page-snoc, slots-same}
-use Rattle.srm_agent.proofs.Showing.{held-snoc, shown-snoc, drawn-snoc, state-snoc}
-use Rattle.srm_agent.proofs.Spending.{tick_is_last}
+use Rattle.srm_agent_parts.proofs.Running.{steps_more, shown-page-snoc, slots-same}
+use Rattle.srm_entries.proofs.Showing.{held-snoc, shown-snoc, drawn-snoc, state-snoc}
+use Rattle.srm_entries.proofs.Spending.{tick_is_last}
 use Rattle.srm_agent.proofs.Still.{same_feeds}
 
 -- a tick hears and draws nothing, so what is held, known and told stays

@@ -8,18 +8,18 @@ use Rattle.srm_timers.specs.declared.arm.Arm.{Arm}
 use Rattle.srm_distance.specs.Fits as distances
 use Rattle.srm_bucket.specs.Waiting.{Waiting, SameQueues}
 use Rattle.srm_agent.specs.declared.agent.due.HandedOut.{HandedOut}
-use Rattle.srm_agent.specs.declared.entry.Entry.{Entry}
-use Rattle.srm_agent.specs.declared.out.Outgoing.{Outgoing}
+use Rattle.srm_entries.specs.declared.entry.Entry.{Entry}
+use Rattle.srm_agent_parts.specs.declared.out.Outgoing.{Outgoing}
 use Rattle.srm_agent.specs.Contents.{Content}
-use Rattle.srm_agent.specs.Entries.{heard}
-use Rattle.srm_agent.specs.Distances.{distance_calls, calls_in, calls_of}
-use Rattle.srm_agent.specs.Outs.{IsOwn, AreOwn}
-use Rattle.srm_agent.specs.TimersKept.{TimersContent, HaveSettings}
+use Rattle.srm_entries.specs.Entries.{heard}
+use Rattle.srm_entries.specs.Distances.{distance_calls, calls_in, calls_of}
+use Rattle.srm_agent_parts.specs.Outs.{IsOwn, AreOwn}
+use Rattle.srm_agent_parts.specs.TimersKept.{TimersContent, HaveSettings}
 use Rattle.srm_distance.specs.Fits.{IsTableOf}
-use Rattle.srm_agent.specs.TimerCalls.{AreDistancesAfter, TimersTick, WaitsAreDrawn}
+use Rattle.srm_agent_parts.specs.TimerCalls.{AreDistancesAfter, TimersTick, WaitsAreDrawn}
 use Rattle.srm_agent.specs.Ticking.{TicksTimers, HandsOut, HandsOutNothing}
-use Rattle.srm_agent.proofs.Adding.{flat_map-snoc}
-use Rattle.srm_agent.proofs.Dueness.{ticks_right}
+use Rattle.srm_entries.proofs.Adding.{flat_map-snoc}
+use Rattle.srm_agent_parts.proofs.Dueness.{ticks_right}
 use Rattle.srm_agent.proofs.Quiet.{Quiet, timers_stay, no_arms}
 
 same_calls : (me : ℕ) (past : List Entry) (e : Entry) → heard e ≡ None → distance_calls me (past ++ e ∷ []) ≡ distance_calls me past

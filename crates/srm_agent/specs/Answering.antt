@@ -9,15 +9,15 @@ use Rattle.srm_bucket.specs.Calls.{Classed}
 use Rattle.srm_bucket.specs.Mapping.{read_classed}
 use Rattle.srm_bucket.specs.Waiting.{HasLength}
 use Rattle.srm_agent.specs.declared.answers.Answer.{Answer}
-use Rattle.srm_agent.specs.declared.out.Outgoing.{Outgoing}
-use Rattle.srm_agent.specs.Sessions.{is_session}
-use Rattle.srm_agent.specs.declared.entry.Entry.{Entry}
-use Rattle.srm_agent.specs.Configs.{Config}
-use Rattle.srm_agent.specs.Packing.{packed}
-use Rattle.srm_agent.specs.Bucket.{answer_item, repair_of}
+use Rattle.srm_agent_parts.specs.declared.out.Outgoing.{Outgoing}
+use Rattle.srm_entries.specs.Sessions.{is_session}
+use Rattle.srm_entries.specs.declared.entry.Entry.{Entry}
+use Rattle.srm_entries.specs.Configs.{Config}
+use Rattle.srm_entries.specs.Packing.{packed}
+use Rattle.srm_entries.specs.Bucket.{answer_item, repair_of}
 use Rattle.srm_agent.specs.Contents.{Content}
 use Rattle.srm_agent.specs.Fits.{Fits, datagram_of}
-use Rattle.srm_agent.specs.Outs.{IsOwn}
+use Rattle.srm_agent_parts.specs.Outs.{IsOwn}
 
 -- a datagram that a member may hand in
 pub record IsAnswerOf (me : ℕ) (g : Datagram) : Type 0 where

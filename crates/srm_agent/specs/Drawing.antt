@@ -9,16 +9,16 @@ use Rattle.srm_names.specs.Names.{named}
 use Rattle.srm_codec.specs.declared.datagram.Datagram.TheVariants.{Data}
 use Rattle.srm_codec.specs.Spelling.{length_of}
 use Rattle.srm_agent.specs.declared.agent.drawing.Draft.{Draft}
-use Rattle.srm_agent.specs.declared.state.AgentState.{AgentState}
-use Rattle.srm_agent.specs.declared.fault.AgentFault.{AgentFault}
-use Rattle.srm_agent.specs.declared.fault.AgentFault.TheVariants as faults
-use Rattle.srm_agent.specs.declared.entry.Entry.{Entry}
-use Rattle.srm_agent.specs.declared.entry.Input.TheVariants.{Drew}
-use Rattle.srm_agent.specs.declared.entry.Verdict.{Verdict}
-use Rattle.srm_agent.specs.declared.entry.Verdict.TheVariants.{Done, Refused}
-use Rattle.srm_agent.specs.Entries.{is_gone, is_leaving}
-use Rattle.srm_agent.specs.PageTables.{lacks_room}
-use Rattle.srm_agent.specs.Outs.{IsOutgoingOf}
+use Rattle.srm_entries.specs.declared.state.AgentState.{AgentState}
+use Rattle.srm_entries.specs.declared.fault.AgentFault.{AgentFault}
+use Rattle.srm_entries.specs.declared.fault.AgentFault.TheVariants as faults
+use Rattle.srm_entries.specs.declared.entry.Entry.{Entry}
+use Rattle.srm_entries.specs.declared.entry.Input.TheVariants.{Drew}
+use Rattle.srm_entries.specs.declared.entry.Verdict.{Verdict}
+use Rattle.srm_entries.specs.declared.entry.Verdict.TheVariants.{Done, Refused}
+use Rattle.srm_entries.specs.Entries.{is_gone, is_leaving}
+use Rattle.srm_agent_parts.specs.PageTables.{lacks_room}
+use Rattle.srm_agent_parts.specs.Outs.{IsOutgoingOf}
 
 abbrev pub verdict_by : Option AgentFault → Verdict
 verdict_by None = Done

@@ -14,12 +14,12 @@ use Rattle.srm_codec.specs.Spelling.{names_in}
 use Rattle.srm_distance.specs.Calls.{Call}
 use Rattle.srm_distance.specs.Content.{Content as DistancesContent}
 use Rattle.srm_distance.specs.Fits as distances
-use Rattle.srm_agent.specs.declared.entry.Entry.{Entry}
-use Rattle.srm_agent.specs.Distances.{calls_of}
-use Rattle.srm_agent.specs.Verdicts.{settling_of}
-use Rattle.srm_agent.specs.Configs.{Config}
+use Rattle.srm_entries.specs.declared.entry.Entry.{Entry}
+use Rattle.srm_entries.specs.Distances.{calls_of}
+use Rattle.srm_entries.specs.Verdicts.{settling_of}
+use Rattle.srm_entries.specs.Configs.{Config}
 use Rattle.srm_agent.specs.Contents.{Content}
-use Rattle.srm_agent.specs.Entries.{known}
+use Rattle.srm_entries.specs.Entries.{known}
 use Rattle.srm_agent.specs.Fits.{Fits}
 
 -- the name is of the stream, and its number between these two

@@ -10,17 +10,17 @@ use Rattle.srm_store.specs.Finals.{Settling}
 use Rattle.srm_store.specs.Fits as store
 use Rattle.srm_store.specs.Stores.{StoreContent}
 use Rattle.srm_timers.specs.declared.arm.Arm.{Arm}
-use Rattle.srm_agent.specs.declared.cause.Cause.TheVariants as causes
-use Rattle.srm_agent.specs.declared.state.AgentState.{AgentState}
-use Rattle.srm_agent.specs.declared.entry.Entry.{Entry}
-use Rattle.srm_agent.specs.declared.entry.Input.TheVariants.{Heard, Noise}
-use Rattle.srm_agent.specs.declared.entry.Verdict.TheVariants.{Done, Ignored}
-use Rattle.srm_agent.specs.Configs.{Config}
+use Rattle.srm_entries.specs.declared.cause.Cause.TheVariants as causes
+use Rattle.srm_entries.specs.declared.state.AgentState.{AgentState}
+use Rattle.srm_entries.specs.declared.entry.Entry.{Entry}
+use Rattle.srm_entries.specs.declared.entry.Input.TheVariants.{Heard, Noise}
+use Rattle.srm_entries.specs.declared.entry.Verdict.TheVariants.{Done, Ignored}
+use Rattle.srm_entries.specs.Configs.{Config}
 use Rattle.srm_agent.specs.Contents.{Content}
 use Rattle.srm_agent.specs.Fits.{Fits}
-use Rattle.srm_agent.specs.Entries.{known}
+use Rattle.srm_entries.specs.Entries.{known}
 use Rattle.srm_agent.specs.Growth.{is_between}
-use Rattle.srm_agent.specs.Verdicts.{verdict_of}
+use Rattle.srm_entries.specs.Verdicts.{verdict_of}
 
 -- the verdict is that on the datagram, after whatever run the agent fitted
 pub record IsJudgedBy {W : Type 0} (datagram : Datagram) (old : Content W) (e : Entry) : Type 0 where

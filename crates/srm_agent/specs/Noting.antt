@@ -5,27 +5,27 @@ use Rattle.srm_names.specs.declared.drawop.Drawop.{Drawop}
 use Rattle.srm_names.specs.FullName.{FullName}
 use Rattle.srm_names.specs.declared.page_msg.PageMsg.{PageMsg}
 use Rattle.srm_timers.specs.Arms.{AreDrawn}
-use Rattle.srm_agent.specs.declared.cause.Outcome.{Outcome}
-use Rattle.srm_agent.specs.declared.cause.Outcome.TheVariants.{Taken}
-use Rattle.srm_agent.specs.declared.cause.Outcome.TheVariants as outcomes
+use Rattle.srm_entries.specs.declared.cause.Outcome.{Outcome}
+use Rattle.srm_entries.specs.declared.cause.Outcome.TheVariants.{Taken}
+use Rattle.srm_entries.specs.declared.cause.Outcome.TheVariants as outcomes
 use Rattle.srm_agent.specs.declared.heard.Heard.{Heard}
 use Rattle.srm_agent.specs.declared.ticked.Ticked.{Ticked}
-use Rattle.srm_agent.specs.declared.out.Out.{Out}
-use Rattle.srm_agent.specs.declared.fault.AgentFault.{AgentFault}
-use Rattle.srm_agent.specs.declared.fault.AgentFault.TheVariants.{Memory}
-use Rattle.srm_agent.specs.declared.state.AgentState.{AgentState}
-use Rattle.srm_agent.specs.declared.entry.Entry.{Entry}
-use Rattle.srm_agent.specs.declared.entry.Input.{Input}
-use Rattle.srm_agent.specs.declared.entry.Verdict.{Verdict}
-use Rattle.srm_agent.specs.declared.entry.Verdict.TheVariants.{Done, Ignored, Refused}
-use Rattle.srm_agent.specs.Configs.{Config}
-use Rattle.srm_agent.specs.Entries.{is_gone}
-use Rattle.srm_agent.specs.Verdicts.{verdict_of}
+use Rattle.srm_agent_parts.specs.declared.out.Out.{Out}
+use Rattle.srm_entries.specs.declared.fault.AgentFault.{AgentFault}
+use Rattle.srm_entries.specs.declared.fault.AgentFault.TheVariants.{Memory}
+use Rattle.srm_entries.specs.declared.state.AgentState.{AgentState}
+use Rattle.srm_entries.specs.declared.entry.Entry.{Entry}
+use Rattle.srm_entries.specs.declared.entry.Input.{Input}
+use Rattle.srm_entries.specs.declared.entry.Verdict.{Verdict}
+use Rattle.srm_entries.specs.declared.entry.Verdict.TheVariants.{Done, Ignored, Refused}
+use Rattle.srm_entries.specs.Configs.{Config}
+use Rattle.srm_entries.specs.Entries.{is_gone}
+use Rattle.srm_entries.specs.Verdicts.{verdict_of}
 use Rattle.srm_agent.specs.Contents.{Content}
 use Rattle.srm_agent.specs.Fits.{Fits}
-use Rattle.srm_agent.specs.Timers.{low_of, high_of}
-use Rattle.srm_agent.specs.Hearing.{bytes_heard}
-use Rattle.srm_agent.specs.Outs.{IsOut}
+use Rattle.srm_entries.specs.Timers.{low_of, high_of}
+use Rattle.srm_entries.specs.Hearing.{bytes_heard}
+use Rattle.srm_agent_parts.specs.Outs.{IsOut}
 
 -- an entry without effects, but perhaps a message
 abbrev pub still_entry : ℕ → ℕ → Input → Verdict → Option PageMsg → AgentState → Entry

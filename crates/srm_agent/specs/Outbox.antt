@@ -7,9 +7,9 @@ use Rattle.srm_bucket.specs.Content.{Content as BucketContent}
 use Rattle.srm_bucket.specs.Fits.{Fits}
 use Rattle.srm_bucket.specs.Waiting.{count_of}
 use Rattle.srm_agent.specs.declared.answers.Answer.{Answer}
-use Rattle.srm_agent.specs.declared.out.Out.{Out}
-use Rattle.srm_agent.specs.declared.out.Outgoing.{Outgoing}
-use Rattle.srm_agent.specs.Outs.{IsOwn, AreOwn}
+use Rattle.srm_agent_parts.specs.declared.out.Out.{Out}
+use Rattle.srm_agent_parts.specs.declared.out.Outgoing.{Outgoing}
+use Rattle.srm_agent_parts.specs.Outs.{IsOwn, AreOwn}
 use Rattle.srm_agent.specs.Answering.{classed_of}
 
 -- what went, and for how much more there is room

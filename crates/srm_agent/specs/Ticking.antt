@@ -13,20 +13,20 @@ use Rattle.srm_agent.specs.declared.agent.due.Due.{Due}
 use Rattle.srm_agent.specs.declared.agent.due.Report.{Report}
 use Rattle.srm_agent.specs.declared.agent.due.HandedOut.{HandedOut}
 use Rattle.srm_agent.specs.declared.answers.Answer.{Answer}
-use Rattle.srm_agent.specs.declared.entry.Entry.{Entry}
-use Rattle.srm_agent.specs.declared.entry.Input.TheVariants.{Ticked}
-use Rattle.srm_agent.specs.declared.entry.Verdict.TheVariants.{Done}
-use Rattle.srm_agent.specs.declared.out.Outgoing.{Outgoing}
-use Rattle.srm_agent.specs.declared.state.AgentState.{AgentState}
-use Rattle.srm_agent.specs.declared.state.AgentState.TheVariants.{Gone}
-use Rattle.srm_agent.specs.Configs.{Config}
+use Rattle.srm_entries.specs.declared.entry.Entry.{Entry}
+use Rattle.srm_entries.specs.declared.entry.Input.TheVariants.{Ticked}
+use Rattle.srm_entries.specs.declared.entry.Verdict.TheVariants.{Done}
+use Rattle.srm_agent_parts.specs.declared.out.Outgoing.{Outgoing}
+use Rattle.srm_entries.specs.declared.state.AgentState.{AgentState}
+use Rattle.srm_entries.specs.declared.state.AgentState.TheVariants.{Gone}
+use Rattle.srm_entries.specs.Configs.{Config}
 use Rattle.srm_agent.specs.Contents.{Content}
-use Rattle.srm_agent.specs.Entries.{state, is_gone, is_leaving}
-use Rattle.srm_agent.specs.Timers.{low_of, high_of, TimersRight}
-use Rattle.srm_agent.specs.Sessions.{session_pause}
+use Rattle.srm_entries.specs.Entries.{state, is_gone, is_leaving}
+use Rattle.srm_entries.specs.Timers.{low_of, high_of, TimersRight}
+use Rattle.srm_entries.specs.Sessions.{session_pause}
 use Rattle.srm_agent.specs.Fits.{Fits}
-use Rattle.srm_agent.specs.TimersKept.{TimersContent}
-use Rattle.srm_agent.specs.TimerCalls.{AsksPending, FixesPending, AreToAsk, AreToFix, TicksWith, TimersAdd}
+use Rattle.srm_agent_parts.specs.TimersKept.{TimersContent}
+use Rattle.srm_agent_parts.specs.TimerCalls.{AsksPending, FixesPending, AreToAsk, AreToFix, TicksWith, TimersAdd}
 use Rattle.srm_agent.specs.Reports.{IsReportSpelled}
 use Rattle.srm_agent.specs.Answering.{AnswersDue}
 use Rattle.srm_agent.specs.Outbox.{WentContent, HandsIn, LetsGo}

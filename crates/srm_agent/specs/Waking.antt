@@ -2,12 +2,12 @@
 use Rattle.std.specs.Prelude.{ℕ, ◌==◌, ◌&&◌, min, List, length, if◌then◌else◌, Option, Some, None}
 use Rattle.srm_bucket.specs.declared.class.Class.TheVariants.{New}
 use Rattle.srm_bucket.specs.Waiting.{queue}
-use Rattle.srm_agent.specs.declared.entry.Entry.{Entry}
-use Rattle.srm_agent.specs.Configs.{Config}
-use Rattle.srm_agent.specs.Entries.{is_leaving}
+use Rattle.srm_entries.specs.declared.entry.Entry.{Entry}
+use Rattle.srm_entries.specs.Configs.{Config}
+use Rattle.srm_entries.specs.Entries.{is_leaving}
 use Rattle.srm_agent.specs.Contents.{Content}
 use Rattle.srm_agent.specs.Fits.{Fits}
-use Rattle.srm_agent.specs.Promises.{IsNextDue}
+use Rattle.srm_entries.specs.Promises.{IsNextDue}
 
 -- after whatever run the agent fits, this is the next moment at which a tick does something
 pub record NextDue {W : Type 0} (a : Content W) (moment : Option ℕ) : Type 0 where

@@ -2,11 +2,11 @@
 
 ghost use Rattle.std.specs.Prelude.{◌≡◌, ◌≤◌, ℕ, max, List, [], IfOk, IsOk, Ok, None};
 ghost use Rattle.srm_names.specs.declared.limits.TheConstants.{MOMENT};
-ghost use Rattle.srm_agent.specs.Configs.{Config as Settings};
-ghost use Rattle.srm_agent.specs.declared.entry.Entry.{Entry as AnEntry};
-ghost use Rattle.srm_agent.specs.Entries.{is_gone};
+ghost use Rattle.srm_entries.specs.Configs.{Config as Settings};
+ghost use Rattle.srm_entries.specs.declared.entry.Entry.{Entry as AnEntry};
+ghost use Rattle.srm_entries.specs.Entries.{is_gone};
 ghost use Rattle.srm_agent.specs.Fits.{Fits, AreEmptyFeeds};
-ghost use Rattle.srm_agent.specs.Runs.{IsMemberRun};
+ghost use Rattle.srm_entries.specs.Runs.{IsMemberRun};
 ghost use Rattle.srm_agent.specs.Noting.{Does, still_entry};
 
 mod drawing;
@@ -26,17 +26,11 @@ mod taking_request;
 mod taking_session;
 mod ticking;
 
-use crate::config::Config;
-use crate::entry::{Effects, Entry, Input, Verdict};
-use crate::fault::AgentFault;
-use crate::feed::Feed;
 use crate::noted::Noted;
-use crate::out::Outgoing;
-use crate::page_table::{PageTable, first_page};
-use crate::state::AgentState;
-use crate::timers::Timers;
+use srm_agent_parts::{Feed, Outgoing, PageTable, Timers, first_page};
 use srm_bucket::Bucket;
 use srm_distance::Distances;
+use srm_entries::{AgentFault, AgentState, Config, Effects, Entry, Input, Verdict};
 use srm_names::{Items, PAGES, Page, PageMsg};
 use srm_store::Store;
 use srm_timers::Words;

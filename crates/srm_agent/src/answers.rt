@@ -11,12 +11,12 @@ ghost use Rattle.srm_store.specs.Held.{held_at};
 ghost use Rattle.srm_store.specs.Finals.{Settling};
 ghost use Rattle.srm_store.specs.Fits.{Fits};
 ghost use Rattle.srm_bucket.specs.Waiting.{IsLength};
-ghost use Rattle.srm_agent.specs.Bucket.{class_for, page_of};
-ghost use Rattle.srm_agent.specs.Packing.{packed};
+ghost use Rattle.srm_entries.specs.Bucket.{class_for, page_of};
+ghost use Rattle.srm_entries.specs.Packing.{packed};
 ghost use Rattle.srm_agent.specs.Answering.{IsAnswerOf, IsAnswer, AreAnswers};
 
-use crate::out::Outgoing;
 use crate::packing::packed;
+use srm_agent_parts::Outgoing;
 use srm_bucket::{Class, Item};
 use srm_codec::{Datagram, encodable, length};
 use srm_names::{Member, Name, Page};

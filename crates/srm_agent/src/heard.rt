@@ -1,6 +1,6 @@
 //! What hearing bytes answers.
 
-use crate::cause::Outcome;
+use srm_entries::Outcome;
 use srm_names::Items;
 use srm_timers::Arm;
 

@@ -1,7 +1,6 @@
 //! What a call answered, with its entry.
 
-use crate::entry::Entry;
-use crate::fault::AgentFault;
+use srm_entries::{AgentFault, Entry};
 
 /// What a call answered, and its entry. Both were made before anything changed.
 #[derive(Debug, Drop)]

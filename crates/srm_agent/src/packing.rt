@@ -7,7 +7,7 @@ ghost use Rattle.srm_names.specs.Names.{ascending, name_below};
 ghost use Rattle.srm_codec.specs.declared.datagram.Datagram.TheVariants.{Request};
 ghost use Rattle.srm_codec.specs.Spelling.{IsSpellable, is_name};
 ghost use Rattle.srm_agent.specs.Answering.{IsAnswerOf};
-ghost use Rattle.srm_agent.specs.Packing.{is_covered, is_covered_by, mask_of, packed};
+ghost use Rattle.srm_entries.specs.Packing.{is_covered, is_covered_by, mask_of, packed};
 
 use srm_codec::Datagram;
 use srm_names::{Member, Name};

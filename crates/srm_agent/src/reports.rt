@@ -3,8 +3,8 @@
 ghost use Rattle.std.specs.Prelude.{◌≡◌, Some, option_map, length};
 ghost use Rattle.srm_codec.specs.Spelling.{IsSpellable, names_in};
 ghost use Rattle.srm_store.specs.Stores.{AreReady, IsReadyToSettle};
-ghost use Rattle.srm_agent.specs.Distances.{echo_for};
-ghost use Rattle.srm_agent.specs.Verdicts.{settling_of};
+ghost use Rattle.srm_entries.specs.Distances.{echo_for};
+ghost use Rattle.srm_entries.specs.Verdicts.{settling_of};
 ghost use Rattle.srm_agent.specs.Growth.{HearsToo, LearnsToo, SettlesToo};
 
 use crate::evidence::show_all;

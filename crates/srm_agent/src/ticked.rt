@@ -1,7 +1,7 @@
 //! What a tick answers.
 
-use crate::out::Out;
-use crate::state::AgentState;
+use srm_agent_parts::Out;
+use srm_entries::AgentState;
 use srm_names::{Items, Name};
 use srm_timers::Arm;
 

@@ -5,8 +5,8 @@ use Rattle.std.specs.List.{AllByRecursion}
 use Rattle.srm_names.specs.Histories.{Step, steps, steps_after}
 use Rattle.srm_names.proofs.Lists.{Has, All-Has, slice_get-Has}
 use Rattle.srm_codec.specs.Spelling.{IsSpellable}
-use Rattle.srm_agent.specs.declared.entry.Entry.{Entry}
-use Rattle.srm_agent.specs.Runs.{EntryRight}
+use Rattle.srm_entries.specs.declared.entry.Entry.{Entry}
+use Rattle.srm_entries.specs.Runs.{EntryRight}
 use Rattle.srm_world.specs.Traces.{Trace, of_member}
 use Rattle.srm_world.specs.Claims.{IsLawful}
 use Rattle.srm_world.proofs.Members.{Has-of_member, run_of_entry}

@@ -4,7 +4,7 @@ use Rattle.std.specs.Prelude.{Some, slice_get}
 use Rattle.std.specs.List.{AllByRecursion, enumerate_from}
 use Rattle.std.proofs.lemmas.Option.{same_Some}
 use Rattle.srm_names.proofs.Lists.{slice_get-snoc}
-use Rattle.srm_agent.specs.Configs.{Config}
+use Rattle.srm_entries.specs.Configs.{Config}
 use Rattle.srm_world.specs.declared.start.Start.{Start}
 use Rattle.srm_world.specs.Traces.{IsRoster, IsAtPlace, SameSession, started}
 use Rattle.srm_world.proofs.Stepping.{all_by_place}

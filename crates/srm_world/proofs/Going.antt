@@ -12,32 +12,32 @@ use Rattle.srm_codec.specs.declared.fault.DecodeFault.{DecodeFault}
 use Rattle.srm_codec.specs.Spelling.{AreBytes}
 use Rattle.srm_codec.specs.Judging.{judge}
 use Rattle.srm_codec.proofs.JudgingLaws.{undoes}
-use Rattle.srm_agent.specs.declared.cause.Cause.TheVariants as causes
-use Rattle.srm_agent.specs.declared.fault.AgentFault.{AgentFault}
-use Rattle.srm_agent.specs.declared.out.Out.{Out}
+use Rattle.srm_entries.specs.declared.cause.Cause.TheVariants as causes
+use Rattle.srm_entries.specs.declared.fault.AgentFault.{AgentFault}
+use Rattle.srm_agent_parts.specs.declared.out.Out.{Out}
 use Rattle.srm_agent.specs.declared.ticked.Ticked.{Ticked}
-use Rattle.srm_agent.specs.declared.entry.Entry.{Entry}
-use Rattle.srm_agent.specs.declared.entry.Input.{Input}
-use Rattle.srm_agent.specs.declared.entry.Input.TheVariants.{Drew, Heard, Noise, Showed, AskedLeave, Gave, Took}
-use Rattle.srm_agent.specs.declared.entry.Input.TheVariants as inputs
-use Rattle.srm_agent.specs.declared.entry.Verdict.{Verdict}
-use Rattle.srm_agent.specs.declared.entry.Verdict.TheVariants.{Done, Ignored, Refused}
-use Rattle.srm_agent.specs.declared.state.AgentState.TheVariants.{Active}
-use Rattle.srm_agent.specs.Configs.{Config}
+use Rattle.srm_entries.specs.declared.entry.Entry.{Entry}
+use Rattle.srm_entries.specs.declared.entry.Input.{Input}
+use Rattle.srm_entries.specs.declared.entry.Input.TheVariants.{Drew, Heard, Noise, Showed, AskedLeave, Gave, Took}
+use Rattle.srm_entries.specs.declared.entry.Input.TheVariants as inputs
+use Rattle.srm_entries.specs.declared.entry.Verdict.{Verdict}
+use Rattle.srm_entries.specs.declared.entry.Verdict.TheVariants.{Done, Ignored, Refused}
+use Rattle.srm_entries.specs.declared.state.AgentState.TheVariants.{Active}
+use Rattle.srm_entries.specs.Configs.{Config}
 use Rattle.srm_agent.specs.Contents as agents
-use Rattle.srm_agent.specs.Entries.{takes_moment, clock_of, last_moment, state, is_gone}
-use Rattle.srm_agent.specs.Giving.{given, taken, given_in, taken_in, next_taken}
-use Rattle.srm_agent.specs.Hearing.{read_as}
-use Rattle.srm_agent.specs.Outs.{IsOut}
-use Rattle.srm_agent.specs.Verdicts.{VerdictRight}
-use Rattle.srm_agent.specs.Runs.{EntryRight}
+use Rattle.srm_entries.specs.Entries.{takes_moment, clock_of, last_moment, state, is_gone}
+use Rattle.srm_entries.specs.Giving.{given, taken, given_in, taken_in, next_taken}
+use Rattle.srm_entries.specs.Hearing.{read_as}
+use Rattle.srm_agent_parts.specs.Outs.{IsOut}
+use Rattle.srm_entries.specs.Verdicts.{VerdictRight}
+use Rattle.srm_entries.specs.Runs.{EntryRight}
 use Rattle.srm_agent.specs.Fits as agents_fit
 use Rattle.srm_agent.specs.Noting as noting
 use Rattle.srm_agent.specs.Noting.{Enters, ReadsAs, AnswersAs, IsTicked, still_entry, moment_that_counts}
-use Rattle.srm_agent.proofs.Running.{last_moment-snoc, slots-same}
+use Rattle.srm_agent_parts.proofs.Running.{last_moment-snoc, slots-same}
 use Rattle.srm_agent.proofs.Still.{still_fits, same_feeds}
-use Rattle.srm_agent.proofs.Showing.{state-snoc}
-use Rattle.srm_agent.proofs.Feeding.{given-snoc}
+use Rattle.srm_entries.proofs.Showing.{state-snoc}
+use Rattle.srm_entries.proofs.Feeding.{given-snoc}
 use Rattle.srm_world.specs.Events.{comes}
 use Rattle.srm_world.specs.Lane.{LaneContent}
 use Rattle.srm_world.specs.Lanes.{AreEmpty, Gains, Loses, in_lane}

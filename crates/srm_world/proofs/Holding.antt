@@ -11,10 +11,10 @@ use Rattle.srm_names.specs.Names.{named, same_stream}
 use Rattle.srm_names.proofs.Lists.{Has, Has-map, map-Has, find-Has}
 use Rattle.srm_names.proofs.Same.{same_name-is, same_stream-is}
 use Rattle.srm_store.specs.Held.{has_name, number_in, greatest_in}
-use Rattle.srm_agent.specs.declared.entry.Entry.{Entry}
-use Rattle.srm_agent.specs.Entries.{held, held_at, is_held, is_missing, known}
-use Rattle.srm_agent.proofs.Responding.{exists, unheld_missing}
-use Rattle.srm_agent.proofs.Showing.{greatest_in_has, held_is_shown, known_has}
+use Rattle.srm_entries.specs.declared.entry.Entry.{Entry}
+use Rattle.srm_entries.specs.Entries.{held, held_at, is_held, is_missing, known}
+use Rattle.srm_entries.proofs.Responding.{exists, unheld_missing}
+use Rattle.srm_entries.proofs.Showing.{greatest_in_has, held_is_shown, known_has}
 
 found_any : {X : Type 0} (p : X → Bool) (xs : List X) → list_any p xs ≡ true → (x : X) × (find p xs ≡ Some x)
 found_any p [] e = absurd (cc)

@@ -12,16 +12,16 @@ use Rattle.srm_names.specs.Histories.{Step, steps, steps_after, or_else}
 use Rattle.srm_names.proofs.Lists.{Has, Has-append, Has-front, Has-back, Has-filter, Has-kept, Has-flat_map, flat_map-Has, Has-contained, Has-split, at_parts}
 use Rattle.srm_codec.specs.declared.datagram.Datagram.{Datagram}
 use Rattle.srm_codec.specs.declared.datagram.Datagram.TheVariants.{Data, Request, Repair, Session}
-use Rattle.srm_agent.specs.declared.entry.Entry.{Entry}
-use Rattle.srm_agent.specs.Entries.{heard, sent, drawn, held, held_by, drawops_in}
-use Rattle.srm_agent.specs.Sessions.{charged, is_session}
+use Rattle.srm_entries.specs.declared.entry.Entry.{Entry}
+use Rattle.srm_entries.specs.Entries.{heard, sent, drawn, held, held_by, drawops_in}
+use Rattle.srm_entries.specs.Sessions.{charged, is_session}
 use Rattle.srm_store.specs.Finals.{Settling, rows_for, rows_of, row_of}
-use Rattle.srm_agent.specs.Verdicts.{told, settlings, settling_of, stream_on}
-use Rattle.srm_agent.proofs.Adding.{flat_map-append}
-use Rattle.srm_agent.proofs.Sending.{data_sent_was_drawn, repair_sent_was_held}
-use Rattle.srm_agent.proofs.Drawing.{draws_right}
-use Rattle.srm_agent.proofs.Telling.{rows_in, farewell_in, farewell_is}
-use Rattle.srm_agent.proofs.Parting.{session_sent, farewell_sent}
+use Rattle.srm_entries.specs.Verdicts.{told, settlings, settling_of, stream_on}
+use Rattle.srm_entries.proofs.Adding.{flat_map-append}
+use Rattle.srm_entries.proofs.Sending.{data_sent_was_drawn, repair_sent_was_held}
+use Rattle.srm_entries.proofs.Drawing.{draws_right}
+use Rattle.srm_entries.proofs.Telling.{rows_in, farewell_in, farewell_is}
+use Rattle.srm_entries.proofs.Parting.{session_sent, farewell_sent}
 use Rattle.srm_world.specs.declared.start.Start.{Start}
 use Rattle.srm_world.specs.Traces.{of_member, drawn_by, IsHonest, IsRunOf}
 use Rattle.srm_world.proofs.Members.{MemberRun, run_of_entry, run_so_far, Has-of_member}

@@ -1,12 +1,12 @@
 -- What a call of the agent makes of the journal.
 use Rattle.std.proofs.Common.{◌≡◌, ℕ, List, [], ◌∷◌, ◌++◌, ap, sym, ◌∙◌, subst, inl}
 use Rattle.std.specs.Prelude.{Option, Some, Result}
-use Rattle.srm_agent.specs.declared.fault.AgentFault.{AgentFault}
+use Rattle.srm_entries.specs.declared.fault.AgentFault.{AgentFault}
 use Rattle.srm_agent.specs.declared.heard.Heard.{Heard}
 use Rattle.srm_agent.specs.declared.ticked.Ticked.{Ticked}
-use Rattle.srm_agent.specs.declared.entry.Entry.{Entry}
-use Rattle.srm_agent.specs.declared.entry.Input.{Input}
-use Rattle.srm_agent.specs.Configs.{Config}
+use Rattle.srm_entries.specs.declared.entry.Entry.{Entry}
+use Rattle.srm_entries.specs.declared.entry.Input.{Input}
+use Rattle.srm_entries.specs.Configs.{Config}
 use Rattle.srm_agent.specs.Contents.{Content}
 use Rattle.srm_agent.specs.Fits.{Fits}
 use Rattle.srm_agent.specs.Noting.{Enters, Stays, ReadsAs, AnswersAs, AnswersHeard, IsTicked, moment_that_counts}

@@ -1,8 +1,8 @@
 -- All that holds of an honest run, and of the run of one member.
-use Rattle.srm_agent.proofs.Given.{gives_law}
-use Rattle.srm_agent.proofs.Rating.{rate_law}
-use Rattle.srm_agent.proofs.Responding.{response_law}
-use Rattle.srm_agent.specs.Runs.{IsMemberRun}
+use Rattle.srm_entries.proofs.Given.{gives_law}
+use Rattle.srm_entries.proofs.Rating.{rate_law}
+use Rattle.srm_entries.proofs.Responding.{response_law}
+use Rattle.srm_entries.specs.Runs.{IsMemberRun}
 use Rattle.srm_world.specs.Traces.{Trace, Journal, IsRun, IsHonest}
 use Rattle.srm_world.specs.Claims.{IsLawful, IsLawfulJournal}
 use Rattle.srm_world.proofs.Members.{responds_each, gives_each, keeps_rate_each}

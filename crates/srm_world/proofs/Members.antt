@@ -6,13 +6,13 @@ use Rattle.std.proofs.lemmas.Bool.{cases_lt, ne_eqb}
 use Rattle.std.proofs.lemmas.Bool.Decides.{nat_tests}
 use Rattle.std.proofs.lemmas.List.Elements.{filter-append}
 use Rattle.srm_names.proofs.Lists.{Has, Has-kept, All-Has}
-use Rattle.srm_agent.specs.declared.entry.Entry.{Entry}
-use Rattle.srm_agent.specs.Configs.{Config}
-use Rattle.srm_agent.specs.Runs.{IsMemberRun}
-use Rattle.srm_agent.proofs.Cutting.{run_part}
-use Rattle.srm_agent.proofs.Responding.{response_law}
-use Rattle.srm_agent.proofs.Given.{gives_law}
-use Rattle.srm_agent.proofs.Rating.{rate_law}
+use Rattle.srm_entries.specs.declared.entry.Entry.{Entry}
+use Rattle.srm_entries.specs.Configs.{Config}
+use Rattle.srm_entries.specs.Runs.{IsMemberRun}
+use Rattle.srm_entries.proofs.Cutting.{run_part}
+use Rattle.srm_entries.proofs.Responding.{response_law}
+use Rattle.srm_entries.proofs.Given.{gives_law}
+use Rattle.srm_entries.proofs.Rating.{rate_law}
 use Rattle.srm_world.specs.declared.start.Start.{Start}
 use Rattle.srm_world.specs.Traces.{Trace, of_member, IsAtPlace, IsRunOfMember, IsRunOf, IsRun}
 use Rattle.srm_world.specs.Claims.{RespondsEach, RespondsByItself, GivesEach, GivesByItself, KeepsRateEach, KeepsRateByItself}

@@ -15,18 +15,18 @@ use Rattle.srm_bucket.specs.declared.class.Class.TheVariants.{Shown, New, Other}
 use Rattle.srm_bucket.specs.Calls.{Classed, Call, Handed, Popped}
 use Rattle.srm_bucket.specs.Classes.{rank, handed, gone}
 use Rattle.srm_bucket.specs.Law.{IsPrefixOf, BucketLaw, GoesRight as CallRight}
-use Rattle.srm_agent.specs.Configs.{Config}
-use Rattle.srm_agent.specs.declared.entry.Entry.{Entry}
-use Rattle.srm_agent.specs.declared.state.AgentState.TheVariants.{Active}
-use Rattle.srm_agent.specs.declared.entry.Input.TheVariants.{Drew, Heard, Ticked}
-use Rattle.srm_agent.specs.Entries.{shown, known, is_missing, released}
-use Rattle.srm_agent.specs.Sessions.{row_due, row_at, if_positive, ReportRight}
-use Rattle.srm_agent.specs.Bucket.{Going, classed, bucket_calls}
-use Rattle.srm_agent.specs.Verdicts.{stream_on}
-use Rattle.srm_agent.specs.Runs.{EntryRight, IsMemberRun}
+use Rattle.srm_entries.specs.Configs.{Config}
+use Rattle.srm_entries.specs.declared.entry.Entry.{Entry}
+use Rattle.srm_entries.specs.declared.state.AgentState.TheVariants.{Active}
+use Rattle.srm_entries.specs.declared.entry.Input.TheVariants.{Drew, Heard, Ticked}
+use Rattle.srm_entries.specs.Entries.{shown, known, is_missing, released}
+use Rattle.srm_entries.specs.Sessions.{row_due, row_at, if_positive, ReportRight}
+use Rattle.srm_entries.specs.Bucket.{Going, classed, bucket_calls}
+use Rattle.srm_entries.specs.Verdicts.{stream_on}
+use Rattle.srm_entries.specs.Runs.{EntryRight, IsMemberRun}
 use Rattle.srm_world.specs.Traces.{Trace, of_member, IsHonest, IsRun}
 use Rattle.srm_world.specs.Claims.{AtRest}
-use Rattle.srm_agent.proofs.Plain.{zeros, one, config, plain, idle, idle_right, one_spelled, row_spelled, right, one_held, none_missing_in, missing_none, one_of}
+use Rattle.srm_entries.proofs.Plain.{zeros, one, config, plain, idle, idle_right, one_spelled, row_spelled, right, one_held, none_missing_in, missing_none, one_of}
 
 abbrev draws : Entry
 draws = plain 0 1 (Drew first_page (97 ∷ [])) (Some one) [] None Active

@@ -13,13 +13,13 @@ use Rattle.srm_names.proofs.Lists.{Has, Has-back, Has-map, Has-flat_map, Has-fil
 use Rattle.srm_names.proofs.Snoc.{steps_front}
 use Rattle.srm_codec.specs.declared.datagram.Datagram.{Datagram}
 use Rattle.srm_codec.specs.declared.datagram.Datagram.TheVariants.{Data, Request, Repair, Session}
-use Rattle.srm_agent.specs.declared.entry.Entry.{Entry}
-use Rattle.srm_agent.specs.Entries.{heard, drawn, held_at, is_held, is_missing, known}
-use Rattle.srm_agent.specs.Verdicts.{stream_on}
-use Rattle.srm_agent.specs.Runs.{EntryRight}
-use Rattle.srm_agent.proofs.Responding.{run_at}
-use Rattle.srm_agent.proofs.Drawing.{drawn_once}
-use Rattle.srm_agent.proofs.Reporting.{Reports, report_sent, known_after_tick, hearer_knows}
+use Rattle.srm_entries.specs.declared.entry.Entry.{Entry}
+use Rattle.srm_entries.specs.Entries.{heard, drawn, held_at, is_held, is_missing, known}
+use Rattle.srm_entries.specs.Verdicts.{stream_on}
+use Rattle.srm_entries.specs.Runs.{EntryRight}
+use Rattle.srm_entries.proofs.Responding.{run_at}
+use Rattle.srm_entries.proofs.Drawing.{drawn_once}
+use Rattle.srm_entries.proofs.Reporting.{Reports, report_sent, known_after_tick, hearer_knows}
 use Rattle.srm_world.specs.declared.start.Start.{Start}
 use Rattle.srm_world.specs.Traces.{of_member, IsRunOf, IsHonest}
 use Rattle.srm_world.specs.Claims.{IsReportOn, HeardLast, AgreesAtRest, RestLaw}

@@ -5,12 +5,12 @@ use Rattle.std.specs.List.{AllByRecursion}
 use Rattle.std.proofs.lemmas.Bool.{OnTrue_at}
 use Rattle.srm_names.specs.Histories.{steps, steps_after}
 use Rattle.srm_names.proofs.Lists.{at_parts, map-split}
-use Rattle.srm_agent.specs.Configs.{Config}
-use Rattle.srm_agent.specs.declared.entry.Entry.{Entry}
-use Rattle.srm_agent.specs.Entries.{ticked, state, is_gone, is_leaving}
-use Rattle.srm_agent.specs.Sessions.{charged, ending, EndsWith, all_data_sent, session_due}
-use Rattle.srm_agent.specs.Bucket.{Going, GoesRight, BucketRight, entries_of, datagrams_of}
-use Rattle.srm_agent.specs.Runs.{EntryRight, IsMemberRun}
+use Rattle.srm_entries.specs.Configs.{Config}
+use Rattle.srm_entries.specs.declared.entry.Entry.{Entry}
+use Rattle.srm_entries.specs.Entries.{ticked, state, is_gone, is_leaving}
+use Rattle.srm_entries.specs.Sessions.{charged, ending, EndsWith, all_data_sent, session_due}
+use Rattle.srm_entries.specs.Bucket.{Going, GoesRight, BucketRight, entries_of, datagrams_of}
+use Rattle.srm_entries.specs.Runs.{EntryRight, IsMemberRun}
 
 not_charged : (us : List Going) (x : Going) → GoesRight (record { before = us; this = x }) → ticked x.entry ≡ false → charged x.entry ≡ []
 not_charged us x right still =

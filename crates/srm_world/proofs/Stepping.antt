@@ -7,19 +7,19 @@ use Rattle.std.proofs.lemmas.Bool.Decides.{nat_tests}
 use Rattle.std.proofs.lemmas.Bool.{cases_eq, lt-ltb, ne_eqb}
 use Rattle.std.proofs.lemmas.List.{length-set, append-nil, map-append, take_more}
 use Rattle.srm_codec.specs.declared.datagram.Datagram.{Datagram}
-use Rattle.srm_agent.specs.declared.out.Out.{Out}
-use Rattle.srm_agent.specs.declared.entry.Entry.{Entry}
-use Rattle.srm_agent.specs.declared.entry.Input.{Input}
-use Rattle.srm_agent.specs.declared.entry.Input.TheVariants.{Ticked}
-use Rattle.srm_agent.specs.declared.entry.Verdict.{Verdict}
-use Rattle.srm_agent.specs.declared.entry.Verdict.TheVariants.{Done, Ignored, Refused}
-use Rattle.srm_agent.specs.Entries.{heard, heard_in, done_input, is_tick, sent, state, is_gone, last_moment}
-use Rattle.srm_agent.specs.Runs.{EntryRight, IsMemberRun}
-use Rattle.srm_agent.specs.Outs.{IsOut}
+use Rattle.srm_agent_parts.specs.declared.out.Out.{Out}
+use Rattle.srm_entries.specs.declared.entry.Entry.{Entry}
+use Rattle.srm_entries.specs.declared.entry.Input.{Input}
+use Rattle.srm_entries.specs.declared.entry.Input.TheVariants.{Ticked}
+use Rattle.srm_entries.specs.declared.entry.Verdict.{Verdict}
+use Rattle.srm_entries.specs.declared.entry.Verdict.TheVariants.{Done, Ignored, Refused}
+use Rattle.srm_entries.specs.Entries.{heard, heard_in, done_input, is_tick, sent, state, is_gone, last_moment}
+use Rattle.srm_entries.specs.Runs.{EntryRight, IsMemberRun}
+use Rattle.srm_agent_parts.specs.Outs.{IsOut}
 use Rattle.srm_agent.specs.Noting.{moment_that_counts}
-use Rattle.srm_agent.proofs.Adding.{flat_map-snoc}
+use Rattle.srm_entries.proofs.Adding.{flat_map-snoc}
 use Rattle.srm_agent.proofs.Fitting.{fits_run}
-use Rattle.srm_agent.proofs.Running.{steps_more}
+use Rattle.srm_agent_parts.proofs.Running.{steps_more}
 use Rattle.srm_world.specs.declared.event.Event.{Event}
 use Rattle.srm_world.specs.declared.event.Event.TheVariants.{Deliver}
 use Rattle.srm_world.specs.declared.start.Start.{Start}

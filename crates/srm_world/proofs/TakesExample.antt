@@ -18,20 +18,20 @@ use Rattle.srm_bucket.specs.declared.class.Class.TheVariants.{Shown, New, Other}
 use Rattle.srm_bucket.specs.Calls.{Classed, Call, Handed, Popped}
 use Rattle.srm_bucket.specs.Classes.{rank, handed, gone}
 use Rattle.srm_bucket.specs.Law.{IsPrefixOf, BucketLaw, GoesRight as CallRight}
-use Rattle.srm_agent.specs.declared.entry.Entry.{Entry}
-use Rattle.srm_agent.specs.declared.state.AgentState.TheVariants.{Active, Leaving, Gone}
-use Rattle.srm_agent.specs.declared.entry.Input.{Input}
-use Rattle.srm_agent.specs.declared.entry.Input.TheVariants.{Drew, Heard, Ticked, AskedLeave, Gave, Took}
-use Rattle.srm_agent.specs.Entries.{heard_in, is_missing, state}
-use Rattle.srm_agent.specs.Timers.{asker, fix_running}
-use Rattle.srm_agent.specs.Verdicts.{VerdictRight}
-use Rattle.srm_agent.specs.Sessions.{SessionRight, ReportRight, row_at, row_due, if_positive}
-use Rattle.srm_agent.specs.Bucket.{Going, GoesRight, classed, bucket_calls}
-use Rattle.srm_agent.specs.Giving.{MessageRight}
-use Rattle.srm_agent.specs.Runs.{EntryRight, IsMemberRun, MomentRight, drawop_due, state_due}
-use Rattle.srm_agent.specs.declared.entry.Verdict.TheVariants.{Done}
+use Rattle.srm_entries.specs.declared.entry.Entry.{Entry}
+use Rattle.srm_entries.specs.declared.state.AgentState.TheVariants.{Active, Leaving, Gone}
+use Rattle.srm_entries.specs.declared.entry.Input.{Input}
+use Rattle.srm_entries.specs.declared.entry.Input.TheVariants.{Drew, Heard, Ticked, AskedLeave, Gave, Took}
+use Rattle.srm_entries.specs.Entries.{heard_in, is_missing, state}
+use Rattle.srm_entries.specs.Timers.{asker, fix_running}
+use Rattle.srm_entries.specs.Verdicts.{VerdictRight}
+use Rattle.srm_entries.specs.Sessions.{SessionRight, ReportRight, row_at, row_due, if_positive}
+use Rattle.srm_entries.specs.Bucket.{Going, GoesRight, classed, bucket_calls}
+use Rattle.srm_entries.specs.Giving.{MessageRight}
+use Rattle.srm_entries.specs.Runs.{EntryRight, IsMemberRun, MomentRight, drawop_due, state_due}
+use Rattle.srm_entries.specs.declared.entry.Verdict.TheVariants.{Done}
 use Rattle.srm_world.specs.Traces.{Trace, taken_by, IsRun, IsHonest}
-use Rattle.srm_agent.proofs.Plain.{zeros, one, config, plain, idle, idle_right, one_spelled, row_spelled, neither, right, one_held, none_missing_in, missing_none, one_of}
+use Rattle.srm_entries.proofs.Plain.{zeros, one, config, plain, idle, idle_right, one_spelled, row_spelled, neither, right, one_held, none_missing_in, missing_none, one_of}
 
 abbrev draws : Entry
 draws = plain 0 1 (Drew first_page (97 ∷ [])) (Some one) [] None Active

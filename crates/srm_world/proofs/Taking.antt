@@ -11,14 +11,14 @@ use Rattle.srm_names.specs.PageFeeds.{drawops_of, drawop_from, leaves, is_page_f
 use Rattle.srm_names.proofs.Lists.{Has, IsFront, front_of_front, front_whole, filter_map-front, list_any-front, until_none-front, find-Has}
 use Rattle.srm_names.proofs.Same.{same_name-is}
 use Rattle.srm_names.proofs.Feeds.{is_page_feed-front, left_is_last}
-use Rattle.srm_agent.specs.declared.entry.Entry.{Entry}
+use Rattle.srm_entries.specs.declared.entry.Entry.{Entry}
 use Rattle.srm_store.specs.Held.{has_name, greatest_in}
-use Rattle.srm_agent.specs.Entries.{drawn, drawn_on, held, held_at, released, slots}
+use Rattle.srm_entries.specs.Entries.{drawn, drawn_on, held, held_at, released, slots}
 use Rattle.srm_store.specs.Finals.{row_of}
-use Rattle.srm_agent.specs.Verdicts.{stream_on}
-use Rattle.srm_agent.specs.Giving.{given, taken}
-use Rattle.srm_agent.proofs.Drawing.{drawn_at}
-use Rattle.srm_agent.proofs.Feeding.{FeedsRight, FedRight, feeds_right, final_told, slot_part, slot_left}
+use Rattle.srm_entries.specs.Verdicts.{stream_on}
+use Rattle.srm_entries.specs.Giving.{given, taken}
+use Rattle.srm_entries.proofs.Drawing.{drawn_at}
+use Rattle.srm_entries.proofs.Feeding.{FeedsRight, FedRight, feeds_right, final_told, slot_part, slot_left}
 use Rattle.srm_world.specs.declared.start.Start.{Start}
 use Rattle.srm_world.specs.Traces.{of_member, drawn_by, taken_by, IsHonest, IsRunOf}
 use Rattle.srm_world.specs.Claims.{IsPrefixOf, TakesAreDrawn, TakesLaw}

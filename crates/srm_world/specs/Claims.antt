@@ -7,12 +7,12 @@ use Rattle.srm_names.specs.FullName.{FullName}
 use Rattle.srm_names.specs.PageFeeds.{drawops_of, leaves, is_page_feed}
 use Rattle.srm_codec.specs.declared.datagram.Datagram.{Datagram}
 use Rattle.srm_codec.specs.declared.datagram.Datagram.TheVariants.{Session}
-use Rattle.srm_agent.specs.declared.entry.Entry.{Entry}
-use Rattle.srm_agent.specs.Entries.{heard, known, is_missing, released, slots}
-use Rattle.srm_agent.specs.Verdicts.{stream_on}
-use Rattle.srm_agent.specs.Runs.{IsMemberRun, RespondsInTime}
-use Rattle.srm_agent.specs.Promises.{GivesReleased}
-use Rattle.srm_agent.specs.Rates.{KeepsRate}
+use Rattle.srm_entries.specs.declared.entry.Entry.{Entry}
+use Rattle.srm_entries.specs.Entries.{heard, known, is_missing, released, slots}
+use Rattle.srm_entries.specs.Verdicts.{stream_on}
+use Rattle.srm_entries.specs.Runs.{IsMemberRun, RespondsInTime}
+use Rattle.srm_entries.specs.Promises.{GivesReleased}
+use Rattle.srm_entries.specs.Rates.{KeepsRate}
 use Rattle.srm_world.specs.declared.start.Start.{Start}
 use Rattle.srm_world.specs.Traces.{Trace, Journal, of_member, drawn_by, taken_by, IsHonest, IsRun}
 

@@ -6,14 +6,14 @@ use Rattle.srm_names.specs.declared.page_msg.PageMsg.TheVariants.{Open, Draw, Le
 use Rattle.srm_names.specs.Names.{first_page, named}
 use Rattle.srm_names.specs.PageFeeds.{drawops_of}
 use Rattle.srm_codec.specs.declared.datagram.Datagram.TheVariants.{Data, Repair}
-use Rattle.srm_agent.specs.declared.entry.Entry.{Entry}
-use Rattle.srm_agent.specs.declared.entry.Input.{Input}
-use Rattle.srm_agent.specs.declared.entry.Input.TheVariants.{Heard, Noise, Ticked, Showed, AskedLeave, Gave, Took}
-use Rattle.srm_agent.specs.Entries.{sent}
-use Rattle.srm_agent.specs.Giving.{given}
-use Rattle.srm_agent.specs.Sample.{in_roster, zeros, a, b, c, draws, hears, ticks, gives, takes, ask_arm}
-use Rattle.srm_agent.specs.FirstScript as first
-use Rattle.srm_agent.specs.SecondScript as second
+use Rattle.srm_entries.specs.declared.entry.Entry.{Entry}
+use Rattle.srm_entries.specs.declared.entry.Input.{Input}
+use Rattle.srm_entries.specs.declared.entry.Input.TheVariants.{Heard, Noise, Ticked, Showed, AskedLeave, Gave, Took}
+use Rattle.srm_entries.specs.Entries.{sent}
+use Rattle.srm_entries.specs.Giving.{given}
+use Rattle.srm_entries.specs.Sample.{in_roster, zeros, a, b, c, draws, hears, ticks, gives, takes, ask_arm}
+use Rattle.srm_entries.specs.FirstScript as first
+use Rattle.srm_entries.specs.SecondScript as second
 use Rattle.srm_world.specs.declared.event.Event.{Event}
 use Rattle.srm_world.specs.declared.event.Event.TheVariants as events
 use Rattle.srm_world.specs.declared.start.Start.{Start}

@@ -1,12 +1,12 @@
 -- What the calls of a recorder do to its journal.
 use Rattle.std.specs.Prelude.{◌≡◌, ◌⊎◌, ℕ, List, [], ◌∷◌, ◌++◌, Option, Some, Result, Err}
-use Rattle.srm_agent.specs.declared.fault.AgentFault.{AgentFault}
-use Rattle.srm_agent.specs.declared.fault.AgentFault.TheVariants.{Memory}
+use Rattle.srm_entries.specs.declared.fault.AgentFault.{AgentFault}
+use Rattle.srm_entries.specs.declared.fault.AgentFault.TheVariants.{Memory}
 use Rattle.srm_agent.specs.declared.heard.Heard.{Heard}
-use Rattle.srm_agent.specs.declared.entry.Entry.{Entry}
-use Rattle.srm_agent.specs.declared.entry.Input.{Input}
-use Rattle.srm_agent.specs.Entries.{last_moment}
-use Rattle.srm_agent.specs.Hearing.{bytes_heard}
+use Rattle.srm_entries.specs.declared.entry.Entry.{Entry}
+use Rattle.srm_entries.specs.declared.entry.Input.{Input}
+use Rattle.srm_entries.specs.Entries.{last_moment}
+use Rattle.srm_entries.specs.Hearing.{bytes_heard}
 use Rattle.srm_agent.specs.Noting.{AnswersAs, AnswersHeard, moment_that_counts}
 use Rattle.srm_world.specs.Traces.{Journal}
 

@@ -5,11 +5,11 @@ use Rattle.srm_names.specs.declared.page.Page.{Page}
 use Rattle.srm_names.specs.declared.drawop.Drawop.{Drawop}
 use Rattle.srm_names.specs.declared.page_msg.PageMsg.{PageMsg}
 use Rattle.srm_names.specs.Histories.{Step, steps}
-use Rattle.srm_agent.specs.declared.entry.Entry.{Entry}
-use Rattle.srm_agent.specs.Configs.{Config}
-use Rattle.srm_agent.specs.Entries.{heard, sent, drawn_on}
-use Rattle.srm_agent.specs.Giving.{taken}
-use Rattle.srm_agent.specs.Runs.{IsMemberRun}
+use Rattle.srm_entries.specs.declared.entry.Entry.{Entry}
+use Rattle.srm_entries.specs.Configs.{Config}
+use Rattle.srm_entries.specs.Entries.{heard, sent, drawn_on}
+use Rattle.srm_entries.specs.Giving.{taken}
+use Rattle.srm_entries.specs.Runs.{IsMemberRun}
 use Rattle.srm_world.specs.declared.start.Start.{Start}
 
 -- how the members of a session began, and the entries of all of them in one order

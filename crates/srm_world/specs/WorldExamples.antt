@@ -3,14 +3,14 @@ use Rattle.std.specs.Prelude.{◌≡◌, List, [], ◌∷◌, map, Some, None, O
 use Rattle.std.proofs.Common.{inl, inr}
 use Rattle.srm_names.specs.declared.page_msg.PageMsg.TheVariants.{Close, Left}
 use Rattle.srm_names.specs.Names.{first_page}
-use Rattle.srm_agent.specs.declared.fault.AgentFault.TheVariants.{Memory, Leaving}
-use Rattle.srm_agent.specs.declared.entry.Entry.{Entry}
-use Rattle.srm_agent.specs.declared.entry.Input.TheVariants.{Showed, AskedLeave}
-use Rattle.srm_agent.specs.declared.entry.Verdict.TheVariants.{Done, Refused}
-use Rattle.srm_agent.specs.declared.state.AgentState.TheVariants.{Active}
-use Rattle.srm_agent.specs.declared.state.AgentState.TheVariants as states
+use Rattle.srm_entries.specs.declared.fault.AgentFault.TheVariants.{Memory, Leaving}
+use Rattle.srm_entries.specs.declared.entry.Entry.{Entry}
+use Rattle.srm_entries.specs.declared.entry.Input.TheVariants.{Showed, AskedLeave}
+use Rattle.srm_entries.specs.declared.entry.Verdict.TheVariants.{Done, Refused}
+use Rattle.srm_entries.specs.declared.state.AgentState.TheVariants.{Active}
+use Rattle.srm_entries.specs.declared.state.AgentState.TheVariants as states
 use Rattle.srm_agent.specs.Noting.{still_entry}
-use Rattle.srm_agent.specs.Sample.{in_roster}
+use Rattle.srm_entries.specs.Sample.{in_roster}
 use Rattle.srm_world.specs.declared.start.Start.{Start}
 use Rattle.srm_world.specs.Traces.{Journal, started}
 use Rattle.srm_world.specs.Lanes.{in_lane}

@@ -15,7 +15,7 @@ pub struct Journal {
 }
 
 impl Model for Journal {
-    ghost use Rattle.srm_agent.specs.Runs.{IsMemberRun};
+    ghost use Rattle.srm_entries.specs.Runs.{IsMemberRun};
     ghost use Rattle.srm_world.specs.Traces.{Journal as Content};
 
     ghost Value = { Content };

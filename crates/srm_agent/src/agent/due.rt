@@ -5,13 +5,13 @@ ghost use Rattle.std.specs.Bool.{OnTrue};
 ghost use Rattle.srm_names.specs.declared.limits.TheConstants.{MOMENT};
 ghost use Rattle.srm_names.specs.Names.{ascending, name_below};
 ghost use Rattle.srm_agent.specs.Answering.{AnswersDue};
-ghost use Rattle.srm_agent.specs.Entries.{is_leaving};
+ghost use Rattle.srm_entries.specs.Entries.{is_leaving};
 ghost use Rattle.srm_agent.specs.Ticking.{HandsOutNothing, IsDue, IsReportAt, IsReportIf, IsToHandOut};
 
 use super::Agent;
 use crate::answers::{Answer, answering, spelled};
-use crate::out::Outgoing;
-use crate::state::AgentState;
+use srm_agent_parts::Outgoing;
+use srm_entries::AgentState;
 use srm_names::{Items, Name};
 use srm_timers::Words;
 use std::alloc::{AllocError, Global};

@@ -2,25 +2,23 @@
 
 ghost use Rattle.std.specs.Prelude.{◌≡◌, ◌<◌, ℕ, List, IfOk, OnErr, Ok, Some, None, if◌then◌else◌, slice_get, not, ◌&&◌, false};
 ghost use Rattle.srm_names.specs.declared.limits.TheConstants.{PAGES};
-ghost use Rattle.srm_agent.specs.Configs.{Config as Settings};
+ghost use Rattle.srm_entries.specs.Configs.{Config as Settings};
 ghost use Rattle.std.specs.Option.{option_copied};
 ghost use Rattle.srm_names.specs.declared.page_msg.PageMsg.{PageMsg as APageMsg};
 ghost use Rattle.srm_names.specs.declared.page_msg.PageMsg.TheVariants.{Close};
-ghost use Rattle.srm_agent.specs.declared.entry.Entry.{Entry as AnEntry};
-ghost use Rattle.srm_agent.specs.Entries.{is_gone, released};
-ghost use Rattle.srm_agent.specs.Feeds.{FeedFits};
-ghost use Rattle.srm_agent.specs.Giving.{GiveRight, is_some_of};
-ghost use Rattle.srm_agent.specs.Verdicts.{final};
+ghost use Rattle.srm_entries.specs.declared.entry.Entry.{Entry as AnEntry};
+ghost use Rattle.srm_entries.specs.Entries.{is_gone, released};
+ghost use Rattle.srm_agent_parts.specs.Feeds.{FeedFits};
+ghost use Rattle.srm_entries.specs.Giving.{GiveRight, is_some_of};
+ghost use Rattle.srm_entries.specs.Verdicts.{final};
 ghost use Rattle.srm_agent.specs.Nexts.{IsNextOf, IsNextOn, PrefersSmallest};
 ghost use Rattle.srm_agent.specs.Fits.{Fits};
 ghost use Rattle.srm_agent.specs.Noting.{Enters, Stays, AnswersAs, Does};
 
 use super::Agent;
-use crate::entry::{Entry, Input, Verdict};
-use crate::fault::AgentFault;
-use crate::feed::Feed;
 use crate::noted::Noted;
-use crate::roster::member;
+use srm_agent_parts::{Feed, member};
+use srm_entries::{AgentFault, Entry, Input, Verdict};
 use srm_names::{Drawop, Name, PAGES, Page, PageMsg, Stream};
 use srm_timers::Words;
 use std::alloc::AllocError;

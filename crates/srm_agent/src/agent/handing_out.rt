@@ -3,12 +3,12 @@
 ghost use Rattle.std.specs.Prelude.{◌≡◌, ◌≤◌, length, IfOk, OnErr};
 ghost use Rattle.srm_names.specs.declared.limits.TheConstants.{MOMENT};
 ghost use Rattle.srm_timers.specs.Deadlines.{DueAmong};
-ghost use Rattle.srm_agent.specs.TimerCalls.{TimersStay};
+ghost use Rattle.srm_agent_parts.specs.TimerCalls.{TimersStay};
 ghost use Rattle.srm_agent.specs.Ticking.{HandsOut};
 
 use super::Agent;
 use super::due::HandedOut;
-use crate::distance_table::distance_table;
+use srm_agent_parts::distance_table;
 use srm_names::Items;
 use srm_timers::{Arm, Words};
 use std::alloc::AllocError;

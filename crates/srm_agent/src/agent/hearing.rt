@@ -4,19 +4,17 @@ ghost use Rattle.std.specs.Prelude.{◌≡◌, ◌≢◌, ◌≤◌, [], Some, N
 ghost use Rattle.srm_names.specs.declared.limits.TheConstants.{MOMENT};
 ghost use Rattle.srm_codec.specs.declared.fault.DecodeFault.TheVariants.{Memory};
 ghost use Rattle.srm_codec.specs.Spelling.{IsSpellable, names_in};
-ghost use Rattle.srm_agent.specs.Entries.{is_gone};
-ghost use Rattle.srm_agent.specs.PageTables.{lacks_room_for};
+ghost use Rattle.srm_entries.specs.Entries.{is_gone};
+ghost use Rattle.srm_agent_parts.specs.PageTables.{lacks_room_for};
 ghost use Rattle.srm_agent.specs.Heeding.{IsJudgedBy, IsNoiseFor, IsTaken};
 ghost use Rattle.srm_agent.specs.Noting.{Enters, Stays, ReadsAs, AnswersHeard, Hears, still_entry};
 
 use super::Agent;
-use crate::cause::{Cause, Outcome};
-use crate::entry::{Input, Verdict};
-use crate::fault::AgentFault;
 use crate::heard::Heard;
-use crate::mentions::names_in;
 use crate::noted::Noted;
+use srm_agent_parts::names_in;
 use srm_codec::{Datagram, DecodeFault, decode};
+use srm_entries::{AgentFault, Cause, Input, Outcome, Verdict};
 use srm_names::{Items, Name};
 use srm_timers::Words;
 use std::alloc::AllocError;

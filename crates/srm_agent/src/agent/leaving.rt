@@ -2,14 +2,12 @@
 
 ghost use Rattle.std.specs.Prelude.{◌≡◌, ◌≤◌, IfOk, OnErr, Ok, Some};
 ghost use Rattle.srm_names.specs.declared.limits.TheConstants.{MOMENT};
-ghost use Rattle.srm_agent.specs.declared.state.AgentState.TheVariants.{Leaving};
+ghost use Rattle.srm_entries.specs.declared.state.AgentState.TheVariants.{Leaving};
 ghost use Rattle.srm_agent.specs.Noting.{Enters, Stays, AnswersAs, HasEntry};
 
 use super::Agent;
-use crate::entry::Input;
-use crate::fault::AgentFault;
 use crate::noted::Noted;
-use crate::state::AgentState;
+use srm_entries::{AgentFault, AgentState, Input};
 use srm_timers::Words;
 use std::alloc::AllocError;
 

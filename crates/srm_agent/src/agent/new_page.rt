@@ -2,9 +2,9 @@
 
 ghost use Rattle.std.specs.Prelude.{◌≡◌, ℕ, max, List, Some, None, if◌then◌else◌, ◌+◌, ◌==◌};
 ghost use Rattle.srm_names.specs.declared.limits.TheConstants.{PAGES};
-ghost use Rattle.srm_agent.specs.Configs.{Config as Settings};
-ghost use Rattle.srm_agent.specs.declared.entry.Entry.{Entry as AnEntry};
-ghost use Rattle.srm_agent.specs.Promises.{next_number, page_to_come};
+ghost use Rattle.srm_entries.specs.Configs.{Config as Settings};
+ghost use Rattle.srm_entries.specs.declared.entry.Entry.{Entry as AnEntry};
+ghost use Rattle.srm_entries.specs.Promises.{next_number, page_to_come};
 ghost use Rattle.srm_agent.specs.Fits.{Fits};
 
 use super::Agent;

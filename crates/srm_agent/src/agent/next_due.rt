@@ -5,12 +5,12 @@ ghost use Rattle.srm_bucket.specs.declared.class.Class.TheVariants.{New};
 ghost use Rattle.srm_bucket.specs.Fits.{Waits};
 ghost use Rattle.srm_bucket.specs.Waiting.{queue};
 ghost use Rattle.srm_timers.specs.Least.{lesser};
-ghost use Rattle.srm_agent.specs.Entries.{is_leaving};
-ghost use Rattle.srm_agent.specs.TimerCalls.{TimersNext};
+ghost use Rattle.srm_entries.specs.Entries.{is_leaving};
+ghost use Rattle.srm_agent_parts.specs.TimerCalls.{TimersNext};
 ghost use Rattle.srm_agent.specs.Waking.{NextDue, report_next, sooner_of};
 
 use super::Agent;
-use crate::timers::earlier;
+use srm_agent_parts::earlier;
 use srm_bucket::Class;
 use srm_timers::Words;
 

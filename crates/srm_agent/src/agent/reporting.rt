@@ -6,21 +6,19 @@ ghost use Rattle.srm_names.specs.declared.limits.TheConstants.{MOMENT, MEMBERS, 
 ghost use Rattle.srm_names.specs.Names.{named};
 ghost use Rattle.srm_codec.specs.declared.datagram.Datagram.TheVariants.{Session};
 ghost use Rattle.srm_codec.specs.Spelling.{IsSpellable, is_page};
-ghost use Rattle.srm_agent.specs.Configs.{Config as Settings};
+ghost use Rattle.srm_entries.specs.Configs.{Config as Settings};
 ghost use Rattle.srm_agent.specs.declared.agent.reporting.TheConstants.{LONGEST_PAUSE, LONGEST_REPORT};
-ghost use Rattle.srm_agent.specs.declared.entry.Entry.{Entry as AnEntry};
+ghost use Rattle.srm_entries.specs.declared.entry.Entry.{Entry as AnEntry};
 ghost use Rattle.srm_agent.specs.Fits.{Fits};
 ghost use Rattle.srm_agent.specs.Reports.{IsReportOf, IsReportSpelled, AreReported, AreOwed, AreShown, AreOwn, AreInOrder, AreRowsOf, IsRow, SaysLeft, CountsOnce};
-ghost use Rattle.srm_agent.specs.Sessions.{members_left, session_pause, if_positive};
-ghost use Rattle.srm_agent.specs.Verdicts.{stream_on};
+ghost use Rattle.srm_entries.specs.Sessions.{members_left, session_pause, if_positive};
+ghost use Rattle.srm_entries.specs.Verdicts.{stream_on};
 
 #[cfg(test)]
 mod tests;
 
 use super::Agent;
-use crate::out::Outgoing;
-use crate::page_table::first_page;
-use crate::roster::{member, page_in_range, stream_in_range};
+use srm_agent_parts::{Outgoing, first_page, member, page_in_range, stream_in_range};
 use srm_codec::{Datagram, length};
 use srm_names::{Echo, Items, Member, Name, Page, Stream};
 use srm_timers::Words;

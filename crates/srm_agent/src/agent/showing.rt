@@ -2,13 +2,12 @@
 
 ghost use Rattle.std.specs.Prelude.{◌≡◌, ◌≤◌, IfOk, OnErr, Ok, Some, false};
 ghost use Rattle.srm_names.specs.declared.limits.TheConstants.{MOMENT};
-ghost use Rattle.srm_agent.specs.PageTables.{lacks_room, with_page};
+ghost use Rattle.srm_agent_parts.specs.PageTables.{lacks_room, with_page};
 ghost use Rattle.srm_agent.specs.Noting.{Enters, Stays, AnswersAs, IsAllowed, Does};
 
 use super::Agent;
-use crate::entry::Input;
-use crate::fault::AgentFault;
 use crate::noted::Noted;
+use srm_entries::{AgentFault, Input};
 use srm_names::Page;
 use srm_timers::Words;
 use std::alloc::AllocError;

@@ -4,22 +4,22 @@ ghost use Rattle.std.specs.Prelude.{◌≡◌, ◌≤◌, Some, Ok, IfOk, OnErr,
 ghost use Rattle.srm_names.specs.declared.limits.TheConstants.{MOMENT};
 ghost use Rattle.srm_names.specs.Names.{ascending, name_below};
 ghost use Rattle.srm_codec.specs.Spelling.{IsSpellable, names_in, row_below};
-ghost use Rattle.srm_agent.specs.Entries.{is_gone};
+ghost use Rattle.srm_entries.specs.Entries.{is_gone};
 ghost use Rattle.srm_agent.specs.Growth.{IsFreshOf};
-ghost use Rattle.srm_agent.specs.PageTables.{lacks_room_for};
-ghost use Rattle.srm_agent.specs.TimerCalls.{IsSession};
+ghost use Rattle.srm_agent_parts.specs.PageTables.{lacks_room_for};
+ghost use Rattle.srm_agent_parts.specs.TimerCalls.{IsSession};
 ghost use Rattle.srm_agent.specs.Heeding.{IsTaken};
 ghost use Rattle.srm_agent.specs.Noting.{Enters, Stays, AnswersHeard};
 
 use super::Agent;
 use crate::between::names_between;
-use crate::distance_table::distance_table;
-use crate::entry::{Input, Verdict};
 use crate::heard::Heard;
 use crate::keeping::make_room;
 use crate::noted::Noted;
 use crate::reports::{distances_after, learn};
+use srm_agent_parts::distance_table;
 use srm_codec::Datagram;
+use srm_entries::{Input, Verdict};
 use srm_names::Name;
 use srm_timers::Words;
 use std::alloc::AllocError;

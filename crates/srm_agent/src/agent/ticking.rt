@@ -2,18 +2,17 @@
 
 ghost use Rattle.std.specs.Prelude.{◌≡◌, ◌≤◌, Some, None, Ok, [], IfOk, OnErr, false};
 ghost use Rattle.srm_names.specs.declared.limits.TheConstants.{MOMENT};
-ghost use Rattle.srm_agent.specs.Entries.{is_gone};
+ghost use Rattle.srm_entries.specs.Entries.{is_gone};
 ghost use Rattle.srm_agent.specs.Noting.{Enters, Stays, AnswersAs, Does, IsTicked, still_entry};
 ghost use Rattle.srm_agent.specs.Ticking.{IsDue, tick_entry};
 
 use super::Agent;
 use super::due::{Due, HandedOut};
 use super::sending::with_last;
-use crate::entry::{Effects, Entry, Input, Verdict};
-use crate::fault::AgentFault;
 use crate::noted::Noted;
 use crate::ticked::Ticked;
 use srm_codec::Datagram;
+use srm_entries::{AgentFault, Effects, Entry, Input, Verdict};
 use srm_names::Items;
 use srm_timers::{Arm, Words};
 use std::alloc::AllocError;

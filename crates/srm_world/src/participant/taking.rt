@@ -2,7 +2,7 @@
 
 ghost use Rattle.std.specs.Prelude.{◌≡◌, ◌<◌, None, IfOk, OnErr};
 ghost use Rattle.srm_names.specs.declared.limits.TheConstants.{PAGES};
-ghost use Rattle.srm_agent.specs.declared.entry.Verdict.TheVariants.{Done};
+ghost use Rattle.srm_entries.specs.declared.entry.Verdict.TheVariants.{Done};
 ghost use Rattle.srm_agent.specs.Noting.{still_entry};
 ghost use Rattle.srm_world.specs.Participants.{GoesOn, Stays};
 

@@ -1,6 +1,6 @@
 use Rattle.std.proofs.Common.{◌≡◌, ℕ, [], length, Some}
 use Rattle.std.specs.Prelude.{slice_get}
-use Rattle.srm_agent.specs.Feeds.{FeedContent, FeedFits}
+use Rattle.srm_agent_parts.specs.Feeds.{FeedContent, FeedFits}
 use Rattle.srm_agent.proofs.agent.empty_feeds.Given as goal
 
 abbrev pub invariant-loop : goal.invariant-loop

@@ -2,7 +2,7 @@ use Rattle.std.proofs.Common.{◌≡◌, ◌+◌, ◌++◌, take, subst, true, r
 use Rattle.std.specs.Prelude.{option_to_list}
 use Rattle.std.specs.Result.{is_ok}
 use Rattle.std.proofs.lemmas.List.{append-nil, take_all}
-use Rattle.srm_agent.specs.Packing.{packed}
+use Rattle.srm_entries.specs.Packing.{packed}
 use Rattle.srm_agent.proofs.Spelling.{RepairedSoFar, repairing_begins, repairing_goes_on}
 use Rattle.srm_agent.proofs.answers.answering.Goals as goal
 use Rattle.srm_agent.proofs.answers.answering.Goals.{in-Some+in_ok-push_back, in_default}

@@ -1,5 +1,5 @@
 use Rattle.std.proofs.Common.{take}
-use Rattle.srm_agent.specs.Packing.{packed}
+use Rattle.srm_entries.specs.Packing.{packed}
 use Rattle.srm_agent.proofs.Spelling.{RepairedSoFar}
 use Rattle.srm_agent.proofs.answers.answering.Given as goal
 

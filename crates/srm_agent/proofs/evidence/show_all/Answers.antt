@@ -5,7 +5,7 @@ use Rattle.srm_store.specs.Fits as store
 use Rattle.srm_store.proofs.Rooming.{not_refused}
 use Rattle.srm_store.proofs.Seating.{page_among}
 use Rattle.srm_agent.proofs.Evident.{is_among}
-use Rattle.srm_agent.proofs.Holding.{ok_then}
+use Rattle.srm_entries.proofs.Holding.{ok_then}
 use Rattle.srm_agent.proofs.evidence.show_all.Goals as goal
 
 pub loop-name-init : goal.loop-name-init

@@ -1,6 +1,6 @@
 use Rattle.std.proofs.Common.{[], ◌∷◌, ◌++◌}
 use Rattle.srm_store.proofs.Rooming.{not_refused}
-use Rattle.srm_agent.proofs.Holding.{on_page, is_ready, ok_then}
+use Rattle.srm_entries.proofs.Holding.{on_page, is_ready, ok_then}
 use Rattle.srm_agent.proofs.keeping.keep.Goals as goal
 
 pub unwrap-requires : goal.unwrap-requires

@@ -1,5 +1,5 @@
 use Rattle.std.proofs.Common.{◌≡◌, ◌+◌, ◌-◌, ◌^◌, ◌<◌, drop, sym, subst, ◌∙◌, refl, true, arith}
-use Rattle.srm_agent.specs.Packing.{is_covered}
+use Rattle.srm_entries.specs.Packing.{is_covered}
 use Rattle.srm_agent.proofs.Requesting.{MaskSoFar, mask_goes_on, mask_stops, mask_within, mask_short, left_at, one_shifted}
 use Rattle.srm_agent.proofs.packing.mask.Goals as goal
 

@@ -1,4 +1,4 @@
-use Rattle.srm_agent.proofs.Holding.{ok_then}
+use Rattle.srm_entries.proofs.Holding.{ok_then}
 use Rattle.srm_agent.proofs.Informed.{settles_one}
 use Rattle.srm_agent.proofs.reports.settle.Goals as goal
 

@@ -1,7 +1,7 @@
 use Rattle.std.proofs.Common.{sym, ◌∙◌, ap, not}
 use Rattle.std.specs.Option.{option_copied}
-use Rattle.srm_agent.specs.Entries.{held, shown_to_exist}
-use Rattle.srm_agent.specs.Verdicts.{settlings, differs}
+use Rattle.srm_entries.specs.Entries.{held, shown_to_exist}
+use Rattle.srm_entries.specs.Verdicts.{settlings, differs}
 use Rattle.srm_agent.proofs.agent.Agent.differs.Goals as goal
 
 pub returns-in-Some : goal.returns-in-Some

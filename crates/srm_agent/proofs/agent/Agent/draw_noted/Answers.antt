@@ -1,5 +1,5 @@
 use Rattle.std.proofs.Common.{sym, ◌∙◌, ap, Err}
-use Rattle.srm_agent.specs.Verdicts.{first_cause}
+use Rattle.srm_entries.specs.Verdicts.{first_cause}
 use Rattle.srm_agent.specs.Drawing.{verdict_by, refusals}
 use Rattle.srm_agent.proofs.Drawn.{draw_refused, draw_full, draw_unslotted, roomy_stays, own_draft, draw_done, draw_allowed}
 use Rattle.srm_agent.proofs.agent.Agent.draw_noted.Goals as goal

@@ -1,6 +1,6 @@
 use Rattle.std.proofs.Common.{ap, ◌∙◌}
-use Rattle.srm_agent.specs.Entries.{held, shown_to_exist, known}
-use Rattle.srm_agent.specs.Verdicts.{settlings}
+use Rattle.srm_entries.specs.Entries.{held, shown_to_exist, known}
+use Rattle.srm_entries.specs.Verdicts.{settlings}
 use Rattle.srm_agent.proofs.Ignoring.{if_one}
 use Rattle.srm_agent.proofs.Taken.{below_is}
 use Rattle.srm_agent.proofs.agent.Agent.fresh_below.Goals as goal

@@ -1,8 +1,8 @@
 use Rattle.std.proofs.Common.{◌+◌, ◌++◌, ap, ◌∙◌}
 use Rattle.std.proofs.lemmas.List.{take_all}
-use Rattle.srm_agent.specs.Entries.{held, shown_to_exist, known}
+use Rattle.srm_entries.specs.Entries.{held, shown_to_exist, known}
 use Rattle.srm_agent.specs.Growth.{is_fresh_of}
-use Rattle.srm_agent.specs.Verdicts.{settlings}
+use Rattle.srm_entries.specs.Verdicts.{settlings}
 use Rattle.srm_agent.proofs.Joining.{rises_on, within_more, exact_more}
 use Rattle.srm_agent.proofs.agent.Agent.fresh_of.Goals as goal
 

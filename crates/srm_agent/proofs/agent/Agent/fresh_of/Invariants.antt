@@ -3,8 +3,8 @@ use Rattle.std.specs.Prelude.{true}
 use Rattle.std.specs.List.{list_any}
 use Rattle.srm_names.specs.FullName.{FullName}
 use Rattle.srm_names.specs.Names.{same_stream, name_below, ascending, among}
-use Rattle.srm_agent.specs.declared.entry.Entry.{Entry}
-use Rattle.srm_agent.specs.Configs.{Config}
+use Rattle.srm_entries.specs.declared.entry.Entry.{Entry}
+use Rattle.srm_entries.specs.Configs.{Config}
 use Rattle.srm_agent.specs.Fits.{Fits}
 use Rattle.srm_agent.specs.Growth.{is_fresh_of}
 use Rattle.srm_agent.proofs.agent.Agent.fresh_of.Given as goal

@@ -1,5 +1,5 @@
-use Rattle.srm_agent.specs.Entries.{held, shown_to_exist}
-use Rattle.srm_agent.specs.Verdicts.{settlings}
+use Rattle.srm_entries.specs.Entries.{held, shown_to_exist}
+use Rattle.srm_entries.specs.Verdicts.{settlings}
 use Rattle.srm_agent.proofs.Ignoring.{if_one}
 use Rattle.srm_agent.proofs.Requested.{up_to_is}
 use Rattle.srm_agent.proofs.agent.Agent.fresh_up_to.Goals as goal

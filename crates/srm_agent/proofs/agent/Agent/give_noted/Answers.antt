@@ -1,10 +1,10 @@
 use Rattle.std.proofs.Common.{◌∙◌, subst, ap}
 use Rattle.std.specs.Prelude.{Some}
-use Rattle.srm_agent.specs.declared.entry.Input.TheVariants.{Gave}
-use Rattle.srm_agent.specs.declared.entry.Verdict.TheVariants.{Done}
+use Rattle.srm_entries.specs.declared.entry.Input.TheVariants.{Gave}
+use Rattle.srm_entries.specs.declared.entry.Verdict.TheVariants.{Done}
 use Rattle.srm_agent.specs.Fits.{Fits}
 use Rattle.srm_agent.specs.Noting.{still_entry}
-use Rattle.srm_agent.specs.Giving.{given, GiveRight}
+use Rattle.srm_entries.specs.Giving.{given, GiveRight}
 use Rattle.srm_agent.proofs.Nexting.{feed_at}
 use Rattle.srm_agent.proofs.Giving.{gives_nothing, gives_message, give_continues}
 use Rattle.srm_agent.proofs.agent.Agent.give_noted.Goals as goal

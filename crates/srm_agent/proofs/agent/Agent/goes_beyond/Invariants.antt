@@ -1,8 +1,8 @@
 use Rattle.std.proofs.Common.{◌≡◌, ℕ, List, drop}
 use Rattle.std.specs.List.{list_any}
-use Rattle.srm_agent.specs.declared.entry.Entry.{Entry}
-use Rattle.srm_agent.specs.Configs.{Config}
-use Rattle.srm_agent.specs.Verdicts.{is_beyond}
+use Rattle.srm_entries.specs.declared.entry.Entry.{Entry}
+use Rattle.srm_entries.specs.Configs.{Config}
+use Rattle.srm_entries.specs.Verdicts.{is_beyond}
 use Rattle.srm_agent.specs.Fits.{Fits}
 use Rattle.srm_agent.proofs.agent.Agent.goes_beyond.Given as goal
 

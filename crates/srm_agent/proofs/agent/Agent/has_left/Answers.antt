@@ -1,7 +1,7 @@
 use Rattle.std.proofs.Common.{◌∙◌, ap}
 use Rattle.std.specs.Prelude.{is_some}
-use Rattle.srm_agent.specs.Entries.{held, shown_to_exist}
-use Rattle.srm_agent.specs.Verdicts.{settlings, told}
+use Rattle.srm_entries.specs.Entries.{held, shown_to_exist}
+use Rattle.srm_entries.specs.Verdicts.{settlings, told}
 use Rattle.srm_agent.proofs.Leavers.{told_by_final}
 use Rattle.srm_agent.proofs.agent.Agent.has_left.Goals as goal
 

@@ -1,6 +1,6 @@
 use Rattle.std.proofs.Common.{sym, ◌∙◌}
 use Rattle.srm_agent.proofs.Ignoring.{gone_enters, noise_reads, heard_reads, read_enters, if_one, if_two}
-use Rattle.srm_agent.specs.declared.entry.Input.TheVariants.{Heard, Noise}
+use Rattle.srm_entries.specs.declared.entry.Input.TheVariants.{Heard, Noise}
 use Rattle.srm_agent.proofs.agent.Agent.hear_noted.Goals as goal
 
 pub returns-then-is_gone-clause-ok : goal.returns-then-is_gone-clause-ok

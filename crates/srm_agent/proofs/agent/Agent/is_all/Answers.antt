@@ -1,7 +1,7 @@
 use Rattle.std.proofs.Common.{sym, ◌∙◌, ap}
-use Rattle.srm_agent.specs.Entries.{held, shown_to_exist}
-use Rattle.srm_agent.specs.Giving.{is_some_of}
-use Rattle.srm_agent.specs.Verdicts.{settlings}
+use Rattle.srm_entries.specs.Entries.{held, shown_to_exist}
+use Rattle.srm_entries.specs.Giving.{is_some_of}
+use Rattle.srm_entries.specs.Verdicts.{settlings}
 use Rattle.srm_agent.proofs.agent.Agent.is_all.Goals as goal
 
 pub returns-in-Some : goal.returns-in-Some

@@ -1,7 +1,7 @@
 use Rattle.std.proofs.Common.{sym, ◌∙◌, ap}
 use Rattle.std.specs.Prelude.{nat_lt}
-use Rattle.srm_agent.specs.Entries.{held, shown_to_exist}
-use Rattle.srm_agent.specs.Verdicts.{settlings, final, is_past}
+use Rattle.srm_entries.specs.Entries.{held, shown_to_exist}
+use Rattle.srm_entries.specs.Verdicts.{settlings, final, is_past}
 use Rattle.srm_agent.proofs.agent.Agent.is_past_final.Goals as goal
 
 pub returns-in-Some : goal.returns-in-Some

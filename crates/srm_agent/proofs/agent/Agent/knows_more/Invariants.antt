@@ -2,10 +2,10 @@ use Rattle.std.proofs.Common.{◌≡◌, ℕ, List, drop}
 use Rattle.std.specs.Prelude.{nat_lt}
 use Rattle.std.specs.List.{list_any}
 use Rattle.srm_store.specs.Finals.{row_of}
-use Rattle.srm_agent.specs.declared.entry.Entry.{Entry}
-use Rattle.srm_agent.specs.Configs.{Config}
-use Rattle.srm_agent.specs.Entries.{known}
-use Rattle.srm_agent.specs.Verdicts.{stream_on}
+use Rattle.srm_entries.specs.declared.entry.Entry.{Entry}
+use Rattle.srm_entries.specs.Configs.{Config}
+use Rattle.srm_entries.specs.Entries.{known}
+use Rattle.srm_entries.specs.Verdicts.{stream_on}
 use Rattle.srm_agent.specs.Fits.{Fits}
 use Rattle.srm_agent.proofs.agent.Agent.knows_more.Given as goal
 

@@ -1,8 +1,8 @@
 use Rattle.std.proofs.Common.{◌∙◌, ap}
 use Rattle.std.specs.Prelude.{nat_lt}
 use Rattle.srm_store.specs.Finals.{row_of}
-use Rattle.srm_agent.specs.Entries.{held, shown_to_exist}
-use Rattle.srm_agent.specs.Verdicts.{settlings}
+use Rattle.srm_entries.specs.Entries.{held, shown_to_exist}
+use Rattle.srm_entries.specs.Verdicts.{settlings}
 use Rattle.srm_agent.proofs.agent.Agent.knows_past.Goals as goal
 
 pub returns : goal.returns

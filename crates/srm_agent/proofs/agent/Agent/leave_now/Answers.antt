@@ -1,6 +1,6 @@
 use Rattle.std.proofs.Common.{sym, subst}
 use Rattle.std.specs.Prelude.{Some}
-use Rattle.srm_agent.specs.declared.entry.Input.TheVariants.{AskedLeave}
+use Rattle.srm_entries.specs.declared.entry.Input.TheVariants.{AskedLeave}
 use Rattle.srm_agent.specs.Noting.{Enters}
 use Rattle.srm_agent.proofs.Entering.{leave_gone, leave_leaving, leave_done}
 use Rattle.srm_agent.proofs.agent.Agent.leave_now.Goals as goal

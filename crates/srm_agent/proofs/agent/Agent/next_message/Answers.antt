@@ -1,7 +1,7 @@
 use Rattle.std.proofs.Common.{sym, ◌∙◌, subst, ap}
 use Rattle.std.specs.Prelude.{slice_get}
-use Rattle.srm_agent.specs.Entries.{is_gone}
-use Rattle.srm_agent.specs.Giving.{given, GiveRight}
+use Rattle.srm_entries.specs.Entries.{is_gone}
+use Rattle.srm_entries.specs.Giving.{given, GiveRight}
 use Rattle.srm_agent.specs.Nexts.{IsNextOn}
 use Rattle.srm_agent.proofs.Nexting.{feed_at, prefers, gives_next, closes_with_page}
 use Rattle.srm_agent.proofs.agent.Agent.next_message.Goals as goal

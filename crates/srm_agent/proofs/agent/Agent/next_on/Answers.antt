@@ -1,5 +1,5 @@
 use Rattle.std.proofs.Common.{ap, arith}
-use Rattle.srm_agent.specs.Configs.{Config}
+use Rattle.srm_entries.specs.Configs.{Config}
 use Rattle.srm_agent.proofs.Nexting.{of_some, one_more_none}
 use Rattle.srm_agent.proofs.agent.Agent.next_on.Goals as goal
 

@@ -1,6 +1,6 @@
 use Rattle.std.proofs.Common.{subst, ◌≤◌, ◌<◌}
-use Rattle.srm_agent.specs.Entries.{held, shown_to_exist}
-use Rattle.srm_agent.specs.Verdicts.{settlings}
+use Rattle.srm_entries.specs.Entries.{held, shown_to_exist}
+use Rattle.srm_entries.specs.Verdicts.{settlings}
 use Rattle.srm_agent.proofs.Nexting.{released_at, none_released}
 use Rattle.srm_agent.proofs.agent.Agent.released_after.Goals as goal
 

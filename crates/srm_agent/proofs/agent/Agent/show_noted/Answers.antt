@@ -1,9 +1,9 @@
 use Rattle.std.proofs.Common.{sym, ◌∙◌, subst, refl}
 use Rattle.std.specs.Prelude.{Some}
-use Rattle.srm_agent.specs.declared.entry.Input.TheVariants.{Showed}
+use Rattle.srm_entries.specs.declared.entry.Input.TheVariants.{Showed}
 use Rattle.srm_agent.specs.Noting.{Enters}
 use Rattle.srm_agent.proofs.Entering.{show_gone, show_full, show_done}
-use Rattle.srm_agent.proofs.Listing.{is_full, is_roomy}
+use Rattle.srm_agent_parts.proofs.Listing.{is_full, is_roomy}
 use Rattle.srm_agent.proofs.agent.Agent.show_noted.Goals as goal
 
 pub returns-then-is_gone-clause-ok : goal.returns-then-is_gone-clause-ok

@@ -1,6 +1,6 @@
 use Rattle.std.proofs.Common.{refl}
 use Rattle.srm_codec.specs.declared.datagram.Datagram.TheVariants.{Data}
-use Rattle.srm_agent.specs.TimerCalls.{IsDataOf}
+use Rattle.srm_agent_parts.specs.TimerCalls.{IsDataOf}
 use Rattle.srm_agent.proofs.Taken.{drawop_enters, data_brings, stays, same_timers, at_err}
 use Rattle.srm_agent.proofs.agent.Agent.take_data.Goals as goal
 

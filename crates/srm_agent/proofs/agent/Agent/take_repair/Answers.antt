@@ -1,6 +1,6 @@
 use Rattle.std.proofs.Common.{refl}
 use Rattle.srm_codec.specs.declared.datagram.Datagram.TheVariants.{Repair}
-use Rattle.srm_agent.specs.TimerCalls.{IsRepairOf}
+use Rattle.srm_agent_parts.specs.TimerCalls.{IsRepairOf}
 use Rattle.srm_agent.proofs.Taken.{drawop_enters, repair_brings, stays, same_timers, at_err}
 use Rattle.srm_agent.proofs.agent.Agent.take_repair.Goals as goal
 

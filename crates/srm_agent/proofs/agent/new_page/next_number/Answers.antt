@@ -2,8 +2,8 @@ use Rattle.std.proofs.Common.{ap, sym, ◌∙◌, max, take, get_or, ◌+◌, �
 use Rattle.std.specs.Prelude.{if◌then◌else◌}
 use Rattle.std.proofs.lemmas.List.{take_more}
 use Rattle.srm_names.specs.declared.page.Page.{Page}
-use Rattle.srm_agent.specs.Promises.{next_number}
-use Rattle.srm_agent.proofs.Naming.{next_number-snoc}
+use Rattle.srm_entries.specs.Promises.{next_number}
+use Rattle.srm_entries.proofs.Naming.{next_number-snoc}
 use Rattle.srm_agent.proofs.agent.new_page.next_number.Goals as goal
 
 pub loop-page-preserved : goal.loop-page-preserved

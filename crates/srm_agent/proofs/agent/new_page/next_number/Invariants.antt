@@ -1,5 +1,5 @@
 use Rattle.std.proofs.Common.{◌≡◌, take}
-use Rattle.srm_agent.specs.Promises.{next_number}
+use Rattle.srm_entries.specs.Promises.{next_number}
 use Rattle.srm_agent.proofs.agent.new_page.next_number.Given as goal
 
 abbrev pub invariant-loop-page : goal.invariant-loop-page

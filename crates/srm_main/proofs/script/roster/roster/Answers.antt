@@ -1,6 +1,6 @@
 use Rattle.std.proofs.Common.{arith, ap, sym, subst, ◌∙◌, ◌+◌, length}
 use Rattle.std.proofs.lemmas.List.{length_push}
-use Rattle.srm_agent.specs.Configs.{Config}
+use Rattle.srm_entries.specs.Configs.{Config}
 use Rattle.srm_main.proofs.Rosters.{AreSettings, no_settings, one_more, is_roster}
 use Rattle.srm_main.proofs.script.roster.roster.Goals as goal
 

@@ -1,6 +1,6 @@
 use Rattle.std.proofs.Common.{refl}
 use Rattle.std.specs.Prelude.{Some}
-use Rattle.srm_agent.specs.declared.entry.Input.TheVariants.{Drew}
+use Rattle.srm_entries.specs.declared.entry.Input.TheVariants.{Drew}
 use Rattle.srm_world.proofs.Going.{goes_on}
 use Rattle.srm_world.proofs.participant.Participant.draw.Goals as goal
 

@@ -1,6 +1,6 @@
 use Rattle.std.proofs.Common.{refl}
 use Rattle.std.specs.Prelude.{Some}
-use Rattle.srm_agent.specs.declared.entry.Input.TheVariants.{Ticked}
+use Rattle.srm_entries.specs.declared.entry.Input.TheVariants.{Ticked}
 use Rattle.srm_world.proofs.Going.{goes_on, sends_outs}
 use Rattle.srm_world.proofs.participant.Participant.tick.Goals as goal
 

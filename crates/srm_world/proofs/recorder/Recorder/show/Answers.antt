@@ -1,5 +1,5 @@
 use Rattle.std.proofs.Common.{ap, ◌∙◌, ◌∷◌, ◌++◌, [], Some}
-use Rattle.srm_agent.specs.declared.entry.Input.TheVariants.{Showed}
+use Rattle.srm_entries.specs.declared.entry.Input.TheVariants.{Showed}
 use Rattle.srm_world.specs.Recorders.{journal_of}
 use Rattle.srm_world.proofs.Journaling.{records, still_fits, fits_same, entries_same, lawful, lawful_after}
 use Rattle.srm_world.proofs.recorder.Recorder.show.Goals as goal

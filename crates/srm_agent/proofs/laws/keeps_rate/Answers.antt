@@ -1,5 +1,0 @@
-use Rattle.srm_agent.proofs.Rating.{rate_law}
-use Rattle.srm_agent.proofs.laws.keeps_rate.Goals as goal
-
-pub returns : goal.returns
-returns c = rate_law

@@ -1,0 +1,9 @@
+pub mod Listing
+pub mod FeedSteps
+pub mod Running
+pub mod Roomy
+pub mod Midway
+pub mod Missing
+pub mod Dueness
+pub mod RequestTimers
+pub mod Starting

@@ -1,0 +1,5 @@
+pub mod Outs
+pub mod PageTables
+pub mod Feeds
+pub mod TimersKept
+pub mod TimerCalls

@@ -1,0 +1,14 @@
+//! The distances to all members at once.
+
+ghost use Rattle.srm_distance.specs.Fits.{IsTableOf};
+ghost use Rattle.srm_timers.specs.Distances.{AreDistances};
+
+use srm_distance::Distances;
+
+/// The distance to each member, by its number, in microseconds. It takes no memory.
+pub fn distance_table(distances: &Distances) -> &[u64]
+    ensures range { AreDistances result.now }
+    ensures value { IsTableOf distances.now result.now }
+{
+    distances.all()
+}

@@ -1,0 +1,20 @@
+//! The parts of an agent: what it keeps beside its store, its distances and its bucket.
+//!
+//! Each is said over the entries of its member: the timers are those that the entries set, a slot's feed is what they gave.
+#![tactic(auto)]
+
+mod distances;
+mod feed;
+mod mentions;
+mod out;
+mod page_table;
+mod roster;
+mod timers;
+
+pub use distances::distance_table;
+pub use feed::Feed;
+pub use mentions::names_in;
+pub use out::{Out, Outgoing};
+pub use page_table::{PageTable, first_page};
+pub use roster::{member, page_in_range, stream_in_range};
+pub use timers::{Timers, earlier};

@@ -1,0 +1,47 @@
+//! The names that a datagram names.
+
+ghost use Rattle.std.specs.Prelude.{◌≡◌, [], ◌∷◌, IfOk};
+ghost use Rattle.std.specs.List.{AllByRecursion};
+ghost use Rattle.srm_codec.specs.Spelling.{names_in, asked_by, is_name, IsSpellable};
+
+use srm_codec::Datagram;
+use srm_names::Name;
+use std::alloc::{AllocError, Global};
+
+/// The names that a datagram names, in order. Only want of memory refuses it.
+pub fn names_in(alloc: Global, datagram: &Datagram) -> Result<Vec<Name>, AllocError>
+    requires { IsSpellable datagram.now }
+    ensures { IfOk result (λ names. names.items ≡ names_in datagram.now) }
+{
+    match datagram {
+        Datagram::Data(drawop) | Datagram::Repair { drawop, .. } => only(alloc, drawop.name),
+        Datagram::Request { name, mask, .. } => asked_names(alloc, *name, *mask),
+        Datagram::Session { rows, .. } => Vec::from_slice(alloc, rows.as_slice()),
+    }
+}
+
+fn only(alloc: Global, name: Name) -> Result<Vec<Name>, AllocError>
+    ensures { IfOk result (λ names. names.items ≡ name ∷ []) }
+{
+    let mut names = Vec::new(alloc);
+    names.push(name)?;
+    Ok(names)
+}
+
+/// The names that a request with this mask asks for, in order.
+fn asked_names(alloc: Global, name: Name, mask: u32) -> Result<Vec<Name>, AllocError>
+    requires { AllByRecursion is_name (asked_by name mask) }
+    ensures { IfOk result (λ names. names.items ≡ asked_by name mask) }
+{
+    let mut names = only(alloc, name)?;
+    let mut rest = mask;
+    for bit in 0..u32::BITS {
+        if rest % 2 == 1 {
+            let stream = name.stream();
+            let number = name.number() + 1 + bit;
+            names.push(Name::new(stream.source, stream.page, number).unwrap())?;
+        }
+        rest /= 2;
+    }
+    Ok(names)
+}

@@ -1,0 +1,39 @@
+//! What an agent sends.
+
+ghost use Rattle.std.specs.Prelude.{◌≡◌, IfOk};
+ghost use Rattle.srm_codec.specs.Spelling.{IsSpellable};
+ghost use Rattle.srm_agent_parts.specs.Outs.{IsOutgoingOf};
+
+use srm_codec::{Datagram, encode};
+use srm_names::Items;
+use std::alloc::{AllocError, Global};
+
+/// A datagram to send, with the bytes that spell it in the session.
+#[derive(Debug, Drop)]
+pub struct Out {
+    pub datagram: Datagram,
+    pub bytes: Items<u8>,
+}
+
+/// A datagram that waits for the bucket: spelled, and with a copy for the entry in which it goes, so that letting it go takes
+/// no memory.
+#[derive(Debug, Drop)]
+pub struct Outgoing {
+    pub out: Out,
+    pub noted: Datagram,
+}
+
+impl Outgoing {
+    /// Spells a datagram. Only want of memory refuses it.
+    pub fn new(alloc: Global, session: u32, datagram: Datagram) -> Result<Outgoing, AllocError>
+        requires { IsSpellable datagram }
+        ensures { IfOk result (λ outgoing. IsOutgoingOf session datagram outgoing) }
+    {
+        let noted = datagram.copy(alloc)?;
+        let bytes = Items::new(encode(alloc, session, &datagram)?);
+        Ok(Outgoing {
+            out: Out { datagram, bytes },
+            noted,
+        })
+    }
+}

@@ -1,0 +1,126 @@
+//! The request and repair timers of one member.
+
+ghost use Rattle.std.specs.Prelude.{◌≡◌, ◌≤◌, [], true, IfOk, IsOk, OnErr, length};
+ghost use Rattle.srm_names.specs.declared.limits.TheConstants.{MOMENT};
+ghost use Rattle.srm_names.specs.Names.{ascending, name_below};
+ghost use Rattle.srm_timers.specs.AskCalls.{AskAdds, AskedFirst, AnswerReady, sets};
+ghost use Rattle.srm_timers.specs.Deadlines.{DueAmong};
+ghost use Rattle.srm_timers.specs.Distances.{AreDistances};
+ghost use Rattle.srm_timers.specs.Least.{lesser};
+ghost use Rattle.srm_agent_parts.specs.TimersKept.{TimersFit};
+ghost use Rattle.srm_agent_parts.specs.TimersKept.{HaveSettings};
+ghost use Rattle.srm_agent_parts.specs.TimerCalls.{AsksPending, FixesPending, KeepSettings, TimersNext, TimersStay, WaitsAreDrawn};
+
+mod hearing;
+mod requests;
+mod ticking;
+
+use srm_entries::Config;
+use srm_names::Name;
+use srm_timers::{Arm, Asks, Fixes, Ordered, TimerFault, Words};
+use std::alloc::{AllocError, Global};
+use std::marker::Model;
+
+/// The request and repair timers of one member, as its entries leave them. Contracts see both.
+///
+/// A call that is refused for memory has changed nothing and drawn no word. Moments and distances are microseconds.
+#[derive(Drop)]
+pub struct Timers {
+    alloc: Global,
+    asks: Asks<Ordered>,
+    fixes: Fixes<Ordered>,
+}
+
+impl Model for Timers {
+    ghost use Rattle.srm_agent_parts.specs.TimersKept.{TimersContent, timers_of};
+
+    ghost Value = { TimersContent };
+
+    ghost view = { timers_of };
+}
+
+impl Timers {
+    /// No timer runs. It takes no memory.
+    pub fn new(alloc: Global, config: &Config) -> Timers
+        ensures fits { TimersFit config.now [] result }
+        ensures settings { HaveSettings config.now result }
+    {
+        Timers {
+            alloc,
+            asks: Asks::new(alloc, Ordered::new(alloc), config.c1(), config.c2()),
+            fixes: Fixes::new(alloc, Ordered::new(alloc), config.d1(), config.d2()),
+        }
+    }
+
+    /// The missing names whose request timers have run out, in order of name: those that a tick asks for. Only want of
+    /// memory refuses it.
+    #[tactic(auto, using(crate::proofs::Midway::asks_pending))]
+    pub fn pending_asks(&self, now: u64) -> Result<Vec<Name>, AllocError>
+        ensures pending { IfOk result (λ names. AsksPending now self.now names.items) }
+        ensures rising { IfOk result (λ names. ascending name_below names.items ≡ true) }
+        ensures due { IfOk result (λ names. DueAmong now self.now.asks.ends.places names.items) }
+    {
+        let names = Vec::new(self.alloc);
+        self.asks.pending(now, names).map_err(|_| AllocError)
+    }
+
+    /// The names whose repair timers have run out, in order of name: those that a tick repairs. Only want of memory
+    /// refuses it.
+    #[tactic(auto, using(crate::proofs::Midway::fixes_pending))]
+    pub fn pending_fixes(&self, now: u64) -> Result<Vec<Name>, AllocError>
+        ensures pending { IfOk result (λ names. FixesPending now self.now names.items) }
+        ensures due { IfOk result (λ names. DueAmong now self.now.fixes.ends.places names.items) }
+    {
+        let names = Vec::new(self.alloc);
+        self.fixes.pending(now, names).map_err(|_| AllocError)
+    }
+
+    /// Names were found missing, which rise: their request timers are set. The exponent is 1 for a name among `asked`, and
+    /// else 0.
+    #[tactic(auto, using(crate::proofs::Midway::asks_stay, crate::proofs::Midway::waits_drawn, crate::proofs::RequestTimers::found_fits))]
+    fn detect<W: Words>(
+        &mut self,
+        fresh: &[Name],
+        asked: &[Name],
+        dist: &[u64],
+        now: u64,
+        words: &mut W,
+    ) -> Result<Vec<Arm>, AllocError>
+        requires rising { ascending name_below fresh.now ≡ true }
+        requires distances { AreDistances dist.now }
+        requires now { now ≤ MOMENT }
+        ensures fits { IfOk result (λ arms. AskAdds (sets now arms.items) self.old.asks self.new.asks) }
+        ensures arms { IfOk result (λ arms. AskedFirst fresh.now asked.now dist.now arms.items) }
+        ensures few { IfOk result (λ arms. length arms.items ≤ length fresh.now) }
+        ensures drawn { IfOk result (λ arms. WaitsAreDrawn W.draw self.old words.old arms.items words.new) }
+        ensures fixes { self.new.fixes ≡ self.old.fixes }
+        ensures kept { OnErr result (TimersStay self.old self.new) }
+        ensures undrawn { OnErr result (words.new ≡ words.old) }
+        ensures settings { KeepSettings self.old self.new }
+        ensures room { AnswerReady fresh.now self.old.asks → IsOk result }
+    {
+        match self.asks.detect(fresh, asked, dist, now, words) {
+            Ok(arms) => Ok(arms),
+            Err(TimerFault::Memory) => Err(AllocError),
+        }
+    }
+
+    /// The least moment at which a timer runs out. Takes no memory.
+    #[tactic(auto, using(crate::proofs::Midway::first_of_both))]
+    pub fn next(&self) -> Option<u64>
+        ensures { TimersNext self.now result }
+    {
+        earlier(self.asks.next(), self.fixes.next())
+    }
+}
+
+/// The earlier of two moments.
+pub fn earlier(a: Option<u64>, b: Option<u64>) -> Option<u64>
+    ensures { result ≡ lesser a b }
+{
+    match (a, b) {
+        (Some(a), Some(b)) => Some(a.min(b)),
+        (a, None) => a,
+        (None, b) => b,
+    }
+}

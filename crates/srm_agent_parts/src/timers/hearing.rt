@@ -1,0 +1,127 @@
+//! What data, repairs and session messages do to the timers.
+
+ghost use Rattle.std.specs.Prelude.{◌≡◌, ◌≤◌, length, true, IfOk, OnErr, [], ◌∷◌, OnOk};
+ghost use Rattle.srm_names.specs.declared.limits.TheConstants.{MOMENT};
+ghost use Rattle.srm_names.specs.Names.{ascending, name_below};
+ghost use Rattle.srm_timers.specs.AskCalls.{Gained, AskAdds};
+ghost use Rattle.srm_timers.specs.FixCalls.{FixStays, FixPlace, FixPlaces, FixRepairs};
+ghost use Rattle.srm_timers.specs.Distances.{AreDistances};
+ghost use Rattle.srm_agent_parts.specs.TimerCalls.{IsDataOf, IsRepairOf, IsSession, KeepSettings, TimersHear, TimersStay, WaitsAreDrawn};
+
+use super::Timers;
+use srm_names::Name;
+use srm_timers::{Arm, Words};
+use std::alloc::AllocError;
+
+impl Timers {
+    /// A session message was heard, by which these names, which rise, become missing: their request timers are set. Only
+    /// want of memory refuses it.
+    #[tactic(auto, using(crate::proofs::Missing::rows_hear))]
+    pub fn hear_rows<W: Words>(
+        &mut self,
+        fresh: &[Name],
+        dist: &[u64],
+        now: u64,
+        words: &mut W,
+    ) -> Result<Vec<Arm>, AllocError>
+        requires rising { ascending name_below fresh.now ≡ true }
+        requires distances { AreDistances dist.now }
+        requires now { now ≤ MOMENT }
+        ensures hears { IfOk result (λ arms. TimersHear IsSession fresh.now dist.now now arms.items self.old self.new) }
+        ensures few { IfOk result (λ arms. length arms.items ≤ length fresh.now) }
+        ensures drawn { IfOk result (λ arms. WaitsAreDrawn W.draw self.old words.old arms.items words.new) }
+        ensures kept { OnErr result (TimersStay self.old self.new) }
+        ensures undrawn { OnErr result (words.new ≡ words.old) }
+        ensures settings { KeepSettings self.old self.new }
+    {
+        self.detect(fresh, &[], dist, now, words)
+    }
+
+    /// Data of a name was heard, by which these names of its stream, which rise, become missing. Only want of memory
+    /// refuses it.
+    #[tactic(auto, using(crate::proofs::Missing::data_hears, crate::proofs::Midway::keep_on))]
+    pub fn hear_data<W: Words>(
+        &mut self,
+        name: Name,
+        fresh: &[Name],
+        dist: &[u64],
+        now: u64,
+        words: &mut W,
+    ) -> Result<Vec<Arm>, AllocError>
+        requires rising { ascending name_below fresh.now ≡ true }
+        requires distances { AreDistances dist.now }
+        requires now { now ≤ MOMENT }
+        ensures hears { IfOk result (λ arms. TimersHear (IsDataOf name) fresh.now dist.now now arms.items self.old self.new) }
+        ensures few { IfOk result (λ arms. length arms.items ≤ length fresh.now) }
+        ensures drawn { IfOk result (λ arms. WaitsAreDrawn W.draw self.old words.old arms.items words.new) }
+        ensures kept { OnErr result (TimersStay self.old self.new) }
+        ensures undrawn { OnErr result (words.new ≡ words.old) }
+        ensures settings { KeepSettings self.old self.new }
+    {
+        let arms = self.detect(fresh, &[], dist, now, words)?;
+        self.gain(name);
+        Ok(arms)
+    }
+
+    /// A repair of a name was heard, by which these names of its stream, which rise, become missing: its repair timer is
+    /// gone, and it is held off. Only want of memory refuses it.
+    #[tactic(auto, using(crate::proofs::Missing::repair_hears, crate::proofs::Midway::keep_on, crate::proofs::Midway::stay_on, crate::proofs::Midway::waits_before, crate::proofs::Midway::first_placed))]
+    pub fn hear_repair<W: Words>(
+        &mut self,
+        name: Name,
+        fresh: &[Name],
+        dist: &[u64],
+        now: u64,
+        words: &mut W,
+    ) -> Result<Vec<Arm>, AllocError>
+        requires rising { ascending name_below fresh.now ≡ true }
+        requires distances { AreDistances dist.now }
+        requires now { now ≤ MOMENT }
+        ensures hears { IfOk result (λ arms. TimersHear (IsRepairOf name) fresh.now dist.now now arms.items self.old self.new) }
+        ensures few { IfOk result (λ arms. length arms.items ≤ length fresh.now) }
+        ensures drawn { IfOk result (λ arms. WaitsAreDrawn W.draw self.old words.old arms.items words.new) }
+        ensures kept { OnErr result (TimersStay self.old self.new) }
+        ensures undrawn { OnErr result (words.new ≡ words.old) }
+        ensures settings { KeepSettings self.old self.new }
+    {
+        self.repair_room(name)?;
+        let arms = self.detect(fresh, &[], dist, now, words)?;
+        self.gain(name);
+        self.end_repair(name, dist, now);
+        Ok(arms)
+    }
+    /// A name is held from now on: its request timer is gone. Takes no memory.
+    #[tactic(auto, using(crate::proofs::Midway::asks_keep))]
+    fn gain(&mut self, name: Name)
+        ensures asks { AskAdds (Gained name ∷ []) self.old.asks self.new.asks }
+        ensures fixes { self.new.fixes ≡ self.old.fixes }
+        ensures settings { KeepSettings self.old self.new }
+    {
+        self.asks.gained(name);
+    }
+
+    /// Makes room for a repair of a name. No timer changes.
+    #[tactic(auto, using(crate::proofs::Midway::fixes_stay, crate::proofs::Midway::fixes_keep))]
+    fn repair_room(&mut self, name: Name) -> Result<(), AllocError>
+        ensures kept { TimersStay self.old self.new }
+        ensures asks { self.new.asks ≡ self.old.asks }
+        ensures fixes { FixStays self.old.fixes self.new.fixes }
+        ensures settings { KeepSettings self.old self.new }
+        ensures places { OnOk result (FixPlaces (name ∷ []) self.new.fixes) }
+    {
+        self.fixes.room(&[name]).map_err(|_| AllocError)
+    }
+
+    /// A repair of a name was heard: its repair timer is gone, and it is held off. Takes no memory.
+    #[tactic(auto, using(crate::proofs::Midway::fixes_keep))]
+    fn end_repair(&mut self, name: Name, dist: &[u64], now: u64)
+        requires place { FixPlace self.old.fixes name }
+        requires distances { AreDistances dist.now }
+        requires now { now ≤ MOMENT }
+        ensures fixes { FixRepairs now dist.now (name ∷ []) self.old.fixes self.new.fixes }
+        ensures asks { self.new.asks ≡ self.old.asks }
+        ensures settings { KeepSettings self.old self.new }
+    {
+        self.fixes.heard_repair(name, dist, now).unwrap();
+    }
+}

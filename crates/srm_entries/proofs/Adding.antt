@@ -1,0 +1,81 @@
+-- What one more entry does to the definitions on entries.
+use Rattle.std.proofs.Common.{◌≡◌, ℕ, max, Bool, true, false, not, ◌&&◌, ◌||◌, List, [], ◌∷◌, ◌++◌, refl, ap, sym, ◌∙◌, arith, append_assoc}
+use Rattle.std.specs.Prelude.{if◌then◌else◌, None, nat_le}
+use Rattle.std.specs.List.{flat_map, list_any}
+use Rattle.std.proofs.lemmas.List.{append-nil}
+use Rattle.srm_names.specs.declared.stream.Stream.{Stream}
+use Rattle.srm_names.specs.FullName.{FullName}
+use Rattle.srm_names.specs.Histories.{steps, or_else, last_of, greatest, since}
+use Rattle.srm_names.proofs.Snoc.{steps-snoc, last_of-snoc, since-snoc, list_any-snoc}
+use Rattle.srm_entries.specs.declared.entry.Entry.{Entry}
+use Rattle.srm_timers.specs.declared.arm.ArmKind.TheVariants.{Ask, Fix}
+use Rattle.srm_store.specs.Held.{number_in, has_name}
+use Rattle.srm_entries.specs.Entries.{held, held_by, shown_by, is_held, known, is_missing, shown_to_exist}
+use Rattle.srm_entries.specs.Timers.{arm_in, last_ask, fix_running, repaired, held_off, holds_off}
+
+pub flat_map-append : {X Y : Type 0} (f : X → List Y) (xs ys : List X) → flat_map f (xs ++ ys) ≡ flat_map f xs ++ flat_map f ys
+flat_map-append f [] ys = refl
+flat_map-append f (x ∷ xs) ys = ap (λ zs. f x ++ zs) (flat_map-append f xs ys) ∙ sym (append_assoc (f x) (flat_map f xs) (flat_map f ys))
+
+pub flat_map-snoc : {X Y : Type 0} (f : X → List Y) (xs : List X) (y : X) → flat_map f (xs ++ y ∷ []) ≡ flat_map f xs ++ f y
+flat_map-snoc f xs y = flat_map-append f xs (y ∷ []) ∙ ap (λ zs. flat_map f xs ++ zs) (append-nil (f y))
+
+pub greatest-append : (ms ns : List ℕ) → greatest (ms ++ ns) ≡ max (greatest ms) (greatest ns)
+greatest-append [] ns = omega arith
+greatest-append (m ∷ ms) ns = rw (greatest-append ms ns) (omega arith)
+
+-- what an entry shows of a stream
+abbrev pub shows : Entry → Stream → ℕ
+shows e s = greatest (flat_map (number_in s) (shown_to_exist (e ∷ [])))
+
+pub known-snoc : (es : List Entry) (e : Entry) (s : Stream) → known (es ++ e ∷ []) s ≡ max (known es s) (shows e s)
+known-snoc es e s =
+    ap (λ ns. greatest (flat_map (number_in s) ns)) (flat_map-append shown_by es (e ∷ []))
+    ∙ ap greatest (flat_map-append (number_in s) (shown_to_exist es) (shown_to_exist (e ∷ [])))
+    ∙ greatest-append (flat_map (number_in s) (shown_to_exist es)) (flat_map (number_in s) (shown_to_exist (e ∷ [])))
+
+-- whether an entry gains the name
+abbrev pub gains : Entry → FullName → Bool
+gains e n = is_held (e ∷ []) n
+
+pub list_any-append : {X : Type 0} (p : X → Bool) (xs ys : List X) → list_any p (xs ++ ys) ≡ list_any p xs || list_any p ys
+list_any-append p [] ys = refl
+list_any-append p (x ∷ xs) ys = ap (λ b. p x || b) (list_any-append p xs ys) ∙ assoc (p x) (list_any p xs) (list_any p ys)
+  where
+    assoc : (a b c : Bool) → (a || (b || c)) ≡ ((a || b) || c)
+    assoc true b c = refl
+    assoc false b c = refl
+
+pub is_held-snoc : (es : List Entry) (e : Entry) (n : FullName) → is_held (es ++ e ∷ []) n ≡ is_held es n || gains e n
+is_held-snoc es e n = ap (list_any (has_name n)) (flat_map-append held_by es (e ∷ [])) ∙ list_any-append (has_name n) (held es) (held (e ∷ []))
+
+pub is_missing-snoc : (es : List Entry) (e : Entry) (n : FullName)
+    → is_missing (es ++ e ∷ []) n ≡ nat_le 1 n.number && nat_le n.number (max (known es n.stream) (shows e n.stream)) && not (is_held es n || gains e n)
+is_missing-snoc es e n = rw (known-snoc es e n.stream, is_held-snoc es e n) refl
+
+pub last_ask-snoc : (es : List Entry) (e : Entry) (n : FullName) → last_ask (es ++ e ∷ []) n ≡ or_else (arm_in Ask n e) (last_ask es n)
+last_ask-snoc es e n = last_of-snoc (arm_in Ask n) es e
+
+pub fix_running-snoc : (es : List Entry) (e : Entry) (n : FullName)
+    → fix_running (es ++ e ∷ []) n ≡ (if repaired n e then None else or_else (arm_in Fix n e) (fix_running es n))
+fix_running-snoc es e n = ap (last_of (arm_in Fix n)) (since-snoc (repaired n) es e) ∙ go (repaired n e)
+  where
+    go : (b : Bool) → last_of (arm_in Fix n) (if b then [] else since (repaired n) es ++ e ∷ []) ≡ (if b then None else or_else (arm_in Fix n e) (fix_running es n))
+    go true = refl
+    go false = last_of-snoc (arm_in Fix n) (since (repaired n) es) e
+
+pub held_off-snoc : (me : ℕ) (es : List Entry) (e : Entry) (n : FullName) (now : ℕ)
+    → held_off me (es ++ e ∷ []) n now ≡ held_off me es n now || holds_off me n now (record { before = es; this = e })
+held_off-snoc me es e n now = ap (list_any (holds_off me n now)) (steps-snoc es e) ∙ list_any-snoc (holds_off me n now) (steps es) _
+
+pub is_held-cons : (e : Entry) (es : List Entry) (n : FullName) → is_held (e ∷ es) n ≡ gains e n || is_held es n
+is_held-cons e es n = ap (list_any (has_name n)) (flat_map-append held_by (e ∷ []) es) ∙ list_any-append (has_name n) (held (e ∷ [])) (held es)
+
+pub known-append : (es more : List Entry) (s : Stream) → known (es ++ more) s ≡ max (known es s) (known more s)
+known-append es more s =
+    ap (λ ns. greatest (flat_map (number_in s) ns)) (flat_map-append shown_by es more)
+    ∙ ap greatest (flat_map-append (number_in s) (shown_to_exist es) (shown_to_exist more))
+    ∙ greatest-append (flat_map (number_in s) (shown_to_exist es)) (flat_map (number_in s) (shown_to_exist more))
+
+pub is_held-append : (es more : List Entry) (n : FullName) → is_held (es ++ more) n ≡ is_held es n || is_held more n
+is_held-append es more n = ap (list_any (has_name n)) (flat_map-append held_by es more) ∙ list_any-append (has_name n) (held es) (held more)

@@ -1,0 +1,173 @@
+-- A run of a member with timers: it hears the second drawop, misses the first and asks for it at the first tick past the end of the
+-- interval. So the premises of the law of response can be met.
+use Rattle.std.proofs.Common.{◌≡◌, ℕ, ◌==◌, ◌<◌, Bool, true, false, not, ◌&&◌, ◌||◌, List, [], ◌∷◌, ◌++◌, refl, ap, ◌∙◌, arith, lit<, lit≤}
+use Rattle.std.specs.Prelude.{◌⊎◌, Option, Some, None, nat_le, option_map, is_some, if◌then◌else◌}
+use Rattle.std.proofs.lemmas.Bool.Decides.{nat_tests}
+use Rattle.srm_names.specs.FullName.{FullName}
+use Rattle.srm_names.specs.Histories.{greatest, last_of}
+use Rattle.srm_names.specs.Names.{named, same_name, same_stream}
+use Rattle.srm_codec.specs.declared.datagram.Datagram.{Datagram}
+use Rattle.srm_codec.specs.declared.datagram.Datagram.TheVariants.{Data, Request}
+use Rattle.srm_codec.specs.Spelling.{bits_set, IsSpellable}
+use Rattle.srm_bucket.specs.declared.class.Class.{Class}
+use Rattle.srm_bucket.specs.declared.class.Class.TheVariants.{Shown, New, Other}
+use Rattle.srm_bucket.specs.Calls.{Classed, Call, Handed, Popped}
+use Rattle.srm_bucket.specs.Classes.{rank, handed, gone}
+use Rattle.srm_bucket.specs.Law.{IsPrefixOf, BucketLaw, GoesRight as CallRight}
+use Rattle.srm_timers.specs.declared.arm.Arm.{Arm}
+use Rattle.srm_timers.specs.declared.arm.ArmKind.TheVariants.{Ask}
+use Rattle.srm_timers.specs.Arms.{Setting, setting, next_exponent, ran_out}
+use Rattle.srm_entries.specs.Configs.{Config}
+use Rattle.srm_entries.specs.declared.entry.Entry.{Entry}
+use Rattle.srm_entries.specs.Entries.{is_held, is_missing, ticked}
+use Rattle.srm_entries.specs.Timers.{arm_in, ask_due, held_off, setting_of, arm_of}
+use Rattle.srm_entries.specs.Bucket.{Going, classed, bucket_calls}
+use Rattle.srm_entries.specs.Runs.{EntryRight, IsMemberRun}
+use Rattle.srm_entries.specs.Sample.{in_roster, zeros, drawop_of, hears, ticks, ask_arm, idle}
+use Rattle.srm_entries.proofs.Plain.{idle_right, of_all, neither, missing_none, unknown_unmissed}
+use Rattle.srm_entries.proofs.Responding.{response_law}
+
+abbrev one_of_four : Config
+one_of_four = in_roster 1 4 4204
+
+abbrev gap : Entry
+gap = hears 1 1000000 (Data (drawop_of 2 0 [])) (ask_arm 1 0 200000 ∷ [])
+
+abbrev request : Datagram
+request = Request 1 (named zeros 1) 0
+
+abbrev asks : Entry
+asks = ticks 1 1400000 (named zeros 1 ∷ []) [] (ask_arm 1 1 400000 ∷ []) (request ∷ [])
+
+-- the first name is missing, and no other
+
+only_first : (k : ℕ) → (nat_le 1 k && nat_le k 2 && not ((2 == k) || false)) ≡ (k == 1)
+only_first k = grind (arith, nat_tests)
+
+nothing_else : (n : FullName) → same_stream n.stream zeros ≡ false → is_missing (gap ∷ []) n ≡ false
+nothing_else n e = unknown_unmissed (gap ∷ []) n (ap (λ b. greatest ((if b then 2 ∷ [] else []) ++ [])) e)
+
+-- the arms of the gap
+
+gap_armed : (n : FullName) → option_map setting (arm_of n gap.effects.arms) ≡ setting_of 1 [] gap n
+gap_armed = of_all (λ n. option_map setting (arm_of n gap.effects.arms) ≡ setting_of 1 [] gap n)
+    (λ k. rw (missing_none (named zeros k), only_first k) (which (k == 1)))
+    (λ n e. rw (missing_none n, nothing_else n e) (ap (λ b. option_map setting (if b && (n.number == 1) then Some (ask_arm 1 0 200000) else None)) e))
+  where
+    which : (b : Bool) → option_map setting (if b then Some (ask_arm 1 0 200000) else None)
+        ≡ option_map (λ i. record { kind = Ask; exponent = i; distance = 100000 }) (if b then Some 0 else None)
+    which true = refl
+    which false = refl
+
+gap_right : EntryRight one_of_four 1000000 (record { before = []; this = gap })
+gap_right = record {
+  member = refl;
+  moment = lit≤ tt;
+  verdict = (refl, refl);
+  drawn = refl;
+  arms = record { in_order = refl; exact = gap_armed; waits = ((lit≤ tt, lit≤ tt), tt) };
+  timers = record { asks = record { in_order = refl; exact = λ n. refl }; fixes = record { in_order = refl; exact = λ n. refl } };
+  senders = tt;
+  spelled = tt;
+  read = ((lit< tt, (lit< tt, lit< tt), lit≤ tt, lit≤ tt), lit≤ tt, lit≤ tt);
+  session = refl;
+  message = refl;
+  state = refl;
+}
+
+-- the arms and the asks of the tick
+
+never_held : (k : ℕ) → (k == 1) ≡ true → ((2 == k) || false) ≡ false
+never_held k e = grind (arith, nat_tests)
+
+armed_again : (n : FullName) → option_map setting (arm_of n asks.effects.arms) ≡ setting_of 1 (gap ∷ []) asks n
+armed_again = of_all (λ n. option_map setting (arm_of n asks.effects.arms) ≡ setting_of 1 (gap ∷ []) asks n)
+    (λ k. rw (only_first k) (here ((2 == k) || false) (not (held_off 1 (gap ∷ []) (named zeros k) 1400000)) (k == 1) (never_held k)))
+    (λ n e. rw (nothing_else n e)
+    (ap (λ b. option_map setting (if b && (n.number == 1) then Some (ask_arm 1 1 400000) else None)) e
+    ∙ there (is_held (gap ∷ []) n) (not (held_off 1 (gap ∷ []) n 1400000))))
+  where
+    here : (held free first : Bool) → (first ≡ true → held ≡ false) → option_map setting (if first then Some (ask_arm 1 1 400000) else None)
+        ≡ (if held then (if held && true && free then None else None)
+        else option_map (λ i. record { kind = Ask; exponent = i; distance = 100000 })
+        (if first then (if first || false then option_map next_exponent (option_map (λ (a : Arm). record { set = 1000000; arm = a }) (if first then Some (ask_arm 1 0 200000) else None)) else None) else if first then Some 0 else None))
+    here false free true p = refl
+    here false free false p = refl
+    here true free true p = absurd (let q : true ≡ false = p refl in cc)
+    here true free false p = neither free
+
+    there : (held free : Bool) → ◌≡◌ {A = Option Setting} None (if held then (if held && true && free then None else None) else None)
+    there true free = neither free
+    there false free = refl
+
+asked_exactly : (n : FullName) → ((same_name n (named zeros 1)) || false) ≡ (ticked asks && ask_due (gap ∷ []) n 1400000)
+asked_exactly = of_all (λ n. ((same_name n (named zeros 1)) || false) ≡ (ticked asks && ask_due (gap ∷ []) n 1400000))
+    (λ k. rw (only_first k) (which (k == 1)))
+    (λ n e. rw (nothing_else n e) (ap (λ b. (b && (n.number == 1)) || false) e))
+  where
+    which : (b : Bool) → (b || false) ≡ (b && ran_out 1400000 (option_map (λ (a : Arm). record { set = 1000000; arm = a }) (if b then Some (ask_arm 1 0 200000) else None)))
+    which true = refl
+    which false = refl
+
+request_spelled : IsSpellable request
+unfolding bits_set
+request_spelled = (lit< tt, lit< tt, ((lit< tt, (lit< tt, lit< tt), lit≤ tt, lit≤ tt), tt))
+
+asks_right : EntryRight one_of_four 1000000 (record { before = gap ∷ []; this = asks })
+asks_right = record {
+  member = refl;
+  moment = lit≤ tt;
+  verdict = refl;
+  drawn = refl;
+  arms = record { in_order = refl; exact = armed_again; waits = ((lit≤ tt, lit≤ tt), tt) };
+  timers = record { asks = record { in_order = refl; exact = asked_exactly }; fixes = record { in_order = refl; exact = λ n. refl } };
+  senders = (refl, tt);
+  spelled = (request_spelled, tt);
+  read = tt;
+  session = refl;
+  message = refl;
+  state = refl;
+}
+
+-- the request goes
+
+abbrev asked_item : Classed Datagram
+asked_item = classed Shown request
+
+abbrev goings : List Going
+goings = idle gap ∷ record { entry = asks; goes = asked_item ∷ [] } ∷ []
+
+abbrev handed_one : List (Call Datagram)
+handed_one = Handed asked_item ∷ []
+
+abbrev went_one : List (Call Datagram)
+went_one = handed_one ++ Popped 1400000 (Some asked_item) ∷ []
+
+law : BucketLaw 8000 4204 (bucket_calls 1 goings)
+law = (hands, (goes, (ends, tt)))
+  where
+    hands : CallRight 8000 4204 [] handed_one (Handed asked_item)
+    hands = record { in_order = λ class. (handed class handed_one, refl); highest_first = tt; not_too_much = tt; all_that_may = tt }
+
+    all_gone : (class : Class) → IsPrefixOf (gone class went_one) (handed class went_one)
+    all_gone Shown = ([], refl)
+    all_gone New = ([], refl)
+    all_gone Other = ([], refl)
+
+    none_higher : (class : Class) → rank class < 1 → gone class handed_one ≡ handed class handed_one
+    none_higher Shown l = absurd (omega arith)
+    none_higher New l = absurd (omega arith)
+    none_higher Other l = absurd (omega arith)
+
+    goes : CallRight 8000 4204 handed_one went_one (Popped 1400000 (Some asked_item))
+    goes = record { in_order = all_gone; highest_first = none_higher; not_too_much = (lit≤ tt, lit≤ tt, tt); all_that_may = tt }
+
+    ends : CallRight 8000 4204 went_one (went_one ++ Popped 1400000 None ∷ []) (Popped 1400000 None)
+    ends = record { in_order = all_gone; highest_first = tt; not_too_much = (lit≤ tt, lit≤ tt, tt); all_that_may = tt }
+
+pub run : IsMemberRun one_of_four 1000000 (gap ∷ asks ∷ [])
+run = record { each = (gap_right, (asks_right, tt)); bucket = (goings, refl, (idle_right refl, (record { same = refl; at_ticks = tt }, tt)), law) }
+
+-- the law says that by this tick the name is held or asked for again
+pub answered : (is_held (gap ∷ asks ∷ []) (named zeros 1) ≡ true) ⊎ (is_some (last_of (arm_in Ask (named zeros 1)) (asks ∷ [])) ≡ true)
+answered = (response_law one_of_four 1000000 (gap ∷ asks ∷ []) run).asked [] [] [] gap asks (named zeros 1) (record { set = 1000000; arm = ask_arm 1 0 200000 }) refl refl refl refl (lit≤ tt)

@@ -1,0 +1,121 @@
+-- The definitions at worked examples.
+use Rattle.std.specs.Prelude.{◌≡◌, ℕ, List, [], ◌∷◌, ◌++◌, map, true, false, None, option_map, refl}
+use Rattle.srm_names.specs.declared.drawop.Drawop.{Drawop}
+use Rattle.srm_names.specs.Names.{first_page, named, names_up_to, ascending, name_below}
+use Rattle.srm_codec.specs.declared.datagram.Datagram.TheVariants.{Data, Request, Repair, Session}
+use Rattle.srm_codec.specs.Spelling.{bits_set}
+use Rattle.srm_entries.specs.Configs.{Config}
+use Rattle.srm_entries.specs.declared.entry.Entry.{Entry}
+use Rattle.srm_timers.specs.declared.arm.Arm.{Arm}
+use Rattle.srm_entries.specs.Distances.{distance}
+use Rattle.srm_timers.specs.Arms.{setting}
+use Rattle.srm_entries.specs.Sample.{in_roster, zeros, drawop_of, hears, ticks, ask_arm, fix_arm, ask_set, fix_set}
+use Rattle.srm_entries.specs.Timers.{setting_of, ask_due, fix_due, arm_of, low_of, high_of}
+
+abbrev config : ℕ → Config
+config me = in_roster me 4 4204
+
+-- a gap is found and asked for
+abbrev gap : Entry
+gap = hears 1 1000000 (Data (drawop_of 2 0 [])) (ask_arm 1 0 200000 ∷ [])
+
+gap_arms : map (setting_of 1 [] gap) (names_up_to zeros 4) ≡ ask_set 0 ∷ None ∷ None ∷ None ∷ []
+gap_arms = refl
+
+not_yet : ask_due (gap ∷ []) (named zeros 1) 1199999 ≡ false
+not_yet = refl
+
+then_due : map (λ n. ask_due (gap ∷ []) n 1200000) (names_up_to zeros 4) ≡ true ∷ false ∷ false ∷ false ∷ []
+then_due = refl
+
+asks_again : setting_of 1 (gap ∷ []) (ticks 1 1200000 (named zeros 1 ∷ []) [] [] []) (named zeros 1) ≡ ask_set 1
+asks_again = refl
+
+-- a request of another backs it off, and one before the ignore moment does nothing
+abbrev asked : ℕ → List Arm → Entry
+asked now arms = hears 1 now (Request 2 (named zeros 1) 0) arms
+
+backed_off : setting_of 1 (gap ∷ []) (asked 1050000 []) (named zeros 1) ≡ ask_set 1
+unfolding bits_set
+backed_off = refl
+
+ignored : setting_of 1 (gap ∷ asked 1050000 (ask_arm 1 1 400000 ∷ []) ∷ []) (asked 1249999 []) (named zeros 1) ≡ None
+unfolding bits_set
+ignored = refl
+
+backed_off_again : setting_of 1 (gap ∷ asked 1050000 (ask_arm 1 1 400000 ∷ []) ∷ []) (asked 1250000 []) (named zeros 1) ≡ ask_set 2
+unfolding bits_set
+backed_off_again = refl
+
+-- a repair is armed, cancelled and held off
+abbrev one : Drawop
+one = drawop_of 1 0 []
+
+abbrev holding : List Entry
+holding = hears 2 1 (Data one) [] ∷ hears 2 5000000 (Request 1 (named zeros 1) 0) (fix_arm 1 100000 ∷ []) ∷ []
+
+fix_armed : setting_of 2 (hears 2 1 (Data one) [] ∷ []) (hears 2 5000000 (Request 1 (named zeros 1) 0) []) (named zeros 1) ≡ fix_set
+unfolding bits_set
+fix_armed = refl
+
+fix_runs_out : fix_due holding (named zeros 1) 5100000 ≡ true
+fix_runs_out = refl
+
+abbrev repaired : List Entry
+repaired = holding ++ hears 2 5099999 (Repair 3 one) [] ∷ []
+
+cancelled : fix_due repaired (named zeros 1) 5100000 ≡ false
+cancelled = refl
+
+still_held_off : setting_of 2 repaired (hears 2 5399998 (Request 1 (named zeros 1) 0) []) (named zeros 1) ≡ None
+unfolding bits_set
+still_held_off = refl
+
+held_off_no_more : setting_of 2 repaired (hears 2 5399999 (Request 1 (named zeros 1) 0) []) (named zeros 1) ≡ fix_set
+unfolding bits_set
+held_off_no_more = refl
+
+-- an estimate of a distance
+abbrev echoed : ℕ → Entry
+echoed now = hears 1 now (Session 2 5 false first_page [] (record { member = 1; t1 = 1000000; delay = 30000 } ∷ [])) []
+
+estimates : map (λ now. distance (echoed now ∷ []) 1 2) (1110000 ∷ 1030001 ∷ 1020000 ∷ 21030002 ∷ 999999 ∷ []) ≡ 40000 ∷ 1 ∷ 1 ∷ 10000000 ∷ 100000 ∷ []
+estimates = refl
+
+first_counts : distance (echoed 1110000 ∷ echoed 1200000 ∷ []) 1 2 ≡ 40000
+first_counts = refl
+
+-- a packed request for 1 and 3, with nothing known
+packed_heard : map (setting_of 1 [] (hears 1 1000000 (Request 2 (named zeros 1) 2) [])) (names_up_to zeros 4) ≡ ask_set 1 ∷ ask_set 0 ∷ ask_set 1 ∷ None ∷ []
+unfolding bits_set
+packed_heard = refl
+
+-- a packed request for 1, 2 and 3 at a member that holds 1 and 3
+abbrev holds_two : List Entry
+holds_two = hears 2 1 (Data (drawop_of 1 0 [])) [] ∷ hears 2 2 (Data (drawop_of 3 0 [])) (ask_arm 2 0 200000 ∷ []) ∷ []
+
+mixed : map (setting_of 2 holds_two (hears 2 10 (Request 1 (named zeros 1) 3) [])) (names_up_to zeros 3)
+    ≡ fix_set ∷ ask_set 1 ∷ fix_set ∷ []
+unfolding bits_set
+mixed = refl
+
+-- the waits that an arm may have: from 2 to 4 distances at first, doubled with each exponent
+ask_waits : map (λ i. low_of (config 1) (ask_arm 1 i 0)) (0 ∷ 1 ∷ 8 ∷ []) ≡ 200000 ∷ 400000 ∷ 51200000 ∷ []
+ask_waits = refl
+
+ask_waits_at_most : map (λ i. high_of (config 1) (ask_arm 1 i 0)) (0 ∷ 1 ∷ 8 ∷ []) ≡ 400000 ∷ 800000 ∷ 102400000 ∷ []
+ask_waits_at_most = refl
+
+fix_waits : low_of (config 1) (fix_arm 1 0) ≡ 100000
+fix_waits = refl
+
+fix_waits_at_most : high_of (config 1) (fix_arm 1 0) ≡ 200000
+fix_waits_at_most = refl
+
+-- the arms of the gap, as a whole: waits and order
+gap_in_order : ascending name_below (map (λ a. a.name) gap.effects.arms) ≡ true
+gap_in_order = refl
+
+-- in order of name, with none for a name that isn't missing
+gap_exact : map (λ n. option_map setting (arm_of n gap.effects.arms)) (names_up_to zeros 4) ≡ map (setting_of 1 [] gap) (names_up_to zeros 4)
+gap_exact = refl

@@ -1,0 +1,116 @@
+-- Request and repair timers: which arms an entry holds, and which timers a tick hands out.
+use Rattle.std.specs.Prelude.{◌≡◌, ℕ, ◌+◌, ◌*◌, ◌^◌, ◌≤◌, nat_lt, Bool, true, false, not, ◌&&◌, ◌||◌, List, [], ◌∷◌, ◌++◌, map, find, if◌then◌else◌, Option, Some, None, unwrap_or, option_map, is_some}
+use Rattle.std.specs.List.{list_any, AllByRecursion}
+use Rattle.srm_names.specs.FullName.{FullName}
+use Rattle.srm_names.specs.Histories.{Step, steps, first_of, last_of, since}
+use Rattle.srm_names.specs.Names.{same_name, name_below, among, ascending, AreExactly}
+use Rattle.srm_codec.specs.declared.datagram.Datagram.{Datagram}
+use Rattle.srm_codec.specs.declared.datagram.Datagram.TheVariants.{Request, Repair}
+use Rattle.srm_codec.specs.Spelling.{asked_by}
+use Rattle.srm_entries.specs.Configs.{Config}
+use Rattle.srm_entries.specs.declared.entry.Entry.{Entry}
+use Rattle.srm_timers.specs.declared.arm.Arm.{Arm}
+use Rattle.srm_timers.specs.declared.arm.ArmKind.{ArmKind}
+use Rattle.srm_timers.specs.declared.arm.ArmKind.TheVariants.{Ask, Fix}
+use Rattle.srm_entries.specs.Entries.{heard, ticked, state, is_gone, is_held, is_missing}
+use Rattle.srm_timers.specs.declared.arm.Armed.{Armed}
+use Rattle.srm_timers.specs.Arms.{same_kind, ran_out, Setting, setting, next_exponent, backs_off}
+use Rattle.srm_entries.specs.Distances.{distance}
+
+abbrev pub arm_in : ArmKind → FullName → Entry → Option Armed
+arm_in kind n e =
+    option_map (λ a. record { set = e.moment; arm = a }) (find (λ a. same_kind kind a.kind && same_name n a.name) e.effects.arms)
+
+abbrev pub last_ask : List Entry → FullName → Option Armed
+last_ask es n = last_of (arm_in Ask n) es
+
+-- who asks for the name
+abbrev pub asker_in : FullName → Option Datagram → Option ℕ
+asker_in n (Some (Request sender name mask)) = if among (asked_by name mask) n then Some sender else None
+asker_in n _ = None
+
+abbrev pub asker : FullName → Entry → Option ℕ
+asker n e = asker_in n (heard e)
+
+abbrev pub asks_for : FullName → Entry → Bool
+asks_for n e = is_some (asker n e)
+
+abbrev pub repairs_in : FullName → Option Datagram → Bool
+repairs_in n (Some (Repair sender drawop)) = same_name n drawop.name
+repairs_in n _ = false
+
+-- a repair of the name was heard or handed out
+abbrev pub repaired : FullName → Entry → Bool
+repaired n e = repairs_in n (heard e) || among e.effects.fixes n
+
+abbrev pub ask_due : List Entry → FullName → ℕ → Bool
+ask_due es n now = not (is_gone (state es)) && is_missing es n && ran_out now (last_ask es n)
+
+abbrev pub first_asker : List Entry → FullName → ℕ
+first_asker es n = unwrap_or (first_of (asker n) es) n.stream.source
+
+-- a repair holds the name off for three distances to the member that asked first, as both were known at that entry
+abbrev pub holds_off : ℕ → FullName → ℕ → Step Entry → Bool
+holds_off me n now s =
+    repaired n s.this && nat_lt now (s.this.moment + 3 * distance (s.before ++ s.this ∷ []) me (first_asker s.before n))
+
+abbrev pub held_off : ℕ → List Entry → FullName → ℕ → Bool
+held_off me es n now = list_any (holds_off me n now) (steps es)
+
+-- the repair timer that runs: the last one set since a repair was heard or handed out
+abbrev pub fix_running : List Entry → FullName → Option Armed
+fix_running es n = last_of (arm_in Fix n) (since (repaired n) es)
+
+abbrev pub fix_due : List Entry → FullName → ℕ → Bool
+fix_due es n now = not (is_gone (state es)) && ran_out now (fix_running es n)
+
+-- The exponent with which the entry arms a request for the name:
+-- where the name becomes missing, where a request for it is heard that isn't ignored, and where the member asks itself.
+abbrev pub ask_exponent : List Entry → Entry → FullName → Option ℕ
+ask_exponent before e n =
+    if is_missing before n
+    then (if asks_for n e then backs_off e.moment (last_ask before n) else if among e.effects.asks n then option_map next_exponent (last_ask before n) else None)
+    else if is_missing (before ++ e ∷ []) n then Some (if asks_for n e then 1 else 0) else None
+
+abbrev pub ask_setting : ℕ → List Entry → Entry → FullName → Option Setting
+ask_setting me before e n =
+    option_map (λ i. record { kind = Ask; exponent = i; distance = distance (before ++ e ∷ []) me n.stream.source }) (ask_exponent before e n)
+
+-- a request for a held name arms a repair, where none runs and the name isn't held off
+abbrev pub fix_setting : ℕ → List Entry → Entry → FullName → Option Setting
+fix_setting me before e n =
+    if is_held before n && not (is_some (fix_running before n)) && not (held_off me before n e.moment)
+    then option_map (λ a. record { kind = Fix; exponent = 0; distance = distance before me a }) (asker n e)
+    else None
+
+abbrev pub setting_of : ℕ → List Entry → Entry → FullName → Option Setting
+setting_of me before e n = if is_held before n then fix_setting me before e n else ask_setting me before e n
+
+-- the ends of the interval from which the wait of an arm is drawn
+abbrev pub low_of : Config → Arm → ℕ
+low_of c a = times a.kind
+  where
+    times : ArmKind → ℕ
+    times Ask = 2 ^ a.exponent * c.c1 * a.distance
+    times Fix = c.d1 * a.distance
+
+abbrev pub high_of : Config → Arm → ℕ
+high_of c a = times a.kind
+  where
+    times : ArmKind → ℕ
+    times Ask = 2 ^ a.exponent * (c.c1 + c.c2) * a.distance
+    times Fix = (c.d1 + c.d2) * a.distance
+
+abbrev pub arm_of : FullName → List Arm → Option Arm
+arm_of n arms = find (λ a. same_name n a.name) arms
+
+-- the entry holds these arms and no others, in order of name
+pub record ArmsRight (c : Config) (before : List Entry) (e : Entry) : Type 0 where
+  pub in_order : ascending name_below (map (λ a. a.name) e.effects.arms) ≡ true
+  pub exact : (n : FullName) → option_map setting (arm_of n e.effects.arms) ≡ setting_of c.me before e n
+  pub waits : AllByRecursion (λ a. (low_of c a ≤ a.wait) × (a.wait ≤ high_of c a)) e.effects.arms
+
+-- A tick hands out exactly the requests and repairs whose timers ran out. No other entry hands out any.
+pub record TimersRight (before : List Entry) (e : Entry) : Type 0 where
+  pub asks : AreExactly (λ n. ticked e && ask_due before n e.moment) e.effects.asks
+  pub fixes : AreExactly (λ n. ticked e && fix_due before n e.moment) e.effects.fixes

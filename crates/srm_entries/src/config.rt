@@ -1,0 +1,159 @@
+//! What is fixed for a session.
+
+ghost use Rattle.std.specs.Prelude.{◌≡◌, ◌≤◌, ◌↔◌, IfSome, IsSome};
+ghost use Rattle.srm_names.specs.declared.limits.TheConstants.{MEMBERS};
+ghost use Rattle.srm_bucket.specs.declared.limits.TheConstants.{LEAST_RATE, GREATEST_RATE, LEAST_DEPTH, GREATEST_DEPTH};
+ghost use Rattle.srm_timers.specs.declared.limits.TheConstants.{TIMER_SETTING};
+ghost use Rattle.srm_entries.specs.Configs.{IsConfig};
+
+use srm_bucket::{GREATEST_DEPTH, GREATEST_RATE, LEAST_DEPTH, LEAST_RATE};
+use srm_names::{MEMBERS, Member};
+use srm_timers::TIMER_SETTING;
+use std::marker::Model;
+
+/// The settings of one member, fixed for the session. Contracts see them as a record.
+#[derive(Clone, Copy, Debug, PartialEq, Eq)]
+pub struct Config {
+    me: Member,
+    members: u8,
+    session: u32,
+    rate: u32,
+    depth: u32,
+    c1: u8,
+    c2: u8,
+    d1: u8,
+    d2: u8,
+}
+
+impl Model for Config {
+    ghost use Rattle.srm_entries.specs.Configs.{Config as Settings, IsConfig};
+
+    ghost Value = { Settings };
+
+    ghost view = { λ c. record { me = c.me; members = c.members; session = c.session; rate = c.rate; depth = c.depth; c1 = c.c1; c2 = c.c2; d1 = c.d1; d2 = c.d2 } };
+
+    ghost invariant = { λ c. IsConfig (record { me = c.me; members = c.members; session = c.session; rate = c.rate; depth = c.depth; c1 = c.c1; c2 = c.c2; d1 = c.d1; d2 = c.d2 }) };
+
+    ghost inverse = { λ c. record { me = c.me; members = c.members; session = c.session; rate = c.rate; depth = c.depth; c1 = c.c1; c2 = c.c2; d1 = c.d1; d2 = c.d2 } };
+}
+
+impl Config {
+    /// The settings of member `me` in a roster of the members below `members`, 1 to 32: the session's number, the rate of
+    /// what it sends in bytes a second, 1 to 100,000,000, the depth of its bucket in bytes, 1,051 to 1,000,000, and the
+    /// four factors of its timers, 0 to 16 each. A request waits from `c1` to `c1 + c2` distances, a repair from `d1` to
+    /// `d1 + d2`.
+    ///
+    /// None where one of them is out of its range, or `me` isn't in the roster.
+    pub fn new(
+        me: Member,
+        members: u8,
+        session: u32,
+        rate: u32,
+        depth: u32,
+        c1: u8,
+        c2: u8,
+        d1: u8,
+        d2: u8,
+    ) -> Option<Config>
+        ensures known { IsSome result ↔ IsConfig (record { me = me; members = members; session = session; rate = rate; depth = depth; c1 = c1; c2 = c2; d1 = d1; d2 = d2 }) }
+        ensures value { IfSome result (λ config. config ≡ record { me = me; members = members; session = session; rate = rate; depth = depth; c1 = c1; c2 = c2; d1 = d1; d2 = d2 }) }
+    {
+        if me.number() < members
+            && members <= MEMBERS
+            && LEAST_RATE <= rate
+            && rate <= GREATEST_RATE
+            && LEAST_DEPTH <= depth
+            && depth <= GREATEST_DEPTH
+            && c1 <= TIMER_SETTING
+            && c2 <= TIMER_SETTING
+            && d1 <= TIMER_SETTING
+            && d2 <= TIMER_SETTING
+        {
+            Some(Config {
+                me,
+                members,
+                session,
+                rate,
+                depth,
+                c1,
+                c2,
+                d1,
+                d2,
+            })
+        } else {
+            None
+        }
+    }
+
+    /// The member that these settings are for.
+    pub fn me(&self) -> Member
+        ensures { result ≡ self.now.me }
+    {
+        self.me
+    }
+
+    /// How many members the roster has.
+    pub fn members(&self) -> u8
+        ensures value { result ≡ self.now.members }
+        ensures limit { result ≤ MEMBERS }
+    {
+        self.members
+    }
+
+    /// The number of the session.
+    pub fn session(&self) -> u32
+        ensures { result ≡ self.now.session }
+    {
+        self.session
+    }
+
+    /// Bytes a second.
+    pub fn rate(&self) -> u32
+        ensures value { result ≡ self.now.rate }
+        ensures least { LEAST_RATE ≤ result }
+        ensures greatest { result ≤ GREATEST_RATE }
+    {
+        self.rate
+    }
+
+    /// Bytes of the bucket.
+    pub fn depth(&self) -> u32
+        ensures value { result ≡ self.now.depth }
+        ensures least { LEAST_DEPTH ≤ result }
+        ensures greatest { result ≤ GREATEST_DEPTH }
+    {
+        self.depth
+    }
+
+    /// A request waits at least so many distances.
+    pub fn c1(&self) -> u8
+        ensures value { result ≡ self.now.c1 }
+        ensures range { result ≤ TIMER_SETTING }
+    {
+        self.c1
+    }
+
+    /// And so many more at most.
+    pub fn c2(&self) -> u8
+        ensures value { result ≡ self.now.c2 }
+        ensures range { result ≤ TIMER_SETTING }
+    {
+        self.c2
+    }
+
+    /// A repair waits at least so many distances.
+    pub fn d1(&self) -> u8
+        ensures value { result ≡ self.now.d1 }
+        ensures range { result ≤ TIMER_SETTING }
+    {
+        self.d1
+    }
+
+    /// And so many more at most.
+    pub fn d2(&self) -> u8
+        ensures value { result ≡ self.now.d2 }
+        ensures range { result ≤ TIMER_SETTING }
+    {
+        self.d2
+    }
+}

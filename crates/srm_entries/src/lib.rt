@@ -1,0 +1,21 @@
+//! What one member's calls leave behind, and which entry may follow.
+//!
+//! An *entry* says who, when, what was asked and what was done. The rules of the protocol are said of lists of entries, in
+//! `specs/`: what is held, known and missing after them, which timers run, what may be sent, and so which entry a member may
+//! make next. The laws here hold of every such list.
+#![tactic(auto)]
+
+mod cause;
+mod config;
+mod entry;
+mod fault;
+mod laws;
+mod state;
+
+pub use cause::{Cause, Outcome};
+pub use config::Config;
+pub use entry::{Effects, Entry, Input, Verdict};
+pub use fault::AgentFault;
+pub use laws::{gives, keeps_rate, responds};
+pub use srm_timers::{Arm, ArmKind};
+pub use state::AgentState;
