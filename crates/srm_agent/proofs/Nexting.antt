@@ -21,11 +21,11 @@ use Rattle.srm_entries.specs.declared.entry.Entry.{Entry}
 use Rattle.srm_entries.specs.Configs.{Config}
 use Rattle.srm_entries.specs.Entries.{held, released, slots, state, is_gone}
 use Rattle.srm_entries.specs.Verdicts.{final}
-use Rattle.srm_entries.specs.Giving.{next_drawop, may_leave, has_more, is_some_of, is_quiet, given, GivesAfter, GiveRight}
+use Rattle.srm_entries.specs.Giving.{next_drawop, may_leave, has_more, is_some_of, is_quiet, is_smallest, given, GivesAfter, GiveRight}
 use Rattle.srm_agent_parts.specs.Feeds.{FeedContent, FeedFits}
 use Rattle.srm_agent.specs.Contents.{Content}
 use Rattle.srm_agent.specs.Fits.{Fits, FeedsFit}
-use Rattle.srm_agent.specs.Nexts.{IsNextOf, IsNextOn, IsSmallest, IsOfSmallest, PrefersSmallest}
+use Rattle.srm_agent.specs.Nexts.{IsNextOf, IsNextOn, IsSmallest}
 
 -- the released drawop at a place is the one that is held under the number of that place
 at_place : (inserted : List Drawop) (s : Stream) (k : ℕ) (d : Drawop) → slice_get (store.released inserted s) k ≡ Some d → store.held_at inserted (named s (1 + k)) ≡ Some d
@@ -69,16 +69,24 @@ gives_nothing_closed c past j f fits closed = let k : list_any is_close (given p
 pub gives_open : (c : Config) (past : List Entry) (j : ℕ) (page : Page) (f : FeedContent) → FeedFits (given past j) f → slice_get (slots past) j ≡ Some page → f.opened ≡ false → f.closed ≡ false → GiveRight c past j (Some (Open page))
 gives_open c past j page f fits at unopened unclosed = subst (λ o. GivesAfter c past (given past j) o (Some (Open page))) (sym at) (refl, fits.begun unopened unclosed)
 
-next_given_at : (c : Config) (past : List Entry) (page : Page) (g : List PageMsg) (source : ℕ) (m : PageMsg) → is_some (opened g) ≡ true → list_any is_close g ≡ false → IsNextOf past page g source (Some m) → GivesAfter c past g (Some page) (Some m)
-next_given_at c past page g source (Open p) o closed next = absurd next
-next_given_at c past page g source (Draw d) o closed next = (o, closed, next.1)
-next_given_at c past page g source (Left s) o closed next = (o, closed, next.1)
-next_given_at c past page g source Close o closed next = absurd next
+none_of : (p : ℕ → Bool) (from n : ℕ) → ((k : ℕ) → from ≤ k → k < from + n → p k ≡ false) → list_any p (count_up from n) ≡ false
+none_of p from zero none = refl
+none_of p from (suc n) none = ap (λ b. b || list_any p (count_up (from + 1) n)) (none from (omega arith) (omega arith)) ∙ none_of p (from + 1) n (λ k l m. none k (omega arith) (omega arith))
+
+smallest_of : (past : List Entry) (page : Page) (g : List PageMsg) (source s : ℕ) → s ≡ source → IsSmallest past page g source → is_smallest past g page s ≡ true
+smallest_of past page g source s same small = ap not (none_of (has_more past g (Some page)) 0 s (λ k l m. small k (omega (arith, m, same))))
+
+next_given_at : (c : Config) (past : List Entry) (page : Page) (g : List PageMsg) (source : ℕ) (m : PageMsg) → is_some (opened g) ≡ true → list_any is_close g ≡ false
+    → IsNextOf past page g source (Some m) → IsSmallest past page g source → GivesAfter c past g (Some page) (Some m)
+next_given_at c past page g source (Open p) o closed next small = absurd next
+next_given_at c past page g source (Draw d) o closed next small = (o, closed, next.1, smallest_of past page g source d.name.stream.source next.0 small)
+next_given_at c past page g source (Left s) o closed next small = (o, closed, next.1, smallest_of past page g source s next.0 small)
+next_given_at c past page g source Close o closed next small = absurd next
 
 pub gives_next : (c : Config) (past : List Entry) (j : ℕ) (page : Page) (f : FeedContent) (m : PageMsg) → FeedFits (given past j) f → slice_get (slots past) j ≡ Some page → f.opened ≡ true → f.closed ≡ false
     → IsNextOn c past page (given past j) (Some m) → GiveRight c past j (Some m)
 gives_next c past j page f m fits at o closed next =
-    subst (λ o. GivesAfter c past (given past j) o (Some m)) (sym at) (next_given_at c past page (given past j) next.0 m (sym fits.opened ∙ o) (sym fits.closed ∙ closed) next.1)
+    subst (λ o. GivesAfter c past (given past j) o (Some m)) (sym at) (next_given_at c past page (given past j) next.0 m (sym fits.opened ∙ o) (sym fits.closed ∙ closed) next.1 next.2)
 
 -- nothing but the close may be given: it is given by a member that is gone
 close_or_none : (c : Config) (past : List Entry) (g : List PageMsg) (page : Option Page) (b : Bool) → is_gone (state past) ≡ b → list_any is_close g ≡ false → is_quiet c past g page ≡ true → GivesAfter c past g page (if b then Some Close else None)
@@ -91,10 +99,6 @@ pub closes_without_page : (c : Config) (past : List Entry) (j : ℕ) (f : FeedCo
     → GiveRight c past j (if gone then Some Close else None)
 closes_without_page c past j f gone fits at closed is =
     subst (λ o. GivesAfter c past (given past j) o (if gone then Some Close else None)) (sym at) (close_or_none c past (given past j) None gone (sym is) (sym fits.closed ∙ closed) refl)
-
-none_of : (p : ℕ → Bool) (from n : ℕ) → ((k : ℕ) → from ≤ k → k < from + n → p k ≡ false) → list_any p (count_up from n) ≡ false
-none_of p from zero none = refl
-none_of p from (suc n) none = ap (λ b. b || list_any p (count_up (from + 1) n)) (none from (omega arith) (omega arith)) ∙ none_of p (from + 1) n (λ k l m. none k (omega arith) (omega arith))
 
 pub closes_with_page : (c : Config) (past : List Entry) (j : ℕ) (page : Page) (f : FeedContent) (gone : Bool) → FeedFits (given past j) f → slice_get (slots past) j ≡ Some page → f.opened ≡ true → f.closed ≡ false
     → IsNextOn c past page (given past j) None → gone ≡ is_gone (state past) → GiveRight c past j (if gone then Some Close else None)
@@ -112,20 +116,6 @@ closes_with_page c past j page f gone fits at o closed none is =
 pub of_some : (c : Config) (past : List Entry) (page : Page) (g : List PageMsg) (number source : ℕ) (answer : Option PageMsg) (m : PageMsg) → answer ≡ Some m → source ≡ number
     → ((k : ℕ) → k < number → has_more past g (Some page) k ≡ false) → IsNextOf past page g source answer → IsNextOn c past page g (Some m)
 of_some c past page g number source answer m is same none next = (source, subst (λ o. IsNextOf past page g source o) is next, subst (λ s. IsSmallest past page g s) (sym same) none)
-
-next_is_smallest : (past : List Entry) (page : Page) (g : List PageMsg) (source : ℕ) (m : PageMsg) → IsNextOf past page g source (Some m) → IsSmallest past page g source → IsOfSmallest past page g (Some m)
-next_is_smallest past page g source (Open p) next small = absurd next
-next_is_smallest past page g source (Draw d) next small = subst (λ s. IsSmallest past page g s) (sym next.0) small
-next_is_smallest past page g source (Left s) next small = subst (λ s. IsSmallest past page g s) (sym next.0) small
-next_is_smallest past page g source Close next small = absurd next
-
-pub prefers : {W : Type 0} (a : Content W) (j : ℕ) (page : Page) (m : PageMsg) → ((c : Config) (made : ℕ) (past : List Entry) → Fits c made past a → (slice_get (slots past) j ≡ Some page) × IsNextOn c past page (given past j) (Some m)) → PrefersSmallest j a (Some m)
-prefers a j page m next = record {
-  each = λ c made past other h at.
-      let it = next c made past h in
-      let next_on : IsNextOn c past page (given past j) (Some m) = it.1 in
-      subst (λ p. IsOfSmallest past p (given past j) (Some m)) (same_Some page other (sym it.0 ∙ at)) (next_is_smallest past page (given past j) next_on.0 m next_on.1 next_on.2);
-}
 
 pub one_more_none : (past : List Entry) (page : Page) (g : List PageMsg) (number at : ℕ) (answer : Option PageMsg) → at ≡ number → answer ≡ None → IsNextOf past page g at answer
     → ((source : ℕ) → source < number → has_more past g (Some page) source ≡ false) → (source : ℕ) → source < number + 1 → has_more past g (Some page) source ≡ false

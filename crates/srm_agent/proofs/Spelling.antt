@@ -25,8 +25,12 @@ use Rattle.srm_agent.specs.Answering.{IsAnswerOf, IsAnswer, AreAnswers, classed_
 use Rattle.srm_agent.proofs.Handing.{all-append}
 
 -- a held drawop can be spelled in a repair
-pub held_spellable : (held : List Drawop) (n : FullName) (d : Drawop) → AllByRecursion is_drawop held → held_at held n ≡ Some d → is_drawop d
-held_spellable held n d all e = All-Has is_drawop d held all (find-Has (has_name n) held d e).0
+spellable_at : (held : List Drawop) (n : FullName) → AllByRecursion is_drawop held → IfSome (held_at held n) is_drawop
+spellable_at held n all = go (held_at held n) refl
+  where
+    go : (o : Option Drawop) → held_at held n ≡ o → IfSome o is_drawop
+    go None e = tt
+    go (Some d) e = All-Has is_drawop d held all (find-Has (has_name n) held d e).0
 
 -- A loop has added the repairs of some of the names.
 pub record RepairedSoFar (me : ℕ) (s : StoreContent) (requests : List Datagram) (names : List FullName) (answers : List Datagram) : Type 0 where
@@ -37,19 +41,22 @@ pub record RepairedSoFar (me : ℕ) (s : StoreContent) (requests : List Datagram
 pub repairing_begins : (me : ℕ) (s : StoreContent) (requests answers : List Datagram) → answers ≡ requests → AllByRecursion (IsAnswerOf me) answers → RepairedSoFar me s requests [] answers
 repairing_begins me s requests answers e all = record { value = λ held shown settled fits spellable. e ∙ sym (append-nil requests); each = all }
 
-pub repairing_goes_on : (me : ℕ) (s : StoreContent) (requests : List Datagram) (names : List FullName) (i : ℕ) (n : FullName) (answers : List Datagram) (o : Option Datagram) → i < length names → n ≡ get_or names i n
-    → ((held : List Drawop) (shown : List FullName) (settled : List Settling) → Fits held shown settled s → AllByRecursion is_drawop held → o ≡ option_map (Repair me) (held_at held n)) → IfSome o (IsAnswerOf me)
+pub repairing_goes_on : (me : ℕ) (s : StoreContent) (requests : List Datagram) (names : List FullName) (i : ℕ) (n : FullName) (answers : List Datagram) (here : Option Drawop) (o : Option Datagram) → i < length names → n ≡ get_or names i n
+    → ((held : List Drawop) (shown : List FullName) (settled : List Settling) → Fits held shown settled s → here ≡ held_at held n) → (IfSome here is_drawop → o ≡ option_map (Repair me) here) → IfSome o (IsAnswerOf me)
     → RepairedSoFar me s requests (take i names) answers → RepairedSoFar me s requests (take (i + 1) names) (answers ++ option_to_list o)
-repairing_goes_on me s requests names i n answers o lt at is fine h = record {
+repairing_goes_on me s requests names i n answers here o lt at there is fine h = record {
   value = λ held shown settled fits spellable.
       ap (λ xs. xs ++ option_to_list o) (h.value held shown settled fits spellable)
       ∙ append_assoc requests (filter_map (λ n. option_map (Repair me) (held_at held n)) (take i names)) (option_to_list o)
-      ∙ ap (λ xs. requests ++ (filter_map (λ n. option_map (Repair me) (held_at held n)) (take i names) ++ xs)) (ap option_to_list (is held shown settled fits spellable) ∙ as_list (option_map (Repair me) (held_at held n)))
+      ∙ ap (λ xs. requests ++ (filter_map (λ n. option_map (Repair me) (held_at held n)) (take i names) ++ xs)) (ap option_to_list (repaired held spellable (there held shown settled fits)) ∙ as_list (option_map (Repair me) (held_at held n)))
       ∙ ap (λ xs. requests ++ xs) (sym (ap (filter_map (λ n. option_map (Repair me) (held_at held n))) (take_more names i n lt ∙ ap (λ m. take i names ++ m ∷ []) (sym at))
       ∙ filter_map-append (λ n. option_map (Repair me) (held_at held n)) (take i names) (n ∷ [])));
   each = all-append (IsAnswerOf me) answers (option_to_list o) h.each (fine_list o fine);
 }
   where
+    repaired : (held : List Drawop) → AllByRecursion is_drawop held → here ≡ held_at held n → o ≡ option_map (Repair me) (held_at held n)
+    repaired held all e = is (subst (λ p. IfSome p is_drawop) (sym e) (spellable_at held n all)) ∙ ap (option_map (Repair me)) e
+
     as_list : (p : Option Datagram) → option_to_list p ≡ cons_option p []
     as_list None = refl
     as_list (Some g) = refl

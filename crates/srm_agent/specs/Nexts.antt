@@ -1,14 +1,11 @@
 -- What may come next on a page that was opened, after these messages.
-use Rattle.std.specs.Prelude.{◌≡◌, ⊤, ℕ, ◌<◌, true, false, List, Option, Some, None, slice_get}
+use Rattle.std.specs.Prelude.{◌≡◌, ℕ, ◌<◌, true, false, List, Option, Some, None}
 use Rattle.srm_names.specs.declared.page.Page.{Page}
 use Rattle.srm_names.specs.declared.page_msg.PageMsg.{PageMsg}
 use Rattle.srm_names.specs.declared.page_msg.PageMsg.TheVariants.{Open, Draw, Left, Close}
 use Rattle.srm_entries.specs.declared.entry.Entry.{Entry}
 use Rattle.srm_entries.specs.Configs.{Config}
-use Rattle.srm_entries.specs.Entries.{slots}
-use Rattle.srm_entries.specs.Giving.{next_drawop, may_leave, has_more, given}
-use Rattle.srm_agent.specs.Contents.{Content}
-use Rattle.srm_agent.specs.Fits.{Fits}
+use Rattle.srm_entries.specs.Giving.{next_drawop, may_leave, has_more}
 
 -- a message of a source, and None where it has none
 abbrev pub IsNextOf : List Entry → Page → List PageMsg → ℕ → Option PageMsg → Type 0
@@ -26,13 +23,3 @@ IsSmallest es page given source = (k : ℕ) → k < source → has_more es given
 abbrev pub IsNextOn : Config → List Entry → Page → List PageMsg → Option PageMsg → Type 0
 IsNextOn c es page given None = (source : ℕ) → source < c.members → has_more es given (Some page) source ≡ false
 IsNextOn c es page given (Some message) = (source : ℕ) × IsNextOf es page given source (Some message) × IsSmallest es page given source
-
--- what a source has is given of the smallest one that has something
-abbrev pub IsOfSmallest : List Entry → Page → List PageMsg → Option PageMsg → Type 0
-IsOfSmallest es page given (Some (Draw d)) = IsSmallest es page given d.name.stream.source
-IsOfSmallest es page given (Some (Left s)) = IsSmallest es page given s
-IsOfSmallest es page given _ = ⊤
-
--- so it is of a slot, whatever run the agent fits
-pub record PrefersSmallest {W : Type 0} (slot : ℕ) (a : Content W) (message : Option PageMsg) : Type 0 where
-  pub each : (c : Config) (made : ℕ) (past : List Entry) (page : Page) → Fits c made past a → slice_get (slots past) slot ≡ Some page → IsOfSmallest past page (given past slot) message

@@ -2,6 +2,7 @@
 
 ghost use Rattle.std.specs.Prelude.{◌≡◌, ◌++◌, List, [], true, false, option_map, IfOk, IfSome, map};
 ghost use Rattle.std.specs.List.{AllByRecursion, filter_map};
+ghost use Rattle.std.specs.Option.{option_copied};
 ghost use Rattle.srm_names.specs.Names.{ascending, name_below};
 ghost use Rattle.srm_names.specs.FullName.{FullName};
 ghost use Rattle.srm_names.specs.declared.drawop.Drawop.{Drawop as ADrawop};
@@ -19,7 +20,7 @@ use crate::packing::packed;
 use srm_agent_parts::Outgoing;
 use srm_bucket::{Class, Item};
 use srm_codec::{Datagram, encodable, length};
-use srm_names::{Member, Name, Page};
+use srm_names::{Drawop, Member, Name, Page};
 use srm_store::Store;
 use std::alloc::{AllocError, Global};
 use std::collections::VecDeque;
@@ -47,20 +48,19 @@ pub(crate) fn answering(
 {
     let mut answers = packed(alloc, me, asks)?;
     for name in fixes {
-        if let Some(repair) = repair(me, store, *name)? {
+        if let Some(repair) = repair(me, store.get(*name))? {
             answers.push_back(repair)?;
         }
     }
     Ok(answers)
 }
 
-/// The repair of a name, where it is held. Only want of memory refuses it.
-fn repair(me: Member, store: &Store, name: Name) -> Result<Option<Datagram>, AllocError>
-    ensures value { IfOk result (λ repair. (held : List ADrawop) (shown : List FullName) (settled : List Settling) → Fits held shown settled store.now → AllByRecursion is_drawop held
-        → repair ≡ option_map (Repair me) (held_at held name)) }
+/// The repair with the drawop that is held, where one is. Only want of memory refuses it.
+fn repair(me: Member, held: Option<&Drawop>) -> Result<Option<Datagram>, AllocError>
+    ensures value { IfOk result (λ repair. IfSome (option_copied held.entry) is_drawop → repair ≡ option_map (Repair me) (option_copied held.entry)) }
     ensures each { IfOk result (λ repair. IfSome repair (IsAnswerOf me)) }
 {
-    let Some(drawop) = store.get(name) else {
+    let Some(drawop) = held else {
         return Ok(None);
     };
     let _ = me.number();

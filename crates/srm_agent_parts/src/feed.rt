@@ -1,12 +1,12 @@
 //! How far the worker of one slot was given things.
 
-ghost use Rattle.std.specs.Prelude.{◌≡◌, ◌<◌, ◌++◌, List, [], ◌∷◌, true, false, slice_index, slice_index_or};
+ghost use Rattle.std.specs.Prelude.{◌≡◌, ◌<◌, ◌++◌, List, [], ◌∷◌, true, false, length, slice_index, slice_index_or, slice_set};
 ghost use Rattle.srm_names.specs.declared.limits.TheConstants.{MEMBERS};
 ghost use Rattle.srm_names.specs.declared.page_msg.PageMsg.{PageMsg as APageMsg};
 ghost use Rattle.srm_names.specs.PageFeeds.{continues};
 ghost use Rattle.srm_agent_parts.specs.Feeds.{FeedFits};
 
-use srm_names::{MEMBERS, Member, PageMsg};
+use srm_names::{MEMBERS, Member, Name, PageMsg};
 use std::marker::Model;
 
 /// What of the messages that a slot was given is needed to know which may come next. The messages themselves aren't kept.
@@ -78,11 +78,18 @@ impl Feed {
     {
         match message {
             PageMsg::Open(_) => self.opened = true,
-            PageMsg::Draw(drawop) => {
-                self.numbers[drawop.name.source().index()] = drawop.name.number();
-            }
+            PageMsg::Draw(drawop) => self.draw(drawop.name),
             PageMsg::Left(source) => self.left[source.index()] = true,
             PageMsg::Close => self.closed = true,
         }
+    }
+
+    /// The drawop of this name was given: it is the last one of its source.
+    fn draw(&mut self, name: Name)
+        ensures new { self.new ≡ record self.old { numbers = slice_set self.old.numbers name.stream.source name.number } }
+        ensures below { name.stream.source < MEMBERS }
+        ensures places { length self.old.numbers ≡ MEMBERS }
+    {
+        self.numbers[name.source().index()] = name.number();
     }
 }

@@ -15,6 +15,7 @@ ghost use Rattle.srm_bucket.specs.declared.class.Class.TheVariants.{New};
 ghost use Rattle.srm_bucket.specs.declared.limits.TheConstants.{LEAST_LENGTH, GREATEST_LENGTH};
 ghost use Rattle.srm_bucket.specs.Calls.{Handed};
 ghost use Rattle.srm_bucket.specs.Fits.{Adds, Stays as BucketStays};
+ghost use Rattle.srm_bucket.specs.Waiting.{Gains};
 ghost use Rattle.srm_entries.specs.declared.entry.Entry.{Entry as AnEntry};
 ghost use Rattle.srm_entries.specs.Configs.{Config as Settings};
 ghost use Rattle.srm_entries.specs.Verdicts.{first_cause, stream_on};
@@ -31,7 +32,7 @@ use crate::keeping::keep;
 use crate::noted::Noted;
 use bytes::Bytes;
 use srm_agent_parts::Outgoing;
-use srm_bucket::{Class, Item};
+use srm_bucket::{Bucket, Class, Item};
 use srm_codec::{Datagram, length};
 use srm_entries::{AgentFault, AgentState, Effects, Entry, Input, Verdict};
 use srm_names::{BODY, Drawop, Items, MEMBERS, Name, Page, Stream};
@@ -170,7 +171,7 @@ impl<W: Words + Drop> Agent<W> {
     {
         self.pages.add(*page);
         keep(&mut self.store, drawop);
-        self.bucket.hand(Class::New, going).unwrap();
+        wait_to_go(&mut self.bucket, going);
         self.last = moment;
     }
 
@@ -194,6 +195,17 @@ impl<W: Words + Drop> Agent<W> {
             },
         }
     }
+}
+
+/// Data that was drawn waits to be sent, behind the data drawn before it. It takes no memory.
+fn wait_to_go(bucket: &mut Bucket<Outgoing>, going: Item<Outgoing>)
+    requires room { 0 < bucket.old.waiting.room }
+    requires least { LEAST_LENGTH ≤ going.length }
+    requires greatest { going.length ≤ GREATEST_LENGTH }
+    ensures adds { Adds (Handed (record { class = New; item = going })) bucket.old bucket.new }
+    ensures gains { Gains (record { class = New; item = going }) bucket.old.waiting bucket.new.waiting }
+{
+    bucket.hand(Class::New, going).unwrap();
 }
 
 /// The name after so many of a stream.

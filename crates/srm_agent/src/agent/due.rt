@@ -2,9 +2,10 @@
 
 ghost use Rattle.std.specs.Prelude.{◌≡◌, ◌≤◌, true, IfOk};
 ghost use Rattle.std.specs.Bool.{OnTrue};
+ghost use Rattle.std.specs.List.{AllByRecursion};
 ghost use Rattle.srm_names.specs.declared.limits.TheConstants.{MOMENT};
 ghost use Rattle.srm_names.specs.Names.{ascending, name_below};
-ghost use Rattle.srm_agent.specs.Answering.{AnswersDue};
+ghost use Rattle.srm_agent.specs.Answering.{AnswersDue, AreAnswers, IsAnswerOf};
 ghost use Rattle.srm_entries.specs.Entries.{is_leaving};
 ghost use Rattle.srm_agent.specs.Ticking.{HandsOutNothing, IsDue, IsReportAt, IsReportIf, IsToHandOut};
 
@@ -12,6 +13,7 @@ use super::Agent;
 use crate::answers::{Answer, answering, spelled};
 use srm_agent_parts::Outgoing;
 use srm_entries::AgentState;
+use srm_codec::Datagram;
 use srm_names::{Items, Name};
 use srm_timers::Words;
 use std::alloc::{AllocError, Global};
@@ -127,11 +129,19 @@ impl<W: Words + Drop> Agent<W> {
         requires { ascending name_below asks.now ≡ true }
         ensures { IfOk result (λ answers. AnswersDue self.now asks.now fixes.now answers.items) }
     {
-        let me = self.config.me();
-        let answers = answering(self.alloc, me, &self.store, asks, fixes)?;
+        let answers = answering(self.alloc, self.config.me(), &self.store, asks, fixes)?;
+        self.spelled_here(answers)
+    }
+
+    /// The answers spelled in this member's session, each with the class that it has while this page is shown. Only want of
+    /// memory refuses them.
+    fn spelled_here(&self, answers: VecDeque<Datagram>) -> Result<VecDeque<Answer>, AllocError>
+        requires { AllByRecursion (IsAnswerOf self.now.config.me) answers.items }
+        ensures { IfOk result (λ items. AreAnswers self.now.config.me self.now.config.session self.now.showing answers.items items.items) }
+    {
         spelled(
             self.alloc,
-            me,
+            self.config.me(),
             self.config.session(),
             &self.showing,
             answers,

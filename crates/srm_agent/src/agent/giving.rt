@@ -11,7 +11,7 @@ ghost use Rattle.srm_entries.specs.Entries.{is_gone, released};
 ghost use Rattle.srm_agent_parts.specs.Feeds.{FeedFits};
 ghost use Rattle.srm_entries.specs.Giving.{GiveRight, is_some_of};
 ghost use Rattle.srm_entries.specs.Verdicts.{final};
-ghost use Rattle.srm_agent.specs.Nexts.{IsNextOf, IsNextOn, PrefersSmallest};
+ghost use Rattle.srm_agent.specs.Nexts.{IsNextOf, IsNextOn};
 ghost use Rattle.srm_agent.specs.Fits.{Fits};
 ghost use Rattle.srm_agent.specs.Noting.{Enters, Stays, AnswersAs, Does};
 
@@ -19,7 +19,7 @@ use super::Agent;
 use crate::noted::Noted;
 use srm_agent_parts::{Feed, member};
 use srm_entries::{AgentFault, Entry, Input, Verdict};
-use srm_names::{Drawop, Name, PAGES, Page, PageMsg, Stream};
+use srm_names::{Drawop, Member, Name, PAGES, Page, PageMsg, Stream};
 use srm_timers::Words;
 use std::alloc::AllocError;
 
@@ -31,7 +31,6 @@ impl<W: Words + Drop> Agent<W> {
         requires { slot < PAGES }
         ensures ok { IfOk result (λ noted. Enters W.draw None (Input.Gave slot) self.old self.new noted.entry) }
         ensures answer { IfOk result (λ noted. AnswersAs (λ message. message ≡ noted.entry.effects.message) noted.entry.verdict noted.answer) }
-        ensures smallest { IfOk result (λ noted. PrefersSmallest slot self.old noted.entry.effects.message) }
         ensures err { OnErr result (Stays self.old self.new) }
     {
         let Some(message) = self.next_message(slot)? else {
@@ -48,8 +47,7 @@ impl<W: Words + Drop> Agent<W> {
     #[tactic(auto, using(crate::proofs::Entering::give_allowed))]
     pub fn give(&mut self, slot: u8) -> Result<Option<PageMsg>, AgentFault>
         requires { slot < PAGES }
-        ensures does { Does W.draw None (Input.Gave slot) (λ e message. message ≡ e.effects.message) self.old self.new result }
-        ensures smallest { IfOk result (PrefersSmallest slot self.old) }
+        ensures { Does W.draw None (Input.Gave slot) (λ e message. message ≡ e.effects.message) self.old self.new result }
     {
         self.give_noted(slot)?.answer
     }
@@ -57,8 +55,7 @@ impl<W: Words + Drop> Agent<W> {
     /// The message that a slot may be given next.
     fn next_message(&self, slot: u8) -> Result<Option<PageMsg>, AllocError>
         requires { slot < PAGES }
-        ensures right { IfOk result (λ message. (c : Settings) (made : ℕ) (past : List AnEntry) → Fits c made past self.now → GiveRight c past slot message) }
-        ensures smallest { IfOk result (PrefersSmallest slot self.now) }
+        ensures { IfOk result (λ message. (c : Settings) (made : ℕ) (past : List AnEntry) → Fits c made past self.now → GiveRight c past slot message) }
     {
         let feed = &self.feeds[usize::from(slot)];
         if feed.is_closed() {
@@ -92,7 +89,7 @@ impl<W: Words + Drop> Agent<W> {
             → IsNextOn c past page.now given message) }
     {
         for number in 0..self.config.members() {
-            let source = member(number);
+            let source = self.source_at(number);
             let stream = Stream {
                 source,
                 page: *page,
@@ -102,6 +99,16 @@ impl<W: Words + Drop> Agent<W> {
             }
         }
         Ok(None)
+    }
+
+    /// The source that goes after so many others: the smallest goes first.
+    fn source_at(&self, place: u8) -> Member
+        requires { place < self.now.config.members }
+        ensures { result ≡ place }
+    {
+        // A roster has no more members than the limit.
+        prove!(place < self.config.members());
+        member(place)
     }
 
     /// The next message of one source.
@@ -123,10 +130,7 @@ impl<W: Words + Drop> Agent<W> {
     fn is_all(&self, stream: Stream, given: u32) -> bool
         ensures { (c : Settings) (made : ℕ) (past : List AnEntry) → Fits c made past self.now → result ≡ is_some_of given (final past stream) }
     {
-        match self.store.final_of(stream) {
-            Some(last) => given == last,
-            None => false,
-        }
+        is_final(given, self.store.final_of(stream))
     }
 
     /// The released drawop of a stream behind so many.
@@ -138,6 +142,16 @@ impl<W: Words + Drop> Agent<W> {
         }
         self.store
             .get(Name::new(stream.source, stream.page, given + 1)?)
+    }
+}
+
+/// Whether a source drew so many drawops and no more, where it left after `last`.
+fn is_final(given: u32, last: Option<u32>) -> bool
+    ensures { result ≡ is_some_of given last }
+{
+    match last {
+        Some(last) => given == last,
+        None => false,
     }
 }
 

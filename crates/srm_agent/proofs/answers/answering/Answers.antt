@@ -12,8 +12,8 @@ loop-name-init c = repairing_begins c.args.me c.args.store.now (packed c.args.me
 
 pub loop-name-preserved : goal.loop-name-preserved
 loop-name-preserved c =
-    let more = repairing_goes_on c.args.me c.args.store.now (packed c.args.me c.args.asks.now) c.args.fixes.now c.loop-name.name-index c.name-item.result c.loop-name.answers.items c.in_ok-repair.field-0
-    c.loop-name-test.true c.name-item.is c.in_ok-repair.ensures.value c.in_ok-repair.ensures.each c.loop-name.invariant in
+    let more = repairing_goes_on c.args.me c.args.store.now (packed c.args.me c.args.asks.now) c.args.fixes.now c.loop-name.name-index c.name-item.result c.loop-name.answers.items _ c.in_ok-repair.field-0
+    c.loop-name-test.true c.name-item.is c.get.ensures c.in_ok-repair.ensures.value c.in_ok-repair.ensures.each c.loop-name.invariant in
     elim c.match-branch-3.branch [
       | in-Some+in_ok-push_back w ↦ (let ok : is_ok w.push_back.result ≡ true = search rules in
           rw (w.answers-is, w.push_back.ensures.items, ok)

@@ -3,30 +3,22 @@ use Rattle.std.specs.Prelude.{slice_get}
 use Rattle.srm_entries.specs.Entries.{is_gone}
 use Rattle.srm_entries.specs.Giving.{given, GiveRight}
 use Rattle.srm_agent.specs.Nexts.{IsNextOn}
-use Rattle.srm_agent.proofs.Nexting.{feed_at, prefers, gives_next, closes_with_page}
+use Rattle.srm_agent.proofs.Nexting.{feed_at, gives_next, closes_with_page}
 use Rattle.srm_agent.proofs.agent.Agent.next_message.Goals as goal
 
-pub returns-in-Some-2-clause-right : goal.returns-in-Some-2-clause-right
-returns-in-Some-2-clause-right g c = λ s made past h.
+pub returns-in-Some-2 : goal.returns-in-Some-2
+returns-in-Some-2 g c = λ s made past h.
     let fits = rw (← c.self.view_is) at h in
     let feed = feed_at past _ c.args.slot c.from.result c.index-feed.result.now fits.feeds c.self.invariant.feeds c.requires c.from.ensures c.index-feed.ensures in
     gives_next s past c.args.slot c.in-Some.page c.index-feed.result.now c.in-Some-2.message feed (ap (λ ps. slice_get ps c.args.slot) (sym fits.pages) ∙ sym c.get.ensures ∙ c.in-Some.is)
     (sym c.is_opened.ensures ∙ c.if-not-is_opened.false) (sym c.is_closed.ensures ∙ c.if-is_closed.false)
     (subst (λ o. IsNextOn s past c.in-Some.page (given past c.args.slot) o) c.in-Some-2.is (c.in_ok-message.ensures s made past (given past c.args.slot) h feed))
 
-pub returns-clause-right : goal.returns-clause-right
-returns-clause-right g c = λ s made past h.
+pub returns : goal.returns
+returns g c = λ s made past h.
     let fits = rw (← c.self.view_is) at h in
     let feed = feed_at past _ c.args.slot c.from.result c.index-feed.result.now fits.feeds c.self.invariant.feeds c.requires c.from.ensures c.index-feed.ensures in
     subst (λ m. GiveRight s past c.args.slot m) (sym c.close_if_gone-2.ensures)
     (closes_with_page s past c.args.slot c.in-Some.page c.index-feed.result.now _ feed (ap (λ ps. slice_get ps c.args.slot) (sym fits.pages) ∙ sym c.get.ensures ∙ c.in-Some.is)
     (sym c.is_opened.ensures ∙ c.if-not-is_opened.false) (sym c.is_closed.ensures ∙ c.if-is_closed.false)
     (subst (λ o. IsNextOn s past c.in-Some.page (given past c.args.slot) o) c.in_default-2.is (c.in_ok-message.ensures s made past (given past c.args.slot) h feed)) (ap is_gone h.state))
-
-pub returns-in-Some-2-clause-smallest : goal.returns-in-Some-2-clause-smallest
-returns-in-Some-2-clause-smallest g c = prefers _ c.args.slot c.in-Some.page c.in-Some-2.message (λ s made past h.
-    let fits = rw (← c.self.view_is) at h in
-    let feed = feed_at past _ c.args.slot c.from.result c.index-feed.result.now fits.feeds c.self.invariant.feeds c.requires c.from.ensures c.index-feed.ensures in (
-      ap (λ ps. slice_get ps c.args.slot) (sym fits.pages) ∙ sym c.get.ensures ∙ c.in-Some.is,
-      subst (λ o. IsNextOn s past c.in-Some.page (given past c.args.slot) o) c.in-Some-2.is (c.in_ok-message.ensures s made past (given past c.args.slot) h feed),
-    ))

@@ -4,11 +4,11 @@ use Rattle.srm_agent.proofs.Nexting.{of_some, one_more_none}
 use Rattle.srm_agent.proofs.agent.Agent.next_on.Goals as goal
 
 pub returns-in-Some : goal.returns-in-Some
-returns-in-Some g c = λ s made past given h f. of_some s past c.args.page.now given c.loop-number.number c.member-source.result c.in_ok-message.field-0 c.in-Some.message c.in-Some.is c.member-source.ensures (c.loop-number.invariant.none s made past given h f) (c.in_ok-message.ensures s made past given h f)
+returns-in-Some g c = λ s made past given h f. of_some s past c.args.page.now given c.loop-number.number c.source_at-source.result c.in_ok-message.field-0 c.in-Some.message c.in-Some.is c.source_at-source.ensures (c.loop-number.invariant.none s made past given h f) (c.in_ok-message.ensures s made past given h f)
 
 pub loop-number-preserved : goal.loop-number-preserved
 loop-number-preserved g c = record {
-  none = λ s made past given h f. one_more_none past c.args.page.now given c.loop-number.number c.member-source.result c.in_ok-message.field-0 c.member-source.ensures c.in_default.is (c.in_ok-message.ensures s made past given h f) (c.loop-number.invariant.none s made past given h f);
+  none = λ s made past given h f. one_more_none past c.args.page.now given c.loop-number.number c.source_at-source.result c.in_ok-message.field-0 c.source_at-source.ensures c.in_default.is (c.in_ok-message.ensures s made past given h f) (c.loop-number.invariant.none s made past given h f);
 }
 
 pub returns : goal.returns

@@ -1,6 +1,5 @@
 use Rattle.srm_bucket.specs.declared.class.Class.TheVariants.{New}
 use Rattle.srm_agent.proofs.Handing.{own_behind}
-use Rattle.srm_entries.proofs.Holding.{ok_then}
 use Rattle.srm_agent.proofs.agent.Agent.take_up.Goals as goal
 
 pub invariant_of-self : goal.invariant_of-self
@@ -8,5 +7,5 @@ invariant_of-self g c = record {
   last = c.requires.moment;
   feeds = c.self.invariant.feeds;
   settings = c.self.invariant.settings;
-  waiting = own_behind _ _ (record { class = New; item = c.args.going }) _ _ c.self.invariant.waiting (ok_then c.hand.result (c.hand.ensures.not_refused (rw (← c.self.view_is) at c.requires.waiting)) c.hand.ensures.gains) (rw (← c.self.view_is) at c.requires.own);
+  waiting = own_behind _ _ (record { class = New; item = c.args.going }) _ _ c.self.invariant.waiting c.wait_to_go.ensures.gains (rw (← c.self.view_is) at c.requires.own);
 }

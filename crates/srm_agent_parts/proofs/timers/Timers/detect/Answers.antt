@@ -4,6 +4,6 @@ use Rattle.srm_agent_parts.proofs.timers.Timers.detect.Goals.{in-Ok, in-Err-Memo
 
 pub returns-clause-drawn : goal.returns-clause-drawn
 returns-clause-drawn g c = rw (← c.self.view_is) (elim c.match-detect.branch [
-  | in-Ok w ↦ rw w.result-is (waits_drawn g.W.Words.draw c.self.inside.asks c.self.inside.fixes c.args.fresh.now c.args.asked.now c.args.dist.now c.args.words.now c.detect.new.words w.in-Ok.arms.items w.in-Ok.ensures.arms w.in-Ok.ensures.drawn)
+  | in-Ok w ↦ rw w.result-is (waits_drawn g.W.Words.draw c.self.inside.asks c.self.inside.fixes _ _ _ c.args.words.now c.detect.new.words w.in-Ok.arms.items w.in-Ok.ensures.arms w.in-Ok.ensures.drawn)
   | in-Err-Memory w ↦ rw w.result-is tt
 ])
