@@ -12,8 +12,8 @@ ghost use Rattle.srm_agent.specs.Ticking.{HandsOutNothing, IsDue, IsReportAt, Is
 use super::Agent;
 use crate::answers::{Answer, answering, spelled};
 use srm_agent_parts::Outgoing;
-use srm_entries::AgentState;
 use srm_codec::Datagram;
+use srm_entries::AgentState;
 use srm_names::{Items, Name};
 use srm_timers::Words;
 use std::alloc::{AllocError, Global};
