@@ -2,6 +2,7 @@
 
 ghost use Rattle.std.specs.Prelude.{◌≡◌, ◌≤◌, Some, IfOk, OnErr};
 ghost use Rattle.srm_names.specs.declared.limits.TheConstants.{MOMENT};
+ghost use Rattle.srm_agent.specs.Noting.{Enters, Stays as AgentStays, AnswersAs, IsTicked};
 ghost use Rattle.srm_world.specs.Participants.{GoesOn, Stays, HearsBytes, SendsOuts};
 
 use super::Participant;
@@ -32,9 +33,20 @@ impl<W: Words + Drop> Participant<W> {
         ensures outs { IfOk result (λ sent. SendsOuts self.old sent.0 sent.1) }
         ensures err { OnErr result (Stays self.old self.new) }
     {
-        let Noted { answer, entry } = self.agent.tick_noted(now)?;
+        let Noted { answer, entry } = self.tick_agent(now)?;
         self.note(&entry);
         Ok((entry, self.outs_of(answer)))
+    }
+
+    /// The tick of the agent, as the agent notes it. Only want of memory refuses it.
+    fn tick_agent(&mut self, now: u64) -> Result<Noted<Ticked>, AllocError>
+        requires { now ≤ MOMENT }
+        ensures rest { self.new ≡ record self.old { agent = self.new.agent } }
+        ensures ok { IfOk result (λ noted. Enters W.draw (Some now) Input.Ticked self.old.agent self.new.agent noted.entry) }
+        ensures answer { IfOk result (λ noted. AnswersAs (IsTicked self.old.agent.config.session noted.entry) noted.entry.verdict noted.answer) }
+        ensures err { OnErr result (AgentStays self.old.agent self.new.agent) }
+    {
+        self.agent.tick_noted(now)
     }
 
     /// What is to be sent. A tick that has an entry isn't refused.
