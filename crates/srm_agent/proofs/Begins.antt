@@ -1,21 +1,17 @@
 -- An agent that did nothing yet: what its parts must fit, so that it fits.
-use Rattle.std.proofs.Common.{◌≡◌, ℕ, ◌+◌, max, Bool, true, false, List, [], ◌∷◌, None, refl, ◌∙◌, subst, arith}
+use Rattle.std.proofs.Common.{◌≡◌, ℕ, ◌+◌, max, List, [], ◌∷◌, refl, ◌∙◌, subst, arith}
 use Rattle.srm_names.specs.Names.{first_page}
 use Rattle.srm_store.specs.Fits as store
 use Rattle.srm_distance.specs.Fits as distances
-use Rattle.srm_timers.specs.AskCalls.{AskContent, AskFits}
-use Rattle.srm_timers.specs.FixCalls.{FixContent, FixFits}
 use Rattle.srm_bucket.specs.Calls.{Call}
 use Rattle.srm_bucket.specs.Content.{Content as BucketContent}
 use Rattle.srm_bucket.specs.Fits as bucket
 use Rattle.srm_entries.specs.declared.state.AgentState.TheVariants.{Active}
 use Rattle.srm_agent_parts.specs.declared.out.Outgoing.{Outgoing}
 use Rattle.srm_entries.specs.Configs.{Config}
-use Rattle.srm_entries.specs.Entries.{is_missing}
 use Rattle.srm_agent.specs.Contents.{Content}
-use Rattle.srm_agent_parts.specs.TimersKept.{TimersContent, HaveSettings}
 use Rattle.srm_agent.specs.Fits.{Fits, AreEmptyFeeds}
-use Rattle.srm_agent_parts.specs.TimersKept.{TimersFit, shown_if}
+use Rattle.srm_agent_parts.specs.TimersKept.{TimersFit}
 
 pub fits_begins : {W : Type 0} (c : Config) (made : ℕ) (a : Content W) → a.config ≡ c → a.state ≡ Active → a.last ≡ made → a.showing ≡ first_page → a.pages ≡ first_page ∷ []
     → AreEmptyFeeds a.feeds → store.Fits [] [] [] a.store → distances.Fits c.me [] a.distances → TimersFit c [] a.timers

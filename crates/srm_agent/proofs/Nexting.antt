@@ -2,7 +2,7 @@
 use Rattle.std.proofs.Common.{◌≡◌, ℕ, zero, suc, ◌+◌, ◌<◌, ◌≤◌, Bool, true, false, not, ◌&&◌, ◌||◌, List, length, map, refl, ap, sym, ◌∙◌, subst, arith, inl, inr}
 use Rattle.std.specs.Prelude.{Option, Some, None, is_some, slice_get, get_or, if◌then◌else◌}
 use Rattle.std.specs.List.{list_any}
-use Rattle.std.proofs.lemmas.Option.{same_Some, slice_get_past, slice_get_cases, slice_get_read}
+use Rattle.std.proofs.lemmas.Option.{slice_get_past, slice_get_cases, slice_get_read}
 use Rattle.std.proofs.lemmas.Bool.{cases_eq}
 use Rattle.srm_names.specs.declared.limits.TheConstants.{PAGES}
 use Rattle.srm_names.specs.declared.page.Page.{Page}
@@ -23,8 +23,7 @@ use Rattle.srm_entries.specs.Entries.{held, released, slots, state, is_gone}
 use Rattle.srm_entries.specs.Verdicts.{final}
 use Rattle.srm_entries.specs.Giving.{next_drawop, may_leave, has_more, is_some_of, is_quiet, is_smallest, given, GivesAfter, GiveRight}
 use Rattle.srm_agent_parts.specs.Feeds.{FeedContent, FeedFits}
-use Rattle.srm_agent.specs.Contents.{Content}
-use Rattle.srm_agent.specs.Fits.{Fits, FeedsFit}
+use Rattle.srm_agent.specs.Fits.{FeedsFit}
 use Rattle.srm_agent.specs.Nexts.{IsNextOf, IsNextOn, IsSmallest}
 
 -- the released drawop at a place is the one that is held under the number of that place

@@ -23,7 +23,7 @@ use Rattle.srm_entries.specs.Bucket.{Going, GoesRight, entries_of, bucket_calls}
 use Rattle.srm_entries.specs.Giving.{given}
 use Rattle.srm_entries.specs.Runs.{EntryRight}
 use Rattle.srm_agent_parts.specs.Feeds.{FeedContent, FeedFits}
-use Rattle.srm_agent_parts.specs.TimersKept.{TimersContent, TimersFit}
+use Rattle.srm_agent_parts.specs.TimersKept.{TimersFit}
 use Rattle.srm_agent.specs.Contents.{Content}
 
 abbrev pub datagram_of : Outgoing → Datagram

@@ -1,5 +1,5 @@
 -- Timers of which none runs yet.
-use Rattle.std.proofs.Common.{◌≡◌, ℕ, Bool, true, false, List, [], None, refl, subst}
+use Rattle.std.proofs.Common.{◌≡◌, ℕ, Bool, true, false, [], None, refl, subst}
 use Rattle.srm_timers.specs.AskCalls.{AskContent, AskFits}
 use Rattle.srm_timers.specs.FixCalls.{FixContent, FixFits}
 use Rattle.srm_entries.specs.Configs.{Config}

@@ -8,10 +8,6 @@ use Rattle.srm_codec.specs.declared.datagram.Datagram.TheVariants.{Data, Request
 use Rattle.srm_codec.specs.Spelling.{asked_by, IsSpellable}
 use Rattle.srm_store.specs.Fits as store
 use Rattle.srm_store.specs.Stores.{StoreContent}
-use Rattle.srm_distance.specs.Content.{Content as DistancesContent}
-use Rattle.srm_distance.specs.Calls.{Call}
-use Rattle.srm_distance.specs.Fits as distances
-use Rattle.srm_distance.specs.Distance as defined
 use Rattle.srm_timers.specs.declared.arm.Arm.{Arm}
 use Rattle.srm_timers.specs.declared.arm.Armed.{Armed}
 use Rattle.srm_timers.specs.declared.arm.ArmKind.TheVariants.{Ask, Fix}

@@ -1,6 +1,6 @@
 //! A member's agent at worked calls, as its callers see it.
 //!
-//! They stand in a crate of their own: the agent is proved once, and not a second time with its tests.
+//! The tests stand in a crate of their own: the agent is proved once, and not a second time with them.
 #![tactic(auto)]
 
 #[cfg(test)]

@@ -168,7 +168,7 @@ later : (before : List Entry) (input : Input) (message : Option PageMsg) → ((n
 later before input message p1 p2 p3 p4 p5 p6 p7 read p8 p9 p10 = right (config 1) 0 before 1 31 input None [] message Active p1 p2 p3 p4 refl p5 p6 p7 tt tt read p8 p9 p10
 
 second_each : AllByRecursion (EntryRight (config 1) 0) (steps second_run)
-second_each = (right (config 1) 0 [] 1 30 (Heard (Data one)) None [] None Active missing_none missing_drawn (λ n. refl) (λ n. refl) refl (lit≤ tt) (refl, refl) refl tt tt one_spelled refl refl refl, (later (hears ∷ []) (Heard farewell) None missing_drawn missing_told (λ n. refl) (λ n. refl) (lit≤ tt) (refl, refl) refl farewell_spelled refl refl refl, (later before_gives (Gave 0) (Some opens) missing_told missing_told (λ n. refl) (λ n. refl) refl refl refl tt refl (refl, refl) refl, (later (before_gives ++ gives opens ∷ []) (Gave 0) (Some (Draw one)) missing_told missing_told (λ n. refl) (λ n. refl) refl refl refl tt refl (refl, refl, refl) refl, (later (before_gives ++ gives opens ∷ gives (Draw one) ∷ []) (Gave 0) (Some (Left 0)) missing_told missing_told (λ n. refl) (λ n. refl) refl refl refl tt refl (refl, refl, refl) refl, (later before_takes (Took 0) (Some opens) missing_told missing_told (λ n. refl) (λ n. refl) refl refl refl tt refl refl refl, (later (before_takes ++ takes opens ∷ []) (Took 0) (Some (Draw one)) missing_told missing_told (λ n. refl) (λ n. refl) refl refl refl tt refl refl refl, (later (before_takes ++ takes opens ∷ takes (Draw one) ∷ []) (Took 0) (Some (Left 0)) missing_told missing_told (λ n. refl) (λ n. refl) refl refl refl tt refl refl refl, tt))))))))
+second_each = (right (config 1) 0 [] 1 30 (Heard (Data one)) None [] None Active missing_none missing_drawn (λ n. refl) (λ n. refl) refl (lit≤ tt) (refl, refl) refl tt tt one_spelled refl refl refl, (later (hears ∷ []) (Heard farewell) None missing_drawn missing_told (λ n. refl) (λ n. refl) (lit≤ tt) (refl, refl) refl farewell_spelled refl refl refl, (later before_gives (Gave 0) (Some opens) missing_told missing_told (λ n. refl) (λ n. refl) refl refl refl tt refl (refl, refl) refl, (later (before_gives ++ gives opens ∷ []) (Gave 0) (Some (Draw one)) missing_told missing_told (λ n. refl) (λ n. refl) refl refl refl tt refl (refl, refl, refl, refl) refl, (later (before_gives ++ gives opens ∷ gives (Draw one) ∷ []) (Gave 0) (Some (Left 0)) missing_told missing_told (λ n. refl) (λ n. refl) refl refl refl tt refl (refl, refl, refl, refl) refl, (later before_takes (Took 0) (Some opens) missing_told missing_told (λ n. refl) (λ n. refl) refl refl refl tt refl refl refl, (later (before_takes ++ takes opens ∷ []) (Took 0) (Some (Draw one)) missing_told missing_told (λ n. refl) (λ n. refl) refl refl refl tt refl refl refl, (later (before_takes ++ takes opens ∷ takes (Draw one) ∷ []) (Took 0) (Some (Left 0)) missing_told missing_told (λ n. refl) (λ n. refl) refl refl refl tt refl refl refl, tt))))))))
 
 second_right : IsMemberRun (config 1) 0 second_run
 second_right = record {

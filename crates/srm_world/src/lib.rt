@@ -16,8 +16,6 @@ mod participant;
 mod recorder;
 mod sent;
 mod start;
-#[cfg(test)]
-mod tests;
 mod trace;
 mod world;
 

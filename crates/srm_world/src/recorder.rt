@@ -17,8 +17,8 @@ use srm_timers::Words;
 use std::alloc::{AllocError, Global};
 use std::marker::Model;
 
-/// An agent that keeps its journal: each call answers as the agent's, and appends its entry. A call that is refused for memory
-/// changes nothing, and has no entry. Contracts see the journal.
+/// An agent that keeps its journal: each call answers as the agent's, and appends its entry. Room for the entry is made first, so
+/// here want of memory may come before another refusal; a call that is refused for it has no entry. Contracts see the journal.
 #[derive(Drop)]
 pub struct Recorder<W: Words + Drop> {
     agent: Agent<W>,

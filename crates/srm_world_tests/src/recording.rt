@@ -1,11 +1,11 @@
 //! A recorder at worked calls.
 
-use crate::Recorder;
 use bytes::Bytes;
 use srm_agent::{AgentFault, Cause, Config, Verdict};
 use srm_codec::DecodeFault;
 use srm_names::{Member, Page};
 use srm_timers::Listed;
+use srm_world::Recorder;
 use std::alloc::Global;
 use std::process::Abort;
 use std::test::Fail;
