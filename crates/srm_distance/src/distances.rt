@@ -1,11 +1,11 @@
 //! Distances and echoes, by the session messages heard so far.
 
-ghost use Rattle.std.specs.Prelude.{◌≡◌, ◌≢◌, ◌≤◌, ◌<◌, ◌↔◌, ℕ, List, [], ◌∷◌, ◌++◌, IfOk, IfSome, length, slice_index};
+ghost use Rattle.std.specs.Prelude.{◌≡◌, ◌≢◌, ◌≤◌, ◌<◌, ◌↔◌, ℕ, List, [], ◌∷◌, ◌++◌, IfOk, IfSome, length, slice_index, slice_set};
 ghost use Rattle.srm_names.specs.declared.limits.TheConstants.{MEMBERS};
 ghost use Rattle.srm_distance.specs.Calls.{Call, Heard, Forgot};
 ghost use Rattle.srm_distance.specs.Content.{distance_by};
 ghost use Rattle.srm_distance.specs.Distance.{distance};
-ghost use Rattle.srm_distance.specs.Echoes.{echo_to, echoes_due, AreSpellable, CanBeSent};
+ghost use Rattle.srm_distance.specs.Echoes.{echo_to, echoes_due, AreSpellable, CanBeSent, SentWithin};
 ghost use Rattle.srm_distance.specs.Fits.{Fits, Adds, IsTableOf};
 
 use crate::limits::FIRST_DISTANCE;
@@ -70,18 +70,27 @@ impl Distances {
         requires { sent ≤ MOMENT }
         ensures { Adds (Heard from sent echo now) self.old self.new }
     {
-        let place = from.index();
-        let peer = self.peers[place].after_session(sent, echo, now);
-        self.peers[place] = peer;
-        self.table[place] = distance_by(self.me, from, peer);
+        let peer = self.peers[from.index()].after_session(sent, echo, now);
+        self.keep(from, peer);
     }
 
     /// A member left: no more echoes to it. The distance to it stays.
     pub fn forget(&mut self, member: Member)
         ensures { Adds (Forgot member) self.old self.new }
     {
+        let peer = self.peers[member.index()].after_forget();
+        self.keep(member, peer);
+    }
+
+    /// This is kept of a member from now on.
+    fn keep(&mut self, member: Member, peer: Peer)
+        requires { SentWithin peer.report }
+        ensures new { self.new ≡ record self.old { peers = slice_set self.old.peers member peer } }
+        ensures below { member < MEMBERS }
+    {
         let place = member.index();
-        self.peers[place] = self.peers[place].after_forget();
+        self.peers[place] = peer;
+        self.table[place] = distance_by(self.me, member, peer);
     }
 
     /// The echoes that are owed at a moment, in order of member: to each other member that was heard and isn't
