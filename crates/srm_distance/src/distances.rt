@@ -139,6 +139,7 @@ impl Distances {
     }
 
     /// The distances to all members, by their numbers: [`distance`](Distances::distance) of each. It takes no memory.
+    #[tactic(auto, using(crate::proofs::Table::is_table, crate::proofs::Table::longest))]
     pub fn all(&self) -> &[u64]
         ensures value { IsTableOf self.now result.now }
         ensures size { length result.now ≡ MEMBERS }
