@@ -40,6 +40,18 @@ pub(crate) fn draw(
     }
 }
 
+/// Shows a page of a member.
+pub(crate) fn show_of(
+    rt: &impl Abort,
+    agent: &mut Agent<Listed>,
+    creator: u8,
+    number: u16,
+    now: u64,
+) -> Result<(), AgentFault> {
+    assert!(rt; now <= MOMENT);
+    agent.show(page(rt, creator, number), now)
+}
+
 /// Shows a page of member 0.
 pub(crate) fn show(
     rt: &impl Abort,
@@ -47,8 +59,7 @@ pub(crate) fn show(
     number: u16,
     now: u64,
 ) -> Result<(), AgentFault> {
-    assert!(rt; now <= MOMENT);
-    agent.show(page(rt, 0, number), now)
+    show_of(rt, agent, 0, number, now)
 }
 
 /// Shows so many pages of member 0 from number 1 on.
@@ -83,12 +94,27 @@ pub(crate) fn tick(rt: &impl Abort, agent: &mut Agent<Listed>, now: u64) -> Tick
     }
 }
 
-pub(crate) fn hear_bytes(
-    rt: &impl Abort,
-    agent: &mut Agent<Listed>,
-    bytes: &[u8],
-    now: u64,
-) -> Heard {
+/// Bytes that spell no datagram.
+#[derive(Clone, Copy)]
+pub(crate) enum Noise {
+    /// None at all.
+    Nothing,
+    /// 4,096 that begin no datagram.
+    Filled,
+    /// Those that begin a datagram of a version to come.
+    LaterVersion,
+}
+
+/// Hears them at 5.
+pub(crate) fn hear_noise(rt: &impl Abort, agent: &mut Agent<Listed>, noise: Noise) -> Heard {
+    match noise {
+        Noise::Nothing => hear_bytes(rt, agent, &[], 5),
+        Noise::Filled => hear_bytes(rt, agent, &[0xff; 4_096], 5),
+        Noise::LaterVersion => hear_bytes(rt, agent, &[0x53, 0x52, 3], 5),
+    }
+}
+
+fn hear_bytes(rt: &impl Abort, agent: &mut Agent<Listed>, bytes: &[u8], now: u64) -> Heard {
     assert!(rt; now <= MOMENT);
     match agent.hear(bytes, now) {
         Ok(heard) => heard,

@@ -1,26 +1,23 @@
 //! An agent that hears bytes: member 0 or 1 of four.
 
-use crate::calls::hear_bytes;
+use crate::calls::Noise;
 use crate::datagrams::Sent;
-use crate::making::agent;
 use crate::steps::{Step, play};
 use crate::told::Told;
-use srm_agent::{Agent, Cause, Outcome};
+use srm_agent::Cause;
 use srm_codec::DecodeFault;
-use srm_timers::Listed;
-use std::process::Abort;
-
-fn check_noise(rt: &impl Abort, agent: &mut Agent<Listed>, bytes: &[u8], fault: DecodeFault) {
-    let heard = hear_bytes(rt, agent, bytes, 5);
-    assert_eq!(rt; heard.outcome, Outcome::Ignored(Cause::Decode(fault)));
-}
 
 #[test]
 fn noise_is_ignored(rt: HostRuntime) {
-    let mut agent = agent(&rt, rt.alloc(), 1);
-    check_noise(&rt, &mut agent, &[], DecodeFault::Short);
-    check_noise(&rt, &mut agent, &[0xff; 4_096], DecodeFault::Magic);
-    check_noise(&rt, &mut agent, &[0x53, 0x52, 3], DecodeFault::Version);
+    let steps = [
+        Step::HearNoise(Noise::Nothing),
+        Step::Tells(Told::Ignored(Cause::Decode(DecodeFault::Short))),
+        Step::HearNoise(Noise::Filled),
+        Step::Tells(Told::Ignored(Cause::Decode(DecodeFault::Magic))),
+        Step::HearNoise(Noise::LaterVersion),
+        Step::Tells(Told::Ignored(Cause::Decode(DecodeFault::Version))),
+    ];
+    play(&rt, rt.alloc(), 1, &steps);
 }
 
 #[test]

@@ -20,6 +20,8 @@ mod making;
 #[cfg(test)]
 mod next_due;
 #[cfg(test)]
+mod noted;
+#[cfg(test)]
 mod noting;
 #[cfg(test)]
 mod pages;

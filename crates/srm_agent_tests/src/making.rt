@@ -38,8 +38,3 @@ pub(crate) fn agent_with(
         Err(_) => make_agent(alloc, config, words).expect(rt, "memory"),
     }
 }
-
-/// The agent of a member of four, with no words but 0.
-pub(crate) fn agent(rt: &impl Abort, alloc: Global, me: u8) -> Agent<Listed> {
-    agent_with(rt, alloc, me, 4, 4_204, &[])
-}

@@ -1,11 +1,8 @@
 //! Names that are found missing and asked for.
 
-use crate::calls::hear;
 use crate::datagrams::Sent;
-use crate::making::agent;
 use crate::steps::{Step, play, play_with};
-use crate::told::{Told, of_arm};
-use srm_agent::Arm;
+use crate::told::Told;
 use std::alloc::Global;
 use std::process::Abort;
 
@@ -154,17 +151,7 @@ fn a_request_reaches_32_numbers_on(rt: HostRuntime) {
     play(&rt, rt.alloc(), 1, &steps);
 }
 
-/// Checks that these are the timers of so many numbers, from 1 on.
-fn check_all(rt: &impl Abort, arms: &[Arm], count: usize) {
-    assert_eq!(rt; arms.len(), count);
-    for (arm, number) in arms.iter().zip(1..65_536) {
-        assert_eq!(rt; of_arm(arm), Told::AsksIn(number, 0, 200_000));
-    }
-}
-
 #[test]
 fn the_last_number_first_leaves_all_others_missing(rt: HostRuntime) {
-    let mut agent = agent(&rt, rt.alloc(), 1);
-    let heard = hear(&rt, &mut agent, Sent::Data(0, 65_536), 1_000_000);
-    check_all(&rt, heard.arms.as_slice(), 65_535);
+    play(&rt, rt.alloc(), 1, &[Step::HearLast(1_000_000)]);
 }

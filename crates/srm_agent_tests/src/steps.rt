@@ -1,10 +1,17 @@
 //! Lists of calls of an agent, each followed by what it tells.
 
-use crate::calls::{draw, give, hear, hear_numbers, hear_others, leave, show, show_pages, tick};
+use crate::calls::{
+    Noise, draw, give, hear, hear_noise, hear_numbers, hear_others, leave, show, show_of,
+    show_pages, tick,
+};
 use crate::datagrams::Sent;
 use crate::making::agent_with;
-use crate::told::{Tales, Told, of_drawn, of_given, of_result, tell, tell_heard, tell_ticked};
-use srm_agent::{Agent, Out};
+use crate::noted::{self, NotedCall};
+use crate::told::{
+    Tales, Told, of_arm, of_drawn, of_given, of_page, of_result, tell, tell_entry, tell_heard,
+    tell_ticked,
+};
+use srm_agent::{Agent, Arm, Out};
 use srm_timers::Listed;
 use std::alloc::Global;
 use std::process::Abort;
@@ -16,12 +23,22 @@ pub(crate) enum Step {
     Draw(u16, usize, u64),
     /// A page of member 0 is shown at a moment.
     Show(u16, u64),
+    /// A page of a member is shown at a moment.
+    ShowOf(u8, u16, u64),
     /// So many pages of member 0 are shown, from number 1 on. It tells nothing.
     ShowPages(u16),
+    /// The member's next page is asked for.
+    NewPage,
+    /// A call is made whose entry tells.
+    Note(NotedCall, u64),
     Leave(u64),
     Hear(Sent, u64),
     /// A datagram is heard. It tells nothing.
     Get(Sent, u64),
+    /// Bytes are heard that spell no datagram, at 5.
+    HearNoise(Noise),
+    /// Number 65,536 of member 0 is heard first, at a moment: timers are set for all others, in order. It tells nothing.
+    HearLast(u64),
     /// Data of member 0 is heard, from one number to the one before another. It tells nothing.
     HearNumbers(u32, u32, u64),
     /// Number 1 and a session message of each member from 1 to 31 are heard. It tells nothing.
@@ -90,6 +107,41 @@ fn draw_and_tell(
     tell(rt, tales, of_drawn(drawn));
 }
 
+fn note_and_tell(
+    rt: &impl Abort,
+    alloc: Global,
+    agent: &mut Agent<Listed>,
+    tales: &mut Tales,
+    call: NotedCall,
+    now: u64,
+) {
+    let entry = noted::make(rt, alloc, agent, call, now);
+    tell_entry(rt, tales, &entry);
+}
+
+fn hear_noise_and_tell(
+    rt: &impl Abort,
+    agent: &mut Agent<Listed>,
+    tales: &mut Tales,
+    noise: Noise,
+) {
+    let heard = hear_noise(rt, agent, noise);
+    tell_heard(rt, tales, &heard);
+}
+
+/// Checks that these are the first timers of the numbers from 1 to 65,535.
+fn check_all(rt: &impl Abort, arms: &[Arm]) {
+    assert_eq!(rt; arms.len(), 65_535);
+    for (arm, number) in arms.iter().zip(1..65_536) {
+        assert_eq!(rt; of_arm(arm), Told::AsksIn(number, 0, 200_000));
+    }
+}
+
+fn hear_last(rt: &impl Abort, agent: &mut Agent<Listed>, now: u64) {
+    let heard = hear(rt, agent, Sent::Data(0, 65_536), now);
+    check_all(rt, heard.arms.as_slice());
+}
+
 /// Makes a call.
 fn call(rt: &impl Abort, alloc: Global, agent: &mut Agent<Listed>, tales: &mut Tales, step: Step) {
     match step {
@@ -97,12 +149,19 @@ fn call(rt: &impl Abort, alloc: Global, agent: &mut Agent<Listed>, tales: &mut T
             draw_and_tell(rt, alloc, agent, tales, page, length, now);
         }
         Step::Show(page, now) => tell(rt, tales, of_result(show(rt, agent, page, now))),
+        Step::ShowOf(creator, page, now) => {
+            tell(rt, tales, of_result(show_of(rt, agent, creator, page, now)));
+        }
         Step::ShowPages(count) => show_pages(rt, agent, count),
+        Step::NewPage => tell(rt, tales, of_page(agent.new_page())),
+        Step::Note(noted, now) => note_and_tell(rt, alloc, agent, tales, noted, now),
         Step::Leave(now) => tell(rt, tales, of_result(leave(rt, agent, now))),
         Step::Hear(sent, now) => hear_and_tell(rt, agent, tales, sent, now),
         Step::Get(sent, now) => {
             let _ = hear(rt, agent, sent, now);
         }
+        Step::HearNoise(noise) => hear_noise_and_tell(rt, agent, tales, noise),
+        Step::HearLast(now) => hear_last(rt, agent, now),
         Step::HearNumbers(from, to, now) => hear_numbers(rt, agent, from, to, now),
         Step::HearOthers(now) => hear_others(rt, agent, now),
         Step::Give(slot) => give_and_tell(rt, agent, tales, slot),

@@ -1,7 +1,9 @@
 //! What an agent tells, in short.
 
-use srm_agent::{AgentFault, Arm, ArmKind, Cause, Heard, Out, Outcome, Ticked};
-use srm_names::{Name, PageMsg};
+use srm_agent::{
+    AgentFault, AgentState, Arm, ArmKind, Cause, Entry, Heard, Out, Outcome, Ticked, Verdict,
+};
+use srm_names::{Name, Page, PageMsg};
 use std::collections::VecDeque;
 use std::process::Abort;
 
@@ -30,6 +32,12 @@ pub(crate) enum Told {
     Left(u8),
     Close,
     Nothing,
+    /// The member's next page, by its creator and number.
+    NewPage(Option<(u8, u16)>),
+    /// The moment of an entry, its verdict, and the state that it leaves.
+    Noted(u64, Verdict, AgentState),
+    /// The stamp of the drawop of an entry.
+    Stamped(u64),
 }
 
 /// What was told and not yet compared.
@@ -116,4 +124,23 @@ pub(crate) fn tell_ticked(rt: &impl Abort, tales: &mut Tales, ticked: &Ticked) {
     tell_repairs(rt, tales, ticked.fixes.as_slice());
     tell_arms(rt, tales, ticked.arms.as_slice());
     tell_outs(rt, tales, ticked.outs.as_slice());
+}
+
+pub(crate) fn of_page(page: Option<Page>) -> Told {
+    match page {
+        Some(page) => Told::NewPage(Some((page.creator.number(), page.number))),
+        None => Told::NewPage(None),
+    }
+}
+
+/// Of an entry its moment, verdict and state, and the stamp of what was drawn.
+pub(crate) fn tell_entry(rt: &impl Abort, tales: &mut Tales, entry: &Entry) {
+    tell(
+        rt,
+        tales,
+        Told::Noted(entry.moment, entry.verdict, entry.effects.state),
+    );
+    if let Some(drawop) = &entry.effects.drawn {
+        tell(rt, tales, Told::Stamped(drawop.stamp));
+    }
 }

@@ -82,7 +82,7 @@ impl<W: Words + Drop> World<W> {
     /// Applies one event, and answers whether it left an entry. It is skipped where it names no member of the session, no
     /// datagram that was sent, or no slot. What the member refuses leaves an entry without effects.
     ///
-    /// Refused is [`WorldFault::Memory`] alone, and then nothing has changed.
+    /// Refused is [`WorldFault::Memory`] alone, and then the trace is as before.
     pub fn apply(&mut self, event: Event) -> Result<bool, WorldFault>
         requires { IsTimely event }
         ensures follows { OnOk result (FollowsOne self.old.starts self.old.entries event self.new.entries) }

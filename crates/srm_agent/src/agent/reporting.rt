@@ -14,9 +14,6 @@ ghost use Rattle.srm_agent.specs.Reports.{IsReportOf, IsReportSpelled, AreReport
 ghost use Rattle.srm_entries.specs.Sessions.{members_left, session_pause, if_positive};
 ghost use Rattle.srm_entries.specs.Verdicts.{stream_on};
 
-#[cfg(test)]
-mod tests;
-
 use super::Agent;
 use srm_agent_parts::{Outgoing, first_page, member, page_in_range, stream_in_range};
 use srm_codec::{Datagram, length};
