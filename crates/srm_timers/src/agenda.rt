@@ -127,7 +127,7 @@ impl Agenda {
 }
 
 /// Puts the names into a list, in the order in which they stand, in place of what it holds.
-pub(crate) fn put_names(names: &mut Vec<Name>, pairs: &[Timed]) -> Result<(), AllocError>
+pub fn put_names(names: &mut Vec<Name>, pairs: &[Timed]) -> Result<(), AllocError>
     ensures names { OnOk result (names.new.items ≡ names_of pairs.now) }
     ensures capacity { vec_capacity names.old ≤ vec_capacity names.new }
     ensures room { length pairs.now ≤ vec_capacity names.old → IsOk result }

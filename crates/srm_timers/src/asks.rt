@@ -26,9 +26,6 @@ use std::alloc::{AllocError, Global};
 use std::marker::Model;
 use std::mem;
 
-#[cfg(test)]
-mod tests;
-
 /// The request timers that run: one for each name that is missing.
 ///
 /// A call that answers [`TimerFault::Memory`] has changed nothing and taken no word. Moments are microseconds, at most

@@ -24,9 +24,6 @@ use std::alloc::{AllocError, Global};
 use std::marker::Model;
 use std::mem;
 
-#[cfg(test)]
-mod tests;
-
 /// The repair timers that run, who asked first for each name, and until when names are held off.
 ///
 /// A call that answers [`TimerFault::Memory`] has changed nothing and taken no word. Moments are microseconds, at most

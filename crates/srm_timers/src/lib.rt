@@ -14,20 +14,17 @@ mod distance;
 mod ends;
 mod fault;
 mod fixes;
-#[cfg(test)]
-mod fixtures;
 mod limits;
 mod listed;
 mod ordered;
 mod pcg;
 mod scanned;
-#[cfg(test)]
-mod tests;
 mod timed;
 mod timers;
 mod wait;
 mod words;
 
+pub use agenda::put_names;
 pub use arm::{Arm, ArmKind, Armed};
 pub use asks::Asks;
 pub use by_name::Place;
@@ -40,4 +37,4 @@ pub use ordered::Ordered;
 pub use pcg::Pcg;
 pub use scanned::Scanned;
 pub use timed::Timed;
-pub use words::Words;
+pub use words::{Words, wait_between};

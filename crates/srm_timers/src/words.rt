@@ -13,7 +13,7 @@ pub trait Words {
 }
 
 /// A wait between two ends, both in microseconds and both included, by one word.
-pub(crate) fn wait_between<W: Words>(low: u64, high: u64, words: &mut W) -> u64
+pub fn wait_between<W: Words>(low: u64, high: u64, words: &mut W) -> u64
     requires rises { low ≤ high }
     requires small { high < 2 ^ 63 }
     ensures value { result ≡ low + (W.draw words.old).0 % (high - low + 1) }

@@ -4,8 +4,8 @@ ghost use Rattle.std.specs.Prelude.{◌≡◌, ◌≤◌};
 ghost use Rattle.srm_names.specs.Names.{first_page, named};
 ghost use Rattle.srm_timers.specs.Distances.{AreDistances};
 
-use crate::{Arm, ArmKind, Asks, Fixes, Listed, Scanned, TIMER_SETTING};
 use srm_names::{LONGEST_DISTANCE, Member, Name, Page};
+use srm_timers::{Arm, ArmKind, Asks, Fixes, Listed, Scanned, TIMER_SETTING};
 use std::alloc::Global;
 use std::process::Abort;
 

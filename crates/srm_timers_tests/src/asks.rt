@@ -3,8 +3,8 @@
 ghost use Rattle.srm_timers.specs.Distances.{AreDistances};
 
 use crate::fixtures::{all_at, ask, name, no_asks, words};
-use crate::{Arm, Asks, Listed, Scanned, TIMER_SETTING};
 use srm_names::{LONGEST_DISTANCE, MOMENT, Name};
+use srm_timers::{Arm, Asks, Listed, Scanned, TIMER_SETTING};
 use std::alloc::Global;
 use std::process::Abort;
 
@@ -69,6 +69,7 @@ fn find(
 /// Asks for what is due, and compares the arms.
 fn check_due(
     rt: &impl Abort,
+    alloc: Global,
     asks: &mut Asks<Scanned>,
     dist: &[u64],
     now: u64,
@@ -78,7 +79,7 @@ fn check_due(
     requires { AreDistances dist.now }
 {
     assert!(rt; now <= MOMENT);
-    let names = asks.pending(now, Vec::new(asks.alloc)).expect(rt, "memory");
+    let names = asks.pending(now, Vec::new(alloc)).expect(rt, "memory");
     assert_eq!(rt; names.len(), wanted.len());
     let arms = asks.due(now, dist, words).expect(rt, "memory");
     assert_eq!(rt; arms.as_slice(), wanted);
@@ -87,6 +88,7 @@ fn check_due(
 /// Asks for what runs out at a moment, and not a microsecond before, and compares the arm.
 fn check_round(
     rt: &impl Abort,
+    alloc: Global,
     asks: &mut Asks<Scanned>,
     dist: &[u64],
     end: u64,
@@ -96,8 +98,8 @@ fn check_round(
     requires { AreDistances dist.now }
 {
     check_next(rt, asks, Some(end));
-    check_due(rt, asks, dist, end.saturating_sub(1), words, &[]);
-    check_due(rt, asks, dist, end, words, &[wanted])
+    check_due(rt, alloc, asks, dist, end.saturating_sub(1), words, &[]);
+    check_due(rt, alloc, asks, dist, end, words, &[wanted])
 }
 
 /// Hears a request of another, and compares the arm.
@@ -123,6 +125,7 @@ fn check_next(rt: &impl Abort, asks: &Asks<Scanned>, wanted: Option<u64>) {
 /// Takes a step, and compares what comes of it.
 fn take(
     rt: &impl Abort,
+    alloc: Global,
     asks: &mut Asks<Scanned>,
     dist: &[u64],
     distance: u64,
@@ -134,10 +137,11 @@ fn take(
     let missing = name(rt, 1);
     match step {
         Step::Next(wanted) => check_next(rt, asks, wanted),
-        Step::Early(now) => check_due(rt, asks, dist, now, words, &[]),
+        Step::Early(now) => check_due(rt, alloc, asks, dist, now, words, &[]),
         Step::Due(now, exponent, wait) => {
             check_due(
                 rt,
+                alloc,
                 asks,
                 dist,
                 now,
@@ -148,6 +152,7 @@ fn take(
         Step::Round(end, exponent, wait) => {
             check_round(
                 rt,
+                alloc,
                 asks,
                 dist,
                 end,
@@ -171,7 +176,15 @@ fn play(rt: &impl Abort, alloc: Global, start: Start, drawn: &[u64], steps: &[St
     let mut words = words(rt, alloc, drawn);
     let mut asks = find(rt, alloc, start, &dist, &mut words);
     for step in steps {
-        take(rt, &mut asks, &dist, start.distance, *step, &mut words);
+        take(
+            rt,
+            alloc,
+            &mut asks,
+            &dist,
+            start.distance,
+            *step,
+            &mut words,
+        );
     }
 }
 

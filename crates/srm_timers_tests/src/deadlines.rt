@@ -4,10 +4,8 @@ ghost use Rattle.std.specs.Prelude.{◌≡◌, true, IfOk};
 ghost use Rattle.srm_names.specs.Names.{ascending, name_below};
 ghost use Rattle.srm_timers.specs.Places.{names_of};
 
-use crate::agenda::put_names;
-use crate::words::wait_between;
-use crate::{Deadlines, Listed, Ordered, Pcg, Scanned, Timed, Words};
 use srm_names::{Member, Name, Page};
+use srm_timers::{Deadlines, Listed, Ordered, Pcg, Scanned, Timed, Words, put_names, wait_between};
 use std::alloc::{AllocError, Global};
 use std::process::Abort;
 use std::test::Fail;

@@ -3,8 +3,8 @@
 ghost use Rattle.srm_timers.specs.Distances.{AreDistances};
 
 use crate::fixtures::{all_at, fix, member, name, near_and_far, no_fixes, words};
-use crate::{Fixes, Listed, Scanned, TimerFault};
 use srm_names::{MOMENT, Name};
+use srm_timers::{Fixes, Listed, Scanned, TimerFault};
 use std::alloc::Global;
 use std::process::Abort;
 
@@ -59,13 +59,18 @@ fn check_repair(rt: &impl Abort, fixes: &mut Fixes<Scanned>, dist: &[u64], now: 
 }
 
 /// Hands out what is due, and compares how much that is.
-fn check_due(rt: &impl Abort, fixes: &mut Fixes<Scanned>, dist: &[u64], now: u64, count: usize)
+fn check_due(
+    rt: &impl Abort,
+    alloc: Global,
+    fixes: &mut Fixes<Scanned>,
+    dist: &[u64],
+    now: u64,
+    count: usize,
+)
     requires { AreDistances dist.now }
 {
     assert!(rt; now <= MOMENT);
-    let names = fixes
-        .pending(now, Vec::new(fixes.alloc))
-        .expect(rt, "memory");
+    let names = fixes.pending(now, Vec::new(alloc)).expect(rt, "memory");
     assert_eq!(rt; names.len(), count);
     let names = fixes.due(now, dist).expect(rt, "memory");
     assert_eq!(rt; names.len(), count);
@@ -84,7 +89,14 @@ fn check_asker(rt: &impl Abort, fixes: &Fixes<Scanned>, wanted: u8) {
 }
 
 /// Takes a step, and compares what comes of it.
-fn take(rt: &impl Abort, fixes: &mut Fixes<Scanned>, dist: &[u64], step: Step, words: &mut Listed)
+fn take(
+    rt: &impl Abort,
+    alloc: Global,
+    fixes: &mut Fixes<Scanned>,
+    dist: &[u64],
+    step: Step,
+    words: &mut Listed,
+)
     requires { AreDistances dist.now }
 {
     match step {
@@ -104,7 +116,7 @@ fn take(rt: &impl Abort, fixes: &mut Fixes<Scanned>, dist: &[u64], step: Step, w
             );
         }
         Step::Repair(now) => check_repair(rt, fixes, dist, now),
-        Step::Due(now, count) => check_due(rt, fixes, dist, now, count),
+        Step::Due(now, count) => check_due(rt, alloc, fixes, dist, now, count),
         Step::Next(wanted) => check_next(rt, fixes, wanted),
         Step::Free(now, wanted) => check_free(rt, fixes, now, wanted),
         Step::Asker(wanted) => check_asker(rt, fixes, wanted),
@@ -118,7 +130,7 @@ fn play(rt: &impl Abort, alloc: Global, dist: &[u64], drawn: &[u64], steps: &[St
     let mut words = words(rt, alloc, drawn);
     let mut fixes = no_fixes(alloc);
     for step in steps {
-        take(rt, &mut fixes, dist, *step, &mut words);
+        take(rt, alloc, &mut fixes, dist, *step, &mut words);
     }
 }
 
