@@ -14,8 +14,6 @@ mod lists;
 mod mask;
 mod reader;
 mod spellable;
-#[cfg(test)]
-mod tests;
 
 pub use datagram::Datagram;
 pub use decoding::decode;

@@ -15,8 +15,6 @@ mod rooms;
 mod row;
 mod store;
 mod table;
-#[cfg(test)]
-mod tests;
 
 pub use fault::StoreFault;
 pub use finals::row_number;

@@ -1,7 +1,7 @@
 //! A store over plain lists, which looks through them at every call.
 
-use crate::Insert;
 use srm_names::{Drawop, Name};
+use srm_store::Insert;
 use std::alloc::{AllocError, Global};
 
 #[derive(Drop)]

@@ -1,11 +1,9 @@
 //! Worked rows, a full stream, and the same answers as a plain list.
 
-mod list_store;
-
-use crate::{Insert, Store, StoreFault};
+use crate::list_store::ListStore;
 use bytes::Bytes;
-use list_store::ListStore;
 use srm_names::{DRAWOPS, Drawop, Member, Name, Page};
+use srm_store::{Insert, Store, StoreFault};
 use std::alloc::Global;
 use std::process::Abort;
 use std::test::Fail;

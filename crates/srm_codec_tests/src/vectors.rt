@@ -1,7 +1,7 @@
 //! The vectors of the format, and bytes that aren't datagrams.
 
-use crate::{Datagram, DecodeFault, decode, encodable, encode, length};
 use bytes::Bytes;
+use srm_codec::{Datagram, DecodeFault, decode, encodable, encode, length};
 use srm_names::{Drawop, Echo, Items, Member, Name, Page};
 use std::alloc::Global;
 use std::process::Abort;

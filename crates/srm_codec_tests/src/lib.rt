@@ -1,0 +1,7 @@
+//! Datagrams and bytes at worked values, as the codec's callers see them.
+//!
+//! The tests stand in a crate of their own: the codec is proved once, and not a second time with them.
+#![tactic(auto)]
+
+#[cfg(test)]
+mod vectors;
