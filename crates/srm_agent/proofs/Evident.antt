@@ -13,7 +13,7 @@ use Rattle.srm_names.proofs.Same.{same_stream-is}
 use Rattle.srm_codec.specs.declared.datagram.Datagram.TheVariants.{Request}
 use Rattle.srm_codec.specs.Spelling.{asked_by, bits_set}
 use Rattle.srm_store.specs.Held.{greatest_in, number_in}
-use Rattle.srm_timers.proofs.Same.{same_itself}
+use Rattle.srm_deadlines.proofs.Same.{same_itself}
 use Rattle.srm_timers.specs.declared.arm.Arm.{Arm}
 use Rattle.srm_entries.specs.declared.entry.Entry.{Entry}
 use Rattle.srm_entries.specs.declared.state.AgentState.{AgentState}

@@ -7,7 +7,7 @@ use Rattle.std.proofs.lemmas.List.Folds.{list_any-append}
 use Rattle.srm_names.specs.declared.stream.Stream.{Stream}
 use Rattle.srm_names.specs.FullName.{FullName}
 use Rattle.srm_names.specs.Names.{same_stream, same_name, stream_below, name_below, ascending, named, AreExactly}
-use Rattle.srm_timers.proofs.Same.{same_itself}
+use Rattle.srm_deadlines.proofs.Same.{same_itself}
 use Rattle.srm_names.specs.Names.{among}
 use Rattle.srm_agent.specs.Growth.{is_between}
 

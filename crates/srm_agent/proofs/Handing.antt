@@ -16,7 +16,7 @@ use Rattle.srm_agent.specs.declared.answers.Answer.{Answer}
 use Rattle.srm_agent_parts.specs.declared.out.Outgoing.{Outgoing}
 use Rattle.srm_agent_parts.specs.Outs.{IsOwn, AreOwn}
 use Rattle.srm_agent.specs.Answering.{classed_of}
-use Rattle.srm_agent.specs.Outbox.{WentContent, NothingWent, HandsIn, LetsGo}
+use Rattle.srm_agent.specs.Outbox.{Passes, WentContent, NothingWent, HandsIn, LetsGo}
 
 pub all-append : {X : Type 0} (P : X → Type 0) (xs ys : List X) → AllByRecursion P xs → AllByRecursion P ys → AllByRecursion P (xs ++ ys)
 all-append P [] ys p q = q
@@ -205,4 +205,15 @@ going_ends now old b new went h pops takes = record {
   own = h.own;
   left = λ me session own. record { each = λ class. subst (AllByRecursion (λ i. IsOwn me session i.value)) (sym (takes class)) ((h.left me session own).each class) };
   room = omega (arith, h.room);
+}
+
+-- a pop at a moment at which nothing may go
+pub pop_passes : (now : ℕ) (old new : BucketContent Outgoing) (answer : Option (Item Outgoing)) → Pops now old answer new → TakesNext old.waiting answer new.waiting → Passes now old new
+pop_passes now old new None pops takes = record {
+  fits = λ rate depth calls h none. subst (λ o. Fits rate depth (calls ++ Popped now o ∷ []) new) none (pops.fits rate depth calls h);
+  left = λ me session own. record { each = λ class. subst (AllByRecursion (λ i. IsOwn me session i.value)) (sym (takes class)) (own.each class) };
+}
+pop_passes now old new (Some item) pops takes = record {
+  fits = λ rate depth calls h none. subst (λ o. Fits rate depth (calls ++ Popped now o ∷ []) new) none (pops.fits rate depth calls h);
+  left = λ me session own. record { each = remaining (λ i. IsOwn me session i.value) old.waiting new.waiting item takes own.each };
 }

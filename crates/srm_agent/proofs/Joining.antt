@@ -14,7 +14,7 @@ use Rattle.srm_names.proofs.Orders.{name_order}
 use Rattle.srm_names.proofs.Same.{same_stream-is}
 use Rattle.srm_codec.specs.Spelling.{row_below}
 use Rattle.srm_store.specs.Held.{greatest_in, number_in}
-use Rattle.srm_timers.proofs.Same.{same_itself}
+use Rattle.srm_deadlines.proofs.Same.{same_itself}
 use Rattle.srm_entries.specs.declared.entry.Entry.{Entry}
 use Rattle.srm_entries.specs.Entries.{is_held, is_missing, known}
 use Rattle.srm_agent.specs.Growth.{is_between, is_fresh_of}

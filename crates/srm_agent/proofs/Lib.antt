@@ -34,3 +34,4 @@ pub mod NextDueIdle
 pub mod NextDueStirs
 pub mod NextDueRests
 pub mod NextDue
+pub mod Passing

@@ -1,10 +1,11 @@
 -- The next moment at which a tick does something.
-use Rattle.std.proofs.Common.{◌≡◌, ℕ, ◌<◌, ◌≤◌, max, Bool, true, false, List, refl, ap, sym, ◌∙◌, inl, inr, arith}
-use Rattle.std.specs.Prelude.{◌⊎◌, Option, Some, None, nat_le, MatchOption}
+use Rattle.std.proofs.Common.{◌≡◌, ℕ, ◌<◌, ◌≤◌, max, Bool, true, false, List, refl, ap, sym, ◌∙◌, subst, inl, inr, arith}
+use Rattle.std.specs.Prelude.{◌⊎◌, Option, Some, None, nat_le, nat_lt, MatchOption}
+use Rattle.std.specs.Bool.{OnTrue}
 use Rattle.std.proofs.lemmas.Bool.Decides.{nat_tests}
 use Rattle.srm_timers.specs.declared.arm.Armed.{Armed}
 use Rattle.srm_timers.specs.Arms.{ran_out}
-use Rattle.srm_timers.specs.Least.{lesser}
+use Rattle.srm_deadlines.specs.Least.{lesser}
 use Rattle.srm_bucket.specs.Classes.{next_of}
 use Rattle.srm_bucket.specs.Fits.{Waits}
 use Rattle.srm_bucket.specs.Law.{IsFirstToGo}
@@ -15,9 +16,8 @@ use Rattle.srm_entries.specs.Entries.{state, is_gone, last_moment}
 use Rattle.srm_entries.specs.Timers.{fix_running}
 use Rattle.srm_agent.specs.Fits.{Fits}
 use Rattle.srm_entries.specs.Promises.{IsIdle}
-use Rattle.srm_agent_parts.specs.TimerCalls.{RunOutFirst, IsBefore, TimersNext, ask_running}
-use Rattle.srm_agent.specs.Waking.{NextDue, report_next, sooner_of}
-use Rattle.srm_agent_parts.proofs.Midway.{before_first, before_second}
+use Rattle.srm_agent_parts.specs.TimerCalls.{RunOutFirst, TimersNext, ask_running}
+use Rattle.srm_agent.specs.Waking.{IsEarly, IsNextAt, NextDue, report_next, sooner_of}
 use Rattle.srm_agent.proofs.NextDueIdle.{idle_before}
 use Rattle.srm_agent.proofs.NextDueRests.{gone_rests, idle_rests}
 use Rattle.srm_agent.proofs.NextDueStirs.{did_nothing, asks_then, fixes_then, reports_then, goes_then}
@@ -27,16 +27,7 @@ never_due a gone = record {
   each = λ c made past h. let left : is_gone (state past) ≡ true = ap is_gone (sym h.state) ∙ gone in (left, λ u. gone_rests c made past u left);
 }
 
--- before the sooner of two moments it is before both
-before_one : (u : ℕ) (o : Option ℕ) (r : ℕ) → u < sooner_of o r → IsBefore u o
-before_one u None r l = tt
-before_one u (Some t) r l = omega (arith, l)
-
-before_other : (u : ℕ) (o : Option ℕ) (r : ℕ) → u < sooner_of o r → u < r
-before_other u None r l = l
-before_other u (Some t) r l = omega (arith, l)
-
--- and one of them is the sooner
+-- one of two moments is the sooner
 abbrev HasCome : ℕ → Option ℕ → Type 0
 HasCome t None = ⊥
 HasCome t (Some r) = r ≤ t
@@ -82,27 +73,37 @@ module _ {W : Type 0} (c : Config) (made : ℕ) (past : List Entry) (a : Content
   report_stirs : report_next a ≤ t → IsIdle c made past t → ⊥
   report_stirs come idle = reports_then c made past a t idle.0 h (did_nothing c made past t idle) here come
 
-pub first_due : {W : Type 0} (a : Content W) (timers answer : Option ℕ) → is_gone a.state ≡ false → TimersNext a.timers timers → Waits a.bucket answer
-    → NextDue a (Some (max a.last (sooner_of (lesser timers answer) (report_next a))))
-first_due a timers answer active runs waits = record {
+pub first_due : {W : Type 0} (a : Content W) (next : ℕ) → is_gone a.state ≡ false → IsNextAt a next → NextDue a (Some (max a.last next))
+first_due a next active at = subst (λ n. NextDue a (Some (max a.last n))) (sym at.is) (record {
   each = λ c made past h.
       let here : is_gone (state past) ≡ false = ap is_gone (sym h.state) ∙ active in
-      let first : RunOutFirst past timers = runs.each c past h.timers in
-      let t : ℕ = max a.last (sooner_of (lesser timers answer) (report_next a)) in
+      let first : RunOutFirst past at.timers = at.runs.each c past h.timers in
+      let t : ℕ = max a.last (sooner_of (lesser at.timers at.waiting) (report_next a)) in
       let last : a.last ≡ last_moment made past = h.last in (
         here,
         omega (arith, last),
         (λ u l before.
-            let sooner : u < sooner_of (lesser timers answer) (report_next a) = omega (arith, last, l, before) in
-            let both : IsBefore u (lesser timers answer) = before_one u (lesser timers answer) (report_next a) sooner in
-            let idle : IsIdle c made past u = idle_before c made past a timers answer u h here first waits l (before_first u timers answer both) (before_second u timers answer both) (before_other u (lesser timers answer) (report_next a) sooner) in
+            let sooner : u < sooner_of (lesser at.timers at.waiting) (report_next a) = omega (arith, last, l, before) in
+            let idle : IsIdle c made past u = idle_before c made past a u h here (sooner_of (lesser at.timers at.waiting) (report_next a), record { timers = at.timers; waiting = at.waiting; runs = at.runs; waits = at.waits; is = refl }, sooner) l in
             (idle, idle_rests c made past u idle)),
-        (λ idle. elim (one_came t timers answer (report_next a) (omega arith)) [
-          | inl timer ↦ timer_stirs c made past a t h here timers first timer idle
+        (λ idle. elim (one_came t at.timers at.waiting (report_next a) (omega arith)) [
+          | inl timer ↦ timer_stirs c made past a t h here at.timers first timer idle
           | inr other ↦ elim other [
-            | inl item ↦ item_stirs c made past a t h here answer (waits.until c.rate c.depth h.bucket.calls h.bucket.fits) item idle
+            | inl item ↦ item_stirs c made past a t h here at.waiting (at.waits.until c.rate c.depth h.bucket.calls h.bucket.fits) item idle
             | inr report ↦ report_stirs c made past a t h here report idle
           ]
         ]),
       );
-}
+})
+
+-- the next moment, by the calls that tell its parts
+pub soonest : {W : Type 0} (a : Content W) (timers waiting : Option ℕ) → TimersNext a.timers timers → Waits a.bucket waiting → IsNextAt a (sooner_of (lesser timers waiting) (report_next a))
+soonest a timers waiting runs waits = record { timers = timers; waiting = waiting; runs = runs; waits = waits; is = refl }
+
+-- and whether it is to come
+pub early : {W : Type 0} (a : Content W) (moment next : ℕ) → IsNextAt a next → OnTrue (nat_lt moment next) (IsEarly a moment)
+early a moment next at = go (nat_lt moment next) refl
+  where
+    go : (b : Bool) → nat_lt moment next ≡ b → OnTrue b (IsEarly a moment)
+    go true e = (next, at, grind (arith, nat_tests))
+    go false e = tt

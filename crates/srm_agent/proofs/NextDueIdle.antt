@@ -9,9 +9,11 @@ use Rattle.std.proofs.lemmas.List.Sums.{sum_by-append}
 use Rattle.srm_names.specs.Histories.{steps}
 use Rattle.srm_timers.specs.declared.arm.Armed.{Armed}
 use Rattle.srm_timers.specs.Arms.{ran_out}
+use Rattle.srm_deadlines.specs.Least.{lesser}
 use Rattle.srm_bucket.specs.declared.class.Class.TheVariants.{New}
 use Rattle.srm_bucket.specs.Calls.{Call, Popped}
 use Rattle.srm_bucket.specs.Classes.{next_of}
+use Rattle.srm_bucket.specs.Content.{Content as BucketContent}
 use Rattle.srm_bucket.specs.Fits.{Waits}
 use Rattle.srm_bucket.specs.Law.{BucketLaw, IsFirstToGo, level_at, covered, may_go}
 use Rattle.srm_bucket.specs.Mapping.{read_call}
@@ -29,12 +31,15 @@ use Rattle.srm_entries.specs.Timers.{last_ask, fix_running, ArmsRight, TimersRig
 use Rattle.srm_entries.specs.Sessions.{is_data, charged, all_data_sent, ending}
 use Rattle.srm_entries.specs.Bucket.{Going, GoesRight, BucketRight, entries_of, calls_by, bucket_calls}
 use Rattle.srm_entries.specs.Runs.{EntryRight}
-use Rattle.srm_agent.specs.Fits.{Fits, datagram_of}
+use Rattle.srm_agent.specs.Fits.{Fits, BucketFits, datagram_of}
 use Rattle.srm_agent_parts.specs.TimersKept.{shown_if}
 use Rattle.srm_entries.specs.Promises.{IsIdle}
 use Rattle.srm_agent_parts.specs.TimerCalls.{RunOutFirst, IsBefore}
+use Rattle.srm_agent_parts.specs.declared.out.Outgoing.{Outgoing}
+use Rattle.srm_agent_parts.proofs.Midway.{before_first, before_second}
 use Rattle.srm_agent.specs.Ticking.{tick_entry}
-use Rattle.srm_agent.specs.Waking.{report_next}
+use Rattle.srm_agent.specs.Outbox.{Passes}
+use Rattle.srm_agent.specs.Waking.{IsEarly, report_next, sooner_of}
 use Rattle.srm_entries.proofs.Adding.{flat_map-snoc}
 use Rattle.srm_entries.proofs.Ending.{ending_of, ending_is}
 use Rattle.srm_entries.proofs.Marking.{bucket_calls-snoc, entries-snoc, went_length}
@@ -42,7 +47,7 @@ use Rattle.srm_agent.proofs.Quiet.{no_arms}
 use Rattle.srm_agent_parts.proofs.Running.{steps_more}
 use Rattle.srm_entries.proofs.Showing.{drawn-snoc}
 use Rattle.srm_entries.proofs.Spending.{Charged, charged_along, charged_start}
-use Rattle.srm_agent.proofs.Ticks.{tick_right}
+use Rattle.srm_agent.proofs.Ticks.{TickRight, tick_right}
 use Rattle.srm_agent.proofs.Unsent.{all_sent, kept_data}
 
 -- a tick without effects
@@ -128,62 +133,110 @@ pub pauses : (me : ℕ) (gs : List Going) (past : List Entry) (e : Entry) → en
     → calls_by me (record { before = gs; this = record { entry = e; goes = [] } }) ≡ Popped e.moment None ∷ []
 pauses me gs past e same here t none asks fixes = rw (none, asks, fixes, t, same, here) refl
 
+-- such a tick, as the bucket sees it
+abbrev idle_going : Config → List Entry → ℕ → Going
+idle_going c past u = record { entry = idle_at c past u; goes = [] }
+
+-- nothing may go
+may_not : {W : Type 0} (c : Config) (made : ℕ) (past : List Entry) (a : Content W) (answer : Option ℕ) (u : ℕ) (h : Fits c made past a) → Waits a.bucket answer → last_moment made past ≤ u → IsBefore u answer
+    → may_go c.rate c.depth h.bucket.calls u ≡ None
+may_not c made past a answer u h waits l before =
+    let k : last_of_calls h.bucket.calls ≤ last_moment made past = calls_before c made past a h in
+    nothing_goes c.rate c.depth h.bucket.calls answer u (waits.until c.rate c.depth h.bucket.calls h.bucket.fits) (omega (arith, k, l)) before
+
+module _ (c : Config) (past : List Entry) (u : ℕ) {b : BucketContent Outgoing} (h : BucketFits c past b) where
+  idle_entries : entries_of (h.goings ++ idle_going c past u ∷ []) ≡ past ++ idle_at c past u ∷ []
+  idle_entries = entries-snoc h.goings (idle_going c past u) ∙ ap (λ es. es ++ idle_at c past u ∷ []) h.entries
+
+  idle_goes : AllByRecursion GoesRight (steps (h.goings ++ idle_going c past u ∷ []))
+  idle_goes = steps_more GoesRight h.goings (idle_going c past u) h.goes (record { same = refl; at_ticks = whenever _ })
+    where
+      whenever : (b : Bool) → OnTrue b ((idle_going c past u).goes ≡ [])
+      whenever true = refl
+      whenever false = tt
+
+  idle_calls : is_gone (state past) ≡ false → map (read_call datagram_of) (h.calls ++ Popped u None ∷ []) ≡ bucket_calls c.me (h.goings ++ idle_going c past u ∷ [])
+  idle_calls here = sym (
+      bucket_calls-snoc c.me h.goings (idle_going c past u) ∙ ap (λ cs. bucket_calls c.me h.goings ++ cs) (pauses c.me h.goings past (idle_at c past u) h.entries here refl refl refl refl)
+      ∙ ap (λ cs. cs ++ Popped u None ∷ []) (sym h.read) ∙ sym (map-append (read_call datagram_of) h.calls (Popped u None ∷ [])))
+
 idle_bucket : {W : Type 0} (c : Config) (made : ℕ) (past : List Entry) (a : Content W) (answer : Option ℕ) (u : ℕ) → Fits c made past a → is_gone (state past) ≡ false → Waits a.bucket answer
     → last_moment made past ≤ u → IsBefore u answer → BucketRight c (past ++ idle_at c past u ∷ [])
 idle_bucket c made past a answer u h here waits l before = (
-  h.bucket.goings ++ x ∷ [],
-  entries-snoc h.bucket.goings x ∙ ap (λ es. es ++ idle_at c past u ∷ []) h.bucket.entries,
-  steps_more GoesRight h.bucket.goings x h.bucket.goes (record { same = refl; at_ticks = whenever _ }),
-  subst (BucketLaw c.rate c.depth) (sym calls) law,
+  h.bucket.goings ++ idle_going c past u ∷ [],
+  idle_entries c past u h.bucket,
+  idle_goes c past u h.bucket,
+  subst (BucketLaw c.rate c.depth) (idle_calls c past u h.bucket here)
+      (law-read datagram_of c.rate c.depth (h.bucket.calls ++ Popped u None ∷ []) (law-paused c.rate c.depth h.bucket.calls a.bucket u h.bucket.fits (may_not c made past a answer u h waits l before))),
 )
-  where
-    x : Going
-    x = record { entry = idle_at c past u; goes = [] }
 
-    whenever : (b : Bool) → OnTrue b (x.goes ≡ [])
-    whenever true = refl
-    whenever false = tt
+-- before the sooner of two moments it is before both
+before_one : (u : ℕ) (o : Option ℕ) (r : ℕ) → u < sooner_of o r → IsBefore u o
+before_one u None r l = tt
+before_one u (Some t) r l = omega (arith, l)
 
-    early : last_of_calls h.bucket.calls ≤ u
-    early = let k : last_of_calls h.bucket.calls ≤ last_moment made past = calls_before c made past a h in omega (arith, k, l)
+before_other : (u : ℕ) (o : Option ℕ) (r : ℕ) → u < sooner_of o r → u < r
+before_other u None r l = l
+before_other u (Some t) r l = omega (arith, l)
 
-    none : may_go c.rate c.depth h.bucket.calls u ≡ None
-    none = nothing_goes c.rate c.depth h.bucket.calls answer u (waits.until c.rate c.depth h.bucket.calls h.bucket.fits) early before
+-- what is due next is to come
+pub record IsToCome {W : Type 0} (a : Content W) (u : ℕ) (at : IsEarly a u) : Type 0 where
+  pub timer : IsBefore u at.1.timers
+  pub item : IsBefore u at.1.waiting
+  pub report : u < report_next a
 
-    law : BucketLaw c.rate c.depth (map (read_call datagram_of) (h.bucket.calls ++ Popped u None ∷ []))
-    law = law-read datagram_of c.rate c.depth (h.bucket.calls ++ Popped u None ∷ []) (law-paused c.rate c.depth h.bucket.calls a.bucket u h.bucket.fits none)
-
-    calls : bucket_calls c.me (h.bucket.goings ++ x ∷ []) ≡ map (read_call datagram_of) (h.bucket.calls ++ Popped u None ∷ [])
-    calls =
-        bucket_calls-snoc c.me h.bucket.goings x ∙ ap (λ cs. bucket_calls c.me h.bucket.goings ++ cs) (pauses c.me h.bucket.goings past (idle_at c past u) h.bucket.entries here refl refl refl refl)
-        ∙ ap (λ cs. cs ++ Popped u None ∷ []) (sym h.bucket.read) ∙ sym (map-append (read_call datagram_of) h.bucket.calls (Popped u None ∷ []))
+pub to_come : {W : Type 0} (a : Content W) (u : ℕ) (at : IsEarly a u) → IsToCome a u at
+to_come a u (next, n, before) =
+    let sooner : u < sooner_of (lesser n.timers n.waiting) (report_next a) = subst (λ m. u < m) n.is before in
+    let both : IsBefore u (lesser n.timers n.waiting) = before_one u (lesser n.timers n.waiting) (report_next a) sooner in
+    record {
+      timer = before_first u n.timers n.waiting both;
+      item = before_second u n.timers n.waiting both;
+      report = before_other u (lesser n.timers n.waiting) (report_next a) sooner;
+    }
 
 -- at a moment before all that is due
-pub idle_before : {W : Type 0} (c : Config) (made : ℕ) (past : List Entry) (a : Content W) (timers answer : Option ℕ) (u : ℕ) → Fits c made past a → is_gone (state past) ≡ false → RunOutFirst past timers → Waits a.bucket answer
-    → last_moment made past ≤ u → IsBefore u timers → IsBefore u answer → u < report_next a → IsIdle c made past u
-idle_before c made past a timers answer u h here first waits l no_timer no_item no_report = (
-  idle_at c past u,
-  refl,
-  refl,
-  refl,
-  refl,
-  refl,
-  record {
-    each = steps_more (EntryRight c made) past (idle_at c past u) h.run (tick_right c made u past [] [] [] [] (state past) None [] None (record {
-      moment = l;
-      arms = idle_arms c past u;
-      timers = idle_timers c past timers u first no_timer;
-      outs = refl;
-      each = tt;
-      charged = tt;
-      last = tt;
-      ending = ends_by c made past a (idle_at c past u) h refl refl refl ∙ ends_not a.state (length (queue a.bucket.waiting New) == 0) a.last a.due u (subst (λ n. n ≤ u) (sym h.last) l) no_report;
-      ends = tt;
-      state = same (state past);
-    }));
-    bucket = idle_bucket c made past a answer u h here waits l no_item;
-  },
-)
-  where
-    same : (s : AgentState) → s ≡ s
-    same s = refl
+module _ {W : Type 0} (c : Config) (made : ℕ) (past : List Entry) (a : Content W) (u : ℕ) (h : Fits c made past a) (here : is_gone (state past) ≡ false) (at : IsEarly a u) (l : last_moment made past ≤ u) where
+  pub idle_right : TickRight c made past (idle_at c past u) None [] None
+  idle_right =
+      let come = to_come a u at in
+      record {
+        moment = l;
+        arms = idle_arms c past u;
+        timers = idle_timers c past at.1.timers u (at.1.runs.each c past h.timers) come.timer;
+        outs = refl;
+        each = tt;
+        charged = tt;
+        last = tt;
+        ending = ends_by c made past a (idle_at c past u) h refl refl refl ∙ ends_not a.state (length (queue a.bucket.waiting New) == 0) a.last a.due u (subst (λ n. n ≤ u) (sym h.last) l) come.report;
+        ends = tt;
+        state = same (state past);
+      }
+    where
+      same : (s : AgentState) → s ≡ s
+      same s = refl
+
+  pub idle_before : IsIdle c made past u
+  idle_before = (
+    idle_at c past u,
+    refl,
+    refl,
+    refl,
+    refl,
+    refl,
+    record {
+      each = steps_more (EntryRight c made) past (idle_at c past u) h.run (tick_right c made u past [] [] [] [] (state past) None [] None idle_right);
+      bucket = idle_bucket c made past a at.1.waiting u h here at.1.waits l (to_come a u at).item;
+    },
+  )
+
+  -- the bucket after it
+  pub idle_fits : (new : BucketContent Outgoing) → Passes u a.bucket new → BucketFits c (past ++ idle_at c past u ∷ []) new
+  idle_fits new passes = record {
+    goings = h.bucket.goings ++ idle_going c past u ∷ [];
+    entries = idle_entries c past u h.bucket;
+    goes = idle_goes c past u h.bucket;
+    calls = h.bucket.calls ++ Popped u None ∷ [];
+    read = idle_calls c past u h.bucket here;
+    fits = passes.fits c.rate c.depth h.bucket.calls h.bucket.fits (may_not c made past a at.1.waiting u h at.1.waits l (to_come a u at).item);
+  }

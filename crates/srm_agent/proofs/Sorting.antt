@@ -12,7 +12,7 @@ use Rattle.srm_names.specs.declared.page.Page.{Page}
 use Rattle.srm_names.specs.Histories.{firsts}
 use Rattle.srm_names.specs.Names.{same_page, page_below, ascending}
 use Rattle.srm_names.proofs.Same.{same_page-is, same_page-itself}
-use Rattle.srm_timers.proofs.Agendas.{same_count}
+use Rattle.srm_deadlines.proofs.Agendas.{same_count}
 use Rattle.srm_agent_parts.specs.PageTables.{IsTable}
 use Rattle.srm_agent.specs.Reports.{AreInOrder}
 

@@ -15,7 +15,7 @@ use Rattle.srm_store.specs.Fits.{StillFits}
 use Rattle.srm_distance.specs.Distance as defined
 use Rattle.srm_distance.specs.Calls.{Call}
 use Rattle.srm_timers.specs.declared.arm.Arm.{Arm}
-use Rattle.srm_timers.proofs.Same.{same_flip}
+use Rattle.srm_deadlines.proofs.Same.{same_flip}
 use Rattle.srm_entries.specs.declared.entry.Entry.{Entry}
 use Rattle.srm_entries.specs.declared.entry.Input.TheVariants.{Heard}
 use Rattle.srm_entries.specs.declared.state.AgentState.{AgentState}

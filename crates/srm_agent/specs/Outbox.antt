@@ -5,6 +5,7 @@ use Rattle.srm_codec.specs.declared.datagram.Datagram.{Datagram}
 use Rattle.srm_bucket.specs.Calls.{Classed, Call, Handed, Popped}
 use Rattle.srm_bucket.specs.Content.{Content as BucketContent}
 use Rattle.srm_bucket.specs.Fits.{Fits}
+use Rattle.srm_bucket.specs.Law.{may_go}
 use Rattle.srm_bucket.specs.Waiting.{count_of}
 use Rattle.srm_agent.specs.declared.answers.Answer.{Answer}
 use Rattle.srm_agent_parts.specs.declared.out.Out.{Out}
@@ -47,3 +48,8 @@ pub record LetsGo (now : ℕ) (old new : BucketContent Outgoing) (went : WentCon
   pub own : (me session : ℕ) → AreOwn me session old.waiting → AllByRecursion (IsOwn me session) items
   pub left : (me session : ℕ) → AreOwn me session old.waiting → AreOwn me session new.waiting
   pub room : 0 < went.room
+
+-- a moment at which nothing may go has passed
+pub record Passes (now : ℕ) (old new : BucketContent Outgoing) : Type 0 where
+  pub fits : (rate depth : ℕ) (calls : List (Call Outgoing)) → Fits rate depth calls old → may_go rate depth calls now ≡ None → Fits rate depth (calls ++ Popped now None ∷ []) new
+  pub left : (me session : ℕ) → AreOwn me session old.waiting → AreOwn me session new.waiting

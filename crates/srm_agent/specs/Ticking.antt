@@ -5,7 +5,7 @@ use Rattle.srm_names.specs.Names.{ascending, name_below}
 use Rattle.srm_codec.specs.declared.datagram.Datagram.{Datagram}
 use Rattle.srm_timers.specs.declared.arm.Arm.{Arm}
 use Rattle.srm_timers.specs.Arms.{AreDrawn}
-use Rattle.srm_timers.specs.Deadlines.{DueAmong}
+use Rattle.srm_deadlines.specs.Deadlines.{DueAmong}
 use Rattle.srm_bucket.specs.declared.class.Class.TheVariants.{New}
 use Rattle.srm_bucket.specs.Content.{Content as BucketContent}
 use Rattle.srm_bucket.specs.Waiting.{queue}

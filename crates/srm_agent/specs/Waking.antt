@@ -1,10 +1,13 @@
 -- When an agent next does something, over all runs that it fits, and by what it keeps.
-use Rattle.std.specs.Prelude.{ℕ, ◌==◌, ◌&&◌, min, List, length, if◌then◌else◌, Option, Some, None}
+use Rattle.std.specs.Prelude.{◌≡◌, ℕ, ◌<◌, ◌==◌, ◌&&◌, min, List, length, if◌then◌else◌, Option, Some, None}
 use Rattle.srm_bucket.specs.declared.class.Class.TheVariants.{New}
+use Rattle.srm_bucket.specs.Fits.{Waits}
 use Rattle.srm_bucket.specs.Waiting.{queue}
+use Rattle.srm_deadlines.specs.Least.{lesser}
 use Rattle.srm_entries.specs.declared.entry.Entry.{Entry}
 use Rattle.srm_entries.specs.Configs.{Config}
 use Rattle.srm_entries.specs.Entries.{is_leaving}
+use Rattle.srm_agent_parts.specs.TimerCalls.{TimersNext}
 use Rattle.srm_agent.specs.Contents.{Content}
 use Rattle.srm_agent.specs.Fits.{Fits}
 use Rattle.srm_entries.specs.Promises.{IsNextDue}
@@ -21,3 +24,15 @@ report_next a = if is_leaving a.state && (length (queue a.bucket.waiting New) ==
 abbrev pub sooner_of : Option ℕ → ℕ → ℕ
 sooner_of None r = r
 sooner_of (Some t) r = min t r
+
+-- the soonest of the moments at which the first timer runs out, the next item that waits may go, and a session message is due
+pub record IsNextAt {W : Type 0} (a : Content W) (next : ℕ) : Type 0 where
+  pub timers : Option ℕ
+  pub waiting : Option ℕ
+  pub runs : TimersNext a.timers timers
+  pub waits : Waits a.bucket waiting
+  pub is : next ≡ sooner_of (lesser timers waiting) (report_next a)
+
+-- it is before that
+abbrev pub IsEarly : {W : Type 0} → Content W → ℕ → Type 0
+IsEarly a moment = (next : ℕ) × IsNextAt a next × (moment < next)

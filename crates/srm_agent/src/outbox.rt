@@ -4,7 +4,7 @@ ghost use Rattle.std.specs.Prelude.{◌≡◌, ◌≤◌, ◌<◌, ◌+◌, ◌+
 ghost use Rattle.std.specs.List.{AllByRecursion};
 ghost use Rattle.srm_names.specs.declared.limits.TheConstants.{MOMENT};
 ghost use Rattle.srm_bucket.specs.Waiting.{HasLength, count_of};
-ghost use Rattle.srm_agent.specs.Outbox.{HandsIn, LetsGo, NothingWent};
+ghost use Rattle.srm_agent.specs.Outbox.{HandsIn, LetsGo, NothingWent, Passes};
 
 use crate::answers::Answer;
 use srm_agent_parts::{Out, Outgoing};
@@ -91,4 +91,13 @@ pub(crate) fn let_go(bucket: &mut Bucket<Outgoing>, now: u64, mut went: Went) ->
         went.add(item.value);
     }
     went
+}
+
+/// Lets time pass up to a moment in microseconds, at which nothing may go. It takes no memory.
+#[tactic(auto, using(crate::proofs::Handing::pop_passes))]
+pub(crate) fn pass(bucket: &mut Bucket<Outgoing>, now: u64)
+    requires { now ≤ MOMENT }
+    ensures { Passes now bucket.old bucket.new }
+{
+    let _ = bucket.pop(now);
 }

@@ -15,16 +15,16 @@ use Rattle.srm_store.specs.Held.{number_in, has_name}
 use Rattle.srm_timers.specs.declared.arm.Arm.{Arm}
 use Rattle.srm_timers.specs.declared.arm.Armed.{Armed}
 use Rattle.srm_timers.specs.declared.arm.ArmKind.TheVariants.{Ask}
-use Rattle.srm_timers.specs.declared.by_name.Place.{Place}
+use Rattle.srm_deadlines.specs.declared.by_name.Place.{Place}
 use Rattle.srm_timers.specs.Arms as timers
 use Rattle.srm_timers.specs.Arms.{Setting, setting, arm_names, ran_out, next_exponent, ArmsAre, IsAsk, AreAsks, AreOfMembers, AreDrawn}
 use Rattle.srm_timers.specs.AskCalls.{AskContent, AskStays, AskAdds, AskedAgain, ask_timer, sets, due_setting, again_setting, again_exponent}
 use Rattle.srm_timers.specs.AskCalls as asks
 use Rattle.srm_timers.specs.FixCalls.{FixStays, FixDue, FixRepairs, repairs, hold_end}
-use Rattle.srm_timers.specs.Deadlines.{has_come, DueAmong}
+use Rattle.srm_deadlines.specs.Deadlines.{has_come, DueAmong}
 use Rattle.srm_timers.specs.Timers.{armed_at}
 use Rattle.srm_timers.specs.Distances.{distance_to}
-use Rattle.srm_timers.specs.Places.{Keeps}
+use Rattle.srm_deadlines.specs.Places.{Keeps}
 use Rattle.srm_timers.proofs.AskSteps.{ask_timer-sets}
 use Rattle.srm_timers.proofs.FixSteps.{asked_first-repairs, fix_timer-repairs, is_off-repairs}
 use Rattle.srm_entries.specs.declared.entry.Entry.{Entry}

@@ -13,7 +13,7 @@ use Rattle.srm_timers.specs.declared.arm.Armed.{Armed}
 use Rattle.srm_timers.specs.Arms as timers
 use Rattle.srm_timers.specs.Arms.{setting, arm_names, AreDrawn, end_of, ran_out, RunsOutFirst, ArmsAre}
 use Rattle.srm_timers.specs.Timers.{armed_at}
-use Rattle.srm_timers.specs.Least.{lesser}
+use Rattle.srm_deadlines.specs.Least.{lesser}
 use Rattle.srm_timers.specs.AskCalls.{AskCall, AskContent, AskFits, AskStays, AskDue, AskNext, AskedFirst, AskHolds, ask_timer, first_exponent}
 use Rattle.srm_timers.specs.FixCalls.{FixCall, FixContent, FixFits, FixStays, FixDue, FixNext, FixHolds, FixPlace, FixPlaces, fix_timer, asked_first, is_off}
 use Rattle.srm_timers.specs.Distances.{distance_to}

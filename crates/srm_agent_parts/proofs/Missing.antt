@@ -25,7 +25,7 @@ use Rattle.srm_timers.specs.AskCalls as asks
 use Rattle.srm_timers.specs.FixCalls.{FixCall, FixContent, FixFits, FixStays, FixRepairs, repairs, hold_end}
 use Rattle.srm_timers.specs.FixCalls as fixes
 use Rattle.srm_timers.specs.Timers.{armed_at}
-use Rattle.srm_timers.proofs.Same.{same_flip}
+use Rattle.srm_deadlines.proofs.Same.{same_flip}
 use Rattle.srm_timers.proofs.AskSteps.{ask_timer-sets, ask_timer-gained}
 use Rattle.srm_timers.proofs.FixSteps.{asked_first-repairs, fix_timer-repairs, is_off-repairs}
 use Rattle.srm_timers.specs.Distances.{distance_to}

@@ -34,7 +34,7 @@ use Rattle.srm_timers.specs.AskCalls as asks
 use Rattle.srm_timers.specs.FixCalls.{FixCall, FixContent, Asked, FixAdds, FixHolds, FixPlace, FixPlaces, FixAnswers, fix_timer, asked_first, is_off, is_free, sets_fix}
 use Rattle.srm_timers.specs.FixCalls as fixes
 use Rattle.srm_timers.proofs.Arming.{same_itself}
-use Rattle.srm_timers.proofs.Order.{take_drop, first_below, ascending_tail}
+use Rattle.srm_deadlines.proofs.Order.{take_drop, first_below, ascending_tail}
 use Rattle.srm_timers.proofs.AskSteps.{ask_timer-sets}
 use Rattle.srm_timers.proofs.FixSteps.{asked_first-snoc, asked_first-append, no_asker-sets, fix_timer-asked, fix_timer-sets, is_off-asked, is_off-append, none_off-sets}
 use Rattle.srm_entries.specs.Configs.{Config}

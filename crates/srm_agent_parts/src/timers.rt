@@ -4,9 +4,9 @@ ghost use Rattle.std.specs.Prelude.{◌≡◌, ◌≤◌, [], true, IfOk, IsOk, 
 ghost use Rattle.srm_names.specs.declared.limits.TheConstants.{MOMENT};
 ghost use Rattle.srm_names.specs.Names.{ascending, name_below};
 ghost use Rattle.srm_timers.specs.AskCalls.{AskAdds, AskedFirst, AnswerReady, sets};
-ghost use Rattle.srm_timers.specs.Deadlines.{DueAmong};
+ghost use Rattle.srm_deadlines.specs.Deadlines.{DueAmong};
 ghost use Rattle.srm_timers.specs.Distances.{AreDistances};
-ghost use Rattle.srm_timers.specs.Least.{lesser};
+ghost use Rattle.srm_deadlines.specs.Least.{lesser};
 ghost use Rattle.srm_agent_parts.specs.TimersKept.{TimersFit};
 ghost use Rattle.srm_agent_parts.specs.TimersKept.{HaveSettings};
 ghost use Rattle.srm_agent_parts.specs.TimerCalls.{AsksPending, FixesPending, KeepSettings, TimersNext, TimersStay, WaitsAreDrawn};

@@ -5,7 +5,7 @@ use Rattle.srm_names.specs.FullName.{FullName}
 use Rattle.srm_names.proofs.Same.{same_page-itself}
 use Rattle.srm_store.specs.Stores.{StoreContent, AreReady, IsReady}
 use Rattle.srm_store.specs.Tables.{is_in}
-use Rattle.srm_timers.proofs.Same.{same_itself}
+use Rattle.srm_deadlines.proofs.Same.{same_itself}
 
 pub ok_then : {X E P : Type 0} (r : Result X E) → IsOk r → OnOk r P → P
 ok_then (Ok x) ok p = p

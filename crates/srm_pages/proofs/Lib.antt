@@ -1,6 +1,5 @@
 pub mod BoardSteps
 pub mod Dealing
-pub mod Drawings
 pub mod Feeds
 pub mod InkSteps
 pub mod LaneSteps

@@ -1,5 +1,4 @@
 pub mod Board
-pub mod Drawing
 pub mod Ends
 pub mod Examples
 pub mod Ink

@@ -22,8 +22,6 @@ mod pen;
 mod settled;
 mod stroke;
 mod tap;
-#[cfg(test)]
-mod tests;
 mod viewer;
 
 pub use feed::Feed;

@@ -2,18 +2,18 @@
 use Rattle.std.proofs.Common.{◌≡◌, ℕ, zero, suc, ◌+◌, ◌<◌, List, [], ◌∷◌, ◌++◌, map, length, get_or, take, Option, Some, None, Bool, true, false, ◌||◌, cond, refl, sym, ap, subst, ◌∙◌, arith}
 use Rattle.std.specs.Prelude.{if◌then◌else◌, option_map, find, is_some}
 use Rattle.std.specs.List.{list_any, AllByRecursion}
-use Rattle.std.proofs.lemmas.List.{take_more}
 use Rattle.srm_names.specs.declared.limits.TheConstants.{MEMBERS}
 use Rattle.srm_names.specs.FullName.{FullName}
 use Rattle.srm_names.specs.Histories.{or_else, last_of}
 use Rattle.srm_names.specs.Names.{same_name, name_below, ascending, among}
 use Rattle.srm_names.proofs.Same.{same_name-is}
 use Rattle.srm_names.proofs.Orders.{stands_once, and_right}
+use Rattle.srm_deadlines.proofs.Order.{map_take}
 use Rattle.srm_timers.specs.declared.arm.Arm.{Arm}
-use Rattle.srm_timers.specs.declared.timed.Timed.{Timed}
+use Rattle.srm_deadlines.specs.declared.timed.Timed.{Timed}
 use Rattle.srm_timers.specs.Arms.{Plan, Setting, plan_of, setting, arm_name, arm_names, arm_of, ArmsAre, AreDrawn, IsAsk, AreAsks, IsFix, AreFixes, AreOfMembers}
 use Rattle.srm_timers.specs.Ends.{timed_at, arm_end, is_short, AreShort}
-use Rattle.srm_timers.specs.Places.{names_of, moment_among, is_timed}
+use Rattle.srm_deadlines.specs.Places.{names_of, moment_among, is_timed}
 
 pub same_itself : (n : FullName) → same_name n n ≡ true
 same_itself n = grind arith
@@ -44,10 +44,6 @@ fixes_more arms a h here = record { each = all_more IsFix arms a h.each here }
 map_more : {X Y : Type 0} (f : X → Y) (xs : List X) (x : X) → map f (xs ++ x ∷ []) ≡ map f xs ++ f x ∷ []
 map_more f [] x = refl
 map_more f (y ∷ xs) x = ap (λ ys. f y ∷ ys) (map_more f xs x)
-
--- one more element of a list that is gone through
-pub map_take : {X Y : Type 0} (f : X → Y) (xs : List X) (i : ℕ) (x : X) → i < length xs → x ≡ get_or xs i x → map f (take (i + 1) xs) ≡ map f (take i xs) ++ f x ∷ []
-map_take f xs i x lt is = ap (map f) (take_more xs i x lt) ∙ map_more f (take i xs) (get_or xs i x) ∙ ap (λ y. map f (take i xs) ++ f y ∷ []) (sym is)
 
 -- one more arm that is planned
 pub plans_more : (f : FullName → Plan) (names : List FullName) (i : ℕ) (n : FullName) (arms arms' : List Arm) (a : Arm) → i < length names → n ≡ get_or names i n

@@ -9,12 +9,12 @@ use Rattle.srm_names.proofs.Snoc.{last_of-snoc, last_of-append}
 use Rattle.srm_timers.specs.declared.arm.Arm.{Arm}
 use Rattle.srm_timers.specs.declared.arm.Armed.{Armed}
 use Rattle.srm_timers.specs.declared.arm.ArmKind.TheVariants.{Ask}
-use Rattle.srm_timers.specs.declared.by_name.Place.{Place}
+use Rattle.srm_deadlines.specs.declared.by_name.Place.{Place}
 use Rattle.srm_timers.specs.Arms.{arm_names, arm_of, end_of, ran_out, backs_off, next_exponent, RunsOutFirst, ArmsAre, Setting, Plan, plan_of}
-use Rattle.srm_timers.specs.Deadlines.{has_come}
+use Rattle.srm_deadlines.specs.Deadlines.{has_come}
 use Rattle.srm_timers.specs.Ends.{arm_end, SetsEnds}
 use Rattle.srm_timers.specs.Timers.{armed_at, SetsTimers}
-use Rattle.srm_timers.specs.Places.{value_at, value_in, is_at, has_place, Keeps, Sets, IsLeast}
+use Rattle.srm_deadlines.specs.Places.{value_at, value_in, is_at, has_place, Keeps, Sets, IsLeast}
 use Rattle.srm_timers.specs.AskCalls.{AskCall, Set, Gained, told_by, flat, ask_timer, sets, AskFits, AskContent, AskAdds, AskBacksOff, AskRuns, AskNext, AskDue, AskedFirst, AskedAgain, found_plan, found_setting, AskStays, ask_setting, ask_plan, AskReady, again_exponent, again_plan, again_setting, due_setting}
 use Rattle.srm_timers.specs.Distances.{distance_to}
 use Rattle.srm_timers.proofs.Arming.{last_arms, planned_names, planned_are}

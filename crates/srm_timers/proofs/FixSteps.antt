@@ -12,16 +12,18 @@ use Rattle.srm_names.proofs.Same.{same_name-is}
 use Rattle.srm_names.proofs.Snoc.{last_of-snoc, last_of-append, first_of-snoc, list_any-snoc}
 use Rattle.srm_timers.specs.declared.arm.Arm.{Arm}
 use Rattle.srm_timers.specs.declared.arm.Armed.{Armed}
-use Rattle.srm_timers.specs.declared.by_name.Place.{Place}
+use Rattle.srm_deadlines.specs.declared.by_name.Place.{Place}
 use Rattle.srm_timers.specs.Arms.{Plan, plan_of, end_of, ran_out, arm_names, arm_of}
-use Rattle.srm_timers.specs.Deadlines.{has_come}
+use Rattle.srm_deadlines.specs.Deadlines.{has_come}
 use Rattle.srm_timers.specs.Distances.{distance_to}
 use Rattle.srm_timers.specs.Ends.{EndContent, arm_end, SetsEnds}
 use Rattle.srm_timers.specs.Timers.{armed_at}
-use Rattle.srm_timers.specs.Places.{value_at, Keeps, Sets, ClearsAll, IsLeast}
+use Rattle.srm_deadlines.specs.Places.{value_at, Keeps, Sets, ClearsAll, IsLeast}
 use Rattle.srm_timers.specs.AskCalls.{flat}
 use Rattle.srm_timers.specs.FixCalls.{FixCall, Asked, SetFix, Repaired, asker_by, asked_first, first_asker, ran_by, fix_timer, is_off_by, is_off, is_free, sets_fix, hold_end, repair_by, repairs, FixFits, FixContent, FixStays, FixAdds, FixRepairs, FixDue, FixNext, FixIsFree, FixFirstAsker, FixAnswers, fix_plan, FixHolds, FixPlace, FixPlaces, HoldsOff, HoldAllOff, asker_at, is_held, held_until}
-use Rattle.srm_timers.proofs.Arming.{same_itself, last_arms, map_take}
+use Rattle.srm_deadlines.proofs.Order.{map_take}
+use Rattle.srm_timers.proofs.Arming.{same_itself, last_arms}
+pub use Rattle.srm_deadlines.proofs.Tables.{holds_on}
 use Rattle.srm_timers.proofs.AskSteps.{if_same, flat_set, ends_set, due_ran_out, first_end}
 
 or_none : {X : Type 0} (o : Option X) → or_else o None ≡ o

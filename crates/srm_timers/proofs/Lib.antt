@@ -1,12 +1,3 @@
-pub mod Same
-pub mod Tables
-pub mod Order
-pub mod Looking
-pub mod Moments
-pub mod Orders
-pub mod Agendas
-pub mod Dues
-pub mod Following
 pub mod Arming
 pub mod Fitting
 pub mod TimerSteps

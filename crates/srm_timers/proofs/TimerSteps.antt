@@ -8,9 +8,9 @@ use Rattle.srm_names.specs.Names.{same_name, name_below, ascending, among}
 use Rattle.srm_names.proofs.Snoc.{last_of-snoc}
 use Rattle.srm_timers.specs.declared.arm.Arm.{Arm}
 use Rattle.srm_timers.specs.declared.arm.Armed.{Armed}
-use Rattle.srm_timers.specs.declared.by_name.Place.{Place}
+use Rattle.srm_deadlines.specs.declared.by_name.Place.{Place}
 use Rattle.srm_timers.specs.Arms.{arm_name, arm_names, arm_of}
-use Rattle.srm_timers.specs.Places.{value_at, has_place, Sets, Holds, HasPlaces}
+use Rattle.srm_deadlines.specs.Places.{value_at, has_place, Sets, Holds, HasPlaces}
 use Rattle.srm_timers.specs.Timers.{armed_at, SetsTimers}
 use Rattle.srm_timers.proofs.Arming.{last_arms, same_itself}
 

@@ -6,12 +6,12 @@ use Rattle.srm_names.specs.Names.{same_name, among, AreExactly}
 use Rattle.srm_timers.specs.declared.arm.Arm.{Arm}
 use Rattle.srm_timers.specs.declared.arm.Armed.{Armed}
 use Rattle.srm_timers.specs.declared.arm.ArmKind.TheVariants.{Ask}
-use Rattle.srm_timers.specs.declared.by_name.Place.{Place}
+use Rattle.srm_deadlines.specs.declared.by_name.Place.{Place}
 use Rattle.srm_timers.specs.declared.limits.TheConstants.{TIMER_SETTING}
 use Rattle.srm_timers.specs.Arms.{Setting, Plan, ArmsAre, RunsOutFirst, end_of, ran_out, next_exponent, backs_off}
 use Rattle.srm_timers.specs.Distances.{distance_to}
 use Rattle.srm_timers.specs.Ends.{EndContent, HaveRoom, KeepsRoom}
-use Rattle.srm_timers.specs.Places.{value_at, has_place}
+use Rattle.srm_deadlines.specs.Places.{value_at, has_place}
 
 -- what an Asks keeps
 pub record AskContent : Type 0 where

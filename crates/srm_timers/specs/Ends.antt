@@ -5,11 +5,11 @@ use Rattle.srm_names.specs.FullName.{FullName}
 use Rattle.srm_names.specs.Histories.{or_else}
 use Rattle.srm_names.specs.Names.{among}
 use Rattle.srm_timers.specs.declared.arm.Arm.{Arm}
-use Rattle.srm_timers.specs.declared.timed.Timed.{Timed}
-use Rattle.srm_timers.specs.declared.by_name.Place.{Place}
+use Rattle.srm_deadlines.specs.declared.timed.Timed.{Timed}
+use Rattle.srm_deadlines.specs.declared.by_name.Place.{Place}
 use Rattle.srm_timers.specs.declared.limits.TheConstants.{LONGEST_WAIT}
 use Rattle.srm_timers.specs.Arms.{arm_of}
-use Rattle.srm_timers.specs.Places.{value_at, has_place}
+use Rattle.srm_deadlines.specs.Places.{value_at, has_place}
 
 -- what an Ends keeps
 pub record EndContent : Type 0 where

@@ -8,13 +8,13 @@ use Rattle.srm_names.specs.Names.{same_name, among, AreExactly}
 use Rattle.srm_timers.specs.declared.arm.Arm.{Arm}
 use Rattle.srm_timers.specs.declared.arm.Armed.{Armed}
 use Rattle.srm_timers.specs.declared.arm.ArmKind.TheVariants.{Fix}
-use Rattle.srm_timers.specs.declared.by_name.Place.{Place}
+use Rattle.srm_deadlines.specs.declared.by_name.Place.{Place}
 use Rattle.srm_timers.specs.declared.limits.TheConstants.{TIMER_SETTING}
 use Rattle.srm_timers.specs.Arms.{Setting, Plan, RunsOutFirst, plan_of, end_of, ran_out}
 use Rattle.srm_timers.specs.AskCalls.{flat}
 use Rattle.srm_timers.specs.Distances.{distance_to}
 use Rattle.srm_timers.specs.Ends.{EndContent, HaveRoom, KeepsRoom}
-use Rattle.srm_timers.specs.Places.{value_at, has_place}
+use Rattle.srm_deadlines.specs.Places.{value_at, has_place}
 
 -- what a Fixes keeps
 pub record FixContent : Type 0 where

@@ -1,14 +1,8 @@
 pub mod Draws
-pub mod Places
-pub mod PlacesOf
-pub mod Deadlines
-pub mod Least
-pub mod Agenda
 pub mod Distances
 pub mod Arms
 pub mod Ends
 pub mod Timers
 pub mod AskCalls
 pub mod FixCalls
-pub mod Examples
 pub mod TimerExamples

@@ -194,3 +194,14 @@ by_the_first_of_two = refl
 
 both_are_held_off : repairs 10 (5 ∷ 7 ∷ []) (Asked (name 1) 1 ∷ []) (name 1 ∷ name 2 ∷ []) ≡ Repaired (name 1) 31 ∷ Repaired (name 2) 25 ∷ []
 both_are_held_off = refl
+
+-- ---- words
+
+next_word : draw_listed (5 ∷ 7 ∷ []) ≡ (5, 7 ∷ [])
+next_word = refl
+
+last_word : draw_listed (7 ∷ []) ≡ (7, [])
+last_word = refl
+
+after_the_last : draw_listed [] ≡ (0, [])
+after_the_last = refl

@@ -4,9 +4,9 @@ use Rattle.srm_names.specs.FullName.{FullName}
 use Rattle.srm_names.specs.Histories.{or_else}
 use Rattle.srm_timers.specs.declared.arm.Arm.{Arm}
 use Rattle.srm_timers.specs.declared.arm.Armed.{Armed}
-use Rattle.srm_timers.specs.declared.by_name.Place.{Place}
+use Rattle.srm_deadlines.specs.declared.by_name.Place.{Place}
 use Rattle.srm_timers.specs.Arms.{arm_of}
-use Rattle.srm_timers.specs.Places.{value_at}
+use Rattle.srm_deadlines.specs.Places.{value_at}
 
 -- an arm that is set at a moment
 abbrev pub armed_at : ℕ → Arm → Armed

@@ -3,13 +3,12 @@
 ghost use Rattle.std.specs.Prelude.{◌≡◌, ◌≤◌, ◌+◌, ◌++◌, true, map, length, vec_len, vec_capacity, Some, None, OnOk, IsOk};
 ghost use Rattle.srm_names.specs.Names.{AreExactly, ascending, name_below};
 ghost use Rattle.srm_timers.specs.Arms.{arm_names};
-ghost use Rattle.srm_timers.specs.Deadlines.{has_come, DueFit};
+ghost use Rattle.srm_deadlines.specs.Deadlines.{has_come, DueFit};
 ghost use Rattle.srm_timers.specs.Ends.{timed_at, SetsEnds, AreShort, HaveRoom, KeepsRoom};
-ghost use Rattle.srm_timers.specs.Places.{value_at, has_place, Keeps, Sets, ClearsAll, IsLeast, HasPlaces};
+ghost use Rattle.srm_deadlines.specs.Places.{value_at, has_place, Keeps, Sets, ClearsAll, IsLeast, HasPlaces};
 
 use crate::arm::Arm;
-use crate::deadlines::Deadlines;
-use crate::timed::Timed;
+use srm_deadlines::{Deadlines, Timed};
 use srm_names::{MOMENT, Name};
 use std::alloc::{AllocError, Global};
 use std::marker::Model;

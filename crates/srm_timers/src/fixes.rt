@@ -5,20 +5,19 @@ ghost use Rattle.srm_names.specs.FullName.{FullName};
 ghost use Rattle.srm_names.specs.Names.{ascending, name_below};
 ghost use Rattle.srm_timers.specs.Arms.{plan_of, arm_names, low_of, high_of, AreDrawn, IsFix, AreFixes, setting};
 ghost use Rattle.srm_timers.specs.FixCalls.{Asked, Repaired, sets_fix, fix_plan, FixFits, FixAdds, FixRepairs, FixDue, FixNext, FixIsFree, FixFirstAsker, FixAnswers, FixStays, FixPlace, FixPlaces, FixReady, FixHolds, HoldsOff, HoldAllOff, asker_at, fix_setting};
-ghost use Rattle.srm_timers.specs.Deadlines.{DueAmong, DueFit};
+ghost use Rattle.srm_deadlines.specs.Deadlines.{DueAmong, DueFit};
 ghost use Rattle.srm_timers.specs.Distances.{distance_to, AreDistances};
 ghost use Rattle.srm_timers.specs.Ends.{HaveRoom, AreShort};
-ghost use Rattle.srm_timers.specs.Places.{has_place, HasPlaces, Holds, Keeps};
+ghost use Rattle.srm_deadlines.specs.Places.{has_place, HasPlaces, Holds, Keeps};
 
 use crate::arm::{Arm, ArmKind};
-use crate::by_name::ByName;
-use crate::deadlines::Deadlines;
 use crate::distance::distance_in;
 use crate::ends::Ends;
 use crate::fault::TimerFault;
 use crate::limits::{LONGEST_WAIT, TIMER_SETTING};
 use crate::wait::draw_wait;
 use crate::words::Words;
+use srm_deadlines::{ByName, Deadlines};
 use srm_names::{LONGEST_DISTANCE, MOMENT, Member, Name};
 use std::alloc::{AllocError, Global};
 use std::marker::Model;
@@ -354,7 +353,7 @@ fn hold_off(holds: &mut ByName<u64>, name: Name, distance: u64, now: u64)
 }
 
 /// Holds names off for three distances to those who asked for them first.
-#[tactic(auto, using(crate::proofs::FixSteps::held_none, crate::proofs::FixSteps::held_more, crate::proofs::Tables::holds_on))]
+#[tactic(auto, using(crate::proofs::FixSteps::held_none, crate::proofs::FixSteps::held_more, crate::proofs::FixSteps::holds_on))]
 fn hold_all_off(
     holds: &mut ByName<u64>,
     askers: &ByName<Member>,

@@ -3,11 +3,11 @@
 ghost use Rattle.std.specs.Prelude.{◌≡◌, true};
 ghost use Rattle.srm_names.specs.Names.{ascending, name_below};
 ghost use Rattle.srm_timers.specs.Arms.{arm_names};
-ghost use Rattle.srm_timers.specs.Places.{Holds, HasPlaces};
+ghost use Rattle.srm_deadlines.specs.Places.{Holds, HasPlaces};
 ghost use Rattle.srm_timers.specs.Timers.{armed_at, SetsTimers};
 
 use crate::arm::{Arm, Armed};
-use crate::by_name::ByName;
+use srm_deadlines::ByName;
 
 /// These timers run from now on.
 pub(crate) fn set_timers(timers: &mut ByName<Armed>, now: u64, arms: &[Arm])

@@ -2,7 +2,7 @@
 
 ghost use Rattle.std.specs.Prelude.{◌≡◌, true, IfOk};
 ghost use Rattle.srm_names.specs.Names.{ascending, name_below};
-ghost use Rattle.srm_timers.specs.Places.{names_of};
+ghost use Rattle.srm_deadlines.specs.Places.{names_of};
 
 use srm_names::{Member, Name, Page};
 use srm_timers::{Deadlines, Listed, Ordered, Pcg, Scanned, Timed, Words, put_names, wait_between};

@@ -2,7 +2,7 @@
 
 ghost use Rattle.std.specs.Prelude.{◌≡◌, ◌≤◌, length, IfOk, OnErr};
 ghost use Rattle.srm_names.specs.declared.limits.TheConstants.{MOMENT};
-ghost use Rattle.srm_timers.specs.Deadlines.{DueAmong};
+ghost use Rattle.srm_deadlines.specs.Deadlines.{DueAmong};
 ghost use Rattle.srm_agent_parts.specs.TimerCalls.{TimersStay};
 ghost use Rattle.srm_agent.specs.Ticking.{HandsOut};
 

@@ -1,13 +1,14 @@
 //! When a tick next does something.
 
 ghost use Rattle.std.specs.Prelude.{◌≡◌, ◌&&◌, ◌==◌, max, length};
+ghost use Rattle.std.specs.Bool.{OnTrue};
 ghost use Rattle.srm_bucket.specs.declared.class.Class.TheVariants.{New};
 ghost use Rattle.srm_bucket.specs.Fits.{Waits};
 ghost use Rattle.srm_bucket.specs.Waiting.{queue};
-ghost use Rattle.srm_timers.specs.Least.{lesser};
+ghost use Rattle.srm_deadlines.specs.Least.{lesser};
 ghost use Rattle.srm_entries.specs.Entries.{is_leaving};
 ghost use Rattle.srm_agent_parts.specs.TimerCalls.{TimersNext};
-ghost use Rattle.srm_agent.specs.Waking.{NextDue, report_next, sooner_of};
+ghost use Rattle.srm_agent.specs.Waking.{IsEarly, IsNextAt, NextDue, report_next, sooner_of};
 
 use super::Agent;
 use srm_agent_parts::earlier;
@@ -26,8 +27,24 @@ impl<W: Words + Drop> Agent<W> {
         if self.is_gone() {
             return None;
         }
+        Some(self.last.max(self.next_at()))
+    }
+
+    /// Whether a tick at a moment, in microseconds, has nothing to do, where this member isn't gone.
+    #[tactic(auto, using(crate::proofs::NextDue::early))]
+    pub(super) fn is_early(&self, moment: u64) -> bool
+        ensures { OnTrue result (IsEarly self.now moment) }
+    {
+        moment < self.next_at()
+    }
+
+    /// When something is next due, where this member isn't gone. It may be past.
+    #[tactic(auto, using(crate::proofs::NextDue::soonest))]
+    fn next_at(&self) -> u64
+        ensures { IsNextAt self.now result }
+    {
         let first = earlier(self.next_timer(), self.next_to_go());
-        Some(self.last.max(sooner(first, self.next_report())))
+        sooner(first, self.next_report())
     }
 
     /// When the first timer runs out.

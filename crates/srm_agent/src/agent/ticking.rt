@@ -5,11 +5,13 @@ ghost use Rattle.srm_names.specs.declared.limits.TheConstants.{MOMENT};
 ghost use Rattle.srm_entries.specs.Entries.{is_gone};
 ghost use Rattle.srm_agent.specs.Noting.{Enters, Stays, AnswersAs, Does, IsTicked, still_entry};
 ghost use Rattle.srm_agent.specs.Ticking.{IsDue, tick_entry};
+ghost use Rattle.srm_agent.specs.Waking.{IsEarly};
 
 use super::Agent;
 use super::due::{Due, HandedOut};
 use super::sending::with_last;
 use crate::noted::Noted;
+use crate::outbox::pass;
 use crate::ticked::Ticked;
 use srm_codec::Datagram;
 use srm_entries::{AgentFault, Effects, Entry, Input, Verdict};
@@ -32,6 +34,9 @@ impl<W: Words + Drop> Agent<W> {
         if self.is_gone() {
             return Ok(self.rest(moment));
         }
+        if self.is_early(moment) {
+            return Ok(self.wait(moment));
+        }
         let due = self.due_at(moment)?;
         self.act(moment, due)
     }
@@ -45,7 +50,20 @@ impl<W: Words + Drop> Agent<W> {
         self.tick_noted(now)?.answer
     }
 
-    /// The tick of a member that is gone: nothing but the last moment changes. It takes no memory.
+    /// The tick of a member for which nothing is due: only time has passed, also for the rate. It takes no memory.
+    fn wait(&mut self, moment: u64) -> Noted<Ticked>
+        requires here { is_gone self.old.state ≡ false }
+        requires later { self.old.last ≤ moment }
+        requires moment { moment ≤ MOMENT }
+        requires early { IsEarly self.old moment }
+        ensures entry { Enters W.draw (Some moment) Input.Ticked self.old self.new result.entry }
+        ensures answer { AnswersAs (IsTicked self.old.config.session result.entry) result.entry.verdict result.answer }
+    {
+        pass(&mut self.bucket, moment);
+        self.rest(moment)
+    }
+
+    /// A tick that does nothing: nothing but the last moment changes. It takes no memory.
     fn rest(&mut self, moment: u64) -> Noted<Ticked>
         requires { moment ≤ MOMENT }
         ensures new { self.new ≡ record self.old { last = moment } }

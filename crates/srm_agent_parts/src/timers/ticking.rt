@@ -4,8 +4,8 @@ ghost use Rattle.std.specs.Prelude.{◌≡◌, ◌≤◌, length, IfOk, OnOk, On
 ghost use Rattle.srm_names.specs.declared.limits.TheConstants.{MOMENT};
 ghost use Rattle.srm_timers.specs.AskCalls.{AskStays, AnswerReady};
 ghost use Rattle.srm_timers.specs.FixCalls.{FixStays, FixReady};
-ghost use Rattle.srm_timers.specs.Places.{Keeps};
-ghost use Rattle.srm_timers.specs.Deadlines.{DueAmong};
+ghost use Rattle.srm_deadlines.specs.Places.{Keeps};
+ghost use Rattle.srm_deadlines.specs.Deadlines.{DueAmong};
 ghost use Rattle.srm_timers.specs.Distances.{AreDistances};
 ghost use Rattle.srm_agent_parts.specs.TimerCalls.{KeepSettings, TimersTick, TimersStay, WaitsAreDrawn};
 

@@ -1,6 +1,6 @@
 use Rattle.std.proofs.Common.{take}
 use Rattle.srm_timers.specs.FixCalls.{HoldAllOff}
-use Rattle.srm_timers.specs.Places.{Holds}
+use Rattle.srm_deadlines.specs.Places.{Holds}
 use Rattle.srm_timers.proofs.fixes.hold_all_off.Given as goal
 
 abbrev pub invariant-loop-name : goal.invariant-loop-name

@@ -1,5 +1,5 @@
 use Rattle.std.proofs.Common.{take}
-use Rattle.srm_timers.specs.Places.{Holds}
+use Rattle.srm_deadlines.specs.Places.{Holds}
 use Rattle.srm_timers.proofs.TimerSteps.{SetsFront}
 use Rattle.srm_timers.proofs.timers.set_timers.Given as goal
 

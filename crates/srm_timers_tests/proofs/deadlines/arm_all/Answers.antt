@@ -1,5 +1,5 @@
 use Rattle.std.proofs.Common.{subst, ◌∙◌}
-use Rattle.srm_timers.specs.Places.{HasPlaces}
+use Rattle.srm_deadlines.specs.Places.{HasPlaces}
 use Rattle.srm_timers_tests.proofs.deadlines.arm_all.Goals as goal
 
 pub set_all-requires-clause-places : goal.set_all-requires-clause-places

@@ -3,7 +3,7 @@ use Rattle.srm_timers.specs.Arms.{low_of, high_of, AreDrawn, AreAsks, Plan, AreO
 use Rattle.srm_timers.specs.AskCalls.{again_plan}
 use Rattle.srm_timers.specs.Distances.{distance_to}
 use Rattle.srm_timers.specs.Ends.{AreShort}
-use Rattle.srm_timers.specs.Places.{value_at}
+use Rattle.srm_deadlines.specs.Places.{value_at}
 use Rattle.srm_timers.proofs.Arming.{plans_more, drawn_more, short_more, asks_more, members_more}
 use Rattle.srm_timers.proofs.AskSteps.{ask_plan_is, again_is}
 use Rattle.srm_timers.proofs.asks.Asks.again.Goals as goal

@@ -1,6 +1,6 @@
 use Rattle.std.proofs.Common.{◌≤◌, length, map, refl, sym, ap, subst, ◌∙◌, rules}
 use Rattle.srm_timers.specs.AskCalls.{AskContent, AskedAgain, again_plan}
-use Rattle.srm_timers.specs.Places.{value_at}
+use Rattle.srm_deadlines.specs.Places.{value_at}
 use Rattle.srm_timers.proofs.AskSteps.{asked_again, due_ready}
 use Rattle.srm_timers.proofs.asks.Asks.due.Goals as goal
 

@@ -2,7 +2,7 @@ use Rattle.std.proofs.Common.{◌≡◌, true, sym, subst, ap, ◌∙◌}
 use Rattle.std.specs.Prelude.{option_map, is_some}
 use Rattle.srm_timers.specs.Arms.{Plan, end_of}
 use Rattle.srm_timers.specs.AskCalls.{AskContent}
-use Rattle.srm_timers.specs.Places.{value_at, has_place}
+use Rattle.srm_deadlines.specs.Places.{value_at, has_place}
 use Rattle.srm_timers.proofs.AskSteps.{placed, backs_off_runs, has_end}
 use Rattle.srm_timers.proofs.asks.Asks.heard_request.Goals as goal
 

@@ -2,7 +2,7 @@ use Rattle.std.proofs.Common.{◌≡◌, true, map, ◌++◌, sym, subst, ap, �
 use Rattle.srm_names.specs.Histories.{or_else}
 use Rattle.srm_names.specs.Names.{ascending, name_below, among}
 use Rattle.srm_timers.specs.Ends.{EndContent, timed_at}
-use Rattle.srm_timers.specs.Places.{names_of, moment_among, value_at, has_place}
+use Rattle.srm_deadlines.specs.Places.{names_of, moment_among, value_at, has_place}
 use Rattle.srm_timers.proofs.Arming.{moments_names, moments_of}
 use Rattle.srm_timers.proofs.ends.Ends.set_all.Goals as goal
 

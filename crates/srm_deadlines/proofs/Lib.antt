@@ -1,0 +1,10 @@
+pub mod Same
+pub mod Tables
+pub mod Order
+pub mod Looking
+pub mod Moments
+pub mod Orders
+pub mod Agendas
+pub mod Dues
+pub mod Following
+pub mod Fitting

@@ -1,0 +1,145 @@
+-- What is due, looked for place by place.
+use Rattle.std.proofs.Common.{◌≡◌, ℕ, take, length, get_or, ◌<◌, ◌≤◌, ◌+◌, inl, inr, min, arith, Bool, true, false, ◌&&◌, ◌||◌, List, [], refl, sym, ap, subst, ◌∙◌}
+use Rattle.std.specs.Prelude.{Option, Some, None, IfSome, find, is_some, ◌⊎◌}
+use Rattle.std.specs.List.{list_any}
+use Rattle.std.proofs.lemmas.List.Folds.{list_any_more}
+use Rattle.std.proofs.lemmas.Bool.{cases_lt}
+use Rattle.std.proofs.lemmas.Option.{none-some}
+use Rattle.srm_names.specs.FullName.{FullName}
+use Rattle.srm_names.specs.Names.{same_name, name_below, ascending, among, AreExactly}
+use Rattle.srm_names.proofs.Same.{same_name-is}
+use Rattle.srm_deadlines.specs.declared.by_name.Place.{Place}
+use Rattle.srm_deadlines.specs.Deadlines.{has_come}
+use Rattle.srm_deadlines.specs.Least.{lesser}
+use Rattle.srm_deadlines.specs.Places.{is_at, value_in, value_at, IsLeast}
+use Rattle.srm_deadlines.proofs.Tables.{any_find, either}
+
+pub among_already : (xs : List FullName) (y m : FullName) → among xs y ≡ true → among xs m ≡ among xs m || same_name m y
+among_already xs y m has = go (same_name m y) refl
+  where
+    right_true : (b : Bool) → b ≡ true → b ≡ b || true
+    right_true true e = refl
+    right_true false e = cc
+
+    right_false : (b : Bool) → b ≡ b || false
+    right_false true = refl
+    right_false false = refl
+
+    go : (s : Bool) → same_name m y ≡ s → among xs m ≡ among xs m || s
+    go true e = right_true (among xs m) (ap (among xs) (same_name-is m y e) ∙ has)
+    go false e = right_false (among xs m)
+
+-- the names that came, so far
+pub record DueSoFar (now : ℕ) (seen places : List (Place ℕ)) (names : List FullName) : Type 0 where
+  pub order : ascending name_below names ≡ true
+  pub exact : (n : FullName) → among names n ≡ list_any (is_at n) seen && has_come now (value_at places n)
+
+pub due_more : (now : ℕ) (places : List (Place ℕ)) (i : ℕ) (p : Place ℕ) (names names' : List FullName) → i < length places → p ≡ get_or places i p → has_come now (value_at places p.name) ≡ true
+    → DueSoFar now (take i places) places names → ascending name_below names' ≡ true → ((m : FullName) → among names' m ≡ among names m || same_name m p.name) → DueSoFar now (take (i + 1) places) places names'
+due_more now places i p names names' lt is come h asc added = record {
+  order = asc;
+  exact = λ n. added n ∙ ap (λ b. b || same_name n p.name) (h.exact n)
+      ∙ go (list_any (is_at n) (take i places)) (has_come now (value_at places n)) (same_name n p.name) (λ s. ap (λ m. has_come now (value_at places m)) (same_name-is n p.name s) ∙ come)
+      ∙ sym (ap (λ b. b && has_come now (value_at places n)) (list_any_more (is_at n) places i p lt ∙ ap (λ q. list_any (is_at n) (take i places) || is_at n q) (sym is)));
+}
+  where
+    go : (a k s : Bool) → (s ≡ true → k ≡ true) → ((a && k) || s) ≡ ((a || s) && k)
+    go true true s e = refl
+    go true false true e = sym (e refl)
+    go true false false e = refl
+    go false k true e = sym (e refl)
+    go false k false e = refl
+
+pub due_missed : (now : ℕ) (places : List (Place ℕ)) (i : ℕ) (p : Place ℕ) (names : List FullName) → i < length places → p ≡ get_or places i p → has_come now (value_at places p.name) ≡ false
+    → DueSoFar now (take i places) places names → DueSoFar now (take (i + 1) places) places names
+due_missed now places i p names lt is come h = record {
+  order = h.order;
+  exact = λ n. h.exact n
+      ∙ go (list_any (is_at n) (take i places)) (has_come now (value_at places n)) (same_name n p.name) (λ s. ap (λ m. has_come now (value_at places m)) (same_name-is n p.name s) ∙ come)
+      ∙ sym (ap (λ b. b && has_come now (value_at places n)) (list_any_more (is_at n) places i p lt ∙ ap (λ q. list_any (is_at n) (take i places) || is_at n q) (sym is)));
+}
+  where
+    go : (a k s : Bool) → (s ≡ true → k ≡ false) → (a && k) ≡ ((a || s) && k)
+    go true k s e = refl
+    go false k true e = sym (e refl)
+    go false k false e = refl
+
+pub due_all : (now : ℕ) (places : List (Place ℕ)) (names : List FullName) → DueSoFar now places places names → AreExactly (λ n. has_come now (value_at places n)) names
+due_all now places names h = record { in_order = h.order; exact = λ n. h.exact n ∙ ap (λ b. b && has_come now (value_at places n)) (any_find (is_at n) places) ∙ go (find (is_at n) places) }
+  where
+    go : (o : Option (Place ℕ)) → (is_some o && has_come now (value_in o)) ≡ has_come now (value_in o)
+    go None = refl
+    go (Some p) = refl
+
+-- a moment is at least the least one, which there is where there is any
+abbrev pub IsUnder : Option ℕ → Option ℕ → Type 0
+IsUnder least None = Unit {0}
+IsUnder None (Some m) = ⊥
+IsUnder (Some t) (Some m) = t ≤ m
+
+under_lesser : (a b o : Option ℕ) → IsUnder a o → IsUnder (lesser a b) o
+under_lesser a b None h = tt
+under_lesser None b (Some m) h = absurd h
+under_lesser (Some t) None (Some m) h = h
+under_lesser (Some t) (Some u) (Some m) h = omega arith
+
+lesser_under : (a b : Option ℕ) → IsUnder (lesser a b) b
+lesser_under a None = tt
+lesser_under None (Some u) = omega arith
+lesser_under (Some t) (Some u) = omega arith
+
+-- the least of the moments of the first places
+pub record LeastSoFar (seen places : List (Place ℕ)) (found : Option ℕ) : Type 0 where
+  pub is_one : (t : ℕ) → found ≡ Some t → (n : FullName) × (value_at places n ≡ Some t)
+  pub under : (n : FullName) → list_any (is_at n) seen ≡ true → IsUnder found (value_at places n)
+
+one_of : (places : List (Place ℕ)) (n : FullName) (a b : Option ℕ) → value_at places n ≡ b → ((t : ℕ) → a ≡ Some t → (n : FullName) × (value_at places n ≡ Some t))
+    → (t : ℕ) → lesser a b ≡ Some t → (n : FullName) × (value_at places n ≡ Some t)
+one_of places n None b v h t e = (n, v ∙ e)
+one_of places n (Some x) None v h t e = h t e
+one_of places n (Some x) (Some y) v h t e = elim (min_is x y) [
+  | inl first ↦ h t (ap Some (sym first) ∙ e)
+  | inr second ↦ (n, v ∙ ap Some (sym second) ∙ e)
+]
+  where
+    min_is : (x y : ℕ) → (min x y ≡ x) ⊎ (min x y ≡ y)
+    min_is x y = elim (cases_lt x y) [ inl l ↦ inl (omega arith) | inr l ↦ inr (omega arith) ]
+
+pub least_more : (places : List (Place ℕ)) (i : ℕ) (p : Place ℕ) (found : Option ℕ) → i < length places → p ≡ get_or places i p
+    → LeastSoFar (take i places) places found → LeastSoFar (take (i + 1) places) places (lesser found (value_at places p.name))
+least_more places i p found lt is h = record {
+  is_one = one_of places p.name found (value_at places p.name) refl h.is_one;
+  under = λ n at. elim (either (list_any (is_at n) (take i places)) (is_at n p) (ap (λ q. list_any (is_at n) (take i places) || is_at n q) is ∙ sym (list_any_more (is_at n) places i p lt) ∙ at)) [
+    | inl old ↦ under_lesser found (value_at places p.name) (value_at places n) (h.under n old)
+    | inr new ↦ subst (λ m. IsUnder (lesser found (value_at places p.name)) (value_at places m)) (sym (same_name-is n p.name new)) (lesser_under found (value_at places p.name))
+  ];
+}
+
+pub none_without : (places : List (Place ℕ)) (n : FullName) → list_any (is_at n) places ≡ false → value_at places n ≡ None
+none_without places n e = go (find (is_at n) places) (sym (any_find (is_at n) places) ∙ e)
+  where
+    go : (o : Option (Place ℕ)) → is_some o ≡ false → value_in o ≡ None
+    go None h = refl
+    go (Some p) h = absurd (let k : true ≡ false = h in cc)
+
+always_under : (places : List (Place ℕ)) (found : Option ℕ) → LeastSoFar places places found → (n : FullName) → IsUnder found (value_at places n)
+always_under places found h n = go (list_any (is_at n) places) refl
+  where
+    go : (b : Bool) → list_any (is_at n) places ≡ b → IsUnder found (value_at places n)
+    go true e = h.under n e
+    go false e = subst (IsUnder found) (sym (none_without places n e)) tt
+
+pub least_all : (places : List (Place ℕ)) (found : Option ℕ) → LeastSoFar places places found → IsLeast places found
+least_all places None h = record { none = λ e n. go (value_at places n) (always_under places None h n); is_one = tt; least = tt }
+  where
+    go : (o : Option ℕ) → IsUnder None o → o ≡ None
+    go None u = refl
+    go (Some m) u = absurd u
+least_all places (Some t) h = record { none = λ e n. absurd (let k : true ≡ false = e in cc); is_one = h.is_one t refl; least = λ n. go (value_at places n) (always_under places (Some t) h n) }
+  where
+    go : (o : Option ℕ) → IsUnder (Some t) o → IfSome o (λ m. t ≤ m)
+    go None u = tt
+    go (Some m) u = u
+
+pub none_so_far : (places : List (Place ℕ)) → LeastSoFar [] places None
+none_so_far places = record { is_one = λ t e. absurd (none-some t e); under = λ n e. absurd (let k : false ≡ true = e in cc) }

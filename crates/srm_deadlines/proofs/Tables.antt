@@ -1,0 +1,159 @@
+-- What a table by name has, read as places.
+use Rattle.std.proofs.Common.{◌≡◌, ℕ, ◌+◌, ◌<◌, Bool, true, false, ◌||◌, cond, add-zero, List, [], ◌∷◌, length, take, get_or, Option, Some, None, refl, sym, ap, subst, ◌∙◌, inl, inr, ◌⊎◌}
+use Rattle.std.specs.Prelude.{find, is_some, if◌then◌else◌, Result, Ok, Err, OnOk, OnErr, IfOk}
+use Rattle.std.specs.List.{list_any}
+use Rattle.std.proofs.lemmas.List.Folds.{list_any_more, list_any_at}
+use Rattle.std.proofs.lemmas.List.{length-map}
+use Rattle.std.specs.Map.{lookup}
+use Rattle.srm_names.specs.FullName.{FullName}
+use Rattle.srm_names.specs.Names.{same_name, among}
+use Rattle.srm_names.proofs.Same.{same_name-is}
+use Rattle.srm_deadlines.specs.declared.by_name.Place.{Place}
+use Rattle.srm_deadlines.specs.Places.{value_in, value_at, is_at, has_place, Holds, Keeps, Sets, ClearsAll, HasPlaces}
+use Rattle.srm_deadlines.specs.PlacesOf.{place_of, places_of}
+use Rattle.srm_deadlines.proofs.Same.{same_itself, same_flip}
+
+pub any_find : {X : Type 0} (p : X → Bool) (xs : List X) → list_any p xs ≡ is_some (find p xs)
+any_find p [] = refl
+any_find p (x ∷ xs) = go (p x) x (any_find p xs)
+  where
+    go : (b : Bool) (x : _) → list_any p xs ≡ is_some (find p xs) → (b || list_any p xs) ≡ is_some (cond b (Some x) (find p xs))
+    go true x h = refl
+    go false x h = h
+
+pub either : (a b : Bool) → (a || b) ≡ true → (a ≡ true) ⊎ (b ≡ true)
+either true b h = inl refl
+either false b h = inr h
+
+abbrev pub Entries : Type 0 → Type 0
+Entries V = List (FullName × Option V)
+
+module _ {V : Type 0} where
+  abbrev pub flat : Option (Option V) → Option V
+  flat None = None
+  flat (Some o) = o
+
+  -- the value, and whether there is a place, by the entry that is looked up
+  pub value_found : (es : Entries V) (n : FullName) → value_at (places_of es) n ≡ flat (lookup (same_name n) es)
+  value_found [] n = refl
+  value_found (e ∷ es) n = go (same_name n e.0) (value_found es n)
+    where
+      go : (b : Bool) → value_at (places_of es) n ≡ flat (lookup (same_name n) es) → value_in (cond b (Some (place_of e)) (find (is_at n) (places_of es))) ≡ flat (cond b (Some e.1) (lookup (same_name n) es))
+      go true h = refl
+      go false h = h
+
+  pub place_found : (es : Entries V) (n : FullName) → has_place (places_of es) n ≡ is_some (lookup (same_name n) es)
+  place_found [] n = refl
+  place_found (e ∷ es) n = go (same_name n e.0) (place_found es n)
+    where
+      go : (b : Bool) → has_place (places_of es) n ≡ is_some (lookup (same_name n) es) → (b || has_place (places_of es) n) ≡ is_some (cond b (Some e.1) (lookup (same_name n) es))
+      go true h = refl
+      go false h = h
+
+  -- one name has this value after, and the others have what they had
+  pub record Puts (name : FullName) (v : Option V) (old new : Entries V) : Type 0 where
+    pub each : (n : FullName) → lookup (same_name n) new ≡ cond (same_name name n) (Some v) (lookup (same_name n) old)
+
+  flat_if : (b : Bool) (v : Option V) (o : Option (Option V)) → flat (cond b (Some v) o) ≡ (if b then v else flat o)
+  flat_if true v o = refl
+  flat_if false v o = refl
+
+  some_if : (b : Bool) (v : Option V) (o : Option (Option V)) → is_some o ≡ true → is_some (cond b (Some v) o) ≡ true
+  some_if true v o h = refl
+  some_if false v o h = h
+
+  pub sets_from : (xs : List (Place V)) (name : FullName) (v : Option V) (old new : Entries V) → places_of old ≡ xs → Puts name v old new → Sets name v xs (places_of new)
+  sets_from xs name v old new is puts = record {
+    each = λ n. value_found new n ∙ ap flat (puts.each n) ∙ flat_if (same_name name n) v (lookup (same_name n) old)
+        ∙ ap (λ b. if b then v else flat (lookup (same_name n) old)) (same_flip name n)
+        ∙ ap (λ o. if same_name n name then v else o) (sym (value_found old n) ∙ ap (λ ys. value_at ys n) is);
+  }
+
+  pub holds_from : (xs : List (Place V)) (name : FullName) (v : Option V) (old new : Entries V) → places_of old ≡ xs → Puts name v old new → Holds xs (places_of new)
+  holds_from xs name v old new is puts = record {
+    each = λ n h. place_found new n ∙ ap is_some (puts.each n)
+        ∙ some_if (same_name name n) v (lookup (same_name n) old) (sym (place_found old n) ∙ ap (λ ys. has_place ys n) is ∙ h);
+  }
+
+  pub place_from : (name : FullName) (v : Option V) (old new : Entries V) → Puts name v old new → has_place (places_of new) name ≡ true
+  place_from name v old new puts =
+      place_found new name ∙ ap is_some (puts.each name) ∙ ap (λ b. is_some (cond b (Some v) (lookup (same_name name) old))) (same_itself name)
+
+  keep_if : (b : Bool) (o : Option (Option V)) → (b ≡ true → is_some o ≡ false) → flat (cond b (Some None) o) ≡ flat o
+  keep_if false o h = refl
+  keep_if true None h = refl
+  keep_if true (Some o) h = absurd (let k : true ≡ false = h refl in cc)
+
+  -- a new place without a value changes none
+  pub keeps_from : (xs : List (Place V)) (name : FullName) (old new : Entries V) → places_of old ≡ xs → is_some (lookup (same_name name) old) ≡ false → Puts name None old new → Keeps xs (places_of new)
+  keeps_from xs name old new is absent puts = record {
+    each = λ n. value_found new n ∙ ap flat (puts.each n)
+        ∙ keep_if (same_name name n) (lookup (same_name n) old) (λ e. ap (λ m. is_some (lookup (same_name m) old)) (sym (same_name-is name n e)) ∙ absent)
+        ∙ sym (value_found old n) ∙ ap (λ ys. value_at ys n) is;
+  }
+
+  -- an insert where the name has a place is not refused
+  no_place : (xs : List (Place V)) (name : FullName) (old : Entries V) → places_of old ≡ xs → lookup (same_name name) old ≡ None → has_place xs name ≡ true → ⊥
+  no_place xs name old is none has = let k : true ≡ false = sym has ∙ ap (λ ys. has_place ys name) (sym is) ∙ place_found old name ∙ ap is_some none in cc
+
+  pub not_refused : {X Y : Type 0} (r : Result X Y) (P : Type 0) (xs : List (Place V)) (name : FullName) (old : Entries V) → places_of old ≡ xs → has_place xs name ≡ true
+      → OnErr r (lookup (same_name name) old ≡ None) → OnOk r P → P
+  not_refused (Ok x) P xs name old is has none ok = ok
+  not_refused (Err y) P xs name old is has none ok =
+      absurd (no_place xs name old is none has)
+
+  pub same_length : {Y : Type 0} (r : Result (Option (Option V)) Y) (xs : List (Place V)) (name : FullName) (old new : Entries V) → places_of old ≡ xs → has_place xs name ≡ true
+      → OnErr r (lookup (same_name name) old ≡ None) → IfOk r (λ o. o ≡ lookup (same_name name) old) → IfOk r (λ o. length new ≡ length old + (if is_some o then 0 else 1)) → length (places_of new) ≡ length xs
+  same_length (Err y) xs name old new is has none was len = absurd (no_place xs name old is none has)
+  same_length (Ok o) xs name old new is has none was len =
+      let some : is_some o ≡ true = ap is_some was ∙ sym (place_found old name) ∙ ap (λ ys. has_place ys name) is ∙ has in
+      let same : length new ≡ length old = len ∙ ap (λ b. length old + (if b then 0 else 1)) some ∙ add-zero (length old) in
+      length-map new place_of ∙ same ∙ sym (length-map old place_of) ∙ ap length is
+
+  pub refused : (xs : List (Place V)) (name : FullName) (old : Entries V) → places_of old ≡ xs → is_some (lookup (same_name name) old) ≡ false → has_place xs name ≡ true → ⊥
+  refused xs name old is absent has = let k : true ≡ false = sym has ∙ ap (λ ys. has_place ys name) (sym is) ∙ place_found old name ∙ absent in cc
+
+  -- no name without a place has a value
+  pub sets_nothing : (xs : List (Place V)) (name : FullName) → has_place xs name ≡ false → Sets name None xs xs
+  sets_nothing xs name e = record { each = λ n. go n (same_name n name) refl }
+    where
+      none : (o : Option (Place V)) → is_some o ≡ false → value_in o ≡ None
+      none None h = refl
+      none (Some p) h = absurd (let k : true ≡ false = h in cc)
+
+      go : (n : FullName) (b : Bool) → same_name n name ≡ b → value_at xs n ≡ (if b then None else value_at xs n)
+      go n true same = ap (value_at xs) (same_name-is n name same) ∙ none (find (is_at name) xs) (sym (any_find (is_at name) xs) ∙ e)
+      go n false other = refl
+
+  -- the loop over names that are given places
+  pub more_places : (names : List FullName) (i : ℕ) (d : FullName) (xs ys : List (Place V)) → i < length names → HasPlaces (take i names) xs → Holds xs ys → has_place ys (get_or names i d) ≡ true → HasPlaces (take (i + 1) names) ys
+  more_places names i d xs ys lt h hold here = record {
+    each = λ n at. elim (either (among (take i names) n) (same_name n (get_or names i d)) (sym (list_any_more (same_name n) names i d lt) ∙ at)) [
+      | inl old ↦ hold.each n (h.each n old)
+      | inr new ↦ ap (has_place ys) (same_name-is n (get_or names i d) new) ∙ here
+    ];
+  }
+
+  pub keeps_on : (xs ys zs : List (Place V)) → Keeps xs ys → Keeps ys zs → Keeps xs zs
+  keeps_on xs ys zs p q = record { each = λ n. q.each n ∙ p.each n }
+
+  pub holds_on : (xs ys zs : List (Place V)) → Holds xs ys → Holds ys zs → Holds xs zs
+  holds_on xs ys zs p q = record { each = λ n h. q.each n (p.each n h) }
+
+  -- one more name whose value is taken away
+  pub clears_more : (names : List FullName) (i : ℕ) (name : FullName) (old mid new : List (Place V)) → i < length names → name ≡ get_or names i name → ClearsAll (take i names) old mid → Sets name None mid new
+      → ClearsAll (take (i + 1) names) old new
+  clears_more names i name old mid new lt is so_far sets = record {
+    each = λ n. sets.each n ∙ ap (λ v. if same_name n name then None else v) (so_far.each n) ∙ go (same_name n name) (among (take i names) n) (value_at old n)
+        ∙ ap (λ b. if b then None else value_at old n) (ap (λ m. among (take i names) n || same_name n m) is ∙ sym (list_any_more (same_name n) names i name lt));
+  }
+    where
+      go : (a b : Bool) (o : Option V) → (if a then None else (if b then None else o)) ≡ (if b || a then None else o)
+      go true true o = refl
+      go true false o = refl
+      go false true o = refl
+      go false false o = refl
+
+-- one of the first names has no place where a call for it may be refused
+pub among_at : (names : List FullName) (i : ℕ) (d : FullName) → i < length names → among names (get_or names i d) ≡ true
+among_at names i d lt = list_any_at (same_name (get_or names i d)) names i d lt (same_itself (get_or names i d))

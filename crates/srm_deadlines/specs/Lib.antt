@@ -1,0 +1,6 @@
+pub mod Places
+pub mod PlacesOf
+pub mod Deadlines
+pub mod Least
+pub mod Agenda
+pub mod Examples

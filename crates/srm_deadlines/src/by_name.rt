@@ -1,0 +1,157 @@
+//! Values by name.
+
+ghost use Rattle.std.specs.Prelude.{◌≡◌, ℕ, ◌≤◌, ◌<◌, ◌+◌, ◌^◌, List, [], Bool, true, OnOk, OnErr, IsOk, length, slice_index_or, Some, None};
+ghost use Rattle.srm_names.specs.FullName.{FullName};
+ghost use Rattle.srm_names.specs.Names.{among, ascending, name_below};
+ghost use Rattle.srm_deadlines.specs.Places.{value_at, has_place, names_of, Holds, Keeps, Sets, SetsAll, ClearsAll, HasPlaces};
+
+use crate::timed::Timed;
+use indexmap::IndexMap;
+use srm_names::Name;
+use std::alloc::{AllocError, Global};
+use std::marker::Model;
+
+/// A name that may have a value.
+#[derive(Clone, Copy, Debug)]
+pub struct Place<V> {
+    pub name: Name,
+    pub value: Option<V>,
+}
+
+/// Values by name, each found by a hash of its name. Contracts see the places: the names, with or without a value.
+#[derive(Drop)]
+pub struct ByName<V> {
+    places: IndexMap<Name, Option<V>>,
+}
+
+impl<V> Model for ByName<V> {
+    ghost use Rattle.std.specs.Prelude.{List};
+    ghost use Rattle.srm_deadlines.specs.declared.by_name.Place.{Place};
+    ghost use Rattle.srm_deadlines.specs.PlacesOf.{places_of};
+
+    ghost Value = { List (Place V) };
+
+    ghost view = { λ m. places_of m.places.entries };
+}
+
+impl<V: Copy> ByName<V> {
+    /// No name has a place.
+    pub fn new(alloc: Global) -> Self
+        ensures { result ≡ [] }
+    {
+        ByName {
+            places: IndexMap::new(alloc),
+        }
+    }
+
+    /// How many names have a place.
+    pub fn len(&self) -> usize
+        ensures value { result ≡ length self.now }
+        ensures small { result < 2 ^ 63 }
+    {
+        self.places.len()
+    }
+
+    /// The place at an index, in whatever order.
+    pub fn place(&self, index: usize) -> Place<V>
+        requires { index < length self.now }
+        ensures { result ≡ slice_index_or self.now index result }
+    {
+        let (name, value) = self.places.get_index(index).unwrap();
+        Place {
+            name: *name,
+            value: *value,
+        }
+    }
+
+    /// Whether a name has a place.
+    pub fn has_place(&self, name: Name) -> bool
+        ensures { result ≡ has_place self.now name }
+    {
+        self.places.contains_key(&name)
+    }
+
+    /// The value of a name.
+    pub fn get(&self, name: Name) -> Option<V>
+        ensures { result ≡ value_at self.now name }
+    {
+        *self.places.get(&name)?
+    }
+
+    /// Makes a place for a name, unless it has one. No value changes. Only want of memory refuses it.
+    pub fn make_place(&mut self, name: Name) -> Result<(), AllocError>
+        ensures kept { Keeps self.old self.new }
+        ensures held { Holds self.old self.new }
+        ensures ok { OnOk result (has_place self.new name ≡ true) }
+        ensures again { has_place self.old name ≡ true → IsOk result }
+        ensures more { length self.new ≤ length self.old + 1 }
+        ensures err { OnErr result (self.new ≡ self.old) }
+    {
+        if !self.places.contains_key(&name) {
+            self.places.insert(name, None)?;
+        }
+        Ok(())
+    }
+
+    /// Makes places for names. No value changes. Only want of memory refuses it.
+    pub fn room(&mut self, names: &[Name]) -> Result<(), AllocError>
+        ensures kept { Keeps self.old self.new }
+        ensures held { Holds self.old self.new }
+        ensures ok { OnOk result (HasPlaces names.now self.new) }
+        ensures again { HasPlaces names.now self.old → IsOk result }
+    {
+        for name in names {
+            self.make_place(*name)?;
+        }
+        Ok(())
+    }
+
+    /// Sets the value of a name that has a place, or takes it away.
+    pub fn set(&mut self, name: Name, value: Option<V>)
+        requires { has_place self.old name ≡ true }
+        ensures sets { Sets name value self.old self.new }
+        ensures held { Holds self.old self.new }
+        ensures length { length self.new ≡ length self.old }
+    {
+        // An insert at a key that is there takes no memory.
+        let _ = self.places.insert(name, value);
+    }
+
+    /// Takes a name's value away, if it has one.
+    pub fn clear(&mut self, name: Name)
+        ensures sets { Sets name None self.old self.new }
+        ensures held { Holds self.old self.new }
+        ensures length { length self.new ≡ length self.old }
+    {
+        if self.has_place(name) {
+            self.set(name, None);
+        }
+    }
+
+    /// Takes the values of names away, where they have one.
+    #[tactic(auto, using(crate::proofs::Tables::clears_more, crate::proofs::Tables::holds_on))]
+    pub fn clear_all(&mut self, names: &[Name])
+        ensures sets { ClearsAll names.now self.old self.new }
+        ensures held { Holds self.old self.new }
+        ensures length { length self.new ≡ length self.old }
+    {
+        for name in names {
+            self.clear(*name);
+        }
+    }
+}
+
+impl ByName<u64> {
+    /// Sets the moments of names that have places and stand in rising order.
+    pub fn set_all(&mut self, moments: &[Timed])
+        requires rising { ascending name_below (names_of moments.now) ≡ true }
+        requires places { HasPlaces (names_of moments.now) self.old }
+        ensures sets { SetsAll moments.now self.old self.new }
+        ensures held { Holds self.old self.new }
+        ensures length { length self.new ≡ length self.old }
+    {
+        for timed in moments {
+            self.set(timed.name, Some(timed.moment));
+        }
+    }
+}

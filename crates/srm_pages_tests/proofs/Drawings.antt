@@ -1,0 +1,58 @@
+-- One more drawop of a drawing.
+use Rattle.std.proofs.Common.{◌≡◌, ℕ, ◌+◌, ◌||◌, ◌&&◌, Bool, true, false, not, List, [], ◌∷◌, ◌++◌, length, Some, refl, sym, ap, ◌∙◌, subst, eq-eqb, arith}
+use Rattle.std.specs.Prelude.{is_some}
+use Rattle.std.specs.List.{list_any}
+use Rattle.srm_names.specs.declared.drawop.Drawop.{Drawop}
+use Rattle.srm_names.specs.declared.page.Page.{Page}
+use Rattle.srm_names.specs.declared.page_msg.PageMsg.{PageMsg}
+use Rattle.srm_names.specs.declared.page_msg.PageMsg.TheVariants.{Open, Draw, Left, Close}
+use Rattle.srm_names.specs.Histories.{or_else}
+use Rattle.srm_names.specs.PageFeeds.{is_page_feed, continues, page_opened, is_open_at, leaves, is_close, drawops_of}
+use Rattle.srm_names.proofs.Same.{same_page-itself}
+use Rattle.srm_names.proofs.Snoc.{first_of-snoc, list_any-snoc, is_page_feed-snoc}
+use Rattle.srm_pages_tests.specs.Drawing.{IsDrawing}
+use Rattle.srm_pages.proofs.Feeds.{one_more_drawn}
+
+pub opens : (p : Page) (l : List PageMsg) → l ≡ [] → is_page_feed (l ++ Open p ∷ []) ≡ true
+opens p l e = subst (λ (k : List PageMsg). is_page_feed (k ++ Open p ∷ []) ≡ true) (sym e) refl
+
+all_four : (a b c d : Bool) → a ≡ true → b ≡ false → c ≡ false → d ≡ true → (a && not b && not c && d) ≡ true
+all_four a b c d e f g h = grind arith
+
+is_drawn : (p : Page) (m n : ℕ) (l : List PageMsg) (d : Drawop) → IsDrawing p m n l → d.name.stream.page ≡ p → d.name.stream.source ≡ m → d.name.number ≡ n + 1 → continues l (Draw d) ≡ true
+is_drawn p m n l d is page source number =
+    all_four _ _ _ _
+    (ap (λ o. is_open_at o d.name.stream.page) (is.page_is ∙ ap Some (sym page)) ∙ same_page-itself d.name.stream.page)
+    is.is_open
+    (ap (λ s. list_any (leaves s) l) source ∙ is.stays)
+    (eq-eqb d.name.number _ (number ∙ ap (λ k. k + 1) (sym is.count ∙ ap (λ s. length (drawops_of s l)) (sym source))))
+
+pub drawing_feed : (p : Page) (m n : ℕ) (l : List PageMsg) (d : Drawop) → IsDrawing p m n l → d.name.stream.page ≡ p → d.name.stream.source ≡ m → d.name.number ≡ n + 1 → is_page_feed (l ++ Draw d ∷ []) ≡ true
+drawing_feed p m n l d is page source number = is_page_feed-snoc l (Draw d) is.feed (is_drawn p m n l d is page source number)
+
+pub drawing_more : (p : Page) (m n : ℕ) (l : List PageMsg) (d : Drawop) → IsDrawing p m n l → d.name.stream.page ≡ p → d.name.stream.source ≡ m → d.name.number ≡ n + 1 → IsDrawing p m (n + 1) (l ++ Draw d ∷ [])
+drawing_more p m n l d is page source number = record {
+  feed = drawing_feed p m n l d is page source number;
+  page_is = first_of-snoc page_opened l (Draw d) ∙ ap (λ o. or_else o (page_opened (Draw d))) is.page_is;
+  count = one_more_drawn m l d (sym source) ∙ ap (λ k. k + 1) is.count;
+  stays = list_any-snoc (leaves m) l (Draw d) ∙ ap (λ b. b || false) is.stays;
+  is_open = list_any-snoc is_close l (Draw d) ∙ ap (λ b. b || false) is.is_open;
+}
+
+pub drawing_starts : (p : Page) (m : ℕ) (l : List PageMsg) → l ≡ [] → IsDrawing p m 0 (l ++ Open p ∷ [])
+drawing_starts p m l e = subst (λ (k : List PageMsg). IsDrawing p m 0 (k ++ Open p ∷ [])) (sym e) record { feed = refl; page_is = refl; count = refl; stays = refl; is_open = refl }
+
+-- a page feed with no end may be closed
+pub drawing_closes : (p : Page) (m n : ℕ) (l : List PageMsg) → IsDrawing p m n l → is_page_feed (l ++ Close ∷ []) ≡ true
+drawing_closes p m n l is = is_page_feed-snoc l Close is.feed (ap not is.is_open)
+
+all_three : (a b c : Bool) → a ≡ true → b ≡ false → c ≡ false → (a && not b && not c) ≡ true
+all_three a b c d e f = grind arith
+
+-- and its member may leave it before
+pub drawing_leaves : (p : Page) (m n : ℕ) (l : List PageMsg) → IsDrawing p m n l → is_page_feed (l ++ Left m ∷ []) ≡ true
+drawing_leaves p m n l is = is_page_feed-snoc l (Left m) is.feed (all_three _ _ _ (ap is_some is.page_is) is.is_open is.stays)
+
+pub left_closes : (p : Page) (m n : ℕ) (l k : List PageMsg) → IsDrawing p m n l → k ≡ l ++ Left m ∷ [] → is_page_feed (k ++ Close ∷ []) ≡ true
+left_closes p m n l k is e = subst (λ (x : List PageMsg). is_page_feed (x ++ Close ∷ []) ≡ true) (sym e)
+    (is_page_feed-snoc (l ++ Left m ∷ []) Close (drawing_leaves p m n l is) (ap not (list_any-snoc is_close l (Left m) ∙ ap (λ b. b || false) is.is_open)))

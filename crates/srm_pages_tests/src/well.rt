@@ -1,0 +1,213 @@
+//! Pens and the well.
+
+ghost use Rattle.std.specs.Prelude.{◌≡◌, ◌<◌, vec_len, IfSome};
+ghost use Rattle.srm_pages.specs.Ends.{AreNewPens};
+
+use bytes::Bytes;
+use srm_names::{Member, Page};
+use srm_pages::*;
+use std::alloc::{AllocError, Global};
+use std::sync::Wait;
+use std::test::Fail;
+use std::thread;
+use std::thread::Threads;
+
+/// The strokes that each pen sends.
+const STROKES: u16 = 100;
+
+/// A stroke of this pen on the page with this number.
+fn stroke_of(pen: u8, number: u16) -> Option<Stroke>
+    ensures { IfSome result (λ s. s.pen ≡ pen) }
+{
+    let creator = Member::new(0)?;
+    Some(Stroke {
+        pen,
+        page: Page { creator, number },
+        body: Bytes::new(),
+    })
+}
+
+/// Sends a stroke, again each time that it comes back.
+fn send_one<R: Wait>(rt: &R, pen: &mut Pen, mut stroke: Stroke)
+    requires { stroke.pen ≡ pen.old.place }
+{
+    for _ in rt.forever() {
+        match pen.stroke(rt, stroke) {
+            Ok(()) => return,
+            Err(back) => stroke = back,
+        }
+        thread::yield_now();
+    }
+    unreachable!()
+}
+
+/// Sends strokes on the pages with the numbers from 0, and then is done.
+fn send_all<R: Wait>(rt: &R, mut pen: Pen) -> Option<Inked> {
+    for number in 0..STROKES {
+        let stroke = stroke_of(pen.place(), number)?;
+        send_one(rt, &mut pen, stroke);
+    }
+    Some(pen.done())
+}
+
+/// Receives so many strokes. How many came of each pen, where each came in the order of its pages.
+fn receive_all<R: Wait>(rt: &R, well: &mut ends::Well, count: u32) -> Option<[u16; 4]> {
+    let mut of_pen = [0u16; 4];
+    for _ in 0..count {
+        let stroke = next_one(rt, well);
+        let next = of_pen.get_mut(usize::from(stroke.pen))?;
+        if stroke.page.number != *next {
+            return None;
+        }
+        *next = next.saturating_add(1);
+    }
+    Some(of_pen)
+}
+
+fn next_one<R: Wait>(rt: &R, well: &mut ends::Well) -> Stroke {
+    for _ in rt.forever() {
+        if let Some(stroke) = well.next(rt) {
+            return stroke;
+        }
+        thread::yield_now();
+    }
+    unreachable!()
+}
+
+/// Four pens in threads of their own send, and this one receives. What came of each, and whether the well said that all are done
+/// before they began and after they joined.
+fn four_pens<R: Threads + Wait + Copy + Send + 'static>(
+    rt: R,
+    alloc: Global,
+) -> Result<Option<([u16; 4], bool, bool)>, AllocError> {
+    let (mut well, mut pens) = well(alloc)?;
+    let (Some(three), Some(two), Some(one), Some(zero)) = (
+        pens.pop(),
+        pens.pop(),
+        pens.pop(),
+        pens.pop(),
+    ) else {
+        return Ok(None);
+    };
+    let before = well.is_done();
+    let a = thread::spawn(&rt, move || send_all(&rt, zero))?;
+    let b = thread::spawn(&rt, move || send_all(&rt, one))?;
+    let c = thread::spawn(&rt, move || send_all(&rt, two))?;
+    let d = thread::spawn(&rt, move || send_all(&rt, three))?;
+    let of_pen = receive_all(&rt, &mut well, 4 * u32::from(STROKES));
+    a.join(&rt);
+    b.join(&rt);
+    c.join(&rt);
+    d.join(&rt);
+    Ok(of_pen.map(|of_pen| (of_pen, before, well.is_done())))
+}
+
+#[test]
+fn what_four_pens_send_comes_in_order(rt: HostRuntime) -> Result<(), Fail> {
+    assert_eq!(rt;
+        four_pens(rt, rt.alloc())?,
+        Some(([100, 100, 100, 100], false, true))
+    );
+    Ok(())
+}
+
+#[test]
+fn there_are_four_pens_in_order(rt: HostRuntime) -> Result<(), Fail> {
+    let (mut well, pens) = well(rt.alloc())?;
+    assert_eq!(rt; pens.len(), 4);
+    for (place, pen) in pens.iter().enumerate() {
+        assert_eq!(rt; usize::from(pen.place()), place);
+    }
+    assert!(rt; well.next(&rt).is_none());
+    Ok(())
+}
+
+/// The pen of place 0.
+fn first_pen(pens: &mut Vec<Pen>, well: &ends::Well) -> Pen
+    requires { (0 < vec_len pens.old) × AreNewPens well.now.well pens.old.items }
+    ensures { (result.place ≡ 0) × (result.well ≡ well.now.well) }
+{
+    pens.remove(0)
+}
+
+/// Whether a stroke of the first pen goes in.
+fn goes_in<R: Wait>(rt: &R, pen: &mut Pen) -> Option<bool>
+    requires { pen.old.place ≡ 0 }
+    ensures { (pen.new.place ≡ 0) × (pen.new.well ≡ pen.old.well) }
+{
+    let stroke = stroke_of(0, 0)?;
+    Some(pen.stroke(rt, stroke).is_ok())
+}
+
+/// How many strokes of a pen go into a well that nobody reads, up to 70, and whether one more does after one was read.
+fn filled<R: Wait>(rt: &R, alloc: Global) -> Result<Option<(u32, bool)>, AllocError> {
+    let (mut well, mut pens) = well(alloc)?;
+    let mut pen = first_pen(&mut pens, &well);
+    let mut sent = 0u32;
+    for before in 0..70 {
+        if goes_in(rt, &mut pen) == Some(true) {
+            sent = before + 1;
+        } else {
+            break;
+        }
+    }
+    let received = well.next(rt).is_some();
+    Ok(goes_in(rt, &mut pen).map(|goes_in| (sent, received && goes_in)))
+}
+
+#[test]
+fn a_full_well_gives_a_stroke_back(rt: HostRuntime) -> Result<(), Fail> {
+    assert_eq!(rt; filled(&rt, rt.alloc())?, Some((64, true)));
+    Ok(())
+}
+
+/// A pen sends three strokes and is done, two of them are received, and the pen is put beside these. What went in, what came before
+/// that and what came after.
+fn settled_midway<R: Wait>(
+    rt: &R,
+    alloc: Global,
+) -> Result<([Option<bool>; 3], [bool; 2], [bool; 2]), AllocError> {
+    let (mut well, mut pens) = well(alloc)?;
+    let mut pen = first_pen(&mut pens, &well);
+    let sent = [
+        goes_in(rt, &mut pen),
+        goes_in(rt, &mut pen),
+        goes_in(rt, &mut pen),
+    ];
+    let before = [well.next(rt).is_some(), well.next(rt).is_some()];
+    let inked = well.settle(pen.done());
+    let after = [well.next(rt).is_some(), well.next(rt).is_some()];
+    let _inked = well.settle(inked);
+    Ok((sent, before, after))
+}
+
+#[test]
+fn the_well_goes_on_after_settling(rt: HostRuntime) -> Result<(), Fail> {
+    assert_eq!(rt;
+        settled_midway(&rt, rt.alloc())?,
+        ([Some(true); 3], [true, true], [true, false])
+    );
+    Ok(())
+}
+
+/// Whether all pens are done, as the well says at first and after each of them.
+fn said_of_each(alloc: Global) -> Result<Vec<bool>, AllocError> {
+    let (well, pens) = well(alloc)?;
+    let mut said = Vec::new(alloc);
+    said.push(well.is_done())?;
+    for pen in pens {
+        let _inked = pen.done();
+        said.push(well.is_done())?;
+    }
+    Ok(said)
+}
+
+#[test]
+fn all_are_done_after_the_last_pen(rt: HostRuntime) -> Result<(), Fail> {
+    let said = said_of_each(rt.alloc())?;
+    assert_eq!(rt;
+        said.as_slice(),
+        [false, false, false, false, true].as_slice()
+    );
+    Ok(())
+}

@@ -1,9 +1,0 @@
-use Rattle.std.proofs.Common.{take}
-use Rattle.srm_timers.specs.Places.{Holds, SetsAll}
-use Rattle.srm_timers.proofs.ordered.Ordered.set_few.Given as goal
-
-abbrev pub invariant-loop-timed : goal.invariant-loop-timed
-invariant-loop-timed l = record {
-  sets : SetsAll (take l.timed-index l.moments) l.initial.self l.self;
-  held : Holds l.initial.self l.self;
-}
