@@ -1,8 +1,8 @@
 -- A new world, member by member.
-use Rattle.std.proofs.Common.{◌≡◌, ℕ, ◌+◌, ◌≤◌, ◌<◌, get_or, List, [], ◌∷◌, ◌++◌, length, take, refl, ap, sym, ◌∙◌, subst, inl, inr, arith}
+use Rattle.std.proofs.Common.{◌≡◌, ℕ, ◌+◌, ◌≤◌, ◌<◌, get_or, List, [], ◌∷◌, ◌++◌, length, take, refl, ap, sym, ◌∙◌, subst, append_assoc, inl, inr, arith}
 use Rattle.std.specs.Prelude.{◌⊎◌, Some, None, slice_get}
 use Rattle.std.proofs.lemmas.Option.{slice_get_within}
-use Rattle.std.proofs.lemmas.List.{map-append, take_more, take_all, length_push}
+use Rattle.std.proofs.lemmas.List.{map-append, append-nil, length-append, length-map, take_more, take_all, length_push}
 use Rattle.srm_names.proofs.Lists.{slice_get-snoc}
 use Rattle.srm_entries.specs.Configs.{Config}
 use Rattle.srm_agent_parts.specs.declared.out.Out.{Out}
@@ -10,7 +10,7 @@ use Rattle.srm_entries.specs.declared.entry.Entry.{Entry}
 use Rattle.srm_world.specs.declared.start.Start.{Start}
 use Rattle.srm_world.specs.Traces.{Trace, IsRoster, started}
 use Rattle.srm_world.specs.Participants.{Content, Fits}
-use Rattle.srm_world.specs.Worlds.{AllFit, AreWorld}
+use Rattle.srm_world.specs.Worlds.{words_of, AllFit, AreWorld}
 use Rattle.srm_world.proofs.Lawful.{lawful}
 use Rattle.srm_world.proofs.Stepping.{run_more}
 
@@ -64,3 +64,20 @@ begun_world configs i starts ps sents es t h l roster unsent none is = subst (Ar
   sent = record { same = refl; spelled = λ m a at. tt };
   lawful = lawful (begins starts []) (run_more starts [] ps (subst IsRoster (sym (h.starts_are ∙ ap started (take_all i configs l))) roster) (h.count ∙ sym h.begun) h.fit tt) tt;
 }))
+
+-- the sources of words of the members that have begun, and those still to come
+
+pub no_source_taken : {W : Type 0} (ps : List (Content W)) (rest all : List W) → ps ≡ [] → rest ≡ all → words_of ps ++ rest ≡ all
+no_source_taken ps rest all none same = rw none same
+
+pub source_taken : {W : Type 0} (ps more : List (Content W)) (p : Content W) (w : W) (before rest all : List W) → more ≡ ps ++ p ∷ [] → p.agent.words ≡ w → before ≡ w ∷ rest → words_of ps ++ before ≡ all → words_of more ++ rest ≡ all
+source_taken ps more p w before rest all more_are is split h =
+    ap (λ (qs : List (Content _)). words_of qs ++ rest) more_are ∙ ap (λ ws. ws ++ rest) (map-append (λ (q : Content _). q.agent.words) ps (p ∷ []))
+    ∙ append_assoc (words_of ps) (p.agent.words ∷ []) rest ∙ ap (λ v. words_of ps ++ v ∷ rest) is ∙ ap (λ ws. words_of ps ++ ws) (sym split) ∙ h
+
+pub all_taken : {W : Type 0} (ps : List (Content W)) (rest all : List W) → length all ≤ length ps → words_of ps ++ rest ≡ all → words_of ps ≡ all
+all_taken ps [] all l h = sym (append-nil (words_of ps)) ∙ h
+all_taken ps (w ∷ rest) all l h =
+    let k : length (words_of ps ++ w ∷ rest) ≡ length all = ap length h in
+    let m : length (words_of ps) ≡ length ps = length-map ps (λ (q : Content _). q.agent.words) in
+    absurd (omega (arith, length-append (words_of ps) (w ∷ rest), k, m, l))

@@ -123,9 +123,10 @@ adds c made past now p q e h fits config moment last after lanes = record {
 
 -- a call that moves no message
 pub goes_on : {W : Type 0} (draw : W → ℕ × W) (now : Option ℕ) (input : Input) (p q : Content W) (e : Entry) → Enters draw now input p.agent q.agent e → moves_lane input ≡ false
-    → q.config ≡ p.config → q.last ≡ last_with p.last e.verdict e.moment → q.state ≡ e.effects.state → q.lanes ≡ p.lanes → GoesOn now input p q e
+    → q.config ≡ p.config → q.last ≡ last_with p.last e.verdict e.moment → q.state ≡ e.effects.state → q.lanes ≡ p.lanes → GoesOn draw now input p q e
 goes_on draw now input p q e enters still config last after lanes = record {
   input_is = enters.input_is;
+  words = enters.words;
   adds = λ c made past h. adds c made past now p q e h (enters.fits c made past h.agent) config enters.moment_is last after
       (subst (λ ls. LanesFit (past ++ e ∷ []) ls) (sym lanes) (lanes_stay past e input p.lanes enters.input_is still h.lanes));
 }
@@ -138,9 +139,10 @@ heard_still o false c past (Ok g) q = ap (λ (x : Input × Verdict). moves_lane 
 heard_still o false c past (Err fault) q = ap (λ (x : Input × Verdict). moves_lane x.0) q
 
 pub hears_on : {W : Type 0} (draw : W → ℕ × W) (now : Option ℕ) (p q : Content W) (bytes : List ℕ) (e : Entry) → Enters draw now e.input p.agent q.agent e → ReadsAs bytes p.agent e
-    → q.config ≡ p.config → q.last ≡ last_with p.last e.verdict e.moment → q.state ≡ e.effects.state → q.lanes ≡ p.lanes → GoesOn now e.input p q e
+    → q.config ≡ p.config → q.last ≡ last_with p.last e.verdict e.moment → q.state ≡ e.effects.state → q.lanes ≡ p.lanes → GoesOn draw now e.input p q e
 hears_on draw now p q bytes e enters reads config last after lanes = record {
   input_is = refl;
+  words = enters.words;
   adds = λ c made past h.
       let still : moves_lane e.input ≡ false = heard_still (e.input, e.verdict) (is_gone (state past)) c past (judge c.session bytes) (reads.each c made past h.agent) in
       adds c made past now p q e h (enters.fits c made past h.agent) config enters.moment_is last after
@@ -212,9 +214,10 @@ given_lanes past e slot lanes roomy now is room gains h j l at =
 
 pub gives_on : {W : Type 0} (draw : W → ℕ × W) (slot : ℕ) (p q : Content W) (roomy : List LaneContent) (e : Entry) (answer : Result (Option PageMsg) AgentFault) (message : Option PageMsg) → Enters draw None (Gave slot) p.agent q.agent e
     → AnswersAs (λ m. m ≡ e.effects.message) e.verdict answer → IfOk answer (λ m. message ≡ m) → Gains slot [] p.lanes roomy → Gains slot (option_to_list message) roomy q.lanes
-    → q.config ≡ p.config → q.last ≡ last_with p.last e.verdict e.moment → q.state ≡ e.effects.state → GoesOn None (Gave slot) p q e
+    → q.config ≡ p.config → q.last ≡ last_with p.last e.verdict e.moment → q.state ≡ e.effects.state → GoesOn draw None (Gave slot) p q e
 gives_on draw slot p q roomy e answer message enters answers are room gains config last after = record {
   input_is = enters.input_is;
+  words = enters.words;
   adds = λ c made past h.
       let right : EntryRight c made (record { before = past; this = e }) = newest_right c made past e (enters.fits c made past h.agent).run in
       let verdict : e.verdict ≡ Done = of_give c past e.input e.verdict enters.input_is right.verdict in
@@ -241,10 +244,11 @@ next_waits : (ts ws : List PageMsg) → slice_get (ts ++ ws) (length ts) ≡ sli
 next_waits [] ws = refl
 next_waits (t ∷ ts) ws = next_waits ts ws
 
-pub takes_on : {W : Type 0} (slot : ℕ) (p q : Content W) (message : Option PageMsg) (e : Entry) → e ≡ still_entry p.config.me p.last (Took slot) Done message p.state
-    → Loses slot message p.lanes q.lanes → q.agent ≡ p.agent → q.config ≡ p.config → q.last ≡ p.last → q.state ≡ p.state → GoesOn None (Took slot) p q e
-takes_on slot p q message e is loses agent config last after = record {
+pub takes_on : {W : Type 0} (draw : W → ℕ × W) (slot : ℕ) (p q : Content W) (message : Option PageMsg) (e : Entry) → e ≡ still_entry p.config.me p.last (Took slot) Done message p.state
+    → Loses slot message p.lanes q.lanes → q.agent ≡ p.agent → q.config ≡ p.config → q.last ≡ p.last → q.state ≡ p.state → GoesOn draw None (Took slot) p q e
+takes_on draw slot p q message e is loses agent config last after = record {
   input_is = ap (λ (x : Entry). x.input) is;
+  words = rw is (ap (λ a. a.words) agent);
   adds = λ c made past h. subst (λ (x : Entry). Adds c made past None q x) (sym (is ∙ ap (λ m. still_entry m p.last (Took slot) Done message p.state) (ap (λ (s : Config). s.me) h.config))) (by c made past h);
 }
   where
@@ -262,6 +266,7 @@ takes_on slot p q message e is loses agent config last after = record {
 -- a member whose call was refused for memory, with more room in a lane
 pub stays_with : {W : Type 0} (slot : ℕ) (p q : Content W) → noting.Stays p.agent q.agent → Gains slot [] p.lanes q.lanes → q.config ≡ p.config → q.last ≡ p.last → q.state ≡ p.state → Stays p q
 stays_with slot p q same room config last after = record {
+  words = same.words;
   fits = λ c made past h. record {
     agent = same.fits c made past h.agent;
     config = config ∙ h.config;

@@ -7,6 +7,7 @@ pub mod TakesExample
 pub mod RestExample
 pub mod Lawful
 pub mod Laning
+pub mod Wording
 pub mod Going
 pub mod Silent
 pub mod Stepping

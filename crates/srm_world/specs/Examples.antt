@@ -1,11 +1,13 @@
 -- The definitions at both stored scripts, and at what is skipped.
-use Rattle.std.specs.Prelude.{◌≡◌, ℕ, List, [], ◌∷◌, ◌++◌, map, take, Some, None, refl}
-use Rattle.std.proofs.Common.{lit<}
+use Rattle.std.specs.Prelude.{◌≡◌, ℕ, List, [], ◌∷◌, ◌++◌, map, take, slice_get, Some, None, refl}
+use Rattle.std.proofs.Common.{lit<, arith, zero, suc, sym, ◌∙◌, subst}
+use Rattle.std.proofs.lemmas.Option.{same_Some}
 use Rattle.srm_names.specs.declared.page.Page.{Page}
 use Rattle.srm_names.specs.declared.page_msg.PageMsg.TheVariants.{Open, Draw, Left}
 use Rattle.srm_names.specs.Names.{first_page, named}
 use Rattle.srm_names.specs.PageFeeds.{drawops_of}
 use Rattle.srm_codec.specs.declared.datagram.Datagram.TheVariants.{Data, Repair}
+use Rattle.srm_timers.specs.Draws.{draw_listed}
 use Rattle.srm_entries.specs.declared.entry.Entry.{Entry}
 use Rattle.srm_entries.specs.declared.entry.Input.{Input}
 use Rattle.srm_entries.specs.declared.entry.Input.TheVariants.{Heard, Noise, Ticked, Showed, AskedLeave, Gave, Took}
@@ -18,6 +20,7 @@ use Rattle.srm_world.specs.declared.event.Event.{Event}
 use Rattle.srm_world.specs.declared.event.Event.TheVariants as events
 use Rattle.srm_world.specs.declared.start.Start.{Start}
 use Rattle.srm_world.specs.Traces.{of_member, drawn_by, taken_by, IsHonest}
+use Rattle.srm_world.specs.Words.{AreByWords, AreByOwnWords}
 use Rattle.srm_world.specs.Events.{member_of, moment_in, moment_of, asked, last_of_member, IsEntryOf, Follows}
 
 abbrev start : ℕ → ℕ → Start
@@ -285,3 +288,30 @@ moments = refl
 
 moments_that_count : map (moment_of 21) (Some 22 ∷ Some 5 ∷ None ∷ []) ≡ 22 ∷ 21 ∷ 21 ∷ []
 moments_that_count = refl
+
+-- words: a timer's wait is by the next word of its member's source
+
+abbrev hears_c : (wait : ℕ) → Entry
+hears_c wait = hears 1 10 (Data c) (ask_arm 1 0 wait ∷ [])
+
+first_waits : AreByWords draw_listed (in_roster 1 2 4204) [] first.member_1 []
+first_waits = (refl, (refl, refl))
+
+one_word : AreByWords draw_listed (in_roster 1 2 4204) (5 ∷ 7 ∷ []) (hears_c 200005 ∷ []) (7 ∷ [])
+one_word = (refl, refl)
+
+no_word_stays : AreByWords draw_listed (in_roster 1 2 4204) (5 ∷ 7 ∷ []) (hears_c 200005 ∷ []) (5 ∷ 7 ∷ []) → ⊥
+no_word_stays h = absurd (let k : 5 ∷ 7 ∷ [] ≡ 7 ∷ [] = h.1 in cc)
+
+another_wait : AreByWords draw_listed (in_roster 1 2 4204) (5 ∷ 7 ∷ []) (hears_c 200007 ∷ []) (7 ∷ []) → ⊥
+another_wait h = let k : 200007 ≡ 200005 = h.0 in absurd (omega (arith, k))
+
+-- each member has its own source
+own_words : AreByOwnWords draw_listed two ((5 ∷ []) ∷ (7 ∷ []) ∷ []) (hears_c 200007 ∷ []) ((5 ∷ []) ∷ [] ∷ [])
+own_words = record { count = refl; each = at }
+  where
+    at : (m : ℕ) (a : Start) (u v : List ℕ) → slice_get two m ≡ Some a → slice_get ((5 ∷ []) ∷ (7 ∷ []) ∷ []) m ≡ Some u → slice_get ((5 ∷ []) ∷ [] ∷ []) m ≡ Some v → AreByWords draw_listed a.config u (of_member m (hears_c 200007 ∷ [])) v
+    at zero a u v p q r = same_Some v u (sym r ∙ q)
+    at (suc zero) a u v p q r = subst (λ (s : Start). AreByWords draw_listed s.config u (hears_c 200007 ∷ []) v) (same_Some (start 2 1) a p)
+        (subst (λ w. AreByWords draw_listed (start 2 1).config w (hears_c 200007 ∷ []) v) (same_Some (7 ∷ []) u q) (subst (λ w. AreByWords draw_listed (start 2 1).config (7 ∷ []) (hears_c 200007 ∷ []) w) (same_Some [] v r) (refl, refl)))
+    at (suc (suc m)) a u v p q r = absurd (let k : None ≡ Some a = p in cc)

@@ -4,12 +4,14 @@ use Rattle.std.specs.List.{AllByRecursion}
 use Rattle.srm_codec.specs.declared.datagram.Datagram.{Datagram}
 use Rattle.srm_codec.specs.Spelling.{Spells}
 use Rattle.srm_agent_parts.specs.declared.out.Out.{Out}
+use Rattle.srm_timers.specs.Arms.{AreDrawn}
 use Rattle.srm_entries.specs.declared.state.AgentState.{AgentState}
 use Rattle.srm_entries.specs.declared.entry.Entry.{Entry}
 use Rattle.srm_entries.specs.declared.entry.Input.{Input}
 use Rattle.srm_entries.specs.declared.entry.Verdict.{Verdict}
 use Rattle.srm_entries.specs.declared.entry.Verdict.TheVariants.{Refused}
 use Rattle.srm_entries.specs.Configs.{Config}
+use Rattle.srm_entries.specs.Timers.{low_of, high_of}
 use Rattle.srm_agent.specs.Contents as agents
 use Rattle.srm_entries.specs.Entries.{state, is_gone, last_moment}
 use Rattle.srm_entries.specs.Giving.{given, taken}
@@ -52,14 +54,16 @@ pub record Adds {W : Type 0} (c : Config) (made : ℕ) (past : List Entry) (now 
   pub moment : e.moment ≡ moment_that_counts now (last_moment made past)
   pub fits : Fits c made (past ++ e ∷ []) new
 
--- the same of whatever entries the member fitted, where the entry is of this input
-pub record GoesOn {W : Type 0} (now : Option ℕ) (input : Input) (old new : Content W) (e : Entry) : Type 0 where
+-- the same of whatever entries the member fitted, where the entry is of this input, and its waits are by the next words
+pub record GoesOn {W : Type 0} (draw : W → ℕ × W) (now : Option ℕ) (input : Input) (old new : Content W) (e : Entry) : Type 0 where
   pub input_is : e.input ≡ input
   pub adds : (c : Config) (made : ℕ) (past : List Entry) → Fits c made past old → Adds c made past now new e
+  pub words : AreDrawn draw (low_of old.agent.config) (high_of old.agent.config) old.agent.words e.effects.arms new.agent.words
 
--- whatever entries the member fitted, it still fits
+-- whatever entries the member fitted, it still fits, and no word was drawn
 pub record Stays {W : Type 0} (old new : Content W) : Type 0 where
   pub fits : (c : Config) (made : ℕ) (past : List Entry) → Fits c made past old → Fits c made past new
+  pub words : new.agent.words ≡ old.agent.words
 
 -- where the bytes spell a datagram, the entry is of this datagram, or of noise where the member is gone
 pub record HearsBytes {W : Type 0} (bytes : List ℕ) (old : Content W) (e : Entry) : Type 0 where

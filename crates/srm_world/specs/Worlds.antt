@@ -9,7 +9,8 @@ use Rattle.srm_world.specs.declared.event.Event.{Event}
 use Rattle.srm_world.specs.declared.start.Start.{Start}
 use Rattle.srm_world.specs.declared.world.World.TheInside.{Inside}
 use Rattle.srm_world.specs.Traces.{Trace, of_member}
-use Rattle.srm_world.specs.Events.{IsEntryOf, asked}
+use Rattle.srm_world.specs.Words.{Played, AreByOwnWords, PlaysByWords}
+use Rattle.srm_world.specs.Events.{IsEntryOf, FollowsOne, asked}
 use Rattle.srm_world.specs.Claims.{IsLawful}
 use Rattle.srm_world.specs.Participants.{Content, Fits}
 use Rattle.srm_world.specs.Sent.{all_of}
@@ -30,6 +31,13 @@ pub record AreWorld {W : Type 0} (ps : List (Content W)) (sents : List Out) (t :
   pub sent : AreSent t.starts sents t.entries
   pub lawful : IsLawful t
 
+-- the sources of words of the members
+abbrev pub words_of : {W : Type 0} → List (Content W) → List W
+words_of {W = W} ps = map (λ (p : Content W). p.agent.words) ps
+
+abbrev pub played_of : {W : Type 0} → Inside W → Played W
+played_of w = record { trace = w.trace; words = words_of w.participants.items }
+
 abbrev pub IsWorld : {W : Type 0} → Inside W → Type 0
 IsWorld w = AreWorld w.participants.items (all_of w.sent) w.trace
 
@@ -42,9 +50,10 @@ pub record Enters {W : Type 0} (starts : List Start) (es : List Entry) (event : 
   pub fit : AllFit starts ps (es ++ e ∷ [])
   pub sent : AreSent starts sents (es ++ e ∷ [])
 
--- the same, in whatever world these were the members and what was sent
-pub record EntersAll {W : Type 0} (old new : List (Content W)) (sents more : List Out) (event : Event) (e : Entry) : Type 0 where
+-- the same, in whatever world these were the members and what was sent, and its waits are by words
+pub record EntersAll {W : Type 0} (draw : W → ℕ × W) (old new : List (Content W)) (sents more : List Out) (event : Event) (e : Entry) : Type 0 where
   pub enters : (t : Trace) → AreWorld old sents t → Enters t.starts t.entries event new more e
+  pub words : (t : Trace) → AreWorld old sents t → AreByOwnWords draw t.starts (words_of old) (e ∷ []) (words_of new)
   pub count : length new ≡ length old
 
 -- the event asks nothing of any member
@@ -53,9 +62,10 @@ pub record Skips {W : Type 0} (old new : List (Content W)) (sents more : List Ou
   pub same : new ≡ old
   pub sent : more ≡ sents
 
--- nothing was sent, and the members fit what they did
+-- nothing was sent, no word was drawn, and the members fit what they did
 pub record Keeps {W : Type 0} (old new : List (Content W)) (sents more : List Out) : Type 0 where
   pub fits : (starts : List Start) (es : List Entry) → AllFit starts old es → AllFit starts new es
+  pub words : words_of new ≡ words_of old
   pub count : length new ≡ length old
   pub sent : more ≡ sents
 
@@ -63,6 +73,13 @@ abbrev pub after_entry : Trace → Entry → Trace
 after_entry t e = record { starts = t.starts; entries = t.entries ++ e ∷ [] }
 
 -- the trace has one entry more, which is of the event; or the event was skipped, and the trace is the same
-abbrev pub Appends : {W : Type 0} → List (Content W) → List (Content W) → List Out → List Out → Event → Trace → Trace → Bool → Type 0
-Appends old new sents more event t now true = (e : Entry) × EntersAll old new sents more event e × (now ≡ after_entry t e)
-Appends old new sents more event t now false = Skips old new sents more event × (now ≡ t)
+abbrev pub Appends : {W : Type 0} → (W → ℕ × W) → List (Content W) → List (Content W) → List Out → List Out → Event → Trace → Trace → Bool → Type 0
+Appends draw old new sents more event t now true = (e : Entry) × EntersAll draw old new sents more event e × (now ≡ after_entry t e)
+Appends draw old new sents more event t now false = Skips old new sents more event × (now ≡ t)
+
+-- one event of a run
+pub record Steps {W : Type 0} (draw : W → ℕ × W) (event : Event) (old new : Played W) : Type 0 where
+  pub follows : FollowsOne old.trace.starts old.trace.entries event new.trace.entries
+  pub starts : new.trace.starts ≡ old.trace.starts
+  pub words : PlaysByWords draw old new
+  pub lawful : IsLawful new.trace

@@ -6,6 +6,7 @@ ghost use Rattle.srm_agent.specs.Noting.{IsDrawnName, IsTicked};
 ghost use Rattle.srm_entries.specs.Promises.{page_to_come, IsNextDue};
 ghost use Rattle.srm_world.specs.Claims.{IsLawfulJournal};
 ghost use Rattle.srm_world.specs.Recording.{Records, RecordsHeard};
+ghost use Rattle.srm_world.specs.Words.{RecordsByWords};
 
 use crate::appending::append;
 use crate::journal::Journal;
@@ -18,7 +19,8 @@ use std::alloc::{AllocError, Global};
 use std::marker::Model;
 
 /// An agent that keeps its journal: each call answers as the agent's, and appends its entry. Room for the entry is made first, so
-/// here want of memory may come before another refusal; a call that is refused for it has no entry. Contracts see the journal.
+/// here want of memory may come before another refusal; a call that is refused for it has no entry. Contracts see the journal, and the source
+/// of words as it stands.
 #[derive(Drop)]
 pub struct Recorder<W: Words + Drop> {
     agent: Agent<W>,
@@ -27,12 +29,12 @@ pub struct Recorder<W: Words + Drop> {
 }
 
 impl<W: Words + Drop> Model for Recorder<W> {
-    ghost use Rattle.srm_world.specs.Traces.{Journal as Content};
-    ghost use Rattle.srm_world.specs.Recorders.{journal_of, IsRecorder};
+    ghost use Rattle.srm_world.specs.Words.{Recorded};
+    ghost use Rattle.srm_world.specs.Recorders.{recorded_of, IsRecorder};
 
-    ghost Value = { Content };
+    ghost Value = { Recorded W };
 
-    ghost view = { journal_of };
+    ghost view = { recorded_of };
 
     ghost invariant = { IsRecorder };
 }
@@ -41,7 +43,7 @@ impl<W: Words + Drop> Recorder<W> {
     /// An agent that was made at a moment, in microseconds, and did nothing yet. Only want of memory refuses it.
     pub fn new(alloc: Global, config: Config, words: W, now: u64) -> Result<Recorder<W>, AllocError>
         requires { now ≤ MOMENT }
-        ensures value { IfOk result (λ recorder. recorder ≡ record { start = record { config = config; made = now }; entries = [] }) }
+        ensures value { IfOk result (λ recorder. recorder ≡ record { journal = record { start = record { config = config; made = now }; entries = [] }; words = words }) }
     {
         Ok(Recorder {
             agent: Agent::new(alloc, config, words, now)?,
@@ -52,14 +54,14 @@ impl<W: Words + Drop> Recorder<W> {
 
     /// [`Agent::new_page`]. It has no entry.
     pub fn new_page(&self) -> Option<Page>
-        ensures { result ≡ page_to_come self.now.start.config self.now.entries }
+        ensures { result ≡ page_to_come self.now.journal.start.config self.now.journal.entries }
     {
         self.agent.new_page()
     }
 
     /// [`Agent::next_due`]. It has no entry.
     pub fn next_due(&self) -> Option<u64>
-        ensures { IsNextDue self.now.start.config self.now.start.made self.now.entries result }
+        ensures { IsNextDue self.now.journal.start.config self.now.journal.start.made self.now.journal.entries result }
     {
         self.agent.next_due()
     }
@@ -67,8 +69,9 @@ impl<W: Words + Drop> Recorder<W> {
     /// [`Agent::draw`].
     pub fn draw(&mut self, page: Page, body: Bytes, now: u64) -> Result<Name, AgentFault>
         requires { now ≤ MOMENT }
-        ensures records { Records (Some now) (Input.Drew page body) IsDrawnName self.old self.new result }
-        ensures lawful { IsLawfulJournal self.new }
+        ensures records { Records (Some now) (Input.Drew page body) IsDrawnName self.old.journal self.new.journal result }
+        ensures words { RecordsByWords W.draw self.old self.new }
+        ensures lawful { IsLawfulJournal self.new.journal }
     {
         self.entries.reserve(1)?;
         let Noted { answer, entry } = self.agent.draw_noted(page, body, now)?;
@@ -79,8 +82,9 @@ impl<W: Words + Drop> Recorder<W> {
     /// [`Agent::show`].
     pub fn show(&mut self, page: Page, now: u64) -> Result<(), AgentFault>
         requires { now ≤ MOMENT }
-        ensures records { Records (Some now) (Input.Showed page) (λ _ _. Unit {0}) self.old self.new result }
-        ensures lawful { IsLawfulJournal self.new }
+        ensures records { Records (Some now) (Input.Showed page) (λ _ _. Unit {0}) self.old.journal self.new.journal result }
+        ensures words { RecordsByWords W.draw self.old self.new }
+        ensures lawful { IsLawfulJournal self.new.journal }
     {
         self.entries.reserve(1)?;
         let Noted { answer, entry } = self.agent.show_noted(page, now)?;
@@ -92,8 +96,9 @@ impl<W: Words + Drop> Recorder<W> {
     #[tactic(auto, using(crate::proofs::Journaling::records_heard))]
     pub fn hear(&mut self, bytes: &[u8], now: u64) -> Result<Heard, AgentFault>
         requires { now ≤ MOMENT }
-        ensures records { RecordsHeard now bytes.now self.old self.new result }
-        ensures lawful { IsLawfulJournal self.new }
+        ensures records { RecordsHeard now bytes.now self.old.journal self.new.journal result }
+        ensures words { RecordsByWords W.draw self.old self.new }
+        ensures lawful { IsLawfulJournal self.new.journal }
     {
         self.entries.reserve(1)?;
         let Noted { answer, entry } = self.agent.hear_noted(bytes, now)?;
@@ -104,8 +109,9 @@ impl<W: Words + Drop> Recorder<W> {
     /// [`Agent::tick`].
     pub fn tick(&mut self, now: u64) -> Result<Ticked, AgentFault>
         requires { now ≤ MOMENT }
-        ensures records { Records (Some now) Input.Ticked (IsTicked self.old.start.config.session) self.old self.new result }
-        ensures lawful { IsLawfulJournal self.new }
+        ensures records { Records (Some now) Input.Ticked (IsTicked self.old.journal.start.config.session) self.old.journal self.new.journal result }
+        ensures words { RecordsByWords W.draw self.old self.new }
+        ensures lawful { IsLawfulJournal self.new.journal }
     {
         self.entries.reserve(1)?;
         let Noted { answer, entry } = self.agent.tick_noted(now)?;
@@ -116,8 +122,9 @@ impl<W: Words + Drop> Recorder<W> {
     /// [`Agent::leave`]. Here it can be refused for memory, which its entry takes.
     pub fn leave(&mut self, now: u64) -> Result<(), AgentFault>
         requires { now ≤ MOMENT }
-        ensures records { Records (Some now) Input.AskedLeave (λ _ _. Unit {0}) self.old self.new result }
-        ensures lawful { IsLawfulJournal self.new }
+        ensures records { Records (Some now) Input.AskedLeave (λ _ _. Unit {0}) self.old.journal self.new.journal result }
+        ensures words { RecordsByWords W.draw self.old self.new }
+        ensures lawful { IsLawfulJournal self.new.journal }
     {
         self.entries.reserve(1)?;
         let Noted { answer, entry } = self.agent.leave_noted(now)?;
@@ -128,8 +135,9 @@ impl<W: Words + Drop> Recorder<W> {
     /// [`Agent::give`].
     pub fn give(&mut self, slot: u8) -> Result<Option<PageMsg>, AgentFault>
         requires { slot < PAGES }
-        ensures records { Records None (Input.Gave slot) (λ e message. message ≡ e.effects.message) self.old self.new result }
-        ensures lawful { IsLawfulJournal self.new }
+        ensures records { Records None (Input.Gave slot) (λ e message. message ≡ e.effects.message) self.old.journal self.new.journal result }
+        ensures words { RecordsByWords W.draw self.old self.new }
+        ensures lawful { IsLawfulJournal self.new.journal }
     {
         self.entries.reserve(1)?;
         let Noted { answer, entry } = self.agent.give_noted(slot)?;
@@ -139,7 +147,7 @@ impl<W: Words + Drop> Recorder<W> {
 
     /// The journal as it stands. It takes no memory.
     pub fn finish(self) -> Journal
-        ensures value { result ≡ self }
+        ensures value { result ≡ self.journal }
         ensures lawful { IsLawfulJournal result }
     {
         Journal {

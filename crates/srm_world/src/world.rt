@@ -1,9 +1,12 @@
 //! The world of all members.
 
-ghost use Rattle.std.specs.Prelude.{◌≡◌, ◌<◌, ◌↔◌, ℕ, [], length, take, All, IfOk, OnOk, OnErr, IsTrue, IsSome};
+ghost use Rattle.std.specs.Prelude.{◌≡◌, ◌<◌, ◌+◌, ◌↔◌, ℕ, [], ◌∷◌, length, take, All, IfOk, OnOk, OnErr, IsTrue, IsSome};
+ghost use Rattle.std.specs.Vec.Iter.{into_iter_items, into_iter_len};
 ghost use Rattle.srm_world.specs.Traces.{IsRoster, started};
 ghost use Rattle.srm_world.specs.Events.{Follows, FollowsOne, IsTimely, asked};
 ghost use Rattle.srm_world.specs.Claims.{IsLawful};
+ghost use Rattle.srm_world.specs.Words.{PlaysByWords};
+ghost use Rattle.srm_world.specs.Worlds.{Steps};
 
 mod entering;
 
@@ -17,9 +20,10 @@ use srm_agent::Config;
 use srm_timers::Words;
 use std::alloc::{AllocError, Global};
 use std::marker::Model;
+use std::vec::IntoIter;
 
 /// All members of one session, and what happened so far. What is sent comes to a member only where an event delivers it, so it
-/// may be lost, repeated, late and out of order. Contracts see the trace.
+/// may be lost, repeated, late and out of order. Contracts see the trace, and the sources of words as they stand.
 ///
 /// Whatever happens, the trace is an honest run of all members: what page workers take of a source is a prefix of what it
 /// drew, and all of it once its leaving is taken; each request and each repair is handed out exactly where its timer ran out.
@@ -32,12 +36,12 @@ pub struct World<W: Words + Drop> {
 }
 
 impl<W: Words + Drop> Model for World<W> {
-    ghost use Rattle.srm_world.specs.Traces.{Trace as Content};
-    ghost use Rattle.srm_world.specs.Worlds.{IsWorld};
+    ghost use Rattle.srm_world.specs.Words.{Played};
+    ghost use Rattle.srm_world.specs.Worlds.{IsWorld, played_of};
 
-    ghost Value = { Content };
+    ghost Value = { Played W };
 
-    ghost view = { λ w. w.trace };
+    ghost view = { played_of };
 
     ghost invariant = { IsWorld };
 }
@@ -48,13 +52,13 @@ impl<W: Words + Drop> World<W> {
     pub fn new(alloc: Global, configs: Vec<Config>, words: Vec<W>) -> Result<World<W>, AllocError>
         requires roster { IsRoster (started configs.items) }
         requires words { length words.items ≡ length configs.items }
-        ensures { IfOk result (λ world. world ≡ record { starts = started configs.items; entries = [] }) }
+        ensures { IfOk result (λ world. world ≡ record { trace = record { starts = started configs.items; entries = [] }; words = words.items }) }
     {
         let mut words = words.into_iter();
         let mut starts = Vec::new(alloc);
         let mut participants = Vec::new(alloc);
         for config in &configs {
-            let words = words.next().unwrap();
+            let words = next_source(&mut words);
             participants.push(Participant::new(alloc, *config, words, 0)?)?;
             starts.push(Start {
                 config: *config,
@@ -73,8 +77,8 @@ impl<W: Words + Drop> World<W> {
 
     /// What happened so far. It takes no memory.
     pub fn trace(&self) -> &Trace
-        ensures value { result.now ≡ self.now }
-        ensures lawful { IsLawful self.now }
+        ensures value { result.now ≡ self.now.trace }
+        ensures lawful { IsLawful self.now.trace }
     {
         &self.trace
     }
@@ -85,40 +89,57 @@ impl<W: Words + Drop> World<W> {
     /// Refused is [`WorldFault::Memory`] alone, and then the trace is as before.
     pub fn apply(&mut self, event: Event) -> Result<bool, WorldFault>
         requires { IsTimely event }
-        ensures follows { OnOk result (FollowsOne self.old.starts self.old.entries event self.new.entries) }
-        ensures applied { IfOk result (λ applied. IsTrue applied ↔ IsSome (asked self.old.starts self.old.entries event)) }
+        ensures follows { OnOk result (FollowsOne self.old.trace.starts self.old.trace.entries event self.new.trace.entries) }
+        ensures applied { IfOk result (λ applied. IsTrue applied ↔ IsSome (asked self.old.trace.starts self.old.trace.entries event)) }
         ensures err { OnErr result (self.new ≡ self.old) }
-        ensures starts { self.new.starts ≡ self.old.starts }
-        ensures lawful { IsLawful self.new }
+        ensures starts { self.new.trace.starts ≡ self.old.trace.starts }
+        ensures words { PlaysByWords W.draw self.old self.new }
+        ensures lawful { IsLawful self.new.trace }
     {
         self.happen(&event)
     }
 
     /// Applies events in order. Want of memory stops it with [`WorldFault::Memory`], and leaves the world as after the events
     /// before.
-    #[tactic(auto, using(crate::proofs::Stepping::runs_on))]
+    #[tactic(auto, using(crate::proofs::Stepping::runs_from))]
     pub fn run(&mut self, events: &[Event]) -> Result<(), WorldFault>
         requires { All IsTimely events.now }
-        ensures follows { OnOk result (Follows self.old.starts self.old.entries events.now self.new.entries) }
-        ensures err { OnErr result ((n : ℕ) × (n < length events.now) × Follows self.old.starts self.old.entries (take n events.now) self.new.entries) }
-        ensures starts { self.new.starts ≡ self.old.starts }
-        ensures lawful { IsLawful self.new }
+        ensures follows { OnOk result (Follows self.old.trace.starts self.old.trace.entries events.now self.new.trace.entries) }
+        ensures err { OnErr result ((n : ℕ) × (n < length events.now) × Follows self.old.trace.starts self.old.trace.entries (take n events.now) self.new.trace.entries) }
+        ensures starts { self.new.trace.starts ≡ self.old.trace.starts }
+        ensures words { PlaysByWords W.draw self.old self.new }
+        ensures lawful { IsLawful self.new.trace }
     {
-        let _ = &self.trace;
+        let _ = self.trace();
         for event in events {
-            self.happen(event)?;
+            self.step(event)?;
         }
+        Ok(())
+    }
+
+    /// Applies one event of several.
+    #[tactic(auto, using(crate::proofs::Stepping::stepped))]
+    fn step(&mut self, event: &Event) -> Result<(), WorldFault>
+        requires { IsTimely event.now }
+        ensures ok { OnOk result (Steps W.draw event.now self.old self.new) }
+        ensures err { OnErr result (self.new ≡ self.old) }
+        ensures words { PlaysByWords W.draw self.old self.new }
+        ensures starts { self.new.trace.starts ≡ self.old.trace.starts }
+        ensures lawful { IsLawful self.new.trace }
+    {
+        self.happen(event)?;
         Ok(())
     }
 
     /// Applies one event.
     fn happen(&mut self, event: &Event) -> Result<bool, WorldFault>
         requires { IsTimely event.now }
-        ensures follows { OnOk result (FollowsOne self.old.starts self.old.entries event.now self.new.entries) }
-        ensures applied { IfOk result (λ applied. IsTrue applied ↔ IsSome (asked self.old.starts self.old.entries event.now)) }
+        ensures follows { OnOk result (FollowsOne self.old.trace.starts self.old.trace.entries event.now self.new.trace.entries) }
+        ensures applied { IfOk result (λ applied. IsTrue applied ↔ IsSome (asked self.old.trace.starts self.old.trace.entries event.now)) }
         ensures err { OnErr result (self.new ≡ self.old) }
-        ensures starts { self.new.starts ≡ self.old.starts }
-        ensures lawful { IsLawful self.new }
+        ensures starts { self.new.trace.starts ≡ self.old.trace.starts }
+        ensures words { PlaysByWords W.draw self.old self.new }
+        ensures lawful { IsLawful self.new.trace }
     {
         self.sent.settle()?;
         let applied = self
@@ -126,4 +147,13 @@ impl<W: Words + Drop> World<W> {
             .append(&mut self.participants, &mut self.sent, event)?;
         Ok(applied)
     }
+}
+
+/// The next of the sources of words.
+fn next_source<W: Drop>(sources: &mut IntoIter<W>) -> W
+    requires { 0 < into_iter_len sources.old }
+    ensures items { into_iter_items sources.old ≡ result ∷ into_iter_items sources.new }
+    ensures len { into_iter_len sources.new + 1 ≡ into_iter_len sources.old }
+{
+    sources.next().unwrap()
 }

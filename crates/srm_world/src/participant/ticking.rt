@@ -15,7 +15,7 @@ impl<W: Words + Drop> Participant<W> {
     /// Hears bytes that came from another member.
     pub fn hear(&mut self, bytes: &[u8], now: u64) -> Result<Entry, AllocError>
         requires { now ≤ MOMENT }
-        ensures ok { IfOk result (λ e. GoesOn (Some now) e.input self.old self.new e) }
+        ensures ok { IfOk result (λ e. GoesOn W.draw (Some now) e.input self.old self.new e) }
         ensures reading { IfOk result (HearsBytes bytes.now self.old) }
         ensures err { OnErr result (Stays self.old self.new) }
     {
@@ -29,7 +29,7 @@ impl<W: Words + Drop> Participant<W> {
     /// A moment has come. The answer has what is to be sent to all others, with the bytes.
     pub fn tick(&mut self, now: u64) -> Result<(Entry, Items<Out>), AllocError>
         requires { now ≤ MOMENT }
-        ensures ok { IfOk result (λ sent. GoesOn (Some now) Input.Ticked self.old self.new sent.0) }
+        ensures ok { IfOk result (λ sent. GoesOn W.draw (Some now) Input.Ticked self.old self.new sent.0) }
         ensures outs { IfOk result (λ sent. SendsOuts self.old sent.0 sent.1) }
         ensures err { OnErr result (Stays self.old self.new) }
     {

@@ -25,7 +25,7 @@ impl Trace {
     ) -> Result<bool, AllocError>
         requires timely { IsTimely event.now }
         requires settled { sent.old.newest ≡ [] }
-        ensures ok { IfOk result (Appends participants.old participants.new (all_of sent.old) (all_of sent.new) event.now self.old self.new) }
+        ensures ok { IfOk result (Appends W.draw participants.old participants.new (all_of sent.old) (all_of sent.new) event.now self.old self.new) }
         ensures err { OnErr result (Keeps participants.old participants.new (all_of sent.old) (all_of sent.new)) }
         ensures same { OnErr result (self.new ≡ self.old) }
     {
@@ -48,7 +48,7 @@ fn entry_of<W: Words + Drop>(
 ) -> Result<Option<Entry>, AllocError>
     requires timely { IsTimely event.now }
     requires settled { sent.old.newest ≡ [] }
-    ensures entry { IfOk result (λ entry. IfSome entry (EntersAll participants.old participants.new (all_of sent.old) (all_of sent.new) event.now)) }
+    ensures entry { IfOk result (λ entry. IfSome entry (EntersAll W.draw participants.old participants.new (all_of sent.old) (all_of sent.new) event.now)) }
     ensures skipped { IfOk result (λ entry. IfNone entry (Skips participants.old participants.new (all_of sent.old) (all_of sent.new) event.now)) }
     ensures err { OnErr result (Keeps participants.old participants.new (all_of sent.old) (all_of sent.new)) }
 {

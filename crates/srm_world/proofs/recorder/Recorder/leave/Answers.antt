@@ -1,7 +1,8 @@
-use Rattle.std.proofs.Common.{ap, ◌∙◌, ◌∷◌, ◌++◌, [], Some}
+use Rattle.std.proofs.Common.{refl, ap, ◌∙◌, ◌∷◌, ◌++◌, [], Some}
 use Rattle.srm_entries.specs.declared.entry.Input.TheVariants.{AskedLeave}
 use Rattle.srm_world.specs.Recorders.{journal_of}
 use Rattle.srm_world.proofs.Journaling.{records, still_fits, fits_same, entries_same, lawful, lawful_after}
+use Rattle.srm_world.proofs.Wording.{recorded_by, unrecorded}
 use Rattle.srm_world.proofs.recorder.Recorder.leave.Goals as goal
 
 pub returns-clause-records : goal.returns-clause-records
@@ -27,3 +28,13 @@ returns-in_err-reserve-clause-lawful g c = lawful _ c.self.inside.agent (entries
 
 pub returns-in_err-answer-clause-lawful : goal.returns-in_err-answer-clause-lawful
 returns-in_err-answer-clause-lawful g c = lawful _ c.leave_noted.new.self (fits_same (journal_of c.self.inside) c.self.inside.agent c.leave_noted.new.self c.reserve.new.self.items c.self.invariant c.in_err-answer.ensures.err c.in_ok-reserve.ensures.items)
+
+pub returns-clause-words : goal.returns-clause-words
+returns-clause-words g c = rw (← c.self.view_is) (recorded_by g.W.Words.draw (Some c.args.now) AskedLeave (journal_of c.self.inside) c.self.inside.agent c.leave_noted.new.self c.in_ok-answer.field-0.entry _ c.self.invariant c.in_ok-answer.ensures.ok
+    (c.append.ensures ∙ ap (λ es. es ++ c.in_ok-answer.field-0.entry ∷ []) c.in_ok-reserve.ensures.items))
+
+pub returns-in_err-reserve-clause-words : goal.returns-in_err-reserve-clause-words
+returns-in_err-reserve-clause-words g c = rw (← c.self.view_is) (unrecorded g.W.Words.draw (journal_of c.self.inside) c.self.inside.agent.words _ _ c.in_err-reserve.ensures.items refl)
+
+pub returns-in_err-answer-clause-words : goal.returns-in_err-answer-clause-words
+returns-in_err-answer-clause-words g c = rw (← c.self.view_is) (unrecorded g.W.Words.draw (journal_of c.self.inside) c.self.inside.agent.words _ _ c.in_ok-reserve.ensures.items c.in_err-answer.ensures.err.words)
