@@ -1,7 +1,7 @@
 -- The next moment at which a tick does something.
 use Rattle.std.proofs.Common.{◌≡◌, ℕ, ◌<◌, ◌≤◌, max, Bool, true, false, List, refl, ap, sym, ◌∙◌, subst, inl, inr, arith}
-use Rattle.std.specs.Prelude.{◌⊎◌, Option, Some, None, nat_le, nat_lt, MatchOption}
-use Rattle.std.specs.Bool.{OnTrue}
+use Rattle.std.specs.Prelude.{◌⊎◌, Option, Some, None, Result, Ok, Err, OnErr, nat_le, nat_lt, MatchOption}
+use Rattle.std.specs.Bool.{OnTrue, OnFalse}
 use Rattle.std.proofs.lemmas.Bool.Decides.{nat_tests}
 use Rattle.srm_timers.specs.declared.arm.Armed.{Armed}
 use Rattle.srm_timers.specs.Arms.{ran_out}
@@ -17,7 +17,7 @@ use Rattle.srm_entries.specs.Timers.{fix_running}
 use Rattle.srm_agent.specs.Fits.{Fits}
 use Rattle.srm_entries.specs.Promises.{IsIdle}
 use Rattle.srm_agent_parts.specs.TimerCalls.{RunOutFirst, TimersNext, ask_running}
-use Rattle.srm_agent.specs.Waking.{IsEarly, IsNextAt, NextDue, report_next, sooner_of}
+use Rattle.srm_agent.specs.Waking.{IsEarly, IsLate, IsNextAt, NextDue, Stirs, report_next, sooner_of}
 use Rattle.srm_agent.proofs.NextDueIdle.{idle_before}
 use Rattle.srm_agent.proofs.NextDueRests.{gone_rests, idle_rests}
 use Rattle.srm_agent.proofs.NextDueStirs.{did_nothing, asks_then, fixes_then, reports_then, goes_then}
@@ -73,11 +73,19 @@ module _ {W : Type 0} (c : Config) (made : ℕ) (past : List Entry) (a : Content
   report_stirs : report_next a ≤ t → IsIdle c made past t → ⊥
   report_stirs come idle = reports_then c made past a t idle.0 h (did_nothing c made past t idle) here come
 
+come_stirs : {W : Type 0} (c : Config) (made : ℕ) (past : List Entry) (a : Content W) (t : ℕ) → Fits c made past a → is_gone (state past) ≡ false → (next : ℕ) → IsNextAt a next → next ≤ t → IsIdle c made past t → ⊥
+come_stirs c made past a t h here next at come idle = elim (one_came t at.timers at.waiting (report_next a) (subst (λ n. n ≤ t) at.is come)) [
+  | inl timer ↦ timer_stirs c made past a t h here at.timers (at.runs.each c past h.timers) timer idle
+  | inr other ↦ elim other [
+    | inl item ↦ item_stirs c made past a t h here at.waiting (at.waits.until c.rate c.depth h.bucket.calls h.bucket.fits) item idle
+    | inr report ↦ report_stirs c made past a t h here report idle
+  ]
+]
+
 pub first_due : {W : Type 0} (a : Content W) (next : ℕ) → is_gone a.state ≡ false → IsNextAt a next → NextDue a (Some (max a.last next))
 first_due a next active at = subst (λ n. NextDue a (Some (max a.last n))) (sym at.is) (record {
   each = λ c made past h.
       let here : is_gone (state past) ≡ false = ap is_gone (sym h.state) ∙ active in
-      let first : RunOutFirst past at.timers = at.runs.each c past h.timers in
       let t : ℕ = max a.last (sooner_of (lesser at.timers at.waiting) (report_next a)) in
       let last : a.last ≡ last_moment made past = h.last in (
         here,
@@ -86,13 +94,7 @@ first_due a next active at = subst (λ n. NextDue a (Some (max a.last n))) (sym 
             let sooner : u < sooner_of (lesser at.timers at.waiting) (report_next a) = omega (arith, last, l, before) in
             let idle : IsIdle c made past u = idle_before c made past a u h here (sooner_of (lesser at.timers at.waiting) (report_next a), record { timers = at.timers; waiting = at.waiting; runs = at.runs; waits = at.waits; is = refl }, sooner) l in
             (idle, idle_rests c made past u idle)),
-        (λ idle. elim (one_came t at.timers at.waiting (report_next a) (omega arith)) [
-          | inl timer ↦ timer_stirs c made past a t h here at.timers first timer idle
-          | inr other ↦ elim other [
-            | inl item ↦ item_stirs c made past a t h here at.waiting (at.waits.until c.rate c.depth h.bucket.calls h.bucket.fits) item idle
-            | inr report ↦ report_stirs c made past a t h here report idle
-          ]
-        ]),
+        come_stirs c made past a t h here (sooner_of (lesser at.timers at.waiting) (report_next a)) (record { timers = at.timers; waiting = at.waiting; runs = at.runs; waits = at.waits; is = refl }) (omega arith),
       );
 })
 
@@ -107,3 +109,20 @@ early a moment next at = go (nat_lt moment next) refl
     go : (b : Bool) → nat_lt moment next ≡ b → OnTrue b (IsEarly a moment)
     go true e = (next, at, grind (arith, nat_tests))
     go false e = tt
+
+pub late : {W : Type 0} (a : Content W) (moment next : ℕ) → IsNextAt a next → OnFalse (nat_lt moment next) (IsLate a moment)
+late a moment next at = go (nat_lt moment next) refl
+  where
+    go : (b : Bool) → nat_lt moment next ≡ b → OnFalse b (IsLate a moment)
+    go true e = tt
+    go false e = (next, at, grind (arith, nat_tests))
+
+-- what has come is done
+pub stirs : {W : Type 0} (a : Content W) (now moment : ℕ) → is_gone a.state ≡ false → moment ≡ max now a.last → IsLate a moment → Stirs now a
+stirs a now moment active counts (next, at, come) = record {
+  each = λ c made past h idle. come_stirs c made past a moment h (ap is_gone (sym h.state) ∙ active) next at come (subst (IsIdle c made past) (sym counts) idle);
+}
+
+pub stirs_at : {W X Y : Type 0} (r : Result X Y) (a : Content W) (now moment : ℕ) → is_gone a.state ≡ false → moment ≡ max now a.last → IsLate a moment → OnErr r (Stirs now a)
+stirs_at (Ok x) a now moment active counts late = tt
+stirs_at (Err y) a now moment active counts late = stirs a now moment active counts late

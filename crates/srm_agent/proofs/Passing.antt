@@ -1,16 +1,23 @@
 -- A tick at which nothing is due: time passes, and that is all.
 use Rattle.std.proofs.Common.{◌≡◌, ℕ, ◌≤◌, max, false, List, [], ◌∷◌, ◌++◌, refl, ap, sym, ◌∙◌, subst, arith}
-use Rattle.std.specs.Prelude.{Some, None}
+use Rattle.std.specs.Prelude.{Some, None, Result, Ok, Err, OnErr}
+use Rattle.srm_names.proofs.Lists.{at_parts}
+use Rattle.srm_entries.specs.declared.fault.AgentFault.{AgentFault}
 use Rattle.srm_entries.specs.declared.entry.Entry.{Entry}
 use Rattle.srm_entries.specs.declared.entry.Input.TheVariants.{Ticked}
+use Rattle.srm_entries.specs.declared.entry.Verdict.{Verdict}
+use Rattle.srm_entries.specs.declared.entry.Verdict.TheVariants.{Done}
 use Rattle.srm_entries.specs.Configs.{Config}
 use Rattle.srm_entries.specs.Entries.{state, is_gone, last_moment}
+use Rattle.srm_entries.specs.Verdicts.{VerdictRight}
+use Rattle.srm_entries.specs.Runs.{EntryRight}
+use Rattle.srm_agent.specs.declared.ticked.Ticked as answers
 use Rattle.srm_agent.specs.Contents.{Content}
 use Rattle.srm_agent.specs.Fits.{Fits}
-use Rattle.srm_agent.specs.Noting.{Enters}
+use Rattle.srm_agent.specs.Noting.{Enters, AnswersAs, IsTicked}
 use Rattle.srm_agent.specs.Outbox.{Passes}
 use Rattle.srm_agent.specs.Ticking.{tick_entry}
-use Rattle.srm_agent.specs.Waking.{IsEarly}
+use Rattle.srm_agent.specs.Waking.{IsEarly, Stirs}
 use Rattle.srm_agent.proofs.Entering.{of_member}
 use Rattle.srm_agent.proofs.NextDueIdle.{idle_at, idle_right, idle_fits}
 use Rattle.srm_agent.proofs.Quiet.{timers_stay}
@@ -37,3 +44,16 @@ wait_enters {W = W} draw a b d moment e here later early new passes last is = re
         (idle_right c made past a moment h idle early since) h.state refl
         (timers_stay c past (idle_at c past moment) a.timers (record { unheard = refl; drawn = refl; arms = refl; asks = refl; fixes = refl }) h.timers)
         (idle_fits c made past a moment h idle early since b.bucket passes) refl)
+
+-- a tick that has an entry is done
+pub tick_done : {W : Type 0} (draw : W → ℕ × W) (a b : Content W) (now : ℕ) (e : Entry) (answer : Result answers.Ticked AgentFault) → Enters draw (Some now) Ticked a b e → AnswersAs (IsTicked a.config.session e) e.verdict answer → OnErr answer (Stirs now a)
+tick_done draw a b now e (Ok x) enters answers = tt
+tick_done draw a b now e (Err fault) enters answers = record { each = λ c made past h idle. refused e.verdict (verdict c made past h) answers }
+  where
+    verdict : (c : Config) (made : ℕ) (past : List Entry) → Fits c made past a → e.verdict ≡ Done
+    verdict c made past h =
+        let right : EntryRight c made (record { before = past; this = e }) = (at_parts (EntryRight c made) past (e ∷ []) (enters.fits c made past h).run).1.0 in
+        subst (λ i. VerdictRight c past i e.verdict) enters.input_is right.verdict
+
+    refused : (v : Verdict) → v ≡ Done → AnswersAs (IsTicked a.config.session e) v (Err fault) → ⊥
+    refused v is h = absurd (subst (λ w. AnswersAs (IsTicked a.config.session e) w (Err fault)) is h)

@@ -1,5 +1,5 @@
 -- When an agent next does something, over all runs that it fits, and by what it keeps.
-use Rattle.std.specs.Prelude.{◌≡◌, ℕ, ◌<◌, ◌==◌, ◌&&◌, min, List, length, if◌then◌else◌, Option, Some, None}
+use Rattle.std.specs.Prelude.{◌≡◌, ℕ, ◌<◌, ◌≤◌, ◌==◌, ◌&&◌, min, List, length, if◌then◌else◌, Option, Some, None}
 use Rattle.srm_bucket.specs.declared.class.Class.TheVariants.{New}
 use Rattle.srm_bucket.specs.Fits.{Waits}
 use Rattle.srm_bucket.specs.Waiting.{queue}
@@ -10,7 +10,8 @@ use Rattle.srm_entries.specs.Entries.{is_leaving}
 use Rattle.srm_agent_parts.specs.TimerCalls.{TimersNext}
 use Rattle.srm_agent.specs.Contents.{Content}
 use Rattle.srm_agent.specs.Fits.{Fits}
-use Rattle.srm_entries.specs.Promises.{IsNextDue}
+use Rattle.srm_entries.specs.Promises.{IsIdle, IsNextDue}
+use Rattle.srm_agent.specs.Noting.{moment_that_counts}
 
 -- after whatever run the agent fits, this is the next moment at which a tick does something
 pub record NextDue {W : Type 0} (a : Content W) (moment : Option ℕ) : Type 0 where
@@ -36,3 +37,11 @@ pub record IsNextAt {W : Type 0} (a : Content W) (next : ℕ) : Type 0 where
 -- it is before that
 abbrev pub IsEarly : {W : Type 0} → Content W → ℕ → Type 0
 IsEarly a moment = (next : ℕ) × IsNextAt a next × (moment < next)
+
+-- it has come
+abbrev pub IsLate : {W : Type 0} → Content W → ℕ → Type 0
+IsLate a moment = (next : ℕ) × IsNextAt a next × (next ≤ moment)
+
+-- after whatever run the agent fits, a tick at this moment has something to do
+pub record Stirs {W : Type 0} (now : ℕ) (a : Content W) : Type 0 where
+  pub each : (c : Config) (made : ℕ) (past : List Entry) → Fits c made past a → IsIdle c made past (moment_that_counts (Some now) a.last) → ⊥

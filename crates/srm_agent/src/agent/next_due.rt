@@ -1,14 +1,14 @@
 //! When a tick next does something.
 
 ghost use Rattle.std.specs.Prelude.{◌≡◌, ◌&&◌, ◌==◌, max, length};
-ghost use Rattle.std.specs.Bool.{OnTrue};
+ghost use Rattle.std.specs.Bool.{OnFalse, OnTrue};
 ghost use Rattle.srm_bucket.specs.declared.class.Class.TheVariants.{New};
 ghost use Rattle.srm_bucket.specs.Fits.{Waits};
 ghost use Rattle.srm_bucket.specs.Waiting.{queue};
 ghost use Rattle.srm_deadlines.specs.Least.{lesser};
 ghost use Rattle.srm_entries.specs.Entries.{is_leaving};
 ghost use Rattle.srm_agent_parts.specs.TimerCalls.{TimersNext};
-ghost use Rattle.srm_agent.specs.Waking.{IsEarly, IsNextAt, NextDue, report_next, sooner_of};
+ghost use Rattle.srm_agent.specs.Waking.{IsEarly, IsLate, IsNextAt, NextDue, report_next, sooner_of};
 
 use super::Agent;
 use srm_agent_parts::earlier;
@@ -31,9 +31,10 @@ impl<W: Words + Drop> Agent<W> {
     }
 
     /// Whether a tick at a moment, in microseconds, has nothing to do, where this member isn't gone.
-    #[tactic(auto, using(crate::proofs::NextDue::early))]
+    #[tactic(auto, using(crate::proofs::NextDue::early, crate::proofs::NextDue::late))]
     pub(super) fn is_early(&self, moment: u64) -> bool
-        ensures { OnTrue result (IsEarly self.now moment) }
+        ensures early { OnTrue result (IsEarly self.now moment) }
+        ensures late { OnFalse result (IsLate self.now moment) }
     {
         moment < self.next_at()
     }

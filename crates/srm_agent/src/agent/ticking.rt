@@ -5,7 +5,7 @@ ghost use Rattle.srm_names.specs.declared.limits.TheConstants.{MOMENT};
 ghost use Rattle.srm_entries.specs.Entries.{is_gone};
 ghost use Rattle.srm_agent.specs.Noting.{Enters, Stays, AnswersAs, Does, IsTicked, still_entry};
 ghost use Rattle.srm_agent.specs.Ticking.{IsDue, tick_entry};
-ghost use Rattle.srm_agent.specs.Waking.{IsEarly};
+ghost use Rattle.srm_agent.specs.Waking.{IsEarly, Stirs};
 
 use super::Agent;
 use super::due::{Due, HandedOut};
@@ -23,12 +23,14 @@ impl<W: Words + Drop> Agent<W> {
     /// A moment has come: what is due is asked for and repaired, what the rate lets go is sent, and at the end a session message
     /// where one is due, or the farewell of a member that is leaving and has sent all that it drew. Nothing where it is gone.
     ///
-    /// Refused is [`AgentFault::Memory`] alone.
+    /// Refused is [`AgentFault::Memory`] alone, and not where nothing is due.
+    #[tactic(auto, using(crate::proofs::NextDue::stirs, crate::proofs::NextDue::stirs_at))]
     pub fn tick_noted(&mut self, now: u64) -> Result<Noted<Ticked>, AllocError>
         requires { now ≤ MOMENT }
         ensures ok { IfOk result (λ noted. Enters W.draw (Some now) Input.Ticked self.old self.new noted.entry) }
         ensures answer { IfOk result (λ noted. AnswersAs (IsTicked self.old.config.session noted.entry) noted.entry.verdict noted.answer) }
         ensures err { OnErr result (Stays self.old self.new) }
+        ensures due { OnErr result (Stirs now self.old) }
     {
         let moment = self.moment(now);
         if self.is_gone() {
@@ -42,10 +44,11 @@ impl<W: Words + Drop> Agent<W> {
     }
 
     /// [`tick_noted`](Agent::tick_noted) without its entry.
-    #[tactic(auto, using(crate::proofs::Entering::tick_allowed))]
+    #[tactic(auto, using(crate::proofs::Entering::tick_allowed, crate::proofs::Passing::tick_done))]
     pub fn tick(&mut self, now: u64) -> Result<Ticked, AgentFault>
         requires { now ≤ MOMENT }
-        ensures { Does W.draw (Some now) Input.Ticked (IsTicked self.old.config.session) self.old self.new result }
+        ensures does { Does W.draw (Some now) Input.Ticked (IsTicked self.old.config.session) self.old self.new result }
+        ensures due { OnErr result (Stirs now self.old) }
     {
         self.tick_noted(now)?.answer
     }
