@@ -1,4 +1,4 @@
--- Members at rest on a page have released the same.
+-- Members at rest on a page know of the same, and have released the same.
 use Rattle.std.proofs.Common.{◌≡◌, ℕ, zero, suc, ◌==◌, ◌+◌, ◌≤◌, ◌<◌, true, false, List, [], ◌∷◌, ◌++◌, map, refl, ap, sym, ◌∙◌, subst, arith, inl}
 use Rattle.std.specs.Prelude.{Option, Some, option_to_list}
 use Rattle.std.specs.List.{AllByRecursion}
@@ -14,7 +14,7 @@ use Rattle.srm_names.proofs.Snoc.{steps_front}
 use Rattle.srm_codec.specs.declared.datagram.Datagram.{Datagram}
 use Rattle.srm_codec.specs.declared.datagram.Datagram.TheVariants.{Data, Request, Repair, Session}
 use Rattle.srm_entries.specs.declared.entry.Entry.{Entry}
-use Rattle.srm_entries.specs.Entries.{heard, drawn, held_at, is_held, is_missing, known}
+use Rattle.srm_entries.specs.Entries.{heard, drawn, held_at, is_held, is_missing, known, released}
 use Rattle.srm_entries.specs.Verdicts.{stream_on}
 use Rattle.srm_entries.specs.Runs.{EntryRight}
 use Rattle.srm_entries.proofs.Responding.{run_at}
@@ -22,7 +22,7 @@ use Rattle.srm_entries.proofs.Drawing.{drawn_once}
 use Rattle.srm_entries.proofs.Reporting.{Reports, report_sent, known_after_tick, hearer_knows}
 use Rattle.srm_world.specs.declared.start.Start.{Start}
 use Rattle.srm_world.specs.Traces.{of_member, IsRunOf, IsHonest}
-use Rattle.srm_world.specs.Claims.{IsReportOn, HeardLast, AgreesAtRest, RestLaw}
+use Rattle.srm_world.specs.Claims.{IsReportOn, HeardLast, AtRest, RestLaw}
 use Rattle.srm_world.proofs.Members.{MemberRun, of_member-append, of_member-own, run_of_entry}
 use Rattle.srm_world.proofs.Honesty.{held_was_drawn}
 use Rattle.srm_world.proofs.Holding.{held_under, held_known, held_to_known}
@@ -100,8 +100,16 @@ map_alike f g from (suc n) e =
     ap (λ o. o ∷ map f (count_up (from + 1) n)) (e from (omega arith) (omega arith))
     ∙ ap (λ os. g from ∷ os) (map_alike f g (from + 1) n (λ j l u. e j (omega arith) (omega arith)))
 
-agrees_at_rest : (starts : List Start) (es : List Entry) → IsRunOf starts es → IsHonest es → AgreesAtRest es
-agrees_at_rest starts es run honest m k page rest source =
+known_alike : (starts : List Start) (es : List Entry) (m k : ℕ) (page : Page) → IsRunOf starts es → AtRest es m k page → (source : ℕ) → known (of_member m es) (stream_on source page) ≡ known (of_member k es) (stream_on source page)
+known_alike starts es m k page run rest source =
+    meet (known (of_member m es) (stream_on source page)) (known (of_member k es) (stream_on source page)) (knows_as_much starts es k m page run rest.other source) (knows_as_much starts es m k page run rest.one source)
+  where
+    meet : (a b : ℕ) → a ≤ b → b ≤ a → a ≡ b
+    meet a b p q = omega arith
+
+released_alike : (starts : List Start) (es : List Entry) (m k : ℕ) (page : Page) → IsRunOf starts es → IsHonest es → AtRest es m k page → (source : ℕ)
+    → released (of_member m es) (stream_on source page) ≡ released (of_member k es) (stream_on source page)
+released_alike starts es m k page run honest rest source =
     ap (λ n. until_none (map (one_at m) (count_up 1 n))) (held_to_known (of_member m es) s one_none ∙ same)
     ∙ ap until_none (map_alike (one_at m) (one_at k) 1 (known (of_member k es) s) (λ j l u. alike j l (within j (known (of_member k es) s) u)))
     ∙ ap (λ n. until_none (map (one_at k) (count_up 1 n))) (sym (held_to_known (of_member k es) s other_none))
@@ -112,14 +120,11 @@ agrees_at_rest starts es run honest m k page rest source =
     one_at : ℕ → ℕ → Option Drawop
     one_at member j = held_at (of_member member es) (named s j)
 
-    meet : (a b : ℕ) → a ≤ b → b ≤ a → a ≡ b
-    meet a b p q = omega arith
-
     within : (j n : ℕ) → j < 1 + n → j ≤ n
     within j n l = omega arith
 
     same : known (of_member m es) s ≡ known (of_member k es) s
-    same = meet (known (of_member m es) s) (known (of_member k es) s) (knows_as_much starts es k m page run rest.other source) (knows_as_much starts es m k page run rest.one source)
+    same = known_alike starts es m k page run rest source
 
     one_none : (n : FullName) → n.stream ≡ s → is_missing (of_member m es) n ≡ false
     one_none n q = rest.one_complete n (ap (λ (t : Stream). t.page) q)
@@ -133,4 +138,7 @@ agrees_at_rest starts es run honest m k page rest source =
         (held_known (of_member k es) s j (other_none (named s j) refl) l u)
 
 pub rest_law : RestLaw
-rest_law t run honest = agrees_at_rest t.starts t.entries run honest
+rest_law t run honest m k page rest = record {
+  knowledge = known_alike t.starts t.entries m k page run rest;
+  releases = released_alike t.starts t.entries m k page run honest rest;
+}

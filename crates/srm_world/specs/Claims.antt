@@ -59,10 +59,14 @@ pub record AtRest (es : List Entry) (m k : ℕ) (page : Page) : Type 0 where
   pub one_complete : NoneMissingOn (of_member m es) page
   pub other_complete : NoneMissingOn (of_member k es) page
 
--- members at rest on a page have released the same there
+-- two members know of the same drawops on a page, by source, and have released the same there
+pub record AgreeOn (es : List Entry) (m k : ℕ) (page : Page) : Type 0 where
+  pub knowledge : (source : ℕ) → known (of_member m es) (stream_on source page) ≡ known (of_member k es) (stream_on source page)
+  pub releases : (source : ℕ) → released (of_member m es) (stream_on source page) ≡ released (of_member k es) (stream_on source page)
+
+-- members at rest on a page agree there
 abbrev pub AgreesAtRest : List Entry → Type 0
-AgreesAtRest es = (m k : ℕ) (page : Page) → AtRest es m k page
-    → (source : ℕ) → released (of_member m es) (stream_on source page) ≡ released (of_member k es) (stream_on source page)
+AgreesAtRest es = (m k : ℕ) (page : Page) → AtRest es m k page → AgreeOn es m k page
 
 abbrev pub RestLaw : Type 0
 RestLaw = (t : Trace) → IsRun t → IsHonest t.entries → AgreesAtRest t.entries

@@ -306,6 +306,23 @@ no_word_stays h = absurd (let k : 5 ∷ 7 ∷ [] ≡ 7 ∷ [] = h.1 in cc)
 another_wait : AreByWords draw_listed (in_roster 1 2 4204) (5 ∷ 7 ∷ []) (hears_c 200007 ∷ []) (7 ∷ []) → ⊥
 another_wait h = let k : 200007 ≡ 200005 = h.0 in absurd (omega (arith, k))
 
+-- two timers of one entry take two words, in their order
+abbrev two_arms : Entry
+two_arms = hears 1 10 (Data c) (ask_arm 1 0 200005 ∷ ask_arm 2 0 200007 ∷ [])
+
+in_their_order : AreByWords draw_listed (in_roster 1 2 4204) (5 ∷ 7 ∷ []) (two_arms ∷ []) []
+in_their_order = (refl, (refl, refl))
+
+not_swapped : AreByWords draw_listed (in_roster 1 2 4204) (7 ∷ 5 ∷ []) (two_arms ∷ []) [] → ⊥
+not_swapped h = let k : 200005 ≡ 200007 = h.0 in absurd (omega (arith, k))
+
+-- and so do those of two entries
+over_two_entries : AreByWords draw_listed (in_roster 1 2 4204) (5 ∷ 7 ∷ []) (hears_c 200005 ∷ hears 1 11 (Data c) (ask_arm 2 0 200007 ∷ []) ∷ []) []
+over_two_entries = (refl, (refl, refl))
+
+no_word_without_a_timer : AreByWords draw_listed (in_roster 1 2 4204) (5 ∷ 7 ∷ []) [] (7 ∷ []) → ⊥
+no_word_without_a_timer h = absurd (let k : 7 ∷ [] ≡ 5 ∷ 7 ∷ [] = h in cc)
+
 -- each member has its own source
 own_words : AreByOwnWords draw_listed two ((5 ∷ []) ∷ (7 ∷ []) ∷ []) (hears_c 200007 ∷ []) ((5 ∷ []) ∷ [] ∷ [])
 own_words = record { count = refl; each = at }
@@ -315,3 +332,9 @@ own_words = record { count = refl; each = at }
     at (suc zero) a u v p q r = subst (λ (s : Start). AreByWords draw_listed s.config u (hears_c 200007 ∷ []) v) (same_Some (start 2 1) a p)
         (subst (λ w. AreByWords draw_listed (start 2 1).config w (hears_c 200007 ∷ []) v) (same_Some (7 ∷ []) u q) (subst (λ w. AreByWords draw_listed (start 2 1).config (7 ∷ []) (hears_c 200007 ∷ []) w) (same_Some [] v r) (refl, refl)))
     at (suc (suc m)) a u v p q r = absurd (let k : None ≡ Some a = p in cc)
+
+abbrev no_words : List ℕ
+no_words = []
+
+the_other_source_stays : AreByOwnWords draw_listed two ((5 ∷ []) ∷ (7 ∷ []) ∷ []) (hears_c 200007 ∷ []) (no_words ∷ no_words ∷ []) → ⊥
+the_other_source_stays h = absurd (let k : no_words ≡ 5 ∷ [] = h.each 0 (start 2 0) (5 ∷ []) no_words refl refl refl in cc)

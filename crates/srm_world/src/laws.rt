@@ -8,7 +8,8 @@ pub fn takes()
     ensures { TakesLaw }
 {}
 
-/// The law of rest: in every honest run of several members, two that are at rest on a page have released the same there.
+/// The law of rest: in every honest run of several members, two that are at rest on a page know of the same drawops there, and
+/// have released the same.
 pub fn rests()
     ensures { RestLaw }
 {}
