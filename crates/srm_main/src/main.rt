@@ -1,18 +1,12 @@
 //! The program: a world of scripts.
 #![tactic(auto)]
 
-mod fault;
 mod help;
-mod input;
-mod report;
-mod run_script;
-mod script;
 #[cfg(test)]
 mod tests;
 
-use fault::Fault;
 use help::{HELP, USAGE};
-use run_script::run_script;
+use srm_script::{Fault, run_script};
 use std::io::{ErrorKind, Write, writer};
 use std::process::ExitCode;
 use std::rt::Env;

@@ -1,6 +1,0 @@
-use Rattle.std.specs.Prelude.{All}
-use Rattle.srm_world.specs.Events.{IsTimely}
-use Rattle.srm_main.proofs.script.read_script.Given as goal
-
-abbrev pub invariant-loop-number : goal.invariant-loop-number
-invariant-loop-number l = All IsTimely l.events.items

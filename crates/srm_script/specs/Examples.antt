@@ -1,0 +1,24 @@
+-- Numbers of a script.
+use Rattle.std.specs.Prelude.{codes, refl}
+use Rattle.std.specs.Fmt.{digits}
+use Rattle.std.proofs.Common.{arith, inl, inr}
+use Rattle.srm_names.specs.declared.limits.TheConstants.{MOMENT}
+use Rattle.srm_script.specs.Decimals.{IsDecimalUpTo, IsPadded}
+
+zero_is_a_number : IsDecimalUpTo 31 (codes "0") 0
+unfolding digits
+zero_is_a_number = (omega arith, refl)
+
+the_greatest_member : IsDecimalUpTo 31 (codes "31") 31
+unfolding digits
+the_greatest_member = (omega arith, refl)
+
+the_greatest_moment : IsDecimalUpTo MOMENT (codes "281474976710656") MOMENT
+unfolding digits
+the_greatest_moment = (omega arith, refl)
+
+a_leading_zero : IsPadded (codes "01")
+a_leading_zero = inr (refl, omega arith)
+
+a_plus : IsPadded (codes "+1")
+a_plus = inl refl

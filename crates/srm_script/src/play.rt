@@ -1,0 +1,88 @@
+//! Running a script over any streams.
+
+ghost use Rattle.std.specs.Prelude.{All};
+ghost use Rattle.srm_world.specs.Events.{IsTimely};
+
+use crate::fault::Fault;
+use crate::input::read_input;
+use crate::report::Report;
+use crate::script::{Script, read_script};
+use srm_timers::Listed;
+use srm_world::{Event, World};
+use std::alloc::Global;
+use std::io;
+use std::io::{BufWriter, Read, Write};
+
+/// Reads a script to its end, runs it and prints what happens. A fault goes to `err`, alone where the script has a bad
+/// line, since no line runs before all are checked. Answers the program's status.
+pub fn run_script<I: Read, O: Write, E: Write>(
+    alloc: Global,
+    reader: &mut I,
+    out: &mut O,
+    err: &mut E,
+) -> u8 {
+    match run(alloc, reader, out) {
+        Ok(()) => 0,
+        Err(fault) => fault.tell(err),
+    }
+}
+
+fn run<I: Read, O: Write>(alloc: Global, reader: &mut I, out: &mut O) -> Result<(), Fault> {
+    let input = read_input(alloc, reader)?;
+    let Script {
+        configs,
+        words,
+        timers,
+        events,
+    } = read_script(alloc, input.as_slice())?;
+    let mut world = World::new(alloc, configs, words)?;
+    let mut out = BufWriter::new(alloc, out).map_err(Fault::of_output)?;
+    let ran = run_events(&mut world, events, &mut Report::new(timers), &mut out);
+    // What was printed before want of memory is still written.
+    let flushed = out.flush();
+    ran?;
+    flushed.map_err(Fault::of_output)
+}
+
+fn run_events<O: Write>(
+    world: &mut World<Listed>,
+    events: Vec<Event>,
+    report: &mut Report,
+    out: &mut O,
+) -> Result<(), Fault>
+    requires { All IsTimely events.items }
+{
+    for event in events {
+        run_event(world, event, report, out)?;
+    }
+    Ok(())
+}
+
+/// Applies an event and prints what it did. Refused are want of memory, and what the output refuses.
+pub fn run_event<O: Write>(
+    world: &mut World<Listed>,
+    event: Event,
+    report: &mut Report,
+    out: &mut O,
+) -> Result<(), Fault>
+    requires { IsTimely event }
+{
+    let printed = if world.apply(event)? {
+        print_newest(world, report, out)
+    } else {
+        writeln!(out, "skipped")
+    };
+    printed.map_err(Fault::of_output)
+}
+
+/// Prints the newest entry of a world, if there is one.
+pub fn print_newest<O: Write>(
+    world: &World<Listed>,
+    report: &mut Report,
+    out: &mut O,
+) -> io::Result<()> {
+    match world.trace().entries().last() {
+        None => Ok(()),
+        Some(entry) => report.print_entry(out, entry),
+    }
+}

@@ -1,0 +1,179 @@
+//! The lines that tell what happened.
+
+ghost use Rattle.std.specs.List.{AllByRecursion};
+ghost use Rattle.srm_codec.specs.Spelling.{IsSpellable};
+
+mod shown;
+
+use shown::{ShownArm, ShownMessage, ShownName, ShownPage};
+use srm_agent::{AgentFault, AgentState, Arm, Cause, Effects, Entry, Input, Verdict};
+use srm_codec::{Datagram, length};
+use srm_names::Name;
+use std::io;
+use std::io::Write;
+
+/// What is printed, and how far it got.
+#[derive(Drop)]
+pub struct Report {
+    /// Whether timers are printed.
+    timers: bool,
+    /// How many datagrams were sent so far.
+    sent: u64,
+}
+
+impl Report {
+    pub fn new(timers: bool) -> Report {
+        Report { timers, sent: 0 }
+    }
+
+    /// Prints the lines of an entry.
+    pub fn print_entry<W: Write>(&mut self, out: &mut W, entry: &Entry) -> io::Result<()>
+        requires { AllByRecursion IsSpellable entry.now.effects.outs }
+    {
+        let member = entry.member.number();
+        match entry.verdict {
+            Verdict::Done => self.print_done(out, member, &entry.input, &entry.effects),
+            Verdict::Ignored(cause) => writeln!(
+                out,
+                "heard {member} ignored {}",
+                number_of_cause(cause)
+            ),
+            Verdict::Refused(fault) => writeln!(out, "refused {member} {}", number_of_fault(fault)),
+        }
+    }
+
+    fn print_done<W: Write>(
+        &mut self,
+        out: &mut W,
+        member: u8,
+        input: &Input,
+        effects: &Effects,
+    ) -> io::Result<()>
+        requires { AllByRecursion IsSpellable effects.now.outs }
+    {
+        match input {
+            Input::Drew(page, _) => print_drew(out, member, &ShownPage(*page), effects),
+            Input::Heard(_) | Input::Noise => {
+                writeln!(out, "heard {member} taken")?;
+                self.print_arms(out, member, effects.arms.as_slice())
+            }
+            Input::Ticked => self.print_tick(out, member, effects),
+            Input::Showed(page) => writeln!(out, "shown {member} {}", ShownPage(*page)),
+            Input::AskedLeave => writeln!(out, "leaving {member}"),
+            Input::Gave(slot) => {
+                writeln!(
+                    out,
+                    "gave {member} {slot} {}",
+                    ShownMessage(&effects.message)
+                )
+            }
+            Input::Took(slot) => {
+                writeln!(
+                    out,
+                    "took {member} {slot} {}",
+                    ShownMessage(&effects.message)
+                )
+            }
+        }
+    }
+
+    /// What is asked for, repaired and sent, and whether the member is gone.
+    fn print_tick<W: Write>(&mut self, out: &mut W, member: u8, effects: &Effects) -> io::Result<()>
+        requires { AllByRecursion IsSpellable effects.now.outs }
+    {
+        print_names(out, "ask", member, effects.asks.as_slice())?;
+        print_names(out, "fix", member, effects.fixes.as_slice())?;
+        self.print_arms(out, member, effects.arms.as_slice())?;
+        self.print_outs(out, member, effects.outs.as_slice())?;
+        if becomes_gone(effects) {
+            writeln!(out, "gone {member}")?;
+        }
+        Ok(())
+    }
+
+    /// A line for each timer, where a script asks for them.
+    fn print_arms<W: Write>(&self, out: &mut W, member: u8, arms: &[Arm]) -> io::Result<()> {
+        if self.timers {
+            for arm in arms {
+                writeln!(out, "arm {member} {}", ShownArm(arm))?;
+            }
+        }
+        Ok(())
+    }
+
+    /// A line for each datagram that was sent, with its number in the order of sending.
+    fn print_outs<W: Write>(&mut self, out: &mut W, member: u8, outs: &[Datagram]) -> io::Result<()>
+        requires { AllByRecursion IsSpellable outs.now }
+    {
+        for datagram in outs {
+            let kind = kind_of(datagram);
+            writeln!(
+                out,
+                "out {} {member} {kind} {}",
+                self.sent,
+                length(datagram)
+            )?;
+            // No world lives long enough to send so many.
+            self.sent = self.sent.saturating_add(1);
+        }
+        Ok(())
+    }
+}
+
+/// Whether this tick sent the farewell. One that is gone sends nothing more.
+fn becomes_gone(effects: &Effects) -> bool {
+    matches!(effects.state, AgentState::Gone) && !effects.outs.as_slice().is_empty()
+}
+
+fn print_drew<W: Write>(
+    out: &mut W,
+    member: u8,
+    page: &ShownPage,
+    effects: &Effects,
+) -> io::Result<()> {
+    match &effects.drawn {
+        None => Ok(()),
+        Some(drawop) => writeln!(out, "drew {member} {page} {}", drawop.name.number()),
+    }
+}
+
+fn print_names<W: Write>(out: &mut W, what: &str, member: u8, names: &[Name]) -> io::Result<()> {
+    for name in names {
+        writeln!(out, "{what} {member} {}", ShownName(*name))?;
+    }
+    Ok(())
+}
+
+fn kind_of(datagram: &Datagram) -> &'static str {
+    match datagram {
+        Datagram::Data(_) => "data",
+        Datagram::Request { .. } => "request",
+        Datagram::Repair { .. } => "repair",
+        Datagram::Session { .. } => "session",
+    }
+}
+
+/// The number that a script's reader knows a cause by.
+fn number_of_cause(cause: Cause) -> u8 {
+    match cause {
+        Cause::Own => 1,
+        Cause::Gone => 2,
+        Cause::Conflict => 3,
+        Cause::PageLimit => 4,
+        Cause::BeyondFinal => 5,
+        Cause::Decode(_) => 6,
+        Cause::Stranger => 7,
+    }
+}
+
+/// The number that a script's reader knows a refusal by.
+fn number_of_fault(fault: AgentFault) -> u8 {
+    match fault {
+        AgentFault::Leaving => 1,
+        AgentFault::Gone => 2,
+        AgentFault::PageLimit => 3,
+        AgentFault::StreamFull => 4,
+        AgentFault::BodyLong => 5,
+        AgentFault::Memory => 6,
+    }
+}

@@ -1,0 +1,19 @@
+//! Scripts at worked lines: what they print, which are refused, and what streams that fail make of them.
+//!
+//! The tests stand in a crate of their own: the reading and the printing are proved once, and not a second time with them.
+#![tactic(auto)]
+
+#[cfg(test)]
+mod lines;
+#[cfg(test)]
+mod report;
+#[cfg(test)]
+mod rows;
+#[cfg(test)]
+mod running;
+#[cfg(test)]
+mod stored;
+#[cfg(test)]
+mod streams;
+#[cfg(test)]
+mod worlds;

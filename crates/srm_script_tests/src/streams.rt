@@ -1,0 +1,103 @@
+//! Streams that fail, and inputs that are long.
+
+ghost use Rattle.std.specs.Prelude.{◌≤◌, IfOk};
+
+use crate::running::{repeated, run_on};
+use srm_script::run_script;
+use std::alloc::Global;
+use std::io;
+use std::io::{Read, Write};
+use std::test::Fail;
+
+/// A script of 1,000,000 bytes, all of whose 90,908 events are skipped.
+fn longest_script(alloc: Global) -> Result<Vec<u8>, Fail> {
+    let mut script = b"members 10\n".to_vec(alloc)?;
+    script.extend_from_slice(repeated(alloc, "give 0 200\n", 90_907)?.as_slice())?;
+    script.extend_from_slice(b"give 10 200\n".as_slice())?;
+    Ok(script)
+}
+
+#[test]
+fn an_input_has_at_most_a_million_bytes(rt: HostRuntime) -> Result<(), Fail> {
+    let alloc = rt.alloc();
+    let mut script = longest_script(alloc)?;
+    assert_eq!(rt; script.len(), 1_000_000);
+    let good = run_on(alloc, script.as_slice());
+    assert!(rt; good.out == repeated(alloc, "skipped\n", 90_908)?);
+    assert_eq!(rt; good.status, 0);
+    script.push(b'\n')?;
+    // A bad line of what is too long isn't named.
+    for long in [script, repeated(alloc, "x", 1_000_001)?] {
+        let refused = run_on(alloc, long.as_slice());
+        assert!(rt; refused.out.is_empty());
+        assert_eq!(rt; refused.err.as_slice(), b"input too long\n".as_slice());
+        assert_eq!(rt; refused.status, 1);
+    }
+    Ok(())
+}
+
+/// Reads or takes so many bytes, and then fails.
+#[derive(Drop)]
+struct Failing {
+    left: usize,
+}
+
+impl Failing {
+    fn pass(&mut self, bytes: usize) -> io::Result<usize>
+        ensures { IfOk result (λ passed. passed ≤ bytes) }
+    {
+        if self.left == 0 {
+            return Err(io::Error::from(io::ErrorKind::BrokenPipe));
+        }
+        let passed = bytes.min(self.left);
+        self.left -= passed;
+        Ok(passed)
+    }
+}
+
+impl Read for Failing {
+    fn read(&mut self, buf: &mut [u8]) -> io::Result<usize> {
+        let passed = self.pass(buf.len())?;
+        buf[..passed].fill(b'x');
+        Ok(passed)
+    }
+}
+
+impl Write for Failing {
+    fn write(&mut self, buf: &[u8]) -> io::Result<usize> {
+        self.pass(buf.len())
+    }
+
+    fn flush(&mut self) -> io::Result<()> {
+        Ok(())
+    }
+}
+
+#[test]
+fn streams_that_fail(rt: HostRuntime) -> Result<(), Fail> {
+    let alloc = rt.alloc();
+    for left in [0usize, 1, 40_000] {
+        let mut reader = Failing { left };
+        let mut out = Vec::new(alloc);
+        let mut err = Vec::new(alloc);
+        assert_eq!(rt; run_script(alloc, &mut reader, &mut out, &mut err), 1);
+        assert_eq!(rt; err.as_slice(), b"srm: input\n".as_slice());
+        assert!(rt; out.is_empty());
+    }
+    let script = longest_script(alloc)?;
+    for left in [0usize, 1, 40_000, 727_263] {
+        let mut reader = script.as_slice();
+        let mut out = Failing { left };
+        let mut err = Vec::new(alloc);
+        assert_eq!(rt; run_script(alloc, &mut reader, &mut out, &mut err), 1);
+        assert_eq!(rt; err.as_slice(), b"srm: output\n".as_slice());
+    }
+    // Nobody is told, but the status stands.
+    let mut reader = b"x".as_slice();
+    let mut out = Vec::new(alloc);
+    assert_eq!(rt;
+        run_script(alloc, &mut reader, &mut out, &mut Failing { left: 0 }),
+        1
+    );
+    Ok(())
+}
