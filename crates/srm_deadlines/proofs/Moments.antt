@@ -9,9 +9,10 @@ use Rattle.srm_names.proofs.Same.{same_name-is}
 use Rattle.srm_names.proofs.Orders.{stands_once}
 use Rattle.srm_deadlines.specs.declared.by_name.Place.{Place}
 use Rattle.srm_deadlines.specs.declared.timed.Timed.{Timed}
-use Rattle.srm_deadlines.specs.Places.{names_of, is_timed, moment_among, value_at, has_place, Holds, Sets, SetsAll, HasPlaces}
+use Rattle.srm_deadlines.specs.Places.{names_of, is_timed, moment_among, value_at, has_place, Holds, GivesPlaces, Sets, SetsAll, HasPlaces}
 use Rattle.srm_deadlines.proofs.Same.{same_itself}
 use Rattle.srm_deadlines.proofs.Order.{ascending_tail}
+use Rattle.srm_deadlines.proofs.Tables.{gives_none, given_on}
 
 abbrev given : Option Timed → Option ℕ → Option ℕ
 given found o = or_else (option_map (λ t. t.moment) found) o
@@ -47,10 +48,11 @@ more (x ∷ xs) (suc i) t n o asc lt is = go (more xs i t n o (ascending_tail x.
 pub record SetSoFar (moments : List Timed) (old new : List (Place ℕ)) : Type 0 where
   pub sets : SetsAll moments old new
   pub held : Holds old new
+  pub only : GivesPlaces [] old new
   pub length : length new ≡ length old
 
 pub none_set : (places : List (Place ℕ)) → SetSoFar [] places places
-none_set places = record { sets = record { each = λ n. refl }; held = record { each = λ n h. h }; length = refl }
+none_set places = record { sets = record { each = λ n. refl }; held = record { each = λ n h. h }; only = gives_none [] places places refl; length = refl }
 
 pub more_sets : (moments : List Timed) (i : ℕ) (t : Timed) (old now new : List (Place ℕ)) → ascending name_below (names_of moments) ≡ true → i < length moments → t ≡ get_or moments i t
     → SetsAll (take i moments) old now → Sets t.name (Some t.moment) now new → SetsAll (take (i + 1) moments) old new
@@ -60,10 +62,11 @@ more_sets moments i t old now new asc lt is so sets = record {
 }
 
 pub one_more : (moments : List Timed) (i : ℕ) (t : Timed) (old now new : List (Place ℕ)) → ascending name_below (names_of moments) ≡ true → i < length moments → t ≡ get_or moments i t
-    → SetSoFar (take i moments) old now → Sets t.name (Some t.moment) now new → Holds now new → length new ≡ length now → SetSoFar (take (i + 1) moments) old new
-one_more moments i t old now new asc lt is so sets held len = record {
+    → SetSoFar (take i moments) old now → Sets t.name (Some t.moment) now new → Holds now new → GivesPlaces [] now new → length new ≡ length now → SetSoFar (take (i + 1) moments) old new
+one_more moments i t old now new asc lt is so sets held only len = record {
   sets = more_sets moments i t old now new asc lt is so.sets sets;
   held = record { each = λ n h. held.each n (so.held.each n h) };
+  only = given_on old now new so.only only;
   length = len ∙ so.length;
 }
 

@@ -1,6 +1,6 @@
 -- What a table by name has, read as places.
 use Rattle.std.proofs.Common.{◌≡◌, ℕ, ◌+◌, ◌<◌, Bool, true, false, ◌||◌, cond, add-zero, List, [], ◌∷◌, length, take, get_or, Option, Some, None, refl, sym, ap, subst, ◌∙◌, inl, inr, ◌⊎◌}
-use Rattle.std.specs.Prelude.{find, is_some, if◌then◌else◌, Result, Ok, Err, OnOk, OnErr, IfOk}
+use Rattle.std.specs.Prelude.{find, is_some, IfSome, if◌then◌else◌, Result, Ok, Err, OnOk, OnErr, IfOk}
 use Rattle.std.specs.List.{list_any}
 use Rattle.std.proofs.lemmas.List.Folds.{list_any_more, list_any_at}
 use Rattle.std.proofs.lemmas.List.{length-map}
@@ -9,7 +9,7 @@ use Rattle.srm_names.specs.FullName.{FullName}
 use Rattle.srm_names.specs.Names.{same_name, among}
 use Rattle.srm_names.proofs.Same.{same_name-is}
 use Rattle.srm_deadlines.specs.declared.by_name.Place.{Place}
-use Rattle.srm_deadlines.specs.Places.{value_in, value_at, is_at, has_place, Holds, Keeps, Sets, ClearsAll, HasPlaces}
+use Rattle.srm_deadlines.specs.Places.{value_in, value_at, is_at, has_place, Holds, GivesPlaces, Keeps, Sets, ClearsAll, HasPlaces}
 use Rattle.srm_deadlines.specs.PlacesOf.{place_of, places_of}
 use Rattle.srm_deadlines.proofs.Same.{same_itself, same_flip}
 
@@ -24,6 +24,17 @@ any_find p (x ∷ xs) = go (p x) x (any_find p xs)
 pub either : (a b : Bool) → (a || b) ≡ true → (a ≡ true) ⊎ (b ≡ true)
 either true b h = inl refl
 either false b h = inr h
+
+pub at_some : {X : Type 0} (P : X → Type 0) (o : Option X) (x : X) → o ≡ Some x → IfSome o P → P x
+at_some P o x is h = subst (λ q. IfSome q P) is h
+
+left_of : (a : Bool) → (a || false) ≡ true → a ≡ true
+left_of true h = refl
+left_of false h = h
+
+right_of : (a b : Bool) → b ≡ true → (a || b) ≡ true
+right_of true b h = refl
+right_of false b h = h
 
 abbrev pub Entries : Type 0 → Type 0
 Entries V = List (FullName × Option V)
@@ -125,7 +136,44 @@ module _ {V : Type 0} where
       go n true same = ap (value_at xs) (same_name-is n name same) ∙ none (find (is_at name) xs) (sym (any_find (is_at name) xs) ∙ e)
       go n false other = refl
 
+  -- ---- which names are given places
+
+  some_of : (b : Bool) (v : Option V) (o : Option (Option V)) → is_some (cond b (Some v) o) ≡ true → (is_some o || (b || false)) ≡ true
+  some_of true v None h = refl
+  some_of true v (Some x) h = refl
+  some_of false v None h = h
+  some_of false v (Some x) h = refl
+
+  pub given_from : (xs : List (Place V)) (name : FullName) (v : Option V) (old new : Entries V) → places_of old ≡ xs → Puts name v old new → GivesPlaces (name ∷ []) xs (places_of new)
+  given_from xs name v old new is puts = record {
+    only = λ n h. ap (λ b. b || (same_name n name || false)) (sym (ap (λ ys. has_place ys n) is) ∙ place_found old n)
+        ∙ ap (λ b. is_some (lookup (same_name n) old) || (b || false)) (same_flip n name)
+        ∙ some_of (same_name name n) v (lookup (same_name n) old) (sym (ap is_some (puts.each n)) ∙ sym (place_found new n) ∙ h);
+  }
+
+  -- one that has a place already is given none
+  pub none_given : (name : FullName) (xs ys : List (Place V)) → has_place xs name ≡ true → GivesPlaces (name ∷ []) xs ys → GivesPlaces [] xs ys
+  none_given name xs ys has given = record { only = λ n h. go n (same_name n name) refl (given.only n h) }
+    where
+      go : (n : FullName) (b : Bool) → same_name n name ≡ b → (has_place xs n || (same_name n name || false)) ≡ true → (has_place xs n || false) ≡ true
+      go n true e h = ap (λ b. b || false) (ap (has_place xs) (same_name-is n name e) ∙ has)
+      go n false e h = ap (λ b. has_place xs n || (b || false)) (sym e) ∙ h
+
+  pub gives_none : (names : List FullName) (xs ys : List (Place V)) → ys ≡ xs → GivesPlaces names xs ys
+  gives_none names xs ys same = record { only = λ n h. ap (λ b. b || among names n) (ap (λ zs. has_place zs n) (sym same) ∙ h) }
+
+  pub given_on : (xs ys zs : List (Place V)) → GivesPlaces [] xs ys → GivesPlaces [] ys zs → GivesPlaces [] xs zs
+  given_on xs ys zs p q = record { only = λ n h. p.only n (left_of (has_place ys n) (q.only n h)) }
+
   -- the loop over names that are given places
+  pub given_more : (names : List FullName) (name : FullName) (xs ys zs : List (Place V)) → among names name ≡ true → GivesPlaces names xs ys → GivesPlaces (name ∷ []) ys zs → GivesPlaces names xs zs
+  given_more names name xs ys zs at p q = record {
+    only = λ n h. elim (either (has_place ys n) (same_name n name || false) (q.only n h)) [
+      | inl old ↦ p.only n old
+      | inr new ↦ right_of (has_place xs n) (among names n) (ap (among names) (same_name-is n name (left_of (same_name n name) new)) ∙ at)
+    ];
+  }
+
   pub more_places : (names : List FullName) (i : ℕ) (d : FullName) (xs ys : List (Place V)) → i < length names → HasPlaces (take i names) xs → Holds xs ys → has_place ys (get_or names i d) ≡ true → HasPlaces (take (i + 1) names) ys
   more_places names i d xs ys lt h hold here = record {
     each = λ n at. elim (either (among (take i names) n) (same_name n (get_or names i d)) (sym (list_any_more (same_name n) names i d lt) ∙ at)) [

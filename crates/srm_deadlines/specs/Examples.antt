@@ -1,14 +1,16 @@
 -- The definitions at worked examples.
-use Rattle.std.specs.Prelude.{◌≡◌, ℕ, true, false, List, [], ◌∷◌, Some, None, refl}
+use Rattle.std.specs.Prelude.{◌≡◌, ℕ, ◌≤◌, Bool, true, false, ◌||◌, cond, if◌then◌else◌, List, [], ◌∷◌, Option, Some, None, IfSome, option_map, refl}
+use Rattle.std.proofs.Common.{arith}
 use Rattle.std.specs.declared.cmp.Ordering.TheVariants.{Less, Equal, Greater}
 use Rattle.srm_names.specs.FullName.{FullName}
-use Rattle.srm_names.specs.Names.{first_page, named}
+use Rattle.srm_names.specs.Histories.{or_else}
+use Rattle.srm_names.specs.Names.{first_page, named, same_name}
 use Rattle.srm_deadlines.specs.declared.by_name.Place.{Place}
 use Rattle.srm_deadlines.specs.declared.timed.Timed.{Timed}
 use Rattle.srm_deadlines.specs.Agenda.{timed_order, of_name, timed_for, timed_among, is_due}
-use Rattle.srm_deadlines.specs.Deadlines.{has_come}
+use Rattle.srm_deadlines.specs.Deadlines.{has_come, DueAmong, DueFit}
 use Rattle.srm_deadlines.specs.Least.{lesser}
-use Rattle.srm_deadlines.specs.Places.{value_at, has_place, moment_among}
+use Rattle.srm_deadlines.specs.Places.{value_in, value_at, has_place, moment_among, Holds, GivesPlaces, Keeps, Sets, SetsAll, ClearsAll, HasPlaces, IsLeast}
 
 -- ---- places: three names, of which the second has no moment, and a fourth without a place
 
@@ -97,3 +99,114 @@ what_stood_there_stays = refl
 
 due_at_its_moment : is_due 30 (at 1 1 30) ≡ true
 due_at_its_moment = refl
+
+-- ---- what calls do to the places: one name, which has a place, and then the moment 5 too
+
+abbrev one : FullName
+one = name 0 1
+
+abbrev empty : Place ℕ
+empty = record { name = one; value = None }
+
+abbrev filled : Place ℕ
+filled = record { name = one; value = Some 5 }
+
+abbrev before : List (Place ℕ)
+before = empty ∷ []
+
+abbrev after : List (Place ℕ)
+after = filled ∷ []
+
+is_set : Sets one (Some 5) before after
+is_set = record { each = λ n. go (same_name n one) }
+  where
+    go : (b : Bool) → value_in (cond b (Some filled) None) ≡ (if b then Some 5 else value_in (cond b (Some empty) None))
+    go true = refl
+    go false = refl
+
+-- no other name's value may change with it
+another_is_not_set : Sets (name 0 2) (Some 5) before after → ⊥
+another_is_not_set h = absurd (let k : Some 5 ≡ None = h.each one in cc)
+
+are_set : SetsAll (at 0 1 5 ∷ []) before after
+are_set = record { each = λ n. go (same_name n one) }
+  where
+    go : (b : Bool) → value_in (cond b (Some filled) None) ≡ or_else (option_map (λ t. t.moment) (cond b (Some (at 0 1 5)) None)) (value_in (cond b (Some empty) None))
+    go true = refl
+    go false = refl
+
+not_at_another_moment : SetsAll (at 0 1 6 ∷ []) before after → ⊥
+not_at_another_moment h = absurd (let k : Some 5 ≡ Some 6 = h.each one in cc)
+
+are_cleared : ClearsAll (one ∷ []) after before
+are_cleared = record { each = λ n. go (same_name n one) }
+  where
+    go : (b : Bool) → value_in (cond b (Some empty) None) ≡ (if b || false then None else value_in (cond b (Some filled) None))
+    go true = refl
+    go false = refl
+
+none_is_cleared : ClearsAll [] after before → ⊥
+none_is_cleared h = absurd (let k : None ≡ Some 5 = h.each one in cc)
+
+a_new_place_changes_none : Keeps [] before
+a_new_place_changes_none = record { each = λ n. go (same_name n one) }
+  where
+    go : (b : Bool) → value_in (cond b (Some empty) None) ≡ None
+    go true = refl
+    go false = refl
+
+a_value_is_a_change : Keeps before after → ⊥
+a_value_is_a_change h = absurd (let k : Some 5 ≡ None = h.each one in cc)
+
+its_place_is_given : GivesPlaces (one ∷ []) [] before
+its_place_is_given = record { only = λ n h. h }
+
+not_unasked : GivesPlaces (name 0 2 ∷ []) [] before → ⊥
+not_unasked h = absurd (let k : false ≡ true = h.only one refl in cc)
+
+not_taken_away : Holds before [] → ⊥
+not_taken_away h = absurd (let k : false ≡ true = h.each one refl in cc)
+
+has_its_place : HasPlaces (one ∷ []) before
+has_its_place = record { each = λ n h. h }
+
+-- ---- what is due, and the least
+
+due_is_among : DueAmong 5 after (one ∷ [])
+due_is_among = record { each = λ n. go (same_name n one) }
+  where
+    go : (b : Bool) → has_come 5 (value_in (cond b (Some filled) None)) ≡ true → (b || false) ≡ true
+    go true h = refl
+    go false h = h
+
+not_among_none : DueAmong 5 after [] → ⊥
+not_among_none h = absurd (let k : false ≡ true = h.each one refl in cc)
+
+-- a moment earlier nothing is due, and no room is needed
+nothing_due_yet : DueFit 4 after 0
+nothing_due_yet = record { names = []; due = record { each = λ n. go (same_name n one) }; few = omega arith }
+  where
+    go : (b : Bool) → has_come 4 (value_in (cond b (Some filled) None)) ≡ true → false ≡ true
+    go true h = h
+    go false h = h
+
+least : IsLeast after (Some 5)
+least = record { none = λ h. absurd (let k : true ≡ false = h in cc); is_one = (one, refl); least = λ n. go (same_name n one) }
+  where
+    go : (b : Bool) → IfSome (value_in (cond b (Some filled) None)) (λ m. 5 ≤ m)
+    go true = omega arith
+    go false = tt
+
+not_a_lesser : IsLeast after (Some 4) → ⊥
+not_a_lesser h = go (same_name h.is_one.0 one) h.is_one.1
+  where
+    go : (b : Bool) → value_in (cond b (Some filled) None) ≡ Some 4 → ⊥
+    go true e = absurd (let k : Some 5 ≡ Some 4 = e in cc)
+    go false e = absurd (let k : None ≡ Some 4 = e in cc)
+
+none_is_least_of_none : IsLeast before None
+none_is_least_of_none = record { none = λ h n. go (same_name n one); is_one = tt; least = tt }
+  where
+    go : (b : Bool) → value_in (cond b (Some empty) None) ≡ None
+    go true = refl
+    go false = refl

@@ -1,6 +1,6 @@
 -- Values by name: what a list of places has for each name, and how calls change it. A place is a name that may have a
 -- value; one without a value is room.
-use Rattle.std.specs.Prelude.{◌≡◌, ℕ, ◌≤◌, Bool, true, List, find, map, if◌then◌else◌, Option, Some, None, option_map, IsNone, IfSome}
+use Rattle.std.specs.Prelude.{◌≡◌, ℕ, ◌≤◌, ◌||◌, Bool, true, List, find, map, if◌then◌else◌, Option, Some, None, option_map, IsNone, IfSome}
 use Rattle.std.specs.List.{list_any}
 use Rattle.srm_names.specs.FullName.{FullName}
 use Rattle.srm_names.specs.Histories.{or_else}
@@ -25,6 +25,10 @@ has_place places n = list_any (is_at n) places
 -- places stay
 pub record Holds {V : Type 0} (old new : List (Place V)) : Type 0 where
   pub each : (n : FullName) → has_place old n ≡ true → has_place new n ≡ true
+
+-- no other names are given places than these
+pub record GivesPlaces {V : Type 0} (names : List FullName) (old new : List (Place V)) : Type 0 where
+  pub only : (n : FullName) → has_place new n ≡ true → (has_place old n || among names n) ≡ true
 
 -- no value changes
 pub record Keeps {V : Type 0} (old new : List (Place V)) : Type 0 where

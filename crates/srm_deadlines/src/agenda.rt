@@ -126,7 +126,8 @@ impl Agenda {
     }
 }
 
-/// Puts the names into a list, in the order in which they stand, in place of what it holds.
+/// Puts the names into a list, in the order in which they stand, in place of what it holds. Only want of memory refuses it, where
+/// the list has too little room; what it holds is then open.
 pub fn put_names(names: &mut Vec<Name>, pairs: &[Timed]) -> Result<(), AllocError>
     ensures names { OnOk result (names.new.items ≡ names_of pairs.now) }
     ensures capacity { vec_capacity names.old ≤ vec_capacity names.new }

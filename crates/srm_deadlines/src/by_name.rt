@@ -1,9 +1,9 @@
 //! Values by name.
 
-ghost use Rattle.std.specs.Prelude.{◌≡◌, ℕ, ◌≤◌, ◌<◌, ◌+◌, ◌^◌, List, [], Bool, true, OnOk, OnErr, IsOk, length, slice_index_or, Some, None};
+ghost use Rattle.std.specs.Prelude.{◌≡◌, ℕ, ◌≤◌, ◌<◌, ◌+◌, ◌^◌, List, [], ◌∷◌, Bool, true, OnOk, OnErr, IsOk, length, slice_index_or, Some, None};
 ghost use Rattle.srm_names.specs.FullName.{FullName};
 ghost use Rattle.srm_names.specs.Names.{among, ascending, name_below};
-ghost use Rattle.srm_deadlines.specs.Places.{value_at, has_place, names_of, Holds, Keeps, Sets, SetsAll, ClearsAll, HasPlaces};
+ghost use Rattle.srm_deadlines.specs.Places.{value_at, has_place, names_of, Holds, GivesPlaces, Keeps, Sets, SetsAll, ClearsAll, HasPlaces};
 
 use crate::timed::Timed;
 use indexmap::IndexMap;
@@ -52,10 +52,11 @@ impl<V: Copy> ByName<V> {
         self.places.len()
     }
 
-    /// The place at an index, in whatever order.
+    /// The place at an index below [`len`](ByName::len), in whatever order.
     pub fn place(&self, index: usize) -> Place<V>
         requires { index < length self.now }
-        ensures { result ≡ slice_index_or self.now index result }
+        ensures place { result ≡ slice_index_or self.now index result }
+        ensures value { value_at self.now result.name ≡ result.value }
     {
         let (name, value) = self.places.get_index(index).unwrap();
         Place {
@@ -82,6 +83,7 @@ impl<V: Copy> ByName<V> {
     pub fn make_place(&mut self, name: Name) -> Result<(), AllocError>
         ensures kept { Keeps self.old self.new }
         ensures held { Holds self.old self.new }
+        ensures only { GivesPlaces (name ∷ []) self.old self.new }
         ensures ok { OnOk result (has_place self.new name ≡ true) }
         ensures again { has_place self.old name ≡ true → IsOk result }
         ensures more { length self.new ≤ length self.old + 1 }
@@ -93,10 +95,11 @@ impl<V: Copy> ByName<V> {
         Ok(())
     }
 
-    /// Makes places for names. No value changes. Only want of memory refuses it.
+    /// Makes places for names. No value changes. Only want of memory refuses it, and then some of the names may have got one.
     pub fn room(&mut self, names: &[Name]) -> Result<(), AllocError>
         ensures kept { Keeps self.old self.new }
         ensures held { Holds self.old self.new }
+        ensures only { GivesPlaces names.now self.old self.new }
         ensures ok { OnOk result (HasPlaces names.now self.new) }
         ensures again { HasPlaces names.now self.old → IsOk result }
     {
@@ -111,6 +114,7 @@ impl<V: Copy> ByName<V> {
         requires { has_place self.old name ≡ true }
         ensures sets { Sets name value self.old self.new }
         ensures held { Holds self.old self.new }
+        ensures only { GivesPlaces [] self.old self.new }
         ensures length { length self.new ≡ length self.old }
     {
         // An insert at a key that is there takes no memory.
@@ -121,6 +125,7 @@ impl<V: Copy> ByName<V> {
     pub fn clear(&mut self, name: Name)
         ensures sets { Sets name None self.old self.new }
         ensures held { Holds self.old self.new }
+        ensures only { GivesPlaces [] self.old self.new }
         ensures length { length self.new ≡ length self.old }
     {
         if self.has_place(name) {
@@ -129,10 +134,11 @@ impl<V: Copy> ByName<V> {
     }
 
     /// Takes the values of names away, where they have one.
-    #[tactic(auto, using(crate::proofs::Tables::clears_more, crate::proofs::Tables::holds_on))]
+    #[tactic(auto, using(crate::proofs::Tables::clears_more, crate::proofs::Tables::holds_on, crate::proofs::Tables::given_on))]
     pub fn clear_all(&mut self, names: &[Name])
         ensures sets { ClearsAll names.now self.old self.new }
         ensures held { Holds self.old self.new }
+        ensures only { GivesPlaces [] self.old self.new }
         ensures length { length self.new ≡ length self.old }
     {
         for name in names {
@@ -148,6 +154,7 @@ impl ByName<u64> {
         requires places { HasPlaces (names_of moments.now) self.old }
         ensures sets { SetsAll moments.now self.old self.new }
         ensures held { Holds self.old self.new }
+        ensures only { GivesPlaces [] self.old self.new }
         ensures length { length self.new ≡ length self.old }
     {
         for timed in moments {

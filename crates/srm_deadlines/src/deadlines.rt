@@ -60,7 +60,7 @@ pub trait Deadlines {
         ensures capacity { vec_capacity names.old ≤ vec_capacity names.new }
         ensures room { DueFit now (places self.now) (vec_capacity names.old) → IsOk result };
 
-    /// The least moment, in microseconds.
+    /// The least moment, in microseconds. `None` where no name has one.
     fn next(&self) -> Option<u64>
         ensures { IsLeast (places self.now) result };
 }

@@ -1,7 +1,8 @@
 //! Moments by name, and which of them have come.
 //!
 //! [`Deadlines`] is the contract: a moment for each name that has one, the names whose moments have come, in order, and the first moment.
-//! [`Ordered`] keeps the moments in order, and [`Scanned`] looks through them all.
+//! [`Ordered`] keeps the moments in order, and [`Scanned`] looks through them all. Both stand on [`ByName`], which has values of any kind
+//! by name.
 #![tactic(auto)]
 
 mod agenda;

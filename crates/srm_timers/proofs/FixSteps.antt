@@ -20,7 +20,7 @@ use Rattle.srm_timers.specs.Ends.{EndContent, arm_end, SetsEnds}
 use Rattle.srm_timers.specs.Timers.{armed_at}
 use Rattle.srm_deadlines.specs.Places.{value_at, Keeps, Sets, ClearsAll, IsLeast}
 use Rattle.srm_timers.specs.AskCalls.{flat}
-use Rattle.srm_timers.specs.FixCalls.{FixCall, Asked, SetFix, Repaired, asker_by, asked_first, first_asker, ran_by, fix_timer, is_off_by, is_off, is_free, sets_fix, hold_end, repair_by, repairs, FixFits, FixContent, FixStays, FixAdds, FixRepairs, FixDue, FixNext, FixIsFree, FixFirstAsker, FixAnswers, fix_plan, FixHolds, FixPlace, FixPlaces, HoldsOff, HoldAllOff, asker_at, is_held, held_until}
+use Rattle.srm_timers.specs.FixCalls.{FixCall, Asked, SetFix, Repaired, asker_by, asked_first, first_asker, ran_by, fix_timer, is_off_by, is_off, is_free, sets_fix, hold_end, repair_by, repairs, FixFits, FixContent, FixStays, FixAdds, FixRepairs, FixDue, FixNext, FixIsFree, FixFirstAsker, FixAnswers, fix_plan, FixHolds, FixPlace, FixPlaces, HoldsOff, HoldAllOff, asker_at, is_held_off, held_off_until}
 use Rattle.srm_deadlines.proofs.Order.{map_take}
 use Rattle.srm_timers.proofs.Arming.{same_itself, last_arms}
 pub use Rattle.srm_deadlines.proofs.Tables.{holds_on}
@@ -186,15 +186,15 @@ held_as_long name until kept holds is more = record { each = λ n now. as_long n
 
 -- one more name of those that are held off in one call
 pub held_none : (now : ℕ) (dist : List ℕ) (askers holds : List (Place ℕ)) → HoldAllOff now dist [] askers holds holds
-held_none now dist askers holds = record { each = λ n t. sym (or_false (is_held holds n t)); near = λ n at. absurd (cc) }
+held_none now dist askers holds = record { each = λ n t. sym (or_false (is_held_off holds n t)); near = λ n at. absurd (cc) }
 
 pub held_more : (now : ℕ) (dist : List ℕ) (names : List FullName) (i : ℕ) (name : FullName) (distance member : ℕ) (askers old mid new : List (Place ℕ)) → i < length names → name ≡ get_or names i name
     → member ≡ asker_at askers name → member < MEMBERS → distance ≡ distance_to dist member → HoldAllOff now dist (take i names) askers old mid → HoldsOff name (now + 3 * distance) mid new
     → HoldAllOff now dist (take (i + 1) names) askers old new
 held_more now dist names i name distance member askers old mid new lt is asker below far so_far next = record {
   each = λ n t. next.each n t ∙ ap (λ b. b || same_name n name && nat_lt t (now + 3 * distance)) (so_far.each n t)
-      ∙ go n t (is_held old n t) (among (take i names) n) (same_name n name) refl
-      ∙ ap (λ b. is_held old n t || b && nat_lt t (held_until now dist askers n)) (ap (λ m. among (take i names) n || same_name n m) is ∙ sym (list_any_more (same_name n) names i name lt));
+      ∙ go n t (is_held_off old n t) (among (take i names) n) (same_name n name) refl
+      ∙ ap (λ b. is_held_off old n t || b && nat_lt t (held_off_until now dist askers n)) (ap (λ m. among (take i names) n || same_name n m) is ∙ sym (list_any_more (same_name n) names i name lt));
   near = λ n at. near_one n (among (take i names) n) (same_name n name) refl (so_far.near n)
       (ap (λ m. among (take i names) n || same_name n m) is ∙ sym (list_any_more (same_name n) names i name lt) ∙ at);
 }
@@ -204,8 +204,8 @@ held_more now dist names i name distance member askers old mid new lt is asker b
     near_one n false true e before at = subst (λ m. asker_at askers m < MEMBERS) (sym (same_name-is n name e)) (subst (λ k. k < MEMBERS) asker below)
     near_one n false false e before at = absurd (cc)
 
-    end : (n : FullName) → same_name n name ≡ true → now + 3 * distance ≡ held_until now dist askers n
-    end n e = ap (λ d. now + 3 * d) (far ∙ ap (distance_to dist) asker) ∙ ap (held_until now dist askers) (sym (same_name-is n name e))
+    end : (n : FullName) → same_name n name ≡ true → now + 3 * distance ≡ held_off_until now dist askers n
+    end n e = ap (λ d. now + 3 * d) (far ∙ ap (distance_to dist) asker) ∙ ap (held_off_until now dist askers) (sym (same_name-is n name e))
 
     merge : (a b s l : Bool) → ((a || b && l) || s && l) ≡ (a || (b || s) && l)
     merge true b s l = refl
@@ -215,9 +215,9 @@ held_more now dist names i name distance member askers old mid new lt is asker b
     merge false false s l = refl
 
     go : (n : FullName) (t : ℕ) (a b s : Bool) → same_name n name ≡ s
-        → ((a || b && nat_lt t (held_until now dist askers n)) || s && nat_lt t (now + 3 * distance)) ≡ (a || (b || s) && nat_lt t (held_until now dist askers n))
-    go n t a b true e = ap (λ u. (a || b && nat_lt t (held_until now dist askers n)) || nat_lt t u) (end n e) ∙ merge a b true (nat_lt t (held_until now dist askers n))
-    go n t a b false e = merge a b false (nat_lt t (held_until now dist askers n))
+        → ((a || b && nat_lt t (held_off_until now dist askers n)) || s && nat_lt t (now + 3 * distance)) ≡ (a || (b || s) && nat_lt t (held_off_until now dist askers n))
+    go n t a b true e = ap (λ u. (a || b && nat_lt t (held_off_until now dist askers n)) || nat_lt t u) (end n e) ∙ merge a b true (nat_lt t (held_off_until now dist askers n))
+    go n t a b false e = merge a b false (nat_lt t (held_off_until now dist askers n))
 
 -- names are repaired in one call: what their repairs say of the timer and of the hold-off of a name
 abbrev cancelled : Bool → Option (Option Armed)
@@ -281,7 +281,7 @@ repairs_all now dist names a b p q askers ends off = record {
     ends = λ n. ends.each n ∙ ap (λ o. if among names n then None else o) (h.ends n)
         ∙ sym (ap (λ o. option_map end_of (flat o)) (last_of-append (ran_by n) calls (repairs now dist calls names) ∙ ap (λ o. or_else o (last_of (ran_by n) calls)) (repairs_cancel now dist calls names n))
         ∙ cancels (among names n) (fix_timer calls n) (last_of (ran_by n) calls) refl);
-    holds = λ n t. off.each n t ∙ ap (λ b. b || among names n && nat_lt t (held_until now dist a.askers n)) (h.holds n t)
+    holds = λ n t. off.each n t ∙ ap (λ b. b || among names n && nat_lt t (held_off_until now dist a.askers n)) (h.holds n t)
         ∙ ap (λ o. is_off calls n t || among names n && nat_lt t (now + 3 * distance_to dist (unwrap_or o n.stream.source))) (h.askers n)
         ∙ sym (any_append calls (repairs now dist calls names) n t ∙ ap (λ b. is_off calls n t || b) (repairs_hold now dist calls names n t));
   };

@@ -92,26 +92,26 @@ fix_plan name distance = record { name = name; setting = fix_setting distance }
 abbrev pub asker_at : List (Place ℕ) → FullName → ℕ
 asker_at askers n = unwrap_or (value_at askers n) n.stream.source
 
-abbrev pub is_held : List (Place ℕ) → FullName → ℕ → Bool
-is_held holds n now = nat_lt now (unwrap_or (value_at holds n) 0)
+abbrev pub is_held_off : List (Place ℕ) → FullName → ℕ → Bool
+is_held_off holds n now = nat_lt now (unwrap_or (value_at holds n) 0)
 
-abbrev pub held_until : ℕ → List ℕ → List (Place ℕ) → FullName → ℕ
-held_until now dist askers n = now + 3 * distance_to dist (asker_at askers n)
+abbrev pub held_off_until : ℕ → List ℕ → List (Place ℕ) → FullName → ℕ
+held_off_until now dist askers n = now + 3 * distance_to dist (asker_at askers n)
 
 pub record FixFits (d1 d2 : ℕ) (calls : List FixCall) (a : FixContent) : Type 0 where
   pub d1_is : a.d1 ≡ d1
   pub d2_is : a.d2 ≡ d2
   pub askers : (n : FullName) → value_at a.askers n ≡ asked_first calls n
   pub ends : (n : FullName) → value_at a.ends.places n ≡ option_map end_of (fix_timer calls n)
-  pub holds : (n : FullName) (now : ℕ) → is_held a.holds n now ≡ is_off calls n now
+  pub holds : (n : FullName) (now : ℕ) → is_held_off a.holds n now ≡ is_off calls n now
 
 -- one name is held off until a moment, or for as long as it was
 pub record HoldsOff (name : FullName) (until : ℕ) (old new : List (Place ℕ)) : Type 0 where
-  pub each : (n : FullName) (now : ℕ) → is_held new n now ≡ is_held old n now || same_name n name && nat_lt now until
+  pub each : (n : FullName) (now : ℕ) → is_held_off new n now ≡ is_held_off old n now || same_name n name && nat_lt now until
 
 -- these names are held off for three distances to those who asked for them first, or for as long as they were
 pub record HoldAllOff (now : ℕ) (dist : List ℕ) (names : List FullName) (askers old new : List (Place ℕ)) : Type 0 where
-  pub each : (n : FullName) (t : ℕ) → is_held new n t ≡ is_held old n t || among names n && nat_lt t (held_until now dist askers n)
+  pub each : (n : FullName) (t : ℕ) → is_held_off new n t ≡ is_held_off old n t || among names n && nat_lt t (held_off_until now dist askers n)
   pub near : (n : FullName) → among names n ≡ true → asker_at askers n < MEMBERS
 
 -- what fits goes on to fit, with these calls added

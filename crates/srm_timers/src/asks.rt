@@ -176,8 +176,8 @@ impl<D: Deadlines> Asks<D> {
         arms
     }
 
-    /// A request for a name was heard: its timer is set again, one exponent higher, unless none runs or the request
-    /// comes before the timer's ignore moment. Takes no memory.
+    /// A request for a name was heard: its timer is set again, one exponent higher, unless none runs, or its exponent isn't 0 and
+    /// the request comes before its ignore moment. Takes no memory.
     pub fn heard_request<W: Words>(
         &mut self,
         name: Name,

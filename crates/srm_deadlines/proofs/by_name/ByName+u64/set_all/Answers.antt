@@ -6,4 +6,4 @@ set-requires c = place_of_turn c.args.moments.now c.loop-timed.timed-index c.tim
 
 pub loop-timed-preserved : goal.loop-timed-preserved
 loop-timed-preserved c =
-    one_more c.args.moments.now c.loop-timed.timed-index c.timed-item.result _ _ _ c.requires.rising c.loop-timed-test.true c.timed-item.is c.loop-timed.invariant c.set.ensures.sets c.set.ensures.held c.set.ensures.length
+    one_more c.args.moments.now c.loop-timed.timed-index c.timed-item.result _ _ _ c.requires.rising c.loop-timed-test.true c.timed-item.is c.loop-timed.invariant c.set.ensures.sets c.set.ensures.held c.set.ensures.only c.set.ensures.length

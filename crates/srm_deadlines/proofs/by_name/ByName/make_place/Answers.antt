@@ -1,6 +1,6 @@
 use Rattle.std.proofs.Common.{None, sym, ap, ◌∙◌}
 use Rattle.srm_deadlines.specs.Places.{has_place}
-use Rattle.srm_deadlines.proofs.Tables.{Puts, refused, keeps_from, holds_from, place_from, place_found}
+use Rattle.srm_deadlines.proofs.Tables.{Puts, refused, keeps_from, holds_from, given_from, place_from, place_found}
 use Rattle.srm_deadlines.proofs.by_name.ByName.make_place.Goals as goal
 
 pub returns-in_err-insert-clause-again : goal.returns-in_err-insert-clause-again
@@ -11,6 +11,9 @@ returns-in_ok-insert-clause-kept g c = keeps_from _ c.args.name _ _ c.self.view_
 
 pub returns-in_ok-insert-clause-held : goal.returns-in_ok-insert-clause-held
 returns-in_ok-insert-clause-held g c = holds_from _ c.args.name None _ _ c.self.view_is (record { each = c.in_ok-insert.ensures.updates.0 })
+
+pub returns-in_ok-insert-clause-only : goal.returns-in_ok-insert-clause-only
+returns-in_ok-insert-clause-only g c = given_from _ c.args.name None _ _ c.self.view_is (record { each = c.in_ok-insert.ensures.updates.0 })
 
 pub returns-in_ok-insert-clause-ok : goal.returns-in_ok-insert-clause-ok
 returns-in_ok-insert-clause-ok g c = place_from c.args.name None _ _ (record { each = c.in_ok-insert.ensures.updates.0 })

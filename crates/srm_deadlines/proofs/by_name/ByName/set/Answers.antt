@@ -1,13 +1,17 @@
-use Rattle.srm_deadlines.proofs.Tables.{Puts, sets_from, holds_from, not_refused, same_length}
+use Rattle.srm_deadlines.proofs.Tables.{Puts, sets_from, holds_from, given_from, none_given, not_refused, same_length}
 use Rattle.srm_deadlines.proofs.by_name.ByName.set.Goals as goal
 
 pub returns-clause-sets : goal.returns-clause-sets
-returns-clause-sets g c = sets_from _ c.args.name c.args.value _ _ c.self.view_is
+returns-clause-sets g c = sets_from _ c.args.name _ _ _ c.self.view_is
     (record { each = (not_refused _ _ _ c.args.name _ c.self.view_is c.requires c.insert.ensures.absent c.insert.ensures.updates).0 })
 
 pub returns-clause-held : goal.returns-clause-held
-returns-clause-held g c = holds_from _ c.args.name c.args.value _ _ c.self.view_is
+returns-clause-held g c = holds_from _ c.args.name _ _ _ c.self.view_is
     (record { each = (not_refused _ _ _ c.args.name _ c.self.view_is c.requires c.insert.ensures.absent c.insert.ensures.updates).0 })
+
+pub returns-clause-only : goal.returns-clause-only
+returns-clause-only g c = none_given c.args.name _ _ c.requires (given_from _ c.args.name _ _ _ c.self.view_is
+    (record { each = (not_refused _ _ _ c.args.name _ c.self.view_is c.requires c.insert.ensures.absent c.insert.ensures.updates).0 }))
 
 pub returns-clause-length : goal.returns-clause-length
 returns-clause-length g c = same_length _ _ c.args.name _ _ c.self.view_is c.requires c.insert.ensures.absent c.insert.ensures.old c.insert.ensures.len

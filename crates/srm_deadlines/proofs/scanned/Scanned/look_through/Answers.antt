@@ -18,13 +18,13 @@ loop-i-preserved c =
     elim c.if-come.branch [
       | then-come+in_ok-insert_in_order w ↦ record {
         due = subst (λ (v : Vec Name Global). DueSoFar c.args.now (take (c.loop-i.i + 1) c.self.inside.moments) c.self.inside.moments v.items) (sym w.names-is)
-            (due_more c.args.now c.self.inside.moments c.loop-i.i c.place-name.result c.loop-i.names.items _ lt c.place-name.ensures (answer ∙ w.if-come.true) c.loop-i.invariant.due
+            (due_more c.args.now c.self.inside.moments c.loop-i.i c.place-name.result c.loop-i.names.items _ lt c.place-name.ensures.place (answer ∙ w.if-come.true) c.loop-i.invariant.due
             w.in_ok-insert_in_order.ensures.order w.in_ok-insert_in_order.ensures.exact);
         capacity = subst (λ (v : Vec Name Global). vec_capacity c.clear.new.self ≤ vec_capacity v) (sym w.names-is) (omega (arith, c.loop-i.invariant.capacity, w.in_ok-insert_in_order.ensures.capacity));
       }
       | else-come w ↦ record {
         due = subst (λ (v : Vec Name Global). DueSoFar c.args.now (take (c.loop-i.i + 1) c.self.inside.moments) c.self.inside.moments v.items) (sym w.names-is)
-            (due_missed c.args.now c.self.inside.moments c.loop-i.i c.place-name.result c.loop-i.names.items lt c.place-name.ensures (answer ∙ w.if-come.false) c.loop-i.invariant.due);
+            (due_missed c.args.now c.self.inside.moments c.loop-i.i c.place-name.result c.loop-i.names.items lt c.place-name.ensures.place (answer ∙ w.if-come.false) c.loop-i.invariant.due);
         capacity = subst (λ (v : Vec Name Global). vec_capacity c.clear.new.self ≤ vec_capacity v) (sym w.names-is) c.loop-i.invariant.capacity;
       }
     ]

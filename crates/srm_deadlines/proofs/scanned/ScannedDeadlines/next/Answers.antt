@@ -9,7 +9,7 @@ pub loop-i-preserved : goal.loop-i-preserved
 loop-i-preserved c =
     let lt : c.loop-i.i < length c.self.inside.moments = omega arith in
     subst (LeastSoFar (take (c.loop-i.i + 1) c.self.inside.moments) c.self.inside.moments) (ap (lesser c.loop-i.least) (sym c.get.ensures) ∙ sym c.lesser-least.ensures)
-    (least_more c.self.inside.moments c.loop-i.i c.place-name.result c.loop-i.least lt c.place-name.ensures c.loop-i.invariant)
+    (least_more c.self.inside.moments c.loop-i.i c.place-name.result c.loop-i.least lt c.place-name.ensures.place c.loop-i.invariant)
 
 pub returns : goal.returns
 returns c =
