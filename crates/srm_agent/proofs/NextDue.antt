@@ -15,7 +15,7 @@ use Rattle.srm_agent.specs.Contents.{Content}
 use Rattle.srm_entries.specs.Entries.{state, is_gone, last_moment}
 use Rattle.srm_entries.specs.Timers.{fix_running}
 use Rattle.srm_agent.specs.Fits.{Fits}
-use Rattle.srm_entries.specs.Promises.{IsIdle}
+use Rattle.srm_entries.specs.Promises.{MayDoNothing}
 use Rattle.srm_agent_parts.specs.TimerCalls.{RunOutFirst, TimersNext, ask_running}
 use Rattle.srm_agent.specs.Waking.{IsEarly, IsLate, IsNextAt, NextDue, Stirs, report_next, sooner_of}
 use Rattle.srm_agent.proofs.NextDueIdle.{idle_before}
@@ -57,7 +57,7 @@ still_out now later None l e = absurd (cc)
 still_out now later (Some a) l e = grind (arith, nat_tests)
 
 module _ {W : Type 0} (c : Config) (made : ℕ) (past : List Entry) (a : Content W) (t : ℕ) (h : Fits c made past a) (here : is_gone (state past) ≡ false) where
-  timer_stirs : (timers : Option ℕ) → RunOutFirst past timers → HasCome t timers → IsIdle c made past t → ⊥
+  timer_stirs : (timers : Option ℕ) → RunOutFirst past timers → HasCome t timers → MayDoNothing c made past t → ⊥
   timer_stirs None first come idle = absurd come
   timer_stirs (Some r) first come idle =
       let (n, out) = first.is_one in
@@ -66,14 +66,14 @@ module _ {W : Type 0} (c : Config) (made : ℕ) (past : List Entry) (a : Content
         | inr fix ↦ fixes_then c made past t idle.0 n (did_nothing c made past t idle) here (still_out r t (fix_running past n) come fix)
       ]
 
-  item_stirs : (answer : Option ℕ) → MatchOption answer (next_of h.bucket.calls ≡ None) (IsFirstToGo c.rate c.depth h.bucket.calls) → HasCome t answer → IsIdle c made past t → ⊥
+  item_stirs : (answer : Option ℕ) → MatchOption answer (next_of h.bucket.calls ≡ None) (IsFirstToGo c.rate c.depth h.bucket.calls) → HasCome t answer → MayDoNothing c made past t → ⊥
   item_stirs None waits come idle = absurd come
   item_stirs (Some r) waits come idle = goes_then c made past a t r idle.0 h (did_nothing c made past t idle) here waits.goes come
 
-  report_stirs : report_next a ≤ t → IsIdle c made past t → ⊥
+  report_stirs : report_next a ≤ t → MayDoNothing c made past t → ⊥
   report_stirs come idle = reports_then c made past a t idle.0 h (did_nothing c made past t idle) here come
 
-come_stirs : {W : Type 0} (c : Config) (made : ℕ) (past : List Entry) (a : Content W) (t : ℕ) → Fits c made past a → is_gone (state past) ≡ false → (next : ℕ) → IsNextAt a next → next ≤ t → IsIdle c made past t → ⊥
+come_stirs : {W : Type 0} (c : Config) (made : ℕ) (past : List Entry) (a : Content W) (t : ℕ) → Fits c made past a → is_gone (state past) ≡ false → (next : ℕ) → IsNextAt a next → next ≤ t → MayDoNothing c made past t → ⊥
 come_stirs c made past a t h here next at come idle = elim (one_came t at.timers at.waiting (report_next a) (subst (λ n. n ≤ t) at.is come)) [
   | inl timer ↦ timer_stirs c made past a t h here at.timers (at.runs.each c past h.timers) timer idle
   | inr other ↦ elim other [
@@ -92,7 +92,7 @@ first_due a next active at = subst (λ n. NextDue a (Some (max a.last n))) (sym 
         omega (arith, last),
         (λ u l before.
             let sooner : u < sooner_of (lesser at.timers at.waiting) (report_next a) = omega (arith, last, l, before) in
-            let idle : IsIdle c made past u = idle_before c made past a u h here (sooner_of (lesser at.timers at.waiting) (report_next a), record { timers = at.timers; waiting = at.waiting; runs = at.runs; waits = at.waits; is = refl }, sooner) l in
+            let idle : MayDoNothing c made past u = idle_before c made past a u h here (sooner_of (lesser at.timers at.waiting) (report_next a), record { timers = at.timers; waiting = at.waiting; runs = at.runs; waits = at.waits; is = refl }, sooner) l in
             (idle, idle_rests c made past u idle)),
         come_stirs c made past a t h here (sooner_of (lesser at.timers at.waiting) (report_next a)) (record { timers = at.timers; waiting = at.waiting; runs = at.runs; waits = at.waits; is = refl }) (omega arith),
       );
@@ -120,7 +120,7 @@ late a moment next at = go (nat_lt moment next) refl
 -- what has come is done
 pub stirs : {W : Type 0} (a : Content W) (now moment : ℕ) → is_gone a.state ≡ false → moment ≡ max now a.last → IsLate a moment → Stirs now a
 stirs a now moment active counts (next, at, come) = record {
-  each = λ c made past h idle. come_stirs c made past a moment h (ap is_gone (sym h.state) ∙ active) next at come (subst (IsIdle c made past) (sym counts) idle);
+  each = λ c made past h idle. come_stirs c made past a moment h (ap is_gone (sym h.state) ∙ active) next at come (subst (MayDoNothing c made past) (sym counts) idle);
 }
 
 pub stirs_at : {W X Y : Type 0} (r : Result X Y) (a : Content W) (now moment : ℕ) → is_gone a.state ≡ false → moment ≡ max now a.last → IsLate a moment → OnErr r (Stirs now a)

@@ -21,7 +21,7 @@ use Rattle.srm_names.specs.Histories.{steps}
 use Rattle.srm_names.specs.Names.{first_page, named}
 use Rattle.srm_bucket.specs.Calls.{Classed}
 use Rattle.std.specs.List.{AllByRecursion}
-use Rattle.srm_entries.specs.Promises.{IsIdle, IsNextDue}
+use Rattle.srm_entries.specs.Promises.{MayDoNothing, IsNextDue}
 use Rattle.srm_agent.proofs.NextDueRests.{gone_rests, idle_rests}
 use Rattle.srm_entries.proofs.Plain.{zeros, config, plain, idle, idle_right, right, missing_none, unknown_unmissed}
 
@@ -42,7 +42,7 @@ too_early now l = subst (λ o. EndsWith (config 0) [] (tick now) o) (sym (ap (λ
 nothing_waits : (now : ℕ) → BucketLaw 8000 4204 (bucket_calls 0 (idle (tick now) ∷ []))
 nothing_waits now = (record { in_order = λ class. ([], refl); highest_first = tt; not_too_much = (omega arith, omega arith, tt); all_that_may = tt }, tt)
 
-idle_before : (now : ℕ) → now < 1000000 → IsIdle (config 0) 0 [] now
+idle_before : (now : ℕ) → now < 1000000 → MayDoNothing (config 0) 0 [] now
 idle_before now l = (
   tick now,
   refl,
@@ -65,7 +65,7 @@ ends_with_one e i m =
     ap (λ (input : Input). if not (is_tick input) || false then None else if nat_le 1000000 e.moment then Some false else None) i
     ∙ ap (λ now. if nat_le 1000000 now then Some false else None) m
 
-then_a_report : IsIdle (config 0) 0 [] 1000000 → ⊥
+then_a_report : MayDoNothing (config 0) 0 [] 1000000 → ⊥
 then_a_report (e, input, moment, asks, fixes, outs, run) =
     let (g, is, report) = subst (λ o. EndsWith (config 0) [] e o) (ends_with_one e input moment) run.each.0.session in
     not_empty (charged e) g (sym outs ∙ is)
@@ -124,7 +124,7 @@ not_kept_back e run =
     too_much : 4204000000 < 27000000 → ⊥
     too_much l = absurd (omega arith)
 
-data_goes : IsIdle (config 0) 0 (drawn ∷ []) 5 → ⊥
+data_goes : MayDoNothing (config 0) 0 (drawn ∷ []) 5 → ⊥
 data_goes (e, input, moment, asks, fixes, outs, run) =
     let right : EntryRight (config 0) 0 (record { before = drawn ∷ []; this = e }) = run.each.1.0 in
     let none = tick_draws_nothing (config 0) 0 (drawn ∷ []) e right (ap is_tick input) in

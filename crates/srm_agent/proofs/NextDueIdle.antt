@@ -33,7 +33,7 @@ use Rattle.srm_entries.specs.Bucket.{Going, GoesRight, BucketRight, entries_of, 
 use Rattle.srm_entries.specs.Runs.{EntryRight}
 use Rattle.srm_agent.specs.Fits.{Fits, BucketFits, datagram_of}
 use Rattle.srm_agent_parts.specs.TimersKept.{shown_if}
-use Rattle.srm_entries.specs.Promises.{IsIdle}
+use Rattle.srm_entries.specs.Promises.{MayDoNothing}
 use Rattle.srm_agent_parts.specs.TimerCalls.{RunOutFirst, IsBefore}
 use Rattle.srm_agent_parts.specs.declared.out.Outgoing.{Outgoing}
 use Rattle.srm_agent_parts.proofs.Midway.{before_first, before_second}
@@ -216,7 +216,7 @@ module _ {W : Type 0} (c : Config) (made : ℕ) (past : List Entry) (a : Content
       same : (s : AgentState) → s ≡ s
       same s = refl
 
-  pub idle_before : IsIdle c made past u
+  pub idle_before : MayDoNothing c made past u
   idle_before = (
     idle_at c past u,
     refl,

@@ -20,7 +20,7 @@ use Rattle.srm_entries.specs.Timers.{ask_due, fix_due}
 use Rattle.srm_entries.specs.Sessions.{is_session, charged, session_due, all_data_sent, ending, EndsWith}
 use Rattle.srm_entries.specs.Bucket.{Going, GoesRight, entries_of, datagrams_of, lets_go, pops, calls_by, bucket_calls}
 use Rattle.srm_entries.specs.Runs.{EntryRight, IsMemberRun}
-use Rattle.srm_entries.specs.Promises.{IsIdle, DoesNothing, Rests}
+use Rattle.srm_entries.specs.Promises.{MayDoNothing, DoesNothing, NothingIsDue}
 use Rattle.srm_entries.proofs.Charging.{law_at}
 use Rattle.srm_entries.proofs.Ending.{ending_of, ending_is}
 use Rattle.srm_entries.proofs.Marking.{bucket_calls-snoc}
@@ -177,10 +177,10 @@ gone_does_nothing c made past now e m gone =
       outs = sends_none c made past e m.right ends uncharged;
     }
 
-pub gone_rests : (c : Config) (made : ℕ) (past : List Entry) (now : ℕ) → is_gone (state past) ≡ true → Rests c made past now
+pub gone_rests : (c : Config) (made : ℕ) (past : List Entry) (now : ℕ) → is_gone (state past) ≡ true → NothingIsDue c made past now
 gone_rests c made past now gone e input moment run = gone_does_nothing c made past now e (may_come c made past now e input moment run) gone
 
-pub idle_rests : (c : Config) (made : ℕ) (past : List Entry) (now : ℕ) → IsIdle c made past now → Rests c made past now
+pub idle_rests : (c : Config) (made : ℕ) (past : List Entry) (now : ℕ) → MayDoNothing c made past now → NothingIsDue c made past now
 idle_rests c made past now i e input moment run = go (is_gone (state past)) refl
   where
     go : (b : Bool) → is_gone (state past) ≡ b → DoesNothing e

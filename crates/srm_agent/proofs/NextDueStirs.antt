@@ -30,7 +30,7 @@ use Rattle.srm_entries.specs.Bucket.{Going, GoesRight, entries_of, datagrams_of,
 use Rattle.srm_entries.specs.Runs.{EntryRight, IsMemberRun}
 use Rattle.srm_agent.specs.Fits.{Fits, datagram_of}
 use Rattle.srm_agent_parts.specs.TimersKept.{shown_if}
-use Rattle.srm_entries.specs.Promises.{IsIdle}
+use Rattle.srm_entries.specs.Promises.{MayDoNothing}
 use Rattle.srm_agent_parts.specs.TimerCalls.{ask_running}
 use Rattle.srm_agent.specs.Waking.{report_next}
 use Rattle.srm_entries.proofs.Charging.{law_at}
@@ -52,7 +52,7 @@ pub record DidNothing (c : Config) (made : ℕ) (past : List Entry) (now : ℕ) 
   pub right : EntryRight c made (record { before = past; this = e })
   pub run : IsMemberRun c made (past ++ e ∷ [])
 
-pub did_nothing : (c : Config) (made : ℕ) (past : List Entry) (now : ℕ) (i : IsIdle c made past now) → DidNothing c made past now i.0
+pub did_nothing : (c : Config) (made : ℕ) (past : List Entry) (now : ℕ) (i : MayDoNothing c made past now) → DidNothing c made past now i.0
 did_nothing c made past now (e, input, moment, asks, fixes, outs, run) =
     let right : EntryRight c made (record { before = past; this = e }) = (at_parts (EntryRight c made) past (e ∷ []) run.each).1.0 in
     record {

@@ -10,3 +10,4 @@ pub mod Answering
 pub mod Outbox
 pub mod Waking
 pub mod Ticking
+pub mod Examples

@@ -10,7 +10,7 @@ use Rattle.srm_entries.specs.Entries.{is_leaving}
 use Rattle.srm_agent_parts.specs.TimerCalls.{TimersNext}
 use Rattle.srm_agent.specs.Contents.{Content}
 use Rattle.srm_agent.specs.Fits.{Fits}
-use Rattle.srm_entries.specs.Promises.{IsIdle, IsNextDue}
+use Rattle.srm_entries.specs.Promises.{MayDoNothing, IsNextDue}
 use Rattle.srm_agent.specs.Noting.{moment_that_counts}
 
 -- after whatever run the agent fits, this is the next moment at which a tick does something
@@ -44,4 +44,4 @@ IsLate a moment = (next : ℕ) × IsNextAt a next × (next ≤ moment)
 
 -- after whatever run the agent fits, a tick at this moment has something to do
 pub record Stirs {W : Type 0} (now : ℕ) (a : Content W) : Type 0 where
-  pub each : (c : Config) (made : ℕ) (past : List Entry) → Fits c made past a → IsIdle c made past (moment_that_counts (Some now) a.last) → ⊥
+  pub each : (c : Config) (made : ℕ) (past : List Entry) → Fits c made past a → MayDoNothing c made past (moment_that_counts (Some now) a.last) → ⊥

@@ -41,6 +41,9 @@ use std::marker::Model;
 const FIRST_SESSION: u64 = 1_000_000;
 
 /// One member of a session. Strokes, datagrams, moments and words go in; datagrams and page messages come out.
+///
+/// Moments are microseconds of the member's own clock, at most 2^48. One below the last that counted counts as the last. A call
+/// that is refused leaves all as it was, the last moment too.
 #[derive(Drop)]
 pub struct Agent<W: Words + Drop> {
     alloc: Global,

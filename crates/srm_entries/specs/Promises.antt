@@ -23,8 +23,8 @@ page_to_come c es =
     else Some (record { creator = c.me; number = next_number c.me (slots es) })
 
 -- a tick at this moment may do nothing
-abbrev pub IsIdle : Config → ℕ → List Entry → ℕ → Type 0
-IsIdle c made es now = (e : Entry) × (e.input ≡ Ticked) × (e.moment ≡ now) × (e.effects.asks ≡ []) × (e.effects.fixes ≡ []) × (e.effects.outs ≡ []) × IsMemberRun c made (es ++ e ∷ [])
+abbrev pub MayDoNothing : Config → ℕ → List Entry → ℕ → Type 0
+MayDoNothing c made es now = (e : Entry) × (e.input ≡ Ticked) × (e.moment ≡ now) × (e.effects.asks ≡ []) × (e.effects.fixes ≡ []) × (e.effects.outs ≡ []) × IsMemberRun c made (es ++ e ∷ [])
 
 -- an entry hands out and sends nothing
 pub record DoesNothing (e : Entry) : Type 0 where
@@ -33,15 +33,15 @@ pub record DoesNothing (e : Entry) : Type 0 where
   pub outs : e.effects.outs ≡ []
 
 -- whatever tick may come at this moment does nothing
-abbrev pub Rests : Config → ℕ → List Entry → ℕ → Type 0
-Rests c made es now = (e : Entry) → e.input ≡ Ticked → e.moment ≡ now → IsMemberRun c made (es ++ e ∷ []) → DoesNothing e
+abbrev pub NothingIsDue : Config → ℕ → List Entry → ℕ → Type 0
+NothingIsDue c made es now = (e : Entry) → e.input ≡ Ticked → e.moment ≡ now → IsMemberRun c made (es ++ e ∷ []) → DoesNothing e
 
 -- The least moment, not below the last one, at which a tick would hand out or send something: before it a tick may come, and does
 -- nothing; at it none that may come does nothing. There is none where the member is gone, and then no tick does anything.
 abbrev pub IsNextDue : Config → ℕ → List Entry → Option ℕ → Type 0
-IsNextDue c made es None = (is_gone (state es) ≡ true) × ((u : ℕ) → Rests c made es u)
+IsNextDue c made es None = (is_gone (state es) ≡ true) × ((u : ℕ) → NothingIsDue c made es u)
 IsNextDue c made es (Some t) = (is_gone (state es) ≡ false) × (last_moment made es ≤ t)
-    × ((u : ℕ) → last_moment made es ≤ u → u < t → IsIdle c made es u × Rests c made es u) × (IsIdle c made es t → ⊥)
+    × ((u : ℕ) → last_moment made es ≤ u → u < t → MayDoNothing c made es u × NothingIsDue c made es u) × (MayDoNothing c made es t → ⊥)
 
 -- With no premise on other members: what was given in a slot is a page feed, by source a front of what is released;
 -- a gone member sends nothing.

@@ -25,8 +25,8 @@ pub enum Cause {
 /// What became of a datagram.
 #[derive(Clone, Copy, Debug, PartialEq, Eq)]
 pub enum Outcome {
-    /// It was heard.
+    /// What it says counts.
     Taken,
-    /// It counts as not heard: nothing but the last moment changed.
+    /// It wasn't taken: nothing but the last moment changed.
     Ignored(Cause),
 }

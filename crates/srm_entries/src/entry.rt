@@ -11,13 +11,18 @@ use srm_timers::Arm;
 /// What a call was given.
 #[derive(Debug, Drop)]
 pub enum Input {
+    /// A body was drawn on a page.
     Drew(Page, Bytes),
+    /// A datagram came. The verdict says whether it was taken.
     Heard(Datagram),
+    /// Bytes came that spell no datagram of the session, or any to a member that is gone.
     Noise,
     Ticked,
     Showed(Page),
     AskedLeave,
+    /// The next message of a slot, 0 to 7, was asked for.
     Gave(u8),
+    /// The page worker of a slot, 0 to 7, took what comes next of what it was given.
     Took(u8),
 }
 
@@ -25,7 +30,9 @@ pub enum Input {
 #[derive(Clone, Copy, Debug, PartialEq, Eq)]
 pub enum Verdict {
     Done,
+    /// What came wasn't taken. Nothing but the last moment changed.
     Ignored(Cause),
+    /// Nothing changed, the last moment too.
     Refused(AgentFault),
 }
 
@@ -33,11 +40,17 @@ pub enum Verdict {
 #[derive(Debug, Drop)]
 pub struct Effects {
     pub drawn: Option<Drawop>,
+    /// The timers that were set, in order of name.
     pub arms: Items<Arm>,
+    /// The names whose requests were handed out, in order.
     pub asks: Items<Name>,
+    /// The names whose repairs were handed out, in order.
     pub fixes: Items<Name>,
+    /// What was sent, in this order.
     pub outs: Items<Datagram>,
+    /// What was given or taken.
     pub message: Option<PageMsg>,
+    /// Whether the member takes part after it.
     pub state: AgentState,
 }
 
@@ -45,6 +58,7 @@ pub struct Effects {
 #[derive(Debug, Drop)]
 pub struct Entry {
     pub member: Member,
+    /// The moment that counted, in microseconds. Of a give or a take it is the last one.
     pub moment: u64,
     pub input: Input,
     pub verdict: Verdict,

@@ -4,8 +4,8 @@ ghost use Rattle.srm_entries.specs.Promises.{GivesLaw};
 ghost use Rattle.srm_entries.specs.Rates.{RateLaw};
 ghost use Rattle.srm_entries.specs.Runs.{ResponseLaw};
 
-/// The law of response: in every run of a member, each missing name has a timer, each request for a held name that isn't
-/// held off starts one, and each timer is answered by the first tick after its longest wait.
+/// The law of response: in every run of a member, each missing name has a timer; after a request for a held name that isn't held
+/// off a repair timer runs; and each timer is answered by the first tick at or after its longest wait.
 pub fn responds()
     ensures { ResponseLaw }
 {}

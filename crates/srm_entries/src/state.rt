@@ -5,7 +5,7 @@
 pub enum AgentState {
     /// It draws, asks and answers.
     Active,
-    /// It sends what waits, and draws nothing new.
+    /// It draws nothing new, but asks, answers and sends what waits.
     Leaving,
     /// It sent its farewell. It hears and sends nothing.
     Gone,

@@ -27,6 +27,8 @@ impl<W: Words + Drop> Agent<W> {
     /// Gives the next message of a slot, 0 to 7: its page, once; then, of the smallest source that has something, its next
     /// drawop, or that it left, once all that it drew on the page was given; and the close, once, when this member is gone
     /// and there is nothing else. `None` where there is nothing.
+    ///
+    /// Refused is [`AgentFault::Memory`] alone, and then the message is still to come.
     pub fn give_noted(&mut self, slot: u8) -> Result<Noted<Option<PageMsg>>, AllocError>
         requires { slot < PAGES }
         ensures ok { IfOk result (λ noted. Enters W.draw None (Input.Gave slot) self.old self.new noted.entry) }

@@ -24,6 +24,9 @@ impl<W: Words + Drop> Agent<W> {
     /// holds; bytes that spell none are noise, as all bytes are to a member that is gone. What is ignored changes nothing but
     /// the last moment.
     ///
+    /// The causes, in the order in which they count: [`Cause::Gone`], [`Cause::Decode`], [`Cause::Own`], [`Cause::Stranger`],
+    /// [`Cause::PageLimit`], [`Cause::BeyondFinal`], [`Cause::Conflict`].
+    ///
     /// Refused is [`AgentFault::Memory`] alone.
     pub fn hear_noted(&mut self, bytes: &[u8], now: u64) -> Result<Noted<Heard>, AllocError>
         requires { now ≤ MOMENT }

@@ -14,7 +14,8 @@ use std::alloc::AllocError;
 impl<W: Words + Drop> Agent<W> {
     /// Begins to leave: draws are refused from now on, and the tick at which no new data waits sends a farewell.
     ///
-    /// Refused are, in this order: [`AgentFault::Gone`], [`AgentFault::Leaving`].
+    /// Refused are, in this order: [`AgentFault::Gone`], [`AgentFault::Leaving`]. Want of memory, for which the answer has a place,
+    /// today never comes.
     pub fn leave_noted(&mut self, now: u64) -> Result<Noted<()>, AllocError>
         requires { now ≤ MOMENT }
         ensures ok { IfOk result (λ noted. Enters W.draw (Some now) Input.AskedLeave self.old self.new noted.entry) }

@@ -18,8 +18,8 @@ use srm_timers::Words;
 impl<W: Words + Drop> Agent<W> {
     /// The least moment, in microseconds, from the last one that counted on, at which a tick hands out or sends something: a
     /// timer runs out, the rate lets something go that waits, a session message is due, or the farewell of a member that is
-    /// leaving and has sent all that it drew, which is due at once. `None` where this member is gone. It takes no memory and
-    /// changes nothing.
+    /// leaving and has sent all that it drew, which is due at once. It may be past 2^48, the greatest moment that calls take: then no
+    /// tick comes to it. `None` where this member is gone. It takes no memory and changes nothing.
     #[tactic(auto, using(crate::proofs::NextDue::never_due, crate::proofs::NextDue::first_due))]
     pub fn next_due(&self) -> Option<u64>
         ensures { NextDue self.now result }

@@ -16,7 +16,7 @@ impl<W: Words + Drop> Agent<W> {
     /// Shows a page. A page that isn't in the table is added to it.
     ///
     /// Refused are, in this order: [`AgentFault::Gone`]; [`AgentFault::PageLimit`] where the page finds no slot;
-    /// [`AgentFault::Memory`].
+    /// [`AgentFault::Memory`], which today never comes.
     pub fn show_noted(&mut self, page: Page, now: u64) -> Result<Noted<()>, AllocError>
         requires { now ≤ MOMENT }
         ensures ok { IfOk result (λ noted. Enters W.draw (Some now) (Input.Showed page) self.old self.new noted.entry) }
