@@ -112,29 +112,15 @@ fn fault_of(alloc: Global, bytes: &[u8]) -> Option<DecodeFault> {
 }
 
 #[test]
-fn each_kind_has_its_bytes(rt: HostRuntime) -> Result<(), Fail> {
+fn data_have_their_bytes(rt: HostRuntime) -> Result<(), Fail> {
     let alloc = rt.alloc();
-    check(
-        alloc,
-        &rt,
-        &Datagram::Data(drawop(alloc, &rt, b"hi")?),
-        &DATA,
-    )?;
-    let request = |mask| Datagram::Request {
-        sender: member(&rt, 1),
-        name: name(&rt, 0, 1),
-        mask,
-    };
-    check(alloc, &rt, &request(0), &REQUEST)?;
-    check(alloc, &rt, &request(0x8000_0002), &PACKED)?;
-    check(
-        alloc,
-        &rt,
-        &report(alloc, &rt, false, &[], &[])?,
-        &EMPTY_SESSION,
-    )?;
-    let full = report(alloc, &rt, false, &[name(&rt, 0, 3)], &[echo(&rt, 1)])?;
-    check(alloc, &rt, &full, &SESSION)?;
+    let data = Datagram::Data(drawop(alloc, &rt, b"hi")?);
+    check(alloc, &rt, &data, &DATA)
+}
+
+#[test]
+fn repairs_have_their_bytes(rt: HostRuntime) -> Result<(), Fail> {
+    let alloc = rt.alloc();
     let mut bytes = DATA;
     bytes[3] = 3;
     bytes[8] = 2;
@@ -145,56 +131,138 @@ fn each_kind_has_its_bytes(rt: HostRuntime) -> Result<(), Fail> {
     check(alloc, &rt, &repair, &bytes)
 }
 
-#[test]
-fn bodies_go_from_none_to_the_limit(rt: HostRuntime) -> Result<(), Fail> {
-    let alloc = rt.alloc();
-    let none = Datagram::Data(drawop(alloc, &rt, b"")?);
-    let full = Datagram::Data(drawop(alloc, &rt, &[7; 1_024])?);
-    let over = Datagram::Data(drawop(alloc, &rt, &[7; 1_025])?);
-    assert!(rt; !encodable(&over));
-    for (datagram, bytes) in [(&none, 27), (&full, 1_051)] {
-        assert!(rt; encodable(datagram));
-        if encodable(datagram) {
-            let spelled = encode(alloc, 7, datagram)?;
-            assert_eq!(rt; spelled.len(), bytes);
-            check(alloc, &rt, datagram, spelled.as_slice())?;
-        }
+/// A request of member 1 for number 1 of source 0, and for those that the mask names.
+fn request(rt: &impl Abort, number: u32, mask: u32) -> Datagram {
+    Datagram::Request {
+        sender: member(rt, 1),
+        name: name(rt, 0, number),
+        mask,
     }
-    let longer = changed(alloc, &changed(alloc, &DATA, 25, 4)?, 26, 1)?;
-    assert_eq!(rt; fault_of(alloc, &longer), Some(DecodeFault::Length));
+}
+
+#[test]
+fn requests_have_their_bytes(rt: HostRuntime) -> Result<(), Fail> {
+    check(rt.alloc(), &rt, &request(&rt, 1, 0), &REQUEST)?;
+    check(rt.alloc(), &rt, &request(&rt, 1, 0x8000_0002), &PACKED)
+}
+
+#[test]
+fn session_messages_have_their_bytes(rt: HostRuntime) -> Result<(), Fail> {
+    let alloc = rt.alloc();
+    let empty = report(alloc, &rt, false, &[], &[])?;
+    check(alloc, &rt, &empty, &EMPTY_SESSION)?;
+    let full = report(alloc, &rt, false, &[name(&rt, 0, 3)], &[echo(&rt, 1)])?;
+    check(alloc, &rt, &full, &SESSION)
+}
+
+/// A farewell of member 3 with a row of its own, number 3, and an echo of member 1; and one with neither.
+#[test]
+fn farewells_have_their_bytes(rt: HostRuntime) -> Result<(), Fail> {
+    let alloc = rt.alloc();
+    let mut bytes = SESSION;
+    bytes[17] = 1;
+    bytes[22] = 3;
+    let full = report(alloc, &rt, true, &[name(&rt, 3, 3)], &[echo(&rt, 1)])?;
+    check(alloc, &rt, &full, &bytes)?;
+    let mut bare = EMPTY_SESSION;
+    bare[17] = 1;
+    let empty = report(alloc, &rt, true, &[], &[])?;
+    check(alloc, &rt, &empty, &bare)
+}
+
+/// The datagram takes so many bytes, and is read from them.
+fn takes_bytes(
+    alloc: Global,
+    rt: &impl Abort,
+    datagram: &Datagram,
+    bytes: usize,
+) -> Result<(), Fail> {
+    assert!(rt; encodable(datagram));
+    if encodable(datagram) {
+        let spelled = encode(alloc, 7, datagram)?;
+        assert_eq!(rt; spelled.len(), bytes);
+        check(alloc, rt, datagram, spelled.as_slice())?;
+    }
     Ok(())
 }
 
 #[test]
-fn the_largest_session_messages(rt: HostRuntime) -> Result<(), Fail> {
+fn bodies_go_from_none_to_the_limit(rt: HostRuntime) -> Result<(), Fail> {
     let alloc = rt.alloc();
-    let mut sources = Vec::new(alloc);
+    let none = Datagram::Data(drawop(alloc, &rt, b"")?);
+    takes_bytes(alloc, &rt, &none, 27)?;
+    let full = Datagram::Data(drawop(alloc, &rt, &[7; 1_024])?);
+    takes_bytes(alloc, &rt, &full, 1_051)
+}
+
+#[test]
+fn bodies_past_the_limit(rt: HostRuntime) -> Result<(), Fail> {
+    let alloc = rt.alloc();
+    let over = Datagram::Data(drawop(alloc, &rt, &[7; 1_025])?);
+    assert!(rt; !encodable(&over));
+    faulty(
+        alloc,
+        &rt,
+        &DATA,
+        &[(25, 4), (26, 1)],
+        Some(DecodeFault::Length),
+    )
+}
+
+/// A row of each source, up to the greatest number.
+fn row_of_each(alloc: Global, rt: &impl Abort) -> Result<Vec<Name>, Fail> {
+    let mut rows = Vec::new(alloc);
+    for source in 0..32 {
+        rows.push(name(rt, source, 65_536))?;
+    }
+    Ok(rows)
+}
+
+/// An echo of each member.
+fn echo_of_each(alloc: Global, rt: &impl Abort) -> Result<Vec<Echo>, Fail> {
     let mut echoes = Vec::new(alloc);
     for number in 0..32 {
-        sources.push(name(&rt, number, 65_536))?;
-        echoes.push(echo(&rt, number))?;
+        echoes.push(echo(rt, number))?;
     }
-    let mut pages = Vec::new(alloc);
-    for number in 0..255 {
+    Ok(echoes)
+}
+
+/// So many rows of source 31, each of another page.
+fn row_of_pages(alloc: Global, rt: &impl Abort, pages: u16) -> Result<Vec<Name>, Fail> {
+    let mut rows = Vec::new(alloc);
+    for number in 0..pages {
         let page = Page {
-            creator: member(&rt, 31),
+            creator: member(rt, 31),
             number,
         };
-        pages.push(Name::new(member(&rt, 31), page, 1).expect(&rt, "a name"))?;
+        rows.push(Name::new(member(rt, 31), page, 1).expect(rt, "a name"))?;
     }
+    Ok(rows)
+}
+
+#[test]
+fn the_largest_session_message_of_one_page(rt: HostRuntime) -> Result<(), Fail> {
+    let alloc = rt.alloc();
+    let rows = row_of_each(alloc, &rt)?;
+    let echoes = echo_of_each(alloc, &rt)?;
     let of_others = echoes.get(1..).unwrap_or(&[]);
-    let usual = report(alloc, &rt, false, &sources, of_others)?;
-    let largest = report(alloc, &rt, false, &pages, &echoes)?;
-    for (datagram, bytes) in [(&usual, 806), (&largest, 2_607)] {
-        assert!(rt; encodable(datagram));
-        if encodable(datagram) {
-            let spelled = encode(alloc, 7, datagram)?;
-            assert_eq!(rt; spelled.len(), bytes);
-            check(alloc, &rt, datagram, spelled.as_slice())?;
-        }
-    }
-    pages.push(name(&rt, 31, 1))?;
-    assert!(rt; !encodable(&report(alloc, &rt, false, &pages, &[])?));
+    let usual = report(alloc, &rt, false, &rows, of_others)?;
+    takes_bytes(alloc, &rt, &usual, 806)
+}
+
+#[test]
+fn the_largest_session_message(rt: HostRuntime) -> Result<(), Fail> {
+    let alloc = rt.alloc();
+    let rows = row_of_pages(alloc, &rt, 255)?;
+    let echoes = echo_of_each(alloc, &rt)?;
+    let largest = report(alloc, &rt, false, &rows, &echoes)?;
+    takes_bytes(alloc, &rt, &largest, 2_607)
+}
+
+#[test]
+fn one_row_too_many(rt: HostRuntime) -> Result<(), Fail> {
+    let rows = row_of_pages(rt.alloc(), &rt, 256)?;
+    assert!(rt; !rows_are_good(rt.alloc(), &rt, false, &rows)?);
     Ok(())
 }
 
@@ -217,6 +285,12 @@ fn each_front_is_short_and_one_byte_more_is_too_long(rt: HostRuntime) -> Result<
             "{byte}"
         );
     }
+    Ok(())
+}
+
+#[test]
+fn one_byte_less_and_one_more(rt: HostRuntime) -> Result<(), Fail> {
+    let alloc = rt.alloc();
     for (bytes, cut) in [
         (DATA.as_slice(), 28),
         (PACKED.as_slice(), 20),
@@ -228,6 +302,24 @@ fn each_front_is_short_and_one_byte_more_is_too_long(rt: HostRuntime) -> Result<
         longer.push(0)?;
         assert_eq!(rt; fault_of(alloc, &longer), Some(DecodeFault::Length));
     }
+    Ok(())
+}
+
+/// With these bytes changed, one after the other, this is the first fault.
+fn faulty(
+    alloc: Global,
+    rt: &impl Abort,
+    bytes: &[u8],
+    changes: &[(usize, u8)],
+    fault: Option<DecodeFault>,
+) -> Result<(), Fail> {
+    let mut other = bytes.to_vec(alloc)?;
+    for (at, byte) in changes {
+        if *at < other.len() {
+            other[*at] = *byte;
+        }
+    }
+    assert_eq!(rt; fault_of(alloc, &other), fault);
     Ok(())
 }
 
@@ -301,56 +393,54 @@ fn one_changed_byte(rt: HostRuntime) -> Result<(), Fail> {
 }
 
 #[test]
-fn the_first_of_two_faults_is_told(rt: HostRuntime) -> Result<(), Fail> {
+fn the_first_of_several_faults_is_told(rt: HostRuntime) -> Result<(), Fail> {
     let alloc = rt.alloc();
-    let other_session = changed(alloc, &DATA, 7, 8)?;
-    let kind = changed(alloc, &other_session, 3, 9)?;
-    assert_eq!(rt; fault_of(alloc, &kind), Some(DecodeFault::Kind));
-    let version = changed(alloc, &kind, 2, 3)?;
-    assert_eq!(rt; fault_of(alloc, &version), Some(DecodeFault::Version));
-    let number = changed(alloc, &changed(alloc, &DATA, 16, 0)?, 18, 2)?;
-    let source = changed(alloc, &number, 8, 2)?;
-    assert_eq!(rt; fault_of(alloc, &source), Some(DecodeFault::Source));
-    assert_eq!(rt; fault_of(alloc, &[]), Some(DecodeFault::Short));
-    Ok(())
+    let kind = [(7, 8), (3, 9)];
+    faulty(alloc, &rt, &DATA, &kind, Some(DecodeFault::Kind))?;
+    let version = [(7, 8), (3, 9), (2, 3)];
+    faulty(alloc, &rt, &DATA, &version, Some(DecodeFault::Version))?;
+    let source = [(16, 0), (18, 2), (8, 2)];
+    faulty(alloc, &rt, &DATA, &source, Some(DecodeFault::Source))?;
+    faulty(alloc, &rt, &[], &[], Some(DecodeFault::Short))
 }
 
 #[test]
 fn numbers_end_at_the_limit(rt: HostRuntime) -> Result<(), Fail> {
     let alloc = rt.alloc();
-    let none = changed(alloc, &DATA, 16, 0)?;
-    let last = changed(alloc, &none, 14, 1)?;
-    let past = changed(alloc, &last, 16, 1)?;
-    assert_eq!(rt; fault_of(alloc, &none), Some(DecodeFault::Number));
-    assert_eq!(rt; fault_of(alloc, &last), None);
-    assert_eq!(rt; fault_of(alloc, &past), Some(DecodeFault::Number));
-    Ok(())
+    let none = [(16, 0)];
+    faulty(alloc, &rt, &DATA, &none, Some(DecodeFault::Number))?;
+    let last = [(16, 0), (14, 1)];
+    faulty(alloc, &rt, &DATA, &last, None)?;
+    let past = [(16, 1), (14, 1)];
+    faulty(alloc, &rt, &DATA, &past, Some(DecodeFault::Number))
 }
 
 #[test]
 fn requests_for_several_names(rt: HostRuntime) -> Result<(), Fail> {
     let alloc = rt.alloc();
     for kind in [1, 3, 4] {
-        let bytes = changed(alloc, &PACKED, 3, kind)?;
-        assert_eq!(rt; fault_of(alloc, &bytes), Some(DecodeFault::Kind));
+        faulty(alloc, &rt, &PACKED, &[(3, kind)], Some(DecodeFault::Kind))?;
     }
-    let no_mask = changed(alloc, &changed(alloc, &PACKED, 17, 0)?, 20, 0)?;
-    assert_eq!(rt; fault_of(alloc, &no_mask), Some(DecodeFault::Number));
-    let from = changed(alloc, &PACKED, 16, 0)?;
-    let last = changed(alloc, &from, 14, 1)?;
-    assert_eq!(rt; fault_of(alloc, &last), Some(DecodeFault::Number));
-    let middle = changed(alloc, &from, 15, 0x10)?;
-    assert_eq!(rt; fault_of(alloc, &middle), None);
-    let asks = |number, mask| {
-        encodable(&Datagram::Request {
-            sender: member(&rt, 1),
-            name: name(&rt, 0, number),
-            mask,
-        })
-    };
-    assert!(rt; asks(65_536, 0) && !asks(65_536, 1));
-    assert!(rt; asks(65_535, 1) && !asks(65_535, 2));
-    assert!(rt; asks(65_504, u32::MAX) && !asks(65_505, u32::MAX));
+    let no_mask = [(17, 0), (20, 0)];
+    faulty(alloc, &rt, &PACKED, &no_mask, Some(DecodeFault::Number))?;
+    let last = [(16, 0), (14, 1)];
+    faulty(alloc, &rt, &PACKED, &last, Some(DecodeFault::Number))?;
+    let middle = [(16, 0), (15, 0x10)];
+    faulty(alloc, &rt, &PACKED, &middle, None)
+}
+
+#[test]
+fn masks_name_no_number_past_the_limit(rt: HostRuntime) -> Result<(), Fail> {
+    for (number, mask, good) in [
+        (65_536, 0, true),
+        (65_536, 1, false),
+        (65_535, 1, true),
+        (65_535, 2, false),
+        (65_504, u32::MAX, true),
+        (65_505, u32::MAX, false),
+    ] {
+        assert_eq!(rt; encodable(&request(&rt, number, mask)), good);
+    }
     Ok(())
 }
 
@@ -383,23 +473,36 @@ fn echoes_are_good(alloc: Global, rt: &impl Abort, echoes: &[Echo]) -> Result<bo
 }
 
 #[test]
-fn what_does_not_rise_is_not_encodable(rt: HostRuntime) -> Result<(), Fail> {
-    let alloc = rt.alloc();
+fn rows_that_do_not_rise_are_not_encodable(rt: HostRuntime) -> Result<(), Fail> {
     let one = name(&rt, 0, 3);
     let later = name(&rt, 0, 4);
     let other = name(&rt, 1, 3);
+    for (rows, good) in [
+        ([one, other], true),
+        ([one, one], false),
+        ([one, later], false),
+        ([other, one], false),
+    ] {
+        assert_eq!(rt; rows_are_good(rt.alloc(), &rt, false, &rows)?, good);
+    }
+    Ok(())
+}
+
+#[test]
+fn a_farewell_has_rows_of_its_sender_alone(rt: HostRuntime) -> Result<(), Fail> {
     let mine = name(&rt, 3, 3);
-    assert!(rt; rows_are_good(alloc, &rt, false, &[one, other])?);
-    assert!(rt; !rows_are_good(alloc, &rt, false, &[one, one])?);
-    assert!(rt; !rows_are_good(alloc, &rt, false, &[one, later])?);
-    assert!(rt; !rows_are_good(alloc, &rt, false, &[other, one])?);
-    assert!(rt; rows_are_good(alloc, &rt, true, &[mine])?);
-    assert!(rt; !rows_are_good(alloc, &rt, true, &[one, mine])?);
-    let first = echo(&rt, 1);
-    let second = echo(&rt, 2);
-    assert!(rt; echoes_are_good(alloc, &rt, &[first, second])?);
-    assert!(rt; !echoes_are_good(alloc, &rt, &[first, first])?);
-    assert!(rt; !echoes_are_good(alloc, &rt, &[second, first])?);
+    assert!(rt; rows_are_good(rt.alloc(), &rt, true, &[mine])?);
+    let other = name(&rt, 0, 3);
+    assert!(rt; !rows_are_good(rt.alloc(), &rt, true, &[other, mine])?);
+    Ok(())
+}
+
+#[test]
+fn echoes_that_do_not_rise_are_not_encodable(rt: HostRuntime) -> Result<(), Fail> {
+    for (first, second, good) in [(1, 2, true), (1, 1, false), (2, 1, false)] {
+        let echoes = [echo(&rt, first), echo(&rt, second)];
+        assert_eq!(rt; echoes_are_good(rt.alloc(), &rt, &echoes)?, good);
+    }
     Ok(())
 }
 

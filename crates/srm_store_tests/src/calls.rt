@@ -50,146 +50,161 @@ fn inserted(
     Ok(())
 }
 
+fn fresh(rt: &impl Abort, alloc: Global, store: &mut Store, name: Name) -> Result<(), Fail> {
+    inserted(rt, store, drawop(alloc, name, b"hi")?, Insert::Fresh)
+}
+
+fn assert_missing(rt: &impl Abort, store: &Store, name: Name, wanted: &[u32]) -> Result<(), Fail> {
+    let names = store.missing(name.stream())?;
+    assert_numbers(rt, &names, wanted);
+    Ok(())
+}
+
+/// So many names become missing.
+fn counted(rt: &impl Abort, store: &mut Store, name: Name, count: usize) -> Result<(), Fail> {
+    let names = store.evidence(name)?;
+    assert_eq!(rt; names.len(), count);
+    Ok(())
+}
+
 #[test]
 fn evidence_makes_names_missing(rt: HostRuntime) -> Result<(), Fail> {
-    let alloc = rt.alloc();
-    let mut store = Store::new(alloc)?;
-    let second = name(&rt, 0, 0, 2);
+    let mut store = Store::new(rt.alloc())?;
     shown(&rt, &mut store, name(&rt, 0, 0, 3), &[1, 2, 3])?;
-    inserted(
-        &rt,
-        &mut store,
-        drawop(alloc, second, b"hi")?,
-        Insert::Fresh,
-    )?;
+    fresh(&rt, rt.alloc(), &mut store, name(&rt, 0, 0, 2))?;
     shown(&rt, &mut store, name(&rt, 0, 0, 4), &[4])?;
-    assert_numbers(&rt, &store.missing(second.stream())?, &[1, 3, 4]);
-    assert_eq!(rt; store.known(second.stream()), 4);
+    assert_missing(&rt, &store, name(&rt, 0, 0, 1), &[1, 3, 4])?;
+    assert_eq!(rt; store.known(name(&rt, 0, 0, 1).stream()), 4);
     Ok(())
+}
+
+fn assert_body(rt: &impl Abort, store: &Store, name: Name, body: &[u8]) {
+    match store.get(name) {
+        Some(held) => assert_eq!(rt; held.body.as_slice(), body),
+        None => assert!(rt; false),
+    }
 }
 
 #[test]
 fn the_first_drawop_of_a_name_stays(rt: HostRuntime) -> Result<(), Fail> {
-    let alloc = rt.alloc();
-    let mut store = Store::new(alloc)?;
+    let mut store = Store::new(rt.alloc())?;
     let second = name(&rt, 0, 0, 2);
-    inserted(
-        &rt,
-        &mut store,
-        drawop(alloc, second, b"hi")?,
-        Insert::Fresh,
-    )?;
-    inserted(
-        &rt,
-        &mut store,
-        drawop(alloc, second, b"ho")?,
-        Insert::Conflict,
-    )?;
-    inserted(
-        &rt,
-        &mut store,
-        drawop(alloc, second, b"hi")?,
-        Insert::Known,
-    )?;
-    let held = store.get(second).ok_or("not held")?;
-    assert_eq!(rt; held.body.as_slice(), b"hi".as_slice());
+    fresh(&rt, rt.alloc(), &mut store, second)?;
+    let other = drawop(rt.alloc(), second, b"ho")?;
+    inserted(&rt, &mut store, other, Insert::Conflict)?;
+    let same = drawop(rt.alloc(), second, b"hi")?;
+    inserted(&rt, &mut store, same, Insert::Known)?;
+    assert_body(&rt, &store, second, b"hi");
     Ok(())
+}
+
+fn assert_released(rt: &impl Abort, store: &Store, name: Name, released: u32) {
+    assert_eq!(rt; store.released(name.stream()), released);
 }
 
 #[test]
 fn release_stops_at_a_gap_until_it_is_filled(rt: HostRuntime) -> Result<(), Fail> {
-    let alloc = rt.alloc();
-    let mut store = Store::new(alloc)?;
+    let mut store = Store::new(rt.alloc())?;
     let (first, second) = (name(&rt, 0, 0, 1), name(&rt, 0, 0, 2));
-    inserted(
-        &rt,
-        &mut store,
-        drawop(alloc, second, b"hi")?,
-        Insert::Fresh,
-    )?;
-    assert_eq!(rt; store.released(first.stream()), 0);
-    inserted(&rt, &mut store, drawop(alloc, first, b"hi")?, Insert::Fresh)?;
-    assert_eq!(rt; store.released(first.stream()), 2);
-    assert!(rt; store.holds(first));
-    assert!(rt; !store.holds(name(&rt, 0, 0, 3)));
+    fresh(&rt, rt.alloc(), &mut store, second)?;
+    assert_released(&rt, &store, first, 0);
+    fresh(&rt, rt.alloc(), &mut store, first)?;
+    assert_released(&rt, &store, first, 2);
+    assert_eq!(rt; (store.holds(first), store.holds(name(&rt, 0, 0, 3))), (true, false));
     Ok(())
+}
+
+fn assert_final(rt: &impl Abort, store: &Store, name: Name, wanted: Option<u32>) {
+    assert_eq!(rt; store.final_of(name.stream()), wanted);
 }
 
 #[test]
 fn a_settled_member_has_finals(rt: HostRuntime) -> Result<(), Fail> {
     let mut store = Store::new(rt.alloc())?;
-    let rows = [name(&rt, 0, 0, 3)];
-    let member = rows[0].source();
-    store.settle_final(member, &rows)?;
-    store.settle_final(member, &[name(&rt, 0, 0, 9), name(&rt, 0, 1, 9)])?;
-    assert_eq!(rt; store.final_of(rows[0].stream()), Some(3));
-    assert_eq!(rt; store.final_of(name(&rt, 0, 1, 1).stream()), Some(0));
-    assert_eq!(rt; store.final_of(name(&rt, 1, 0, 1).stream()), None);
+    let third = name(&rt, 0, 0, 3);
+    store.settle_final(third.source(), &[third])?;
+    store.settle_final(third.source(), &[name(&rt, 0, 0, 9), name(&rt, 0, 1, 9)])?;
+    assert_final(&rt, &store, third, Some(3));
+    assert_final(&rt, &store, name(&rt, 0, 1, 1), Some(0));
+    assert_final(&rt, &store, name(&rt, 1, 0, 1), None);
     Ok(())
+}
+
+/// Nothing of this name finds a page, and nothing changes by trying.
+fn assert_no_page(rt: &impl Abort, store: &mut Store, drawop: Drawop) {
+    let name = drawop.name;
+    assert_eq!(rt; store.room(&[name]), Err(StoreFault::PageLimit));
+    assert_eq!(rt; store.evidence(name).err(), Some(StoreFault::PageLimit));
+    assert_eq!(rt; store.insert(drawop), Err(StoreFault::PageLimit));
+    assert!(rt; !store.holds(name));
 }
 
 #[test]
 fn a_ninth_page_is_refused(rt: HostRuntime) -> Result<(), Fail> {
-    let alloc = rt.alloc();
-    let mut store = Store::new(alloc)?;
+    let mut store = Store::new(rt.alloc())?;
     for page in 1..8u16 {
         shown(&rt, &mut store, name(&rt, 1, page, 1), &[1])?;
     }
-    let ninth = name(&rt, 1, 8, 1);
-    assert_eq!(rt; store.room(&[ninth]), Err(StoreFault::PageLimit));
-    assert!(rt; matches!(store.evidence(ninth), Err(StoreFault::PageLimit)));
-    assert_eq!(rt;
-        store.insert(drawop(alloc, ninth, b"")?),
-        Err(StoreFault::PageLimit)
-    );
-    assert!(rt; !store.holds(ninth));
+    let ninth = drawop(rt.alloc(), name(&rt, 1, 8, 1), b"")?;
+    assert_no_page(&rt, &mut store, ninth);
     shown(&rt, &mut store, name(&rt, 2, 0, 1), &[1])
 }
 
 #[test]
 fn a_stream_has_65_536_drawops(rt: HostRuntime) -> Result<(), Fail> {
-    let alloc = rt.alloc();
-    let mut store = Store::new(alloc)?;
+    let mut store = Store::new(rt.alloc())?;
     let last = name(&rt, 3, 0, DRAWOPS);
-    let stream = last.stream();
-    assert_eq!(rt; store.evidence(last)?.len(), 65_536);
-    assert_eq!(rt; store.insert(drawop(alloc, last, b"")?)?, Insert::Fresh);
-    assert_eq!(rt; store.released(stream), 0);
+    counted(&rt, &mut store, last, 65_536)?;
+    fresh(&rt, rt.alloc(), &mut store, last)?;
+    assert_released(&rt, &store, last, 0);
     for number in 1..DRAWOPS {
-        store.insert(drawop(alloc, name(&rt, 3, 0, number), b"")?)?;
+        fresh(&rt, rt.alloc(), &mut store, name(&rt, 3, 0, number))?;
     }
-    assert_eq!(rt; store.released(stream), 65_536);
-    assert_eq!(rt; store.missing(stream)?.len(), 0);
-    Ok(())
+    assert_released(&rt, &store, last, 65_536);
+    assert_missing(&rt, &store, last, &[])
+}
+
+/// Room is used as it was promised: one evidence and one insert of each name.
+fn uses_room(rt: &impl Abort, alloc: Global, store: &mut Store, name: Name) -> Result<(), Fail> {
+    counted(rt, store, name, name.number() as usize)?;
+    fresh(rt, alloc, store, name)
 }
 
 #[test]
 fn room_is_made_for_names(rt: HostRuntime) -> Result<(), Fail> {
-    let alloc = rt.alloc();
-    let mut store = Store::new(alloc)?;
+    let mut store = Store::new(rt.alloc())?;
     let names = [name(&rt, 0, 1, 300), name(&rt, 2, 3, 2)];
     store.room(&names)?;
-    assert_eq!(rt; store.known(names[0].stream()), 0);
-    for named in names {
-        let count = named.number() as usize;
-        assert_eq!(rt; store.evidence(named)?.len(), count);
-        assert_eq!(rt; store.insert(drawop(alloc, named, b"")?)?, Insert::Fresh);
-    }
-    store.settle_final(names[0].source(), &names)?;
+    store.room(&[])?;
+    assert_eq!(rt; store.known(name(&rt, 0, 1, 1).stream()), 0);
+    uses_room(&rt, rt.alloc(), &mut store, name(&rt, 0, 1, 300))?;
+    uses_room(&rt, rt.alloc(), &mut store, name(&rt, 2, 3, 2))?;
+    store.settle_final(name(&rt, 0, 1, 1).source(), &names)?;
+    store.room(&names)?;
     Ok(())
+}
+
+/// Two names on each of eight pages.
+fn names_of_eight_pages(rt: &impl Abort, alloc: Global) -> Result<Vec<Name>, Fail> {
+    let mut names = Vec::new(alloc);
+    for page in 0..8u16 {
+        names.push(name(rt, 1, page, 1))?;
+        names.push(name(rt, 2, page, 3))?;
+    }
+    Ok(names)
+}
+
+fn assert_room(rt: &impl Abort, store: &mut Store, names: &[Name], wanted: Result<(), StoreFault>) {
+    assert_eq!(rt; store.room(names), wanted);
 }
 
 #[test]
 fn nine_pages_find_no_room_together(rt: HostRuntime) -> Result<(), Fail> {
     let mut store = Store::new(rt.alloc())?;
-    let mut names = Vec::new(rt.alloc());
-    for page in 0..8u16 {
-        names.push(name(&rt, 1, page, 1))?;
-        names.push(name(&rt, 2, page, 3))?;
-    }
-    assert_eq!(rt; store.room(&names), Ok(()));
+    let mut names = names_of_eight_pages(&rt, rt.alloc())?;
+    assert_room(&rt, &mut store, &names, Ok(()));
     names.push(name(&rt, 1, 8, 1))?;
-    assert_eq!(rt; store.room(&names), Err(StoreFault::PageLimit));
+    assert_room(&rt, &mut store, &names, Err(StoreFault::PageLimit));
     Ok(())
 }
 
