@@ -7,6 +7,7 @@ use Rattle.std.proofs.lemmas.List.{append-nil, length-set, length-map}
 use Rattle.std.proofs.lemmas.Option.{same_Some, slice_get-get_or, slice_get_within}
 use Rattle.srm_timers.specs.declared.arm.Arm.{Arm}
 use Rattle.srm_timers.specs.Arms.{AreDrawn}
+use Rattle.srm_agent_parts.specs.declared.out.Out.{Out}
 use Rattle.srm_entries.specs.declared.entry.Entry.{Entry}
 use Rattle.srm_entries.specs.declared.entry.Input.{Input}
 use Rattle.srm_entries.specs.Configs.{Config}
@@ -19,7 +20,7 @@ use Rattle.srm_world.specs.declared.start.Start.{Start}
 use Rattle.srm_world.specs.Traces.{Trace, Journal, of_member}
 use Rattle.srm_world.specs.Participants.{Content}
 use Rattle.srm_world.specs.Words.{Recorded, Played, AreByWords, AreByOwnWords, RecordsByWords, PlaysByWords, arms_in}
-use Rattle.srm_world.specs.Worlds.{words_of}
+use Rattle.srm_world.specs.Worlds.{AreWorld, words_of}
 use Rattle.srm_world.proofs.Laning.{get_set_same, get_set_other, get_map, at_place}
 use Rattle.srm_world.proofs.Members.{of_member-append}
 
@@ -84,6 +85,10 @@ plays_one {W = W} draw starts ps i d q e a lt at mine drawn = record {
         let none : of_member m (e ∷ []) ≡ [] = ap (λ x. cond x (e ∷ []) []) (ne_eqb e.member m (λ is. differ (sym is ∙ mine))) in
         subst (λ es. AreByWords draw b.config u es v) (sym none)
         (same_Some v u (sym at_v ∙ get_map source (slice_set ps i q) m ∙ ap (option_map source) (get_set_other ps i m q differ) ∙ sym (get_map source ps m) ∙ at_u))
+
+-- each member has a source
+pub sources_counted : {W : Type 0} (ps : List (Content W)) (sents : List Out) (t : Trace) → AreWorld ps sents t → length (words_of ps) ≡ length t.starts
+sources_counted ps sents t are = length-map ps source ∙ are.count
 
 -- no source went on
 pub sources_stay : {W : Type 0} (ps : List (Content W)) (i : ℕ) (d q : Content W) → q.agent.words ≡ (get_or ps i d).agent.words → words_of (slice_set ps i q) ≡ words_of ps

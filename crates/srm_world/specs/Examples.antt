@@ -20,7 +20,7 @@ use Rattle.srm_world.specs.declared.event.Event.{Event}
 use Rattle.srm_world.specs.declared.event.Event.TheVariants as events
 use Rattle.srm_world.specs.declared.start.Start.{Start}
 use Rattle.srm_world.specs.Traces.{of_member, drawn_by, taken_by, IsHonest}
-use Rattle.srm_world.specs.Words.{AreByWords, AreByOwnWords}
+use Rattle.srm_world.specs.Words.{Recorded, Played, AreByWords, AreByOwnWords, RecordsByWords, PlaysByWords}
 use Rattle.srm_world.specs.Events.{member_of, moment_in, moment_of, asked, last_of_member, IsEntryOf, Follows}
 
 abbrev start : ℕ → ℕ → Start
@@ -338,3 +338,20 @@ no_words = []
 
 the_other_source_stays : AreByOwnWords draw_listed two ((5 ∷ []) ∷ (7 ∷ []) ∷ []) (hears_c 200007 ∷ []) (no_words ∷ no_words ∷ []) → ⊥
 the_other_source_stays h = absurd (let k : no_words ≡ 5 ∷ [] = h.each 0 (start 2 0) (5 ∷ []) no_words refl refl refl in cc)
+
+-- what a recorder and a world gained is by the words that went
+
+abbrev recorded : List Entry → List ℕ → Recorded (List ℕ)
+recorded entries words = record { journal = record { start = start 2 1; entries = entries }; words = words }
+
+one_entry_recorded : RecordsByWords draw_listed (recorded [] (5 ∷ 7 ∷ [])) (recorded (hears_c 200005 ∷ []) (7 ∷ []))
+one_entry_recorded = record { added = hears_c 200005 ∷ []; grown = refl; words = one_word }
+
+no_word_goes_unrecorded : RecordsByWords draw_listed (recorded [] (5 ∷ 7 ∷ [])) (recorded [] (7 ∷ [])) → ⊥
+no_word_goes_unrecorded h = absurd (let k : 7 ∷ [] ≡ 5 ∷ 7 ∷ [] = subst (λ es. AreByWords draw_listed (in_roster 1 2 4204) (5 ∷ 7 ∷ []) es (7 ∷ [])) (sym h.grown) h.words in cc)
+
+abbrev played : List Entry → List (List ℕ) → Played (List ℕ)
+played entries words = record { trace = record { starts = two; entries = entries }; words = words }
+
+one_entry_played : PlaysByWords draw_listed (played [] ((5 ∷ []) ∷ (7 ∷ []) ∷ [])) (played (hears_c 200007 ∷ []) ((5 ∷ []) ∷ [] ∷ []))
+one_entry_played = record { added = hears_c 200007 ∷ []; grown = refl; words = own_words }

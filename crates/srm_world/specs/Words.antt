@@ -26,7 +26,8 @@ arms_in es = flat_map (λ (e : Entry). e.effects.arms) es
 abbrev pub AreByWords : {W : Type 0} → (W → ℕ × W) → Config → W → List Entry → W → Type 0
 AreByWords draw c from es to = AreDrawn draw (low_of c) (high_of c) from (arms_in es) to
 
--- in these entries of several members those of each one are by the words of its own source
+-- In these entries of several members those of each one are by the words of its own source. Each has one: a world always has as many
+-- sources as members.
 pub record AreByOwnWords {W : Type 0} (draw : W → ℕ × W) (starts : List Start) (from : List W) (es : List Entry) (to : List W) : Type 0 where
   pub count : length to ≡ length from
   pub each : (m : ℕ) (a : Start) (u v : W) → slice_get starts m ≡ Some a → slice_get from m ≡ Some u → slice_get to m ≡ Some v → AreByWords draw a.config u (of_member m es) v

@@ -3,7 +3,8 @@
 use bytes::Bytes;
 use srm_names::Page;
 
-/// What happens next, at a moment in microseconds where it takes one. A lost datagram is one that is never delivered.
+/// What happens next, at a moment in microseconds, at most 2^48, where it takes one. Members have the numbers from 0, and slots 0
+/// to 7. An event that names another is skipped. A lost datagram is one that is never delivered.
 #[derive(Debug, Drop)]
 pub enum Event {
     /// A member draws on a page.

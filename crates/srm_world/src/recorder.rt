@@ -40,7 +40,7 @@ impl<W: Words + Drop> Model for Recorder<W> {
 }
 
 impl<W: Words + Drop> Recorder<W> {
-    /// An agent that was made at a moment, in microseconds, and did nothing yet. Only want of memory refuses it.
+    /// An agent that was made at a moment, in microseconds, at most 2^48, and did nothing yet. Only want of memory refuses it.
     pub fn new(alloc: Global, config: Config, words: W, now: u64) -> Result<Recorder<W>, AllocError>
         requires { now ≤ MOMENT }
         ensures value { IfOk result (λ recorder. recorder ≡ record { journal = record { start = record { config = config; made = now }; entries = [] }; words = words }) }
@@ -145,7 +145,7 @@ impl<W: Words + Drop> Recorder<W> {
         answer
     }
 
-    /// The journal as it stands. It takes no memory.
+    /// Gives the recorder up for its journal. It takes no memory.
     pub fn finish(self) -> Journal
         ensures value { result ≡ self.journal }
         ensures lawful { IsLawfulJournal result }

@@ -48,7 +48,8 @@ impl<W: Words + Drop> Model for World<W> {
 
 impl<W: Words + Drop> World<W> {
     /// A world in which nothing happened yet, with a member for each of the settings, made at moment 0, and a source of words
-    /// for each. The settings are those of all members of one roster, in order, in one session. Only want of memory refuses it.
+    /// for each. The settings are those of all members of one roster, 1 to 32, in order, in one session. Only want of memory
+    /// refuses it.
     pub fn new(alloc: Global, configs: Vec<Config>, words: Vec<W>) -> Result<World<W>, AllocError>
         requires roster { IsRoster (started configs.items) }
         requires words { length words.items ≡ length configs.items }
@@ -76,17 +77,19 @@ impl<W: Words + Drop> World<W> {
     }
 
     /// What happened so far. It takes no memory.
+    #[tactic(auto, using(crate::proofs::Wording::sources_counted))]
     pub fn trace(&self) -> &Trace
         ensures value { result.now ≡ self.now.trace }
+        ensures sources { length self.now.words ≡ length self.now.trace.starts }
         ensures lawful { IsLawful self.now.trace }
     {
         &self.trace
     }
 
     /// Applies one event, and answers whether it left an entry. It is skipped where it names no member of the session, no
-    /// datagram that was sent, or no slot. What the member refuses leaves an entry without effects.
+    /// datagram that was sent, or no slot. What the member refuses leaves an entry without effects. Its moment is at most 2^48.
     ///
-    /// Refused is [`WorldFault::Memory`] alone, and then the trace is as before.
+    /// Refused is [`WorldFault::Memory`] alone, and then the trace and the sources of words are as before.
     pub fn apply(&mut self, event: Event) -> Result<bool, WorldFault>
         requires { IsTimely event }
         ensures follows { OnOk result (FollowsOne self.old.trace.starts self.old.trace.entries event self.new.trace.entries) }
@@ -99,8 +102,8 @@ impl<W: Words + Drop> World<W> {
         self.happen(&event)
     }
 
-    /// Applies events in order. Want of memory stops it with [`WorldFault::Memory`], and leaves the world as after the events
-    /// before.
+    /// Applies events in order, with moments up to 2^48. Want of memory stops it with [`WorldFault::Memory`], and leaves the world as after the events
+    /// before. How many these are it doesn't tell: who would go on from there applies them one by one with [`World::apply`].
     #[tactic(auto, using(crate::proofs::Stepping::runs_from))]
     pub fn run(&mut self, events: &[Event]) -> Result<(), WorldFault>
         requires { All IsTimely events.now }
