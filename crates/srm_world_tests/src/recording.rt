@@ -1,11 +1,11 @@
 //! A recorder at worked calls.
 
 use bytes::Bytes;
-use srm_agent::{AgentFault, Cause, Config, Verdict};
+use srm_agent::{AgentFault, Cause, Config, Entry, Verdict};
 use srm_codec::DecodeFault;
 use srm_names::{Member, Page};
 use srm_timers::Listed;
-use srm_world::Recorder;
+use srm_world::{Journal, Recorder};
 use std::alloc::Global;
 use std::process::Abort;
 use std::test::Fail;
@@ -13,17 +13,38 @@ use std::test::Fail;
 /// Data of member 0 in session 7: on the first page, number 1, with the body `hi`.
 const HI: &[u8] = b"SR\x01\x01\0\0\0\x07\0\0\0\0\0\0\0\0\x01\0\0\0\0\0\0\0\0\0\x02hi";
 
-/// What the calls of `worked` leave: for each the moment that counted, and how it was taken.
-const WORKED: [(u64, Verdict); 9] = [
-    (5, Verdict::Done),
-    (6, Verdict::Done),
-    (7, Verdict::Done),
-    (8, Verdict::Ignored(Cause::Decode(DecodeFault::Short))),
-    (9, Verdict::Done),
-    (9, Verdict::Done),
-    (10, Verdict::Done),
-    (11, Verdict::Refused(AgentFault::Leaving)),
-    (12, Verdict::Done),
+/// A call of a recorder, and where it takes one the moment.
+#[derive(Clone, Copy)]
+enum Call {
+    /// A body of one byte is drawn on the first page.
+    Draw(u32),
+    /// The second page is shown.
+    Show(u32),
+    /// `HI` is heard.
+    Hear(u32),
+    /// No bytes are heard.
+    HearNothing(u32),
+    Tick(u32),
+    /// The next message of slot 0 is given.
+    Give,
+    Leave(u32),
+}
+
+/// Each call once, and a leaving that is refused: the moment that counts, and how the call was taken.
+const WORKED: [(Call, u64, Verdict); 9] = [
+    (Call::Draw(5), 5, Verdict::Done),
+    (Call::Show(6), 6, Verdict::Done),
+    (Call::Hear(7), 7, Verdict::Done),
+    (
+        Call::HearNothing(8),
+        8,
+        Verdict::Ignored(Cause::Decode(DecodeFault::Short)),
+    ),
+    (Call::Tick(9), 9, Verdict::Done),
+    (Call::Give, 9, Verdict::Done),
+    (Call::Leave(10), 10, Verdict::Done),
+    (Call::Leave(11), 11, Verdict::Refused(AgentFault::Leaving)),
+    (Call::Tick(12), 12, Verdict::Done),
 ];
 
 fn page(rt: &impl Abort, creator: u8, number: u16) -> Page {
@@ -44,39 +65,70 @@ fn fresh(rt: &impl Abort, alloc: Global) -> Result<Recorder<Listed>, Fail> {
     Ok(Recorder::new(alloc, config(rt, 1, 3), words, 0)?)
 }
 
-/// Each call once, and a leaving that is refused.
-fn work(rt: &impl Abort, alloc: Global, recorder: &mut Recorder<Listed>) -> Result<(), Fail> {
-    let body = Bytes::copy_from_slice(alloc, b"a")?;
-    let _ = recorder.draw(page(rt, 0, 0), body, 5);
-    let _ = recorder.show(page(rt, 0, 1), 6);
-    let _ = recorder.hear(HI, 7);
-    let _ = recorder.hear(b"", 8);
-    let _ = recorder.tick(9);
-    let _ = recorder.give(0);
-    let _ = recorder.leave(10);
-    let _ = recorder.leave(11);
-    let _ = recorder.tick(12);
-    Ok(())
+fn draw(rt: &impl Abort, alloc: Global, recorder: &mut Recorder<Listed>, now: u32) {
+    let body = Bytes::copy_from_slice(alloc, b"a").expect(rt, "a body");
+    let _ = recorder.draw(page(rt, 0, 0), body, now.into());
+}
+
+fn make(rt: &impl Abort, alloc: Global, recorder: &mut Recorder<Listed>, call: Call) {
+    match call {
+        Call::Draw(now) => draw(rt, alloc, recorder, now),
+        Call::Show(now) => {
+            let _ = recorder.show(page(rt, 0, 1), now.into());
+        }
+        Call::Hear(now) => {
+            let _ = recorder.hear(HI, now.into());
+        }
+        Call::HearNothing(now) => {
+            let _ = recorder.hear(b"", now.into());
+        }
+        Call::Tick(now) => {
+            let _ = recorder.tick(now.into());
+        }
+        Call::Give => {
+            let _ = recorder.give(0);
+        }
+        Call::Leave(now) => {
+            let _ = recorder.leave(now.into());
+        }
+    }
+}
+
+fn make_all(rt: &impl Abort, alloc: Global, recorder: &mut Recorder<Listed>) {
+    for (call, _, _) in WORKED {
+        make(rt, alloc, recorder, call);
+    }
+}
+
+fn check_entry(rt: &impl Abort, entry: &Entry, moment: u64, verdict: Verdict) {
+    assert_eq!(rt; (entry.moment, entry.verdict), (moment, verdict));
+}
+
+fn check_journal(rt: &impl Abort, journal: &Journal) {
+    assert_eq!(rt; (journal.start().made, journal.entries().len()), (0, 9));
+    for (entry, (_, moment, verdict)) in journal.entries().iter().zip(WORKED) {
+        check_entry(rt, entry, moment, verdict);
+    }
 }
 
 #[test]
 fn each_call_of_a_recorder_has_its_entry(rt: HostRuntime) -> Result<(), Fail> {
     let mut recorder = fresh(&rt, rt.alloc())?;
-    work(&rt, rt.alloc(), &mut recorder)?;
-    let journal = recorder.finish();
-    assert_eq!(rt; (journal.start().made, journal.entries().len()), (0, 9));
-    for (entry, wanted) in journal.entries().iter().zip(WORKED) {
-        assert_eq!(rt; (entry.moment, entry.verdict), wanted);
-    }
+    make_all(&rt, rt.alloc(), &mut recorder);
+    check_journal(&rt, &recorder.finish());
     Ok(())
+}
+
+fn check_next(rt: &impl Abort, recorder: &Recorder<Listed>, next: Option<u64>) {
+    assert_eq!(rt; recorder.next_due(), next);
 }
 
 #[test]
 fn a_recorder_tells_what_comes_next(rt: HostRuntime) -> Result<(), Fail> {
     let mut recorder = fresh(&rt, rt.alloc())?;
-    assert_eq!(rt; recorder.next_due(), Some(1_000_000));
+    check_next(&rt, &recorder, Some(1_000_000));
     assert_eq!(rt; recorder.new_page(), Some(page(&rt, 1, 0)));
-    work(&rt, rt.alloc(), &mut recorder)?;
-    assert_eq!(rt; recorder.next_due(), None);
+    make_all(&rt, rt.alloc(), &mut recorder);
+    check_next(&rt, &recorder, None);
     Ok(())
 }
