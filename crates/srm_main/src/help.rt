@@ -10,22 +10,40 @@ Plays a script of several members of one session, and prints what happens.
 
 The first lines of a script, in this order; the first is needed:
   members N           how many members there are, 1 to 32, with the numbers from 0
-  bucket R D          bytes a second that each may send, and the depth of its bucket
-  words M W ..        the words that waits of member M are drawn from, and then 0
+  bucket R D          bytes a second that each may send, 1 to 100000000, and the
+                      depth of its bucket in bytes, 1051 to 1000000; 8000 and
+                      4204 without this line
+  words M W ..        the words, below 2^64, that waits of member M are drawn from,
+                      and then 0; a line for each member at most, by rising M
   timers              timers are printed too
 
-Then a line for each event, at a moment T in microseconds where it has one:
-  draw M T C.P TEXT   member M draws on page P of creator C
+Then a line for each event, at a moment T in microseconds, 0 to 281474976710656
+(2^48), where it has one:
+  draw M T C.P TEXT   member M draws on page P, 0 to 65535, of creator C, 0 to 31;
+                      TEXT is up to 1024 printable ASCII characters, or missing
   tick M T            member M asks, repairs and sends what is due
-  deliver M T K       the datagram with number K comes to member M
+  deliver M T K       the datagram with number K, of all that were sent, from 0
+                      on, comes to member M
   show M T C.P        member M shows a page
   leave M T           member M begins to leave
-  give M J            member M gives the next message of slot J to its page worker
+  give M J            member M gives the next message of slot J, 0 to 7, to its
+                      page worker
   take M J            the page worker takes its next message
 
-A datagram that is never delivered is lost. An event that names no member, no
-datagram that was sent or no slot is skipped.
+Words stand one space apart, and an empty line is bad. A datagram that is never
+delivered is lost. An event of a member up to 31 that isn't there, of a datagram
+up to 4294967295 that wasn't sent yet, or of a slot from 8 to 255 is skipped; a
+greater number makes a bad line.
 
-Status: 0; 1 for a bad line or a stream that fails; 2 for a wrong command line;
-4 for want of memory.
+Printed are, with CAUSE 1 own, 2 gone, 3 conflict, 4 no slot for a page, 5 past
+a final, 6 no datagram of the session, 7 stranger, and WHY 1 leaving, 2 gone, 3
+no slot for the page, 4 stream full, 5 body too long:
+  drew M C.P N                  refused M WHY             skipped
+  out K M KIND BYTES            heard M taken             heard M ignored CAUSE
+  ask M S C.P N                 fix M S C.P N             shown M C.P
+  arm M ask|fix S C.P N EXPONENT WAIT                     leaving M
+  gave|took M J open C.P|draw S N TEXT|left S|close|none  gone M
+
+Status: 0; 1 for a bad line, a script of more than 1000000 bytes or a stream that
+fails; 2 for a wrong command line; 4 for want of memory.
 ";

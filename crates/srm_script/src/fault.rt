@@ -12,7 +12,7 @@ pub enum Fault {
     /// Standard input can't be read.
     #[error("srm: input")]
     Input,
-    /// The input has more bytes than a script may have.
+    /// The input has more than 1,000,000 bytes.
     #[error("input too long")]
     TooLong,
     /// The first bad line, by its number from 1.
@@ -21,6 +21,7 @@ pub enum Fault {
     /// Standard output can't be written.
     #[error("srm: output")]
     Output,
+    /// Memory ran out.
     #[error("srm: memory")]
     Memory,
 }

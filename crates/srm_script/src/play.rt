@@ -14,7 +14,10 @@ use std::io;
 use std::io::{BufWriter, Read, Write};
 
 /// Reads a script to its end, runs it and prints what happens. A fault goes to `err`, alone where the script has a bad
-/// line, since no line runs before all are checked. Answers the program's status.
+/// line, since no line runs before all are checked.
+///
+/// Answers the program's status: 0; 1 where the input can't be read, has more than 1,000,000 bytes or a bad line, or the output
+/// can't be written; 4 for want of memory.
 pub fn run_script<I: Read, O: Write, E: Write>(
     alloc: Global,
     reader: &mut I,
@@ -58,7 +61,7 @@ fn run_events<O: Write>(
     Ok(())
 }
 
-/// Applies an event and prints what it did. Refused are want of memory, and what the output refuses.
+/// Applies an event and prints what it did. Refused are [`Fault::Memory`] and [`Fault::Output`].
 pub fn run_event<O: Write>(
     world: &mut World<Listed>,
     event: Event,
@@ -75,7 +78,7 @@ pub fn run_event<O: Write>(
     printed.map_err(Fault::of_output)
 }
 
-/// Prints the newest entry of a world, if there is one.
+/// Prints the newest entry of a world, if there is one. Refused is what the output refuses.
 pub fn print_newest<O: Write>(
     world: &World<Listed>,
     report: &mut Report,

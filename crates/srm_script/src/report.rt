@@ -6,7 +6,7 @@ ghost use Rattle.srm_codec.specs.Spelling.{IsSpellable};
 mod shown;
 
 use shown::{ShownArm, ShownMessage, ShownName, ShownPage};
-use srm_agent::{AgentFault, AgentState, Arm, Cause, Effects, Entry, Input, Verdict};
+use srm_agent::{AgentState, Arm, Cause, Effects, Entry, Input, Verdict};
 use srm_codec::{Datagram, length};
 use srm_names::Name;
 use std::io;
@@ -22,11 +22,12 @@ pub struct Report {
 }
 
 impl Report {
+    /// A report of which nothing was printed yet, with timers or without.
     pub fn new(timers: bool) -> Report {
         Report { timers, sent: 0 }
     }
 
-    /// Prints the lines of an entry.
+    /// Prints the lines of an entry. Refused is what the output refuses.
     pub fn print_entry<W: Write>(&mut self, out: &mut W, entry: &Entry) -> io::Result<()>
         requires { AllByRecursion IsSpellable entry.now.effects.outs }
     {
@@ -38,7 +39,7 @@ impl Report {
                 "heard {member} ignored {}",
                 number_of_cause(cause)
             ),
-            Verdict::Refused(fault) => writeln!(out, "refused {member} {}", number_of_fault(fault)),
+            Verdict::Refused(fault) => writeln!(out, "refused {member} {}", fault as u8),
         }
     }
 
@@ -153,7 +154,7 @@ fn kind_of(datagram: &Datagram) -> &'static str {
     }
 }
 
-/// The number that a script's reader knows a cause by.
+/// The number that stands for a cause in a printed line (`docs/SCRIPTS.md`).
 fn number_of_cause(cause: Cause) -> u8 {
     match cause {
         Cause::Own => 1,
@@ -163,17 +164,5 @@ fn number_of_cause(cause: Cause) -> u8 {
         Cause::BeyondFinal => 5,
         Cause::Decode(_) => 6,
         Cause::Stranger => 7,
-    }
-}
-
-/// The number that a script's reader knows a refusal by.
-fn number_of_fault(fault: AgentFault) -> u8 {
-    match fault {
-        AgentFault::Leaving => 1,
-        AgentFault::Gone => 2,
-        AgentFault::PageLimit => 3,
-        AgentFault::StreamFull => 4,
-        AgentFault::BodyLong => 5,
-        AgentFault::Memory => 6,
     }
 }

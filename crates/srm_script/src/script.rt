@@ -19,7 +19,7 @@ use srm_timers::Listed;
 use srm_world::Event;
 use std::alloc::Global;
 
-/// The settings of all members, and the words of each. The events happen in order.
+/// The settings of all members, 1 to 32, and as many sources of words. The events happen in order.
 #[derive(Drop)]
 pub struct Script {
     pub configs: Vec<Config>,
@@ -29,7 +29,7 @@ pub struct Script {
     pub events: Vec<Event>,
 }
 
-/// Reads a whole script, and runs nothing of it. Refused is its first bad line, and want of memory.
+/// Reads a whole script, however long, and runs nothing of it. Refused is its first bad line, and want of memory.
 pub fn read_script(alloc: Global, text: &[u8]) -> Result<Script, Fault>
     ensures roster { IfOk result (λ script. IsRoster (started script.configs.items)) }
     ensures words { IfOk result (λ script. length script.words.items ≡ length script.configs.items) }
