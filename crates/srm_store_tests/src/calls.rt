@@ -110,7 +110,10 @@ fn release_stops_at_a_gap_until_it_is_filled(rt: HostRuntime) -> Result<(), Fail
     assert_released(&rt, &store, first, 0);
     fresh(&rt, rt.alloc(), &mut store, first)?;
     assert_released(&rt, &store, first, 2);
-    assert_eq!(rt; (store.holds(first), store.holds(name(&rt, 0, 0, 3))), (true, false));
+    assert_eq!(rt;
+        (store.holds(first), store.holds(name(&rt, 0, 0, 3))),
+        (true, false)
+    );
     Ok(())
 }
 
