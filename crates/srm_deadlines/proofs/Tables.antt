@@ -4,12 +4,12 @@ use Rattle.std.specs.Prelude.{find, is_some, IfSome, if◌then◌else◌, Result
 use Rattle.std.specs.List.{list_any}
 use Rattle.std.proofs.lemmas.List.Folds.{list_any_more, list_any_at}
 use Rattle.std.proofs.lemmas.List.{length-map}
-use Rattle.std.specs.Map.{lookup}
+use Rattle.std.specs.Map.{keys_of, lookup}
 use Rattle.srm_names.specs.FullName.{FullName}
 use Rattle.srm_names.specs.Names.{same_name, among}
 use Rattle.srm_names.proofs.Same.{same_name-is}
 use Rattle.srm_deadlines.specs.declared.by_name.Place.{Place}
-use Rattle.srm_deadlines.specs.Places.{value_in, value_at, is_at, has_place, Holds, GivesPlaces, Keeps, Sets, ClearsAll, HasPlaces}
+use Rattle.srm_deadlines.specs.Places.{value_in, value_at, place_names, is_at, has_place, Holds, GivesPlaces, Keeps, Sets, ClearsAll, HasPlaces}
 use Rattle.srm_deadlines.specs.PlacesOf.{place_of, places_of}
 use Rattle.srm_deadlines.proofs.Same.{same_itself, same_flip}
 
@@ -52,6 +52,10 @@ module _ {V : Type 0} where
       go : (b : Bool) → value_at (places_of es) n ≡ flat (lookup (same_name n) es) → value_in (cond b (Some (place_of e)) (find (is_at n) (places_of es))) ≡ flat (cond b (Some e.1) (lookup (same_name n) es))
       go true h = refl
       go false h = h
+
+  pub names_as_keys : (es : Entries V) → place_names (places_of es) ≡ keys_of es
+  names_as_keys [] = refl
+  names_as_keys (e ∷ es) = ap (λ ns. e.0 ∷ ns) (names_as_keys es)
 
   pub place_found : (es : Entries V) (n : FullName) → has_place (places_of es) n ≡ is_some (lookup (same_name n) es)
   place_found [] n = refl

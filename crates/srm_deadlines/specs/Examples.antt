@@ -10,7 +10,7 @@ use Rattle.srm_deadlines.specs.declared.timed.Timed.{Timed}
 use Rattle.srm_deadlines.specs.Agenda.{timed_order, of_name, timed_for, timed_among, is_due}
 use Rattle.srm_deadlines.specs.Deadlines.{has_come, DueAmong, DueFit}
 use Rattle.srm_deadlines.specs.Least.{lesser}
-use Rattle.srm_deadlines.specs.Places.{value_in, value_at, has_place, moment_among, Holds, GivesPlaces, Keeps, Sets, SetsAll, ClearsAll, HasPlaces, IsLeast}
+use Rattle.srm_deadlines.specs.Places.{value_in, value_at, has_place, moment_among, Holds, GivesPlaces, Keeps, Sets, SetsAll, ClearsAll, HasPlaces, IsLeast, place_names}
 
 -- ---- places: three names, of which the second has no moment, and a fourth without a place
 
@@ -31,6 +31,9 @@ no_value_of_the_fourth = refl
 
 place_of_the_second : has_place places (name 0 2) ≡ true
 place_of_the_second = refl
+
+names_with_a_place : place_names places ≡ name 0 1 ∷ name 0 2 ∷ name 1 1 ∷ []
+names_with_a_place = refl
 
 no_place_of_the_fourth : has_place places (name 2 1) ≡ false
 no_place_of_the_fourth = refl

@@ -22,6 +22,10 @@ value_at places n = value_in (find (is_at n) places)
 abbrev pub has_place : {V : Type 0} → List (Place V) → FullName → Bool
 has_place places n = list_any (is_at n) places
 
+-- the names that have a place
+abbrev pub place_names : {V : Type 0} → List (Place V) → List FullName
+place_names {V = V} places = map (λ (p : Place V). p.name) places
+
 -- places stay
 pub record Holds {V : Type 0} (old new : List (Place V)) : Type 0 where
   pub each : (n : FullName) → has_place old n ≡ true → has_place new n ≡ true

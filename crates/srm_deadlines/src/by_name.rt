@@ -1,9 +1,10 @@
 //! Values by name.
 
 ghost use Rattle.std.specs.Prelude.{◌≡◌, ℕ, ◌≤◌, ◌<◌, ◌+◌, ◌^◌, List, [], ◌∷◌, Bool, true, OnOk, OnErr, IsOk, length, slice_index_or, Some, None};
+ghost use Rattle.std.specs.List.{IsDistinct};
 ghost use Rattle.srm_names.specs.FullName.{FullName};
-ghost use Rattle.srm_names.specs.Names.{among, ascending, name_below};
-ghost use Rattle.srm_deadlines.specs.Places.{value_at, has_place, names_of, Holds, GivesPlaces, Keeps, Sets, SetsAll, ClearsAll, HasPlaces};
+ghost use Rattle.srm_names.specs.Names.{among, ascending, name_below, same_name};
+ghost use Rattle.srm_deadlines.specs.Places.{value_at, has_place, names_of, place_names, Holds, GivesPlaces, Keeps, Sets, SetsAll, ClearsAll, HasPlaces};
 
 use crate::timed::Timed;
 use indexmap::IndexMap;
@@ -44,15 +45,16 @@ impl<V: Copy> ByName<V> {
         }
     }
 
-    /// How many names have a place.
+    /// How many names have a place. Each has one.
     pub fn len(&self) -> usize
         ensures value { result ≡ length self.now }
+        ensures once { IsDistinct same_name (place_names self.now) }
         ensures small { result < 2 ^ 63 }
     {
         self.places.len()
     }
 
-    /// The place at an index below [`len`](ByName::len), in whatever order.
+    /// The place at an index below [`len`](ByName::len), in an order that any changing call may change.
     pub fn place(&self, index: usize) -> Place<V>
         requires { index < length self.now }
         ensures place { result ≡ slice_index_or self.now index result }

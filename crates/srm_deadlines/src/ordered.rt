@@ -1,8 +1,8 @@
 //! Deadlines in order.
 
-ghost use Rattle.std.specs.Prelude.{◌≡◌, [], true, OnOk, IsOk};
+ghost use Rattle.std.specs.Prelude.{◌≡◌, [], ◌∷◌, true, OnOk, IsOk};
 ghost use Rattle.srm_names.specs.Names.{ascending, name_below};
-ghost use Rattle.srm_deadlines.specs.Places.{has_place, names_of, Holds, Keeps, SetsAll, ClearsAll, HasPlaces};
+ghost use Rattle.srm_deadlines.specs.Places.{has_place, names_of, Holds, GivesPlaces, Keeps, SetsAll, ClearsAll, HasPlaces};
 
 use crate::agenda::Agenda;
 use crate::by_name::ByName;
@@ -52,6 +52,7 @@ impl Ordered {
     fn make_place(&mut self, name: Name) -> Result<(), AllocError>
         ensures kept { Keeps self.old self.new }
         ensures held { Holds self.old self.new }
+        ensures only { GivesPlaces (name ∷ []) self.old self.new }
         ensures ok { OnOk result (has_place self.new name ≡ true) }
         ensures again { has_place self.old name ≡ true → IsOk result }
     {
@@ -68,6 +69,7 @@ impl Ordered {
         requires places { HasPlaces (names_of moments.now) self.old }
         ensures sets { SetsAll moments.now self.old self.new }
         ensures held { Holds self.old self.new }
+        ensures only { GivesPlaces [] self.old self.new }
     {
         for timed in moments {
             self.set(timed.name, timed.moment);
@@ -80,6 +82,7 @@ impl Ordered {
         requires places { HasPlaces (names_of moments.now) self.old }
         ensures sets { SetsAll moments.now self.old self.new }
         ensures held { Holds self.old self.new }
+        ensures only { GivesPlaces [] self.old self.new }
     {
         self.agenda.remove_timed(moments);
         self.moments.set_all(moments);
@@ -91,6 +94,7 @@ impl Ordered {
         requires { ascending name_below names.now ≡ true }
         ensures sets { ClearsAll names.now self.old self.new }
         ensures held { Holds self.old self.new }
+        ensures only { GivesPlaces [] self.old self.new }
     {
         self.agenda.remove_all(names);
         self.moments.clear_all(names);
