@@ -13,8 +13,8 @@ The first lines of a script, in this order; the first is needed:
   bucket R D          bytes a second that each may send, 1 to 100000000, and the
                       depth of its bucket in bytes, 1051 to 1000000; 8000 and
                       4204 without this line
-  words M W ..        the words, below 2^64, that waits of member M are drawn from,
-                      and then 0; a line for each member at most, by rising M
+  words M W ..        the words, below 2^64, that waits of member M, below N, are
+                      drawn by, and then 0; at most one line a member, by rising M
   timers              timers are printed too
 
 Then a line for each event, at a moment T in microseconds, 0 to 281474976710656
@@ -30,14 +30,16 @@ Then a line for each event, at a moment T in microseconds, 0 to 281474976710656
                       page worker
   take M J            the page worker takes its next message
 
-Words stand one space apart, and an empty line is bad. A datagram that is never
-delivered is lost. An event of a member up to 31 that isn't there, of a datagram
-up to 4294967295 that wasn't sent yet, or of a slot from 8 to 255 is skipped; a
-greater number makes a bad line.
+Words stand one space apart, numbers are decimal without leading zeros, and an
+empty line is bad. A datagram that is never delivered is lost. An event of a
+member up to 31 that isn't there, of a datagram up to 4294967295 that wasn't sent
+yet, or of a slot from 8 to 255 is skipped; a greater number makes a bad line.
 
-Printed are, with CAUSE 1 own, 2 gone, 3 conflict, 4 no slot for a page, 5 past
-a final, 6 no datagram of the session, 7 stranger, and WHY 1 leaving, 2 gone, 3
-no slot for the page, 4 stream full, 5 body too long:
+What is printed, with S a drawop's source, N its number there, K a datagram's
+number, KIND data, request, repair or session; CAUSE 1 own, 2 gone, 3 conflict,
+4 no slot for a page, 5 past a final, 6 no datagram of the session, 7 stranger;
+WHY 1 leaving, 2 gone, 3 no slot for the page, 4 stream full, 5 body too long. A
+tick with nothing to do prints nothing.
   drew M C.P N                  refused M WHY             skipped
   out K M KIND BYTES            heard M taken             heard M ignored CAUSE
   ask M S C.P N                 fix M S C.P N             shown M C.P

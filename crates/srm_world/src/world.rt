@@ -102,8 +102,9 @@ impl<W: Words + Drop> World<W> {
         self.happen(&event)
     }
 
-    /// Applies events in order, with moments up to 2^48. Want of memory stops it with [`WorldFault::Memory`], and leaves the world as after the events
-    /// before. How many these are it doesn't tell: who would go on from there applies them one by one with [`World::apply`].
+    /// Applies events in order, with moments up to 2^48. Want of memory stops it with [`WorldFault::Memory`], and leaves the world
+    /// as after the events before. How many these are it doesn't tell: who would go on from there applies them one by one with
+    /// [`World::apply`].
     #[tactic(auto, using(crate::proofs::Stepping::runs_from))]
     pub fn run(&mut self, events: &[Event]) -> Result<(), WorldFault>
         requires { All IsTimely events.now }
