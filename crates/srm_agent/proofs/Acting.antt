@@ -13,7 +13,7 @@ use Rattle.srm_bucket.specs.Fits.{Stays as BucketStays}
 use Rattle.srm_bucket.specs.Waiting.{Waiting, SameQueues, queue, count_of}
 use Rattle.srm_agent.specs.declared.agent.due.Due.{Due}
 use Rattle.srm_agent.specs.declared.agent.due.Report.{Report}
-use Rattle.srm_agent.specs.declared.answers.Answer.{Answer}
+use Rattle.srm_outbox.specs.declared.answers.Answer.{Answer}
 use Rattle.srm_entries.specs.declared.entry.Entry.{Entry}
 use Rattle.srm_entries.specs.declared.entry.Input.TheVariants.{Ticked}
 use Rattle.srm_agent_parts.specs.declared.out.Out.{Out}
@@ -30,11 +30,11 @@ use Rattle.srm_agent.specs.Fits.{Fits, BucketFits}
 use Rattle.srm_agent_parts.specs.TimersKept.{TimersFit}
 use Rattle.srm_agent_parts.specs.Outs.{IsOut, IsOutgoing, IsOwn, AreOwn}
 use Rattle.srm_agent_parts.specs.TimerCalls.{TicksWith, TimersAdd, TimersStay}
-use Rattle.srm_agent.specs.Answering.{AreAnswers}
-use Rattle.srm_agent.specs.Outbox.{WentContent}
+use Rattle.srm_outbox.specs.Answering.{AreAnswers}
+use Rattle.srm_outbox.specs.Outbox.{WentContent}
 use Rattle.srm_agent.specs.Noting.{Enters, Stays, AnswersAs, IsTicked}
 use Rattle.srm_agent.specs.Ticking.{tick_entry, IsReportAt, IsReportIf, IsDue, HandsOut, SendsAll, data_waits, last_report, state_after, due_then}
-use Rattle.srm_agent.proofs.Handing.{all-append}
+use Rattle.srm_outbox.proofs.Handing.{all-append}
 use Rattle.srm_entries.proofs.Ending.{ending_of, ending_is, EndsIn, NoSessions, charged_is, due_by}
 use Rattle.srm_agent.proofs.Sent.{bucket_ticks}
 use Rattle.srm_agent.proofs.Ticks.{IsSent, TickKeeps, TickRight, tick_fits}

@@ -10,13 +10,14 @@ use Rattle.srm_codec.specs.Spelling.{is_drawop}
 use Rattle.srm_store.specs.Held.{held_at}
 use Rattle.srm_store.specs.Finals.{Settling}
 use Rattle.srm_store.specs.Fits as store
-use Rattle.srm_agent.specs.declared.answers.Answer.{Answer}
+use Rattle.srm_outbox.specs.declared.answers.Answer.{Answer}
 use Rattle.srm_entries.specs.Configs.{Config}
 use Rattle.srm_entries.specs.Entries.{held, shown_to_exist}
 use Rattle.srm_entries.specs.Verdicts.{settlings}
 use Rattle.srm_entries.specs.Packing.{packed}
 use Rattle.srm_agent.specs.Contents.{Content}
-use Rattle.srm_agent.specs.Answering.{AreAnswers, AnswersDue}
+use Rattle.srm_agent.specs.Answering.{AnswersDue}
+use Rattle.srm_outbox.specs.Answering.{AreAnswers}
 
 pub answers_due : {W D E : Type 0} (a : Content W) (me : ℕ) (asks fixes : List FullName) (gs : List Datagram) (items_of : D → List Answer) (r : Result D E) → me ≡ a.config.me
     → ((held : List Drawop) (shown : List FullName) (settled : List Settling) → store.Fits held shown settled a.store → AllByRecursion is_drawop held → gs ≡ packed me asks ++ filter_map (λ n. option_map (Repair me) (held_at held n)) fixes)

@@ -50,15 +50,14 @@ use Rattle.srm_entries.specs.Sessions.{session_due, pause_after, is_session}
 use Rattle.srm_entries.specs.Bucket.{Going, GoesRight, bucket_calls, classed}
 use Rattle.srm_entries.specs.Runs.{EntryRight}
 use Rattle.srm_agent_parts.specs.PageTables.{with_page}
-use Rattle.srm_agent_parts.specs.TimersKept.{TimersContent}
+use Rattle.srm_agent_parts.specs.TimersKept.{TimersContent, TimersFit, shown_if}
 use Rattle.srm_agent.specs.Contents.{Content}
-use Rattle.srm_agent.specs.Fits.{Fits, FeedsFit, BucketFits, datagram_of}
-use Rattle.srm_agent_parts.specs.TimersKept.{TimersFit, shown_if}
+use Rattle.srm_agent.specs.Fits.{Fits, FeedsFit, BucketFits}
+use Rattle.srm_agent_parts.specs.Outs.{datagram_of, IsOwn}
 use Rattle.srm_agent.specs.Noting.{IsAllowed, Enters, Stays, still_entry}
 use Rattle.srm_agent.specs.declared.agent.drawing.Draft.{Draft}
-use Rattle.srm_agent_parts.specs.Outs.{IsOwn}
 use Rattle.srm_agent.specs.Drawing.{refusals, name_after, drawn_entry, IsDraftOf}
-use Rattle.srm_agent.specs.Heeding.{HoldsToo}
+use Rattle.srm_agent_parts.specs.Growth.{HoldsToo}
 use Rattle.srm_entries.proofs.Adding.{known-snoc, is_missing-snoc, flat_map-snoc, last_ask-snoc, fix_running-snoc, held_off-snoc}
 use Rattle.srm_entries.proofs.Showing.{kind, shown_drawing, shown_hearing, shown_quiet, shown-snoc, held-snoc, drawn-snoc, state-snoc, held_is_shown, refused_is_not_done}
 use Rattle.srm_agent_parts.proofs.Running.{steps_more, last_moment-snoc, shown-page-snoc, slots-one}

@@ -1,43 +1,26 @@
 -- What a request shows of a stream, and which names become missing by it.
-use Rattle.std.proofs.Common.{◌≡◌, ℕ, ◌+◌, ◌<◌, ◌≤◌, max, Bool, true, false, not, ◌&&◌, ◌||◌, List, [], ◌∷◌, ◌++◌, map, length, get_or, refl, ap, sym, ◌∙◌, arith}
+use Rattle.std.proofs.Common.{◌≡◌, ℕ, ◌+◌, ◌≤◌, max, Bool, true, false, not, ◌&&◌, ◌||◌, List, [], ◌∷◌, ◌++◌, map, refl, ap, sym, ◌∙◌, arith}
 use Rattle.std.specs.Prelude.{nat_lt, nat_le, if◌then◌else◌}
 use Rattle.std.specs.List.{flat_map}
 use Rattle.std.proofs.lemmas.Bool.Decides.{nat_tests}
 use Rattle.std.proofs.lemmas.List.{append-nil}
-use Rattle.std.proofs.lemmas.List.Folds.{list_any_at}
 use Rattle.srm_names.specs.declared.stream.Stream.{Stream}
 use Rattle.srm_names.specs.FullName.{FullName}
 use Rattle.srm_names.specs.Histories.{greatest}
-use Rattle.srm_names.specs.Names.{same_stream, same_name, among, named, AreExactly}
+use Rattle.srm_names.specs.Names.{same_stream, named, AreExactly}
 use Rattle.srm_names.proofs.Same.{same_stream-is}
 use Rattle.srm_codec.specs.declared.datagram.Datagram.TheVariants.{Request}
 use Rattle.srm_codec.specs.Spelling.{asked_by, bits_set}
 use Rattle.srm_store.specs.Held.{greatest_in, number_in}
-use Rattle.srm_deadlines.proofs.Same.{same_itself}
 use Rattle.srm_timers.specs.declared.arm.Arm.{Arm}
 use Rattle.srm_entries.specs.declared.entry.Entry.{Entry}
 use Rattle.srm_entries.specs.declared.state.AgentState.{AgentState}
 use Rattle.srm_entries.specs.Entries.{is_held, is_missing, known}
-use Rattle.srm_agent.specs.Growth.{is_between}
+use Rattle.srm_agent_parts.specs.Growth.{is_between}
 use Rattle.srm_agent.specs.Heeding.{heard_entry}
 use Rattle.srm_agent_parts.specs.TimerCalls.{AreFresh}
-use Rattle.srm_entries.proofs.Adding.{flat_map-snoc, greatest-append, shows, is_missing-snoc}
+use Rattle.srm_entries.proofs.Adding.{shows, is_missing-snoc}
 use Rattle.srm_agent.proofs.Fresh.{held_known}
-
--- the greatest number of a stream among names, and one more
-
-one_number : (b : Bool) (n : ℕ) → greatest (if b then n ∷ [] else []) ≡ (if b then n else 0)
-one_number true n = omega arith
-one_number false n = refl
-
-pub greatest_in-snoc : (names : List FullName) (n : FullName) (s : Stream) → greatest_in (names ++ n ∷ []) s ≡ max (greatest_in names s) (if same_stream s n.stream then n.number else 0)
-greatest_in-snoc names n s =
-    ap greatest (flat_map-snoc (number_in s) names n) ∙ greatest-append (flat_map (number_in s) names) (number_in s n)
-    ∙ ap (max (greatest_in names s)) (one_number (same_stream s n.stream) n.number)
-
--- a name of a list is among it
-pub is_among : (names : List FullName) (i : ℕ) (n : FullName) → n ≡ get_or names i n → i < length names → among names n ≡ true
-is_among names i n is l = list_any_at (same_name n) names i n l (ap (same_name n) (sym is) ∙ same_itself n)
 
 -- a request shows nothing of another stream
 

@@ -5,7 +5,8 @@ use Rattle.srm_bucket.proofs.Mapping.{law-read}
 use Rattle.srm_entries.specs.declared.entry.Entry.{Entry}
 use Rattle.srm_entries.specs.Configs.{Config}
 use Rattle.srm_agent.specs.Contents.{Content}
-use Rattle.srm_agent.specs.Fits.{Fits, datagram_of}
+use Rattle.srm_agent.specs.Fits.{Fits}
+use Rattle.srm_agent_parts.specs.Outs.{datagram_of}
 use Rattle.srm_entries.specs.Runs.{IsMemberRun}
 
 pub fits_run : {W : Type 0} (c : Config) (made : ℕ) (past : List Entry) (a : Content W) → Fits c made past a → IsMemberRun c made past

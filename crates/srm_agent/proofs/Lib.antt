@@ -9,12 +9,9 @@ pub mod Drawn
 pub mod Fitting
 pub mod Deciding
 pub mod Leavers
-pub mod Requesting
 pub mod Rows
 pub mod Sorting
 pub mod ReportSpelled
-pub mod Handing
-pub mod Spelling
 pub mod Sent
 pub mod Unsent
 pub mod Ticks
@@ -22,7 +19,6 @@ pub mod Acting
 pub mod TicksTimers
 pub mod Ignoring
 pub mod Heeded
-pub mod Growing
 pub mod Fresh
 pub mod Taken
 pub mod AnswersDue

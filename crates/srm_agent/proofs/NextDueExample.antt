@@ -3,7 +3,7 @@ use Rattle.std.proofs.Common.{◌≡◌, ℕ, ◌<◌, true, false, not, ◌||�
 use Rattle.std.specs.Prelude.{Some, None, nat_le, if◌then◌else◌}
 use Rattle.std.proofs.lemmas.Bool.Decides.{nat_tests}
 use Rattle.srm_names.specs.FullName.{FullName}
-use Rattle.srm_names.specs.Names.{first_page}
+use Rattle.srm_names.specs.Names.{first_page, named}
 use Rattle.srm_codec.specs.declared.datagram.Datagram.{Datagram}
 use Rattle.srm_codec.specs.declared.datagram.Datagram.TheVariants.{Session}
 use Rattle.srm_bucket.specs.Law.{BucketLaw}
@@ -18,7 +18,6 @@ use Rattle.srm_entries.specs.Runs.{EntryRight, IsMemberRun}
 use Rattle.srm_entries.proofs.Parting.{tick_draws_nothing}
 use Rattle.srm_entries.proofs.Rating.{rate_law}
 use Rattle.srm_names.specs.Histories.{steps}
-use Rattle.srm_names.specs.Names.{first_page, named}
 use Rattle.srm_bucket.specs.Calls.{Classed}
 use Rattle.std.specs.List.{AllByRecursion}
 use Rattle.srm_entries.specs.Promises.{MayDoNothing, IsNextDue}

@@ -28,7 +28,8 @@ use Rattle.srm_entries.specs.Timers.{last_ask, fix_running}
 use Rattle.srm_entries.specs.Sessions.{is_session, charged, ending, EndsWith}
 use Rattle.srm_entries.specs.Bucket.{Going, GoesRight, entries_of, datagrams_of, bucket_calls}
 use Rattle.srm_entries.specs.Runs.{EntryRight, IsMemberRun}
-use Rattle.srm_agent.specs.Fits.{Fits, datagram_of}
+use Rattle.srm_agent.specs.Fits.{Fits}
+use Rattle.srm_agent_parts.specs.Outs.{datagram_of}
 use Rattle.srm_agent_parts.specs.TimersKept.{shown_if}
 use Rattle.srm_entries.specs.Promises.{MayDoNothing}
 use Rattle.srm_agent_parts.specs.TimerCalls.{ask_running}

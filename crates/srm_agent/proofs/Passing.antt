@@ -15,7 +15,7 @@ use Rattle.srm_agent.specs.declared.ticked.Ticked as answers
 use Rattle.srm_agent.specs.Contents.{Content}
 use Rattle.srm_agent.specs.Fits.{Fits}
 use Rattle.srm_agent.specs.Noting.{Enters, AnswersAs, IsTicked}
-use Rattle.srm_agent.specs.Outbox.{Passes}
+use Rattle.srm_outbox.specs.Outbox.{Passes}
 use Rattle.srm_agent.specs.Ticking.{tick_entry}
 use Rattle.srm_agent.specs.Waking.{IsEarly, Stirs}
 use Rattle.srm_agent.proofs.Entering.{of_member}

@@ -23,14 +23,14 @@ use Rattle.srm_entries.specs.Configs.{Config}
 use Rattle.srm_entries.specs.Entries.{is_gone, held, shown_to_exist, drawops_in}
 use Rattle.srm_entries.specs.Distances.{distance_calls, calls_in, calls_of}
 use Rattle.srm_entries.specs.Verdicts.{settlings, settling_of}
-use Rattle.srm_agent.specs.Growth.{is_between}
+use Rattle.srm_agent_parts.specs.Growth.{is_between, HoldsToo}
 use Rattle.srm_agent_parts.specs.PageTables.{with_pages_of}
 use Rattle.srm_agent_parts.specs.TimersKept.{HaveSettings, TimersContent}
 use Rattle.srm_distance.specs.Fits.{IsTableOf}
 use Rattle.srm_agent_parts.specs.TimerCalls.{AreDistancesAfter, TimersHear, TimersStay, WaitsAreDrawn}
 use Rattle.srm_agent.specs.Contents.{Content}
 use Rattle.srm_agent.specs.Fits.{Fits}
-use Rattle.srm_agent.specs.Heeding.{IsTaken, HoldsToo, IsFreshBelow, heard_entry}
+use Rattle.srm_agent.specs.Heeding.{IsTaken, IsFreshBelow, heard_entry}
 use Rattle.srm_agent.specs.Noting.{Enters, Stays}
 use Rattle.srm_entries.proofs.Adding.{flat_map-snoc}
 use Rattle.srm_agent.proofs.Entering.{of_member}

@@ -24,7 +24,7 @@ use Rattle.srm_agent.specs.Fits.{Fits, BucketFits}
 use Rattle.srm_agent_parts.specs.TimersKept.{TimersFit}
 use Rattle.srm_entries.proofs.Adding.{flat_map-snoc}
 use Rattle.srm_entries.proofs.Ending.{EndsIn, NoSessions, session_right, due_by, due_after}
-use Rattle.srm_agent.proofs.Handing.{all-append}
+use Rattle.srm_outbox.proofs.Handing.{all-append}
 use Rattle.srm_agent_parts.proofs.Running.{steps_more, shown-page-snoc, slots-same}
 use Rattle.srm_entries.proofs.Showing.{held-snoc, shown-snoc, drawn-snoc, state-snoc}
 use Rattle.srm_entries.proofs.Spending.{tick_is_last}

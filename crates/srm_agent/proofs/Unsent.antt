@@ -29,7 +29,8 @@ use Rattle.srm_entries.specs.Sessions.{is_data, is_session, charged, all_data_se
 use Rattle.srm_entries.specs.Packing.{is_covered_by, packed_after, packed, mask_of}
 use Rattle.srm_entries.specs.Bucket.{Going, GoesRight, class_for, page_of, answer_item, data_item, answers_in, handed_by, repair_of, entries_of, bucket_calls, datagrams_of}
 use Rattle.srm_entries.specs.Rates.{one_of_class, of_class, handed_so_far, gone_so_far}
-use Rattle.srm_agent.specs.Fits.{BucketFits, datagram_of}
+use Rattle.srm_agent.specs.Fits.{BucketFits}
+use Rattle.srm_agent_parts.specs.Outs.{datagram_of}
 use Rattle.srm_entries.proofs.Adding.{flat_map-append}
 use Rattle.srm_entries.proofs.Marking.{gone_is, handed_is}
 use Rattle.srm_entries.proofs.Sending.{went_first, went_is_charged, in_its_class}

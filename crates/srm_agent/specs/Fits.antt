@@ -4,7 +4,6 @@ use Rattle.std.specs.List.{AllByRecursion}
 use Rattle.srm_names.specs.declared.limits.TheConstants.{PAGES}
 use Rattle.srm_names.specs.declared.page.Page.{Page}
 use Rattle.srm_names.specs.Histories.{steps}
-use Rattle.srm_codec.specs.declared.datagram.Datagram.{Datagram}
 use Rattle.srm_codec.specs.Spelling.{is_drawop}
 use Rattle.srm_store.specs.Fits as store
 use Rattle.srm_distance.specs.Fits as distances
@@ -22,12 +21,10 @@ use Rattle.srm_entries.specs.Sessions.{session_due}
 use Rattle.srm_entries.specs.Bucket.{Going, GoesRight, entries_of, bucket_calls}
 use Rattle.srm_entries.specs.Giving.{given}
 use Rattle.srm_entries.specs.Runs.{EntryRight}
+use Rattle.srm_agent_parts.specs.Outs.{datagram_of}
 use Rattle.srm_agent_parts.specs.Feeds.{FeedContent, FeedFits}
 use Rattle.srm_agent_parts.specs.TimersKept.{TimersFit}
 use Rattle.srm_agent.specs.Contents.{Content}
-
-abbrev pub datagram_of : Outgoing → Datagram
-datagram_of o = o.out.datagram
 
 -- what waits for the bucket was handed in by the entries, and is spelled
 pub record BucketFits (c : Config) (past : List Entry) (b : BucketContent Outgoing) : Type 0 where

@@ -1,14 +1,10 @@
 -- What hearing one datagram says of its entry.
-use Rattle.std.specs.Prelude.{◌≡◌, ◌≢◌, ℕ, List, [], ◌∷◌, ◌++◌, None}
-use Rattle.srm_names.specs.declared.drawop.Drawop.{Drawop}
+use Rattle.std.specs.Prelude.{◌≡◌, ◌≢◌, ℕ, List, [], None}
 use Rattle.srm_names.specs.FullName.{FullName}
 use Rattle.srm_names.specs.Names.{AreExactly}
 use Rattle.srm_codec.specs.declared.datagram.Datagram.{Datagram}
 use Rattle.srm_codec.specs.declared.fault.DecodeFault.{DecodeFault}
 use Rattle.srm_codec.specs.declared.fault.DecodeFault.TheVariants as decoding
-use Rattle.srm_store.specs.Finals.{Settling}
-use Rattle.srm_store.specs.Fits as store
-use Rattle.srm_store.specs.Stores.{StoreContent}
 use Rattle.srm_timers.specs.declared.arm.Arm.{Arm}
 use Rattle.srm_entries.specs.declared.cause.Cause.TheVariants as causes
 use Rattle.srm_entries.specs.declared.state.AgentState.{AgentState}
@@ -19,7 +15,7 @@ use Rattle.srm_entries.specs.Configs.{Config}
 use Rattle.srm_agent.specs.Contents.{Content}
 use Rattle.srm_agent.specs.Fits.{Fits}
 use Rattle.srm_entries.specs.Entries.{known}
-use Rattle.srm_agent.specs.Growth.{is_between}
+use Rattle.srm_agent_parts.specs.Growth.{is_between}
 use Rattle.srm_entries.specs.Verdicts.{verdict_of}
 
 -- the verdict is that on the datagram, after whatever run the agent fitted
@@ -45,10 +41,6 @@ heard_entry me moment datagram arms state = record {
   verdict = Done;
   effects = record { drawn = None; arms = arms; asks = []; fixes = []; outs = []; message = None; state = state };
 }
-
--- a drawop is held, and its name known of
-pub record HoldsToo (d : Drawop) (old new : StoreContent) : Type 0 where
-  pub each : (inserted : List Drawop) (shown : List FullName) (settled : List Settling) → store.Fits inserted shown settled old → store.Fits (inserted ++ d ∷ []) (shown ++ d.name ∷ []) settled new
 
 -- the names are those below this one that aren't known of, in order, after whatever run the agent fitted
 pub record IsFreshBelow {W : Type 0} (name : FullName) (old : Content W) (names : List FullName) : Type 0 where

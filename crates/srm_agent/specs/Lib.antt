@@ -7,7 +7,6 @@ pub mod Heeding
 pub mod Noting
 pub mod Reports
 pub mod Answering
-pub mod Outbox
 pub mod Waking
 pub mod Ticking
 pub mod Examples

@@ -12,7 +12,7 @@ use Rattle.srm_bucket.specs.Waiting.{queue}
 use Rattle.srm_agent.specs.declared.agent.due.Due.{Due}
 use Rattle.srm_agent.specs.declared.agent.due.Report.{Report}
 use Rattle.srm_agent.specs.declared.agent.due.HandedOut.{HandedOut}
-use Rattle.srm_agent.specs.declared.answers.Answer.{Answer}
+use Rattle.srm_outbox.specs.declared.answers.Answer.{Answer}
 use Rattle.srm_entries.specs.declared.entry.Entry.{Entry}
 use Rattle.srm_entries.specs.declared.entry.Input.TheVariants.{Ticked}
 use Rattle.srm_entries.specs.declared.entry.Verdict.TheVariants.{Done}
@@ -29,7 +29,7 @@ use Rattle.srm_agent_parts.specs.TimersKept.{TimersContent}
 use Rattle.srm_agent_parts.specs.TimerCalls.{AsksPending, FixesPending, AreToAsk, AreToFix, TicksWith, TimersAdd}
 use Rattle.srm_agent.specs.Reports.{IsReportSpelled}
 use Rattle.srm_agent.specs.Answering.{AnswersDue}
-use Rattle.srm_agent.specs.Outbox.{WentContent, HandsIn, LetsGo}
+use Rattle.srm_outbox.specs.Outbox.{WentContent, HandsIn, LetsGo}
 
 -- the entry of a tick: what it hands out, which timers it sets, what it sends, and the state after it
 abbrev pub tick_entry : ℕ → ℕ → List FullName → List FullName → List Arm → List Datagram → AgentState → Entry

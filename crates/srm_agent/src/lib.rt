@@ -2,15 +2,8 @@
 #![tactic(auto)]
 
 mod agent;
-mod answers;
-mod between;
-mod evidence;
 mod heard;
-mod keeping;
 mod noted;
-mod outbox;
-mod packing;
-mod reports;
 mod ticked;
 
 pub use agent::Agent;

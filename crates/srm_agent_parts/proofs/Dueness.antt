@@ -31,8 +31,7 @@ use Rattle.srm_entries.specs.declared.entry.Entry.{Entry}
 use Rattle.srm_entries.specs.Entries.{heard, state, is_gone, shown_by, drawops_in, names_heard, is_held, is_missing, known}
 use Rattle.srm_entries.specs.Distances.{distance}
 use Rattle.srm_entries.specs.Timers.{arm_of, asker, asker_in, repaired, repairs_in, ask_exponent, ask_setting, fix_setting, setting_of, last_ask, fix_running, held_off, TimersRight}
-use Rattle.srm_agent_parts.specs.TimersKept.{TimersContent}
-use Rattle.srm_agent_parts.specs.TimersKept.{shown_if}
+use Rattle.srm_agent_parts.specs.TimersKept.{TimersContent, shown_if}
 use Rattle.srm_agent_parts.specs.TimerCalls.{TicksWith, TimersTick, AreToAsk, AreToFix, WaitsAreDrawn, ask_running}
 use Rattle.srm_entries.proofs.Adding.{shows, gains, is_missing-snoc}
 use Rattle.srm_entries.proofs.Arming.{find-holds, find-passed, ask_at}

@@ -23,8 +23,7 @@ use Rattle.srm_entries.specs.Configs.{Config}
 use Rattle.srm_entries.specs.Entries.{is_missing}
 use Rattle.srm_entries.specs.Distances.{distance}
 use Rattle.srm_entries.specs.Timers.{arm_in, arm_of, last_ask, asker, repaired, first_asker, fix_running, held_off}
-use Rattle.srm_agent_parts.specs.TimersKept.{TimersContent}
-use Rattle.srm_agent_parts.specs.TimersKept.{TimersFit, shown_if}
+use Rattle.srm_agent_parts.specs.TimersKept.{TimersContent, TimersFit, shown_if}
 use Rattle.srm_agent_parts.specs.TimerCalls.{KeepSettings, WaitsAreDrawn, TimersStay, AsksPending, FixesPending, IsBefore, TimersNext, ask_running}
 use Rattle.srm_entries.proofs.Adding.{last_ask-snoc, fix_running-snoc, held_off-snoc}
 use Rattle.srm_entries.proofs.Setting.{of_kind, find_kind, all_asks, drawn_asks}

@@ -34,8 +34,7 @@ use Rattle.srm_entries.specs.declared.entry.Entry.{Entry}
 use Rattle.srm_entries.specs.Entries.{heard, held, shown_by, drawops_in, names_heard, is_held, is_missing, known}
 use Rattle.srm_entries.specs.Distances.{distance}
 use Rattle.srm_entries.specs.Timers.{arm_of, asker, asker_in, first_asker, repaired, repairs_in, ask_exponent, ask_setting, fix_setting, setting_of, fix_running, held_off, ArmsRight}
-use Rattle.srm_agent_parts.specs.TimersKept.{TimersContent, HaveSettings}
-use Rattle.srm_agent_parts.specs.TimersKept.{TimersFit}
+use Rattle.srm_agent_parts.specs.TimersKept.{TimersContent, HaveSettings, TimersFit}
 use Rattle.srm_agent_parts.specs.TimerCalls.{AreFresh, HearsWith, KeepSettings, AreDistancesAfter, TimersHear, WaitsAreDrawn, IsDataOf, IsRepairOf, IsSession, ask_running}
 use Rattle.srm_entries.proofs.Adding.{shows, gains, is_missing-snoc}
 use Rattle.srm_entries.proofs.Arming.{ask_at}

@@ -44,8 +44,7 @@ use Rattle.srm_distance.specs.Distance as defined
 use Rattle.srm_entries.specs.Distances.{distance, distance_calls, calls_in, calls_of}
 use Rattle.srm_entries.specs.Timers.{arm_of, asker, asker_in, repaired, repairs_in, low_of, high_of, ask_exponent, ask_setting, fix_setting, setting_of, last_ask, fix_running, held_off}
 use Rattle.srm_entries.specs.Verdicts.{settlings}
-use Rattle.srm_agent_parts.specs.TimersKept.{TimersContent}
-use Rattle.srm_agent_parts.specs.TimersKept.{TimersFit, shown_if}
+use Rattle.srm_agent_parts.specs.TimersKept.{TimersContent, TimersFit, shown_if}
 use Rattle.srm_agent_parts.specs.TimerCalls.{AreFresh, HearsWith, AreDistancesAfter, IsAnswered, IsRequestOf, KeepSettings, TimersAdd, TimersHearRequest, TimersStay, WaitsAreDrawn, ask_running}
 use Rattle.srm_entries.proofs.Adding.{gains, list_any-append, flat_map-snoc}
 use Rattle.srm_entries.proofs.Showing.{known_has, held_is_shown}

@@ -1,4 +1,5 @@
 pub mod Outs
+pub mod Growth
 pub mod PageTables
 pub mod Feeds
 pub mod TimersKept

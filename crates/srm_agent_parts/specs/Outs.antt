@@ -9,6 +9,9 @@ use Rattle.srm_entries.specs.Sessions.{is_session}
 use Rattle.srm_agent_parts.specs.declared.out.Out.{Out}
 use Rattle.srm_agent_parts.specs.declared.out.Outgoing.{Outgoing}
 
+abbrev pub datagram_of : Outgoing → Datagram
+datagram_of o = o.out.datagram
+
 pub record IsOut (session : ℕ) (o : Out) : Type 0 where
   pub spelled : Spells session o.datagram o.bytes
 

@@ -21,8 +21,7 @@ use Rattle.srm_entries.specs.Entries.{heard, ticked, state, is_gone, held, shown
 use Rattle.srm_entries.specs.Distances.{distance}
 use Rattle.srm_entries.specs.Timers.{low_of, high_of, last_ask, fix_running, ArmsRight, TimersRight}
 use Rattle.srm_entries.specs.Verdicts.{settlings}
-use Rattle.srm_agent_parts.specs.TimersKept.{TimersFit, shown_if}
-use Rattle.srm_agent_parts.specs.TimersKept.{TimersContent, HaveSettings}
+use Rattle.srm_agent_parts.specs.TimersKept.{TimersFit, shown_if, TimersContent, HaveSettings}
 
 -- settings and words
 

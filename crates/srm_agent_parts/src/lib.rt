@@ -3,18 +3,26 @@
 //! Each is said over the entries of its member: the timers are those that the entries set, a slot's feed is what they gave.
 #![tactic(auto)]
 
+mod between;
 mod distances;
+mod evidence;
 mod feed;
+mod keeping;
 mod mentions;
 mod out;
 mod page_table;
+mod reports;
 mod roster;
 mod timers;
 
+pub use between::names_between;
 pub use distances::distance_table;
+pub use evidence::{greatest_in, show_all};
 pub use feed::Feed;
+pub use keeping::{keep, make_room};
 pub use mentions::names_in;
 pub use out::{Out, Outgoing};
 pub use page_table::{PageTable, first_page};
+pub use reports::{distances_after, learn};
 pub use roster::{member, page_in_range, stream_in_range};
 pub use timers::{Timers, earlier};

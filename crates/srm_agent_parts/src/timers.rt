@@ -7,8 +7,7 @@ ghost use Rattle.srm_timers.specs.AskCalls.{AskAdds, AskedFirst, AnswerReady, se
 ghost use Rattle.srm_deadlines.specs.Deadlines.{DueAmong};
 ghost use Rattle.srm_timers.specs.Distances.{AreDistances};
 ghost use Rattle.srm_deadlines.specs.Least.{lesser};
-ghost use Rattle.srm_agent_parts.specs.TimersKept.{TimersFit};
-ghost use Rattle.srm_agent_parts.specs.TimersKept.{HaveSettings};
+ghost use Rattle.srm_agent_parts.specs.TimersKept.{TimersFit, HaveSettings};
 ghost use Rattle.srm_agent_parts.specs.TimerCalls.{AsksPending, FixesPending, KeepSettings, TimersNext, TimersStay, WaitsAreDrawn};
 
 mod hearing;

@@ -11,7 +11,7 @@ use std::process::Abort;
 use std::sync::Wait;
 use std::test::Fail;
 use std::thread;
-use std::thread::Threads;
+use std::thread::{JoinHandle, Threads};
 
 fn member(rt: &impl Abort, number: u8) -> Member {
     Member::new(number).expect(rt, "a member")
@@ -46,6 +46,15 @@ fn credit_is_what_the_lane_has_room_for(rt: HostRuntime) -> Result<(), Fail> {
     Ok(())
 }
 
+/// A worker that takes so many messages and ends with its tap, and with how many it took.
+fn taker<R: Threads + Wait + Copy + Send + 'static>(
+    rt: R,
+    tap: Tap,
+    count: u32,
+) -> Result<JoinHandle<(Tap, u32)>, AllocError> {
+    Ok(thread::spawn(&rt, move || take_all(&rt, tap, count))?)
+}
+
 /// A viewer, once a worker took `Open` and two drawops of the source in the slot and joined.
 fn viewer_after_two<R: Threads + Wait + Copy + Send + 'static>(
     rt: R,
@@ -56,7 +65,7 @@ fn viewer_after_two<R: Threads + Wait + Copy + Send + 'static>(
     requires { slot < PAGES }
 {
     let (mut feed, tap, mut viewers) = new_ends(alloc, 1, usize::from(slot))?;
-    let worker = thread::spawn(&rt, move || take_all(&rt, tap, 3))?;
+    let worker = taker(rt, tap, 3)?;
     let puts = put_drawing(&rt, &mut feed, &page_of(source), source, 2);
     let (_tap, taken) = worker.join(&rt);
     Ok(if puts && taken == 3 {
@@ -98,7 +107,7 @@ fn looked_around<R: Threads + Wait + Copy + Send + 'static>(
         return Ok(None);
     };
     let before = viewer.look(0, source);
-    let worker = thread::spawn(&rt, move || take_all(&rt, tap, u32::from(count) + 1))?;
+    let worker = taker(rt, tap, u32::from(count) + 1)?;
     let puts = put_drawing(&rt, &mut feed, &page_of(source), source, u32::from(count));
     let (_tap, taken) = worker.join(&rt);
     let after = viewer.look(0, source);
@@ -136,6 +145,14 @@ fn watch(mut viewer: Viewer, source: Member, times: u32, limit: u32) -> bool {
     true
 }
 
+fn watcher<R: Threads>(
+    rt: &R,
+    viewer: Viewer,
+    source: Member,
+) -> Result<JoinHandle<bool>, AllocError> {
+    Ok(thread::spawn(rt, move || watch(viewer, source, 1000, 50))?)
+}
+
 /// Two threads look while a third takes and this one puts. Whether each was steady, how many were taken, and the last look.
 fn watched<R: Threads + Wait + Copy + Send + 'static>(
     rt: R,
@@ -147,9 +164,9 @@ fn watched<R: Threads + Wait + Copy + Send + 'static>(
     else {
         return Ok(None);
     };
-    let one = thread::spawn(&rt, move || watch(first, source, 1000, 50))?;
-    let two = thread::spawn(&rt, move || watch(second, source, 1000, 50))?;
-    let worker = thread::spawn(&rt, move || take_all(&rt, tap, 51))?;
+    let one = watcher(&rt, first, source)?;
+    let two = watcher(&rt, second, source)?;
+    let worker = taker(rt, tap, 51)?;
     put_drawing(&rt, &mut feed, &page_of(source), source, 50);
     let one = one.join(&rt);
     let two = two.join(&rt);
@@ -218,18 +235,17 @@ fn put_leaving<R: Wait>(rt: &R, feed: &mut Feed, source: Member) -> bool
     put_ending(rt, feed, &page, source, 0)
 }
 
+fn assert_taken<R: Wait + Abort>(rt: &R, tap: &mut Tap, wanted: PageMsg) {
+    assert_eq!(rt; tap.take(rt), Ok(wanted));
+}
+
 #[test]
 fn a_page_is_opened_left_and_closed(rt: HostRuntime) -> Result<(), Fail> {
     let (mut feed, mut tap, _) = new_ends(rt.alloc(), 0, 0)?;
     let source = member(&rt, 5);
     assert!(rt; put_leaving(&rt, &mut feed, source));
-    let taken = [tap.take(&rt), tap.take(&rt), tap.take(&rt)];
-    let page = page_of(source);
-    let wanted = [
-        Ok(PageMsg::Open(page)),
-        Ok(PageMsg::Left(source)),
-        Ok(PageMsg::Close),
-    ];
-    assert_eq!(rt; taken, wanted);
+    assert_taken(&rt, &mut tap, PageMsg::Open(page_of(source)));
+    assert_taken(&rt, &mut tap, PageMsg::Left(source));
+    assert_taken(&rt, &mut tap, PageMsg::Close);
     Ok(())
 }

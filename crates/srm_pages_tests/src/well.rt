@@ -10,7 +10,7 @@ use std::alloc::{AllocError, Global};
 use std::sync::Wait;
 use std::test::Fail;
 use std::thread;
-use std::thread::Threads;
+use std::thread::{JoinHandle, Threads};
 
 /// The strokes that each pen sends.
 const STROKES: u16 = 100;
@@ -48,6 +48,13 @@ fn send_all<R: Wait>(rt: &R, mut pen: Pen) -> Option<Inked> {
         send_one(rt, &mut pen, stroke);
     }
     Some(pen.done())
+}
+
+fn sender<R: Threads + Wait + Copy + Send + 'static>(
+    rt: R,
+    pen: Pen,
+) -> Result<JoinHandle<Option<Inked>>, AllocError> {
+    Ok(thread::spawn(&rt, move || send_all(&rt, pen))?)
 }
 
 /// Receives so many strokes. How many came of each pen, where each came in the order of its pages.
@@ -90,10 +97,10 @@ fn four_pens<R: Threads + Wait + Copy + Send + 'static>(
         return Ok(None);
     };
     let before = well.is_done();
-    let a = thread::spawn(&rt, move || send_all(&rt, zero))?;
-    let b = thread::spawn(&rt, move || send_all(&rt, one))?;
-    let c = thread::spawn(&rt, move || send_all(&rt, two))?;
-    let d = thread::spawn(&rt, move || send_all(&rt, three))?;
+    let a = sender(rt, zero)?;
+    let b = sender(rt, one)?;
+    let c = sender(rt, two)?;
+    let d = sender(rt, three)?;
     let of_pen = receive_all(&rt, &mut well, 4 * u32::from(STROKES));
     a.join(&rt);
     b.join(&rt);

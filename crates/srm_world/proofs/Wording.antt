@@ -1,6 +1,6 @@
 -- The words by which the waits of a run were drawn, over one more entry and over several steps.
 use Rattle.std.proofs.Common.{◌≡◌, ◌≢◌, ℕ, zero, suc, ◌<◌, get_or, List, [], ◌∷◌, ◌++◌, length, refl, ap, sym, ◌∙◌, subst, inl, inr, arith, append_assoc, eq-eqb}
-use Rattle.std.specs.Prelude.{◌⊎◌, Some, option_map, slice_get, slice_set, cond}
+use Rattle.std.specs.Prelude.{◌⊎◌, Some, option_map, slice_get, slice_set, cond, Option}
 use Rattle.std.proofs.lemmas.Bool.{cases_eq, ne_eqb}
 use Rattle.std.proofs.lemmas.Grind.{flat_map-append}
 use Rattle.std.proofs.lemmas.List.{append-nil, length-set, length-map}
@@ -15,7 +15,6 @@ use Rattle.srm_entries.specs.Timers.{low_of, high_of}
 use Rattle.srm_agent.specs.Contents as agents
 use Rattle.srm_agent.specs.Fits as agents_fit
 use Rattle.srm_agent.specs.Noting.{Enters}
-use Rattle.std.specs.Prelude.{Option}
 use Rattle.srm_world.specs.declared.start.Start.{Start}
 use Rattle.srm_world.specs.Traces.{Trace, Journal, of_member}
 use Rattle.srm_world.specs.Participants.{Content}

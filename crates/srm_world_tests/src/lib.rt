@@ -1,8 +1,22 @@
-//! A recorder at worked calls, as its callers see it.
+//! A recorder at worked calls, and worlds at worked scripts: what they print, which lines are refused, and what streams that fail make
+//! of them.
 //!
-//! The tests stand in a crate of their own: the world is proved once, and not a second time with them. Those of whole scripts stand
-//! in `srm_script_tests`.
+//! The tests stand in a crate of their own: the world and the reading of scripts are proved once, and not a second time with them.
 #![tactic(auto)]
 
 #[cfg(test)]
+mod lines;
+#[cfg(test)]
 mod recording;
+#[cfg(test)]
+mod report;
+#[cfg(test)]
+mod rows;
+#[cfg(test)]
+mod running;
+#[cfg(test)]
+mod stored;
+#[cfg(test)]
+mod streams;
+#[cfg(test)]
+mod worlds;

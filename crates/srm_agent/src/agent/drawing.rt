@@ -22,16 +22,15 @@ ghost use Rattle.srm_entries.specs.Verdicts.{first_cause, stream_on};
 ghost use Rattle.srm_entries.specs.Entries.{known};
 ghost use Rattle.srm_agent_parts.specs.PageTables.{lacks_room, with_page};
 ghost use Rattle.srm_agent.specs.Drawing.{verdict_by, refusals, name_after, drawn_entry, IsDraftOf};
-ghost use Rattle.srm_agent.specs.Heeding.{HoldsToo};
+ghost use Rattle.srm_agent_parts.specs.Growth.{HoldsToo};
 ghost use Rattle.srm_agent_parts.specs.Outs.{IsOutgoingOf, IsOwn};
 ghost use Rattle.srm_agent.specs.Fits.{Fits};
 ghost use Rattle.srm_agent.specs.Noting.{Enters, Stays, AnswersAs, Does, IsAllowed, IsDrawnName};
 
 use super::Agent;
-use crate::keeping::keep;
 use crate::noted::Noted;
 use bytes::Bytes;
-use srm_agent_parts::Outgoing;
+use srm_agent_parts::{Outgoing, keep};
 use srm_bucket::{Bucket, Class, Item};
 use srm_codec::{Datagram, length};
 use srm_entries::{AgentFault, AgentState, Effects, Entry, Input, Verdict};

@@ -11,11 +11,9 @@ ghost use Rattle.srm_agent.specs.Heeding.{IsTaken, IsFreshBelow, heard_entry};
 ghost use Rattle.srm_agent.specs.Noting.{Enters, Stays, AnswersHeard};
 
 use super::Agent;
-use crate::between::names_between;
 use crate::heard::Heard;
-use crate::keeping::{keep, make_room};
 use crate::noted::Noted;
-use srm_agent_parts::distance_table;
+use srm_agent_parts::{distance_table, keep, make_room, names_between};
 use srm_codec::Datagram;
 use srm_entries::{Effects, Entry, Input, Outcome, Verdict};
 use srm_names::{Drawop, Items, Member, Name};

@@ -12,12 +12,9 @@ ghost use Rattle.srm_agent.specs.Heeding.{IsTaken};
 ghost use Rattle.srm_agent.specs.Noting.{Enters, Stays, AnswersHeard};
 
 use super::Agent;
-use crate::between::names_between;
-use crate::evidence::{greatest_in, show_all};
 use crate::heard::Heard;
-use crate::keeping::make_room;
 use crate::noted::Noted;
-use srm_agent_parts::distance_table;
+use srm_agent_parts::{distance_table, greatest_in, make_room, names_between, show_all};
 use srm_codec::Datagram;
 use srm_entries::{Input, Verdict};
 use srm_names::{Member, Name, Stream};

@@ -12,12 +12,9 @@ ghost use Rattle.srm_agent.specs.Heeding.{IsTaken};
 ghost use Rattle.srm_agent.specs.Noting.{Enters, Stays, AnswersHeard};
 
 use super::Agent;
-use crate::between::names_between;
 use crate::heard::Heard;
-use crate::keeping::make_room;
 use crate::noted::Noted;
-use crate::reports::{distances_after, learn};
-use srm_agent_parts::distance_table;
+use srm_agent_parts::{distance_table, distances_after, learn, make_room, names_between};
 use srm_codec::Datagram;
 use srm_entries::{Input, Verdict};
 use srm_names::Name;

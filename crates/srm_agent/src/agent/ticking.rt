@@ -11,11 +11,11 @@ use super::Agent;
 use super::due::{Due, HandedOut};
 use super::sending::with_last;
 use crate::noted::Noted;
-use crate::outbox::pass;
 use crate::ticked::Ticked;
 use srm_codec::Datagram;
 use srm_entries::{AgentFault, Effects, Entry, Input, Verdict};
 use srm_names::Items;
+use srm_outbox::pass;
 use srm_timers::{Arm, Words};
 use std::alloc::AllocError;
 

@@ -1,5 +1,5 @@
 use Rattle.srm_bucket.specs.declared.class.Class.TheVariants.{New}
-use Rattle.srm_agent.proofs.Handing.{own_behind}
+use Rattle.srm_outbox.proofs.Handing.{own_behind}
 use Rattle.srm_agent.proofs.agent.Agent.take_up.Goals as goal
 
 pub invariant_of-self : goal.invariant_of-self

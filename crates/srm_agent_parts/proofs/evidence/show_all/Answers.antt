@@ -1,0 +1,46 @@
+use Rattle.std.proofs.Common.{◌++◌, ◌∷◌, [], ap, sym, subst, ◌∙◌, refl, take, append_assoc}
+use Rattle.std.proofs.lemmas.List.{append-nil, take_more, take_all}
+use Rattle.srm_names.specs.FullName.{FullName}
+use Rattle.srm_store.specs.Fits as store
+use Rattle.srm_store.proofs.Rooming.{not_refused}
+use Rattle.srm_store.proofs.Seating.{page_among}
+use Rattle.srm_agent_parts.proofs.Evident.{is_among}
+use Rattle.srm_entries.proofs.Holding.{ok_then}
+use Rattle.srm_agent_parts.proofs.evidence.show_all.Goals as goal
+
+pub loop-name-init : goal.loop-name-init
+loop-name-init c = record {
+  fits = λ inserted shown settled h. subst (λ ns. store.Fits inserted ns settled c.args.store.now) (sym (append-nil shown)) h;
+  finals = refl;
+  slots = c.requires.slots;
+  ready = c.requires.each;
+}
+
+pub unwrap-requires : goal.unwrap-requires
+unwrap-requires c =
+    let at = is_among c.args.names.now c.loop-name.name-index c.name-item.result c.name-item.is c.loop-name-test.true in
+    not_refused c.evidence.result (c.evidence.ensures.slot _ (page_among c.args.names.now c.name-item.result at) c.loop-name.invariant.slots) (c.evidence.ensures.room (c.loop-name.invariant.ready c.name-item.result at))
+
+pub loop-name-preserved : goal.loop-name-preserved
+loop-name-preserved c =
+    let at = is_among c.args.names.now c.loop-name.name-index c.name-item.result c.name-item.is c.loop-name-test.true in
+    let in_page = page_among c.args.names.now c.name-item.result at in
+    let ok = not_refused c.evidence.result (c.evidence.ensures.slot _ in_page c.loop-name.invariant.slots) (c.evidence.ensures.room (c.loop-name.invariant.ready c.name-item.result at)) in
+    record {
+      fits = λ inserted shown settled h.
+          subst (λ ns. store.Fits inserted ns settled c.evidence.new.self)
+          (append_assoc shown (take c.loop-name.name-index c.args.names.now) (c.name-item.result ∷ [])
+          ∙ ap (λ (n : FullName). shown ++ (take c.loop-name.name-index c.args.names.now ++ n ∷ [])) c.name-item.is
+          ∙ ap (λ ns. shown ++ ns) (sym (take_more c.args.names.now c.loop-name.name-index c.name-item.result c.loop-name-test.true)))
+          (ok_then c.evidence.result ok c.evidence.ensures.fits inserted (shown ++ take c.loop-name.name-index c.args.names.now) settled (c.loop-name.invariant.fits inserted shown settled h));
+      finals = c.evidence.ensures.settling ∙ c.loop-name.invariant.finals;
+      slots = c.evidence.ensures.slots.each _ in_page c.loop-name.invariant.slots;
+      ready = λ n among. c.evidence.ensures.ready.each n (c.loop-name.invariant.ready n among);
+    }
+
+pub returns : goal.returns
+returns c = record {
+  finals = c.loop-name.invariant.finals;
+  each = λ inserted shown settled h.
+      subst (λ ns. store.Fits inserted (shown ++ ns) settled c.loop-name.store) (take_all c.loop-name.name-index c.args.names.now c.loop-name-test.false) (c.loop-name.invariant.fits inserted shown settled h);
+}

@@ -1,0 +1,28 @@
+//! The names of a stream between two numbers.
+
+ghost use Rattle.std.specs.Prelude.{◌≤◌, ◌+◌, IfOk, length};
+ghost use Rattle.srm_names.specs.declared.limits.TheConstants.{DRAWOPS};
+ghost use Rattle.srm_names.specs.Names.{AreExactly};
+ghost use Rattle.srm_agent_parts.specs.Growth.{is_between};
+
+use srm_names::{Name, Stream};
+use std::alloc::{AllocError, Global};
+
+/// The names of a stream whose numbers are above one number and below another, in order. Only want of memory refuses it.
+pub fn names_between(
+    alloc: Global,
+    stream: Stream,
+    above: u32,
+    below: u32,
+) -> Result<Vec<Name>, AllocError>
+    requires above { above ≤ DRAWOPS }
+    requires below { below ≤ DRAWOPS + 1 }
+    ensures { IfOk result (λ names. AreExactly (is_between stream above below) names.items) }
+{
+    let mut names = Vec::new(alloc);
+    for number in above + 1..below {
+        let name = Name::new(stream.source, stream.page, number).unwrap();
+        names.push(name)?;
+    }
+    Ok(names)
+}

@@ -1,0 +1,3 @@
+pub mod Requesting
+pub mod Handing
+pub mod Spelling

@@ -1,0 +1,12 @@
+//! What a member hands in of what is due, and what goes of it under its rate.
+//!
+//! The names that are asked for are packed into requests, those that are repaired become repairs where they are held. Each is
+//! spelled and handed in with its class, and waits until the bucket lets it go.
+#![tactic(auto)]
+
+mod answers;
+mod outbox;
+mod packing;
+
+pub use answers::{Answer, answering, spelled};
+pub use outbox::{Went, hand_in, let_go, pass};
