@@ -4,3 +4,4 @@ pub mod PageTables
 pub mod Feeds
 pub mod TimersKept
 pub mod TimerCalls
+pub mod Examples

@@ -1,4 +1,4 @@
-//! The parts of an agent: what it keeps beside its store, its distances and its bucket.
+//! The parts of an agent: what it keeps beside its store, its distances and its bucket, and what these become as more is heard.
 //!
 //! Each is said over the entries of its member: the timers are those that the entries set, a slot's feed is what they gave.
 #![tactic(auto)]
