@@ -93,7 +93,8 @@ pub fn let_go(bucket: &mut Bucket<Outgoing>, now: u64, mut went: Went) -> Went
     went
 }
 
-/// Lets time pass up to a moment in microseconds, at which nothing may go. It takes no memory.
+/// Lets time pass up to a moment in microseconds. It is for moments at which nothing may go: what may go is dropped. It takes
+/// no memory.
 #[tactic(auto, using(crate::proofs::Handing::pop_passes))]
 pub fn pass(bucket: &mut Bucket<Outgoing>, now: u64)
     requires { now ≤ MOMENT }
