@@ -1,6 +1,7 @@
 -- Each step keeps the rule of the board.
 use Rattle.std.proofs.Common.{◌≡◌, ◌≢◌, ℕ, zero, suc, ◌+◌, ◌/◌, ◌%◌, ◌^◌, ◌<◌, ◌≤◌, true, false, true≢false, cond, eqb, eq-eqb, ne_eqb, List, [], ◌∷◌, length, get_or, set, replicate, sym, refl, ap, ◌∙◌, subst, ⊎_elim, lit<, arith, get_or-set_other, get_or-set_same}
 use Rattle.std.proofs.lemmas.List.{set-get_or, length-set, length-replicate}
+use Rattle.std.proofs.Math.Nat.{le_trans}
 use mathlib.Core.Option.{some, none}
 use mathlib.Core.Logic.{dite}
 use native.Mathlib.Decide.{ℕ_discrete}
@@ -11,7 +12,9 @@ use Rattle.atomic_table.specs.Table.Act.{keeps}
 use Rattle.atomic_table.proofs.Lists.{set_again}
 use Rattle.srm_pages.specs.declared.board.BoardView.{BoardView}
 use Rattle.srm_pages.proofs.Views.{all_set, all_one, snoc_cases}
-use Rattle.srm_pages.specs.Board.{stride, words_of_board, board_view, zeros, dealer, watcher, noted, FitsBoard, BoardHolds, BoardState, Raised, Looked}
+use Rattle.srm_names.specs.declared.limits.TheConstants.{MEMBERS}
+use Rattle.srm_pages.proofs.Shown.{order_alike}
+use Rattle.srm_pages.specs.Board.{stride, taken_word, shown_word, total, drawops_shown, CountsShown, words_of_board, board_view, zeros, dealer, watcher, noted, FitsBoard, BoardHolds, BoardState, Raised, Looked}
 
 replicate_zero : (n i : ℕ) → get_or {A = ℕ} (replicate n 0) i 0 ≡ 0
 replicate_zero zero i = refl
@@ -46,12 +49,21 @@ noted_exact xs words i n k inside inside' same =
     (λ (e : k ≡ i). subst (λ j. get_or (set xs i n) j 0 ≡ get_or (set words i n) j 0) (sym e) (get_or-set_same xs i n 0 inside' ∙ sym (get_or-set_same words i n 0 inside)))
     (λ (ne : k ≢ i). get_or-set_other xs i k n 0 ne ∙ same ne ∙ sym (get_or-set_other words i k n 0 ne))
 
+none_shown : (n slot : ℕ) → total (λ m. get_or zeros (shown_word slot m) 0) n ≤ 0
+none_shown zero slot = omega arith
+none_shown (suc n) slot = let before = none_shown n slot in let last = zeros_at (shown_word slot n) in omega arith
+
+pub zeros_order : (slot : ℕ) → CountsShown zeros slot
+unfolding drawops_shown
+zeros_order slot = le_trans (none_shown MEMBERS slot) (omega arith)
+
 pub begins : BoardHolds zeros (dealer ∷ [])
 begins = record {
   seat = λ _. 0;
   dealt = 0;
   sized = zeros_length;
   narrow = λ i _. let z = zeros_at i in subst (λ n. n < 2 ^ 32) (sym z) (lit< tt);
+  order = zeros_order;
   blank = λ i _. zeros_at i;
   fits = all_one (FitsBoard (λ _. 0) 0 zeros) dealer record {
     sized = zeros_length;
@@ -63,9 +75,9 @@ begins = record {
 }
 
 -- the tap of a slot raises one of its words
-pub raises : (slots id word n : ℕ) (m : Me ℕ BoardView) → m.0.taps ≡ true → word / stride ≡ m.0.slot → word < words_of_board → get_or m.0.seen word 0 ≤ n → (word % stride ≢ 0 → n < 2 ^ 32)
+pub raises : (slots id word n : ℕ) (m : Me ℕ BoardView) → m.0.taps ≡ true → word / stride ≡ m.0.slot → word < words_of_board → get_or m.0.seen word 0 ≤ n → (word % stride ≢ 0 → n < 2 ^ 32) → CountsShown (set m.0.seen word n) m.0.slot
     → Allows BoardState slots id m word (λ _. n) (λ _. Raised (step slots word n 0 none) m n)
-raises slots id word n m taps mine inside more narrow s h _ at _ =
+raises slots id word n m taps mine inside more narrow order s h _ at _ =
     let v = m.0 in
     let my = h.fits id v at in
     let in_words : word < length s.words = let l = h.sized in omega arith in
@@ -82,6 +94,11 @@ raises slots id word n m taps mine inside more narrow s h _ at _ =
         narrow = λ i odd. dite (ℕ_discrete i word)
             (λ (e : i ≡ word). subst (λ k. get_or (set s.words word n) k 0 < 2 ^ 32) (sym e) (subst (λ k. k < 2 ^ 32) (sym (get_or-set_same s.words word n 0 in_words)) (narrow (subst (λ k. k % stride ≢ 0) e odd))))
             (λ (ne : i ≢ word). subst (λ k. k < 2 ^ 32) (sym (get_or-set_other s.words word i n 0 ne)) (h.narrow i odd));
+        order = λ slot. dite (ℕ_discrete slot v.slot)
+            (λ (e : slot ≡ v.slot). subst (λ k. CountsShown (set s.words word n) k) (sym e)
+            (order_alike (set v.seen word n) (set s.words word n) v.slot (λ i own. noted_exact v.seen s.words word n i in_words in_seen (λ _. my.exact taps i own)) order))
+            (λ (ne : slot ≢ v.slot). order_alike s.words (set s.words word n) slot
+            (λ i own. sym (get_or-set_other s.words word i n 0 (λ (e : i ≡ word). ne (sym own ∙ ap (λ k. k / stride) e ∙ mine)))) (h.order slot));
         blank = λ i late. let apart : i ≢ word = (λ (e : i ≡ word). let own = (my.tap taps).1 in let d : i / stride ≡ v.slot = ap (λ k. k / stride) e ∙ mine in let l : h.dealt ≤ v.slot = subst (λ k. h.dealt ≤ k) d late in omega arith) in get_or-set_other s.words word i n 0 apart ∙ h.blank i late;
         fits = all_set (FitsBoard h.seat h.dealt (set s.words word n)) s.views id (noted v word n)
             record {
@@ -119,6 +136,7 @@ looks slots id word m inside s h _ at _ =
         dealt = h.dealt;
         sized = length-set s.words word n ∙ h.sized;
         narrow = subst (λ (ws : List ℕ). (i : ℕ) → i % stride ≢ 0 → get_or ws i 0 < 2 ^ 32) (sym same) h.narrow;
+        order = subst (λ (ws : List ℕ). (slot : ℕ) → CountsShown ws slot) (sym same) h.order;
         blank = subst (λ (ws : List ℕ). (i : ℕ) → h.dealt ≤ i / stride → get_or ws i 0 ≡ 0) (sym same) h.blank;
         fits = all_set (FitsBoard h.seat h.dealt (set s.words word n)) s.views id (noted v word n)
             record {
@@ -151,6 +169,7 @@ next_tap id v deals s h at =
       dealt = h.dealt + 1;
       sized = h.sized;
       narrow = h.narrow;
+      order = h.order;
       blank = λ i late. h.blank i (omega arith);
       fits = λ j u e. ⊎_elim
           (all_set (FitsBoard seat (h.dealt + 1) s.words) s.views id left
@@ -176,6 +195,7 @@ watches id v s h at =
       dealt = h.dealt;
       sized = h.sized;
       narrow = h.narrow;
+      order = h.order;
       blank = h.blank;
       fits = λ j u e. ⊎_elim
           (λ f. h.fits j u (subst (λ (l : List BoardView). get_elem? l j ≡ some u) (set_again s.views id v at) f))

@@ -3,5 +3,6 @@ pub mod Dealing
 pub mod Feeds
 pub mod InkSteps
 pub mod LaneSteps
+pub mod Shown
 pub mod Taps
 pub mod Views

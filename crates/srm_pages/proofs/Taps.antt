@@ -1,78 +1,102 @@
--- After a mark the seat counts the list.
-use Rattle.std.proofs.Common.{◌≡◌, ◌≢◌, ℕ, ◌+◌, true, List, [], ◌∷◌, ◌++◌, length, None, get_or, set, sym, refl, ap, ◌∙◌, subst, arith, length-append, get_or-set_other}
+-- After a take the seat counts the list.
+use Rattle.std.proofs.Common.{◌≡◌, ◌≢◌, ℕ, ◌+◌, ◌<◌, ◌≤◌, true, List, [], ◌∷◌, ◌++◌, length, None, get_or, set, sym, refl, ap, ◌∙◌, subst, arith, length-append, get_or-set_other}
+use Rattle.std.proofs.Math.Nat.{le_trans}
 use mathlib.Core.Logic.{dite}
 use native.Mathlib.Decide.{ℕ_discrete}
+use Rattle.srm_names.specs.declared.limits.TheConstants.{MEMBERS}
 use Rattle.srm_names.specs.declared.drawop.Drawop.{Drawop}
 use Rattle.srm_names.specs.declared.page_msg.PageMsg.{PageMsg}
 use Rattle.srm_names.specs.declared.page_msg.PageMsg.TheVariants.{Open, Draw, Left, Close}
 use Rattle.srm_names.specs.PageFeeds.{is_page_feed, continues, drawops_of, drawop_from}
-use Rattle.srm_pages.specs.Seats.{Mark, Counts, MayShow, MayMark, Marks, taken_word, shown_word}
+use Rattle.srm_pages.specs.Board.{taken_word, shown_word, drawops_shown, CountsShown}
+use Rattle.srm_pages.specs.Seats.{Mark, Counts, MayShow, Shows}
 use Rattle.srm_pages.proofs.Feeds.{last_continues, next_number, one_more_drawn, same_drawn, not_drawn_by}
+use Rattle.srm_pages.proofs.Shown.{total_le, at_most_stored, apart, drawn, drawn_at_most}
 
--- the word that counts takes stands before those that show drawops
-apart : (slot member : ℕ) → taken_word slot ≢ shown_word slot member
-apart slot member e = omega arith
+-- what counts a list counts what it shows
+pub counts_order : (seat : List ℕ) (slot : ℕ) (l : List PageMsg) → Counts seat slot l → CountsShown seat slot
+unfolding drawops_shown
+counts_order seat slot l counts =
+    le_trans
+    (total_le (λ m. get_or seat (shown_word slot m) 0) (drawn l) MEMBERS (λ m small. let same = counts.of_member m small in omega arith))
+    (le_trans (drawn_at_most MEMBERS l) (let all = counts.all in omega arith))
 
--- what the feed may go on with, the tap may show
-pub may_show : (m : Mark) (taken : List PageMsg) (x : PageMsg) → Counts m.seat m.slot taken → continues taken x ≡ true → MayShow m x
-may_show m taken (Open p) counts go = tt
-may_show m taken (Draw d) counts go = λ small. let was = counts.of_member d.name.stream.source small in let next = next_number taken d go in omega arith
-may_show m taken (Left s) counts go = tt
-may_show m taken Close counts go = tt
+-- the count is of one message more than those whose drawops are shown
+pub record IsAhead (seat : List ℕ) (slot : ℕ) (taken : List PageMsg) : Type 0 where
+  pub all : get_or seat (taken_word slot) 0 ≡ length taken + 1
+  pub of_member : (member : ℕ) → member < MEMBERS → get_or seat (shown_word slot member) 0 ≡ length (drawops_of member taken)
 
-pub may_mark : (m : Mark) (taken : List PageMsg) (x : PageMsg) (count : ℕ) → Counts m.seat m.slot taken → is_page_feed (taken ++ x ∷ []) ≡ true → count ≡ length taken + 1 → MayMark m x count
-may_mark m taken x count counts feed more = ((let was = counts.all in omega arith), may_show m taken x counts (last_continues taken x feed))
-
-none_drawn : (x : PageMsg) → ((d : Drawop) → x ≢ Draw d) → (member : ℕ) → drawop_from member x ≡ None
-none_drawn (Open p) other member = refl
-none_drawn (Draw d) other member = absurd (other d refl)
-none_drawn (Left s) other member = refl
-none_drawn Close other member = refl
-
--- the word of a member is still there after the count was stored
-shown_stays : (slot member count : ℕ) (seat : List ℕ) → get_or (set seat (taken_word slot) count) (shown_word slot member) 0 ≡ get_or seat (shown_word slot member) 0
-shown_stays slot member count seat = get_or-set_other seat (taken_word slot) (shown_word slot member) count 0 (λ e. apart slot member (sym e))
-
--- the count was stored for a message that is no drawop
-pub marks_message : (m : Mark) (x : PageMsg) (count : ℕ) (n : Mark) → ((d : Drawop) → x ≢ Draw d) → n ≡ record m { seat = set m.seat (taken_word m.slot) count } → get_or n.seat (taken_word m.slot) 0 ≡ count → Marks m x count n
-marks_message m x count n other is there = record {
-  same = is ∙ ap (λ (k : Mark). record m { seat = k.seat }) (sym is);
-  counts = λ taken counts go more. subst (λ k. Counts n.seat k (taken ++ x ∷ [])) (sym (ap (λ (k : Mark). k.slot) is)) record {
-    all = there ∙ more ∙ sym (length-append taken (x ∷ []));
-    of_member = λ member small.
-        ap (λ (k : Mark). get_or k.seat (shown_word m.slot member) 0) is ∙ shown_stays m.slot member count m.seat ∙ counts.of_member member small ∙ sym (same_drawn member taken x (none_drawn x other member));
-  };
+-- so it is once the count was stored
+pub ahead : (m n : Mark) (taken : List PageMsg) (count : ℕ) → Counts m.seat m.slot taken → count ≡ length taken + 1
+    → n ≡ record m { seat = set m.seat (taken_word m.slot) count } → get_or n.seat (taken_word m.slot) 0 ≡ count → IsAhead n.seat n.slot taken
+ahead m n taken count counts more is there = subst (λ k. IsAhead n.seat k taken) (sym (ap (λ (k : Mark). k.slot) is)) record {
+  all = there ∙ more;
+  of_member = λ member small.
+      ap (λ (k : Mark). get_or k.seat (shown_word m.slot member) 0) is
+      ∙ get_or-set_other m.seat (taken_word m.slot) (shown_word m.slot member) count 0 (λ e. apart m.slot member (sym e)) ∙ counts.of_member member small;
 }
 
--- the count and then the number were stored for a drawop
-marks_drawop : (m : Mark) (d : Drawop) (count : ℕ) (n o : Mark) → n ≡ record m { seat = set m.seat (taken_word m.slot) count } → get_or n.seat (taken_word m.slot) 0 ≡ count
-    → o ≡ record n { seat = set n.seat (shown_word m.slot d.name.stream.source) d.name.number } → get_or o.seat (shown_word m.slot d.name.stream.source) 0 ≡ d.name.number → Marks m (Draw d) count o
-marks_drawop m d count n o is there is' shown = record {
-  same = is' ∙ ap (λ (k : Mark). record k { seat = set k.seat at d.name.number }) is ∙ ap (λ (k : Mark). record m { seat = k.seat }) (sym (is' ∙ ap (λ (k : Mark). record k { seat = set k.seat at d.name.number }) is));
-  counts = λ taken counts go more. subst (λ k. Counts o.seat k (taken ++ Draw d ∷ [])) (sym (ap (λ (k : Mark). k.slot) is' ∙ ap (λ (k : Mark). k.slot) is)) record {
-    all = ap (λ (k : Mark). get_or k.seat (taken_word m.slot) 0) is' ∙ get_or-set_other n.seat at (taken_word m.slot) d.name.number 0 (apart m.slot source) ∙ there ∙ more ∙ sym (length-append taken (Draw d ∷ []));
-    of_member = λ member small. dite (ℕ_discrete member source)
-        (λ (e : member ≡ source). subst (λ k. get_or o.seat (shown_word m.slot k) 0 ≡ length (drawops_of k (taken ++ Draw d ∷ []))) (sym e)
-        (shown ∙ next_number taken d go ∙ sym (one_more_drawn source taken d refl)))
-        (λ (ne : member ≢ source).
-        ap (λ (k : Mark). get_or k.seat (shown_word m.slot member) 0) is' ∙ get_or-set_other n.seat at (shown_word m.slot member) d.name.number 0 (λ e. ne (omega arith))
-        ∙ ap (λ (k : Mark). get_or k.seat (shown_word m.slot member) 0) is ∙ shown_stays m.slot member count m.seat ∙ counts.of_member member small
-        ∙ sym (same_drawn member taken (Draw d) (not_drawn_by member d ne)));
-  };
+-- what a member's words show with one drawop more
+with_drawop : (n : Mark) (taken : List PageMsg) (d : Drawop) → IsAhead n.seat n.slot taken → continues taken (Draw d) ≡ true → (member : ℕ) → member < MEMBERS
+    → get_or (set n.seat (shown_word n.slot d.name.stream.source) d.name.number) (shown_word n.slot member) 0 ≤ drawn (taken ++ Draw d ∷ []) member
+with_drawop n taken d is go member small = dite (ℕ_discrete member d.name.stream.source)
+    (λ (e : member ≡ d.name.stream.source). subst (λ k. get_or (set n.seat (shown_word n.slot d.name.stream.source) d.name.number) (shown_word n.slot k) 0 ≤ drawn (taken ++ Draw d ∷ []) k) (sym e)
+    (let most = at_most_stored n.seat (shown_word n.slot d.name.stream.source) d.name.number in let next = next_number taken d go in let more = one_more_drawn d.name.stream.source taken d refl in omega arith))
+    (λ (ne : member ≢ d.name.stream.source).
+    let other = get_or-set_other n.seat (shown_word n.slot d.name.stream.source) (shown_word n.slot member) d.name.number 0 (λ e. ne (omega arith)) in
+    let was = is.of_member member small in
+    let same = same_drawn member taken (Draw d) (not_drawn_by member d ne) in
+    omega arith)
+
+-- what the feed may go on with, the tap may show
+pub may_show : (n : Mark) (taken : List PageMsg) (x : PageMsg) → IsAhead n.seat n.slot taken → continues taken x ≡ true → MayShow n x
+unfolding drawops_shown
+may_show n taken (Open p) is go = tt
+may_show n taken (Draw d) is go = λ small. (
+  (let was = is.of_member d.name.stream.source small in let next = next_number taken d go in omega arith),
+  le_trans
+      (total_le (λ m. get_or (set n.seat (shown_word n.slot d.name.stream.source) d.name.number) (shown_word n.slot m) 0) (drawn (taken ++ Draw d ∷ [])) MEMBERS (with_drawop n taken d is go))
+      (le_trans (drawn_at_most MEMBERS (taken ++ Draw d ∷ []))
+      (let len = length-append taken (Draw d ∷ []) in let all = is.all in let other = get_or-set_other n.seat (shown_word n.slot d.name.stream.source) (taken_word n.slot) d.name.number 0 (apart n.slot d.name.stream.source) in omega arith)),
+)
+may_show n taken (Left s) is go = tt
+may_show n taken Close is go = tt
+
+-- nothing is shown of a message that is no drawop
+counts_other : (n o : Mark) (taken : List PageMsg) (x : PageMsg) → ((member : ℕ) → drawop_from member x ≡ None) → IsAhead n.seat n.slot taken → o ≡ n → Counts o.seat o.slot (taken ++ x ∷ [])
+counts_other n o taken x none is same = subst (λ (k : Mark). Counts k.seat k.slot (taken ++ x ∷ [])) (sym same) record {
+  all = is.all ∙ sym (length-append taken (x ∷ []));
+  of_member = λ member small. is.of_member member small ∙ sym (same_drawn member taken x (none member));
+}
+
+-- once it is shown, the words count the list with it
+pub counts_shown : (n o : Mark) (taken : List PageMsg) (x : PageMsg) → IsAhead n.seat n.slot taken → continues taken x ≡ true → Shows n x o → Counts o.seat o.slot (taken ++ x ∷ [])
+counts_shown n o taken (Open p) is go shows = counts_other n o taken (Open p) (λ _. refl) is shows
+counts_shown n o taken (Draw d) is go shows = subst (λ k. Counts o.seat k (taken ++ Draw d ∷ [])) (sym (ap (λ (k : Mark). k.slot) shows.0)) record {
+  all = ap (λ (k : Mark). get_or k.seat (taken_word n.slot) 0) shows.0 ∙ get_or-set_other n.seat at (taken_word n.slot) d.name.number 0 (apart n.slot source) ∙ is.all ∙ sym (length-append taken (Draw d ∷ []));
+  of_member = λ member small. dite (ℕ_discrete member source)
+      (λ (e : member ≡ source). subst (λ k. get_or o.seat (shown_word n.slot k) 0 ≡ length (drawops_of k (taken ++ Draw d ∷ []))) (sym e)
+      (shows.1 ∙ next_number taken d go ∙ sym (one_more_drawn source taken d refl)))
+      (λ (ne : member ≢ source).
+      ap (λ (k : Mark). get_or k.seat (shown_word n.slot member) 0) shows.0 ∙ get_or-set_other n.seat at (shown_word n.slot member) d.name.number 0 (λ e. ne (omega arith))
+      ∙ is.of_member member small ∙ sym (same_drawn member taken (Draw d) (not_drawn_by member d ne)));
 }
   where
     source : ℕ
     source = d.name.stream.source
 
     at : ℕ
-    at = shown_word m.slot source
+    at = shown_word n.slot source
+counts_shown n o taken (Left s) is go shows = counts_other n o taken (Left s) (λ _. refl) is shows
+counts_shown n o taken Close is go shows = counts_other n o taken Close (λ _. refl) is shows
 
--- the same in one step
-pub marks_stroke : (m : Mark) (x : PageMsg) (d : Drawop) (count : ℕ) (o : Mark) → x ≡ Draw d → get_or (set m.seat (taken_word m.slot) count) (taken_word m.slot) 0 ≡ count
-    → o ≡ record m { seat = set (set m.seat (taken_word m.slot) count) (shown_word m.slot d.name.stream.source) d.name.number } → get_or o.seat (shown_word m.slot d.name.stream.source) 0 ≡ d.name.number → Marks m x count o
-marks_stroke m x d count o e there is shown = subst (λ y. Marks m y count o) (sym e) (marks_drawop m d count (record m { seat = set m.seat (taken_word m.slot) count }) o refl there is shown)
+-- after the count of a take, which went on with the page feed, its message may be shown
+pub next_shown : (m n : Mark) (taken : List PageMsg) (x : PageMsg) (count : ℕ) → Counts m.seat m.slot taken → is_page_feed (taken ++ x ∷ []) ≡ true → count ≡ length taken + 1
+    → n ≡ record m { seat = set m.seat (taken_word m.slot) count } → get_or n.seat (taken_word m.slot) 0 ≡ count → MayShow n x
+next_shown m n taken x count counts feed more is there = may_show n taken x (ahead m n taken count counts more is there) (last_continues taken x feed)
 
--- the list with what was taken now is counted
-pub counts_taken : (old new : Mark) (taken after : List PageMsg) (x : PageMsg) (count : ℕ) → Marks old x count new → Counts old.seat old.slot taken → count ≡ length taken + 1
-    → after ≡ taken ++ x ∷ [] → is_page_feed (taken ++ x ∷ []) ≡ true → Counts new.seat new.slot after
-counts_taken old new taken after x count marks counts more is feed = subst (λ l. Counts new.seat new.slot l) (sym is) (marks.counts taken counts (last_continues taken x feed) more)
+-- and then the words count the list with it
+pub next_counts : (m n o : Mark) (taken after : List PageMsg) (x : PageMsg) (count : ℕ) → Counts m.seat m.slot taken → is_page_feed (taken ++ x ∷ []) ≡ true → count ≡ length taken + 1
+    → n ≡ record m { seat = set m.seat (taken_word m.slot) count } → get_or n.seat (taken_word m.slot) 0 ≡ count → Shows n x o → after ≡ taken ++ x ∷ [] → Counts o.seat o.slot after
+next_counts m n o taken after x count counts feed more is there shows e =
+    subst (λ l. Counts o.seat o.slot l) (sym e) (counts_shown n o taken x (ahead m n taken count counts more is there) (last_continues taken x feed) shows)

@@ -1,5 +1,5 @@
 -- The rule of the board.
-use Rattle.std.specs.Prelude.{◌≡◌, ◌≢◌, ℕ, ◌*◌, ◌+◌, ◌/◌, ◌%◌, ◌^◌, ◌<◌, ◌≤◌, Bool, true, false, List, length, replicate, slice_index, slice_set}
+use Rattle.std.specs.Prelude.{◌≡◌, ◌≢◌, ℕ, zero, suc, ◌*◌, ◌+◌, ◌/◌, ◌%◌, ◌^◌, ◌<◌, ◌≤◌, Bool, true, false, List, length, replicate, slice_index, slice_set}
 use mathlib.Core.Option.{some}
 use lib.ListN.{get_elem?}
 use Rattle.atomic_table.specs.Table.{State, Me, Step}
@@ -15,6 +15,26 @@ words_of_board = PAGES * stride
 
 abbrev pub board_view : Bool → ℕ → Bool → ℕ → List ℕ → BoardView
 board_view taps slot deals next seen = record { taps = taps; slot = slot; deals = deals; next = next; seen = seen }
+
+-- the word of a slot that counts the messages taken, and the word that has the number of a member's last drawop
+abbrev pub taken_word : ℕ → ℕ
+taken_word slot = slot * stride
+
+abbrev pub shown_word : ℕ → ℕ → ℕ
+shown_word slot member = slot * stride + (member + 1)
+
+-- f 0, f 1, .. up to below n, added up
+abbrev pub total : (ℕ → ℕ) → ℕ → ℕ
+total f zero = 0
+total f (suc n) = total f n + f n
+
+-- how many drawops the words of a slot show, of all members together
+unfoldable pub drawops_shown : List ℕ → ℕ → ℕ
+drawops_shown words slot = total (λ member. slice_index words (shown_word slot member)) MEMBERS
+
+-- the words of a slot show no more drawops than its count has messages, so the count is raised first
+abbrev pub CountsShown : List ℕ → ℕ → Type 0
+CountsShown words slot = drawops_shown words slot ≤ slice_index words (taken_word slot)
 
 -- every word as it is at first
 unfoldable pub zeros : List ℕ
@@ -39,12 +59,13 @@ pub record FitsBoard (seat : ℕ → ℕ) (dealt : ℕ) (words : List ℕ) (id :
   pub exact : v.taps ≡ true → (i : ℕ) → i / stride ≡ v.slot → slice_index v.seen i ≡ slice_index words i
   pub dealer : v.deals ≡ true → (id ≡ 0) × (v.next ≡ dealt)
 
--- The numbers of drawops fit a u32, and the words of slots that have no tap yet are 0
+-- The numbers of drawops fit a u32, a slot shows no more than it counts, and the words of slots that have no tap yet are 0
 pub record BoardHolds (words : List ℕ) (views : List BoardView) : Type 0 where
   pub seat : ℕ → ℕ
   pub dealt : ℕ
   pub sized : length words ≡ words_of_board
   pub narrow : (i : ℕ) → i % stride ≢ 0 → slice_index words i < 2 ^ 32
+  pub order : (slot : ℕ) → CountsShown words slot
   pub blank : (i : ℕ) → dealt ≤ i / stride → slice_index words i ≡ 0
   pub fits : (id : ℕ) (v : BoardView) → get_elem? views id ≡ some v → FitsBoard seat dealt words id v
 

@@ -5,7 +5,7 @@ use Rattle.atomic_table.specs.Seated.{TableId}
 use Rattle.atomic_table.specs.declared.badge.Badge.{Badge}
 use Rattle.crossbeam_channel.specs.declared.flavors.array.Key.{Key}
 use Rattle.crossbeam_channel.specs.Claims.{Pass}
-use Rattle.srm_names.specs.declared.limits.TheConstants.{LANE_MESSAGES, PAGES}
+use Rattle.srm_names.specs.declared.limits.TheConstants.{LANE_MESSAGES, PAGES, WELL_STROKES}
 use Rattle.srm_names.specs.declared.page_msg.PageMsg.{PageMsg}
 use Rattle.srm_pages.specs.declared.lane.LaneView.{LaneView}
 use Rattle.srm_pages.specs.declared.stroke.Stroke.{Stroke}
@@ -73,10 +73,15 @@ abbrev pub TookOrEnded : Result PageMsg Ended → TapView → TapView → Type 0
 TookOrEnded (Ok x) old new = new ≡ record old { taken = old.taken ++ x ∷ []; seat = new.seat }
 TookOrEnded (Err e) old new = (e ≡ Closed) × (new ≡ old)
 
--- what the well's reader received, and which well it is
+-- what the well's reader received, which well it is, and how many strokes it holds at most
 pub record WellView : Type 0 where
   pub received : List Stroke
   pub well : TableId
+  pub capacity : ℕ
+
+-- the well with nothing received
+abbrev pub new_well : TableId → WellView
+new_well well = record { received = []; well = well; capacity = WELL_STROKES }
 
 -- the pen's place among all, what it sent, and into which well
 pub record PenView : Type 0 where

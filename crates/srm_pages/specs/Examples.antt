@@ -1,5 +1,7 @@
 -- The definitions at worked examples.
 use Rattle.std.specs.Prelude.{◌≡◌, ℕ, false, List, [], ◌∷◌, ◌++◌, length, replicate, slice_index, Ok, Err, refl}
+use Rattle.std.proofs.Common.{lit≤}
+use Rattle.std.proofs.Math.Nat.{not-suc-le_self}
 use Rattle.atomic_table.specs.Seated.{TableId}
 use Rattle.srm_names.specs.declared.drawop.Drawop.{Drawop}
 use Rattle.srm_names.specs.declared.page_msg.PageMsg.{PageMsg}
@@ -8,10 +10,9 @@ use Rattle.srm_names.specs.Names.{first_page, named}
 use Rattle.srm_names.specs.PageFeeds.{drawops_of}
 use Rattle.srm_pages.specs.declared.stroke.Stroke.{Stroke}
 use Rattle.srm_pages.specs.declared.tap.Ended.TheVariants.{Closed, Broken}
-use Rattle.srm_pages.specs.Board.{words_of_board}
+use Rattle.srm_pages.specs.Board.{words_of_board, taken_word, shown_word, drawops_shown, CountsShown}
 use Rattle.srm_pages.specs.Ends.{FeedView, TapView, LaneId, TookOrEnded, credit_of}
 use Rattle.srm_pages.specs.Ink.{strokes_of, SentIs}
-use Rattle.srm_pages.specs.Seats.{taken_word, shown_word}
 
 -- The board has a word for each slot's count and one for each slot and member.
 all_words : words_of_board ≡ 264
@@ -57,6 +58,33 @@ none_of_another = refl
 none_in_another_slot : slice_index seat (taken_word 7) ≡ 0
 none_in_another_slot = refl
 
+-- The three count the two that are shown.
+all_shown : drawops_shown seat 0 ≡ 2
+unfolding drawops_shown
+all_shown = refl
+
+in_order : CountsShown seat 0
+unfolding drawops_shown
+in_order = lit≤ tt
+
+in_order_elsewhere : CountsShown seat 7
+unfolding drawops_shown
+in_order_elsewhere = lit≤ tt
+
+-- Before its number is stored, a drawop that was taken is counted.
+counted_first : CountsShown (3 ∷ 0 ∷ 1 ∷ replicate 261 0) 0
+unfolding drawops_shown
+counted_first = lit≤ tt
+
+-- A number that was stored before the count shows a drawop too many. So do two members' numbers, of which the count has one.
+shown_first : ¬ CountsShown (1 ∷ 0 ∷ 2 ∷ replicate 261 0) 0
+unfolding drawops_shown
+shown_first order = not-suc-le_self 1 order
+
+two_members : drawops_shown (1 ∷ 1 ∷ 0 ∷ 1 ∷ replicate 260 0) 0 ≡ 2
+unfolding drawops_shown
+two_members = refl
+
 -- The same of the last member in the last slot.
 abbrev last_seat : List ℕ
 last_seat = replicate 231 0 ++ 3 ∷ replicate 31 0 ++ 2 ∷ []
@@ -75,6 +103,14 @@ none_of_the_first = refl
 
 none_in_the_slot_before : slice_index last_seat (shown_word 6 31) ≡ 0
 none_in_the_slot_before = refl
+
+all_shown_last : drawops_shown last_seat 7 ≡ 2
+unfolding drawops_shown
+all_shown_last = refl
+
+none_shown_in_the_slot_before : drawops_shown last_seat 6 ≡ 0
+unfolding drawops_shown
+none_shown_in_the_slot_before = refl
 
 -- Credit is the room of a lane less what is under way, as far as the feed has seen.
 module _ (lane : LaneId) (board : TableId) where

@@ -24,7 +24,7 @@ pub struct Feed {
 impl Model for Feed {
     ghost use Rattle.crossbeam_channel.specs.Ends.{sends_on, ruled_capacity};
     ghost use Rattle.srm_pages.specs.Ends.{FeedView, lane_of};
-    ghost use Rattle.srm_pages.specs.Seats.{taken_word};
+    ghost use Rattle.srm_pages.specs.Board.{taken_word};
 
     ghost Value = { FeedView };
 

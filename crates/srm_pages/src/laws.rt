@@ -4,13 +4,16 @@ ghost use mathlib.Core.Option.{some};
 ghost use lib.ListN.{get_elem?};
 ghost use Rattle.srm_names.specs.declared.page_msg.PageMsg.{PageMsg};
 ghost use Rattle.srm_names.specs.PageFeeds.{is_page_feed};
-ghost use Rattle.srm_pages.specs.declared.board.BoardView.{BoardView};
 ghost use Rattle.srm_pages.specs.declared.lane.LaneView.{LaneView};
 ghost use Rattle.srm_pages.specs.declared.ink.InkView.{InkView};
 ghost use Rattle.srm_pages.specs.declared.stroke.Stroke.{Stroke};
-ghost use Rattle.srm_pages.specs.Board.{BoardHolds, stride};
+ghost use Rattle.atomic_table.specs.Table.{State};
+ghost use Rattle.srm_pages.specs.Board.{BoardHolds, CountsShown, stride};
 ghost use Rattle.srm_pages.specs.Lane.{LaneHolds};
 ghost use Rattle.srm_pages.specs.Ink.{InkHolds, strokes_of};
+
+use crate::board::{BoardView, Rising};
+use atomic_table::TableRule;
 
 /// What the feeder has put is what the tap has taken and then what the lane holds, and a page feed.
 pub fn lane_keeps_its_rule()
@@ -19,11 +22,13 @@ pub fn lane_keeps_its_rule()
         → (f.put ≡ t.taken ++ items) × (is_page_feed f.put ≡ true) }
 {}
 
-/// A slot's words are what its tap's seat has, and what any other has seen of them is at most that.
+/// A slot's words are what its tap's seat has, and what any other has seen of them is at most that. The drawops that they show, of all
+/// members together, are no more than the messages that they count: a count is raised before what it counts is shown.
 pub fn board_keeps_its_rule()
-    ensures { (words : List ℕ) (views : List BoardView) → BoardHolds words views
+    ensures seen { (words : List ℕ) (views : List BoardView) → BoardHolds words views
         → (i j : ℕ) (t v : BoardView) → get_elem? views i ≡ some t → t.taps ≡ true → get_elem? views j ≡ some v
         → (w : ℕ) → w / stride ≡ t.slot → (slice_index t.seen w ≡ slice_index words w) × (slice_index v.seen w ≤ slice_index t.seen w) }
+    ensures order { (board : State ℕ BoardView) → ⟦<Rising as TableRule<u8, BoardView, ()>>⟧.holds tt board → (slot : ℕ) → CountsShown board.words slot }
 {}
 
 /// The part of a pen in what was received and then what the well holds is what the pen sent.

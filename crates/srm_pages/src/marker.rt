@@ -1,10 +1,12 @@
 //! The one who raises the words of a slot.
 
-ghost use Rattle.std.specs.Prelude.{◌≡◌, ◌≢◌, ◌/◌, ◌%◌, ◌^◌, ◌<◌, ◌≤◌, slice_index, slice_set};
-ghost use Rattle.srm_pages.specs.Board.{stride, words_of_board};
-ghost use Rattle.srm_pages.specs.Seats.{Marks, MayMark};
+ghost use Rattle.std.specs.Prelude.{◌≡◌, ◌≢◌, ◌/◌, ◌%◌, ◌^◌, ◌<◌, ◌≤◌, length, slice_index, slice_set};
+ghost use Rattle.crossbeam_channel.specs.Claims.{view as knows};
+ghost use Rattle.srm_pages.specs.Board.{stride, taken_word, words_of_board, CountsShown};
+ghost use Rattle.srm_pages.specs.Seats.{MayShow, Shows};
 
 use crate::board::{Board, BoardSeat, Raises, STRIDE};
+use crate::lane::LanePass;
 use srm_names::PageMsg;
 use std::alloc::Global;
 use std::marker::Model;
@@ -41,18 +43,28 @@ impl Marker {
         self.slot
     }
 
-    /// Stores how many messages were taken with this one, and then the number of a drawop. So the words count the list of the taken
-    /// messages, whatever list they counted before.
-    #[tactic(auto, using(crate::proofs::Taps::marks_message, crate::proofs::Taps::marks_stroke))]
-    pub fn mark(&mut self, msg: &PageMsg, count: u64)
-        requires { MayMark self.old msg.now count }
-        ensures { Marks self.old msg.now count self.new }
+    /// Stores how many messages were taken. The tap's pass, which has no bytes, shows that they were: the word is never raised before.
+    pub fn count(&mut self, pass: &LanePass, count: u64)
+        requires taken { count ≤ length (knows pass.now).taken }
+        requires rises { slice_index self.old.seat (taken_word self.old.slot) ≤ count }
+        requires order { CountsShown self.old.seat self.old.slot }
+        ensures seat { self.new ≡ record self.old { seat = slice_set self.old.seat (taken_word self.old.slot) count } }
+        ensures there { slice_index self.new.seat (taken_word self.old.slot) ≡ count }
     {
-        let first = usize::from(self.slot) * STRIDE;
-        self.raise(first, count);
+        self.raise(usize::from(self.slot) * STRIDE, count);
+    }
+
+    /// Stores the number of a drawop, which is counted by then. Of another message it stores nothing.
+    pub fn show(&mut self, msg: &PageMsg)
+        requires { MayShow self.old msg.now }
+        ensures { Shows self.old msg.now self.new }
+    {
         if let PageMsg::Draw(drawop) = msg {
             let member = drawop.name.source().index();
-            self.raise(first + (member + 1), u64::from(drawop.name.number()));
+            self.raise(
+                usize::from(self.slot) * STRIDE + (member + 1),
+                u64::from(drawop.name.number()),
+            );
         }
     }
 
@@ -61,6 +73,7 @@ impl Marker {
         requires mine { (word < words_of_board) × (word / stride ≡ self.old.slot) }
         requires rises { slice_index self.old.seat word ≤ number }
         requires narrow { word % stride ≢ 0 → number < 2 ^ 32 }
+        requires order { CountsShown (slice_set self.old.seat word number) self.old.slot }
         ensures seat { self.new ≡ record self.old { seat = slice_set self.old.seat word number } }
         ensures there { slice_index self.new.seat word ≡ number }
     {

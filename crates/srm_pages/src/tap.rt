@@ -11,14 +11,17 @@ use crate::marker::Marker;
 use srm_names::PageMsg;
 use std::marker::Model;
 use std::sync::Wait;
+use thiserror::Error;
 
 /// Why no message came.
-#[derive(Clone, Copy, PartialEq, Eq, Debug)]
+#[derive(Clone, Copy, Debug, PartialEq, Eq, Error)]
 pub enum Ended {
     /// `Close` was taken, or the feed is gone and the lane was empty.
-    Closed,
+    #[error("the lane is closed")]
+    Closed = 1,
     /// Never answered.
-    Broken,
+    #[error("the lane is broken")]
+    Broken = 2,
 }
 
 /// The tap's end of a lane, with the token that has what was taken.
@@ -62,7 +65,7 @@ impl Tap {
     }
 
     /// Takes the next message, and then stores at the board how many were taken, and for a drawop its number. Ended changes nothing.
-    #[tactic(auto, using(crate::proofs::Taps::may_mark))]
+    #[tactic(auto, using(crate::proofs::Taps::counts_order, crate::proofs::Taps::next_shown))]
     pub fn take<R: Wait>(&mut self, rt: &R) -> Result<PageMsg, Ended>
         ensures taken { TookOrEnded result self.old self.new }
         ensures feed { is_page_feed self.new.taken ≡ true }
@@ -74,7 +77,8 @@ impl Tap {
         let count = next_count(rt, self.count);
         match self.receiver.recv_as::<Taking, R>(rt, &mut self.pass) {
             Ok(msg) => {
-                self.marker.mark(&msg, count);
+                self.marker.count(&self.pass, count);
+                self.marker.show(&msg);
                 self.count = count;
                 self.closed = matches!(msg, PageMsg::Close);
                 Ok(msg)

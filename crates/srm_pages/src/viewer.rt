@@ -2,7 +2,7 @@
 
 ghost use Rattle.std.specs.Prelude.{◌≡◌, ◌<◌, ◌≤◌, slice_index, slice_set};
 ghost use Rattle.srm_names.specs.declared.limits.TheConstants.{PAGES};
-ghost use Rattle.srm_pages.specs.Seats.{shown_word};
+ghost use Rattle.srm_pages.specs.Board.{shown_word};
 
 use crate::board::STRIDE;
 use crate::lookout::Lookout;

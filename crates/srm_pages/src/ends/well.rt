@@ -27,9 +27,9 @@ impl Model for Well {
 
     ghost use Rattle.std.specs.Prelude.{◌≡◌, true};
     ghost use Rattle.std.specs.Arc.{arc_value};
-    ghost use Rattle.crossbeam_queue.specs.Passes.{view as knows, IsPassOf};
+    ghost use Rattle.crossbeam_queue.specs.Passes.{view as knows, ruled_capacity, IsPassOf};
 
-    ghost view = { λ w. record { received = (knows w.pass).received; well = w.pass.table_id } };
+    ghost view = { λ w. record { received = (knows w.pass).received; well = w.pass.table_id; capacity = ruled_capacity (arc_value w.ink).queue } };
 
     ghost invariant = { λ w. IsPassOf (arc_value w.ink).queue w.pass × ((knows w.pass).reads ≡ true) };
 }

@@ -4,7 +4,7 @@ ghost use Rattle.std.specs.Prelude.{◌≡◌, [], true, vec_len, IfOk, OnOk};
 ghost use Rattle.std.specs.Arc.{arc_value};
 ghost use Rattle.crossbeam_queue.specs.Passes.{view as knows, IsPassOf};
 ghost use Rattle.srm_names.specs.declared.limits.TheConstants.{PENS};
-ghost use Rattle.srm_pages.specs.Ends.{AreNewPens};
+ghost use Rattle.srm_pages.specs.Ends.{AreNewPens, new_well};
 
 use crate::ends;
 use crate::ink::{Ink, InkPass, NextPen, StrokeQueue};
@@ -14,10 +14,10 @@ use std::alloc::{AllocError, Global};
 use std::sync::Arc;
 use std::sync::atomic::AtomicU64;
 
-/// Makes the well and its pens, the k-th of place k, with nothing sent or received. Only want of memory refuses it.
+/// Makes the well, which holds 64 strokes, and its pens, the k-th of place k, with nothing sent or received. Only want of memory refuses it.
 #[tactic(auto, using(crate::proofs::InkSteps::begins))]
 pub fn well(alloc: Global) -> Result<(ends::Well, Vec<Pen>), AllocError>
-    ensures well { IfOk result (λ r. r.0.received ≡ []) }
+    ensures well { IfOk result (λ r. r.0 ≡ new_well r.0.well) }
     ensures pens { IfOk result (λ r. (vec_len r.1 ≡ PENS) × AreNewPens r.0.well r.1.items) }
 {
     let (queue, mut pass) = StrokeQueue::ruled(alloc, WELL_STROKES as usize)?;

@@ -1,9 +1,12 @@
 use Rattle.std.proofs.Common.{◌≤◌, get_or, arith}
 use Rattle.srm_pages.proofs.laws.board_keeps_its_rule.Goals as goal
 
-pub returns : goal.returns
-returns c = λ words views h i j t v at taps at' w own.
+pub returns-clause-seen : goal.returns-clause-seen
+returns-clause-seen c = λ words views h i j t v at taps at' w own.
     let exact = (h.fits i t at).exact taps w own in
     let bound = (h.fits j v at').bound w in
     let less : get_or v.seen w 0 ≤ get_or t.seen w 0 = omega arith in
     (exact, less)
+
+pub returns-clause-order : goal.returns-clause-order
+returns-clause-order c = λ board h. h.order

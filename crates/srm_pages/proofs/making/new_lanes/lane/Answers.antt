@@ -3,7 +3,8 @@ use Rattle.crossbeam_channel.specs.Claims.{IsSeatAt}
 use Rattle.crossbeam_channel.specs.Ends.{ruled_capacity}
 use Rattle.srm_names.specs.PageFeeds.{is_page_feed}
 use Rattle.srm_pages.specs.declared.lane.LaneView.{LaneView}
-use Rattle.srm_pages.specs.Seats.{Sight, Counts, taken_word}
+use Rattle.srm_pages.specs.Board.{taken_word}
+use Rattle.srm_pages.specs.Seats.{Sight, Counts}
 use Rattle.srm_pages.proofs.LaneSteps.{forks}
 use Rattle.srm_pages.proofs.BoardSteps.{zeros_at}
 use Rattle.srm_pages.proofs.making.new_lanes.lane.Goals as goal

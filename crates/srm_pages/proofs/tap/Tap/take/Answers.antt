@@ -1,20 +1,23 @@
-use Rattle.std.proofs.Common.{◌≡◌, true, [], ◌∷◌, ◌+◌, length, sym, ap, ◌∙◌, subst, length-append}
+use Rattle.std.proofs.Common.{rules, ◌≡◌, true, [], ◌∷◌, ◌+◌, length, sym, ap, ◌∙◌, subst, length-append}
 use Rattle.srm_names.specs.PageFeeds.{is_page_feed}
 use Rattle.srm_pages.specs.declared.lane.LaneView.{LaneView}
 use Rattle.srm_pages.specs.Seats.{Counts}
 use Rattle.srm_pages.proofs.LaneSteps.{takes}
-use Rattle.srm_pages.proofs.Taps.{counts_taken}
+use Rattle.srm_pages.proofs.Taps.{next_shown, next_counts}
 use Rattle.srm_pages.proofs.tap.Tap.take.Goals as goal
 
 pub recv_as-requires-clause-rule : goal.recv_as-requires-clause-rule
 recv_as-requires-clause-rule g c = (takes _ _ c.self.invariant.1, λ _ _ _ _. tt)
 
--- what the take and the mark made
-counted : (g : _) → (c : goal.After-self-in-Ok-1 g) → Counts c.mark.new.self.seat c.mark.new.self.slot c.recv_as.new.pass.me.0.client.taken
+pub show-requires : goal.show-requires
+show-requires g c = search (rules, next_shown)
+
+-- what the take and both stores made
+counted : (g : _) → (c : goal.After-self-in-Ok-1 g) → Counts c.show.new.self.seat c.show.new.self.slot c.recv_as.new.pass.me.0.client.taken
 counted g c =
     let i = c.self.invariant in
     let took = c.in-Ok.ensures.rule in
-    counts_taken _ _ c.self.inside.pass.me.0.client.taken _ c.in-Ok.msg _ c.mark.ensures i.4 (c.next_count-count.ensures ∙ ap (λ n. n + 1) i.2) (ap (λ (v : LaneView). v.taken) took.0) took.1
+    next_counts _ _ _ _ _ _ _ i.4 took.1 (c.next_count-count.ensures ∙ ap (λ n. n + 1) i.2) c.count.ensures.seat c.count.ensures.there c.show.ensures (ap (λ (v : LaneView). v.taken) took.0)
 
 pub invariant_of-self : goal.invariant_of-self
 invariant_of-self g c =

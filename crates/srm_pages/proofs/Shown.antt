@@ -1,0 +1,93 @@
+-- What the words of a slot show is among what its count has.
+use Rattle.std.proofs.Common.{◌≡◌, ◌≢◌, ℕ, zero, suc, ◌+◌, ◌*◌, ◌/◌, ◌<◌, ◌≤◌, List, [], ◌∷◌, ◌++◌, length, Option, Some, None, get_or, set, sym, refl, ap, ◌∙◌, subst, arith, get_or-set_other, get_or-set_same}
+use Rattle.std.specs.List.{cons_option}
+use mathlib.Core.Logic.{dite}
+use native.Mathlib.Decide.{ℕ_discrete}
+use Rattle.srm_names.specs.declared.limits.TheConstants.{MEMBERS}
+use Rattle.srm_names.specs.declared.drawop.Drawop.{Drawop}
+use Rattle.srm_names.specs.declared.page_msg.PageMsg.{PageMsg}
+use Rattle.srm_names.specs.declared.page_msg.PageMsg.TheVariants.{Open, Draw, Left, Close}
+use Rattle.srm_names.specs.PageFeeds.{drawops_of, drawop_from}
+use Rattle.srm_pages.specs.Board.{stride, total, taken_word, shown_word, drawops_shown, CountsShown}
+use Rattle.srm_pages.proofs.Feeds.{not_drawn_by}
+
+pub total_le : (f g : ℕ → ℕ) (n : ℕ) → ((j : ℕ) → j < n → f j ≤ g j) → total f n ≤ total g n
+total_le f g zero each = omega arith
+total_le f g (suc n) each = let before = total_le f g n (λ j small. each j (omega arith)) in let last = each n (omega arith) in omega arith
+
+-- one of them is one more at most
+pub total_more : (f g : ℕ → ℕ) (k n : ℕ) → ((j : ℕ) → j ≢ k → f j ≤ g j) → f k ≤ g k + 1 → total f n ≤ total g n + 1
+total_more f g k zero others one = omega arith
+total_more f g k (suc n) others one =
+    dite (ℕ_discrete n k)
+    (λ (e : n ≡ k).
+    let before = total_le f g n (λ j small. others j (λ (same : j ≡ k). omega arith)) in
+    let last : f n ≤ g n + 1 = subst (λ j. f j ≤ g j + 1) (sym e) one in
+    omega arith)
+    (λ (ne : n ≢ k). let before = total_more f g k n others one in let last = others n ne in omega arith)
+
+-- the words of a slot stand side by side
+pub of_slot : (slot member : ℕ) → member < MEMBERS → shown_word slot member / stride ≡ slot
+of_slot slot member small = omega arith
+
+pub count_of_slot : (slot : ℕ) → taken_word slot / stride ≡ slot
+count_of_slot slot = omega arith
+
+-- words that are alike in a slot
+pub order_alike : (xs ys : List ℕ) (slot : ℕ) → ((i : ℕ) → i / stride ≡ slot → get_or xs i 0 ≡ get_or ys i 0) → CountsShown xs slot → CountsShown ys slot
+unfolding drawops_shown
+order_alike xs ys slot alike was =
+    let shown = total_le (λ m. get_or ys (shown_word slot m) 0) (λ m. get_or xs (shown_word slot m) 0) MEMBERS (λ m small. let same = alike (shown_word slot m) (of_slot slot m small) in omega arith) in
+    let count = alike (taken_word slot) (count_of_slot slot) in
+    omega arith
+
+-- a number that is stored in a list is there, or its place lies outside
+pub at_most_stored : (xs : List ℕ) (i n : ℕ) → get_or (set xs i n) i 0 ≤ n
+at_most_stored [] i n = omega arith
+at_most_stored (x ∷ xs) zero n = omega arith
+at_most_stored (x ∷ xs) (suc i) n = at_most_stored xs i n
+
+pub stored_rises : (xs : List ℕ) (i n : ℕ) → get_or xs i 0 ≤ n → get_or xs i 0 ≤ get_or (set xs i n) i 0
+stored_rises [] i n more = omega arith
+stored_rises (x ∷ xs) zero n more = more
+stored_rises (x ∷ xs) (suc i) n more = stored_rises xs i n more
+
+-- the word that counts takes stands before those that show drawops
+pub apart : (slot member : ℕ) → taken_word slot ≢ shown_word slot member
+apart slot member e = omega arith
+
+-- a count that rises still counts what is shown
+pub order_counted : (seat : List ℕ) (slot count : ℕ) → CountsShown seat slot → get_or seat (taken_word slot) 0 ≤ count → CountsShown (set seat (taken_word slot) count) slot
+unfolding drawops_shown
+order_counted seat slot count was more =
+    let now = set seat (taken_word slot) count in
+    let shown = total_le (λ m. get_or now (shown_word slot m) 0) (λ m. get_or seat (shown_word slot m) 0) MEMBERS
+    (λ m small. let same = get_or-set_other seat (taken_word slot) (shown_word slot m) count 0 (λ e. apart slot m (sym e)) in omega arith) in
+    let rises = stored_rises seat (taken_word slot) count more in
+    omega arith
+
+-- how many drawops of each member are among the messages
+abbrev pub drawn : List PageMsg → ℕ → ℕ
+drawn l member = length (drawops_of member l)
+
+longer : (o : Option Drawop) (l : List Drawop) → length (cons_option o l) ≤ length l + 1
+longer None l = omega arith
+longer (Some d) l = omega arith
+
+one_more : (n : ℕ) (x : PageMsg) (l : List PageMsg) → total (drawn (x ∷ l)) n ≤ total (drawn l) n + 1
+one_more n (Open p) l = omega arith
+one_more n (Draw d) l =
+    total_more (drawn (Draw d ∷ l)) (drawn l) d.name.stream.source n
+    (λ j ne. let same : drawn (Draw d ∷ l) j ≡ drawn l j = ap (λ o. length (cons_option o (drawops_of j l))) (not_drawn_by j d ne) in omega arith)
+    (longer (drawop_from d.name.stream.source (Draw d)) (drawops_of d.name.stream.source l))
+one_more n (Left s) l = omega arith
+one_more n Close l = omega arith
+
+none_at_first : (n : ℕ) → total (drawn []) n ≤ 0
+none_at_first zero = omega arith
+none_at_first (suc n) = let before = none_at_first n in omega arith
+
+-- the drawops of all members are among the messages
+pub drawn_at_most : (n : ℕ) (l : List PageMsg) → total (drawn l) n ≤ length l
+drawn_at_most n [] = none_at_first n
+drawn_at_most n (x ∷ l) = let before = drawn_at_most n l in let more = one_more n x l in omega arith
