@@ -19,6 +19,15 @@ pub fn page_of(creator: Member) -> Page {
     Page { creator, number: 0 }
 }
 
+/// What a drawop with this number draws: one with an odd number has a body, one with an even number has none.
+pub fn body_of(number: u32) -> Bytes {
+    if number % 2 == 1 {
+        Bytes::from_static(b"a line")
+    } else {
+        Bytes::new()
+    }
+}
+
 /// The ends of the lane of a slot, and the viewers.
 pub fn new_ends(
     alloc: Global,
@@ -70,7 +79,7 @@ fn put_drawop<R: Wait>(rt: &R, feed: &mut Feed, page: &Page, member: Member, num
     let drawop = Drawop {
         name,
         stamp: 0,
-        body: Bytes::new(),
+        body: body_of(number),
     };
     put_next(rt, feed, PageMsg::Draw(drawop))
 }

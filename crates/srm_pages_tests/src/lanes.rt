@@ -3,8 +3,10 @@
 ghost use Rattle.std.specs.Prelude.{◌≡◌, ◌<◌, [], ◌∷◌, ◌++◌};
 ghost use Rattle.srm_names.specs.declared.limits.TheConstants.{PAGES};
 
-use crate::drawing::{new_ends, page_of, put_close, put_drawing, put_ending, put_open, take_all};
-use srm_names::{LANE_MESSAGES, Member, PAGES, PageMsg, VIEWERS};
+use crate::drawing::{
+    body_of, new_ends, page_of, put_close, put_drawing, put_ending, put_open, take_all,
+};
+use srm_names::{Drawop, LANE_MESSAGES, Member, Name, PAGES, PageMsg, VIEWERS};
 use srm_pages::*;
 use std::alloc::{AllocError, Global};
 use std::process::Abort;
@@ -43,6 +45,60 @@ fn credit_is_what_the_lane_has_room_for(rt: HostRuntime) -> Result<(), Fail> {
     let (tap, taken) = take_all(&rt, tap, 1);
     assert_eq!(rt; (taken, feed.credit()), (1, 1));
     let _settled = settle(feed, tap);
+    Ok(())
+}
+
+/// A drawop as it is put.
+fn drawn(source: Member, number: u32) -> Option<PageMsg> {
+    let name = Name::new(source, page_of(source), number)?;
+    Some(PageMsg::Draw(Drawop {
+        name,
+        stamp: 0,
+        body: body_of(number),
+    }))
+}
+
+/// Whether `Open`, a drawop with a body and one without come out of a tap.
+fn takes_two<R: Wait>(rt: &R, tap: &mut Tap, source: Member) -> bool {
+    if tap.take(rt) != Ok(PageMsg::Open(page_of(source))) {
+        return false;
+    }
+    for number in 1..3 {
+        let taken = tap.take(rt).ok();
+        if taken.is_none() || taken != drawn(source, number) {
+            return false;
+        }
+    }
+    true
+}
+
+/// The credit of a slot's feed once two drawops were put, and once they were taken as they were put.
+fn carried<R: Wait>(
+    rt: &R,
+    alloc: Global,
+    slot: u8,
+    source: Member,
+) -> Result<Option<(u32, u32)>, AllocError>
+    requires { slot < PAGES }
+{
+    let (mut feed, mut tap, _) = new_ends(alloc, 0, usize::from(slot))?;
+    if !put_drawing(rt, &mut feed, &page_of(source), source, 2) {
+        return Ok(None);
+    }
+    let before = feed.credit();
+    if !takes_two(rt, &mut tap, source) {
+        return Ok(None);
+    }
+    Ok(Some((before, feed.credit())))
+}
+
+#[test]
+fn each_slot_carries_drawops_with_and_without_bodies(rt: HostRuntime) -> Result<(), Fail> {
+    for slot in 0..PAGES {
+        let source = member(&rt, 4 * slot + 3);
+        let credits = carried(&rt, rt.alloc(), slot, source)?;
+        assert_eq!(rt; credits, Some((61, 64)));
+    }
     Ok(())
 }
 
@@ -247,5 +303,17 @@ fn a_page_is_opened_left_and_closed(rt: HostRuntime) -> Result<(), Fail> {
     assert_taken(&rt, &mut tap, PageMsg::Open(page_of(source)));
     assert_taken(&rt, &mut tap, PageMsg::Left(source));
     assert_taken(&rt, &mut tap, PageMsg::Close);
+    Ok(())
+}
+
+#[test]
+fn each_end_has_a_number_and_a_text(rt: HostRuntime) -> Result<(), Fail> {
+    assert_eq!(rt; (Ended::Closed as u8, Ended::Broken as u8), (1, 2));
+    let closed = Ended::Closed.to_string(rt.alloc())?;
+    let broken = Ended::Broken.to_string(rt.alloc())?;
+    assert_eq!(rt;
+        (closed.as_str(), broken.as_str()),
+        ("the lane is closed", "the lane is broken")
+    );
     Ok(())
 }

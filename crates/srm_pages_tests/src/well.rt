@@ -15,7 +15,7 @@ use std::thread::{JoinHandle, Threads};
 /// The strokes that each pen sends.
 const STROKES: u16 = 100;
 
-/// A stroke of this pen on the page with this number.
+/// A stroke of this pen on the page with this number. One on a page with an even number has a body, one on another page has none.
 fn stroke_of(pen: u8, number: u16) -> Option<Stroke>
     ensures { IfSome result (λ s. s.pen ≡ pen) }
 {
@@ -23,7 +23,11 @@ fn stroke_of(pen: u8, number: u16) -> Option<Stroke>
     Some(Stroke {
         pen,
         page: Page { creator, number },
-        body: Bytes::new(),
+        body: if number % 2 == 0 {
+            Bytes::from_static(b"a curve")
+        } else {
+            Bytes::new()
+        },
     })
 }
 
@@ -126,6 +130,34 @@ fn there_are_four_pens_in_order(rt: HostRuntime) -> Result<(), Fail> {
         assert_eq!(rt; usize::from(pen.place()), place);
     }
     assert!(rt; well.next(&rt).is_none());
+    Ok(())
+}
+
+/// Whether a stroke of this number goes in by each pen and comes out as it was sent, and how many pens there are.
+fn came_of_each<R: Wait>(rt: &R, alloc: Global, number: u16) -> Result<Option<u32>, AllocError> {
+    let (mut well, pens) = well(alloc)?;
+    let mut count = 0u32;
+    for mut pen in pens {
+        let place = pen.place();
+        let Some(stroke) = stroke_of(place, number) else {
+            return Ok(None);
+        };
+        if pen.stroke(rt, stroke).is_err() {
+            return Ok(None);
+        }
+        let came = well.next(rt);
+        if came.is_none() || came != stroke_of(place, number) {
+            return Ok(None);
+        }
+        count = count.saturating_add(1);
+    }
+    Ok(Some(count))
+}
+
+#[test]
+fn a_stroke_of_each_pen_comes_with_and_without_a_body(rt: HostRuntime) -> Result<(), Fail> {
+    assert_eq!(rt; came_of_each(&rt, rt.alloc(), 0)?, Some(4));
+    assert_eq!(rt; came_of_each(&rt, rt.alloc(), 1)?, Some(4));
     Ok(())
 }
 
