@@ -11,7 +11,7 @@ pub use heard::Heard;
 pub use noted::Noted;
 pub use srm_agent_parts::Out;
 pub use srm_entries::{
-    AgentFault, AgentState, Arm, ArmKind, Cause, Config, Effects, Entry, Input, Outcome, Verdict,
-    gives, keeps_rate, responds,
+    AgentFault, AgentState, Arm, ArmKind, Cause, Config, Effects, Entry, Input, Outcome, Settings,
+    Verdict, gives, keeps_rate, responds,
 };
 pub use ticked::Ticked;

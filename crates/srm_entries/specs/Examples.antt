@@ -4,7 +4,7 @@ use Rattle.srm_names.specs.declared.drawop.Drawop.{Drawop}
 use Rattle.srm_names.specs.Names.{first_page, named, names_up_to, ascending, name_below}
 use Rattle.srm_codec.specs.declared.datagram.Datagram.TheVariants.{Data, Request, Repair, Session}
 use Rattle.srm_codec.specs.Spelling.{bits_set}
-use Rattle.srm_entries.specs.Configs.{Config}
+use Rattle.srm_entries.specs.Configs.{Config, default_settings, config_with}
 use Rattle.srm_entries.specs.declared.entry.Entry.{Entry}
 use Rattle.srm_timers.specs.declared.arm.Arm.{Arm}
 use Rattle.srm_entries.specs.Distances.{distance}
@@ -14,6 +14,13 @@ use Rattle.srm_entries.specs.Timers.{setting_of, ask_due, fix_due, arm_of, low_o
 
 abbrev config : ℕ → Config
 config me = in_roster me 4 4204
+
+-- these are the settings that most members take; another rate changes nothing else
+of_most : config_with 2 4 1 default_settings ≡ config 2
+of_most = refl
+
+of_another_rate : config_with 2 4 1 (record default_settings { rate = 100000 }) ≡ record (config 2) { rate = 100000 }
+of_another_rate = refl
 
 -- a gap is found and asked for
 abbrev gap : Entry

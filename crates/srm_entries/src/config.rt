@@ -4,8 +4,9 @@ ghost use Rattle.std.specs.Prelude.{◌≡◌, ◌≤◌, ◌↔◌, IfSome, IsS
 ghost use Rattle.srm_names.specs.declared.limits.TheConstants.{MEMBERS};
 ghost use Rattle.srm_bucket.specs.declared.limits.TheConstants.{LEAST_RATE, GREATEST_RATE, LEAST_DEPTH, GREATEST_DEPTH};
 ghost use Rattle.srm_timers.specs.declared.limits.TheConstants.{TIMER_SETTING};
-ghost use Rattle.srm_entries.specs.Configs.{IsConfig};
+ghost use Rattle.srm_entries.specs.Configs.{IsConfig, config_with};
 
+use crate::settings::Settings;
 use srm_bucket::{GREATEST_DEPTH, GREATEST_RATE, LEAST_DEPTH, LEAST_RATE};
 use srm_names::{MEMBERS, Member};
 use srm_timers::TIMER_SETTING;
@@ -26,9 +27,9 @@ pub struct Config {
 }
 
 impl Model for Config {
-    ghost use Rattle.srm_entries.specs.Configs.{Config as Settings, IsConfig};
+    ghost use Rattle.srm_entries.specs.Configs.{Config as AConfig, IsConfig};
 
-    ghost Value = { Settings };
+    ghost Value = { AConfig };
 
     ghost view = { λ c. record { me = c.me; members = c.members; session = c.session; rate = c.rate; depth = c.depth; c1 = c.c1; c2 = c.c2; d1 = c.d1; d2 = c.d2 } };
 
@@ -83,6 +84,27 @@ impl Config {
         } else {
             None
         }
+    }
+
+    /// The settings of member `me` in a roster of the members below `members`, 1 to 32, in the session with this number, and for
+    /// all else these by name. With [`Settings::default`] this is what most members need.
+    ///
+    /// None where [`Config::new`] has none: where a setting is out of its range, or `me` isn't in the roster.
+    pub fn with(me: Member, members: u8, session: u32, settings: Settings) -> Option<Config>
+        ensures known { IsSome result ↔ IsConfig (config_with me members session settings) }
+        ensures value { IfSome result (λ config. config ≡ config_with me members session settings) }
+    {
+        Config::new(
+            me,
+            members,
+            session,
+            settings.rate,
+            settings.depth,
+            settings.c1,
+            settings.c2,
+            settings.d1,
+            settings.d2,
+        )
     }
 
     /// The member that these settings are for.

@@ -10,6 +10,7 @@ mod config;
 mod entry;
 mod fault;
 mod laws;
+mod settings;
 mod state;
 
 pub use cause::{Cause, Outcome};
@@ -17,5 +18,6 @@ pub use config::Config;
 pub use entry::{Effects, Entry, Input, Verdict};
 pub use fault::AgentFault;
 pub use laws::{gives, keeps_rate, responds};
+pub use settings::Settings;
 pub use srm_timers::{Arm, ArmKind};
 pub use state::AgentState;
