@@ -40,10 +40,43 @@ use std::marker::Model;
 /// Microseconds from the making of an agent to its first session message.
 const FIRST_SESSION: u64 = 1_000_000;
 
-/// One member of a session. Strokes, datagrams, moments and words go in; datagrams and page messages come out.
+/// One member of a session: a state machine without clock, socket or thread. Strokes, datagrams, moments and words go in;
+/// datagrams and page messages come out.
 ///
-/// Moments are microseconds of the member's own clock, at most 2^48. One below the last that counted counts as the last. A call
-/// that is refused leaves all as it was, the last moment too.
+/// # How its calls go together
+///
+/// One thread drives an agent:
+///
+/// - Call [`draw`](Agent::draw), [`show`](Agent::show) and [`leave`](Agent::leave) when the user does so, and [`hear`](Agent::hear) when a
+///   datagram comes. None of these sends: what is to go out goes with a tick.
+/// - After each of them, and after each tick, ask [`next_due`](Agent::next_due) again, since any call may bring it nearer or put it
+///   off. One timer of the caller's is enough.
+/// - When that moment has come, call [`tick`](Agent::tick). A tick that is late does then what is due; one that is early does nothing.
+/// - Send the bytes of each of [`Ticked::outs`](crate::Ticked), in order, to all other members, once. What is lost on the way is asked for
+///   again; nobody answers that it came. What a multicast brings back to its sender is ignored.
+/// - Then, and after each other call, call [`give`](Agent::give) of each slot, 0 to 7, until it answers `None`, and hand what comes to
+///   the page's worker. What isn't taken now is still to come.
+///
+/// To end, [`leave`](Agent::leave), and tick on until [`Ticked::state`](crate::Ticked) is [`AgentState::Gone`]: then `next_due`
+/// has no moment any more, each slot gives what is left and then the close, and the agent can be dropped.
+///
+/// # The clock
+///
+/// The caller keeps it. Moments are microseconds of the member's own clock from any beginning, at most 2^48, which each caller
+/// shows. Members' clocks needn't agree. A moment below the last one that counted counts as the last, so a clock that steps back
+/// does no harm. A moment that [`next_due`](Agent::next_due) names may be past 2^48: then no tick comes to it.
+///
+/// # What is refused, and what to do then
+///
+/// Each call says which faults it has, and in which order. A call that is refused leaves all as it was, the last moment too.
+/// After [`AgentFault::Memory`] make the same call again when there may be memory; a body that was handed over is gone, so keep a
+/// copy of it where that matters. To give up does no lasting harm: a datagram that isn't heard counts as lost, a tick stays due,
+/// a message stays to be given, and a stroke wasn't drawn.
+///
+/// # Entries
+///
+/// The calls that end in `_noted` answer their [`Entry`](crate::Entry) too, which says who, when, what was asked and what was
+/// done. All laws are said of lists of entries. `srm_world`'s `Recorder` keeps them.
 #[derive(Drop)]
 pub struct Agent<W: Words + Drop> {
     alloc: Global,

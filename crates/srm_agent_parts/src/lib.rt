@@ -1,6 +1,17 @@
 //! The parts of an agent: what it keeps beside its store, its distances and its bucket, and what these become as more is heard.
 //!
 //! Each is said over the entries of its member: the timers are those that the entries set, a slot's feed is what they gave.
+//!
+//! It is for `srm_agent` and its neighbours, and nothing else needs it: who uses an agent finds [`Out`] there.
+//!
+//! ```
+//! let mut timers = Timers::new(alloc, &config);
+//! let (asks, fixes) = (timers.pending_asks(now)?, timers.pending_fixes(now)?);
+//! let arms = timers.tick(&asks, &fixes, &distances, now, &mut words)?;
+//! ```
+//!
+//! **What is refused.** Timers are refused for want of memory alone, and are then as before; a page finds no slot where the table
+//! has eight.
 #![tactic(auto)]
 
 mod between;

@@ -6,6 +6,16 @@
 //!
 //! Contracts speak of the calls so far: a bucket *fits* a list of calls where what it keeps is what the definitions in
 //! `specs/` say of that list, and where the bucket law holds of it. It keeps no history.
+//!
+//! ```
+//! let mut bucket = Bucket::new(alloc, 8_000, 4_204); // bytes a second, bytes
+//! bucket.hand(Class::New, Item { value, length: 33 })?;
+//! while let Some(item) = bucket.pop(now) { /* send it */ }
+//! let next = bucket.wait_until(); // when the next one may go
+//! ```
+//!
+//! The caller shows that rates, depths and lengths are in the ranges that [`Bucket::new`] and [`Bucket::hand`] name. **What is
+//! refused**: [`Bucket::hand`] and [`Bucket::room`], for want of memory alone.
 #![tactic(auto)]
 
 mod bucket;

@@ -1,5 +1,14 @@
 //! Datagrams as bytes: each datagram has one spelling, and each list of bytes is the spelling of one datagram or has
 //! a first fault.
+//!
+//! ```
+//! let bytes = encode(alloc, session, &datagram)?;
+//! let again = decode(alloc, session, bytes.as_slice())?; // equal to the datagram
+//! ```
+//!
+//! **What is refused.** [`decode`] answers the first [`DecodeFault`] in the order in which fields are judged: of each field first
+//! whether all its bytes are there, then its range; last whether a byte is left. [`encode`] asks of its caller that the datagram
+//! has a spelling, as [`encodable`] tells, and is refused for want of memory alone.
 #![tactic(auto)]
 
 mod contents;

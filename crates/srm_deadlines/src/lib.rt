@@ -1,8 +1,19 @@
 //! Moments by name, and which of them have come.
 //!
-//! [`Deadlines`] is the contract: a moment for each name that has one, the names whose moments have come, in order, and the first moment.
-//! [`Ordered`] keeps the moments in order, and [`Scanned`] looks through them all. Both stand on [`ByName`], which has values of any kind
-//! by name.
+//! [`Deadlines`] is the contract: a moment for each name that has one, the names whose moments have come, in order, and the first
+//! moment. [`Ordered`] keeps the moments in order, and [`Scanned`] looks through them all. Both stand on [`ByName`], which has
+//! values of any kind by name.
+//!
+//! ```
+//! let mut deadlines = Ordered::new(alloc);
+//! deadlines.room(&[name])?; // a place for the name
+//! deadlines.set(name, 1_000_000);
+//! let mut come = Vec::with_capacity(alloc, 1)?;
+//! deadlines.due(1_000_000, &mut come)?; // the name
+//! ```
+//!
+//! Moments are microseconds. **What is refused**: `room` for want of memory, and `due` where the list that it is lent has too
+//! little room and there is no memory for more. To set takes none: the caller shows that the name has a place.
 #![tactic(auto)]
 
 mod agenda;

@@ -3,6 +3,15 @@
 //! An *entry* says who, when, what was asked and what was done. The rules of the protocol are said of lists of entries, in
 //! `specs/`: what is held, known and missing after them, which timers run, what may be sent, and so which entry a member may
 //! make next. The laws here hold of every such list.
+//!
+//! [`Config`] and [`Settings`] are what a member is made with:
+//!
+//! ```
+//! let config = Config::with(me, members, session, Settings::default())?;
+//! let faster = Config::with(me, members, session, Settings { rate: 100_000, ..Settings::default() })?;
+//! ```
+//!
+//! **What is refused.** A setting out of its range, or a member that isn't in the roster: then there is no [`Config`].
 #![tactic(auto)]
 
 mod cause;

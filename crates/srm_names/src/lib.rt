@@ -1,4 +1,16 @@
 //! Members, pages, the names of drawops, what a page worker is given, and the limits of a session.
+//!
+//! A name belongs to one drawop for ever. So it is made whole or not at all, and copied where it is needed:
+//!
+//! ```
+//! let source = Member::new(0)?;
+//! let page = Page { creator: source, number: 0 };
+//! let name = Name::new(source, page, 1)?;
+//! assert!(Name::new(source, page, 0).is_none());
+//! ```
+//!
+//! **What is refused.** [`Member::new`] has none from [`MEMBERS`] on, [`Name::new`] none of number 0 or past [`DRAWOPS`]. Copies
+//! are refused for want of memory alone.
 #![tactic(auto)]
 
 mod drawop;

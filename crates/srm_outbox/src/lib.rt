@@ -2,6 +2,10 @@
 //!
 //! The names that are asked for are packed into requests, those that are repaired become repairs where they are held. Each is
 //! spelled and handed in with its class, and waits until the bucket lets it go.
+//!
+//! It is for `srm_agent`, and nothing else needs it.
+//!
+//! **What is refused.** All is refused for want of memory alone, before anything is handed in.
 #![tactic(auto)]
 
 mod answers;

@@ -6,6 +6,18 @@
 //!
 //! [`lanes`] and [`well`] make the ends. The types [`ends::Lanes`] and [`ends::Well`] stand in a module of their own, as two names
 //! that differ in case alone can't stand side by side.
+//!
+//! ```
+//! let ends = lanes(alloc, 1)?; // a feed and a tap for each slot, and one viewer
+//! // The node's thread, with a feed: ask for credit, then put.
+//! if feed.credit() > 0 { feed.put(&rt, message)?; }
+//! // The worker's thread, with a tap.
+//! while let Ok(message) = tap.take(&rt) { /* draw it */ }
+//! ```
+//!
+//! **What is refused.** [`Feed::put`] and [`Pen::stroke`] hand back what they can't bring: where the worker is gone, or the well
+//! is full. [`Tap::take`] ends with [`Ended::Closed`]. To make the ends is refused for want of memory alone. A take waits for the
+//! next message, and a put into a full lane for room; nothing is said of how long.
 #![tactic(auto)]
 
 mod board;

@@ -1,4 +1,14 @@
 //! Scripts: what they say, and what is printed of a world that plays them.
+//!
+//! ```
+//! let status = run_script(alloc, &mut stdin, &mut stdout, &mut stderr);
+//! ```
+//!
+//! [`read_script`] reads a script into what a world asks of its callers, and [`run_event`] plays one event and prints it.
+//! `docs/SCRIPTS.md` has the language.
+//!
+//! **What is refused.** The first bad line, before any is played; a script of more than 1,000,000 bytes; a stream that fails;
+//! want of memory. [`Fault`] has the text and the status of each.
 #![tactic(auto)]
 
 mod fault;

@@ -3,6 +3,16 @@
 //! Contracts speak of the calls so far: a store *fits* the drawops that were inserted, the names that were shown to
 //! exist and the members that were settled where all that it holds and knows is what the definitions in `specs/` say of
 //! these lists. It keeps no history.
+//!
+//! ```
+//! let mut store = Store::new(alloc)?;
+//! store.insert(first)?;
+//! let missing = store.evidence(third.name)?; // numbers 2 and 3, which were not known to exist
+//! assert_eq!(store.released(stream), 1);
+//! ```
+//!
+//! **What is refused.** [`StoreFault::PageLimit`] where a ninth page would be needed, and [`StoreFault::Memory`]; what is held
+//! and known is then as before. A second drawop of a name isn't refused: [`Insert`] tells what was found, and the first stays.
 #![tactic(auto)]
 
 mod block;

@@ -3,6 +3,18 @@
 //!
 //! Contracts speak of the calls so far: timers *fit* a list of calls, each with the arms that it made, where all that
 //! they keep is what the definitions in `specs/` say of this list. They keep no history.
+//!
+//! ```
+//! let mut asks = Asks::new(alloc, Ordered::new(alloc), 2, 2);
+//! let arms = asks.detect(&missing, &[], &distances, now, &mut words)?; // each name waits for 2 to 4 distances
+//! let again = asks.heard_request(name, &distances, now, &mut words); // another asked: this member needn't
+//! asks.gained(name);
+//! let names = asks.pending(later, Vec::new(alloc))?; // what has run out, to be asked for
+//! ```
+//!
+//! [`Fixes`] answers requests in the same way. All times are microseconds; words are 64 bits each, one for each timer that is
+//! set. **What is refused**: want of memory alone, [`TimerFault::Memory`], before any word is drawn; after `room` for its names a
+//! call isn't.
 #![tactic(auto)]
 
 mod arm;
