@@ -33,7 +33,7 @@ const LOST: usize = 1;
 /// The last moment, in microseconds: by then what was lost is repaired, and no session message is due.
 const END: u64 = 900_000;
 
-/// The slot of the first page, which each member has from the start.
+/// The slot of the first page, which each member has from the start. Who calls `give` shows that a slot is below 8.
 const FIRST_SLOT: u8 = 0;
 
 fn main(rt: HostRuntime) -> anyhow::Result<()> {
@@ -57,7 +57,8 @@ fn play<O: Write>(alloc: Global, out: &mut O) -> anyhow::Result<()> {
     print_given(&mut viewer, out)
 }
 
-/// The agent of one member, made at moment 0. Its number starts the words by which it draws its waits.
+/// The agent of one member, made at moment 0. Its number starts the words by which it draws its waits: members that draw by the same words
+/// would ask and answer all at once.
 fn join(alloc: Global, number: u8) -> anyhow::Result<Agent<Pcg>> {
     let me = Member::new(number).context("no such member")?;
     let config = Config::with(me, MEMBERS, SESSION, Settings::default()).context("bad settings")?;
@@ -70,6 +71,7 @@ fn tick_both<O: Write>(
     viewer: &mut Agent<Pcg>,
     out: &mut O,
 ) -> anyhow::Result<()> {
+    // A loop is to end, so it is counted, past all that can be due.
     for _ in 0..u64::MAX {
         let Some(now) = next_due(drawer, viewer) else {
             break;
@@ -80,7 +82,8 @@ fn tick_both<O: Write>(
     Ok(())
 }
 
-/// The first moment at which a member has something to do, and none where that is past the end.
+/// The first moment at which a member has something to do, and none where that is past the end. An agent may name one past 2^48, which
+/// its calls don't take: who calls `tick` shows that a moment is within it.
 fn next_due(drawer: &Agent<Pcg>, viewer: &Agent<Pcg>) -> Option<u64>
     ensures { IfSome result (λ now. now ≤ END) }
 {
