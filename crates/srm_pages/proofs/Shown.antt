@@ -1,5 +1,5 @@
 -- What the words of a slot show is among what its count has.
-use Rattle.std.proofs.Common.{◌≡◌, ◌≢◌, ℕ, zero, suc, ◌+◌, ◌*◌, ◌/◌, ◌<◌, ◌≤◌, List, [], ◌∷◌, ◌++◌, length, Option, Some, None, get_or, set, sym, refl, ap, ◌∙◌, subst, arith, get_or-set_other, get_or-set_same}
+use Rattle.std.proofs.Common.{◌≡◌, ◌≢◌, ℕ, zero, suc, ◌+◌, ◌-◌, ◌*◌, ◌/◌, ◌<◌, ◌≤◌, true, true≢false, List, [], ◌∷◌, ◌++◌, length, Option, Some, None, get_or, set, sym, refl, ap, ◌∙◌, subst, arith, get_or-set_other, get_or-set_same}
 use Rattle.std.specs.List.{cons_option}
 use mathlib.Core.Logic.{dite}
 use native.Mathlib.Decide.{ℕ_discrete}
@@ -7,9 +7,9 @@ use Rattle.srm_names.specs.declared.limits.TheConstants.{MEMBERS}
 use Rattle.srm_names.specs.declared.drawop.Drawop.{Drawop}
 use Rattle.srm_names.specs.declared.page_msg.PageMsg.{PageMsg}
 use Rattle.srm_names.specs.declared.page_msg.PageMsg.TheVariants.{Open, Draw, Left, Close}
-use Rattle.srm_names.specs.PageFeeds.{drawops_of, drawop_from}
+use Rattle.srm_names.specs.PageFeeds.{is_page_feed, drawops_of, drawop_from}
 use Rattle.srm_pages.specs.Board.{stride, total, taken_word, shown_word, drawops_shown, CountsShown}
-use Rattle.srm_pages.proofs.Feeds.{not_drawn_by}
+use Rattle.srm_pages.proofs.Feeds.{front_of, not_drawn_by}
 
 pub total_le : (f g : ℕ → ℕ) (n : ℕ) → ((j : ℕ) → j < n → f j ≤ g j) → total f n ≤ total g n
 total_le f g zero each = omega arith
@@ -91,3 +91,11 @@ none_at_first (suc n) = let before = none_at_first n in omega arith
 pub drawn_at_most : (n : ℕ) (l : List PageMsg) → total (drawn l) n ≤ length l
 drawn_at_most n [] = none_at_first n
 drawn_at_most n (x ∷ l) = let before = drawn_at_most n l in let more = one_more n x l in omega arith
+
+-- none of them is the first message of a page feed
+pub drawn_behind_first : (n : ℕ) (l : List PageMsg) → is_page_feed l ≡ true → total (drawn l) n ≤ length l - 1
+drawn_behind_first n [] feed = none_at_first n
+drawn_behind_first n (Open p ∷ l) feed = let most = drawn_at_most n l in omega arith
+drawn_behind_first n (Draw d ∷ l) feed = absurd (true≢false (sym (front_of (Draw d ∷ l) (Draw d ∷ []) l refl feed)))
+drawn_behind_first n (Left s ∷ l) feed = absurd (true≢false (sym (front_of (Left s ∷ l) (Left s ∷ []) l refl feed)))
+drawn_behind_first n (Close ∷ l) feed = let most = drawn_at_most n l in omega arith

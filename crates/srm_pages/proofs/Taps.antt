@@ -11,15 +11,15 @@ use Rattle.srm_names.specs.PageFeeds.{is_page_feed, continues, drawops_of, drawo
 use Rattle.srm_pages.specs.Board.{taken_word, shown_word, drawops_shown, CountsShown}
 use Rattle.srm_pages.specs.Seats.{Mark, Counts, MayShow, Shows}
 use Rattle.srm_pages.proofs.Feeds.{last_continues, next_number, one_more_drawn, same_drawn, not_drawn_by}
-use Rattle.srm_pages.proofs.Shown.{total_le, at_most_stored, apart, drawn, drawn_at_most}
+use Rattle.srm_pages.proofs.Shown.{total_le, at_most_stored, apart, drawn, drawn_behind_first}
 
 -- what counts a list counts what it shows
-pub counts_order : (seat : List ℕ) (slot : ℕ) (l : List PageMsg) → Counts seat slot l → CountsShown seat slot
+pub counts_order : (seat : List ℕ) (slot : ℕ) (l : List PageMsg) → Counts seat slot l → is_page_feed l ≡ true → CountsShown seat slot
 unfolding drawops_shown
-counts_order seat slot l counts =
+counts_order seat slot l counts feed =
     le_trans
     (total_le (λ m. get_or seat (shown_word slot m) 0) (drawn l) MEMBERS (λ m small. let same = counts.of_member m small in omega arith))
-    (le_trans (drawn_at_most MEMBERS l) (let all = counts.all in omega arith))
+    (le_trans (drawn_behind_first MEMBERS l feed) (let all = counts.all in omega arith))
 
 -- the count is of one message more than those whose drawops are shown
 pub record IsAhead (seat : List ℕ) (slot : ℕ) (taken : List PageMsg) : Type 0 where
@@ -49,18 +49,18 @@ with_drawop n taken d is go member small = dite (ℕ_discrete member d.name.stre
     omega arith)
 
 -- what the feed may go on with, the tap may show
-pub may_show : (n : Mark) (taken : List PageMsg) (x : PageMsg) → IsAhead n.seat n.slot taken → continues taken x ≡ true → MayShow n x
+pub may_show : (n : Mark) (taken : List PageMsg) (x : PageMsg) → IsAhead n.seat n.slot taken → continues taken x ≡ true → is_page_feed (taken ++ x ∷ []) ≡ true → MayShow n x
 unfolding drawops_shown
-may_show n taken (Open p) is go = tt
-may_show n taken (Draw d) is go = λ small. (
+may_show n taken (Open p) is go feed = tt
+may_show n taken (Draw d) is go feed = λ small. (
   (let was = is.of_member d.name.stream.source small in let next = next_number taken d go in omega arith),
   le_trans
       (total_le (λ m. get_or (set n.seat (shown_word n.slot d.name.stream.source) d.name.number) (shown_word n.slot m) 0) (drawn (taken ++ Draw d ∷ [])) MEMBERS (with_drawop n taken d is go))
-      (le_trans (drawn_at_most MEMBERS (taken ++ Draw d ∷ []))
+      (le_trans (drawn_behind_first MEMBERS (taken ++ Draw d ∷ []) feed)
       (let len = length-append taken (Draw d ∷ []) in let all = is.all in let other = get_or-set_other n.seat (shown_word n.slot d.name.stream.source) (taken_word n.slot) d.name.number 0 (apart n.slot d.name.stream.source) in omega arith)),
 )
-may_show n taken (Left s) is go = tt
-may_show n taken Close is go = tt
+may_show n taken (Left s) is go feed = tt
+may_show n taken Close is go feed = tt
 
 -- nothing is shown of a message that is no drawop
 counts_other : (n o : Mark) (taken : List PageMsg) (x : PageMsg) → ((member : ℕ) → drawop_from member x ≡ None) → IsAhead n.seat n.slot taken → o ≡ n → Counts o.seat o.slot (taken ++ x ∷ [])
@@ -93,7 +93,7 @@ counts_shown n o taken Close is go shows = counts_other n o taken Close (λ _. r
 -- after the count of a take, which went on with the page feed, its message may be shown
 pub next_shown : (m n : Mark) (taken : List PageMsg) (x : PageMsg) (count : ℕ) → Counts m.seat m.slot taken → is_page_feed (taken ++ x ∷ []) ≡ true → count ≡ length taken + 1
     → n ≡ record m { seat = set m.seat (taken_word m.slot) count } → get_or n.seat (taken_word m.slot) 0 ≡ count → MayShow n x
-next_shown m n taken x count counts feed more is there = may_show n taken x (ahead m n taken count counts more is there) (last_continues taken x feed)
+next_shown m n taken x count counts feed more is there = may_show n taken x (ahead m n taken count counts more is there) (last_continues taken x feed) feed
 
 -- and then the words count the list with it
 pub next_counts : (m n o : Mark) (taken after : List PageMsg) (x : PageMsg) (count : ℕ) → Counts m.seat m.slot taken → is_page_feed (taken ++ x ∷ []) ≡ true → count ≡ length taken + 1

@@ -1,5 +1,5 @@
 -- The rule of the board.
-use Rattle.std.specs.Prelude.{◌≡◌, ◌≢◌, ℕ, zero, suc, ◌*◌, ◌+◌, ◌/◌, ◌%◌, ◌^◌, ◌<◌, ◌≤◌, Bool, true, false, List, length, replicate, slice_index, slice_set}
+use Rattle.std.specs.Prelude.{◌≡◌, ◌≢◌, ℕ, zero, suc, ◌*◌, ◌+◌, ◌-◌, ◌/◌, ◌%◌, ◌^◌, ◌<◌, ◌≤◌, Bool, true, false, List, length, replicate, slice_index, slice_set}
 use mathlib.Core.Option.{some}
 use lib.ListN.{get_elem?}
 use Rattle.atomic_table.specs.Table.{State, Me, Step}
@@ -32,9 +32,9 @@ total f (suc n) = total f n + f n
 unfoldable pub drawops_shown : List ℕ → ℕ → ℕ
 drawops_shown words slot = total (λ member. slice_index words (shown_word slot member)) MEMBERS
 
--- the words of a slot show no more drawops than its count has messages, so the count is raised first
+-- the words of a slot show no more drawops than its count has messages behind the first, which opened the page; so the count is raised first
 abbrev pub CountsShown : List ℕ → ℕ → Type 0
-CountsShown words slot = drawops_shown words slot ≤ slice_index words (taken_word slot)
+CountsShown words slot = drawops_shown words slot ≤ slice_index words (taken_word slot) - 1
 
 -- every word as it is at first
 unfoldable pub zeros : List ℕ
@@ -59,7 +59,7 @@ pub record FitsBoard (seat : ℕ → ℕ) (dealt : ℕ) (words : List ℕ) (id :
   pub exact : v.taps ≡ true → (i : ℕ) → i / stride ≡ v.slot → slice_index v.seen i ≡ slice_index words i
   pub dealer : v.deals ≡ true → (id ≡ 0) × (v.next ≡ dealt)
 
--- The numbers of drawops fit a u32, a slot shows no more than it counts, and the words of slots that have no tap yet are 0
+-- The numbers of drawops fit a u32, a slot shows no more than it counts behind the first, and the words of slots that have no tap yet are 0
 pub record BoardHolds (words : List ℕ) (views : List BoardView) : Type 0 where
   pub seat : ℕ → ℕ
   pub dealt : ℕ

@@ -76,10 +76,19 @@ counted_first : CountsShown (3 ∷ 0 ∷ 1 ∷ replicate 261 0) 0
 unfolding drawops_shown
 counted_first = lit≤ tt
 
--- A number that was stored before the count shows a drawop too many. So do two members' numbers, of which the count has one.
-shown_first : ¬ CountsShown (1 ∷ 0 ∷ 2 ∷ replicate 261 0) 0
+-- A number that was stored before the count shows a drawop too many: the page was opened and a member drew once, and two are shown.
+shown_first : ¬ CountsShown (2 ∷ 0 ∷ 2 ∷ replicate 261 0) 0
 unfolding drawops_shown
 shown_first order = not-suc-le_self 1 order
+
+-- So it is with the very first drawop, and where another member's number is stored first.
+first_shown_first : ¬ CountsShown (1 ∷ 1 ∷ replicate 262 0) 0
+unfolding drawops_shown
+first_shown_first order = not-suc-le_self 0 order
+
+other_shown_first : ¬ CountsShown (2 ∷ 1 ∷ 1 ∷ replicate 261 0) 0
+unfolding drawops_shown
+other_shown_first order = not-suc-le_self 1 order
 
 two_members : drawops_shown (1 ∷ 1 ∷ 0 ∷ 1 ∷ replicate 260 0) 0 ≡ 2
 unfolding drawops_shown

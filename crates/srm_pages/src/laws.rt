@@ -23,7 +23,7 @@ pub fn lane_keeps_its_rule()
 {}
 
 /// A slot's words are what its tap's seat has, and what any other has seen of them is at most that. The drawops that they show, of all
-/// members together, are no more than the messages that they count: a count is raised before what it counts is shown.
+/// members together, are no more than the messages that they count behind the first, which opened the page: the count is raised first.
 pub fn board_keeps_its_rule()
     ensures seen { (words : List ℕ) (views : List BoardView) → BoardHolds words views
         → (i j : ℕ) (t v : BoardView) → get_elem? views i ≡ some t → t.taps ≡ true → get_elem? views j ≡ some v

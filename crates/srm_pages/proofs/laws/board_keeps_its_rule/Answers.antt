@@ -7,6 +7,3 @@ returns-clause-seen c = λ words views h i j t v at taps at' w own.
     let bound = (h.fits j v at').bound w in
     let less : get_or v.seen w 0 ≤ get_or t.seen w 0 = omega arith in
     (exact, less)
-
-pub returns-clause-order : goal.returns-clause-order
-returns-clause-order c = λ board h. h.order
