@@ -23,6 +23,7 @@ use Rattle.srm_store.specs.Places.{place_at}
 use Rattle.srm_store.specs.Rows.{RowContent}
 use Rattle.srm_store.specs.Tables.{TableContent, is_in, slot_of, row_at, drawop_at, each_once, IsNewTable, SameTable, TableGains, TableLearns}
 use Rattle.srm_store.specs.Stores.{StoreContent}
+use Rattle.srm_store.specs.Rooms.{RoomContent}
 use Rattle.srm_store.specs.Fits.{Fits, StillFits}
 use Rattle.srm_store.proofs.Placing.{place_at-blank}
 use Rattle.srm_store.proofs.Slots.{is_in-with_page, slot_of-in, slot_of-absent}
@@ -233,3 +234,11 @@ still_fits_on a b c h k = record { each = λ inserted shown settled f. k.each in
 
 pub still_fits : (s : StoreContent) → StillFits s s
 still_fits s = record { each = λ inserted shown settled h. h }
+
+-- room for answers has no part in what fits
+pub still_with : (a b : StoreContent) (rooms : List RoomContent) → StillFits a b → StillFits a (record b { rooms = rooms })
+still_with a b rooms h = record {
+  each = λ inserted shown settled f.
+      let g = h.each inserted shown settled f in
+      record { pages = g.pages; once = g.once; held = g.held; known = g.known; rows = g.rows };
+}

@@ -62,6 +62,15 @@ module _ {inserted : List Drawop} {shown : List FullName} {settled : List Settli
       ∙ ap (λ k. unheld inserted (names_after u k (n.number - k))) (a ∙ known_here)
       ∙ ap (λ v. unheld inserted (names_after v (known shown v) (n.number - known shown v))) stream
 
+-- the names that the row of a stream doesn't hold, from its first number on, and from the first that wasn't known
+pub missing_is : {inserted : List Drawop} {shown : List FullName} {settled : List Settling} {s : StoreContent} (names : List FullName) (u : Stream) (table : TableContent) (last : ℕ) → Fits inserted shown settled s
+    → table ≡ s.table → u.source < MEMBERS → names ≡ row_unheld (row_at table u) (names_after u 0 last) → last ≡ (row_at table u).known → names ≡ missing inserted shown u
+missing_is names u table last h same source is known_is = is ∙ missing_here h (record { table = table; is = same; row_is = refl; source = source }) last known_is
+
+pub newly_is : {inserted : List Drawop} {shown : List FullName} {settled : List Settling} {s : StoreContent} (names : List FullName) (n : FullName) (u : Stream) (table : TableContent) (after count : ℕ) → Fits inserted shown settled s
+    → table ≡ s.table → u ≡ n.stream → u.source < MEMBERS → names ≡ row_unheld (row_at table u) (names_after u after count) → after ≡ (row_at table u).known → count ≡ n.number - after → names ≡ newly_missing inserted shown n
+newly_is names n u table after count h same stream source is after_is count_is = is ∙ newly_here h (record { table = table; is = same; row_is = refl; source = source }) after count n stream after_is count_is
+
 -- the held numbers in front of the first gap
 front_length : {X : Type 0} (f : ℕ → Option X) (k : ℕ) → ((n : ℕ) → 1 ≤ n → n ≤ k → IsSome (f n)) → f (k + 1) ≡ None → (m from : ℕ) → from ≤ k → k ≤ from + m → length (until_none (map f (count_up (from + 1) m))) + from ≡ k
 front_length f k filled gap zero from low high = omega arith

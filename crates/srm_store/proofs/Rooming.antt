@@ -117,6 +117,9 @@ ready_more names i name old new at lt before stays here n there = go (among (tak
         let is : same_name n (get_or names i name) ≡ true = sym (ap (λ b. b || same_name n (get_or names i name)) e) ∙ both in
         subst (λ m. IsReady m new) (at ∙ sym (same_name-is n (get_or names i name) is)) here
 
+pub stays_on : (a b c : StoreContent) → StaysReady a b → StaysReady b c → StaysReady a c
+stays_on a b c p q = record { each = λ n ready. q.each n (p.each n ready) }
+
 -- a call for one of the names leaves all of them ready
 pub still_ready : (names : List FullName) (n : FullName) (old new : StoreContent) → among names n ≡ true → AreReady names old → StaysReady old new → KeepsSlots n.stream.page old new → new.finals ≡ old.finals → AreReady names new
 still_ready names n old new there ready stays keeps finals = record {

@@ -42,3 +42,9 @@ pub record AreReady (names : List FullName) (s : StoreContent) : Type 0 where
 -- what needed no memory needs none
 pub record StaysReady (old new : StoreContent) : Type 0 where
   pub each : (n : FullName) → IsReady n old → IsReady n new
+
+-- Of the room that was made nothing is given up: whatever needed no memory, and found slots, still does.
+pub record KeepsRoom (old new : StoreContent) : Type 0 where
+  pub each : (n : FullName) → IsReady n old → IsReady n new
+  pub slots : (pages : List Page) → HasSlots pages old → HasSlots pages new
+  pub settling : (count : ℕ) → IsReadyToSettle count old → IsReadyToSettle count new

@@ -46,6 +46,7 @@ impl Finals {
     /// Makes room for so many rows.
     pub fn room(&mut self, count: usize) -> Result<(), AllocError>
         ensures same { SameFinals self.old self.new }
+        ensures still { self.old.room ≤ self.new.room }
         ensures ok { OnOk result (count ≤ self.new.room) }
     {
         self.spare.reserve(count)
@@ -55,6 +56,7 @@ impl Finals {
     pub fn settle(&mut self, member: Member, rows: &[Name]) -> Result<(), AllocError>
         ensures ok { OnOk result (Settles member rows.now self.old self.new) }
         ensures err { OnErr result (SameFinals self.old self.new) }
+        ensures still { OnErr result (self.old.room ≤ self.new.room) }
         ensures room { length rows.now ≤ self.old.room → IsOk result }
     {
         let place = member.index();

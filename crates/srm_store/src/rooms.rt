@@ -36,12 +36,6 @@ impl Rooms {
         }
     }
 
-    pub fn clear(&mut self)
-        ensures { self.new ≡ [] }
-    {
-        self.rooms.clear();
-    }
-
     /// Makes room for what evidence of a name answers: so many names.
     pub fn make(&mut self, name: Name, count: usize) -> Result<(), AllocError>
         ensures ok { OnOk result (has_room self.new name count ≡ true) }

@@ -9,7 +9,7 @@ ghost use Rattle.srm_names.specs.Names.{among};
 ghost use Rattle.srm_store.specs.declared.fault.StoreFault.TheVariants.{PageLimit, Memory};
 ghost use Rattle.srm_store.specs.Held.{held_at, is_held, known, missing, newly_missing, released, insert_answer, overflows, outgrow, page_of_name};
 ghost use Rattle.srm_store.specs.Finals.{Settling, final};
-ghost use Rattle.srm_store.specs.Stores.{HasSlots, KeepsSlots, IsReady, IsReadyToSettle, AreReady, StaysReady};
+ghost use Rattle.srm_store.specs.Stores.{HasSlots, KeepsSlots, IsReady, IsReadyToSettle, AreReady, StaysReady, KeepsRoom};
 ghost use Rattle.srm_store.specs.Tables.{is_in};
 ghost use Rattle.srm_store.specs.Fits.{Fits, StillFits};
 
@@ -58,16 +58,18 @@ impl Store {
     }
 
     /// Makes room, so that one insert and one evidence of each of these names, and one settling with all of them, in any
-    /// order, aren't refused at all. Nothing that is held or known changes; the room of the call before is given up.
+    /// order, aren't refused at all. Nothing that is held or known changes; the room of the call before is given up, but only
+    /// once there is this one.
     ///
     /// [`StoreFault::PageLimit`] where the pages of the names don't all find slots, and then nothing changed;
-    /// [`StoreFault::Memory`].
+    /// [`StoreFault::Memory`], and then what was ready before is still ready.
     pub fn room(&mut self, names: &[Name]) -> Result<(), StoreFault>
         ensures kept { StillFits self.old self.new }
         ensures ready { OnOk result (AreReady names.now self.new) }
         ensures limit { (inserted : List ADrawop) (shown : List FullName) (settled : List Settling) → Fits inserted shown settled self.old
             → ((result ≡ Err PageLimit) ↔ (outgrow inserted shown (map page_of_name names.now) ≡ true)) }
         ensures same { result ≡ Err PageLimit → self.new ≡ self.old }
+        ensures earlier { OnErr result (KeepsRoom self.old self.new) }
     {
         if !self.table.has_slots(names) {
             return Err(StoreFault::PageLimit);
@@ -76,33 +78,36 @@ impl Store {
         Ok(())
     }
 
-    /// Makes room for one insert and one evidence of each of the names, and one settling with all of them.
+    /// Makes room for one insert and one evidence of each of the names, and one settling with all of them. The room for
+    /// answers is made beside that of the call before, which goes once all is there.
     fn make_room(&mut self, names: &[Name]) -> Result<(), AllocError>
         ensures kept { StillFits self.old self.new }
         ensures ready { OnOk result ((n : FullName) → among names.now n ≡ true → IsReady n self.new) }
         ensures settling { OnOk result (IsReadyToSettle (length names.now) self.new) }
         ensures pages { self.new.table.pages ≡ self.old.table.pages }
+        ensures earlier { OnErr result (KeepsRoom self.old self.new) }
     {
-        self.rooms.clear();
         self.finals.room(names.len())?;
+        let mut rooms = Rooms::new(self.alloc);
         for name in names {
-            self.room_for(*name)?;
+            self.room_for(*name, &mut rooms)?;
         }
+        self.rooms = rooms;
         Ok(())
     }
 
-    /// Makes room for one insert and one evidence of a name.
-    fn room_for(&mut self, name: Name) -> Result<(), AllocError>
+    /// Makes room for one insert and one evidence of a name, with the room for its answer among these.
+    fn room_for(&mut self, name: Name, rooms: &mut Rooms) -> Result<(), AllocError>
         ensures kept { StillFits self.old self.new }
-        ensures ok { OnOk result (IsReady name self.new) }
-        ensures ready { StaysReady self.old self.new }
+        ensures ok { OnOk result (IsReady name (record self.new { rooms = rooms.new })) }
+        ensures ready { StaysReady (record self.old { rooms = rooms.old }) (record self.new { rooms = rooms.new }) }
+        ensures earlier { StaysReady self.old self.new }
         ensures settling { self.new.finals ≡ self.old.finals }
         ensures pages { self.new.table.pages ≡ self.old.table.pages }
     {
         self.table.make_places(name)?;
         let known = self.table.row(name.stream()).known();
-        self.rooms
-            .make(name, name.number().saturating_sub(known) as usize)
+        rooms.make(name, name.number().saturating_sub(known) as usize)
     }
 
     /// Holds a drawop, unless one of its name is held, and says what it found. What is known to exist doesn't change.
@@ -149,10 +154,7 @@ impl Store {
         let count = name.number().saturating_sub(known);
         let mut list = self.rooms.take(name, count as usize);
         list.reserve(count as usize)?;
-        let names = self
-            .table
-            .row(stream)
-            .add_unheld(list, &stream, known, count)?;
+        let names = self.table.unheld(list, &stream, known, count)?;
         self.table.learn(name);
         Ok(names)
     }
@@ -164,8 +166,8 @@ impl Store {
             → names.items ≡ missing inserted shown stream) }
         ensures err { OnErr result (result ≡ Err Memory) }
     {
-        let row = self.table.row(stream);
-        let names = row.add_unheld(Vec::new(self.alloc), &stream, 0, row.known())?;
+        let known = self.table.row(stream).known();
+        let names = self.table.unheld(Vec::new(self.alloc), &stream, 0, known)?;
         Ok(names)
     }
 
@@ -205,12 +207,13 @@ impl Store {
     }
 
     /// A member left, and its streams go as far as these rows say, which are rows of that member. A second settling of a
-    /// member keeps the first. Only want of memory refuses it.
+    /// member keeps the first. Only want of memory refuses it, and then what was ready before is still ready.
     pub fn settle_final(&mut self, member: Member, rows: &[Name]) -> Result<(), StoreFault>
         ensures fits { OnOk result ((inserted : List ADrawop) (shown : List FullName) (settled : List Settling) → Fits inserted shown settled self.old
             → Fits inserted shown (settled ++ record { member = member; rows = rows.now } ∷ []) self.new) }
         ensures err { OnErr result (StillFits self.old self.new) }
         ensures refusal { OnErr result (result ≡ Err Memory) }
+        ensures earlier { OnErr result (KeepsRoom self.old self.new) }
         ensures room { IsReadyToSettle (length rows.now) self.old → IsOk result }
         ensures ready { StaysReady self.old self.new }
         ensures slots { self.new.table.pages ≡ self.old.table.pages }

@@ -1,15 +1,16 @@
 //! The rows of all streams.
 
-ghost use Rattle.std.specs.Prelude.{◌≡◌, ◌≢◌, ◌≤◌, ◌<◌, ◌+◌, ◌*◌, ◌↔◌, nat_le, OnOk, IfOk, OnErr, IsErr, length, map, take, vec_capacity};
+ghost use Rattle.std.specs.Prelude.{◌≡◌, ◌≢◌, ◌≤◌, ◌<◌, ◌+◌, ◌*◌, ◌↔◌, nat_le, OnOk, IsOk, IfOk, OnErr, IsErr, [], length, map, take, vec_capacity};
 ghost use Rattle.srm_names.specs.Names.{first_page};
-ghost use Rattle.srm_store.specs.Held.{insert_answer, page_of_name};
+ghost use Rattle.srm_store.specs.Held.{insert_answer, names_after, page_of_name};
+ghost use Rattle.srm_store.specs.Rows.{row_unheld};
 ghost use Rattle.srm_store.specs.declared.fault.StoreFault.TheVariants.{PageLimit, Memory};
 ghost use Rattle.srm_store.specs.Tables.{row_at, drawop_at, slot_of, with_page, with_pages, IsNewTable, SameTable, TableGains, TableLearns, HasPlaceFor, StillHasPlaces};
 
 use crate::fault::StoreFault;
 use crate::insert::Insert;
 use crate::row::Row;
-use srm_names::{Drawop, MEMBERS, Member, Name, PAGES, Page, Stream};
+use srm_names::{DRAWOPS, Drawop, MEMBERS, Member, Name, PAGES, Page, Stream};
 use std::alloc::{AllocError, Global};
 use std::marker::Model;
 
@@ -84,6 +85,22 @@ impl Table {
     {
         let slot = self.slot(stream.page);
         &self.rows[place(slot, stream.source)]
+    }
+
+    /// The names of a stream after a number, so many of them, that aren't held, in an empty list.
+    pub fn unheld(
+        &self,
+        list: Vec<Name>,
+        stream: &Stream,
+        after: u32,
+        count: u32,
+    ) -> Result<Vec<Name>, AllocError>
+        requires empty { list.items ≡ [] }
+        requires last { after + count ≤ DRAWOPS }
+        ensures ok { IfOk result (λ names. names.items ≡ row_unheld (row_at self.now stream.now) (names_after stream.now after count)) }
+        ensures again { count ≤ vec_capacity list → IsOk result }
+    {
+        self.row(*stream).add_unheld(list, stream, after, count)
     }
 
     /// Holds a drawop, unless one of its name is held.

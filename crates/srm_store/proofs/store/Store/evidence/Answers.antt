@@ -1,15 +1,14 @@
-use Rattle.std.proofs.Common.{refl, sym, subst, ap, arith, length, ◌∙◌, ◌++◌, ◌≡◌, ℕ, ◌-◌, true}
+use Rattle.std.proofs.Common.{refl, sym, subst, ap, arith, length, ◌∙◌, ◌≡◌, true, rules}
 use Rattle.srm_names.specs.declared.stream.Stream.{Stream}
 use Rattle.srm_store.specs.Fits.{Fits}
 use Rattle.srm_store.specs.Inside.{store_of}
 use Rattle.srm_store.specs.Stores.{StoreContent, StaysReady, KeepsSlots}
-use Rattle.srm_store.specs.Held.{names_after, overflows}
-use Rattle.srm_store.specs.Rows.{RowContent, row_unheld}
+use Rattle.srm_store.specs.Held.{overflows}
 use Rattle.srm_store.specs.declared.fault.StoreFault.TheVariants.{Memory}
 use Rattle.srm_store.proofs.Faults.{err_is, same_fault, no_page_limit}
 use Rattle.srm_store.specs.Tables.{slot_of, with_pages}
 use Rattle.srm_store.proofs.Fitting.{fits_learns, full_overflows, overflows_full}
-use Rattle.srm_store.proofs.Reading.{newly_here}
+use Rattle.srm_store.proofs.Reading.{newly_is}
 use Rattle.srm_store.proofs.Rooming.{ready_learns}
 use Rattle.srm_store.proofs.Seating.{slot_left, keeps_slots}
 use Rattle.srm_store.proofs.store.Store.evidence.Goals as goal
@@ -30,15 +29,6 @@ returns-in_err-reserve-clause-limit c = λ inserted shown settled h.
 
 pub returns-clause-fits : goal.returns-clause-fits
 returns-clause-fits c = λ inserted shown settled h. fits_learns (store_of c.self.inside) _ (subst (Fits inserted shown settled) (sym c.self.view_is) h) c.args.name c.learn.ensures.learns refl
-
-pub returns-clause-answer : goal.returns-clause-answer
-returns-clause-answer c = λ inserted shown settled h.
-    c.in_ok-names.ensures.ok
-    ∙ ap (λ ns. ns ++ row_unheld c.row-2.result.now (names_after c.stream-stream.result c.known-known.result c.saturating_sub-count.result)) (c.in_ok-reserve.ensures.items ∙ c.take-list.ensures.items)
-    ∙ newly_here h (record { table = c.self.inside.table; is = ap (λ (s : StoreContent). s.table) c.self.view_is; row_is = c.row-2.ensures.value; source = c.row-2.ensures.source })
-    c.known-known.result c.saturating_sub-count.result c.args.name c.stream-stream.ensures
-    (c.known-known.ensures.value ∙ ap (λ (x : RowContent). x.known) (c.row.ensures.value ∙ sym c.row-2.ensures.value))
-    (c.saturating_sub-count.ensures ∙ ap (λ (k : ℕ). k - c.known-known.result) c.number.ensures.value)
 
 pub returns-clause-limit : goal.returns-clause-limit
 returns-clause-limit c = λ inserted shown settled h.
@@ -61,3 +51,7 @@ pub returns-clause-slots : goal.returns-clause-slots
 returns-clause-slots c =
     let after : StoreContent = record { table = c.learn.new.self; rooms = c.take-list.new.self; finals = c.self.inside.finals } in
     subst (λ (s : StoreContent). KeepsSlots c.args.name.stream.page s after) c.self.view_is (keeps_slots (store_of c.self.inside) after c.args.name.stream.page c.learn.ensures.learns.pages)
+
+pub returns-clause-answer : goal.returns-clause-answer
+returns-clause-answer c = λ inserted shown settled h.
+    newly_is _ c.args.name _ c.self.inside.table _ _ h (ap (λ (s : StoreContent). s.table) c.self.view_is) c.stream-stream.ensures c.row.ensures.source c.in_ok-names.ensures.ok (search rules) (search rules)

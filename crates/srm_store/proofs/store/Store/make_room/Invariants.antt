@@ -1,5 +1,5 @@
-use Rattle.std.proofs.Common.{◌≡◌, take, length}
-use Rattle.srm_store.specs.Stores.{IsReady, IsReadyToSettle}
+use Rattle.std.proofs.Common.{◌≡◌, ◌≤◌, take, length}
+use Rattle.srm_store.specs.Stores.{IsReady, IsReadyToSettle, StaysReady}
 use Rattle.srm_store.specs.Fits.{StillFits}
 use Rattle.srm_names.specs.FullName.{FullName}
 use Rattle.srm_names.specs.Names.{among}
@@ -9,7 +9,9 @@ use Rattle.srm_store.proofs.store.Store.make_room.Given as goal
 abbrev pub invariant-loop-name : goal.invariant-loop-name
 invariant-loop-name l = record {
   kept : StillFits l.fn.self l.self;
-  so_far : (n : FullName) → among (take l.name-index l.names) n ≡ true → IsReady n l.self;
+  so_far : (n : FullName) → among (take l.name-index l.names) n ≡ true → IsReady n (record l.self { rooms = l.rooms });
+  earlier : StaysReady l.fn.self l.self;
+  finals : l.fn.self.finals.room ≤ l.self.finals.room;
   pages : l.self.table.pages ≡ l.fn.self.table.pages;
   settling : IsReadyToSettle (length l.names) l.self;
 }
