@@ -153,6 +153,9 @@ pub on_ok : {X E : Type 0} {P : X → Type 0} (r : Result X E) → ((x : X) → 
 on_ok (Ok x) f = f x refl
 on_ok (Err e) f = tt
 
+pub asks_keep_with : (asks asks' : AskContent) (fixes : FixContent) → asks'.c1 ≡ asks.c1 → asks'.c2 ≡ asks.c2 → KeepSettings (record { asks = asks; fixes = fixes }) (record { asks = asks'; fixes = fixes })
+asks_keep_with asks asks' fixes p q = record { each = λ c s. record { c1 = p ∙ s.c1; c2 = q ∙ s.c2; d1 = s.d1; d2 = s.d2 } }
+
 pub fixes_keep_with : (asks : AskContent) (fixes fixes' : FixContent) → fixes'.d1 ≡ fixes.d1 → fixes'.d2 ≡ fixes.d2 → KeepSettings (record { asks = asks; fixes = fixes }) (record { asks = asks; fixes = fixes' })
 fixes_keep_with asks fixes fixes' p q = record { each = λ c s. record { c1 = s.c1; c2 = s.c2; d1 = p ∙ s.d1; d2 = q ∙ s.d2 } }
 

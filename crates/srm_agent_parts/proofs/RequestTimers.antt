@@ -29,7 +29,7 @@ use Rattle.srm_timers.specs.declared.arm.ArmKind.TheVariants.{Ask, Fix}
 use Rattle.srm_timers.specs.Arms.{Setting, Plan, same_kind, next_exponent, setting, plan_of, arm_names, backs_off, AreDrawn}
 use Rattle.srm_timers.specs.Timers.{armed_at}
 use Rattle.srm_timers.specs.Distances.{distance_to}
-use Rattle.srm_timers.specs.AskCalls.{AskCall, AskContent, AskFits, AskAdds, AskHolds, AnswerReady, AskedFirst, ask_timer, sets, first_exponent, found_setting, ask_plan}
+use Rattle.srm_timers.specs.AskCalls.{AskCall, AskContent, AskFits, AskAdds, AskHolds, AskReady, AnswerReady, AskedFirst, ask_timer, sets, first_exponent, found_setting, ask_plan}
 use Rattle.srm_timers.specs.AskCalls as asks
 use Rattle.srm_timers.specs.FixCalls.{FixCall, FixContent, Asked, FixAdds, FixHolds, FixPlace, FixPlaces, FixAnswers, fix_timer, asked_first, is_off, is_free, sets_fix}
 use Rattle.srm_timers.specs.FixCalls as fixes
@@ -524,15 +524,16 @@ answered_unheld is_held name from dist now arm old noted new e notes same_asks s
     }
 
 -- rooms that stay
-pub room_stays : (names : List FullName) (a b : AskContent) → AnswerReady names a → AskHolds a b → b.list ≡ a.list → AnswerReady names b
-room_stays names a b ready holds list = record {
-  set = record {
-    ends = record { places = λ n at. holds.ends.places n (ready.set.ends.places n at); room = omega (arith, ready.set.ends.room, holds.ends.room) };
-    timers = λ n at. holds.timers n (ready.set.timers n at);
-  };
-  list = omega (arith, ready.list, list);
-  due = omega (arith, ready.due, holds.names);
-}
+pub room_stays : (names : List FullName) (a b : AskContent) → AnswerReady names a → AskHolds a b → AnswerReady names b
+room_stays names a b ready holds =
+    let set : AskReady names b = record {
+      ends = record { places = λ n at. holds.ends.places n (ready.detect.set.ends.places n at); room = omega (arith, ready.detect.set.ends.room, holds.ends.room) };
+      timers = λ n at. holds.timers n (ready.detect.set.timers n at);
+    } in
+    record {
+      detect = record { set = set; list = omega (arith, ready.detect.list, holds.detect_list) };
+      due = record { set = set; list = omega (arith, ready.due.list, holds.due_list); look_up = omega (arith, ready.due.look_up, holds.names) };
+    }
 
 pub places_stay : (names : List FullName) (a b : FixContent) → FixPlaces names a → FixHolds a b → FixPlaces names b
 places_stay names a b places holds = record { each = λ n at. holds.each n (places.each n at) }

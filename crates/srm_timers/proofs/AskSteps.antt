@@ -1,6 +1,6 @@
 -- One more call, in the request timers.
-use Rattle.std.proofs.Common.{◌≡◌, ℕ, ◌+◌, ◌≤◌, List, [], ◌∷◌, ◌++◌, map, length, Option, Some, None, Bool, true, false, cond, refl, sym, ap, subst, ◌∙◌}
-use Rattle.std.specs.Prelude.{if◌then◌else◌, option_map, nat_le, IsNone, IsSome, IfSome, find, ◌||◌}
+use Rattle.std.proofs.Common.{◌≡◌, ℕ, ◌+◌, ◌≤◌, List, [], ◌∷◌, ◌++◌, map, length, Option, Some, None, Bool, true, false, cond, refl, sym, ap, subst, ◌∙◌, arith}
+use Rattle.std.specs.Prelude.{if◌then◌else◌, option_map, nat_le, IsNone, IsSome, is_some, IfSome, find, ◌||◌}
 use Rattle.std.specs.List.{AllByRecursion}
 use Rattle.srm_names.specs.FullName.{FullName}
 use Rattle.srm_names.specs.Histories.{last_of, or_else}
@@ -12,10 +12,10 @@ use Rattle.srm_timers.specs.declared.arm.ArmKind.TheVariants.{Ask}
 use Rattle.srm_deadlines.specs.declared.by_name.Place.{Place}
 use Rattle.srm_timers.specs.Arms.{arm_names, arm_of, end_of, ran_out, backs_off, next_exponent, RunsOutFirst, ArmsAre, Setting, Plan, plan_of}
 use Rattle.srm_deadlines.specs.Deadlines.{has_come}
-use Rattle.srm_timers.specs.Ends.{arm_end, SetsEnds}
+use Rattle.srm_timers.specs.Ends.{arm_end, SetsEnds, KeepsRoom}
 use Rattle.srm_timers.specs.Timers.{armed_at, SetsTimers}
 use Rattle.srm_deadlines.specs.Places.{value_at, value_in, is_at, has_place, Keeps, Sets, IsLeast}
-use Rattle.srm_timers.specs.AskCalls.{AskCall, Set, Gained, told_by, flat, ask_timer, sets, AskFits, AskContent, AskAdds, AskBacksOff, AskRuns, AskNext, AskDue, AskedFirst, AskedAgain, found_plan, found_setting, AskStays, ask_setting, ask_plan, AskReady, again_exponent, again_plan, again_setting, due_setting}
+use Rattle.srm_timers.specs.AskCalls.{AskCall, Set, Gained, told_by, flat, ask_timer, sets, AskFits, AskContent, AskAdds, AskBacksOff, AskRuns, AskNext, AskDue, AskedFirst, AskedAgain, found_plan, found_setting, AskStays, ask_setting, ask_plan, AskReady, AskTimersRun, AskHolds, DetectReady, DueReady, DetectStaysReady, DueStaysReady, again_exponent, again_plan, again_setting, due_setting}
 use Rattle.srm_timers.specs.Distances.{distance_to}
 use Rattle.srm_timers.proofs.Arming.{last_arms, planned_names, planned_are}
 
@@ -143,8 +143,21 @@ pub stays_on : (a b c : AskContent) → AskStays a b → AskStays b c → AskSta
 stays_on a b c p q = record { each = λ c1 c2 calls h. q.each c1 c2 calls (p.each c1 c2 calls h) }
 
 -- the list for the next answer has no part in what can be set
-pub ready_still : (names : List FullName) (a : AskContent) (list : ℕ) → AskReady names a → AskReady names (record a { list = list })
+pub ready_still : (names : List FullName) (a : AskContent) (list : ℕ) → AskReady names a → AskReady names (record a { detect_list = list })
 ready_still names a list h = record { ends = h.ends; timers = h.timers }
+
+ready_on : (names : List FullName) (a b : AskContent) → AskReady names a → KeepsRoom a.ends b.ends → ((n : FullName) → has_place a.timers n ≡ true → has_place b.timers n ≡ true) → AskReady names b
+ready_on names a b ready ends timers = record {
+  ends = record { places = λ n at. ends.places n (ready.ends.places n at); room = omega (arith, ready.ends.room, ends.room) };
+  timers = λ n at. timers n (ready.timers n at);
+}
+
+-- what each of the two answers doesn't take from the other
+pub detect_stays : (a b : AskContent) → AskHolds (record a { due_list = 0 }) b → DetectStaysReady a b
+detect_stays a b h = record { each = λ names ready. record { set = ready_on names a b ready.set h.ends h.timers; list = omega (arith, ready.list, h.detect_list) } }
+
+pub due_stays : (a b : AskContent) → AskHolds (record a { detect_list = 0 }) b → DueStaysReady a b
+due_stays a b h = record { each = λ names ready. record { set = ready_on names a b ready.set h.ends h.timers; list = omega (arith, ready.list, h.due_list); look_up = omega (arith, ready.look_up, h.names) } }
 
 -- what has a value has a place
 pub placed : {V : Type 0} (places : List (Place V)) (n : FullName) → IsSome (value_at places n) → has_place places n ≡ true
@@ -167,22 +180,28 @@ end_some (Some a) h = refl
 pub due_runs : (now : ℕ) (places : List (Place ℕ)) (timers : List (Place Armed)) (n : FullName) → value_at places n ≡ option_map end_of (value_at timers n) → has_come now (value_at places n) ≡ true → IsSome (value_at timers n)
 due_runs now places timers n right come = end_some (value_at timers n) (subst IsSome right (come_some now (value_at places n) come))
 
-pub due_ready : (now : ℕ) (dist : List ℕ) (timer : FullName → Option Armed) (names : List FullName) (arms arms' : List Arm) (places : List (Place ℕ)) (a : AskContent)
-    → ((n : FullName) → value_at places n ≡ option_map end_of (value_at a.timers n)) → AreExactly (λ n. has_come now (value_at places n)) names → a.ends.places ≡ places → length names ≤ a.ends.room
-    → map plan_of arms ≡ map (again_plan dist timer) names → arms' ≡ arms → AskReady (arm_names arms') a
-due_ready now dist timer names arms arms' places a right due same room plans is =
-    subst (λ ns. AskReady ns a) (sym (ap arm_names is ∙ planned_names (again_plan dist timer) (λ n. refl) names arms plans)) (record {
-      ends = record { places = λ n at. ap (λ ps. has_place ps n) same ∙ placed places n (come_some now (value_at places n) (sym (due.exact n) ∙ at)); room = room };
-      timers = λ n at. placed a.timers n (due_runs now places a.timers n (right n) (sym (due.exact n) ∙ at));
+pub has_end : (o : Option Armed) → IsSome o → IsSome (option_map end_of o)
+has_end None h = h
+has_end (Some a) h = refl
+
+-- the names that are due have timers
+pub timers_run : (now : ℕ) (a : AskContent) (names : List FullName) → ((n : FullName) → value_at a.ends.places n ≡ option_map end_of (value_at a.timers n))
+    → AreExactly (λ n. has_come now (value_at a.ends.places n)) names → AskTimersRun names a
+timers_run now a names right due = record { each = λ n at. due_runs now a.ends.places a.timers n (right n) (sym (due.exact n) ∙ at) }
+
+-- names that have timers can be set again where there is room for so many
+pub again_ready : (dist : List ℕ) (timer : FullName → Option Armed) (names : List FullName) (arms arms' : List Arm) (places : List (Place ℕ)) (a b : AskContent)
+    → ((n : FullName) → value_at places n ≡ option_map end_of (value_at a.timers n)) → AskTimersRun names a → b.ends.places ≡ places → b.timers ≡ a.timers → length names ≤ b.ends.room
+    → map plan_of arms ≡ map (again_plan dist timer) names → arms' ≡ arms → AskReady (arm_names arms') b
+again_ready dist timer names arms arms' places a b right run same_ends same room plans is =
+    subst (λ ns. AskReady ns b) (sym (ap arm_names is ∙ planned_names (again_plan dist timer) (λ n. refl) names arms plans)) (record {
+      ends = record { places = λ n at. ap (λ ps. has_place ps n) same_ends ∙ placed places n (ap is_some (right n) ∙ has_end (value_at a.timers n) (run.each n at)); room = room };
+      timers = λ n at. ap (λ ps. has_place ps n) same ∙ placed a.timers n (run.each n at);
     })
 
 pub backs_off_runs : (now i : ℕ) (o : Option Armed) → backs_off now o ≡ Some i → IsSome o
 backs_off_runs now i None e = cc
 backs_off_runs now i (Some a) e = refl
-
-pub has_end : (o : Option Armed) → IsSome o → IsSome (option_map end_of o)
-has_end None h = h
-has_end (Some a) h = refl
 
 -- the same, for every list of calls
 pub gained_adds : (name : FullName) (a b : AskContent) → b.c1 ≡ a.c1 → b.c2 ≡ a.c2 → Sets name None a.timers b.timers → AskAdds (Gained name ∷ []) a b
@@ -206,6 +225,16 @@ sets_after now arms arms' a b c stays is adds =
 pub sets_then : (now : ℕ) (arms arms' : List Arm) (a b c : AskContent) → b.c1 ≡ a.c1 → b.c2 ≡ a.c2 → b.timers ≡ a.timers → arms ≡ arms' → AskAdds (sets now arms) b c → AskAdds (sets now arms') a c
 sets_then now arms arms' a b c p q same is adds = sets_after now arms arms' a b c (stays_kept a b p q (subst (Keeps a.timers) (sym same) (keeps_self a.timers))) is adds
 
+-- the list in which names that are due are looked up has no part in what fits
+fits_as : (c1 c2 : ℕ) (calls : List AskCall) (a b : AskContent) → b.c1 ≡ a.c1 → b.c2 ≡ a.c2 → b.timers ≡ a.timers → AskFits c1 c2 calls a → AskFits c1 c2 calls b
+fits_as c1 c2 calls a b p q same h = record { c1_is = p ∙ h.c1_is; c2_is = q ∙ h.c2_is; timers = λ n. ap (λ ps. value_at ps n) same ∙ h.timers n }
+
+pub stays_between : (a b c d : AskContent) → b.c1 ≡ a.c1 → b.c2 ≡ a.c2 → b.timers ≡ a.timers → AskStays b c → d.c1 ≡ c.c1 → d.c2 ≡ c.c2 → d.timers ≡ c.timers → AskStays a d
+stays_between a b c d p q same stays p' q' same' = record { each = λ c1 c2 calls h. fits_as c1 c2 calls c d p' q' same' (stays.each c1 c2 calls (fits_as c1 c2 calls a b p q same h)) }
+
+pub adds_between : (more : List AskCall) (a b c d : AskContent) → b.c1 ≡ a.c1 → b.c2 ≡ a.c2 → b.timers ≡ a.timers → AskAdds more b c → d.c1 ≡ c.c1 → d.c2 ≡ c.c2 → d.timers ≡ c.timers → AskAdds more a d
+adds_between more a b c d p q same adds p' q' same' = record { each = λ c1 c2 calls h. fits_as c1 c2 (calls ++ more) c d p' q' same' (adds.each c1 c2 calls (fits_as c1 c2 calls a b p q same h)) }
+
 pub due_is : (now : ℕ) (a : AskContent) (names : List FullName) → ((n : FullName) → value_at a.ends.places n ≡ option_map end_of (value_at a.timers n))
     → AreExactly (λ n. has_come now (value_at a.ends.places n)) names → AskDue now a names
 due_is now a names right due = record {
@@ -213,15 +242,12 @@ due_is now a names right due = record {
 }
 
 -- the names whose timers ran out, armed again
-pub asked_again : (now : ℕ) (dist : List ℕ) (a b : AskContent) (names : List FullName) (arms : List Arm) → ((n : FullName) → value_at a.ends.places n ≡ option_map end_of (value_at a.timers n))
-    → AreExactly (λ n. has_come now (value_at a.ends.places n)) names → ((n : FullName) → value_at b.timers n ≡ value_at a.timers n)
-    → map plan_of arms ≡ map (again_plan dist (value_at b.timers)) names → AskedAgain now dist a arms
-asked_again now dist a b names arms right due same plans = record {
+pub asked_again : (now : ℕ) (dist : List ℕ) (a : AskContent) (names : List FullName) (arms : List Arm) → AskDue now a names → map plan_of arms ≡ map (again_plan dist (value_at a.timers)) names → AskedAgain now dist a arms
+asked_again now dist a names arms due plans = record {
   each = λ c1 c2 calls h.
-      planned_are (again_plan dist (value_at b.timers)) (due_setting now dist (ask_timer calls)) names arms (λ n. refl) due.in_order plans
-      (λ n. again_due now dist (value_at b.timers) (ask_timer calls) n (among names n)
-      (due.exact n ∙ ap (has_come now) (right n) ∙ come_ran_out now (value_at a.timers n) ∙ ap (ran_out now) (sym (same n)))
-      (same n ∙ h.timers n));
+      let exact = due.each c1 c2 calls h in
+      planned_are (again_plan dist (value_at a.timers)) (due_setting now dist (ask_timer calls)) names arms (λ n. refl) exact.in_order plans
+      (λ n. again_due now dist (value_at a.timers) (ask_timer calls) n (among names n) (exact.exact n ∙ ap (ran_out now) (sym (h.timers n))) (h.timers n));
 }
 
 pub found_are : (dist : List ℕ) (names asked : List FullName) (arms : List Arm) → ascending name_below names ≡ true → map plan_of arms ≡ map (found_plan asked dist) names
@@ -233,7 +259,7 @@ pub found_rise : (dist : List ℕ) (names asked : List FullName) (arms arms' : L
 found_rise dist names asked arms arms' plans is rising = ap (λ list. ascending name_below (arm_names list)) is ∙ ap (ascending name_below) (planned_names (found_plan asked dist) (λ n. refl) names arms plans) ∙ rising
 
 pub found_ready : (dist : List ℕ) (names asked : List FullName) (arms arms' : List Arm) (a b : AskContent) (list : ℕ) → map plan_of arms ≡ map (found_plan asked dist) names → arms' ≡ arms
-    → AskReady names a → b ≡ record a { list = list } → AskReady (arm_names arms') b
+    → AskReady names a → b ≡ record a { detect_list = list } → AskReady (arm_names arms') b
 found_ready dist names asked arms arms' a b list plans is ready same =
     subst (λ ns. AskReady ns b) (sym (ap arm_names is ∙ planned_names (found_plan asked dist) (λ n. refl) names arms plans)) (subst (AskReady names) (sym same) (ready_still names a list ready))
 

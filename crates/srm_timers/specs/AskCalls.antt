@@ -1,5 +1,5 @@
 -- The request timers, by the calls so far.
-use Rattle.std.specs.Prelude.{◌≡◌, ℕ, ◌≤◌, true, List, [], ◌∷◌, ◌++◌, map, length, if◌then◌else◌, Option, Some, None, option_map}
+use Rattle.std.specs.Prelude.{◌≡◌, ℕ, ◌≤◌, true, List, [], ◌∷◌, ◌++◌, map, length, if◌then◌else◌, Option, Some, None, option_map, IsSome}
 use Rattle.srm_names.specs.FullName.{FullName}
 use Rattle.srm_names.specs.Histories.{last_of}
 use Rattle.srm_names.specs.Names.{same_name, among, AreExactly}
@@ -19,8 +19,10 @@ pub record AskContent : Type 0 where
   pub c2 : ℕ
   pub ends : EndContent
   pub timers : List (Place Armed)
-  -- so many arms can be answered without memory
-  pub list : ℕ
+  -- so many arms can be answered without memory, of names that are found missing
+  pub detect_list : ℕ
+  -- and of names that are due
+  pub due_list : ℕ
   -- so many names that are due can be looked up without memory
   pub names : ℕ
 
@@ -120,23 +122,48 @@ pub record AskReady (names : List FullName) (a : AskContent) : Type 0 where
   pub ends : HaveRoom names a.ends
   pub timers : (n : FullName) → among names n ≡ true → has_place a.timers n ≡ true
 
--- and be answered without memory, as names that are found missing or as those that are due
-pub record AnswerReady (names : List FullName) (a : AskContent) : Type 0 where
+-- one `detect` of these names needs no memory
+pub record DetectReady (names : List FullName) (a : AskContent) : Type 0 where
   pub set : AskReady names a
-  pub list : length names ≤ a.list
-  pub due : length names ≤ a.names
+  pub list : length names ≤ a.detect_list
 
--- whatever could be set, or looked up, without memory still can, and the settings are the same
+-- one `due` at which no other names are due needs no memory
+pub record DueReady (names : List FullName) (a : AskContent) : Type 0 where
+  pub set : AskReady names a
+  pub list : length names ≤ a.due_list
+  pub look_up : length names ≤ a.names
+
+-- neither of the two needs memory
+pub record AnswerReady (names : List FullName) (a : AskContent) : Type 0 where
+  pub detect : DetectReady names a
+  pub due : DueReady names a
+
+-- whatever needed no memory needs none, and the settings are the same
 pub record AskHolds (old new : AskContent) : Type 0 where
   pub c1 : new.c1 ≡ old.c1
   pub c2 : new.c2 ≡ old.c2
   pub ends : KeepsRoom old.ends new.ends
-  pub names : old.names ≤ new.names
   pub timers : (n : FullName) → has_place old.timers n ≡ true → has_place new.timers n ≡ true
+  pub detect_list : old.detect_list ≤ new.detect_list
+  pub due_list : old.due_list ≤ new.due_list
+  pub names : old.names ≤ new.names
 
--- what holds of each Asks: settings in range, an end for each timer, and an empty list for the next answer
-pub record AskIsRight (a : AskContent) (list : List Arm) : Type 0 where
+-- where one `detect` needed no memory, it needs none
+pub record DetectStaysReady (old new : AskContent) : Type 0 where
+  pub each : (names : List FullName) → DetectReady names old → DetectReady names new
+
+-- where one `due` needed no memory, it needs none
+pub record DueStaysReady (old new : AskContent) : Type 0 where
+  pub each : (names : List FullName) → DueReady names old → DueReady names new
+
+-- each of these names has a timer
+pub record AskTimersRun (names : List FullName) (a : AskContent) : Type 0 where
+  pub each : (n : FullName) → among names n ≡ true → IsSome (value_at a.timers n)
+
+-- what holds of each Asks: settings in range, an end for each timer, and an empty list for the next answer of each kind
+pub record AskIsRight (a : AskContent) (detect_list due_list : List Arm) : Type 0 where
   pub c1 : a.c1 ≤ TIMER_SETTING
   pub c2 : a.c2 ≤ TIMER_SETTING
   pub ends : (n : FullName) → value_at a.ends.places n ≡ option_map end_of (value_at a.timers n)
-  pub empty : list ≡ []
+  pub detect_empty : detect_list ≡ []
+  pub due_empty : due_list ≡ []

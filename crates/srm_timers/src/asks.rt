@@ -5,7 +5,7 @@ ghost use Rattle.srm_names.specs.FullName.{FullName};
 ghost use Rattle.srm_names.specs.Names.{among, ascending, name_below};
 ghost use Rattle.srm_timers.specs.Arms.{backs_off, next_exponent, plan_of, arm_names, low_of, high_of, AreDrawn, IsAsk, AreAsks, AreOfMembers};
 ghost use Rattle.srm_timers.specs.declared.arm.ArmKind.TheVariants.{Ask};
-ghost use Rattle.srm_timers.specs.AskCalls.{AskCall, Gained, ask_timer, sets, ask_plan, first_exponent, found_plan, again_plan, AskFits, AskAdds, AskBacksOff, AskRuns, AskNext, AskDue, AskedFirst, AskedAgain, AskStays, AskReady, AnswerReady, AskHolds};
+ghost use Rattle.srm_timers.specs.AskCalls.{AskCall, Gained, ask_timer, sets, ask_plan, first_exponent, found_plan, again_plan, AskFits, AskAdds, AskBacksOff, AskRuns, AskNext, AskDue, AskedFirst, AskedAgain, AskStays, AskReady, DetectReady, DueReady, AnswerReady, AskHolds, DetectStaysReady, DueStaysReady, AskTimersRun};
 ghost use Rattle.srm_deadlines.specs.Deadlines.{DueAmong, DueFit};
 ghost use Rattle.srm_timers.specs.Distances.{distance_to, AreDistances};
 ghost use Rattle.srm_timers.specs.Ends.{AreShort};
@@ -36,8 +36,10 @@ pub struct Asks<D: Deadlines> {
     c2: u8,
     ends: Ends<D>,
     timers: ByName<Armed>,
-    /// Empty, with room for what `detect` or `due` answers next.
-    list: Vec<Arm>,
+    /// Empty, with room for what `detect` answers next.
+    detect_list: Vec<Arm>,
+    /// Empty, with room for what `due` answers next.
+    due_list: Vec<Arm>,
     /// Room for the names that `due` looks up.
     names: Vec<Name>,
 }
@@ -48,9 +50,9 @@ impl<D: Deadlines> Model for Asks<D> {
 
     ghost Value = { AskContent };
 
-    ghost view = { λ a. record { c1 = a.c1; c2 = a.c2; ends = a.ends; timers = a.timers; list = vec_capacity a.list; names = vec_capacity a.names } };
+    ghost view = { λ a. record { c1 = a.c1; c2 = a.c2; ends = a.ends; timers = a.timers; detect_list = vec_capacity a.detect_list; due_list = vec_capacity a.due_list; names = vec_capacity a.names } };
 
-    ghost invariant = { λ a. AskIsRight (record { c1 = a.c1; c2 = a.c2; ends = a.ends; timers = a.timers; list = vec_capacity a.list; names = vec_capacity a.names }) a.list.items };
+    ghost invariant = { λ a. AskIsRight (record { c1 = a.c1; c2 = a.c2; ends = a.ends; timers = a.timers; detect_list = vec_capacity a.detect_list; due_list = vec_capacity a.due_list; names = vec_capacity a.names }) a.detect_list.items a.due_list.items };
 }
 
 impl<D: Deadlines> Asks<D> {
@@ -67,23 +69,25 @@ impl<D: Deadlines> Asks<D> {
             c2,
             ends: Ends::new(alloc, deadlines),
             timers: ByName::new(alloc),
-            list: Vec::new(alloc),
+            detect_list: Vec::new(alloc),
+            due_list: Vec::new(alloc),
             names: Vec::new(alloc),
         }
     }
 
-    /// Makes room, so that one `detect` of these names, or one `due` at which no other names are due, isn't refused, nor
-    /// needs `set_all` memory for them. No timer changes. Only want of memory refuses it.
+    /// Makes room, so that one `detect` of these names and one `due` at which no other names are due, in either order, aren't
+    /// refused, nor needs `set_all` memory for them. No timer changes. Only want of memory refuses it, and then the room
+    /// that the calls before made is still there.
     pub fn room(&mut self, names: &[Name]) -> Result<(), TimerFault>
         ensures kept { AskStays self.old self.new }
         ensures ends { Keeps self.old.ends.places self.new.ends.places }
         ensures held { AskHolds self.old self.new }
-        ensures list { self.old.list ≤ self.new.list }
         ensures ready { OnOk result (AnswerReady names.now self.new) }
     {
         self.room_to_set(names)?;
         self.names.reserve(names.len())?;
-        self.list.reserve(names.len())?;
+        self.detect_list.reserve(names.len())?;
+        self.due_list.reserve(names.len())?;
         Ok(())
     }
 
@@ -95,7 +99,8 @@ impl<D: Deadlines> Asks<D> {
         ensures ends { Keeps self.old.ends.places self.new.ends.places }
         ensures c1 { self.new.c1 ≡ self.old.c1 }
         ensures c2 { self.new.c2 ≡ self.old.c2 }
-        ensures list { self.new.list ≡ self.old.list }
+        ensures detect_list { self.new.detect_list ≡ self.old.detect_list }
+        ensures due_list { self.new.due_list ≡ self.old.due_list }
         ensures held { AskHolds self.old self.new }
         ensures ok { OnOk result (AskReady names.now self.new) }
         ensures again { AskReady names.now self.old → IsOk result }
@@ -104,22 +109,23 @@ impl<D: Deadlines> Asks<D> {
         self.timers.room(names)
     }
 
-    /// The empty list for an answer, with room for so many arms.
+    /// The empty list for what `detect` answers, with room for so many arms.
     #[tactic(auto, using(crate::proofs::AskSteps::stays_kept, crate::proofs::AskSteps::keeps_self))]
     fn take_list(&mut self, count: usize) -> Result<Vec<Arm>, AllocError>
-        ensures same { self.new ≡ record self.old { list = self.new.list } }
+        ensures same { self.new ≡ record self.old { detect_list = self.new.detect_list } }
         ensures kept { AskStays self.old self.new }
         ensures empty { IfOk result (λ list. list.items ≡ []) }
         ensures capacity { IfOk result (λ list. count ≤ vec_capacity list) }
-        ensures list { OnErr result (self.old.list ≤ self.new.list) }
-        ensures again { count ≤ self.old.list → IsOk result }
+        ensures list { OnErr result (self.old.detect_list ≤ self.new.detect_list) }
+        ensures again { count ≤ self.old.detect_list → IsOk result }
     {
-        self.list.reserve(count)?;
-        Ok(mem::replace(&mut self.list, Vec::new(self.alloc)))
+        self.detect_list.reserve(count)?;
+        Ok(mem::replace(&mut self.detect_list, Vec::new(self.alloc)))
     }
 
     /// Names were found missing, which rise: their timers are set. The exponent is 1 for a name among `asked`, those for
-    /// which a request was heard, and else 0. Only want of memory refuses it, and then for all of the names.
+    /// which a request was heard, and else 0. Only want of memory refuses it, and then for all of the names. The room that
+    /// was made for `due` stays.
     #[tactic(auto, using(crate::proofs::AskSteps::sets_after, crate::proofs::AskSteps::found_rise, crate::proofs::Fitting::as_many))]
     pub fn detect<W: Words>(
         &mut self,
@@ -138,9 +144,10 @@ impl<D: Deadlines> Asks<D> {
         ensures drawn { IfOk result (λ arms. AreDrawn W.draw (low_of self.old.c1) (high_of self.old.c1 self.old.c2) words.old arms.items words.new) }
         ensures kept { OnErr result (AskStays self.old self.new) }
         ensures undrawn { OnErr result (words.new ≡ words.old) }
-        ensures held { AskHolds self.old self.new }
-        ensures list { OnErr result (self.old.list ≤ self.new.list) }
-        ensures room { AnswerReady names.now self.old → IsOk result }
+        ensures held { AskHolds (record self.old { detect_list = 0 }) self.new }
+        ensures list { OnErr result (self.old.detect_list ≤ self.new.detect_list) }
+        ensures room { DetectReady names.now self.old → IsOk result }
+        ensures due { DueStaysReady self.old self.new }
     {
         self.room_to_set(names)?;
         let list = self.take_list(names.len())?;
@@ -193,7 +200,6 @@ impl<D: Deadlines> Asks<D> {
         ensures kind { IfSome result (λ arm. arm.kind ≡ Ask) }
         ensures drawn { AreDrawn W.draw (low_of self.old.c1) (high_of self.old.c1 self.old.c2) words.old (option_to_list result) words.new }
         ensures held { AskHolds self.old self.new }
-        ensures list { self.new.list ≡ self.old.list }
     {
         let _ = &self.ends;
         let exponent = self.backs_off(name, now)?;
@@ -207,7 +213,6 @@ impl<D: Deadlines> Asks<D> {
     pub fn gained(&mut self, name: Name)
         ensures fits { AskAdds (Gained name ∷ []) self.old self.new }
         ensures held { AskHolds self.old self.new }
-        ensures list { self.new.list ≡ self.old.list }
     {
         self.ends.clear(name);
         self.timers.clear(name);
@@ -231,8 +236,8 @@ impl<D: Deadlines> Asks<D> {
     }
 
     /// The timers that have run out are set again, each one exponent higher; their names are the ones to ask for now.
-    /// Only want of memory refuses it.
-    #[tactic(auto, using(crate::proofs::AskSteps::sets_then, crate::proofs::AskSteps::again_rise, crate::proofs::AskSteps::due_runs, crate::proofs::AskSteps::stays_kept, crate::proofs::AskSteps::keeps_self, crate::proofs::Fitting::due_no_more, crate::proofs::Fitting::no_more_arms, crate::proofs::AskSteps::asked_again))]
+    /// Only want of memory refuses it. The room that was made for `detect` stays.
+    #[tactic(auto, using(crate::proofs::AskSteps::asked_again, crate::proofs::AskSteps::stays_between, crate::proofs::AskSteps::adds_between))]
     pub fn due<W: Words>(
         &mut self,
         now: u64,
@@ -249,17 +254,65 @@ impl<D: Deadlines> Asks<D> {
         ensures drawn { IfOk result (λ arms. AreDrawn W.draw (low_of self.old.c1) (high_of self.old.c1 self.old.c2) words.old arms.items words.new) }
         ensures kept { OnErr result (AskStays self.old self.new) }
         ensures undrawn { OnErr result (words.new ≡ words.old) }
-        ensures held { AskHolds self.old self.new }
-        ensures list { OnErr result (self.old.list ≤ self.new.list) }
-        ensures room { (names : List FullName) → AnswerReady names self.old → DueAmong now self.old.ends.places names → IsOk result }
+        ensures held { AskHolds (record self.old { due_list = 0 }) self.new }
+        ensures list { OnErr result (self.old.due_list ≤ self.new.due_list) }
+        ensures room { (names : List FullName) → DueReady names self.old → DueAmong now self.old.ends.places names → IsOk result }
+        ensures detect { DetectStaysReady self.old self.new }
+    {
+        let names = self.take_due(now)?;
+        let arms = self.set_again(&names, now, dist, words);
+        self.names = names;
+        Ok(arms?)
+    }
+
+    /// The names whose timers have run out, in order of name, in the list that is kept for them.
+    #[tactic(auto, using(crate::proofs::AskSteps::due_is, crate::proofs::AskSteps::timers_run, crate::proofs::Fitting::due_no_more))]
+    fn take_due(&mut self, now: u64) -> Result<Vec<Name>, AllocError>
+        ensures same { self.new ≡ record self.old { names = self.new.names } }
+        ensures due { IfOk result (λ names. AskDue now self.old names.items) }
+        ensures rising { IfOk result (λ names. ascending name_below names.items ≡ true) }
+        ensures timers { IfOk result (λ names. AskTimersRun names.items self.old) }
+        ensures few { IfOk result (λ names. (all : List FullName) → DueAmong now self.old.ends.places all → length names.items ≤ length all) }
+        ensures capacity { IfOk result (λ names. self.old.names ≤ vec_capacity names) }
+        ensures list { OnErr result (self.old.names ≤ self.new.names) }
+        ensures room { (all : List FullName) → length all ≤ self.old.names → DueAmong now self.old.ends.places all → IsOk result }
     {
         self.ends.due(now, &mut self.names)?;
-        self.ends.reserve(self.names.len())?;
-        self.list.reserve(self.names.len())?;
-        let list = mem::replace(&mut self.list, Vec::new(self.alloc));
-        let arms = self.again(list, &self.names, dist, words);
-        self.set_all(now, &arms);
-        Ok(arms)
+        Ok(mem::replace(&mut self.names, Vec::new(self.alloc)))
+    }
+
+    /// The timers of these names, which rise and have timers, are set again, each one exponent higher.
+    #[tactic(auto, using(crate::proofs::AskSteps::sets_then, crate::proofs::AskSteps::again_rise, crate::proofs::AskSteps::stays_kept, crate::proofs::AskSteps::keeps_self, crate::proofs::Fitting::as_many))]
+    fn set_again<W: Words>(
+        &mut self,
+        names: &[Name],
+        now: u64,
+        dist: &[u64],
+        words: &mut W,
+    ) -> Result<Vec<Arm>, AllocError>
+        requires rising { ascending name_below names.now ≡ true }
+        requires timers { AskTimersRun names.now self.old }
+        requires distances { AreDistances dist.now }
+        requires now { now ≤ MOMENT }
+        ensures fits { IfOk result (λ arms. AskAdds (sets now arms.items) self.old self.new) }
+        ensures plans { IfOk result (λ arms. map plan_of arms.items ≡ map (again_plan dist.now (value_at self.old.timers)) names.now) }
+        ensures few { IfOk result (λ arms. length arms.items ≤ length names.now) }
+        ensures kinds { IfOk result (λ arms. AreAsks arms.items) }
+        ensures members { IfOk result (λ arms. AreOfMembers arms.items) }
+        ensures drawn { IfOk result (λ arms. AreDrawn W.draw (low_of self.old.c1) (high_of self.old.c1 self.old.c2) words.old arms.items words.new) }
+        ensures kept { OnErr result (AskStays self.old self.new) }
+        ensures undrawn { OnErr result (words.new ≡ words.old) }
+        ensures held { AskHolds (record self.old { due_list = 0 }) self.new }
+        ensures list { OnErr result (self.old.due_list ≤ self.new.due_list) }
+        ensures room { length names.now ≤ self.old.ends.room → length names.now ≤ self.old.due_list → IsOk result }
+    {
+        let count = names.len();
+        self.ends.reserve(count)?;
+        self.due_list.reserve(count)?;
+        let list = mem::replace(&mut self.due_list, Vec::new(self.alloc));
+        let again = self.again(list, names, dist, words);
+        self.set_all(now, &again);
+        Ok(again)
     }
 
     /// Adds the arms with which names that have a timer are armed again to an empty list that has room for them.
@@ -272,7 +325,7 @@ impl<D: Deadlines> Asks<D> {
     ) -> Vec<Arm>
         requires empty { arms.items ≡ [] }
         requires room { length names.now ≤ vec_capacity arms }
-        requires timers { (n : FullName) → among names.now n ≡ true → IsSome (value_at self.now.timers n) }
+        requires timers { AskTimersRun names.now self.now }
         requires distances { AreDistances dist.now }
         ensures plans { map plan_of result.items ≡ map (again_plan dist.now (value_at self.now.timers)) names.now }
         ensures members { AreOfMembers result.items }
@@ -345,7 +398,6 @@ impl<D: Deadlines> Asks<D> {
         requires short { arm.now.wait ≤ LONGEST_WAIT }
         ensures fits { AskAdds (sets now (arm.now ∷ [])) self.old self.new }
         ensures held { AskHolds self.old self.new }
-        ensures list { self.new.list ≡ self.old.list }
     {
         self.ends.set(arm.name, now + arm.wait);
         self.timers.set(arm.name, Some(arm_at(now, *arm)));
@@ -361,7 +413,6 @@ impl<D: Deadlines> Asks<D> {
         requires short { AreShort arms.now }
         ensures fits { AskAdds (sets now arms.now) self.old self.new }
         ensures held { AskHolds self.old self.new }
-        ensures list { self.new.list ≡ self.old.list }
     {
         self.ends.set_all(now, arms);
         set_timers(&mut self.timers, now, arms);

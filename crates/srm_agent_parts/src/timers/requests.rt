@@ -93,7 +93,6 @@ impl Timers {
         ensures drawn { WaitsAreDrawn W.draw self.old words.old (option_to_list result) words.new }
         ensures places { FixHolds self.old.fixes self.new.fixes }
         ensures room { AskHolds self.old.asks self.new.asks }
-        ensures list { self.new.asks.list ≡ self.old.asks.list }
     {
         if is_held {
             self.fixes

@@ -12,7 +12,7 @@ loop-name-preserved g c = record {
       c.add_arm.ensures.items c.loop-name.invariant.drawn (waits_before g.W.Words.draw _ _ _ _ _ c.loop-name.invariant.settings c.answer-arm.ensures.drawn);
   settings = keep_on _ _ _ c.loop-name.invariant.settings (settings_keep _ _ c.answer-arm.ensures.room c.answer-arm.ensures.places);
   places = places_stay _ _ _ c.loop-name.invariant.places c.answer-arm.ensures.places;
-  ready = room_stays _ _ _ c.loop-name.invariant.ready c.answer-arm.ensures.room c.answer-arm.ensures.list;
+  ready = room_stays _ _ _ c.loop-name.invariant.ready c.answer-arm.ensures.room;
   count = omega (arith, c.loop-name.invariant.count, one_more_at_most c.loop-name.arms.items c.add_arm.new.arms.items c.answer-arm.result c.add_arm.ensures.items);
   few = omega (arith, c.loop-name.invariant.few, c.add_arm.ensures.len);
   room = omega (arith, c.loop-name.invariant.room, c.add_arm.ensures.capacity);

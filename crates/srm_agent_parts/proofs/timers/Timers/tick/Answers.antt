@@ -1,4 +1,4 @@
-use Rattle.srm_agent_parts.proofs.Midway.{keep_on, asks_keep, fixes_keep_with, waits_before}
+use Rattle.srm_agent_parts.proofs.Midway.{keep_on, asks_keep_with, fixes_keep_with, waits_before}
 use Rattle.srm_agent_parts.proofs.Dueness.{tick_ticks, due_drawn, due_still}
 use Rattle.srm_agent_parts.proofs.timers.Timers.tick.Goals as goal
 
@@ -24,7 +24,7 @@ returns-clause-ticks g c =
 pub returns-clause-settings : goal.returns-clause-settings
 returns-clause-settings g c =
     keep_on _ (record { asks = c.self.inside.asks; fixes = c.self.inside.fixes }) _ (rw (← c.self.view_is) at c.in_ok-make_room.ensures.settings)
-    (keep_on _ (record { asks = c.due.new.self; fixes = c.self.inside.fixes }) _ (asks_keep _ _ _ c.due.ensures.held) (fixes_keep_with _ _ _ c.due-2.ensures.held.d1 c.due-2.ensures.held.d2))
+    (keep_on _ (record { asks = c.due.new.self; fixes = c.self.inside.fixes }) _ (asks_keep_with _ _ _ c.due.ensures.held.c1 c.due.ensures.held.c2) (fixes_keep_with _ _ _ c.due-2.ensures.held.d1 c.due-2.ensures.held.d2))
 
 pub unwrap-requires : goal.unwrap-requires
 unwrap-requires g c =
