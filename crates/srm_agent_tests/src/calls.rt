@@ -5,7 +5,7 @@ use crate::datagrams::Sent;
 use crate::making::page;
 use bytes::Bytes;
 use srm_agent::{Agent, AgentFault, Heard, Ticked};
-use srm_names::{MOMENT, Name, PAGES, PageMsg};
+use srm_names::{MOMENT, Name, PAGES, Page, PageMsg};
 use srm_timers::Listed;
 use std::alloc::{AllocError, Global};
 use std::process::Abort;
@@ -24,18 +24,18 @@ pub(crate) fn body(rt: &impl Abort, alloc: Global, count: usize) -> Bytes {
     }
 }
 
-/// Draws a body of so many bytes on a page of member 0.
+/// Draws a body of so many bytes on a page.
 pub(crate) fn draw(
     rt: &impl Abort,
     alloc: Global,
     agent: &mut Agent<Listed>,
-    number: u16,
+    page: Page,
     length: usize,
     now: u64,
 ) -> Result<Name, AgentFault> {
     assert!(rt; now <= MOMENT);
-    match agent.draw(page(rt, 0, number), body(rt, alloc, length), now) {
-        Err(AgentFault::Memory) => agent.draw(page(rt, 0, number), body(rt, alloc, length), now),
+    match agent.draw(page, body(rt, alloc, length), now) {
+        Err(AgentFault::Memory) => agent.draw(page, body(rt, alloc, length), now),
         drawn => drawn,
     }
 }
@@ -103,7 +103,12 @@ pub(crate) enum Noise {
     Filled,
     /// Those that begin a datagram of a version to come.
     LaterVersion,
+    /// Those of a request, which is the smallest datagram, in session 8.
+    OtherSession,
 }
+
+/// Member 2 asks for number 1 of member 0 on the first page.
+const OF_SESSION_8: [u8; 17] = [0x53, 0x52, 1, 2, 0, 0, 0, 8, 2, 0, 0, 0, 0, 0, 0, 0, 1];
 
 /// Hears them at 5.
 pub(crate) fn hear_noise(rt: &impl Abort, agent: &mut Agent<Listed>, noise: Noise) -> Heard {
@@ -111,6 +116,7 @@ pub(crate) fn hear_noise(rt: &impl Abort, agent: &mut Agent<Listed>, noise: Nois
         Noise::Nothing => hear_bytes(rt, agent, &[], 5),
         Noise::Filled => hear_bytes(rt, agent, &[0xff; 4_096], 5),
         Noise::LaterVersion => hear_bytes(rt, agent, &[0x53, 0x52, 3], 5),
+        Noise::OtherSession => hear_bytes(rt, agent, &OF_SESSION_8, 5),
     }
 }
 
@@ -147,9 +153,9 @@ fn hear_both(rt: &impl Abort, agent: &mut Agent<Listed>, source: u8, now: u64) {
     let _ = hear(rt, agent, Sent::Report(source, 1, 0, source, 1), now);
 }
 
-/// Hears number 1 and a session message of each member from 1 to 31.
-pub(crate) fn hear_others(rt: &impl Abort, agent: &mut Agent<Listed>, now: u64) {
-    for source in 1..32 {
+/// Hears number 1 and a session message of each member from 1 to this one.
+pub(crate) fn hear_others(rt: &impl Abort, agent: &mut Agent<Listed>, last: u8, now: u64) {
+    for source in 1..=last {
         hear_both(rt, agent, source, now);
     }
 }

@@ -10,6 +10,8 @@ mod datagrams;
 #[cfg(test)]
 mod drawing;
 #[cfg(test)]
+mod faults;
+#[cfg(test)]
 mod giving;
 #[cfg(test)]
 mod hearing;

@@ -61,6 +61,17 @@ fn the_stamp_is_the_moment_that_counts(rt: HostRuntime) {
 }
 
 #[test]
+fn a_draw_after_a_later_tick_has_the_moment_of_the_tick(rt: HostRuntime) {
+    let steps = [
+        Step::Tick(1_000),
+        Step::Note(NotedCall::Draw, 500),
+        Step::Tells(Told::Noted(1_000, Verdict::Done, AgentState::Active)),
+        Step::Tells(Told::Stamped(1_000)),
+    ];
+    play(&rt, rt.alloc(), 1, &steps);
+}
+
+#[test]
 fn a_give_has_the_last_moment(rt: HostRuntime) {
     let steps = [
         Step::Leave(7),

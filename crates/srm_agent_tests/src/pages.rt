@@ -9,10 +9,14 @@ fn the_next_page_follows_those_in_the_table(rt: HostRuntime) {
     let steps = [
         Step::NewPage,
         Step::Tells(Told::NewPage(Some((2, 0)))),
-        Step::ShowOf(2, 0, 5),
-        Step::Tells(Told::Done),
+        Step::DrawOf(2, 0, 5),
+        Step::Tells(Told::Drew(1)),
         Step::NewPage,
         Step::Tells(Told::NewPage(Some((2, 1)))),
+        Step::ShowOf(2, 1, 5),
+        Step::Tells(Told::Done),
+        Step::NewPage,
+        Step::Tells(Told::NewPage(Some((2, 2)))),
     ];
     play(&rt, rt.alloc(), 2, &steps);
 }

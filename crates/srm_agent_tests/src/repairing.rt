@@ -1,8 +1,10 @@
 //! Requests that are answered.
 
 use crate::datagrams::Sent;
-use crate::steps::{Step, play};
+use crate::steps::{Step, play, play_with};
 use crate::told::Told;
+use std::alloc::Global;
+use std::process::Abort;
 
 #[test]
 fn a_repair_of_another_cancels_and_holds_off(rt: HostRuntime) {
@@ -45,6 +47,23 @@ fn a_repair_handed_out_holds_off(rt: HostRuntime) {
         Step::Tells(Told::RepairsIn(1, 100_000)),
     ];
     play(&rt, rt.alloc(), 2, &steps);
+}
+
+/// Checks the wait of a repair that is drawn by a word.
+fn check_wait(rt: &impl Abort, alloc: Global, word: u64, wait: u64) {
+    let steps = [
+        Step::Get(Sent::Data(0, 1), 100),
+        Step::Hear(Sent::Request(1, 0, 0, 1), 100),
+        Step::Tells(Told::Taken),
+        Step::Tells(Told::RepairsIn(1, wait)),
+    ];
+    play_with(rt, alloc, 2, 4, 4_204, &[word], &steps);
+}
+
+#[test]
+fn a_wait_to_repair_goes_round_its_interval(rt: HostRuntime) {
+    check_wait(&rt, rt.alloc(), 100_000, 200_000);
+    check_wait(&rt, rt.alloc(), 100_001, 100_000);
 }
 
 #[test]

@@ -116,7 +116,11 @@ fn a_request_for_several_shows_what_is_missing(rt: HostRuntime) {
 fn neighbours_are_asked_for_in_one_request(rt: HostRuntime) {
     let steps = [
         Step::Get(Sent::Data(0, 5), 1_000_000),
-        Step::Tick(1_200_000),
+        Step::TickSends(
+            1_200_000,
+            Sent::Requests(2, 7),
+            Sent::Report(2, 1_200_000, 0, 0, 5),
+        ),
         Step::Tells(Told::Asked(1)),
         Step::Tells(Told::Asked(2)),
         Step::Tells(Told::Asked(3)),
@@ -132,26 +136,32 @@ fn neighbours_are_asked_for_in_one_request(rt: HostRuntime) {
 }
 
 #[test]
-fn a_request_names_its_neighbours_by_a_mask(rt: HostRuntime) {
-    let steps = [
-        Step::Get(Sent::Data(0, 5), 100_000),
-        Step::First(300_000, Sent::Requests(2, 7)),
-    ];
-    play(&rt, rt.alloc(), 2, &steps);
-}
-
-#[test]
 fn a_request_reaches_32_numbers_on(rt: HostRuntime) {
     let steps = [
         Step::HearNumbers(2, 3, 100_000),
         Step::HearNumbers(4, 33, 100_000),
         Step::HearNumbers(35, 36, 100_000),
-        Step::First(300_000, Sent::Requests(1, 0x8000_0002)),
+        Step::TickSends(
+            300_000,
+            Sent::Requests(1, 0x8000_0002),
+            Sent::Request(1, 0, 0, 34),
+        ),
+        Step::Tells(Told::Asked(1)),
+        Step::Tells(Told::Asked(3)),
+        Step::Tells(Told::Asked(33)),
+        Step::Tells(Told::Asked(34)),
+        Step::Tells(Told::AsksIn(1, 1, 400_000)),
+        Step::Tells(Told::AsksIn(3, 1, 400_000)),
+        Step::Tells(Told::AsksIn(33, 1, 400_000)),
+        Step::Tells(Told::AsksIn(34, 1, 400_000)),
+        Step::Tells(Told::Sent(21)),
+        Step::Tells(Told::Sent(17)),
     ];
     play(&rt, rt.alloc(), 1, &steps);
 }
 
 #[test]
 fn the_last_number_first_leaves_all_others_missing(rt: HostRuntime) {
-    play(&rt, rt.alloc(), 1, &[Step::HearLast(1_000_000)]);
+    let steps = [Step::HearLast(1_000_000), Step::Tells(Told::Taken)];
+    play_with(&rt, rt.alloc(), 1, 3, 4_204, &[], &steps);
 }

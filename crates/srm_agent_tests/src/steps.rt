@@ -5,13 +5,14 @@ use crate::calls::{
     show_pages, tick,
 };
 use crate::datagrams::Sent;
-use crate::making::agent_with;
+use crate::making::{agent_with, page};
 use crate::noted::{self, NotedCall};
 use crate::told::{
-    Tales, Told, of_arm, of_drawn, of_given, of_page, of_result, tell, tell_entry, tell_heard,
-    tell_ticked,
+    Tales, Told, of_arm, of_drawn, of_given, of_outcome, of_page, of_result, of_word, tell,
+    tell_entry, tell_heard, tell_ticked,
 };
 use srm_agent::{Agent, Arm, Out};
+use srm_names::Page;
 use srm_timers::Listed;
 use std::alloc::Global;
 use std::process::Abort;
@@ -21,6 +22,8 @@ use std::process::Abort;
 pub(crate) enum Step {
     /// A body of so many bytes is drawn on a page of member 0 at a moment.
     Draw(u16, usize, u64),
+    /// Two bytes are drawn on a page of a member at a moment.
+    DrawOf(u8, u16, u64),
     /// A page of member 0 is shown at a moment.
     Show(u16, u64),
     /// A page of a member is shown at a moment.
@@ -37,32 +40,32 @@ pub(crate) enum Step {
     Get(Sent, u64),
     /// Bytes are heard that spell no datagram, at 5.
     HearNoise(Noise),
-    /// Number 65,536 of member 0 is heard first, at a moment: timers are set for all others, in order. It tells nothing.
+    /// Number 65,536 of member 0 is heard first, at a moment: timers are set for all others, in order. It tells what became of it.
     HearLast(u64),
     /// Data of member 0 is heard, from one number to the one before another. It tells nothing.
     HearNumbers(u32, u32, u64),
-    /// Number 1 and a session message of each member from 1 to 31 are heard. It tells nothing.
-    HearOthers(u64),
+    /// Number 1 and a session message of each member from 1 to this one are heard. It tells nothing.
+    HearOthers(u8, u64),
     Give(u8),
+    /// A drawop of two bytes is given in a slot, which tells them.
+    GiveWord(u8),
     Tick(u64),
-    /// A tick whose first datagram is this. It tells nothing.
-    First(u64, Sent),
+    /// A tick that sends these two datagrams and no other.
+    TickSends(u64, Sent, Sent),
     Next,
     Tells(Told),
 }
 
-/// Whether the first datagram is this.
-fn begins_with(outs: &[Out], sent: Sent) -> bool {
+fn check_out(rt: &impl Abort, out: Option<&Out>, sent: Sent) {
     let (bytes, count) = sent.bytes();
-    match outs {
-        [first, ..] => bytes.get(..count) == Some(first.bytes.as_slice()),
-        [] => false,
-    }
+    let wanted = bytes.get(..count);
+    assert_eq!(rt; out.map(|out| out.bytes.as_slice()), wanted);
 }
 
-fn check_first(rt: &impl Abort, agent: &mut Agent<Listed>, now: u64, sent: Sent) {
-    let ticked = tick(rt, agent, now);
-    assert!(rt; begins_with(ticked.outs.as_slice(), sent));
+fn check_outs(rt: &impl Abort, outs: &[Out], first: Sent, second: Sent) {
+    check_out(rt, outs.first(), first);
+    check_out(rt, outs.get(1), second);
+    assert_eq!(rt; outs.len(), 2);
 }
 
 fn check_told(rt: &impl Abort, tales: &mut Tales, wanted: Told) {
@@ -89,6 +92,24 @@ fn tick_and_tell(rt: &impl Abort, agent: &mut Agent<Listed>, tales: &mut Tales, 
     tell_ticked(rt, tales, &ticked);
 }
 
+fn send_and_tell(
+    rt: &impl Abort,
+    agent: &mut Agent<Listed>,
+    tales: &mut Tales,
+    now: u64,
+    first: Sent,
+    second: Sent,
+) {
+    let ticked = tick(rt, agent, now);
+    check_outs(rt, ticked.outs.as_slice(), first, second);
+    tell_ticked(rt, tales, &ticked);
+}
+
+fn give_word_and_tell(rt: &impl Abort, agent: &mut Agent<Listed>, tales: &mut Tales, slot: u8) {
+    let given = give(rt, agent, slot);
+    tell(rt, tales, of_word(&given));
+}
+
 fn give_and_tell(rt: &impl Abort, agent: &mut Agent<Listed>, tales: &mut Tales, slot: u8) {
     let given = give(rt, agent, slot);
     tell(rt, tales, of_given(&given));
@@ -99,7 +120,7 @@ fn draw_and_tell(
     alloc: Global,
     agent: &mut Agent<Listed>,
     tales: &mut Tales,
-    page: u16,
+    page: Page,
     length: usize,
     now: u64,
 ) {
@@ -137,20 +158,28 @@ fn check_all(rt: &impl Abort, arms: &[Arm]) {
     }
 }
 
-fn hear_last(rt: &impl Abort, agent: &mut Agent<Listed>, now: u64) {
+fn hear_last(rt: &impl Abort, agent: &mut Agent<Listed>, tales: &mut Tales, now: u64) {
     let heard = hear(rt, agent, Sent::Data(0, 65_536), now);
     check_all(rt, heard.arms.as_slice());
+    tell(rt, tales, of_outcome(heard.outcome));
 }
 
 /// Makes a call.
 fn call(rt: &impl Abort, alloc: Global, agent: &mut Agent<Listed>, tales: &mut Tales, step: Step) {
     match step {
-        Step::Draw(page, length, now) => {
-            draw_and_tell(rt, alloc, agent, tales, page, length, now);
+        Step::Draw(number, length, now) => {
+            draw_and_tell(rt, alloc, agent, tales, page(rt, 0, number), length, now);
         }
-        Step::Show(page, now) => tell(rt, tales, of_result(show(rt, agent, page, now))),
-        Step::ShowOf(creator, page, now) => {
-            tell(rt, tales, of_result(show_of(rt, agent, creator, page, now)));
+        Step::DrawOf(creator, number, now) => {
+            draw_and_tell(rt, alloc, agent, tales, page(rt, creator, number), 2, now);
+        }
+        Step::Show(number, now) => tell(rt, tales, of_result(show(rt, agent, number, now))),
+        Step::ShowOf(creator, number, now) => {
+            tell(
+                rt,
+                tales,
+                of_result(show_of(rt, agent, creator, number, now)),
+            );
         }
         Step::ShowPages(count) => show_pages(rt, agent, count),
         Step::NewPage => tell(rt, tales, of_page(agent.new_page())),
@@ -161,12 +190,15 @@ fn call(rt: &impl Abort, alloc: Global, agent: &mut Agent<Listed>, tales: &mut T
             let _ = hear(rt, agent, sent, now);
         }
         Step::HearNoise(noise) => hear_noise_and_tell(rt, agent, tales, noise),
-        Step::HearLast(now) => hear_last(rt, agent, now),
+        Step::HearLast(now) => hear_last(rt, agent, tales, now),
         Step::HearNumbers(from, to, now) => hear_numbers(rt, agent, from, to, now),
-        Step::HearOthers(now) => hear_others(rt, agent, now),
+        Step::HearOthers(last, now) => hear_others(rt, agent, last, now),
         Step::Give(slot) => give_and_tell(rt, agent, tales, slot),
+        Step::GiveWord(slot) => give_word_and_tell(rt, agent, tales, slot),
         Step::Tick(now) => tick_and_tell(rt, agent, tales, now),
-        Step::First(now, sent) => check_first(rt, agent, now, sent),
+        Step::TickSends(now, first, second) => {
+            send_and_tell(rt, agent, tales, now, first, second);
+        }
         Step::Next => tell(rt, tales, Told::Next(agent.next_due())),
         Step::Tells(_) => {}
     }

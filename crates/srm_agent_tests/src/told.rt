@@ -29,6 +29,8 @@ pub(crate) enum Told {
     Open(u16),
     /// A number of a source was given.
     Draw(u8, u32),
+    /// A drawop with these two bytes was given.
+    Word([u8; 2]),
     Left(u8),
     Close,
     Nothing,
@@ -76,10 +78,25 @@ pub(crate) fn of_given(given: &Option<PageMsg>) -> Told {
     }
 }
 
-fn of_outcome(outcome: Outcome) -> Told {
+pub(crate) fn of_outcome(outcome: Outcome) -> Told {
     match outcome {
         Outcome::Taken => Told::Taken,
         Outcome::Ignored(cause) => Told::Ignored(cause),
+    }
+}
+
+/// Of a drawop of two bytes these bytes, and nothing of all else.
+pub(crate) fn of_word(given: &Option<PageMsg>) -> Told {
+    match given {
+        Some(PageMsg::Draw(drawop)) => word_of(&drawop.body),
+        _ => Told::Nothing,
+    }
+}
+
+fn word_of(body: &[u8]) -> Told {
+    match body {
+        [first, second] => Told::Word([*first, *second]),
+        _ => Told::Nothing,
     }
 }
 
