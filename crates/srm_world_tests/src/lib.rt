@@ -5,7 +5,11 @@
 #![tactic(auto)]
 
 #[cfg(test)]
+mod faults;
+#[cfg(test)]
 mod lines;
+#[cfg(test)]
+mod reading;
 #[cfg(test)]
 mod recording;
 #[cfg(test)]
@@ -18,5 +22,7 @@ mod running;
 mod stored;
 #[cfg(test)]
 mod streams;
+#[cfg(test)]
+mod wholes;
 #[cfg(test)]
 mod worlds;

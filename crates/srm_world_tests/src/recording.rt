@@ -132,3 +132,22 @@ fn a_recorder_tells_what_comes_next(rt: HostRuntime) -> Result<(), Fail> {
     check_next(&rt, &recorder, None);
     Ok(())
 }
+
+/// In each round a draw, a show, a tick and a give are done, and bytes are ignored: 5,000 entries in all.
+#[test]
+fn a_recorder_goes_on_for_long(rt: HostRuntime) -> Result<(), Fail> {
+    let mut recorder = fresh(&rt, rt.alloc())?;
+    for now in 0..1_000 {
+        for call in [
+            Call::Draw(now),
+            Call::Show(now),
+            Call::HearNothing(now),
+            Call::Tick(now),
+            Call::Give,
+        ] {
+            make(&rt, rt.alloc(), &mut recorder, call);
+        }
+    }
+    assert_eq!(rt; recorder.finish().entries().len(), 5_000);
+    Ok(())
+}

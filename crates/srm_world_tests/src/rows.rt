@@ -35,6 +35,29 @@ fn a_word_says_the_wait(rt: HostRuntime) {
     );
 }
 
+#[test]
+fn a_word_says_the_wait_to_repair(rt: HostRuntime) {
+    run_good(
+        &rt,
+        &[
+            (
+                "members 3\nwords 2 100000\ntimers\ndraw 0 1 0.0 a\ndraw 0 2 0.0 b\ntick 0 3\ndeliver 2 10 0\n\
+                deliver 1 10 1\ntick 1 200010\ndeliver 2 300000 2\n",
+                "drew 0 0.0 1\ndrew 0 0.0 2\nout 0 0 data 28\nout 1 0 data 28\nheard 2 taken\nheard 1 taken\n\
+                arm 1 ask 0 0.0 1 0 200000\nask 1 0 0.0 1\narm 1 ask 0 0.0 1 1 400000\nout 2 1 request 17\n\
+                heard 2 taken\narm 2 fix 0 0.0 1 0 200000\n",
+            ),
+            (
+                "members 3\nwords 2 100001\ntimers\ndraw 0 1 0.0 a\ndraw 0 2 0.0 b\ntick 0 3\ndeliver 2 10 0\n\
+                deliver 1 10 1\ntick 1 200010\ndeliver 2 300000 2\n",
+                "drew 0 0.0 1\ndrew 0 0.0 2\nout 0 0 data 28\nout 1 0 data 28\nheard 2 taken\nheard 1 taken\n\
+                arm 1 ask 0 0.0 1 0 200000\nask 1 0 0.0 1\narm 1 ask 0 0.0 1 1 400000\nout 2 1 request 17\n\
+                heard 2 taken\narm 2 fix 0 0.0 1 0 100000\n",
+            ),
+        ],
+    );
+}
+
 /// Runs a script in which `X` stands for a text of 1,024 bytes, and compares what it prints.
 fn run_long(rt: &(impl Abort + AllocGlobal), script: &str, wanted: &str) -> Result<(), Fail> {
     let alloc = rt.alloc();
@@ -65,6 +88,38 @@ fn a_full_bucket_lets_four_long_drawops_go(rt: HostRuntime) -> Result<(), Fail> 
         tick 0 0\ntick 0 131374\ntick 0 131375\n",
         "drew 0 0.0 1\ndrew 0 0.0 2\ndrew 0 0.0 3\ndrew 0 0.0 4\ndrew 0 0.0 5\n\
         out 0 0 data 1051\nout 1 0 data 1051\nout 2 0 data 1051\nout 3 0 data 1051\nout 4 0 data 1051\n",
+    )
+}
+
+#[test]
+fn a_deeper_bucket_lets_five_go(rt: HostRuntime) -> Result<(), Fail> {
+    run_long(
+        &rt,
+        "members 1\nbucket 8000 5255\ndraw 0 0 0.0 X\ndraw 0 0 0.0 X\ndraw 0 0 0.0 X\ndraw 0 0 0.0 X\ndraw 0 0 0.0 X\n\
+        tick 0 0\n",
+        "drew 0 0.0 1\ndrew 0 0.0 2\ndrew 0 0.0 3\ndrew 0 0.0 4\ndrew 0 0.0 5\n\
+        out 0 0 data 1051\nout 1 0 data 1051\nout 2 0 data 1051\nout 3 0 data 1051\nout 4 0 data 1051\n",
+    )
+}
+
+/// At 3 bytes a second 27 bytes are there after 9 seconds, and after a session message of 31 the next comes 20 * 31 / 3 seconds
+/// later.
+#[test]
+fn a_slow_member_waits_for_its_rate(rt: HostRuntime) -> Result<(), Fail> {
+    run_long(
+        &rt,
+        "members 1\nbucket 3 1051\ndraw 0 0 0.0 X\ntick 0 0\ndraw 0 0 0.0\ntick 0 8999999\ntick 0 9000000\n\
+        tick 0 215666664\ntick 0 215666665\n",
+        "drew 0 0.0 1\nout 0 0 data 1051\ndrew 0 0.0 2\nout 1 0 session 31\nout 2 0 data 27\nout 3 0 session 31\n",
+    )
+}
+
+#[test]
+fn a_fast_member_waits_half_as_long(rt: HostRuntime) -> Result<(), Fail> {
+    run_long(
+        &rt,
+        "members 1\nbucket 16000 1051\ndraw 0 0 0.0 X\ndraw 0 0 0.0 X\ntick 0 0\ntick 0 65687\ntick 0 65688\n",
+        "drew 0 0.0 1\ndrew 0 0.0 2\nout 0 0 data 1051\nout 1 0 data 1051\n",
     )
 }
 

@@ -12,7 +12,7 @@ use std::slice::from_ref;
 use std::test::Fail;
 
 /// Three strokes come doubled and out of order.
-const OUT_OF_ORDER: (&str, &str) = (
+pub(crate) const OUT_OF_ORDER: (&str, &str) = (
     "members 2\ndraw 0 1 0.0 a\ndraw 0 2 0.0 b\ndraw 0 3 0.0 c\ntick 0 4\n\
         deliver 1 10 2\ndeliver 1 11 0\ndeliver 1 12 0\ndeliver 1 13 1\n\
         give 1 0\ngive 1 0\ngive 1 0\ngive 1 0\ngive 1 0\n\
@@ -25,7 +25,7 @@ const OUT_OF_ORDER: (&str, &str) = (
 );
 
 /// One leaves, and another member repairs what it drew.
-const REPAIRED_BY_ANOTHER: (&str, &str) = (
+pub(crate) const REPAIRED_BY_ANOTHER: (&str, &str) = (
     "members 3\ntimers\ndraw 0 1 0.0 a\ndraw 0 2 0.0 b\ndraw 0 3 0.0 c\ntick 0 4\nleave 0 20\n\
         tick 0 21\ndeliver 2 30 0\ndeliver 2 31 1\ndeliver 2 32 2\ndeliver 1 30 0\ndeliver 1 31 2\n\
         deliver 1 32 3\ngive 1 0\ngive 1 0\ngive 1 0\ntick 1 200030\ntick 1 200031\ndeliver 2 100 4\n\

@@ -36,10 +36,27 @@ fn an_input_has_at_most_a_million_bytes(rt: HostRuntime) -> Result<(), Fail> {
     Ok(())
 }
 
-/// Reads or takes so many bytes, and then fails.
+/// Reads or takes so many bytes, and then fails in this way.
 #[derive(Drop)]
 struct Failing {
     left: usize,
+    kind: io::ErrorKind,
+}
+
+/// Reads or takes so many bytes, and then is broken.
+fn broken(left: usize) -> Failing {
+    Failing {
+        left,
+        kind: io::ErrorKind::BrokenPipe,
+    }
+}
+
+/// Reads or takes so many bytes, and then wants memory.
+fn wanting(left: usize) -> Failing {
+    Failing {
+        left,
+        kind: io::ErrorKind::OutOfMemory,
+    }
 }
 
 impl Failing {
@@ -47,7 +64,7 @@ impl Failing {
         ensures { IfOk result (λ passed. passed ≤ bytes) }
     {
         if self.left == 0 {
-            return Err(io::Error::from(io::ErrorKind::BrokenPipe));
+            return Err(io::Error::from(self.kind));
         }
         let passed = bytes.min(self.left);
         self.left -= passed;
@@ -77,7 +94,7 @@ impl Write for Failing {
 fn streams_that_fail(rt: HostRuntime) -> Result<(), Fail> {
     let alloc = rt.alloc();
     for left in [0usize, 1, 40_000] {
-        let mut reader = Failing { left };
+        let mut reader = broken(left);
         let mut out = Vec::new(alloc);
         let mut err = Vec::new(alloc);
         assert_eq!(rt; run_script(alloc, &mut reader, &mut out, &mut err), 1);
@@ -87,7 +104,7 @@ fn streams_that_fail(rt: HostRuntime) -> Result<(), Fail> {
     let script = longest_script(alloc)?;
     for left in [0usize, 1, 40_000, 727_263] {
         let mut reader = script.as_slice();
-        let mut out = Failing { left };
+        let mut out = broken(left);
         let mut err = Vec::new(alloc);
         assert_eq!(rt; run_script(alloc, &mut reader, &mut out, &mut err), 1);
         assert_eq!(rt; err.as_slice(), b"srm: output\n".as_slice());
@@ -95,9 +112,32 @@ fn streams_that_fail(rt: HostRuntime) -> Result<(), Fail> {
     // Nobody is told, but the status stands.
     let mut reader = b"x".as_slice();
     let mut out = Vec::new(alloc);
-    assert_eq!(rt;
-        run_script(alloc, &mut reader, &mut out, &mut Failing { left: 0 }),
-        1
-    );
+    assert_eq!(rt; run_script(alloc, &mut reader, &mut out, &mut broken(0)), 1);
+    Ok(())
+}
+
+#[test]
+fn streams_that_want_memory(rt: HostRuntime) -> Result<(), Fail> {
+    let alloc = rt.alloc();
+    for left in [0usize, 40_000] {
+        let mut out = Vec::new(alloc);
+        let mut err = Vec::new(alloc);
+        assert_eq!(rt;
+            run_script(alloc, &mut wanting(left), &mut out, &mut err),
+            4
+        );
+        assert_eq!(rt; err.as_slice(), b"srm: memory\n".as_slice());
+        assert!(rt; out.is_empty());
+    }
+    let script = longest_script(alloc)?;
+    for left in [0usize, 40_000] {
+        let mut reader = script.as_slice();
+        let mut err = Vec::new(alloc);
+        assert_eq!(rt;
+            run_script(alloc, &mut reader, &mut wanting(left), &mut err),
+            4
+        );
+        assert_eq!(rt; err.as_slice(), b"srm: memory\n".as_slice());
+    }
     Ok(())
 }

@@ -1,0 +1,89 @@
+//! Worlds to which all events of a list happen in one call.
+
+use crate::running::{repeated, run_good};
+use crate::stored::{OUT_OF_ORDER, REPAIRED_BY_ANOTHER};
+use srm_agent::{AgentFault, Verdict};
+use srm_script::{Fault, Script, read_script};
+use srm_timers::Listed;
+use srm_world::World;
+use std::alloc::Global;
+use std::fmt::Write;
+use std::process::Abort;
+use std::test::Fail;
+
+/// A script with an event of each kind, some of which are skipped, and what it prints.
+const EACH_KIND: (&str, &str) = (
+    "members 2\ndraw 0 1 0.0 a\ntick 0 2\ndeliver 1 3 1\ndeliver 1 3 0\nshow 1 4 0.1\n\
+        give 1 8\ngive 1 0\ngive 1 0\ntake 1 0\ntake 1 0\ntake 2 0\nleave 0 5\ntick 0 6\ntick 0 7\n",
+    "drew 0 0.0 1\nout 0 0 data 28\nskipped\nheard 1 taken\nshown 1 0.1\n\
+        skipped\ngave 1 0 open 0.0\ngave 1 0 draw 0 1 a\ntook 1 0 open 0.0\ntook 1 0 draw 0 1 a\nskipped\n\
+        leaving 0\nout 1 0 session 31\ngone 0\n",
+);
+
+/// The world of a script to which all events happened in one call.
+fn run_at_once(alloc: Global, text: &[u8]) -> Result<World<Listed>, Fault> {
+    let Script {
+        configs,
+        words,
+        events,
+        ..
+    } = read_script(alloc, text)?;
+    let mut world = World::new(alloc, configs, words)?;
+    world.run(events.as_slice())?;
+    Ok(world)
+}
+
+/// The world of a script to which the events happened one by one.
+fn run_one_by_one(alloc: Global, text: &[u8]) -> Result<World<Listed>, Fault> {
+    let Script {
+        configs,
+        words,
+        events,
+        ..
+    } = read_script(alloc, text)?;
+    let mut world = World::new(alloc, configs, words)?;
+    for event in events {
+        let _ = world.apply(event)?;
+    }
+    Ok(world)
+}
+
+/// The trace of a world, as a text.
+fn traced(rt: &impl Abort, alloc: Global, world: Result<World<Listed>, Fault>) -> String {
+    let world = world.ok().expect(rt, "a world");
+    let mut text = String::new(alloc);
+    write!(text, "{:?}", world.trace()).expect(rt, "memory");
+    text
+}
+
+fn check_script(rt: &impl Abort, alloc: Global, text: &str) {
+    let at_once = traced(rt, alloc, run_at_once(alloc, text.as_bytes()));
+    let one_by_one = traced(rt, alloc, run_one_by_one(alloc, text.as_bytes()));
+    assert_eq!(rt; at_once.as_str(), one_by_one.as_str());
+}
+
+#[test]
+fn events_of_each_kind(rt: HostRuntime) {
+    run_good(&rt, &[EACH_KIND]);
+}
+
+#[test]
+fn a_whole_script_in_one_call_is_its_events_one_by_one(rt: HostRuntime) {
+    for (text, _) in [EACH_KIND, OUT_OF_ORDER, REPAIRED_BY_ANOTHER] {
+        check_script(&rt, rt.alloc(), text);
+    }
+}
+
+/// A list of 65,537 draws, of which the last is refused, since the stream is full.
+#[test]
+fn a_long_list_in_one_call(rt: HostRuntime) -> Result<(), Fail> {
+    let alloc = rt.alloc();
+    let mut script = b"members 1\n".to_vec(alloc)?;
+    script.extend_from_slice(repeated(alloc, "draw 0 1 0.0\n", 65_537)?.as_slice())?;
+    let world = run_at_once(alloc, script.as_slice()).ok().ok_or("a world")?;
+    let entries = world.trace().entries();
+    assert_eq!(rt; entries.len(), 65_537);
+    let newest = entries.last().map(|entry| entry.verdict);
+    assert_eq!(rt; newest, Some(Verdict::Refused(AgentFault::StreamFull)));
+    Ok(())
+}
