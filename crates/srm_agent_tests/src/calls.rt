@@ -5,7 +5,7 @@ use crate::datagrams::Sent;
 use crate::making::page;
 use bytes::Bytes;
 use srm_agent::{Agent, AgentFault, Heard, Ticked};
-use srm_names::{MOMENT, Name, PAGES, Page, PageMsg};
+use srm_names::{MOMENT, Name, PAGES, PageMsg};
 use srm_timers::Listed;
 use std::alloc::{AllocError, Global};
 use std::process::Abort;
@@ -24,18 +24,21 @@ pub(crate) fn body(rt: &impl Abort, alloc: Global, count: usize) -> Bytes {
     }
 }
 
-/// Draws a body of so many bytes on a page.
+/// Draws a body of so many bytes on a page of a member.
 pub(crate) fn draw(
     rt: &impl Abort,
     alloc: Global,
     agent: &mut Agent<Listed>,
-    page: Page,
+    creator: u8,
+    number: u16,
     length: usize,
     now: u64,
 ) -> Result<Name, AgentFault> {
     assert!(rt; now <= MOMENT);
-    match agent.draw(page, body(rt, alloc, length), now) {
-        Err(AgentFault::Memory) => agent.draw(page, body(rt, alloc, length), now),
+    match agent.draw(page(rt, creator, number), body(rt, alloc, length), now) {
+        Err(AgentFault::Memory) => {
+            agent.draw(page(rt, creator, number), body(rt, alloc, length), now)
+        }
         drawn => drawn,
     }
 }

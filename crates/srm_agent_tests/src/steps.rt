@@ -5,14 +5,13 @@ use crate::calls::{
     show_pages, tick,
 };
 use crate::datagrams::Sent;
-use crate::making::{agent_with, page};
+use crate::making::agent_with;
 use crate::noted::{self, NotedCall};
 use crate::told::{
     Tales, Told, of_arm, of_drawn, of_given, of_outcome, of_page, of_result, of_word, tell,
     tell_entry, tell_heard, tell_ticked,
 };
 use srm_agent::{Agent, Arm, Out};
-use srm_names::Page;
 use srm_timers::Listed;
 use std::alloc::Global;
 use std::process::Abort;
@@ -120,11 +119,12 @@ fn draw_and_tell(
     alloc: Global,
     agent: &mut Agent<Listed>,
     tales: &mut Tales,
-    page: Page,
+    creator: u8,
+    number: u16,
     length: usize,
     now: u64,
 ) {
-    let drawn = draw(rt, alloc, agent, page, length, now);
+    let drawn = draw(rt, alloc, agent, creator, number, length, now);
     tell(rt, tales, of_drawn(drawn));
 }
 
@@ -168,10 +168,10 @@ fn hear_last(rt: &impl Abort, agent: &mut Agent<Listed>, tales: &mut Tales, now:
 fn call(rt: &impl Abort, alloc: Global, agent: &mut Agent<Listed>, tales: &mut Tales, step: Step) {
     match step {
         Step::Draw(number, length, now) => {
-            draw_and_tell(rt, alloc, agent, tales, page(rt, 0, number), length, now);
+            draw_and_tell(rt, alloc, agent, tales, 0, number, length, now);
         }
         Step::DrawOf(creator, number, now) => {
-            draw_and_tell(rt, alloc, agent, tales, page(rt, creator, number), 2, now);
+            draw_and_tell(rt, alloc, agent, tales, creator, number, 2, now);
         }
         Step::Show(number, now) => tell(rt, tales, of_result(show(rt, agent, number, now))),
         Step::ShowOf(creator, number, now) => {
