@@ -5,6 +5,14 @@
 //!
 //! It is for `srm_agent`, and nothing else needs it.
 //!
+//! ```
+//! let answers = answering(alloc, me, &store, &asks, &fixes)?;
+//! let answers = spelled(alloc, me, session, &showing, answers)?;
+//! bucket.room(answers.len())?;
+//! hand_in(&mut bucket, answers);
+//! let went = let_go(&mut bucket, now, Went::with_room(alloc, room)?);
+//! ```
+//!
 //! **What is refused.** All is refused for want of memory alone, before anything is handed in.
 #![tactic(auto)]
 
