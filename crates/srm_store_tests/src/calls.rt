@@ -9,7 +9,7 @@ use std::process::Abort;
 use std::test::Fail;
 
 /// A name on a page of member 0.
-fn name(rt: &impl Abort, source: u8, page: u16, number: u32) -> Name {
+pub(crate) fn name(rt: &impl Abort, source: u8, page: u16, number: u32) -> Name {
     let source = Member::new(source).expect(rt, "a source");
     let creator = Member::new(0).expect(rt, "a creator");
     let page = Page {
@@ -19,7 +19,7 @@ fn name(rt: &impl Abort, source: u8, page: u16, number: u32) -> Name {
     Name::new(source, page, number).expect(rt, "a number")
 }
 
-fn drawop(alloc: Global, name: Name, body: &[u8]) -> Result<Drawop, Fail> {
+pub(crate) fn drawop(alloc: Global, name: Name, body: &[u8]) -> Result<Drawop, Fail> {
     Ok(Drawop {
         name,
         stamp: 7,
@@ -40,7 +40,7 @@ fn shown(rt: &impl Abort, store: &mut Store, name: Name, wanted: &[u32]) -> Resu
     Ok(())
 }
 
-fn inserted(
+pub(crate) fn inserted(
     rt: &impl Abort,
     store: &mut Store,
     drawop: Drawop,
@@ -98,7 +98,7 @@ fn the_first_drawop_of_a_name_stays(rt: HostRuntime) -> Result<(), Fail> {
     Ok(())
 }
 
-fn assert_released(rt: &impl Abort, store: &Store, name: Name, released: u32) {
+pub(crate) fn assert_released(rt: &impl Abort, store: &Store, name: Name, released: u32) {
     assert_eq!(rt; store.released(name.stream()), released);
 }
 
@@ -117,7 +117,7 @@ fn release_stops_at_a_gap_until_it_is_filled(rt: HostRuntime) -> Result<(), Fail
     Ok(())
 }
 
-fn assert_final(rt: &impl Abort, store: &Store, name: Name, wanted: Option<u32>) {
+pub(crate) fn assert_final(rt: &impl Abort, store: &Store, name: Name, wanted: Option<u32>) {
     assert_eq!(rt; store.final_of(name.stream()), wanted);
 }
 

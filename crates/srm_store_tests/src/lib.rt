@@ -6,4 +6,8 @@
 #[cfg(test)]
 mod calls;
 #[cfg(test)]
+mod faults;
+#[cfg(test)]
 mod list_store;
+#[cfg(test)]
+mod worked;
