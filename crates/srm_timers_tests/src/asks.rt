@@ -325,3 +325,44 @@ fn a_caller_sets_timers_in_an_order_of_its_own(rt: HostRuntime) {
     asks.set_all(0, &[arm]);
     assert_eq!(rt; timer_of(&asks, missing), (Some(200_000), Some(1), Some(1)));
 }
+
+#[test]
+fn room_serves_a_detect_and_then_a_due(rt: HostRuntime) {
+    let mut words = words(&rt, rt.alloc(), &[]);
+    let mut asks = no_asks(rt.alloc(), 2, 2);
+    let names = [name(&rt, 1), name(&rt, 2)];
+    asks.room(&names).expect(&rt, "memory");
+    // That this isn't refused is proved: `unwrap` asks for it.
+    let found = asks
+        .detect(&names, &[], &all_at(100_000), 0, &mut words)
+        .unwrap();
+    let wanted = [
+        ask(names[0], 0, 100_000, 200_000),
+        ask(names[1], 0, 100_000, 200_000),
+    ];
+    assert_eq!(rt; found.as_slice(), wanted.as_slice());
+    let again = asks
+        .due(200_000, &all_at(100_000), &mut words)
+        .expect(&rt, "memory");
+    let wanted = [
+        ask(names[0], 1, 100_000, 400_000),
+        ask(names[1], 1, 100_000, 400_000),
+    ];
+    assert_eq!(rt; again.as_slice(), wanted.as_slice());
+}
+
+#[test]
+fn room_serves_a_due_and_then_a_detect(rt: HostRuntime) {
+    let mut words = words(&rt, rt.alloc(), &[]);
+    let mut asks = no_asks(rt.alloc(), 2, 2);
+    let names = [name(&rt, 1), name(&rt, 2)];
+    asks.room(&names).expect(&rt, "memory");
+    let again = asks
+        .due(0, &all_at(100_000), &mut words)
+        .expect(&rt, "memory");
+    assert_eq!(rt; again.len(), 0);
+    let found = asks
+        .detect(&names, &[], &all_at(100_000), 0, &mut words)
+        .expect(&rt, "memory");
+    assert_eq!(rt; found.len(), 2);
+}
