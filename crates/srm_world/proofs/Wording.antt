@@ -49,6 +49,10 @@ recorded_by draw now input j a b e es fits enters is = record {
 pub unrecorded : {W : Type 0} (draw : W → ℕ × W) (j : Journal) (from to : W) (es : List Entry) → es ≡ j.entries → to ≡ from → RecordsByWords draw (record { journal = j; words = from }) (record { journal = record { start = j.start; entries = es }; words = to })
 unrecorded draw j from to es is same = record { added = []; grown = is ∙ sym (append-nil j.entries); words = same }
 
+-- the same in terms of what contracts see
+pub no_words_recorded : {W : Type 0} (draw : W → ℕ × W) (old new : Recorded W) → new ≡ old → RecordsByWords draw old new
+no_words_recorded draw old new same = subst (RecordsByWords draw old) (sym same) (record { added = []; grown = sym (append-nil old.journal.entries); words = refl })
+
 -- a world
 
 -- the source of a member
