@@ -19,7 +19,7 @@ use Rattle.srm_bucket.specs.Fits.{Fits, Stays, Adds, Pops, Waits, tokens_at}
 use Rattle.srm_bucket.proofs.Steps.{last-snoc, ticks-same, waiting-snoc, law-snoc, level-at, within-at, level-popped, within-popped}
 use Rattle.srm_bucket.proofs.Highest.{next-same, next-highest}
 
-left-is : {T : Type 0} (calls : List (Call T)) (w : Waiting T) → ((k : Class) → gone k calls ++ queue w k ≡ handed k calls) → (k : Class) → left calls k ≡ queue w k
+pub left-is : {T : Type 0} (calls : List (Call T)) (w : Waiting T) → ((k : Class) → gone k calls ++ queue w k ≡ handed k calls) → (k : Class) → left calls k ≡ queue w k
 left-is calls w are k = ap (drop (length (gone k calls))) (sym (are k)) ∙ drop-append_seam (gone k calls) (queue w k)
 
 next-is : {T : Type 0} (calls : List (Call T)) (w : Waiting T) → ((k : Class) → gone k calls ++ queue w k ≡ handed k calls) → next_of calls ≡ next_in w
@@ -46,7 +46,7 @@ tokens-refilled rate depth calls now within =
     let same : (l : ℕ) → Tokens = λ l. record { rate = rate; depth = depth; level = l; last = max (last_moment calls) now } in
     ap same (level-at rate depth (last_moment calls) now (ticks calls) within)
 
-refilled-is : {T : Type 0} (b : Content T) (rate depth : ℕ) (calls : List (Call T)) (now : ℕ) → Fits rate depth calls b
+pub refilled-is : {T : Type 0} (b : Content T) (rate depth : ℕ) (calls : List (Call T)) (now : ℕ) → Fits rate depth calls b
     → refilled now b.tokens ≡ tokens_at rate depth calls (max (last_moment calls) now)
 refilled-is b rate depth calls now f = ap (refilled now) f.tokens_are ∙ tokens-refilled rate depth calls now f.within
 

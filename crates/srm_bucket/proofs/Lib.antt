@@ -7,3 +7,6 @@ pub mod Popping
 mod Forbids
 pub mod Mapping
 pub mod Pausing
+pub mod Paying
+pub mod Admitting
+pub mod AdmittingRead

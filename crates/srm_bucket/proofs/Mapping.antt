@@ -57,7 +57,7 @@ module _ {T U : Type 0} (f : T → U) where
   drop-read (suc n) [] = refl
   drop-read (suc n) (x ∷ xs) = drop-read n xs
 
-  left-read : (class : Class) (calls : List (Call T)) → left (map (read_call f) calls) class ≡ map (read_item f) (left calls class)
+  pub left-read : (class : Class) (calls : List (Call T)) → left (map (read_call f) calls) class ≡ map (read_item f) (left calls class)
   left-read class calls =
       ap (λ n. drop n (handed class (map (read_call f) calls))) (ap length (gone-read class calls) ∙ length-read (gone class calls))
       ∙ ap (drop (length (gone class calls))) (handed-read class calls) ∙ drop-read (length (gone class calls)) (handed class calls)
@@ -119,7 +119,7 @@ module _ {T U : Type 0} (f : T → U) where
   parted-read [] = refl
   parted-read (p ∷ ps) = ap (joined (read_pop f p)) (parted-read ps) ∙ joined-read p (parted ps)
 
-  ticks-read : (calls : List (Call T)) → ticks (map (read_call f) calls) ≡ ticks calls
+  pub ticks-read : (calls : List (Call T)) → ticks (map (read_call f) calls) ≡ ticks calls
   ticks-read calls = ap parted (pops_after-read [] calls) ∙ parted-read (pops calls)
 
   covered-read : (tokens : ℕ) (o : Option (Classed T)) → covered tokens (option_map (read_classed f) o) ≡ option_map (read_classed f) (covered tokens o)

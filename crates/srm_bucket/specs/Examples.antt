@@ -9,10 +9,10 @@ use Rattle.srm_bucket.specs.Ticks.{Tick, last_moment, ticks, charge, allowance, 
 use Rattle.srm_bucket.specs.Law.{level_at, may_go}
 
 -- an item with a number for its value
-abbrev item : (value bytes : ℕ) → Item ℕ
+abbrev pub item : (value bytes : ℕ) → Item ℕ
 item value bytes = record { value = value; length = bytes }
 
-abbrev entry : Class → (value bytes : ℕ) → Classed ℕ
+abbrev pub entry : Class → (value bytes : ℕ) → Classed ℕ
 entry class value bytes = record { class = class; item = item value bytes }
 
 abbrev nothing : Option (Classed ℕ)
@@ -22,13 +22,13 @@ abbrev tick : (moment cost : ℕ) → Tick
 tick moment cost = record { moment = moment; cost = cost }
 
 -- five full datagrams
-abbrev full : ℕ → Classed ℕ
+abbrev pub full : ℕ → Classed ℕ
 full value = entry New value 1051
 
-abbrev five : List (Call ℕ)
+abbrev pub five : List (Call ℕ)
 five = Handed (full 1) ∷ Handed (full 2) ∷ Handed (full 3) ∷ Handed (full 4) ∷ Handed (full 5) ∷ []
 
-abbrev four_gone : List (Call ℕ)
+abbrev pub four_gone : List (Call ℕ)
 four_gone = five ++ Popped 7000000 (Some (full 1)) ∷ Popped 7000000 (Some (full 2)) ∷ Popped 7000000 (Some (full 3)) ∷ Popped 7000000 (Some (full 4)) ∷ []
 
 first_goes : may_go 8000 4204 five 7000000 ≡ Some (full 1)
@@ -53,7 +53,7 @@ never_past_the_depth : level_at 8000 4204 four_gone 9000000000 ≡ 4204000000
 never_past_the_depth = refl
 
 -- a bucket that was emptied at 0, and then one item of each class, the lowest first
-abbrev emptied : List (Call ℕ)
+abbrev pub emptied : List (Call ℕ)
 emptied = Handed (full 0) ∷ Popped 0 (Some (full 0)) ∷ Handed (entry Other 1 17) ∷ Handed (entry New 2 28) ∷ Handed (entry Shown 3 29) ∷ []
 
 highest_first : next_of emptied ≡ Some (entry Shown 3 29)

@@ -7,4 +7,7 @@ pub mod Waiting
 pub mod Law
 pub mod Content
 pub mod Fits
+pub mod Admitting
+pub mod Paying
+pub mod AdmittingExamples
 pub mod Examples

@@ -23,8 +23,12 @@ pub record AreInRange (t : Tokens) : Type 0 where
   pub level : t.level ≤ cost_of t.depth
   pub last : t.last ≤ MOMENT
 
--- the first moment, from the last one on, at which there are tokens for so many bytes
-pub record IsFirstMoment (t : Tokens) (bytes moment : ℕ) : Type 0 where
+-- the first moment, from the last one on, at which there are so many tokens
+pub record IsFirstLevel (t : Tokens) (tokens moment : ℕ) : Type 0 where
   pub not_before : t.last ≤ moment
-  pub covered : cost_of bytes ≤ (refilled moment t).level
-  pub no_sooner : (m : ℕ) → t.last ≤ m → m < moment → (refilled m t).level < cost_of bytes
+  pub covered : tokens ≤ (refilled moment t).level
+  pub no_sooner : (m : ℕ) → t.last ≤ m → m < moment → (refilled m t).level < tokens
+
+-- the same of so many bytes
+abbrev pub IsFirstMoment : Tokens → ℕ → ℕ → Type 0
+IsFirstMoment t bytes moment = IsFirstLevel t (cost_of bytes) moment

@@ -5,6 +5,7 @@ ghost use Rattle.srm_bucket.specs.Calls.{Call, Handed, Refilled};
 ghost use Rattle.srm_bucket.specs.Classes.{left};
 ghost use Rattle.srm_bucket.specs.Waiting.{HasLength, Gains, SameQueues, TakesNext, queue, count_of};
 ghost use Rattle.srm_bucket.specs.Fits.{Fits, Stays, Adds, Pops, Waits};
+ghost use Rattle.srm_bucket.specs.Admitting.{Admits, AdmitsFrom};
 
 use crate::class::Class;
 use crate::item::Item;
@@ -12,7 +13,7 @@ use crate::limits::{
     GREATEST_DEPTH, GREATEST_LENGTH, GREATEST_RATE, LEAST_DEPTH, LEAST_LENGTH, LEAST_RATE,
 };
 use crate::queues::Queues;
-use crate::tokens::Tokens;
+use crate::tokens::{Tokens, cost};
 use srm_names::MOMENT;
 use std::alloc::{AllocError, Global};
 use std::marker::Model;
@@ -113,6 +114,42 @@ impl<T> Bucket<T> {
     {
         let length = self.queues.next_length()?;
         Some(self.tokens.first_moment(length))
+    }
+
+    /// Whether one more item of a class and so many bytes would go at once, if it were handed in at this moment: nothing
+    /// goes before it, or there are tokens for all that does and for it. What goes before it is what waits of its class and of
+    /// higher ones. It takes no memory, and looks at no more items than there are tokens for.
+    #[tactic(auto, using(crate::proofs::Admitting::admits_clear, crate::proofs::Admitting::admits_paid, crate::proofs::Admitting::admits_short))]
+    pub fn admits(&self, class: Class, bytes: u32, now: u64) -> bool
+        ensures { Admits class bytes now self.now result }
+    {
+        if self.queues.is_clear(class) {
+            return true;
+        }
+        match self.queues.rest_behind(class, self.tokens.level_at(now)) {
+            Some(rest) => cost(bytes) <= rest,
+            None => false,
+        }
+    }
+
+    /// The first moment, from the last one on, at which [`admits`](Bucket::admits) answers true for an item of a class and so
+    /// many bytes, if nothing is handed in or goes before: from then on it does, and before it doesn't. It may be past 2^48.
+    /// `None` where the item and what goes before it are more than the depth, so that something has to go first. It takes no
+    /// memory, and looks at no more items than a full bucket has tokens for.
+    #[tactic(auto, using(crate::proofs::Admitting::from_clear, crate::proofs::Admitting::from_never, crate::proofs::Admitting::from_too_much, crate::proofs::Admitting::from_first))]
+    pub fn admits_from(&self, class: Class, bytes: u32) -> Option<u64>
+        ensures { AdmitsFrom class bytes self.now result }
+    {
+        if self.queues.is_clear(class) {
+            return Some(self.tokens.last());
+        }
+        let full = self.tokens.full_level();
+        let rest = self.queues.rest_behind(class, full)?;
+        let price = cost(bytes);
+        if rest < price {
+            return None;
+        }
+        Some(self.tokens.moment_of(full - (rest - price)))
     }
 
     /// How many items of a class wait.

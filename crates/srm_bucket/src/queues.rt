@@ -1,10 +1,13 @@
 //! The items that wait, by class.
 
-ghost use Rattle.std.specs.Prelude.{◌≡◌, ◌≤◌, ◌<◌, ◌+◌, [], OnOk, OnErr, IsOk, option_map, length};
+ghost use Rattle.std.specs.Prelude.{◌≡◌, ◌≤◌, ◌<◌, ◌+◌, ◌==◌, [], OnOk, OnErr, IsOk, option_map, length};
+ghost use Rattle.srm_bucket.specs.Admitting.{ahead_of};
+ghost use Rattle.srm_bucket.specs.Paying.{rest_after};
 ghost use Rattle.srm_bucket.specs.Waiting.{Gains, Loses, SameQueues, queue, next_in};
 
 use crate::class::Class;
 use crate::item::Item;
+use crate::tokens::cost;
 use std::alloc::{AllocError, Global};
 use std::collections::VecDeque;
 use std::marker::Model;
@@ -99,6 +102,34 @@ impl<T> Queues<T> {
         Some(self.other.front()?.length)
     }
 
+    /// Whether nothing waits of a class and of higher ones.
+    pub(crate) fn is_clear(&self, class: Class) -> bool
+        ensures { result ≡ (length (ahead_of class (queue self.now)) == 0) }
+    {
+        let higher = match class {
+            Class::Shown => true,
+            Class::New => self.shown.is_empty(),
+            Class::Other => self.shown.is_empty() && self.fresh.is_empty(),
+        };
+        higher && self.len(class) == 0
+    }
+
+    /// What is left of so many tokens once all that waits of a class and of higher ones is paid for; `None` where they don't
+    /// cover it.
+    #[tactic(auto, using(crate::proofs::Paying::rest_both, crate::proofs::Paying::rest_neither, crate::proofs::Paying::rest_third, crate::proofs::Paying::rest_not_third))]
+    pub(crate) fn rest_behind(&self, class: Class, tokens: u64) -> Option<u64>
+        ensures { result ≡ rest_after tokens (ahead_of class (queue self.now)) }
+    {
+        match class {
+            Class::Shown => rest_after(&self.shown, tokens),
+            Class::New => rest_after(&self.fresh, rest_after(&self.shown, tokens)?),
+            Class::Other => {
+                let rest = rest_after(&self.shown, tokens)?;
+                rest_after(&self.other, rest_after(&self.fresh, rest)?)
+            }
+        }
+    }
+
     /// Takes the item that goes next: the first of the highest class.
     pub(crate) fn pop(&mut self) -> Option<Item<T>>
         ensures value { result ≡ option_map (λ c. c.item) (next_in self.old) }
@@ -113,4 +144,15 @@ impl<T> Queues<T> {
         }
         self.other.pop_front()
     }
+}
+
+/// What is left of so many tokens once these items are paid for; `None` where they don't cover them.
+fn rest_after<T>(items: &VecDeque<Item<T>>, tokens: u64) -> Option<u64>
+    ensures { result ≡ rest_after tokens items.now.items }
+{
+    let mut rest = tokens;
+    for item in items.iter() {
+        rest = rest.checked_sub(cost(item.length))?;
+    }
+    Some(rest)
 }

@@ -77,3 +77,41 @@ fn the_last_moment_at_the_highest_rate(rt: HostRuntime) -> Result<(), Fail> {
     assert_eq!(rt; bucket.pop(3), Some(item(2, 1_051)));
     Ok(())
 }
+
+#[test]
+fn a_full_bucket_admits_four_full_datagrams(rt: HostRuntime) -> Result<(), Fail> {
+    let mut bucket = Bucket::new(rt.alloc(), 8_000, 4_204);
+    for value in 1..=3 {
+        bucket.hand(Class::New, item(value, 1_051))?;
+    }
+    assert_eq!(rt; bucket.admits(Class::New, 1_051, 0), true);
+    assert_eq!(rt; bucket.admits_from(Class::New, 1_051), Some(0));
+    bucket.hand(Class::New, item(4, 1_051))?;
+    assert_eq!(rt; bucket.admits(Class::New, 1_051, 0), false);
+    assert_eq!(rt; bucket.admits_from(Class::New, 1_051), None);
+    assert_eq!(rt; bucket.admits(Class::Shown, 1_051, 0), true);
+    Ok(())
+}
+
+#[test]
+fn more_is_admitted_once_all_is_paid_for(rt: HostRuntime) -> Result<(), Fail> {
+    let mut bucket = Bucket::new(rt.alloc(), 3, 1_051);
+    bucket.hand(Class::New, item(1, 1_051))?;
+    assert_eq!(rt; bucket.pop(9), Some(item(1, 1_051)));
+    assert_eq!(rt; bucket.admits_from(Class::New, 28), Some(9));
+    bucket.hand(Class::Shown, item(2, 17))?;
+    assert_eq!(rt; bucket.admits_from(Class::New, 27), Some(14_666_676));
+    assert_eq!(rt; bucket.admits(Class::New, 27, 14_666_675), false);
+    assert_eq!(rt; bucket.admits(Class::New, 27, 14_666_676), true);
+    Ok(())
+}
+
+#[test]
+fn items_of_lower_classes_are_not_ahead(rt: HostRuntime) -> Result<(), Fail> {
+    let mut bucket = Bucket::new(rt.alloc(), 8_000, 1_051);
+    bucket.hand(Class::Other, item(1, 1_051))?;
+    assert_eq!(rt; bucket.admits(Class::New, 28, 0), true);
+    assert_eq!(rt; bucket.admits(Class::Other, 28, 0), false);
+    assert_eq!(rt; bucket.admits_from(Class::Other, 28), None);
+    Ok(())
+}

@@ -19,7 +19,7 @@ pub(crate) struct Tokens {
 }
 
 impl Tokens {
-    ghost use Rattle.srm_bucket.specs.Tokens.{AreInRange, IsFirstMoment, cost_of, refilled, spent};
+    ghost use Rattle.srm_bucket.specs.Tokens.{AreInRange, IsFirstLevel, IsFirstMoment, cost_of, refilled, spent};
 
     /// All tokens, at moment 0.
     pub(crate) fn full(rate: u32, depth: u32) -> Tokens
@@ -48,11 +48,33 @@ impl Tokens {
         if now <= self.last {
             return;
         }
-        let gained = u128::from(self.rate) * u128::from(now - self.last);
-        let full = cost(self.depth);
-        let level = (u128::from(self.level) + gained).min(u128::from(full));
-        self.level = level as u64;
+        self.level = self.level_at(now);
         self.last = now;
+    }
+
+    /// The level at a moment.
+    pub(crate) fn level_at(&self, now: u64) -> u64
+        requires range { AreInRange self.now }
+        ensures value { result ≡ (refilled now self.now).level }
+    {
+        let gained = u128::from(self.rate) * u128::from(now.saturating_sub(self.last));
+        let level = (u128::from(self.level) + gained).min(u128::from(self.full_level()));
+        level as u64
+    }
+
+    /// The level of a full bucket.
+    pub(crate) fn full_level(&self) -> u64
+        requires range { AreInRange self.now }
+        ensures value { result ≡ cost_of self.now.depth }
+    {
+        cost(self.depth)
+    }
+
+    /// The last moment.
+    pub(crate) fn last(&self) -> u64
+        ensures { result ≡ self.now.last }
+    {
+        self.last
     }
 
     /// Takes what an item of a length costs, where there is so much.
@@ -77,13 +99,22 @@ impl Tokens {
         requires length { length ≤ GREATEST_LENGTH }
         ensures { IsFirstMoment self.now length result }
     {
-        let missing = cost(length).saturating_sub(self.level);
+        self.moment_of(cost(length))
+    }
+
+    /// The first moment, from the last one on, at which the level is so high. A full bucket's is.
+    pub(crate) fn moment_of(&self, level: u64) -> u64
+        requires range { AreInRange self.now }
+        requires level { level ≤ cost_of self.now.depth }
+        ensures { IsFirstLevel self.now level result }
+    {
+        let missing = level.saturating_sub(self.level);
         self.last + missing.div_ceil(u64::from(self.rate))
     }
 }
 
 /// What so many bytes cost, in millionths of a byte.
-fn cost(bytes: u32) -> u64
+pub(crate) fn cost(bytes: u32) -> u64
     ensures { result ≡ bytes * MILLIONTHS }
 {
     u64::from(bytes) * MILLIONTHS
