@@ -11,6 +11,8 @@ pub mod Giving
 pub mod Runs
 pub mod Hearing
 pub mod Promises
+pub mod Admitting
+pub mod AdmittingExamples
 pub mod Rates
 pub mod Sample
 pub mod Examples
