@@ -31,3 +31,4 @@ pub mod NextDueStirs
 pub mod NextDueRests
 pub mod NextDue
 pub mod Passing
+pub mod Admitting

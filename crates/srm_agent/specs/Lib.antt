@@ -8,5 +8,6 @@ pub mod Noting
 pub mod Reports
 pub mod Answering
 pub mod Waking
+pub mod Admitting
 pub mod Ticking
 pub mod Examples

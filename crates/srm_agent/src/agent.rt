@@ -9,6 +9,7 @@ ghost use Rattle.srm_agent.specs.Fits.{Fits, AreEmptyFeeds};
 ghost use Rattle.srm_entries.specs.Runs.{IsMemberRun};
 ghost use Rattle.srm_agent.specs.Noting.{Does, still_entry};
 
+mod admitting;
 mod drawing;
 mod due;
 mod giving;

@@ -4,6 +4,8 @@
 #![tactic(auto)]
 
 #[cfg(test)]
+mod admitting;
+#[cfg(test)]
 mod calls;
 #[cfg(test)]
 mod datagrams;

@@ -52,6 +52,10 @@ pub(crate) enum Step {
     /// A tick that sends these two datagrams and no other.
     TickSends(u64, Sent, Sent),
     Next,
+    /// Whether a body of so many bytes is admitted at a moment.
+    Admits(usize, u64),
+    /// From when on it is.
+    AdmitsFrom(usize),
     Tells(Told),
 }
 
@@ -200,6 +204,12 @@ fn call(rt: &impl Abort, alloc: Global, agent: &mut Agent<Listed>, tales: &mut T
             send_and_tell(rt, agent, tales, now, first, second);
         }
         Step::Next => tell(rt, tales, Told::Next(agent.next_due())),
+        Step::Admits(length, now) => {
+            tell(rt, tales, Told::Admits(agent.admits_draw(length, now)));
+        }
+        Step::AdmitsFrom(length) => {
+            tell(rt, tales, Told::AdmitsFrom(agent.admits_draw_from(length)));
+        }
         Step::Tells(_) => {}
     }
 }

@@ -25,6 +25,9 @@ pub(crate) enum Told {
     Sent(usize),
     /// The next moment at which a tick does something.
     Next(Option<u64>),
+    /// Whether a draw is admitted, and from when on.
+    Admits(bool),
+    AdmitsFrom(Option<u64>),
     /// A page of member 0 was given.
     Open(u16),
     /// A number of a source was given.

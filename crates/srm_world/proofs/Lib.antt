@@ -13,3 +13,4 @@ pub mod Silent
 pub mod Stepping
 pub mod Beginning
 pub mod Journaling
+pub mod NotForMemory

@@ -4,6 +4,7 @@ ghost use Rattle.std.specs.Prelude.{◌≡◌, ◌≤◌, ◌<◌, [], Some, Non
 ghost use Rattle.srm_names.specs.declared.limits.TheConstants.{MOMENT, PAGES};
 ghost use Rattle.srm_agent.specs.Noting.{IsDrawnName, IsTicked};
 ghost use Rattle.srm_entries.specs.Promises.{page_to_come, IsNextDue};
+ghost use Rattle.srm_entries.specs.Admitting.{AdmitsDraw, AdmitsDrawFrom};
 ghost use Rattle.srm_world.specs.Claims.{IsLawfulJournal};
 ghost use Rattle.srm_world.specs.Recording.{Records, RecordsHeard};
 ghost use Rattle.srm_world.specs.Words.{RecordsByWords};
@@ -145,6 +146,27 @@ impl<W: Words + Drop> Recorder<W> {
         let Noted { answer, entry } = self.agent.give_noted(slot)?;
         append(&mut self.entries, entry);
         answer
+    }
+
+    /// [`Agent::admits_draw`]. It has no entry.
+    pub fn admits_draw(&self, body: usize, now: u64) -> bool
+        ensures { AdmitsDraw self.now.journal.start.config self.now.journal.start.made self.now.journal.entries body now result }
+    {
+        self.agent.admits_draw(body, now)
+    }
+
+    /// [`Agent::admits_draw_from`]. It has no entry.
+    pub fn admits_draw_from(&self, body: usize) -> Option<u64>
+        ensures { AdmitsDrawFrom self.now.journal.start.config self.now.journal.start.made self.now.journal.entries body result }
+    {
+        self.agent.admits_draw_from(body)
+    }
+
+    /// The entries so far, oldest first. It takes no memory.
+    pub fn entries(&self) -> &[Entry]
+        ensures { result.now ≡ self.now.journal.entries }
+    {
+        self.entries.as_slice()
     }
 
     /// Gives the recorder up for its journal. It takes no memory.

@@ -5,6 +5,8 @@
 #![tactic(auto)]
 
 #[cfg(test)]
+mod admitting;
+#[cfg(test)]
 mod faults;
 #[cfg(test)]
 mod lines;

@@ -60,7 +60,7 @@ fn config(rt: &impl Abort, me: u8, members: u8) -> Config {
 }
 
 /// A recorder of member 1 of three, which did nothing yet.
-fn fresh(rt: &impl Abort, alloc: Global) -> Result<Recorder<Listed>, Fail> {
+pub(crate) fn fresh(rt: &impl Abort, alloc: Global) -> Result<Recorder<Listed>, Fail> {
     let words = Listed::new(Vec::new(alloc));
     Ok(Recorder::new(alloc, config(rt, 1, 3), words, 0)?)
 }

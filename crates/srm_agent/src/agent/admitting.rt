@@ -1,0 +1,46 @@
+//! Whether the rate lets a draw go at once.
+
+ghost use Rattle.std.specs.Prelude.{◌≡◌};
+ghost use Rattle.srm_entries.specs.Admitting.{draw_length};
+ghost use Rattle.srm_agent.specs.Admitting.{DrawAdmitted, DrawAdmittedFrom};
+
+use super::Agent;
+use srm_bucket::Class;
+use srm_names::BODY;
+use srm_timers::Words;
+
+/// The bytes of a datagram with new data, beside the body.
+const DATA_HEAD: usize = 27;
+
+impl<W: Words + Drop> Agent<W> {
+    /// Whether the rate would let a drawop with a body of so many bytes go at once, if it were drawn at this moment, in
+    /// microseconds: no request or repair for the page shown waits and no new data, or there are tokens for all of these and for
+    /// its datagram. A body that is too long counts as the longest, of 1,024 bytes. It doesn't say whether the draw is refused. It takes
+    /// no memory and changes nothing, not even the last moment.
+    #[tactic(auto, using(crate::proofs::Admitting::admitted))]
+    pub fn admits_draw(&self, body: usize, now: u64) -> bool
+        ensures { DrawAdmitted body now self.now result }
+    {
+        let moment = now.max(self.last);
+        self.bucket.admits(Class::New, draw_length(body), moment)
+    }
+
+    /// The first moment, in microseconds, from the last one that counted on, at which [`admits_draw`](Agent::admits_draw) answers true for
+    /// a body of so many bytes, if no other call comes before: from then on it does, and before it doesn't. It may be past 2^48. `None` where what
+    /// waits of these classes and its datagram are more than the bucket's depth: then something waits, and has to go first, of which
+    /// [`next_due`](Agent::next_due) tells when. It takes no memory and changes nothing.
+    #[tactic(auto, using(crate::proofs::Admitting::never_admitted, crate::proofs::Admitting::admitted_from))]
+    pub fn admits_draw_from(&self, body: usize) -> Option<u64>
+        ensures { DrawAdmittedFrom body self.now result }
+    {
+        let first = self.bucket.admits_from(Class::New, draw_length(body))?;
+        Some(self.last.max(first))
+    }
+}
+
+/// What the datagram of a draw is charged, in bytes.
+fn draw_length(body: usize) -> u32
+    ensures { result ≡ draw_length body }
+{
+    (DATA_HEAD + body.min(usize::from(BODY))) as u32
+}
