@@ -1,6 +1,6 @@
 -- Judging undoes spelling: what is judged to be a datagram is its spelling, and a spelling is judged to be its datagram.
-use Rattle.std.proofs.Common.{◌≡◌, ℕ, zero, suc, ◌^◌, ◌<◌, ◌≤◌, Bool, true, false, List, ◌++◌, take, drop, Result, Ok, Err, refl, sym, ap, subst, ◌∙◌, append_assoc, arith, eq-eqb, inl, inr}
-use Rattle.std.specs.Prelude.{◌==◌, ◌||◌, ◌⊎◌, IfOk, if◌then◌else◌}
+use Rattle.std.proofs.Common.{◌≡◌, ◌≢◌, ℕ, zero, suc, ◌^◌, ◌<◌, ◌≤◌, Bool, true, false, List, ◌++◌, take, drop, Result, Ok, Err, refl, sym, ap, subst, ◌∙◌, append_assoc, arith, eq-eqb, inl, inr}
+use Rattle.std.specs.Prelude.{◌==◌, ◌||◌, ◌⊎◌, IfOk, IsOk, if◌then◌else◌}
 use Rattle.std.specs.Int.{w8, w16, w32, to_be_bytes, from_be_bytes}
 use Rattle.std.proofs.lemmas.Bool.{eqb-true}
 use Rattle.std.proofs.lemmas.Bool.Decides.{nat_tests}
@@ -13,10 +13,11 @@ use Rattle.srm_codec.specs.declared.fault.DecodeFault.{DecodeFault}
 use Rattle.srm_codec.specs.declared.fault.DecodeFault.TheVariants.{Magic, Version, Kind}
 use Rattle.srm_codec.specs.declared.fault.DecodeFault.TheVariants as faults
 use Rattle.srm_codec.specs.Spelling.{IsSpellable, head, name_bytes, drawop_bytes, request_bytes, spelling, Spells}
-use Rattle.srm_codec.specs.Reading.{IsJudged}
+use Rattle.srm_codec.specs.Reading.{IsJudged, takes_memory}
 use Rattle.srm_codec.specs.Laws.{JudgingUndoesSpelling, SpellingsAreUnique}
 use Rattle.srm_codec.specs.Judging.{◌>>=◌, Read, number_at, magic_at, version_at, is_kind, kind_at, session_at, member_at, contents_of, judge}
 use Rattle.srm_codec.proofs.Readers.{IsBytes, bind_ok, ok_is, Takes, Takes-then, Reads, checked}
+use Rattle.srm_codec.proofs.Faults.{never_memory}
 use Rattle.srm_codec.proofs.FieldLaws.{one_byte, wide8, wide16, wide32, number_reads, member_reads}
 use Rattle.srm_codec.proofs.ContentLaws.{Completes, data_taken, data_again, repair_taken, repair_again, request_taken, request_again, packed_taken, packed_again, told_bytes, told_spelled, session_taken, session_again}
 
@@ -236,15 +237,27 @@ abbrev failed : DecodeFault → Result Datagram DecodeFault
 failed f = Err f
 
 -- what an answer of the reader says of spellings
-pub judged_is_spelled : (session : ℕ) (bytes : List ℕ) (answer : Result Datagram DecodeFault) → IsBytes bytes → IsJudged answer (judge session bytes) → IfOk answer (λ g. Spells session g bytes)
+pub judged_is_spelled : (session : ℕ) (bytes : List ℕ) (answer : Result Datagram DecodeFault) → IsBytes bytes → IsJudged takes_memory answer (judge session bytes) → IfOk answer (λ g. Spells session g bytes)
 judged_is_spelled session bytes (Ok g) fits e = judged_spells session bytes g fits e
 judged_is_spelled session bytes (Err f) fits e = tt
 
-pub spelled_is_read : (session : ℕ) (bytes : List ℕ) (answer : Result Datagram DecodeFault) (g : Datagram) → session < 2 ^ 32 → Spells session g bytes → IsJudged answer (judge session bytes)
+pub spelled_is_read : (session : ℕ) (bytes : List ℕ) (answer : Result Datagram DecodeFault) (g : Datagram) → session < 2 ^ 32 → Spells session g bytes → IsJudged takes_memory answer (judge session bytes)
     → (answer ≡ Ok g) ⊎ (answer ≡ Err faults.Memory)
 spelled_is_read session bytes (Ok h) g lt s e = inl (sym e ∙ spells_judged session bytes g lt s)
 spelled_is_read session bytes (Err f) g lt s (inl e) = absurd (differ (sym (spells_judged session bytes g lt s) ∙ e))
   where
     differ : {f : DecodeFault} → read g ≡ Err f → ⊥
     differ e = cc
-spelled_is_read session bytes (Err f) g lt s (inr e) = inr (ap failed e)
+spelled_is_read session bytes (Err f) g lt s (inr e) = inr (ap failed e.0)
+
+-- want of memory is an answer to what passed
+pub memory_is_for_good : (session : ℕ) (bytes : List ℕ) (answer : Result Datagram DecodeFault) → IsJudged takes_memory answer (judge session bytes) → answer ≡ Err faults.Memory → IsOk (judge session bytes)
+memory_is_for_good session bytes answer judged e = at answer (judge session bytes) (never_memory session bytes) judged e
+  where
+    passed : (r : Result Datagram DecodeFault) (g : Datagram) → r ≡ Ok g → IsOk r
+    passed r g e = rw e refl
+
+    at : (a r : Result Datagram DecodeFault) → r ≢ Err faults.Memory → IsJudged takes_memory a r → a ≡ Err faults.Memory → IsOk r
+    at (Ok g) r never judged e = absurd cc
+    at (Err f) r never (inl k) e = absurd (never (k ∙ e))
+    at (Err f) r never (inr k) e = passed r k.1 k.2

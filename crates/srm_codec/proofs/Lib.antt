@@ -2,6 +2,7 @@ pub mod Loop
 pub mod Masks
 pub mod Lengths
 pub mod Rising
+pub mod Faults
 pub mod Readers
 pub mod FieldLaws
 pub mod ListLaws

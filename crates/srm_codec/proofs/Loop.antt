@@ -64,3 +64,23 @@ is_done item count done capacity front rest bytes le so_far =
     let k : count - done ≡ 0 = omega arith in
     let one : with_front front (items_at item (count - done) (newest front) rest) ≡ Ok (front, rest) = rw k (ap (λ ys. Ok (ys, rest)) (append-nil front)) in
     sym so_far.read ∙ one
+
+-- A loop has judged the first of these values, the last of which is this one, and has these bytes left.
+abbrev pub IsSkimming : {X : Type 0} → (Option X → List ℕ → Read X) → ℕ → ℕ → Option X → List ℕ → List ℕ → Type 0
+IsSkimming {X} item count done last rest bytes = (front : List X) × (newest front ≡ last) × IsReading item count done count front rest bytes
+
+pub skim_starts : {X : Type 0} (item : Option X → List ℕ → Read X) (count : ℕ) (bytes : List ℕ) → IsSkimming item count 0 None bytes bytes
+skim_starts item count bytes = ([], refl, starts item count count bytes refl)
+
+pub skim_goes_on : {X : Type 0} (item : Option X → List ℕ → Read X) (count done : ℕ) (last : Option X) (rest bytes : List ℕ) (x : X) (after : List ℕ)
+    → done < count → item last rest ≡ Ok (x, after) → IsSkimming item count done last rest bytes → IsSkimming item count (done + 1) (Some x) after bytes
+skim_goes_on item count done last rest bytes x after lt h (front, e, so_far) =
+    (front ++ x ∷ [], newest-snoc front x, goes_on item count done count count front rest bytes x after (omega arith) lt (ap (λ o. item o rest) e ∙ h) so_far)
+
+pub skim_stops : {X : Type 0} (item : Option X → List ℕ → Read X) (count done : ℕ) (last : Option X) (rest bytes : List ℕ) (fault : DecodeFault)
+    → done < count → item last rest ≡ Err fault → IsSkimming item count done last rest bytes → items_at item count None bytes ≡ Err fault
+skim_stops item count done last rest bytes fault lt h (front, e, so_far) = stops item count done count front rest bytes fault lt (ap (λ o. item o rest) e ∙ h) so_far
+
+pub skim_is_done : {X : Type 0} (item : Option X → List ℕ → Read X) (count done : ℕ) (last : Option X) (rest bytes : List ℕ)
+    → count ≤ done → IsSkimming item count done last rest bytes → (xs : List X) × (items_at item count None bytes ≡ Ok (xs, rest))
+skim_is_done item count done last rest bytes le (front, e, so_far) = (front, is_done item count done count front rest bytes le so_far)

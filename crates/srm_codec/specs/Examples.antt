@@ -1,11 +1,15 @@
 -- The definitions at worked examples.
-use Rattle.std.specs.Prelude.{◌≡◌, ℕ, List, [], ◌∷◌, ◌++◌, length, replicate, Ok, Err, true, false, take, refl}
+use Rattle.std.specs.Prelude.{◌≡◌, ℕ, List, [], ◌∷◌, ◌++◌, length, replicate, Result, Ok, Err, true, false, take, refl}
+use Rattle.std.proofs.Common.{inl, inr}
 use Rattle.srm_names.specs.declared.stream.Stream.{Stream}
 use Rattle.srm_names.specs.Names.{first_page, named}
 use Rattle.srm_codec.specs.declared.datagram.Datagram.{Datagram}
 use Rattle.srm_codec.specs.declared.datagram.Datagram.TheVariants.{Data, Request, Session}
-use Rattle.srm_codec.specs.declared.fault.DecodeFault.TheVariants.{Short, Number, Length, Order, Source}
+use Rattle.srm_codec.specs.declared.fault.DecodeFault.TheVariants.{Short, Number, Length, Order, Source, Memory}
+use Rattle.srm_codec.specs.declared.fault.DecodeFault.{DecodeFault}
+use Rattle.srm_codec.specs.declared.fault.DecodeFault.TheVariants as faults
 use Rattle.srm_codec.specs.Spelling.{bits_set, head, page_bytes, name_bytes, drawop_bytes, echo_bytes, request_bytes, spelling}
+use Rattle.srm_codec.specs.Reading.{IsJudged, takes_memory}
 use Rattle.srm_codec.specs.Judging.{front_at, judge, magic_at, version_at, kind_at, session_at, member_at, moment_at, page_at, source_at, stream_at, name_at, body_at, drawop_at, only_drawop, mask_at, flag_at, echo_at, items_at, list_at, any_stream_at, number_in_stream_at, echo_member_at, size_at, data_of, request_of, packed_of, repair_of, session_of, contents_of}
 
 abbrev zero_stream : Stream
@@ -73,3 +77,23 @@ farewell_of_another = refl
 largest : length (spelling 7 (Data (record { name = named zero_stream 1; stamp = 0; body = replicate 1024 7 }))) ≡ 1051
 unfolding head page_bytes name_bytes drawop_bytes echo_bytes request_bytes spelling
 largest = refl
+
+-- ---- want of memory: in place of no fault, of no request, and perhaps of data
+
+abbrev memory : Result Datagram DecodeFault
+memory = Err Memory
+
+other_session : judge 8 hi_bytes ≡ Err faults.Session
+unfolding bits_set head page_bytes name_bytes drawop_bytes echo_bytes request_bytes spelling front_at judge magic_at version_at kind_at session_at member_at moment_at page_at source_at stream_at name_at body_at drawop_at only_drawop mask_at flag_at echo_at items_at list_at any_stream_at number_in_stream_at echo_member_at size_at data_of request_of packed_of repair_of session_of contents_of
+other_session = refl
+
+a_fault_stands : IsJudged takes_memory memory (Err faults.Session) → ⊥
+a_fault_stands (inl e) = absurd cc
+a_fault_stands (inr e) = absurd (let k = e.2 in cc)
+
+a_request_stands : IsJudged takes_memory memory (Ok (Request 1 (named zero_stream 1) 0)) → ⊥
+a_request_stands (inl e) = absurd cc
+a_request_stands (inr e) = absurd (let k = e.2 in let t = e.3 in cc)
+
+data_may_be_refused : IsJudged takes_memory memory (Ok hi)
+data_may_be_refused = inr (refl, hi, refl, refl)

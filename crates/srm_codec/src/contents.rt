@@ -1,12 +1,13 @@
 //! What stands behind the head of a datagram, by its kind.
 
+ghost use Rattle.std.specs.Prelude.{true};
 ghost use Rattle.srm_codec.specs.Judging.{only_drawop, data_of, request_of, packed_of, repair_of, session_of, contents_of, mask_at};
-ghost use Rattle.srm_codec.specs.Reading.{IsRead, IsJudged};
+ghost use Rattle.srm_codec.specs.Reading.{IsRead, IsJudged, takes_memory};
 
 use crate::datagram::Datagram;
 use crate::fault::DecodeFault;
 use crate::format::{DATA, PLAIN, REPAIR, REQUEST};
-use crate::lists::{echoes, rows};
+use crate::lists::{echoes, rows, skim_echoes, skim_rows};
 use crate::mask::is_within;
 use crate::reader::Reader;
 use bytes::Bytes;
@@ -21,7 +22,7 @@ pub fn contents(
     sender: Member,
     reader: &mut Reader,
 ) -> Result<Datagram, DecodeFault>
-    ensures { IsJudged result (contents_of version kind sender reader.old) }
+    ensures { IsJudged takes_memory result (contents_of version kind sender reader.old) }
 {
     match kind {
         DATA => data(alloc, sender, reader),
@@ -34,7 +35,7 @@ pub fn contents(
 
 #[tactic(auto, unfolding(crate::specs::Judging::data_of))]
 fn data(alloc: Global, sender: Member, reader: &mut Reader) -> Result<Datagram, DecodeFault>
-    ensures { IsJudged result (data_of sender reader.old) }
+    ensures { IsJudged takes_memory result (data_of sender reader.old) }
 {
     let drawop = only_drawop(alloc, Some(sender), reader)?;
     Ok(Datagram::Data(drawop))
@@ -42,7 +43,7 @@ fn data(alloc: Global, sender: Member, reader: &mut Reader) -> Result<Datagram, 
 
 #[tactic(auto, unfolding(crate::specs::Judging::repair_of))]
 fn repair(alloc: Global, sender: Member, reader: &mut Reader) -> Result<Datagram, DecodeFault>
-    ensures { IsJudged result (repair_of sender reader.old) }
+    ensures { IsJudged takes_memory result (repair_of sender reader.old) }
 {
     let drawop = only_drawop(alloc, None, reader)?;
     Ok(Datagram::Repair { sender, drawop })
@@ -55,7 +56,7 @@ fn only_drawop(
     wanted: Option<Member>,
     reader: &mut Reader,
 ) -> Result<Drawop, DecodeFault>
-    ensures { IsJudged result (only_drawop wanted reader.old) }
+    ensures { IsJudged (λ _. true) result (only_drawop wanted reader.old) }
 {
     let name = reader.name(wanted, None)?;
     let stamp = reader.moment()?;
@@ -67,7 +68,7 @@ fn only_drawop(
 
 #[tactic(auto, unfolding(crate::specs::Judging::request_of))]
 fn request(sender: Member, reader: &mut Reader) -> Result<Datagram, DecodeFault>
-    ensures { IsJudged result (request_of sender reader.old) }
+    ensures { IsJudged takes_memory result (request_of sender reader.old) }
 {
     let name = reader.name(None, None)?;
     reader.end()?;
@@ -80,7 +81,7 @@ fn request(sender: Member, reader: &mut Reader) -> Result<Datagram, DecodeFault>
 
 #[tactic(auto, unfolding(crate::specs::Judging::packed_of))]
 fn packed_request(sender: Member, reader: &mut Reader) -> Result<Datagram, DecodeFault>
-    ensures { IsJudged result (packed_of sender reader.old) }
+    ensures { IsJudged takes_memory result (packed_of sender reader.old) }
 {
     let name = reader.name(None, None)?;
     let mask = mask(name, reader)?;
@@ -101,13 +102,18 @@ fn mask(name: Name, reader: &mut Reader) -> Result<u32, DecodeFault>
     }
 }
 
+/// A session message. It is read twice, since its rows and echoes have room made for them only once all is judged.
 #[tactic(auto, unfolding(crate::specs::Judging::session_of))]
 fn session(alloc: Global, sender: Member, reader: &mut Reader) -> Result<Datagram, DecodeFault>
-    ensures { IsJudged result (session_of sender reader.old) }
+    ensures { IsJudged takes_memory result (session_of sender reader.old) }
 {
     let sent = reader.moment()?;
     let farewell = reader.flag()?;
     let shown = reader.page()?;
+    let mut ahead = reader.again();
+    skim_rows(farewell, sender, &mut ahead)?;
+    skim_echoes(&mut ahead)?;
+    ahead.end()?;
     let rows = rows(alloc, farewell, sender, reader)?;
     let echoes = echoes(alloc, reader)?;
     reader.end()?;

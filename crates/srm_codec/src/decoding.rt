@@ -1,10 +1,10 @@
 //! Bytes as a datagram.
 
-ghost use Rattle.std.specs.Prelude.{◌≡◌, ◌⊎◌, IfOk, Ok, Err};
+ghost use Rattle.std.specs.Prelude.{◌≡◌, ◌⊎◌, IfOk, IsOk, Ok, Err};
 ghost use Rattle.srm_codec.specs.declared.datagram.Datagram.{Datagram};
 ghost use Rattle.srm_codec.specs.declared.fault.DecodeFault.TheVariants.{Memory};
 ghost use Rattle.srm_codec.specs.Judging.{judge};
-ghost use Rattle.srm_codec.specs.Reading.{IsJudged};
+ghost use Rattle.srm_codec.specs.Reading.{IsJudged, takes_memory};
 ghost use Rattle.srm_codec.specs.Spelling.{Spells};
 
 use crate::contents::contents;
@@ -13,9 +13,9 @@ use crate::fault::DecodeFault;
 use crate::reader::Reader;
 use std::alloc::Global;
 
-/// The datagram that the bytes spell in this session, or their first fault. A fault takes no memory but where rows or
-/// echoes were read before it; [`DecodeFault::Memory`] can stand in place of any answer, and only where memory was
-/// refused.
+/// The datagram that the bytes spell in this session, or their first fault. A fault takes no memory, nor does a request:
+/// [`DecodeFault::Memory`] can stand in place of data, a repair or a session message alone, and only where memory was
+/// refused for its body, its rows or its echoes.
 pub fn decode(alloc: Global, session: u32, bytes: &[u8]) -> Result<Datagram, DecodeFault>
     // What is read is spelled so, with nothing after it.
     ensures spelled { IfOk result (λ datagram. Spells session datagram bytes.now) }
@@ -24,15 +24,16 @@ pub fn decode(alloc: Global, session: u32, bytes: &[u8]) -> Result<Datagram, Dec
     ensures read { (datagram : Datagram) → Spells session datagram bytes.now
         → (result ≡ Ok datagram) ⊎ (result ≡ Err Memory) }
 
-    // Which fault it is.
-    ensures judged { IsJudged result (judge session bytes.now) }
+    // Which fault it is; want of memory stands in place of no fault, and of no request.
+    ensures judged { IsJudged takes_memory result (judge session bytes.now) }
+    ensures memory { result ≡ Err Memory → IsOk (judge session bytes.now) }
 {
     judged(alloc, session, bytes)
 }
 
 #[tactic(auto, unfolding(crate::specs::Judging::judge))]
 fn judged(alloc: Global, session: u32, bytes: &[u8]) -> Result<Datagram, DecodeFault>
-    ensures { IsJudged result (judge session bytes.now) }
+    ensures { IsJudged takes_memory result (judge session bytes.now) }
 {
     let mut reader = Reader::new(bytes);
     reader.magic()?;

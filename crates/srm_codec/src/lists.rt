@@ -2,7 +2,7 @@
 
 ghost use Rattle.std.specs.Prelude.{Some, None, if◌then◌else◌};
 ghost use Rattle.srm_codec.specs.Judging.{name_at, echo_at, items_at, list_at};
-ghost use Rattle.srm_codec.specs.Reading.{IsRead, IsReadUnless};
+ghost use Rattle.srm_codec.specs.Reading.{IsRead, IsReadUnless, IsSkimmed};
 
 use crate::fault::DecodeFault;
 use crate::reader::Reader;
@@ -74,4 +74,50 @@ fn echo(last: Option<Echo>, reader: &mut Reader) -> Result<Echo, DecodeFault>
     let t1 = reader.moment()?;
     let delay = reader.moment()?;
     Ok(Echo { member, t1, delay })
+}
+
+/// Judges rows as [`rows`] does, without memory.
+#[tactic(auto, unfolding(crate::specs::Judging::list_at))]
+pub fn skim_rows(farewell: bool, sender: Member, reader: &mut Reader) -> Result<(), DecodeFault>
+    ensures { IsSkimmed result reader.new (list_at (name_at (if farewell then Some sender else None)) reader.old) }
+{
+    let count = reader.u8()?;
+    skim_counted_rows(count, farewell, sender, reader)
+}
+
+fn skim_counted_rows(
+    count: u8,
+    farewell: bool,
+    sender: Member,
+    reader: &mut Reader,
+) -> Result<(), DecodeFault>
+    ensures { IsSkimmed result reader.new (items_at (name_at (if farewell then Some sender else None)) count None reader.old) }
+{
+    let mut last = None;
+    'rows: for _ in 0..count {
+        let wanted = farewell.then_some(sender);
+        let row = reader.name(wanted, last)?;
+        last = Some(row);
+    }
+    Ok(())
+}
+
+/// Judges echoes as [`echoes`] does, without memory.
+#[tactic(auto, unfolding(crate::specs::Judging::list_at))]
+pub fn skim_echoes(reader: &mut Reader) -> Result<(), DecodeFault>
+    ensures { IsSkimmed result reader.new (list_at echo_at reader.old) }
+{
+    let count = reader.u8()?;
+    skim_counted_echoes(count, reader)
+}
+
+fn skim_counted_echoes(count: u8, reader: &mut Reader) -> Result<(), DecodeFault>
+    ensures { IsSkimmed result reader.new (items_at echo_at count None reader.old) }
+{
+    let mut last = None;
+    'echoes: for _ in 0..count {
+        let echo = echo(last, reader)?;
+        last = Some(echo);
+    }
+    Ok(())
 }

@@ -32,6 +32,13 @@ impl<'a> Reader<'a> {
         Reader { rest: bytes }
     }
 
+    /// Another reader of the bytes that are still to be read.
+    pub fn again(&self) -> Reader<'a>
+        ensures { result ≡ self.now }
+    {
+        Reader { rest: self.rest }
+    }
+
     #[tactic(auto, unfolding(crate::specs::Judging::front_at))]
     fn front<const N: usize>(&mut self) -> Result<[u8; N], DecodeFault>
         ensures { IsRead result self.new (front_at N self.old) }
