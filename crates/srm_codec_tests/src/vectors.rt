@@ -404,6 +404,27 @@ fn the_first_of_several_faults_is_told(rt: HostRuntime) -> Result<(), Fail> {
     faulty(alloc, &rt, &[], &[], Some(DecodeFault::Short))
 }
 
+/// Eight bytes are enough to tell that a datagram is of another session, and seven are too few.
+#[test]
+fn the_smallest_datagram_of_another_session(rt: HostRuntime) -> Result<(), Fail> {
+    let alloc = rt.alloc();
+    let smallest = [0x53, 0x52, 0x01, 0x01, 0, 0, 0, 8];
+    assert_eq!(rt; fault_of(alloc, &smallest), Some(DecodeFault::Session));
+    assert_eq!(rt; fault_of(alloc, &smallest[..7]), Some(DecodeFault::Short));
+    let of_this_one = [0x53, 0x52, 0x01, 0x01, 0, 0, 0, 7];
+    assert_eq!(rt; fault_of(alloc, &of_this_one), Some(DecodeFault::Short));
+    Ok(())
+}
+
+#[test]
+fn many_bytes_that_begin_as_no_datagram_does(rt: HostRuntime) -> Result<(), Fail> {
+    assert_eq!(rt;
+        fault_of(rt.alloc(), &[0xff; 4_096]),
+        Some(DecodeFault::Magic)
+    );
+    Ok(())
+}
+
 #[test]
 fn numbers_end_at_the_limit(rt: HostRuntime) -> Result<(), Fail> {
     let alloc = rt.alloc();
@@ -447,10 +468,17 @@ fn masks_name_no_number_past_the_limit(rt: HostRuntime) -> Result<(), Fail> {
 #[test]
 fn rows_and_echoes_rise(rt: HostRuntime) -> Result<(), Fail> {
     let alloc = rt.alloc();
-    // Two rows, and two echoes, of one stream and one member.
-    let mut rows = EMPTY_SESSION[..21].to_vec(alloc)?;
-    rows.extend_from_slice(&[2, 0, 0, 0, 0, 0, 0, 0, 3, 0, 0, 0, 0, 0, 0, 0, 4, 0])?;
-    assert_eq!(rt; fault_of(alloc, &rows), Some(DecodeFault::Order));
+    // Two rows of one stream, with a greater number and with the same one, and two echoes of one member.
+    for number in [4, 3] {
+        let mut rows = EMPTY_SESSION[..21].to_vec(alloc)?;
+        rows.extend_from_slice(&[2, 0, 0, 0, 0, 0, 0, 0, 3])?;
+        rows.extend_from_slice(&[0, 0, 0, 0, 0, 0, 0, number, 0])?;
+        assert_eq!(rt;
+            fault_of(alloc, &rows),
+            Some(DecodeFault::Order),
+            "{number}"
+        );
+    }
     let mut echoes = EMPTY_SESSION[..22].to_vec(alloc)?;
     echoes.push(2)?;
     echoes.extend_from_slice(&SESSION[31..])?;
@@ -508,9 +536,23 @@ fn echoes_that_do_not_rise_are_not_encodable(rt: HostRuntime) -> Result<(), Fail
 
 #[test]
 fn faults_have_numbers_and_texts(rt: HostRuntime) -> Result<(), Fail> {
-    assert_eq!(rt; DecodeFault::Short as u8, 1);
-    assert_eq!(rt; DecodeFault::Memory as u8, 12);
-    let text = DecodeFault::Order.to_string(rt.alloc())?;
-    assert_eq!(rt; text.as_str(), "rows or echoes out of order");
+    for (fault, number, text) in [
+        (DecodeFault::Short, 1, "a field is cut short"),
+        (DecodeFault::Magic, 2, "the bytes begin as no datagram does"),
+        (DecodeFault::Version, 3, "an unknown version"),
+        (DecodeFault::Kind, 4, "an unknown kind"),
+        (DecodeFault::Session, 5, "another session"),
+        (DecodeFault::Member, 6, "a member past the limit"),
+        (DecodeFault::Number, 7, "a number out of its range"),
+        (DecodeFault::Length, 8, "too many bytes"),
+        (DecodeFault::Order, 9, "rows or echoes out of order"),
+        (DecodeFault::Flags, 10, "an unknown flag"),
+        (DecodeFault::Source, 11, "a source that isn't the sender"),
+        (DecodeFault::Memory, 12, "out of memory"),
+    ] {
+        assert_eq!(rt; fault as u8, number);
+        let said = fault.to_string(rt.alloc())?;
+        assert_eq!(rt; said.as_str(), text);
+    }
     Ok(())
 }
