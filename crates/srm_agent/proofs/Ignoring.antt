@@ -1,12 +1,12 @@
 -- The entries of what is ignored: noise, and datagrams with a cause.
 use Rattle.std.proofs.Common.{◌≡◌, ◌≢◌, ℕ, ◌≤◌, max, Bool, true, false, not, ◌&&◌, inl, inr, List, [], ◌∷◌, refl, ap, sym, ◌∙◌, subst, arith}
-use Rattle.std.specs.Prelude.{Option, Some, None, Result, Ok, Err, IfOk, MatchBool, if◌then◌else◌}
+use Rattle.std.specs.Prelude.{Option, Some, None, Result, Ok, Err, IfOk, IsOk, OnErr, MatchBool, if◌then◌else◌}
 use Rattle.srm_names.specs.Histories.{greatest}
 use Rattle.srm_codec.specs.declared.datagram.Datagram.{Datagram}
 use Rattle.srm_codec.specs.declared.fault.DecodeFault.{DecodeFault}
 use Rattle.srm_codec.specs.declared.fault.DecodeFault.TheVariants as decoding
 use Rattle.srm_codec.specs.Judging.{judge}
-use Rattle.srm_codec.specs.Reading.{IsJudged}
+use Rattle.srm_codec.specs.Reading.{IsJudged, takes_memory}
 use Rattle.srm_entries.specs.declared.cause.Cause.{Cause}
 use Rattle.srm_entries.specs.declared.cause.Cause.TheVariants as causes
 use Rattle.srm_entries.specs.declared.state.AgentState.{AgentState}
@@ -71,12 +71,12 @@ noise_enters draw a b moment fault e here late other new is = subst (λ x. Enter
 pub noise_is : (me moment : ℕ) (s : AgentState) (fault : DecodeFault) (cause : Cause) (e : Entry) → fault ≢ decoding.Memory → cause ≡ causes.Decode fault → e ≡ still_entry me moment Noise (Ignored cause) None s → IsNoiseFor fault e
 noise_is me moment s fault cause e other found is = record { input = ap (λ (x : Entry). x.input) is; verdict = ap (λ (x : Entry). x.verdict) is ∙ ap Ignored found; other = other }
 
-judged_fault : (fault : DecodeFault) (judged : Result Datagram DecodeFault) → fault ≢ decoding.Memory → IsJudged (Err fault) judged → judged ≡ Err fault
+judged_fault : (fault : DecodeFault) (judged : Result Datagram DecodeFault) → fault ≢ decoding.Memory → IsJudged takes_memory (Err fault) judged → judged ≡ Err fault
 judged_fault fault judged other (inl e) = e
-judged_fault fault judged other (inr e) = absurd (other e)
+judged_fault fault judged other (inr e) = absurd (other e.0)
 
 pub noise_reads : {W : Type 0} (a : Content W) (session : ℕ) (bytes : List ℕ) (fault : DecodeFault) (e : Entry) → is_gone a.state ≡ false → session ≡ a.config.session
-    → IsJudged (Err fault) (judge session bytes) → IsNoiseFor fault e → ReadsAs bytes a e
+    → IsJudged takes_memory (Err fault) (judge session bytes) → IsNoiseFor fault e → ReadsAs bytes a e
 noise_reads a session bytes fault e here same judged noise = record {
   each = λ c made past h.
       let j : judge c.session bytes ≡ Err fault = ap (λ (s : Config). judge s.session bytes) (sym h.config) ∙ ap (λ n. judge n bytes) (sym same) ∙ judged_fault fault (judge session bytes) noise.other judged in
@@ -115,6 +115,19 @@ heard_reads draw a b moment session bytes g e here same judged enters by = recor
       ap (λ i. (i, e.verdict)) enters.input_is ∙ ap (λ v. (Heard g, v)) (by.each c made past h)
       ∙ sym (ap (λ (b : Bool). if b then (Noise, Ignored causes.Gone) else read_as c past (judge c.session bytes)) (ap is_gone (sym h.state) ∙ here) ∙ ap (read_as c past) j);
 }
+
+-- what is refused for memory spells a datagram: where it was read, and where memory ran out in reading
+pub refused_as_read : {A B : Type 0} (r : Result A B) (session own : ℕ) (bytes : List ℕ) (g : Datagram) → session ≡ own → judge session bytes ≡ Ok g → OnErr r (IsOk (judge own bytes))
+refused_as_read (Ok x) session own bytes g same read = tt
+refused_as_read (Err y) session own bytes g same read = rw (← same, read) refl
+
+abbrev failed : DecodeFault → Result Datagram DecodeFault
+failed fault = Err fault
+
+pub refused_in_reading : {A B : Type 0} (r : Result A B) (fault : DecodeFault) (session own : ℕ) (bytes : List ℕ) → session ≡ own → (failed fault ≡ failed decoding.Memory → IsOk (judge session bytes))
+    → OnErr r (fault ≡ decoding.Memory) → OnErr r (IsOk (judge own bytes))
+refused_in_reading (Ok x) fault session own bytes same good memory = tt
+refused_in_reading (Err y) fault session own bytes same good memory = rw (← same) (good (ap failed memory))
 
 -- what holds of what is answered, where something is
 pub if_one : {A B : Type 0} {P Q : A → Type 0} (r : Result A B) → IfOk r P → ((x : A) → P x → Q x) → IfOk r Q

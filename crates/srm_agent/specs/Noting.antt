@@ -1,9 +1,10 @@
 -- What a call of an agent says of its entry.
-use Rattle.std.specs.Prelude.{◌≡◌, ◌⊎◌, ℕ, ◌++◌, max, false, List, [], ◌∷◌, map, Option, Some, None, option_map, Result, Ok, Err}
+use Rattle.std.specs.Prelude.{◌≡◌, ◌⊎◌, ℕ, ◌++◌, max, false, List, [], ◌∷◌, map, Option, Some, None, option_map, Result, Ok, Err, IsOk}
 use Rattle.std.specs.List.{AllByRecursion}
 use Rattle.srm_names.specs.declared.drawop.Drawop.{Drawop}
 use Rattle.srm_names.specs.FullName.{FullName}
 use Rattle.srm_names.specs.declared.page_msg.PageMsg.{PageMsg}
+use Rattle.srm_codec.specs.Judging.{judge}
 use Rattle.srm_timers.specs.Arms.{AreDrawn}
 use Rattle.srm_entries.specs.declared.cause.Outcome.{Outcome}
 use Rattle.srm_entries.specs.declared.cause.Outcome.TheVariants.{Taken}
@@ -89,10 +90,11 @@ abbrev pub AnswersHeard : Entry → Result Heard AgentFault → Type 0
 AnswersHeard e (Ok heard) = (heard.arms ≡ e.effects.arms) × IsOutcome e.verdict heard.outcome
 AnswersHeard e (Err fault) = ⊥
 
--- hearing bytes had an entry, and answered as it says; or memory ran out for a member that isn't gone
+-- Hearing bytes had an entry, and answered as it says; or memory ran out, for a member that isn't gone and bytes that spell a datagram of
+-- its session.
 abbrev pub Hears : {W : Type 0} → (W → ℕ × W) → ℕ → List ℕ → Content W → Content W → Result Heard AgentFault → Type 0
 Hears draw now bytes old new answer =
-    ((e : Entry) × Enters draw (Some now) e.input old new e × ReadsAs bytes old e × AnswersHeard e answer) ⊎ ((answer ≡ Err Memory) × (is_gone old.state ≡ false) × Stays old new)
+    ((e : Entry) × Enters draw (Some now) e.input old new e × ReadsAs bytes old e × AnswersHeard e answer) ⊎ ((answer ≡ Err Memory) × (is_gone old.state ≡ false) × IsOk (judge old.config.session bytes) × Stays old new)
 
 -- what a tick answers is what its entry says, and the bytes of each out spell its datagram in the session
 pub record IsTicked (session : ℕ) (e : Entry) (ticked : Ticked) : Type 0 where

@@ -1,8 +1,9 @@
 //! Hearing what others sent.
 
-ghost use Rattle.std.specs.Prelude.{◌≡◌, ◌≢◌, ◌≤◌, [], Some, None, Ok, IfOk, OnOk, OnErr, false};
+ghost use Rattle.std.specs.Prelude.{◌≡◌, ◌≢◌, ◌≤◌, [], Some, None, Ok, IfOk, IsOk, OnOk, OnErr, false};
 ghost use Rattle.srm_names.specs.declared.limits.TheConstants.{MOMENT};
 ghost use Rattle.srm_codec.specs.declared.fault.DecodeFault.TheVariants.{Memory};
+ghost use Rattle.srm_codec.specs.Judging.{judge};
 ghost use Rattle.srm_codec.specs.Spelling.{IsSpellable, names_in};
 ghost use Rattle.srm_entries.specs.Entries.{is_gone};
 ghost use Rattle.srm_agent_parts.specs.PageTables.{lacks_room_for};
@@ -27,7 +28,7 @@ impl<W: Words + Drop> Agent<W> {
     /// The causes, in the order in which they count: [`Cause::Gone`], [`Cause::Decode`], [`Cause::Own`], [`Cause::Stranger`],
     /// [`Cause::PageLimit`], [`Cause::BeyondFinal`], [`Cause::Conflict`].
     ///
-    /// Refused is [`AgentFault::Memory`] alone.
+    /// Refused is [`AgentFault::Memory`] alone, and only for bytes that spell a datagram of the session: noise takes no memory.
     pub fn hear_noted(&mut self, bytes: &[u8], now: u64) -> Result<Noted<Heard>, AllocError>
         requires { now ≤ MOMENT }
         ensures ok { IfOk result (λ noted. Enters W.draw (Some now) noted.entry.input self.old self.new noted.entry) }
@@ -35,6 +36,7 @@ impl<W: Words + Drop> Agent<W> {
         ensures answer { IfOk result (λ noted. AnswersHeard noted.entry noted.answer) }
         ensures err { OnErr result (Stays self.old self.new) }
         ensures here { OnErr result (is_gone self.old.state ≡ false) }
+        ensures spelled { OnErr result (IsOk (judge self.old.config.session bytes.now)) }
     {
         let moment = self.moment(now);
         if self.is_gone() {
@@ -64,6 +66,7 @@ impl<W: Words + Drop> Agent<W> {
         ensures noise { IfOk result (λ noted. IsNoiseFor fault noted.entry) }
         ensures answer { IfOk result (λ noted. AnswersHeard noted.entry noted.answer) }
         ensures err { OnErr result (Stays self.old self.new) }
+        ensures memory { OnErr result (fault ≡ Memory) }
     {
         let cause = noise_cause(fault)?;
         Ok(self.ignore(moment, Input::Noise, cause))

@@ -1,5 +1,5 @@
 use Rattle.std.proofs.Common.{sym, ◌∙◌}
-use Rattle.srm_agent.proofs.Ignoring.{gone_enters, noise_reads, heard_reads, read_enters, if_one, if_two}
+use Rattle.srm_agent.proofs.Ignoring.{gone_enters, noise_reads, refused_as_read, refused_in_reading, heard_reads, read_enters, if_one, if_two}
 use Rattle.srm_entries.specs.declared.entry.Input.TheVariants.{Heard, Noise}
 use Rattle.srm_agent.proofs.agent.Agent.hear_noted.Goals as goal
 
@@ -20,3 +20,9 @@ returns-in-Err-clause-ok g c = if_one c.hear_noise.result c.hear_noise.ensures.o
 pub returns-in-Err-clause-reading : goal.returns-in-Err-clause-reading
 returns-in-Err-clause-reading g c = if_one c.hear_noise.result c.hear_noise.ensures.noise
     (λ noted noise. noise_reads _ c.session.result c.args.bytes.now c.in-Err.fault noted.entry (sym c.is_gone.ensures ∙ c.if-is_gone.false) (rw (← c.self.view_is) c.session.ensures) c.in-Err.ensures.judged noise)
+
+pub returns-in-Ok-clause-spelled : goal.returns-in-Ok-clause-spelled
+returns-in-Ok-clause-spelled g c = refused_as_read c.hear_datagram.result c.session.result _ c.args.bytes.now c.in-Ok.datagram (rw (← c.self.view_is) c.session.ensures) c.in-Ok.ensures.judged
+
+pub returns-in-Err-clause-spelled : goal.returns-in-Err-clause-spelled
+returns-in-Err-clause-spelled g c = refused_in_reading c.hear_noise.result c.in-Err.fault c.session.result _ c.args.bytes.now (rw (← c.self.view_is) c.session.ensures) c.in-Err.ensures.memory c.hear_noise.ensures.memory
