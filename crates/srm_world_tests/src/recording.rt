@@ -31,7 +31,7 @@ enum Call {
 }
 
 /// Each call once, and a leaving that is refused: the moment that counts, and how the call was taken.
-const WORKED: [(Call, u64, Verdict); 9] = [
+const WORKED: [(Call, u64, Verdict); 10] = [
     (Call::Draw(5), 5, Verdict::Done),
     (Call::Show(6), 6, Verdict::Done),
     (Call::Hear(7), 7, Verdict::Done),
@@ -45,6 +45,7 @@ const WORKED: [(Call, u64, Verdict); 9] = [
     (Call::Leave(10), 10, Verdict::Done),
     (Call::Leave(11), 11, Verdict::Refused(AgentFault::Leaving)),
     (Call::Tick(12), 12, Verdict::Done),
+    (Call::Hear(13), 13, Verdict::Ignored(Cause::Gone)),
 ];
 
 fn page(rt: &impl Abort, creator: u8, number: u16) -> Page {
@@ -105,7 +106,7 @@ fn check_entry(rt: &impl Abort, entry: &Entry, moment: u64, verdict: Verdict) {
 }
 
 fn check_journal(rt: &impl Abort, journal: &Journal) {
-    assert_eq!(rt; (journal.start().made, journal.entries().len()), (0, 9));
+    assert_eq!(rt; (journal.start().made, journal.entries().len()), (0, 10));
     for (entry, (_, moment, verdict)) in journal.entries().iter().zip(WORKED) {
         check_entry(rt, entry, moment, verdict);
     }
