@@ -18,7 +18,6 @@ use Rattle.srm_agent.proofs.Fitting.{fits_run}
 use Rattle.srm_world.specs.Traces.{Journal}
 use Rattle.srm_world.specs.Claims.{IsLawfulJournal}
 use Rattle.srm_world.specs.Recording.{Records, RecordsHeard, with_entry}
-use Rattle.srm_world.proofs.NotForMemory.{entered}
 use Rattle.srm_world.proofs.Lawful.{lawful_journal}
 
 abbrev AgentFits : {W : Type 0} → Journal → Content W → Type 0
@@ -30,7 +29,7 @@ of_session j a e answer fits answers = subst (λ (s : Config). AnswersAs (IsTick
 
 pub records : {W A : Type 0} (draw : W → ℕ × W) (now : Option ℕ) (input : Input) (is : Entry → A → Type 0) (j new : Journal) (a b : Content W) (e : Entry) (answer : Result A AgentFault) → AgentFits j a → Enters draw now input a b e
     → AnswersAs (is e) e.verdict answer → new ≡ with_entry j e → Records now input is j new answer
-records draw now input is j new a b e answer fits enters answers grown = inl (e, record { moment = enters.moment_is ∙ ap (moment_that_counts now) fits.last; grown = grown; not_for_memory = entered draw now input j a b e fits enters }, enters.input_is, answers)
+records draw now input is j new a b e answer fits enters answers grown = inl (e, record { moment = enters.moment_is ∙ ap (moment_that_counts now) fits.last; grown = grown }, enters.input_is, answers)
 
 pub records_drawn : {W : Type 0} (draw : W → ℕ × W) (now : ℕ) (page : Page) (body : List ℕ) (j new : Journal) (a b : Content W) (e : Entry) (answer : Result FullName AgentFault) → AgentFits j a → Enters draw (Some now) (Drew page body) a b e
     → AnswersAs (IsDrawnName e) e.verdict answer → new ≡ with_entry j e → Records (Some now) (Drew page body) IsDrawnName j new answer
@@ -43,7 +42,7 @@ records_ticked draw now j new a b e answer fits enters answers grown = records d
 pub records_heard : {W : Type 0} (draw : W → ℕ × W) (now : ℕ) (bytes : List ℕ) (j new : Journal) (a b : Content W) (e : Entry) (answer : Result Heard AgentFault) → AgentFits j a → Enters draw (Some now) e.input a b e → ReadsAs bytes a e
     → AnswersHeard e answer → new ≡ with_entry j e → RecordsHeard now bytes j new answer
 records_heard draw now bytes j new a b e answer fits enters reads answers grown =
-    inl (e, record { moment = enters.moment_is ∙ ap (moment_that_counts (Some now)) fits.last; grown = grown; not_for_memory = entered draw (Some now) e.input j a b e fits enters }, reads.each j.start.config j.start.made j.entries fits, answers)
+    inl (e, record { moment = enters.moment_is ∙ ap (moment_that_counts (Some now)) fits.last; grown = grown }, reads.each j.start.config j.start.made j.entries fits, answers)
 
 -- the agent fits the entries with one more
 pub still_fits : {W : Type 0} (draw : W → ℕ × W) (now : Option ℕ) (input : Input) (j : Journal) (a b : Content W) (e : Entry) (es : List Entry) → AgentFits j a → Enters draw now input a b e → es ≡ j.entries ++ e ∷ [] → Fits j.start.config j.start.made es b

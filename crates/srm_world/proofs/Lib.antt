@@ -13,4 +13,3 @@ pub mod Silent
 pub mod Stepping
 pub mod Beginning
 pub mod Journaling
-pub mod NotForMemory

@@ -1,11 +1,10 @@
 -- What the calls of a recorder do to its journal.
-use Rattle.std.specs.Prelude.{◌≡◌, ◌≢◌, ◌⊎◌, ℕ, List, [], ◌∷◌, ◌++◌, Option, Some, Result, Err}
+use Rattle.std.specs.Prelude.{◌≡◌, ◌⊎◌, ℕ, List, [], ◌∷◌, ◌++◌, Option, Some, Result, Err}
 use Rattle.srm_entries.specs.declared.fault.AgentFault.{AgentFault}
 use Rattle.srm_entries.specs.declared.fault.AgentFault.TheVariants.{Memory}
 use Rattle.srm_agent.specs.declared.heard.Heard.{Heard}
 use Rattle.srm_entries.specs.declared.entry.Entry.{Entry}
 use Rattle.srm_entries.specs.declared.entry.Input.{Input}
-use Rattle.srm_entries.specs.declared.entry.Verdict.TheVariants.{Refused}
 use Rattle.srm_entries.specs.Entries.{last_moment}
 use Rattle.srm_entries.specs.Hearing.{bytes_heard}
 use Rattle.srm_agent.specs.Noting.{AnswersAs, AnswersHeard, moment_that_counts}
@@ -15,11 +14,10 @@ use Rattle.srm_world.specs.Traces.{Journal}
 abbrev pub with_entry : Journal → Entry → Journal
 with_entry j e = record { start = j.start; entries = j.entries ++ e ∷ [] }
 
--- the journal has one more entry, at the moment that counts; a call that is refused for memory has none
+-- the journal has one more entry, at the moment that counts
 pub record Grows (now : Option ℕ) (old new : Journal) (e : Entry) : Type 0 where
   pub moment : e.moment ≡ moment_that_counts now (last_moment old.start.made old.entries)
   pub grown : new ≡ with_entry old e
-  pub not_for_memory : e.verdict ≢ Refused Memory
 
 -- The journal has one more entry, which is of this input, and the call answered as the entry says; or memory ran out, and the
 -- journal is the same.

@@ -44,7 +44,7 @@ journal es = record { start = start; entries = es }
 
 -- a call before the last moment is at the last moment
 grows : Grows (Some 2) (journal (shows ∷ [])) (journal (shows ∷ leaves ∷ [])) leaves
-grows = record { moment = refl; grown = refl; not_for_memory = λ h. absurd (cc) }
+grows = record { moment = refl; grown = refl }
 
 recorded : Records {A = Unit {0}} (Some 2) AskedLeave (λ _ _. Unit {0}) (journal (shows ∷ [])) (journal (shows ∷ leaves ∷ [])) (Ok tt)
 recorded = inl (leaves, grows, refl, tt)
