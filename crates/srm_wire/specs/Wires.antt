@@ -1,0 +1,68 @@
+-- What a wire may tell, and what its calls do to the count of its failures.
+use Rattle.std.specs.Prelude.{◌≡◌, ℕ, ◌+◌, min, ◌-◌, ◌^◌, ◌<◌, ◌≤◌, ◌==◌, ◌⊎◌, Bool, not, List, [], ◌∷◌, ◌++◌, map, filter, take, Option, Some, None, option_map, Result, Ok, Err}
+use Rattle.std.specs.Bool.{OnTrue, OnFalse}
+use Rattle.std.specs.List.{flat_map}
+use Rattle.srm_names.specs.Histories.{count_up}
+use Rattle.srm_wire.specs.declared.sent.Sent.{Sent}
+
+-- what a wire tells: what its `receive` answered, None too, and what its `send` took
+pub record Told : Type 0 where
+  pub came : List (Option (List ℕ))
+  pub went : List Sent
+
+-- what was told, and then so much more
+abbrev pub told_more : List (Option (List ℕ)) → List Sent → Told → Told
+told_more came went t = record { came = t.came ++ came; went = t.went ++ went }
+
+-- A wire that tells has told so much more. One that doesn't tell goes on telling nothing.
+pub record TellsMore (came : List (Option (List ℕ))) (went : List Sent) (old new : Option Told) : Type 0 where
+  pub told : new ≡ option_map (told_more came went) old
+
+-- what receive answered with this buffer; an Err isn't told
+abbrev pub answered : {E : Type 0} → List ℕ → Result (Option ℕ) E → List (Option (List ℕ))
+answered buffer (Ok (Some count)) = Some (take count buffer) ∷ []
+answered buffer (Ok None) = None ∷ []
+answered buffer (Err _) = []
+
+-- what send took; an Err isn't told
+abbrev pub took : {T E : Type 0} → ℕ → List ℕ → Result T E → List Sent
+took to bytes (Ok _) = record { to = to; bytes = bytes } ∷ []
+took to bytes (Err _) = []
+
+-- the count rose, or stands at the greatest there is
+abbrev pub RoseOrFull : ℕ → ℕ → Type 0
+RoseOrFull old new = (old < new) ⊎ (2 ^ 64 - 1 ≤ new)
+
+-- nothing lowers the count; it rose, or stands at the greatest, where a call failed
+abbrev pub CountsIf : Bool → ℕ → ℕ → Type 0
+CountsIf failed old new = (old ≤ new) × OnTrue failed (RoseOrFull old new)
+
+-- nothing lowers the count, and an Err raises it up to the greatest
+abbrev pub CountsFailure : {T E : Type 0} → Result T E → ℕ → ℕ → Type 0
+CountsFailure (Ok _) old new = old ≤ new
+CountsFailure (Err _) old new = (old ≤ new) × RoseOrFull old new
+
+-- these members but one
+abbrev pub but : ℕ → List ℕ → List ℕ
+but me members = filter (λ m. not (m == me)) members
+
+-- the members of a roster but one, rising
+abbrev pub others : ℕ → ℕ → List ℕ
+others me members = but me (count_up 0 members)
+
+-- the same bytes to each of these
+abbrev pub sends_to : List ℕ → List ℕ → List Sent
+sends_to members bytes = map (λ to. record { to = to; bytes = bytes }) members
+
+-- each of these datagrams in order, each to every other member, rising
+abbrev pub dispatched : ℕ → ℕ → List (List ℕ) → List Sent
+dispatched me members datagrams = flat_map (sends_to (others me members)) datagrams
+
+-- These were sent in order, and failures were counted. If a send failed, some of them may be lost.
+pub record Sends (failed : Bool) (went : List Sent) (count counted : ℕ) (old new : Option Told) : Type 0 where
+  pub failures : CountsIf failed count counted
+  pub tells : OnFalse failed (TellsMore [] went old new)
+
+-- the failures of a wire and some more, up to the greatest there is
+abbrev pub counted_with : ℕ → ℕ → ℕ
+counted_with below own = min (below + own) (2 ^ 64 - 1)

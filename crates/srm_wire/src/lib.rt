@@ -1,0 +1,17 @@
+//! Wires: what carries datagrams between the members of a session.
+//!
+//! A node stands on the trait [`Wire`]. Here are also a network in memory ([`hub`] of [`MemWire`]s) and a wire that fails once ([`Flaky`]),
+//! both for tests; they tell what they answered and took.
+#![tactic(auto)]
+
+mod flaky;
+mod network;
+mod sending;
+mod sent;
+mod wire;
+
+pub use flaky::Flaky;
+pub use network::{Fate, MemWire, hub};
+pub use sending::send_to_others;
+pub use sent::Sent;
+pub use wire::{Wire, WireFault};

@@ -1,0 +1,42 @@
+//! What carries datagrams between members.
+
+ghost use Rattle.std.specs.Prelude.{◌≡◌, ◌≤◌, ℕ, [], length, Option, IfOk, IfSome};
+ghost use Rattle.srm_wire.specs.Wires.{Told, TellsMore, CountsFailure, answered, took};
+
+use srm_names::Member;
+use thiserror::Error;
+
+/// A call of a wire failed; the wire counts it.
+#[derive(Clone, Copy, Debug, PartialEq, Eq, Error)]
+#[error("the wire failed")]
+pub struct WireFault;
+
+/// What carries datagrams between members. Each failure of `send` or `receive` raises its count, up to the greatest u64, and nothing
+/// lowers it.
+///
+/// A wire may tell: contracts then see what `receive` answered and what `send` took. One that doesn't has `told` at None for ever.
+pub trait Wire {
+    ghost failed: { Self → ℕ };
+
+    ghost told: { Self → Option Told };
+
+    /// Sends bytes to a member.
+    fn send(&mut self, to: Member, datagram: &[u8]) -> Result<(), WireFault>
+        ensures failures { CountsFailure result (failed self.old) (failed self.new) }
+        ensures tells { TellsMore [] (took to datagram.now result) (told self.old) (told self.new) };
+
+    /// Receives a datagram into the buffer, of which it fills so many bytes. None where none is there.
+    fn receive(&mut self, buffer: &mut [u8]) -> Result<Option<usize>, WireFault>
+        ensures within { IfOk result (λ some. IfSome some (λ count. count ≤ length buffer.new)) }
+        ensures failures { CountsFailure result (failed self.old) (failed self.new) }
+        ensures tells { TellsMore (answered buffer.new result) [] (told self.old) (told self.new) };
+
+    /// Waits until a datagram may be there, or so many microseconds went by.
+    fn pause(&mut self, micros: u64)
+        ensures failures { failed self.old ≤ failed self.new }
+        ensures tells { told self.new ≡ told self.old };
+
+    /// How many calls failed, up to the greatest u64.
+    fn failures(&self) -> u64
+        ensures { result ≡ failed self.now };
+}
