@@ -4,14 +4,16 @@
 //! both for tests; they tell what they answered and took.
 #![tactic(auto)]
 
+mod fates;
 mod flaky;
 mod network;
 mod sending;
 mod sent;
 mod wire;
 
+pub use fates::{Fate, Fates, LateCopy};
 pub use flaky::Flaky;
-pub use network::{Fate, MemWire, hub};
+pub use network::{MemWire, hub};
 pub use sending::send_to_others;
 pub use sent::Sent;
 pub use wire::{Wire, WireFault};

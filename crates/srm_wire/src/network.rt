@@ -3,30 +3,13 @@
 ghost use Rattle.std.specs.Prelude.{◌≡◌, ◌≤◌, [], length, take, IfOk, Some};
 ghost use Rattle.srm_wire.specs.Wires.{RoseOrFull};
 
+use crate::fates::{Fate, Fates, copy_of};
 use crate::sent::Sent;
 use crate::wire::{Wire, WireFault};
 use srm_names::{Items, Member};
 use std::alloc::{AllocError, Global};
 use std::collections::VecDeque;
 use std::sync::{Arc, Mutex, Wait};
-
-/// What becomes of a copy that a member sends.
-#[derive(Clone, Copy, Debug, PartialEq, Eq)]
-pub enum Fate {
-    Pass,
-    Drop,
-    Twice,
-    /// It comes behind the next copies of its sender, so many. Where fewer follow it is lost.
-    Late(u32),
-}
-
-/// A copy that comes behind so many others.
-#[derive(Drop)]
-struct Waiting {
-    behind: u32,
-    to: usize,
-    bytes: Vec<u8>,
-}
 
 type Inbox = Arc<Mutex<VecDeque<Vec<u8>>>, Global>;
 
@@ -37,8 +20,7 @@ pub struct MemWire<R: Wait + Drop> {
     alloc: Global,
     me: usize,
     inboxes: Vec<Inbox>,
-    fates: VecDeque<Fate>,
-    waiting: VecDeque<Waiting>,
+    fates: Fates,
     failures: u64,
     came: Vec<Option<Items<u8>>>,
     went: Vec<Sent>,
@@ -50,23 +32,16 @@ impl<R: Wait + Drop> Wire for MemWire<R> {
     ghost told = { λ w. Some (record { came = w.came.items; went = w.went.items }) };
 
     fn send(&mut self, to: Member, datagram: &[u8]) -> Result<(), WireFault> {
-        let fate = self.fates.pop_front().unwrap_or(Fate::Pass);
         let Ok(sent) = copy_of(self.alloc, to, datagram) else {
             return Err(fail(&mut self.failures));
         };
         if self.went.reserve(1).is_err() {
             return Err(fail(&mut self.failures));
         }
-        let delivered = deliver(
-            &self.rt,
-            self.alloc,
-            self.inboxes.as_slice(),
-            &mut self.waiting,
-            fate,
-            to.index(),
-            datagram,
-        );
-        if delivered.is_err() {
+        let Ok(come) = self.fates.forward(self.alloc, to, datagram) else {
+            return Err(fail(&mut self.failures));
+        };
+        if put_all(&self.rt, self.inboxes.as_slice(), come).is_err() {
             return Err(fail(&mut self.failures));
         }
         let _ = self.went.push(sent);
@@ -105,15 +80,6 @@ fn fail(failures: &mut u64) -> WireFault
     WireFault
 }
 
-fn copy_of(alloc: Global, to: Member, bytes: &[u8]) -> Result<Sent, AllocError>
-    ensures { IfOk result (λ sent. sent ≡ record { to = to; bytes = bytes.now }) }
-{
-    Ok(Sent {
-        to,
-        bytes: Items::new(bytes.to_vec(alloc)?),
-    })
-}
-
 // Fills the buffer from its front. How many bytes, and which.
 fn fill(buffer: &mut [u8], bytes: Vec<u8>) -> (usize, Vec<u8>)
     ensures within { result.0 ≤ length buffer.new }
@@ -130,63 +96,12 @@ fn next_in<R: Wait>(rt: &R, inboxes: &[Inbox], me: usize) -> Option<Vec<u8>> {
     inboxes.get(me)?.lock(rt).pop_front()
 }
 
-// Puts bytes into the inbox of a member, if there is one.
-fn put<R: Wait>(rt: &R, inboxes: &[Inbox], to: usize, bytes: Vec<u8>) -> Result<(), AllocError> {
-    if let Some(inbox) = inboxes.get(to) {
-        inbox.lock(rt).push_back(bytes)?;
-    }
-    Ok(())
-}
-
-// What its fate makes of a copy, and then of those that wait behind it.
-fn deliver<R: Wait>(
-    rt: &R,
-    alloc: Global,
-    inboxes: &[Inbox],
-    waiting: &mut VecDeque<Waiting>,
-    fate: Fate,
-    to: usize,
-    datagram: &[u8],
-) -> Result<(), AllocError> {
-    let bytes = datagram.to_vec(alloc)?;
-    match fate {
-        Fate::Drop => release(rt, inboxes, waiting),
-        Fate::Late(behind) if behind > 0 => {
-            release(rt, inboxes, waiting)?;
-            waiting.push_back(Waiting { behind, to, bytes })?;
-            Ok(())
-        }
-        Fate::Twice => {
-            put(rt, inboxes, to, datagram.to_vec(alloc)?)?;
-            put(rt, inboxes, to, bytes)?;
-            release(rt, inboxes, waiting)
-        }
-        _ => {
-            put(rt, inboxes, to, bytes)?;
-            release(rt, inboxes, waiting)
-        }
-    }
-}
-
-// One more copy went: those that are behind no more are delivered.
-fn release<R: Wait>(
-    rt: &R,
-    inboxes: &[Inbox],
-    waiting: &mut VecDeque<Waiting>,
-) -> Result<(), AllocError> {
-    for _ in 0..waiting.len() {
-        let Some(next) = waiting.pop_front() else {
-            break;
-        };
-        let Waiting { behind, to, bytes } = next;
-        if behind <= 1 {
-            put(rt, inboxes, to, bytes)?;
-        } else {
-            waiting.push_back(Waiting {
-                behind: behind - 1,
-                to,
-                bytes,
-            })?;
+// Puts copies into the inboxes of those they go to, in order; one to a member that isn't there is lost.
+fn put_all<R: Wait>(rt: &R, inboxes: &[Inbox], copies: Vec<Sent>) -> Result<(), AllocError> {
+    for copy in copies {
+        let Sent { to, bytes } = copy;
+        if let Some(inbox) = inboxes.get(to.index()) {
+            inbox.lock(rt).push_back(bytes.into_vec())?;
         }
     }
     Ok(())
@@ -236,8 +151,7 @@ fn new_wire<R: Wait + Drop>(
         alloc,
         me: usize::from(me),
         inboxes,
-        fates: fates.unwrap_or(VecDeque::new(alloc)),
-        waiting: VecDeque::new(alloc),
+        fates: Fates::new(alloc, fates.unwrap_or(VecDeque::new(alloc))),
         failures: 0,
         came: Vec::new(alloc),
         went: Vec::new(alloc),
