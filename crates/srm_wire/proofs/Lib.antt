@@ -1,2 +1,3 @@
 pub mod Arriving
 pub mod Telling
+pub mod Wiring

@@ -6,6 +6,7 @@
 
 mod fates;
 mod flaky;
+mod mem_wire;
 mod network;
 mod sending;
 mod sent;
@@ -13,7 +14,8 @@ mod wire;
 
 pub use fates::{Fate, Fates, LateCopy};
 pub use flaky::Flaky;
-pub use network::{MemWire, hub};
+pub use mem_wire::MemWire;
+pub use network::hub;
 pub use sending::send_to_others;
 pub use sent::Sent;
 pub use wire::{Wire, WireFault};

@@ -1,126 +1,30 @@
-//! A network in memory.
+//! The wires of a network in memory.
 
-ghost use Rattle.std.specs.Prelude.{◌≡◌, ◌≤◌, [], length, take, IfOk, Some};
-ghost use Rattle.srm_wire.specs.Wires.{RoseOrFull};
+ghost use Rattle.std.specs.Prelude.{◌≡◌, map, IfOk};
+ghost use Rattle.srm_wire.specs.Networks.{AreNewWires, NextWire, new_wire_of};
 
-use crate::fates::{Fate, Fates, copy_of};
-use crate::sent::Sent;
-use crate::wire::{Wire, WireFault};
-use srm_names::{Items, Member};
+use crate::fates::Fate;
+use crate::mem_wire::{Inbox, MemWire};
 use std::alloc::{AllocError, Global};
 use std::collections::VecDeque;
 use std::sync::{Arc, Mutex, Wait};
 
-type Inbox = Arc<Mutex<VecDeque<Vec<u8>>>, Global>;
-
-/// A member's wire in a network in memory. It tells what it answered and took; a growth that is refused is a failure.
-#[derive(Drop)]
-pub struct MemWire<R: Wait + Drop> {
-    rt: R,
-    alloc: Global,
-    me: usize,
-    inboxes: Vec<Inbox>,
-    fates: Fates,
-    failures: u64,
-    came: Vec<Option<Items<u8>>>,
-    went: Vec<Sent>,
-}
-
-impl<R: Wait + Drop> Wire for MemWire<R> {
-    ghost failed = { λ w. w.failures };
-
-    ghost told = { λ w. Some (record { came = w.came.items; went = w.went.items }) };
-
-    fn send(&mut self, to: Member, datagram: &[u8]) -> Result<(), WireFault> {
-        let Ok(sent) = copy_of(self.alloc, to, datagram) else {
-            return Err(fail(&mut self.failures));
-        };
-        if self.went.reserve(1).is_err() {
-            return Err(fail(&mut self.failures));
-        }
-        let Ok(come) = self.fates.forward(self.alloc, to, datagram) else {
-            return Err(fail(&mut self.failures));
-        };
-        if put_all(&self.rt, self.inboxes.as_slice(), come).is_err() {
-            return Err(fail(&mut self.failures));
-        }
-        let _ = self.went.push(sent);
-        Ok(())
-    }
-
-    fn receive(&mut self, buffer: &mut [u8]) -> Result<Option<usize>, WireFault> {
-        if self.came.reserve(1).is_err() {
-            return Err(fail(&mut self.failures));
-        }
-        let front = next_in(&self.rt, self.inboxes.as_slice(), self.me);
-        let Some(bytes) = front else {
-            let _ = self.came.push(None);
-            return Ok(None);
-        };
-        let (count, told) = fill(buffer, bytes);
-        let _ = self.came.push(Some(Items::new(told)));
-        Ok(Some(count))
-    }
-
-    /// Nothing is waited for.
-    fn pause(&mut self, _micros: u64) {}
-
-    fn failures(&self) -> u64 {
-        self.failures
-    }
-}
-
-// Counts a failure.
-fn fail(failures: &mut u64) -> WireFault
-    ensures { (failures.old ≤ failures.new) × RoseOrFull failures.old failures.new }
-{
-    if *failures < u64::MAX {
-        *failures += 1;
-    }
-    WireFault
-}
-
-// Fills the buffer from its front. How many bytes, and which.
-fn fill(buffer: &mut [u8], bytes: Vec<u8>) -> (usize, Vec<u8>)
-    ensures within { result.0 ≤ length buffer.new }
-    ensures same { result.1.items ≡ take result.0 buffer.new }
-{
-    let mut bytes = bytes;
-    bytes.truncate(buffer.len());
-    let count = bytes.len();
-    buffer[..count].copy_from_slice(bytes.as_slice());
-    (count, bytes)
-}
-
-fn next_in<R: Wait>(rt: &R, inboxes: &[Inbox], me: usize) -> Option<Vec<u8>> {
-    inboxes.get(me)?.lock(rt).pop_front()
-}
-
-// Puts copies into the inboxes of those they go to, in order; one to a member that isn't there is lost.
-fn put_all<R: Wait>(rt: &R, inboxes: &[Inbox], copies: Vec<Sent>) -> Result<(), AllocError> {
-    for copy in copies {
-        let Sent { to, bytes } = copy;
-        if let Some(inbox) = inboxes.get(to.index()) {
-            inbox.lock(rt).push_back(bytes.into_vec())?;
-        }
-    }
-    Ok(())
-}
-
-/// The wires of so many members in one network in memory. The k-th copy that a member sends has the k-th fate of its list, and passes
-/// where there is none.
+#[tactic(auto, using(crate::proofs::Wiring::wiring_none, crate::proofs::Wiring::wiring_more))]
+/// The wires of so many members in one network in memory, by number. The k-th copy that a member sends has the k-th fate of its list, and
+/// passes where there is none. Only want of memory refuses it.
 pub fn hub<R: Wait + Copy + Drop>(
     rt: R,
     alloc: Global,
     members: u8,
-    fates: Vec<VecDeque<Fate>>,
-) -> Result<Vec<MemWire<R>>, AllocError> {
+    fates: Vec<Vec<Fate>>,
+) -> Result<Vec<MemWire<R>>, AllocError>
+    ensures { IfOk result (λ wires. AreNewWires members (map (λ own. own.items) fates.items) wires.items) }
+{
     let mut fates = VecDeque::from(fates);
     let inboxes = new_inboxes(alloc, members)?;
     let mut wires = Vec::new(alloc);
     for me in 0..members {
-        let own = fates.pop_front();
-        wires.push(new_wire(rt, alloc, me, inboxes.as_slice(), own)?)?;
+        wires.push(next_wire(rt, alloc, me, inboxes.as_slice(), &mut fates)?)?;
     }
     Ok(wires)
 }
@@ -133,27 +37,34 @@ fn new_inboxes(alloc: Global, members: u8) -> Result<Vec<Inbox>, AllocError> {
     Ok(inboxes)
 }
 
+// The wire of a member, whose copies have the first fates of those left, or pass.
+fn next_wire<R: Wait + Drop>(
+    rt: R,
+    alloc: Global,
+    me: u8,
+    inboxes: &[Inbox],
+    fates: &mut VecDeque<Vec<Fate>>,
+) -> Result<MemWire<R>, AllocError>
+    ensures { IfOk result (λ wire. NextWire me (map (λ own. own.items) fates.old.items) (map (λ own. own.items) fates.new.items) wire) }
+{
+    match fates.pop_front() {
+        Some(own) => new_wire(rt, alloc, me, inboxes, own),
+        None => new_wire(rt, alloc, me, inboxes, Vec::new(alloc)),
+    }
+}
+
 fn new_wire<R: Wait + Drop>(
     rt: R,
     alloc: Global,
     me: u8,
     all: &[Inbox],
-    fates: Option<VecDeque<Fate>>,
+    fates: Vec<Fate>,
 ) -> Result<MemWire<R>, AllocError>
-    ensures { IfOk result (λ w. (w.failures ≡ 0) × (w.came.items ≡ []) × (w.went.items ≡ [])) }
+    ensures { IfOk result (λ wire. wire ≡ new_wire_of me fates.items) }
 {
     let mut inboxes = Vec::new(alloc);
     for inbox in all {
         inboxes.push(Arc::try_clone(inbox)?)?;
     }
-    Ok(MemWire {
-        rt,
-        alloc,
-        me: usize::from(me),
-        inboxes,
-        fates: Fates::new(alloc, fates.unwrap_or(VecDeque::new(alloc))),
-        failures: 0,
-        came: Vec::new(alloc),
-        went: Vec::new(alloc),
-    })
+    Ok(MemWire::new(rt, alloc, me, inboxes, fates))
 }
