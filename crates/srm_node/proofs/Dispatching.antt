@@ -1,0 +1,24 @@
+-- Sending one datagram after another.
+use Rattle.std.proofs.Common.{◌≡◌, ℕ, ◌+◌, ◌<◌, ◌||◌, Bool, List, [], ◌∷◌, ◌++◌, length, get_or, take, ap, sym, ◌∙◌, subst}
+use Rattle.std.specs.Prelude.{Option, map}
+use Rattle.std.proofs.lemmas.List.{append-nil, map-append, take_more}
+use Rattle.std.proofs.lemmas.Grind.{flat_map-append}
+use Rattle.srm_agent_parts.specs.declared.out.Out.{Out}
+use Rattle.srm_wire.specs.Wires.{Told, Sends, others, sends_to, dispatched}
+use Rattle.srm_wire.proofs.Telling.{sends_on}
+
+-- one datagram more
+dispatched_more : (me members n : ℕ) (outs : List Out) (o : Out) → n < length outs → dispatched me members (map (λ (x : Out). x.bytes) (take (n + 1) outs))
+    ≡ dispatched me members (map (λ (x : Out). x.bytes) (take n outs)) ++ sends_to (others me members) (get_or outs n o).bytes
+dispatched_more me members n outs o below =
+    ap (λ xs. dispatched me members (map (λ (x : Out). x.bytes) xs)) (take_more outs n o below)
+    ∙ ap (dispatched me members) (map-append (λ (x : Out). x.bytes) (take n outs) (get_or outs n o ∷ []))
+    ∙ flat_map-append (sends_to (others me members)) (map (λ (x : Out). x.bytes) (take n outs)) ((get_or outs n o).bytes ∷ [])
+    ∙ ap (λ xs. dispatched me members (map (λ (x : Out). x.bytes) (take n outs)) ++ xs) (append-nil (sends_to (others me members) (get_or outs n o).bytes))
+
+pub sends_all_more : (a b : Bool) (me members n : ℕ) (outs : List Out) (o : Out) (x y z : ℕ) (s t u : Option Told) → n < length outs → o ≡ get_or outs n o
+    → Sends a (dispatched me members (map (λ (w : Out). w.bytes) (take n outs))) x y s t → Sends b (sends_to (others me members) o.bytes) y z t u
+    → Sends (a || b) (dispatched me members (map (λ (w : Out). w.bytes) (take (n + 1) outs))) x z s u
+sends_all_more a b me members n outs o x y z s t u below is h k =
+    subst (λ went. Sends (a || b) went x z s u) (sym (dispatched_more me members n outs o below ∙ ap (λ (w : Out). dispatched me members (map (λ (v : Out). v.bytes) (take n outs)) ++ sends_to (others me members) w.bytes) (sym is)))
+    (sends_on a b (dispatched me members (map (λ (w : Out). w.bytes) (take n outs))) (sends_to (others me members) o.bytes) x y z s t u h k)

@@ -1,0 +1,163 @@
+-- Workers that are joined one after another, and the lanes of a node that ran.
+use Rattle.std.proofs.Common.{◌≡◌, ℕ, zero, suc, ◌+◌, ◌≤◌, Bool, true, false, List, [], ◌∷◌, ◌++◌, length, map, refl, ap, sym, ◌∙◌, subst, append_assoc, arith, add-one}
+use Rattle.std.specs.Prelude.{Some, slice_get, Result, Ok, Err, IfOk, MatchResult, is_ok}
+use Rattle.std.specs.Bool.{OnTrue, OnFalse}
+use Rattle.srm_node.specs.declared.fault.NodeFault.{NodeFault}
+use Rattle.srm_node.specs.declared.hosting.Hosted.{Hosted}
+use Rattle.std.proofs.lemmas.List.{append-nil}
+use Rattle.std.proofs.lemmas.Option.{same_Some, slice_get_within}
+use Rattle.srm_pages.specs.Ends.{FeedView, TapView}
+use Rattle.srm_world.proofs.Laning.{at_place}
+use Rattle.srm_node.specs.declared.hosting.Worker.{Worker}
+use Rattle.srm_node.specs.declared.working.Worked.{Worked}
+use Rattle.srm_node.specs.Working.{Took}
+use Rattle.srm_node.specs.Parts.{SameFeed, SameFeeds}
+use Rattle.srm_node.specs.Nodes.{NodeView, Keeps}
+use Rattle.srm_node.specs.Turns.{Turned, Paused, RunsOf, RunsUpTo}
+use Rattle.srm_node.specs.Hosting.{started, Starts, StartsSome, StopsBy, WorkedEach, Joins, Hosts, HostFails, AreEndsOfLanes}
+
+each-snoc : (ts : List TapView) (ws : List Worked) (t : TapView) (w : Worked) → WorkedEach ts ws → Took t w.tap w.list.items → WorkedEach (ts ++ t ∷ []) (ws ++ w ∷ [])
+each-snoc [] [] t w h k = (k, tt)
+each-snoc [] (v ∷ ws) t w h k = absurd h
+each-snoc (s ∷ ts) [] t w h k = absurd h
+each-snoc (s ∷ ts) (v ∷ ws) t w h k = (h.0, each-snoc ts ws t w h.1 k)
+
+pub joins_none : (ws : List Worker) (done : List Worked) → done ≡ [] → Joins (map started ws) ws done
+joins_none ws done none = record { joined = []; split = refl; each = subst (λ (ds : List Worked). WorkedEach [] ds) (sym none) tt }
+
+pub joins_more : (all : List TapView) (w : Worker) (left rest : List Worker) (worked grown : List Worked) (one : Worked) → Joins all left worked → left ≡ w ∷ rest → Took (started w) one.tap one.list.items → grown ≡ worked ++ one ∷ [] → Joins all rest grown
+joins_more all w left rest worked grown one h is took grew = record {
+  joined = h.joined ++ started w ∷ [];
+  split = h.split ∙ ap (λ ws. h.joined ++ map started ws) is ∙ sym (append_assoc h.joined (started w ∷ []) (map started rest));
+  each = subst (WorkedEach (h.joined ++ started w ∷ [])) (sym grew) (each-snoc h.joined worked (started w) one h.each took);
+}
+
+pub joins_all : (all : List TapView) (left : List Worker) (worked : List Worked) → Joins all left worked → left ≡ [] → WorkedEach all worked
+joins_all all left worked h none = subst (λ ts. WorkedEach ts worked) (sym (h.split ∙ ap (λ ws. h.joined ++ map started ws) none ∙ append-nil h.joined)) h.each
+
+pub nothing_left : (left : List Worker) → length left ≡ 0 → left ≡ []
+nothing_left [] e = refl
+nothing_left (w ∷ ws) e = absurd (omega arith)
+
+pub starts_more : (all taps left : List TapView) (workers more : List Worker) → map started workers ++ taps ≡ all → Starts taps left workers more → map started more ++ left ≡ all
+starts_more all taps left workers more h s =
+    ap (λ ts. ts ++ left) s.started_are ∙ append_assoc (map started workers) (s.tap ∷ []) left ∙ ap (λ ts. map started workers ++ ts) (sym s.taps_are) ∙ h
+
+one_less : (left rest : List Worker) (w : Worker) → left ≡ w ∷ rest → length left ≡ length rest + 1
+one_less left rest w is = ap length is ∙ sym (add-one (length rest))
+
+pub count_less : (left rest : List Worker) (w : Worker) (n m : ℕ) → left ≡ w ∷ rest → length left + n ≡ m → length rest + (n + 1) ≡ m
+count_less left rest w n m is h = omega (arith, one_less left rest w is)
+
+pub room_less : (left rest : List Worker) (w : Worker) (len new room more : ℕ) → left ≡ w ∷ rest → len + length left ≤ room → (new ≡ len + 1) × (room ≤ more) → new + length rest ≤ more
+room_less left rest w len new room more is h grew = omega (arith, one_less left rest w is, grew.0, grew.1)
+
+-- THE LANES OF A NODE THAT RAN
+
+pub record SameLanes (a b : NodeView) : Type 0 where
+  pub slots : length b.feeds ≡ length a.feeds
+  pub same : SameFeeds a.feeds b.feeds
+
+same_on : (f g h : FeedView) → SameFeed f g → SameFeed g h → SameFeed f h
+same_on f g h same more = more ∙ ap (λ (x : FeedView). record x { put = h.put; seen = h.seen; lost = h.lost }) same
+
+same_feeds : (fs gs : List FeedView) → gs ≡ fs → SameFeeds fs gs
+same_feeds fs gs is slot f g at_f at_g = subst (λ (x : FeedView). SameFeed f x) (same_Some f g (sym at_f ∙ sym (ap (λ xs. slice_get xs slot) is) ∙ at_g)) refl
+
+lanes_on : (a b c : NodeView) → SameLanes a b → SameLanes b c → SameLanes a c
+lanes_on a b c h k = record {
+  slots = k.slots ∙ h.slots;
+  same = λ slot f g at_f at_g.
+      let (m, at_m) = at_place b.feeds slot (omega (arith, h.slots, slice_get_within a.feeds slot f at_f)) in
+      same_on f m g (h.same slot f m at_f at_m) (k.same slot m g at_m at_g);
+}
+
+lanes_kept : (a b : NodeView) → b.feeds ≡ a.feeds → SameLanes a b
+lanes_kept a b is = record { slots = ap length is; same = same_feeds a.feeds b.feeds is }
+
+lanes_of_turn : (a b : NodeView) → Turned false false a b → SameLanes a b
+lanes_of_turn a b t = lanes_on a t.ticked b
+    (lanes_kept a t.ticked (ap (λ (n : NodeView). n.feeds) t.ticks.same ∙ ap (λ (n : NodeView). n.feeds) t.leaves.same ∙ ap (λ (n : NodeView). n.feeds) t.draws.same ∙ ap (λ (n : NodeView). n.feeds) t.hears.same))
+    (record { slots = t.gives.gives.slots; same = t.gives.gives.same })
+
+lanes_of_turns : (count : ℕ) (a b : NodeView) → RunsOf count a b → SameLanes a b
+lanes_of_turns zero a b h = lanes_kept a b (ap (λ (n : NodeView). n.feeds) h)
+lanes_of_turns (suc n) a b (before, paused, runs, waits, turned) =
+    lanes_on a before b (lanes_of_turns n a before runs) (lanes_on before paused b (lanes_kept before paused (ap (λ (n : NodeView). n.feeds) waits.same)) (lanes_of_turn paused b turned))
+
+-- a node that ran has the feeds of the same lanes
+lanes_of_run : (limit : ℕ) (a b : NodeView) → RunsUpTo limit a b → SameLanes a b
+lanes_of_run limit a b h = lanes_of_turns h.count a b h.runs.turns
+
+-- what is handed out of a node that ran, and of its workers
+pub hosted : (r : Result (Unit {0}) NodeFault) (node last : NodeView) (taps : List TapView) (turns : ℕ) (all : Bool) (h : Hosted) (feeds : List FeedView) (keeps : Bool)
+    → MatchResult r (λ _. (all ≡ true) × Keeps last × RunsUpTo turns node last) (λ fault. StopsBy fault turns node last) → Keeps last
+    → h.journal ≡ last.journal → feeds ≡ last.feeds → OnTrue keeps (h.feeds.items ≡ feeds) → OnFalse keeps (h.feeds.items ≡ []) → keeps ≡ is_ok r → WorkedEach taps h.worked.items
+    → MatchResult r (λ _. (all ≡ true) × Hosts node taps turns h) (λ fault. HostFails node taps turns fault h)
+hosted (Ok u) node last taps turns all h feeds keeps ran lists journal same kept none ok workers = (
+  ran.0,
+  record {
+    last = last;
+    runs = ran.2;
+    keeps = ran.1;
+    journal = journal;
+    feeds = (let k : h.feeds.items ≡ feeds = subst (λ b. OnTrue b (h.feeds.items ≡ feeds)) ok kept in k) ∙ same;
+    slots = (lanes_of_run turns node last ran.2).slots;
+    lanes = (lanes_of_run turns node last ran.2).same;
+    workers = workers;
+  },
+)
+hosted (Err e) node last taps turns all h feeds keeps ran lists journal same kept none ok workers = record {
+  last = last;
+  runs = ran;
+  keeps = lists;
+  journal = journal;
+  feeds = (let k : h.feeds.items ≡ [] = subst (λ b. OnFalse b (h.feeds.items ≡ [])) ok none in k);
+  joined = taps;
+  rest = [];
+  split = append-nil taps;
+  workers = workers;
+}
+
+-- of the taps handed in the workers were started with the first
+pub starts_some : (all left : List TapView) (workers more : List Worker) → map started workers ++ left ≡ all → map started more ≡ map started workers → StartsSome all more
+starts_some all left workers more starts same = record { rest = left; split = ap (λ ts. ts ++ left) same ∙ starts }
+
+pub starts_whole : (all : List TapView) (workers : List Worker) → map started workers ≡ all → StartsSome all workers
+starts_whole all workers is = record { rest = []; split = append-nil (map started workers) ∙ is }
+
+-- what is handed out of the taps handed in
+pub host_ends : (r : Result (Unit {0}) NodeFault) (node : NodeView) (taps : List TapView) (workers : List Worker) (turns : ℕ) (all : Bool) (h : Hosted) → StartsSome taps workers → OnTrue all (map started workers ≡ taps)
+    → MatchResult r (λ _. (all ≡ true) × Hosts node (map started workers) turns h) (λ fault. HostFails node (map started workers) turns fault h) → MatchResult r (λ _. Hosts node taps turns h) (λ fault. HostFails node taps turns fault h)
+host_ends (Ok u) node taps workers turns all h some whole ran = subst (λ ts. Hosts node ts turns h) (let w : map started workers ≡ taps = subst (λ b. OnTrue b (map started workers ≡ taps)) ran.0 whole in w) ran.1
+host_ends (Err fault) node taps workers turns all h some whole f = record {
+  last = f.last;
+  runs = f.runs;
+  keeps = f.keeps;
+  journal = f.journal;
+  feeds = f.feeds;
+  joined = f.joined;
+  rest = f.rest ++ some.rest;
+  split = sym (append_assoc f.joined f.rest some.rest) ∙ ap (λ ts. ts ++ some.rest) f.split ∙ some.split;
+  workers = f.workers;
+}
+
+worked_at : (ts : List TapView) (ws : List Worked) (k : ℕ) (t : TapView) → WorkedEach ts ws → slice_get (map (λ (w : Worked). w.tap) ws) k ≡ Some t → (s : TapView) × (slice_get ts k ≡ Some s) × (t.lane ≡ s.lane)
+worked_at [] [] k t h at_t = cc
+worked_at [] (w ∷ ws) k t h at_t = absurd h
+worked_at (s ∷ ts) [] k t h at_t = absurd h
+worked_at (s ∷ ts) (w ∷ ws) zero t h at_t = (s, refl, ap (λ (x : TapView). x.lane) (sym (same_Some w.tap t at_t)) ∙ ap (λ (x : TapView). x.lane) h.0.is)
+worked_at (s ∷ ts) (w ∷ ws) (suc k) t h at_t = worked_at ts ws k t h.1 at_t
+
+-- the k-th feed and the k-th tap are still the ends of one lane
+still_ends : (node : NodeView) (taps : List TapView) (turns : ℕ) (h : Hosted) → Hosts node taps turns h → AreEndsOfLanes node.feeds taps → AreEndsOfLanes h.feeds.items (map (λ (w : Worked). w.tap) h.worked.items)
+still_ends node taps turns h x ends k f t at_f at_t =
+    let at_last : slice_get x.last.feeds k ≡ Some f = sym (ap (λ fs. slice_get fs k) x.feeds) ∙ at_f in
+    let (g, at_g) = at_place node.feeds k (omega (arith, x.slots, slice_get_within x.last.feeds k f at_last)) in
+    let (s, at_s, lane) = worked_at taps h.worked.items k t x.workers at_t in
+    ap (λ (y : FeedView). y.lane) (x.lanes k g f at_g at_last) ∙ ends k g s at_g at_s ∙ sym lane
+
+pub host_lanes : (r : Result (Unit {0}) NodeFault) (node : NodeView) (taps : List TapView) (turns : ℕ) (h : Hosted) → MatchResult r (λ _. Hosts node taps turns h) (λ fault. HostFails node taps turns fault h)
+    → IfOk r (λ _. AreEndsOfLanes node.feeds taps → AreEndsOfLanes h.feeds.items (map (λ (w : Worked). w.tap) h.worked.items))
+host_lanes (Ok u) node taps turns h x = still_ends node taps turns h x
+host_lanes (Err e) node taps turns h x = tt

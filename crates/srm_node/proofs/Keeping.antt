@@ -1,0 +1,249 @@
+-- A node's lists hang together after each part of a turn.
+use Rattle.std.proofs.Common.{◌≡◌, ℕ, zero, suc, Bool, true, false, List, [], ◌∷◌, ◌++◌, length, refl, ap, sym, ◌∙◌, subst, append_assoc, arith}
+use Rattle.std.specs.Prelude.{Option, Some, None, Result, Ok, Err, MatchResult, MatchBool, map, slice_get, option_to_list, if◌then◌else◌}
+use Rattle.std.specs.List.{AllByRecursion, filter_map, cons_option}
+use Rattle.std.proofs.lemmas.List.{append-nil, map-append}
+use Rattle.std.proofs.lemmas.List.Elements.{filter_map-append}
+use Rattle.srm_names.specs.declared.limits.TheConstants.{PAGES}
+use Rattle.srm_names.specs.declared.page_msg.PageMsg.{PageMsg}
+use Rattle.srm_pages.specs.declared.stroke.Stroke.{Stroke}
+use Rattle.srm_pages.specs.Ends.{FeedView, TapView, WellView, AreLanes}
+use Rattle.srm_pages.specs.Seats.{Sight}
+use Rattle.srm_world.proofs.Laning.{at_place}
+use Rattle.std.proofs.lemmas.Option.{slice_get_within}
+use Rattle.srm_codec.specs.declared.datagram.Datagram.{Datagram}
+use Rattle.srm_codec.specs.declared.fault.DecodeFault.{DecodeFault}
+use Rattle.srm_agent_parts.specs.declared.out.Out.{Out}
+use Rattle.srm_entries.specs.declared.entry.Entry.{Entry}
+use Rattle.srm_entries.specs.declared.entry.Input.{Input}
+use Rattle.srm_entries.specs.declared.entry.Input.TheVariants.{Drew, Heard, Noise, Ticked, Showed, AskedLeave, Gave, Took}
+use Rattle.srm_entries.specs.declared.entry.Verdict.{Verdict}
+use Rattle.srm_entries.specs.declared.entry.Verdict.TheVariants.{Ignored}
+use Rattle.srm_entries.specs.declared.cause.Cause.TheVariants as causes
+use Rattle.srm_entries.specs.Configs.{Config}
+use Rattle.srm_entries.specs.Entries.{state, is_gone}
+use Rattle.srm_codec.specs.Judging.{judge}
+use Rattle.srm_entries.specs.Giving.{given, given_in}
+use Rattle.srm_entries.specs.Hearing.{bytes_heard, read_as}
+use Rattle.srm_entries.specs.Runs.{IsMemberRun}
+use Rattle.srm_world.specs.Traces.{Journal}
+use Rattle.srm_world.specs.Claims.{IsLawfulJournal}
+use Rattle.srm_world.specs.Recording.{with_entry}
+use Rattle.srm_world.proofs.Lawful.{lawful_journal}
+use Rattle.srm_node.specs.declared.fault.OutOfMemory.{OutOfMemory}
+use Rattle.srm_wire.specs.Wires.{Told}
+use Rattle.srm_node.specs.Carrying.{with_entries, Carries, CarriesEach, drew, draws, drawing, DrawsReceived, KeepsLists}
+use Rattle.srm_node.specs.Parts.{HearsEach, Listens, Listened, ListenedCut, DrawsOf, Draws, Leaves, Ticks, GivesUpTo, GaveSome, is_give}
+use Rattle.srm_node.specs.Nodes.{NodeView, IsNode, AreNewFeeds}
+use Rattle.srm_node.proofs.Gives.{given-append}
+
+abbrev at : Journal → List Entry → Journal
+at j es = record { start = j.start; entries = es }
+
+-- the entries neither draw nor give
+abbrev Quiet : Input → Type 0
+Quiet i = (drew i ≡ None) × ((slot : ℕ) (m : Option PageMsg) → given_in slot i m ≡ None)
+
+abbrev AreQuiet : List Entry → Type 0
+AreQuiet es = AllByRecursion (λ (e : Entry). Quiet e.input) es
+
+quiet_given : (es : List Entry) → AreQuiet es → (slot : ℕ) → given es slot ≡ []
+quiet_given [] h slot = refl
+quiet_given (e ∷ es) h slot = ap (λ o. cons_option o (given es slot)) (h.0.1 slot e.effects.message) ∙ quiet_given es h.1 slot
+
+quiet_draws : (es : List Entry) → AreQuiet es → draws es ≡ []
+quiet_draws [] h = refl
+quiet_draws (e ∷ es) h = ap (λ o. cons_option o (draws es)) h.0.0 ∙ quiet_draws es h.1
+
+draws-append : (es fs : List Entry) → draws (es ++ fs) ≡ draws es ++ draws fs
+draws-append es fs = filter_map-append (λ (e : Entry). drew e.input) es fs
+
+-- more entries that give nothing
+carries_more : (j k : Journal) (es : List Entry) (feeds : List FeedView) → k ≡ with_entries j es → ((slot : ℕ) → given es slot ≡ []) → CarriesEach j feeds → CarriesEach k feeds
+carries_more j k es feeds grown none carries = λ slot f at_f. subst (λ xs. Carries xs f) (sym (same slot)) (carries slot f at_f)
+  where
+    same : (slot : ℕ) → given k.entries slot ≡ given j.entries slot
+    same slot = ap (λ (x : Journal). given x.entries slot) grown ∙ given-append j.entries es slot ∙ ap (λ xs. given j.entries slot ++ xs) (none slot) ∙ append-nil (given j.entries slot)
+
+draws_grown : (j k : Journal) (es : List Entry) → k ≡ with_entries j es → draws k.entries ≡ draws j.entries ++ draws es
+draws_grown j k es grown = ap (λ (x : Journal). draws x.entries) grown ∙ draws-append j.entries es
+
+received_still : (j k : Journal) (es : List Entry) (received : List Stroke) (hand : Option Stroke) → k ≡ with_entries j es → draws es ≡ [] → DrawsReceived j received hand → DrawsReceived k received hand
+received_still j k es received hand grown none h =
+    h ∙ ap (λ xs. xs ++ map drawing (option_to_list hand)) (sym (draws_grown j k es grown ∙ ap (λ xs. draws j.entries ++ xs) none ∙ append-nil (draws j.entries)))
+
+keeps_quiet : (j k : Journal) (es : List Entry) (feeds : List FeedView) (received : List Stroke) (hand : Option Stroke) → KeepsLists j feeds received hand → IsLawfulJournal k → k ≡ with_entries j es → AreQuiet es → KeepsLists k feeds received hand
+keeps_quiet j k es feeds received hand h lawful grown quiet = record {
+  lawful = lawful;
+  slots = h.slots;
+  carries = carries_more j k es feeds grown (quiet_given es quiet) h.carries;
+  draws_are = received_still j k es received hand grown (quiet_draws es quiet) h.draws_are;
+}
+
+settings_of : (j k : Journal) (es : List Entry) → k ≡ with_entries j es → k.start.config ≡ j.start.config
+settings_of j k es grown = ap (λ (x : Journal). x.start.config) grown
+
+-- HEARING
+
+quiet_read : (c : Config) (es : List Entry) (r : Result Datagram DecodeFault) → Quiet (read_as c es r).0
+quiet_read c es (Ok g) = (refl, λ slot m. refl)
+quiet_read c es (Err f) = (refl, λ slot m. refl)
+
+quiet_if : (b : Bool) (x y : Input × Verdict) → Quiet x.0 → Quiet y.0 → Quiet (if b then x else y).0
+quiet_if true x y h k = h
+quiet_if false x y h k = k
+
+quiet_bytes : (c : Config) (es : List Entry) (bytes : List ℕ) → Quiet (bytes_heard c es bytes).0
+quiet_bytes c es bytes = quiet_if (is_gone (state es)) (Noise, Ignored causes.Gone) (read_as c es (judge c.session bytes)) (refl, λ slot m. refl) (quiet_read c es (judge c.session bytes))
+
+quiet_heard : (j : Journal) (bs : List (List ℕ)) (es : List Entry) → HearsEach j bs es → AreQuiet es
+quiet_heard j [] [] h = tt
+quiet_heard j [] (e ∷ es) h = absurd h
+quiet_heard j (b ∷ bs) [] h = absurd h
+quiet_heard j (b ∷ bs) (e ∷ es) h = (subst Quiet (sym (ap (λ (p : Input × Verdict). p.0) h.0)) (quiet_bytes j.start.config j.entries b), quiet_heard (with_entry j e) bs es h.1)
+
+node_hears : (n : NodeView) (k : Journal) (failures : ℕ) (told : Option Told) (config : Config) (room count : ℕ) (ended : List (Option (List ℕ))) → IsNode n config room → IsLawfulJournal k → Listens count ended n.journal k n.told told
+    → IsNode (record n { journal = k; failures = failures; told = told }) config room
+node_hears n k failures told config room count ended h lawful l = record {
+  lists = keeps_quiet n.journal k l.entries n.feeds n.well.received n.hand h.lists lawful l.grown (quiet_heard n.journal l.came l.entries l.each);
+  settings = settings_of n.journal k l.entries l.grown ∙ h.settings;
+  room_is = h.room_is;
+}
+
+pub node_listened : (n : NodeView) (k : Journal) (failures : ℕ) (told : Option Told) (config : Config) (room : ℕ) (r : Result Bool OutOfMemory) → IsNode n config room → IsLawfulJournal k
+    → MatchResult r (λ failed. Listened failed n.journal k n.told told) (λ _. ListenedCut n.journal k n.told told) → IsNode (record n { journal = k; failures = failures; told = told }) config room
+node_listened n k failures told config room (Ok failed) h lawful x = node_hears n k failures told config room x.count x.ended h lawful x.listens
+node_listened n k failures told config room (Err e) h lawful x = node_hears n k failures told config room x.count (Some x.lost ∷ []) h lawful x.listens
+
+-- DRAWING
+
+drawn_none_given : (es : List Entry) (ss : List Stroke) → map (λ (e : Entry). e.input) es ≡ map drawing ss → (slot : ℕ) → given es slot ≡ []
+drawn_none_given [] ss h slot = refl
+drawn_none_given (e ∷ es) [] h slot = absurd (cc)
+drawn_none_given (e ∷ es) (s ∷ ss) h slot =
+    let head : e.input ≡ drawing s = cc in
+    let tail : map (λ (x : Entry). x.input) es ≡ map drawing ss = cc in
+    ap (λ i. cons_option (given_in slot i e.effects.message) (given es slot)) head ∙ drawn_none_given es ss tail slot
+
+drawn_draws : (es : List Entry) (ss : List Stroke) → map (λ (e : Entry). e.input) es ≡ map drawing ss → draws es ≡ map drawing ss
+drawn_draws [] ss h = h
+drawn_draws (e ∷ es) [] h = absurd (cc)
+drawn_draws (e ∷ es) (s ∷ ss) h =
+    let head : e.input ≡ drawing s = cc in
+    let tail : map (λ (x : Entry). x.input) es ≡ map drawing ss = cc in
+    ap (λ i. cons_option (drew i) (draws es)) head ∙ ap (λ xs. drawing s ∷ xs) (drawn_draws es ss tail)
+
+received_more : (j k : Journal) (from to : WellView) (hand kept : Option Stroke) (d : Draws j k from to hand kept) → DrawsReceived j from.received hand → DrawsReceived k to.received kept
+received_more j k from to hand kept d h =
+    let p = d.pops in
+    let x = d.draws in
+    let hands : List Stroke = option_to_list hand in
+    let keeps : List Stroke = option_to_list kept in
+    ap (λ (w : WellView). map drawing w.received) p.received
+    ∙ map-append drawing from.received p.popped
+    ∙ ap (λ is. is ++ map drawing p.popped) h
+    ∙ append_assoc (draws j.entries) (map drawing hands) (map drawing p.popped)
+    ∙ ap (λ is. draws j.entries ++ is) (sym (map-append drawing hands p.popped) ∙ ap (map drawing) (sym p.all_is ∙ x.all_is) ∙ map-append drawing x.strokes keeps)
+    ∙ sym (append_assoc (draws j.entries) (map drawing x.strokes) (map drawing keeps))
+    ∙ ap (λ is. is ++ map drawing keeps) (ap (λ is. draws j.entries ++ is) (sym (drawn_draws x.entries x.strokes x.inputs)) ∙ sym (draws_grown j k x.entries x.grown))
+
+pub node_drawn : (n : NodeView) (k : Journal) (well : WellView) (from hand : Option Stroke) (config : Config) (room : ℕ) → IsNode n config room → IsLawfulJournal k → from ≡ n.hand → Draws n.journal k n.well well from hand
+    → IsNode (record n { journal = k; well = well; hand = hand }) config room
+node_drawn n k well from hand config room h lawful same d =
+    let e : Draws n.journal k n.well well n.hand hand = subst (λ x. Draws n.journal k n.well well x hand) same d in
+    let x = e.draws in
+    record {
+      lists = record {
+        lawful = lawful;
+        slots = h.lists.slots;
+        carries = carries_more n.journal k x.entries n.feeds x.grown (drawn_none_given x.entries x.strokes x.inputs) h.lists.carries;
+        draws_are = received_more n.journal k n.well well n.hand hand e h.lists.draws_are;
+      };
+      settings = settings_of n.journal k x.entries x.grown ∙ h.settings;
+      room_is = h.room_is;
+    }
+
+-- LEAVING AND TICKING
+
+quiet_leaves : (es : List Entry) → AllByRecursion (λ (e : Entry). e.input ≡ AskedLeave) es → AreQuiet es
+quiet_leaves [] h = tt
+quiet_leaves (e ∷ es) h = (subst Quiet (sym h.0) (refl, λ slot m. refl), quiet_leaves es h.1)
+
+pub node_left : (n : NodeView) (k : Journal) (config : Config) (room : ℕ) → IsNode n config room → IsLawfulJournal k → Leaves n.journal k → IsNode (record n { journal = k }) config room
+node_left n k config room h lawful l = record {
+  lists = keeps_quiet n.journal k l.entries n.feeds n.well.received n.hand h.lists lawful l.grown (quiet_leaves l.entries l.inputs);
+  settings = settings_of n.journal k l.entries l.grown ∙ h.settings;
+  room_is = h.room_is;
+}
+
+pub node_leaves : (n : NodeView) (k : Journal) (config : Config) (room : ℕ) (r : Result (Unit {0}) OutOfMemory) → IsNode n config room → IsLawfulJournal k → MatchResult r (λ _. Leaves n.journal k) (λ _. k ≡ n.journal)
+    → IsNode (record n { journal = k }) config room
+node_leaves n k config room (Ok u) h lawful l = node_left n k config room h lawful l
+node_leaves n k config room (Err e) h lawful same = subst (λ x. IsNode (record n { journal = x }) config room) (sym same) h
+
+pub node_ticked : (n : NodeView) (k : Journal) (failures : ℕ) (told : Option Told) (config : Config) (room : ℕ) (outs : List Out) → IsNode n config room → IsLawfulJournal k → Ticks outs n.journal k
+    → IsNode (record n { journal = k; failures = failures; told = told }) config room
+node_ticked n k failures told config room outs h lawful t = record {
+  lists = keeps_quiet n.journal k (t.entry ∷ []) n.feeds n.well.received n.hand h.lists lawful t.grown (subst Quiet (sym t.is_tick.input) (refl, λ slot m. refl), tt);
+  settings = settings_of n.journal k (t.entry ∷ []) t.grown ∙ h.settings;
+  room_is = h.room_is;
+}
+
+-- GIVING
+
+none_drawn : (i : Input) → is_give i ≡ true → drew i ≡ None
+none_drawn (Drew page body) h = cc
+none_drawn (Heard g) h = refl
+none_drawn Noise h = refl
+none_drawn Ticked h = refl
+none_drawn (Showed page) h = refl
+none_drawn AskedLeave h = refl
+none_drawn (Gave slot) h = refl
+none_drawn (Took slot) h = refl
+
+gives_draw_nothing : (es : List Entry) → AllByRecursion (λ (e : Entry). is_give e.input ≡ true) es → draws es ≡ []
+gives_draw_nothing [] h = refl
+gives_draw_nothing (e ∷ es) h = ap (λ o. cons_option o (draws es)) (none_drawn e.input h.0) ∙ gives_draw_nothing es h.1
+
+pub node_given : (n : NodeView) (k : Journal) (feeds : List FeedView) (config : Config) (room below : ℕ) → IsNode n config room → GivesUpTo below n.journal k n.feeds feeds → IsNode (record n { journal = k; feeds = feeds }) config room
+node_given n k feeds config room below h g = record {
+  lists = record {
+    lawful = g.lawful;
+    slots = g.slots ∙ h.lists.slots;
+    carries = g.carries;
+    draws_are = received_still n.journal k g.entries n.well.received n.hand g.grown (gives_draw_nothing g.entries g.inputs) h.lists.draws_are;
+  };
+  settings = settings_of n.journal k g.entries g.grown ∙ h.settings;
+  room_is = h.room_is;
+}
+
+pub node_gave : (n : NodeView) (k : Journal) (feeds : List FeedView) (config : Config) (room : ℕ) (r : Result (Unit {0}) OutOfMemory) → IsNode n config room
+    → MatchResult r (λ _. GivesUpTo PAGES n.journal k n.feeds feeds) (λ _. GaveSome n.journal k n.feeds feeds) → IsNode (record n { journal = k; feeds = feeds }) config room
+node_gave n k feeds config room (Ok u) h g = node_given n k feeds config room PAGES h g
+node_gave n k feeds config room (Err e) h g = node_given n k feeds config room g.slot h g.gives
+
+-- NEW NODES
+
+new_run : (c : Config) (made : ℕ) → IsMemberRun c made []
+new_run c made = record { each = tt; bucket = ([], refl, tt, tt) }
+
+pub keeps_new : (j : Journal) (feeds : List FeedView) (received : List Stroke) → j.entries ≡ [] → AreNewFeeds feeds → received ≡ [] → KeepsLists j feeds received None
+keeps_new j feeds received none new empty = record {
+  lawful = lawful_journal j (subst (IsMemberRun j.start.config j.start.made) (sym none) (new_run j.start.config j.start.made));
+  slots = new.slots;
+  carries = λ slot f at_f. carried slot f (new.each slot f at_f);
+  draws_are = ap (map drawing) empty ∙ ap (λ es. draws es ++ []) (sym none);
+}
+  where
+    carried : (slot : ℕ) (f : FeedView) → ((f.put ≡ []) × (f.lost ≡ false)) → Carries (given j.entries slot) f
+    carried slot f h = subst (λ b. MatchBool b ((back : PageMsg) × (given j.entries slot ≡ f.put ++ back ∷ [])) (given j.entries slot ≡ f.put)) (sym h.1) (ap (λ es. given es slot) none ∙ sym h.0)
+
+-- the feeds of new lanes are new
+pub new_feeds : (viewers : ℕ) (feeds : List FeedView) (taps : List TapView) (sights : List Sight) → AreLanes viewers feeds taps sights → AreNewFeeds feeds
+new_feeds viewers feeds taps sights (board, count, tap_count, ends, rest, all) = record {
+  slots = count;
+  each = λ slot f at_f.
+      let (t, at_t) = at_place taps slot (omega (arith, slice_get_within feeds slot f at_f)) in
+      let is = (ends.each slot f t at_f at_t).0 in
+      (is.0, is.2);
+}

@@ -1,0 +1,11 @@
+pub mod Dispatching
+pub mod Hears
+pub mod Rightly
+pub mod Tallies
+pub mod Draws
+pub mod Gives
+pub mod Ticks
+pub mod Keeping
+pub mod Turning
+pub mod Works
+pub mod Hosts

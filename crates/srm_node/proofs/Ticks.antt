@@ -1,0 +1,54 @@
+-- A tick, and a leaving that is due.
+use Rattle.std.proofs.Common.{◌≡◌, ℕ, ◌≤◌, List, [], ◌∷◌, ◌++◌, length, refl, ap, sym, ◌∙◌, subst, inl, inr, arith}
+use Rattle.std.specs.Prelude.{Option, Some, None, Result, Ok, Err}
+use Rattle.std.proofs.lemmas.List.{append-nil}
+use Rattle.srm_entries.specs.declared.entry.Entry.{Entry}
+use Rattle.srm_entries.specs.declared.entry.Input.TheVariants.{Ticked, AskedLeave}
+use Rattle.srm_entries.specs.declared.entry.Verdict.{Verdict}
+use Rattle.srm_entries.specs.declared.entry.Verdict.TheVariants.{Done, Ignored, Refused}
+use Rattle.srm_entries.specs.declared.fault.AgentFault.{AgentFault}
+use Rattle.srm_entries.specs.declared.fault.AgentFault.TheVariants as faults
+use Rattle.srm_agent.specs.declared.ticked.Ticked.{Ticked as TickedAnswer}
+use Rattle.srm_agent.specs.Noting.{AnswersAs, IsTicked}
+use Rattle.srm_world.specs.Traces.{Journal}
+use Rattle.srm_world.specs.Claims.{IsLawfulJournal}
+use Rattle.srm_world.specs.Recording.{Records, with_entry}
+use Rattle.srm_node.specs.Parts.{Ticks, Leaves}
+use Rattle.srm_node.proofs.Rightly.{tick_done, leave_not_memory}
+
+abbrev at : Journal → List Entry → Journal
+at j es = record { start = j.start; entries = es }
+
+pub ticks_once : (now : ℕ) (j k : Journal) (ticked : TickedAnswer) → IsLawfulJournal k → Records (Some now) Ticked (IsTicked j.start.config.session) j k (Ok ticked) → Ticks ticked.outs j k
+ticks_once now j k ticked lawful (inl (e, grows, input, answers)) =
+    let t : IsTicked j.start.config.session e ticked = subst (λ v. AnswersAs (IsTicked j.start.config.session e) v (Ok ticked)) (tick_done j k e grows.grown lawful input) answers in
+    record { entry = e; grown = grows.grown; is_tick = record { input = input; outs_are = t.outs; spelled = t.spelled } }
+ticks_once now j k ticked lawful (inr (wrong, same)) = absurd (differ (Ok ticked) refl wrong)
+  where
+    differ : (a : Result TickedAnswer AgentFault) {f : AgentFault} → a ≡ Ok ticked → a ≡ Err f → ⊥
+    differ a p q = cc
+
+pub ticks_not : (now : ℕ) (j k : Journal) (fault : AgentFault) → IsLawfulJournal k → Records (Some now) Ticked (IsTicked j.start.config.session) j k (Err fault) → k ≡ j
+ticks_not now j k fault lawful (inr (is, same)) = same
+ticks_not now j k fault lawful (inl (e, grows, input, answers)) =
+    absurd (let a : AnswersAs (IsTicked j.start.config.session e) Done (Err fault) = subst (λ v. AnswersAs (IsTicked j.start.config.session e) v (Err fault)) (tick_done j k e grows.grown lawful input) answers in a)
+
+pub leaves_not : (j : Journal) → Leaves j j
+leaves_not j = record { entries = []; grown = ap (at j) (sym (append-nil j.entries)); once = omega arith; inputs = tt }
+
+pub leaves_so : {A : Type 0} (now : ℕ) (is : Entry → A → Type 0) (j k : Journal) (answer : Result A AgentFault) → Records (Some now) AskedLeave is j k answer → Leaves j k
+leaves_so now is j k answer (inl (e, grows, input, answers)) = record { entries = e ∷ []; grown = grows.grown; once = omega arith; inputs = (input, tt) }
+leaves_so now is j k answer (inr (wrong, same)) = subst (λ x. Leaves j x) (sym same) (leaves_not j)
+
+-- memory ran out, and nothing was asked
+pub leaves_cut : {A : Type 0} (now : ℕ) (is : Entry → A → Type 0) (j k : Journal) (fault : AgentFault) → IsLawfulJournal k → fault ≡ faults.Memory → Records (Some now) AskedLeave is j k (Err fault) → k ≡ j
+leaves_cut now is j k fault lawful memory (inr (wrong, same)) = same
+leaves_cut now is j k fault lawful memory (inl (e, grows, input, answers)) = absurd (which e.verdict refl answers)
+  where
+    fault_of : {B : Type 0} (x : Result B AgentFault) (f : AgentFault) → x ≡ Err fault → x ≡ Err f → f ≡ faults.Memory
+    fault_of x f p q = cc
+
+    which : (v : Verdict) → e.verdict ≡ v → AnswersAs (is e) v (Err fault) → ⊥
+    which Done at_v h = h
+    which (Ignored cause) at_v h = h
+    which (Refused f) at_v h = leave_not_memory j k e grows.grown lawful input (at_v ∙ ap Refused (fault_of (Err fault) f refl h))

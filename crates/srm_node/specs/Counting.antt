@@ -1,0 +1,63 @@
+-- What came to nothing, counted.
+use Rattle.std.specs.Prelude.{ℕ, min, ◌-◌, ◌^◌, ◌==◌, Bool, true, false, ◌&&◌, List, [], ◌∷◌, count_by}
+use Rattle.srm_entries.specs.declared.cause.Cause.{Cause}
+use Rattle.srm_entries.specs.declared.cause.Cause.TheVariants.{Own, Gone, Conflict, PageLimit, BeyondFinal, Decode, Stranger}
+use Rattle.srm_entries.specs.declared.entry.Entry.{Entry}
+use Rattle.srm_entries.specs.declared.entry.Input.{Input}
+use Rattle.srm_entries.specs.declared.entry.Input.TheVariants.{Drew, Noise}
+use Rattle.srm_entries.specs.declared.entry.Verdict.{Verdict}
+use Rattle.srm_entries.specs.declared.entry.Verdict.TheVariants.{Ignored, Refused}
+use Rattle.srm_node.specs.declared.counting.Counts.{Counts}
+
+-- the causes by number, from 1
+abbrev pub cause_number : Cause → ℕ
+cause_number Own = 1
+cause_number Gone = 2
+cause_number Conflict = 3
+cause_number PageLimit = 4
+cause_number BeyondFinal = 5
+cause_number (Decode fault) = 6
+cause_number Stranger = 7
+
+abbrev pub is_noise : Input → Bool
+is_noise Noise = true
+is_noise _ = false
+
+abbrev pub is_drawn : Input → Bool
+is_drawn (Drew page body) = true
+is_drawn _ = false
+
+abbrev pub is_refused : Verdict → Bool
+is_refused (Refused fault) = true
+is_refused _ = false
+
+abbrev pub ignored_by : ℕ → Verdict → Bool
+ignored_by number (Ignored cause) = cause_number cause == number
+ignored_by number _ = false
+
+-- what came that is noise, to a member that is gone too
+abbrev pub came_as_noise : Entry → Bool
+came_as_noise e = is_noise e.input
+
+-- what was ignored for the cause of this number
+abbrev pub was_ignored : ℕ → Entry → Bool
+was_ignored number e = ignored_by number e.verdict
+
+-- a stroke that the agent refused, by which it was dropped
+abbrev pub was_dropped : Entry → Bool
+was_dropped e = is_drawn e.input && is_refused e.verdict
+
+-- how many entries are such, up to the greatest number of 64 bits
+abbrev pub count_up_to : (Entry → Bool) → List Entry → ℕ
+count_up_to p es = min (count_by p es) (2 ^ 64 - 1)
+
+abbrev pub ignored_for : List Entry → ℕ → ℕ
+ignored_for es number = count_up_to (was_ignored number) es
+
+-- the noise, what was ignored by cause, and the draws that were refused
+abbrev pub counts_of : List Entry → Counts
+counts_of es = record {
+  noise = count_up_to came_as_noise es;
+  ignored = ignored_for es 1 ∷ ignored_for es 2 ∷ ignored_for es 3 ∷ ignored_for es 4 ∷ ignored_for es 5 ∷ ignored_for es 6 ∷ ignored_for es 7 ∷ [];
+  dropped = count_up_to was_dropped es;
+}

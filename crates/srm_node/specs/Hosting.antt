@@ -1,0 +1,70 @@
+-- A node and its page workers in threads.
+use Rattle.std.specs.Prelude.{◌≡◌, ◌⊎◌, ℕ, List, [], ◌∷◌, ◌++◌, map, length, slice_get, Some, Err}
+use Rattle.srm_pages.specs.Ends.{FeedView, TapView}
+use Rattle.srm_node.specs.declared.hosting.Worker.{Worker}
+use Rattle.srm_node.specs.declared.hosting.Hosted.{Hosted}
+use Rattle.srm_node.specs.declared.working.Worked.{Worked}
+use Rattle.srm_node.specs.Working.{Took}
+use Rattle.srm_node.specs.Parts.{SameFeeds}
+use Rattle.srm_node.specs.Nodes.{NodeView, Keeps}
+use Rattle.srm_node.specs.declared.fault.NodeFault.{NodeFault}
+use Rattle.srm_node.specs.declared.fault.NodeFault.TheVariants.{Memory}
+use Rattle.srm_node.specs.Turns.{RunsUpTo, RunEnds}
+
+-- the tap that a worker was started with
+abbrev pub started : Worker → TapView
+started w = w.handle.promise.0.value
+
+-- one tap less is left, and the last worker was started with it
+pub record Starts (taps left : List TapView) (workers more : List Worker) : Type 0 where
+  pub tap : TapView
+  pub taps_are : taps ≡ tap ∷ left
+  pub started_are : map started more ≡ map started workers ++ tap ∷ []
+
+-- each worker handed back its own lane's tap, and as its list what that tap took
+abbrev pub WorkedEach : List TapView → List Worked → Type 0
+WorkedEach [] [] = Unit {0}
+WorkedEach (t ∷ ts) (w ∷ ws) = Took t w.tap w.list.items × WorkedEach ts ws
+WorkedEach _ _ = ⊥
+
+-- of all these some were joined, and the others not yet
+pub record Joins (all : List TapView) (left : List Worker) (worked : List Worked) : Type 0 where
+  pub joined : List TapView
+  pub split : all ≡ joined ++ map started left
+  pub each : WorkedEach joined worked
+
+-- workers were started with the first of these taps
+pub record StartsSome (taps : List TapView) (workers : List Worker) : Type 0 where
+  pub rest : List TapView
+  pub split : map started workers ++ rest ≡ taps
+
+-- the node ran into this fault; or it was not turned, since a worker couldn't be started
+abbrev pub StopsBy : NodeFault → ℕ → NodeView → NodeView → Type 0
+StopsBy fault turns old new = RunEnds (Err fault) turns old new ⊎ ((fault ≡ Memory) × (new ≡ old))
+
+-- After a fault: the feeds were let go. Its journal is handed back, and the tap and list of each worker that was started.
+pub record HostFails (node : NodeView) (taps : List TapView) (turns : ℕ) (fault : NodeFault) (h : Hosted) : Type 0 where
+  pub last : NodeView
+  pub runs : StopsBy fault turns node last
+  pub keeps : Keeps last
+  pub journal : h.journal ≡ last.journal
+  pub feeds : h.feeds.items ≡ []
+  pub joined : List TapView
+  pub rest : List TapView
+  pub split : joined ++ rest ≡ taps
+  pub workers : WorkedEach joined h.worked.items
+
+-- the feed and the tap of a slot are the ends of one lane
+abbrev pub AreEndsOfLanes : List FeedView → List TapView → Type 0
+AreEndsOfLanes feeds taps = (k : ℕ) (f : FeedView) (t : TapView) → slice_get feeds k ≡ Some f → slice_get taps k ≡ Some t → f.lane ≡ t.lane
+
+-- Without fault: the node ran, its journal and its feeds are handed back, of the same lanes, and each worker's tap and list.
+pub record Hosts (node : NodeView) (taps : List TapView) (turns : ℕ) (h : Hosted) : Type 0 where
+  pub last : NodeView
+  pub runs : RunsUpTo turns node last
+  pub keeps : Keeps last
+  pub journal : h.journal ≡ last.journal
+  pub feeds : h.feeds.items ≡ last.feeds
+  pub slots : length last.feeds ≡ length node.feeds
+  pub lanes : SameFeeds node.feeds last.feeds
+  pub workers : WorkedEach taps h.worked.items

@@ -1,0 +1,7 @@
+pub mod Carrying
+pub mod Counting
+pub mod Parts
+pub mod Nodes
+pub mod Turns
+pub mod Working
+pub mod Hosting

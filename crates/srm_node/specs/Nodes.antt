@@ -1,0 +1,39 @@
+-- What contracts see of a node.
+use Rattle.std.specs.Prelude.{◌≡◌, ℕ, List, [], false, Option, Some, None, length, slice_get}
+use Rattle.srm_names.specs.declared.limits.TheConstants.{PAGES}
+use Rattle.srm_pages.specs.declared.stroke.Stroke.{Stroke}
+use Rattle.srm_pages.specs.Ends.{FeedView, WellView}
+use Rattle.srm_entries.specs.Configs.{Config}
+use Rattle.srm_world.specs.Traces.{Journal}
+use Rattle.srm_node.specs.declared.limits.TheConstants.{BUFFER}
+use Rattle.srm_wire.specs.Wires.{Told}
+use Rattle.srm_node.specs.Carrying.{KeepsLists}
+
+-- the journal, the feeds by slot, the well, the stroke in hand, how many calls of the wire failed, and what the wire told if it tells
+pub record NodeView : Type 0 where
+  pub journal : Journal
+  pub feeds : List FeedView
+  pub well : WellView
+  pub hand : Option Stroke
+  pub failures : ℕ
+  pub told : Option Told
+
+-- what always holds of a node
+abbrev pub Keeps : NodeView → Type 0
+Keeps n = KeepsLists n.journal n.feeds n.well.received n.hand
+
+-- what a node keeps: its lists hang together, its settings are those of its journal, and its buffer has its length
+pub record IsNode (n : NodeView) (config : Config) (room : ℕ) : Type 0 where
+  pub lists : Keeps n
+  pub settings : n.journal.start.config ≡ config
+  pub room_is : room ≡ BUFFER
+
+-- a feed for each slot, which put nothing and isn't lost
+pub record AreNewFeeds (feeds : List FeedView) : Type 0 where
+  pub slots : length feeds ≡ PAGES
+  pub each : (slot : ℕ) (f : FeedView) → slice_get feeds slot ≡ Some f → (f.put ≡ []) × (f.lost ≡ false)
+
+-- a node with these settings that did nothing yet
+pub record IsNewNode (config : Config) (feeds : List FeedView) (well : WellView) (failures : ℕ) (told : Option Told) (n : NodeView) : Type 0 where
+  pub made : ℕ
+  pub is : n ≡ record { journal = record { start = record { config = config; made = made }; entries = [] }; feeds = feeds; well = well; hand = None; failures = failures; told = told }

@@ -1,0 +1,157 @@
+-- The parts of a turn.
+use Rattle.std.specs.Prelude.{◌≡◌, ◌⊎◌, ℕ, ◌<◌, ◌≤◌, ◌==◌, Bool, true, false, ◌&&◌, ◌||◌, List, [], ◌∷◌, ◌++◌, map, length, slice_get, Option, Some, None, is_none, option_to_list}
+use Rattle.std.specs.Bool.{OnTrue, OnFalse}
+use Rattle.std.specs.List.{AllByRecursion, list_any}
+use Rattle.srm_names.specs.declared.limits.TheConstants.{PAGES}
+use Rattle.srm_names.specs.declared.page_msg.PageMsg.{PageMsg}
+use Rattle.srm_pages.specs.declared.stroke.Stroke.{Stroke}
+use Rattle.srm_pages.specs.Ends.{FeedView, WellView, credit_of}
+use Rattle.srm_entries.specs.declared.entry.Entry.{Entry}
+use Rattle.srm_entries.specs.declared.entry.Input.{Input}
+use Rattle.srm_entries.specs.declared.entry.Input.TheVariants.{Gave, AskedLeave, Ticked}
+use Rattle.srm_entries.specs.Hearing.{bytes_heard}
+use Rattle.srm_entries.specs.Giving.{given}
+use Rattle.srm_agent_parts.specs.declared.out.Out.{Out}
+use Rattle.srm_agent_parts.specs.Outs.{IsOut}
+use Rattle.srm_world.specs.Traces.{Journal}
+use Rattle.srm_world.specs.Claims.{IsLawfulJournal}
+use Rattle.srm_world.specs.Recording.{with_entry}
+use Rattle.srm_node.specs.declared.limits.TheConstants.{RECEIVED}
+use Rattle.srm_wire.specs.Wires.{Told, TellsMore}
+use Rattle.srm_node.specs.Carrying.{with_entries, Carries, CarriesEach, drawing}
+
+-- LISTENING
+
+-- the entry says what these bytes are to the member: the datagram that they spell, else noise
+abbrev pub IsHearing : Journal → List ℕ → Entry → Type 0
+IsHearing j bytes e = (e.input, e.verdict) ≡ bytes_heard j.start.config j.entries bytes
+
+-- an entry for each of these, in order, and no other
+abbrev pub HearsEach : Journal → List (List ℕ) → List Entry → Type 0
+HearsEach j [] [] = Unit {0}
+HearsEach j (b ∷ bs) (e ∷ es) = IsHearing j b e × HearsEach (with_entry j e) bs es
+HearsEach j _ _ = ⊥
+
+-- So many datagrams came, and each has its entry. A wire that tells has told of them, and then of so much more.
+pub record Listens (count : ℕ) (ended : List (Option (List ℕ))) (old new : Journal) (was is : Option Told) : Type 0 where
+  pub came : List (List ℕ)
+  pub entries : List Entry
+  pub counted : length came ≡ count
+  pub grown : new ≡ with_entries old entries
+  pub each : HearsEach old came entries
+  pub told : TellsMore (map (λ b. Some b) came ++ ended) [] was is
+
+-- as many came as a turn receives, or fewer and then none was there
+abbrev pub IsWhole : ℕ → List (Option (List ℕ)) → Type 0
+IsWhole count ended = ((count ≡ RECEIVED) × (ended ≡ [])) ⊎ ((count < RECEIVED) × (ended ≡ None ∷ []))
+
+-- what came was heard, and all of it unless a call failed
+pub record Listened (failed : Bool) (old new : Journal) (was is : Option Told) : Type 0 where
+  pub count : ℕ
+  pub ended : List (Option (List ℕ))
+  pub listens : Listens count ended old new was is
+  pub whole : OnFalse failed (IsWhole count ended)
+
+-- Memory ran out: what came was heard, but for the last of it, which is lost.
+pub record ListenedCut (old new : Journal) (was is : Option Told) : Type 0 where
+  pub count : ℕ
+  pub lost : List ℕ
+  pub few : count < RECEIVED
+  pub listens : Listens count (Some lost ∷ []) old new was is
+
+-- DRAWING
+
+-- strokes that were popped stand behind the one in hand
+pub record Pops (from to : WellView) (hand all : List Stroke) : Type 0 where
+  pub popped : List Stroke
+  pub received : to ≡ record from { received = from.received ++ popped }
+  pub all_is : all ≡ hand ++ popped
+
+-- of these strokes the first are drawn in order, each with its entry, and the others kept
+pub record DrawsOf (all kept : List Stroke) (old new : Journal) : Type 0 where
+  pub strokes : List Stroke
+  pub entries : List Entry
+  pub grown : new ≡ with_entries old entries
+  pub inputs : map (λ (e : Entry). e.input) entries ≡ map drawing strokes
+  pub all_is : all ≡ strokes ++ kept
+
+-- Strokes were popped, and all but the one in hand drawn in order.
+pub record Draws (old new : Journal) (from to : WellView) (hand kept : Option Stroke) : Type 0 where
+  pub all : List Stroke
+  pub pops : Pops from to (option_to_list hand) all
+  pub draws : DrawsOf all (option_to_list kept) old new
+
+-- LEAVING
+
+-- the member asked to leave, or not
+pub record Leaves (old new : Journal) : Type 0 where
+  pub entries : List Entry
+  pub grown : new ≡ with_entries old entries
+  pub once : length entries ≤ 1
+  pub inputs : AllByRecursion (λ (e : Entry). e.input ≡ AskedLeave) entries
+
+-- TICKING
+
+-- The entry is a tick's, which sends these, each spelled in the session.
+pub record IsTick (session : ℕ) (e : Entry) (outs : List Out) : Type 0 where
+  pub input : e.input ≡ Ticked
+  pub outs_are : map (λ (o : Out). o.datagram) outs ≡ e.effects.outs
+  pub spelled : AllByRecursion (IsOut session) outs
+
+-- the journal has one more entry, of a tick that sends these
+pub record Ticks (outs : List Out) (old new : Journal) : Type 0 where
+  pub entry : Entry
+  pub grown : new ≡ with_entry old entry
+  pub is_tick : IsTick old.start.config.session entry outs
+
+-- GIVING
+
+abbrev pub gives_in : ℕ → Input → Bool
+gives_in slot (Gave j) = slot == j
+gives_in slot _ = false
+
+-- the slot's next message was asked for, and there was none
+abbrev pub gave_nothing : ℕ → Entry → Bool
+gave_nothing slot e = gives_in slot e.input && is_none e.effects.message
+
+-- no credit is left as far as was seen, or there was nothing to give, or the feed is lost
+abbrev pub is_served : ℕ → List Entry → FeedView → Bool
+is_served slot es f = (credit_of f == 0) || list_any (gave_nothing slot) es || f.lost
+
+-- what a feed has put, has seen taken and whether it is lost may change, and no more
+abbrev pub SameFeed : FeedView → FeedView → Type 0
+SameFeed f g = g ≡ record f { put = g.put; seen = g.seen; lost = g.lost }
+
+-- The slot was given messages, and its lane carries them. At the end it is served.
+pub record Gives (slot : ℕ) (ended : Bool) (old new : Journal) (from to : FeedView) : Type 0 where
+  pub entries : List Entry
+  pub grown : new ≡ with_entries old entries
+  pub inputs : AllByRecursion (λ (e : Entry). e.input ≡ Gave slot) entries
+  pub lawful : IsLawfulJournal new
+  pub carries : Carries (given new.entries slot) to
+  pub same : SameFeed from to
+  pub served : OnTrue ended (is_served slot entries to ≡ true)
+
+abbrev pub SameFeeds : List FeedView → List FeedView → Type 0
+SameFeeds from to = (slot : ℕ) (f g : FeedView) → slice_get from slot ≡ Some f → slice_get to slot ≡ Some g → SameFeed f g
+
+abbrev pub is_give : Input → Bool
+is_give (Gave slot) = true
+is_give _ = false
+
+-- Slots were given messages, and their lanes carry them. Those below this one are served.
+pub record GivesUpTo (below : ℕ) (old new : Journal) (from to : List FeedView) : Type 0 where
+  pub entries : List Entry
+  pub grown : new ≡ with_entries old entries
+  pub inputs : AllByRecursion (λ (e : Entry). is_give e.input ≡ true) entries
+  pub lawful : IsLawfulJournal new
+  pub carries : CarriesEach new to
+  pub slots : length to ≡ length from
+  pub same : SameFeeds from to
+  pub served : (slot : ℕ) (f : FeedView) → slot < below → slice_get to slot ≡ Some f → is_served slot entries f ≡ true
+
+-- Memory ran out in one of the slots; those before are served.
+pub record GaveSome (old new : Journal) (from to : List FeedView) : Type 0 where
+  pub slot : ℕ
+  pub few : slot < PAGES
+  pub gives : GivesUpTo slot old new from to

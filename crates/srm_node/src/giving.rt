@@ -1,0 +1,104 @@
+//! Giving to the page workers.
+
+ghost use Rattle.std.specs.Prelude.{◌≡◌, ◌<◌, true, false, length, MatchResult};
+ghost use Rattle.srm_names.specs.declared.limits.TheConstants.{PAGES};
+ghost use Rattle.srm_pages.specs.Ends.{credit_of};
+ghost use Rattle.srm_entries.specs.Giving.{given};
+ghost use Rattle.srm_world.specs.Claims.{IsLawfulJournal};
+ghost use Rattle.srm_node.specs.Carrying.{Carries, CarriesEach};
+ghost use Rattle.srm_node.specs.Parts.{Gives, GivesUpTo, GaveSome};
+
+use crate::fault::OutOfMemory;
+use srm_names::{PAGES, PageMsg};
+use srm_pages::Feed;
+use srm_timers::Words;
+use srm_world::Recorder;
+use std::sync::Wait;
+
+/// Gives each slot while there is credit and something to give, unless its feed is lost. Counts the closes that were put: each lane has one.
+pub fn give_all<R: Wait, W: Words + Drop>(
+    rt: &R,
+    recorder: &mut Recorder<W>,
+    feeds: &mut Vec<Feed>,
+    closed: &mut u8,
+) -> Result<(), OutOfMemory>
+    requires lawful { IsLawfulJournal recorder.old.journal }
+    requires slots { length feeds.old.items ≡ PAGES }
+    requires carries { CarriesEach recorder.old.journal feeds.old.items }
+    ensures { MatchResult result (λ _. GivesUpTo PAGES recorder.old.journal recorder.new.journal feeds.old.items feeds.new.items)
+        (λ _. GaveSome recorder.old.journal recorder.new.journal feeds.old.items feeds.new.items) }
+{
+    for slot in 0..PAGES {
+        let feed = &mut feeds[usize::from(slot)];
+        let Ok(()) = give_slot(rt, recorder, feed, slot, closed) else {
+            return Err(OutOfMemory);
+        };
+    }
+    Ok(())
+}
+
+// Gives a slot while there is credit and something to give, unless its feed is lost.
+fn give_slot<R: Wait, W: Words + Drop>(
+    rt: &R,
+    recorder: &mut Recorder<W>,
+    feed: &mut Feed,
+    slot: u8,
+    closed: &mut u8,
+) -> Result<(), OutOfMemory>
+    requires lawful { IsLawfulJournal recorder.old.journal }
+    requires slot { slot < PAGES }
+    requires carries { Carries (given recorder.old.journal.entries slot) feed.old }
+    ensures { MatchResult result (λ _. Gives slot true recorder.old.journal recorder.new.journal feed.old feed.new)
+        (λ _. Gives slot false recorder.old.journal recorder.new.journal feed.old feed.new) }
+{
+    for _ in rt.forever() {
+        if feed.is_lost() {
+            return Ok(());
+        }
+        if feed.credit() == 0 {
+            return Ok(());
+        }
+        if give_next(rt, recorder, feed, slot, closed)? {
+            return Ok(());
+        }
+    }
+    unreachable!()
+}
+
+// Gives the next message of a slot. Whether there was none, or the feed is lost.
+fn give_next<R: Wait, W: Words + Drop>(
+    rt: &R,
+    recorder: &mut Recorder<W>,
+    feed: &mut Feed,
+    slot: u8,
+    closed: &mut u8,
+) -> Result<bool, OutOfMemory>
+    requires lawful { IsLawfulJournal recorder.old.journal }
+    requires slot { slot < PAGES }
+    requires stands { feed.old.lost ≡ false }
+    requires credit { 0 < credit_of feed.old }
+    requires carries { Carries (given recorder.old.journal.entries slot) feed.old }
+    ensures { MatchResult result (λ ended. Gives slot ended recorder.old.journal recorder.new.journal feed.old feed.new)
+        (λ _. Gives slot false recorder.old.journal recorder.new.journal feed.old feed.new) }
+{
+    let Ok(given) = recorder.give(slot) else {
+        return Err(OutOfMemory);
+    };
+    let Some(message) = given else {
+        return Ok(true);
+    };
+    let closes = closes(&message);
+    let Ok(()) = feed.put(rt, message) else {
+        return Ok(true);
+    };
+    *closed = closed.saturating_add(closes);
+    Ok(false)
+}
+
+// One for a close.
+fn closes(message: &PageMsg) -> u8 {
+    match message {
+        PageMsg::Close => 1,
+        _ => 0,
+    }
+}

@@ -1,0 +1,292 @@
+//! A node and its page workers, in threads.
+
+ghost use Rattle.std.specs.Prelude.{◌≡◌, ◌+◌, ◌<◌, ◌≤◌, true, [], ◌∷◌, ◌++◌, map, length, vec_len, vec_capacity, IfOk, IfSome, MatchResult};
+ghost use Rattle.std.specs.Bool.{OnTrue, OnFalse};
+ghost use Rattle.srm_names.specs.declared.limits.TheConstants.{PAGES};
+ghost use Rattle.srm_node.specs.Nodes.{Keeps};
+ghost use Rattle.srm_node.specs.Turns.{RunsUpTo};
+ghost use Rattle.srm_node.specs.Working.{Took};
+ghost use Rattle.srm_node.specs.Hosting.{started, Starts, StartsSome, StopsBy, WorkedEach, Hosts, HostFails, AreEndsOfLanes};
+
+use crate::clock::Clock;
+use crate::fault::NodeFault;
+use crate::node::Node;
+use crate::sink::PageSink;
+use crate::working::{Worked, work};
+use srm_names::PAGES;
+use srm_pages::{Feed, Tap};
+use srm_timers::Words;
+use srm_wire::Wire;
+use srm_world::Journal;
+use std::alloc::{AllocError, Global};
+use std::collections::VecDeque;
+use std::snapshot::Snapshot;
+use std::sync::Wait;
+use std::thread;
+use std::thread::{Promise, PromisedHandle, Threads};
+
+/// A worker's promise: its tap is of the lane of this one, and took what its list has.
+#[derive(Drop)]
+pub struct WorksOn(Snapshot<Tap>);
+
+impl Promise<Worked> for WorksOn {
+    ghost use Rattle.srm_node.specs.Working.{Took};
+
+    ghost kept_by = { λ p w. Took p.0.value w.tap w.list.items };
+}
+
+/// A worker in its thread.
+#[derive(Drop)]
+pub struct Worker {
+    handle: PromisedHandle<Worked, WorksOn>,
+}
+
+/// What became of a node and its workers.
+#[derive(Drop)]
+pub struct Hosted {
+    pub journal: Journal,
+    /// None after a fault: they were let go, so that the workers end.
+    pub feeds: Vec<Feed>,
+    pub worked: Vec<Worked>,
+    pub end: Result<(), NodeFault>,
+}
+
+#[tactic(auto, using(crate::proofs::Hosts::host_ends, crate::proofs::Hosts::host_lanes))]
+/// Runs a node in this thread, and in threads of their own eight page workers, one for each tap and its sink. After a fault the feeds are
+/// let go, so that the workers end. Where a worker can't be started, the end is fault 2, the node isn't turned, and those that were started
+/// are handed back. Only want of memory before any worker is started refuses it.
+pub fn host<
+    R: Threads + Wait + Copy + Send + 'static,
+    W: Words + Drop,
+    X: Wire + Drop,
+    C: Clock + Drop,
+    S: PageSink + Send + Drop + 'static,
+>(
+    rt: &R,
+    alloc: Global,
+    node: Node<W, X, C>,
+    taps: Vec<Tap>,
+    sinks: Vec<S>,
+    turns: u64,
+) -> Result<Hosted, AllocError>
+    requires taps { vec_len taps ≡ PAGES }
+    requires sinks { vec_len sinks ≡ PAGES }
+    ensures hosts { IfOk result (λ h. MatchResult h.end (λ _. Hosts node taps.items turns h) (λ fault. HostFails node taps.items turns fault h)) }
+    ensures lanes { IfOk result (λ h. IfOk h.end (λ _. AreEndsOfLanes node.feeds taps.items → AreEndsOfLanes h.feeds.items (map (λ w. w.tap) h.worked.items))) }
+{
+    let (mut workers, mut worked) = places(alloc)?;
+    let all = begin(rt, alloc, taps, sinks, &mut workers, &mut worked);
+    Ok(go(rt, alloc, node, all, turns, workers, worked))
+}
+
+// No workers yet, and nothing that they handed back.
+fn places(alloc: Global) -> Result<(VecDeque<Worker>, Vec<Worked>), AllocError>
+    ensures { IfOk result (λ p. (p.0.items ≡ []) × (p.1.items ≡ [])) }
+{
+    let mut workers = VecDeque::new(alloc);
+    workers.reserve(usize::from(PAGES))?;
+    let mut worked = Vec::new(alloc);
+    worked.reserve(usize::from(PAGES))?;
+    Ok((workers, worked))
+}
+
+// Runs the node where all workers were started, and waits for them.
+fn go<R: Threads + Wait, W: Words + Drop, X: Wire + Drop, C: Clock + Drop>(
+    rt: &R,
+    alloc: Global,
+    node: Node<W, X, C>,
+    all: bool,
+    turns: u64,
+    workers: VecDeque<Worker>,
+    worked: Vec<Worked>,
+) -> Hosted
+    requires room { vec_len worked + length workers.items ≤ vec_capacity worked }
+    requires none { worked.items ≡ [] }
+    ensures { MatchResult result.end (λ _. (all ≡ true) × Hosts node (map started workers.items) turns result) (λ fault. HostFails node (map started workers.items) turns fault result) }
+{
+    let mut node = node;
+    let end = run_if(rt, &mut node, all, turns);
+    let (journal, feeds) = node.finish();
+    let feeds = kept(alloc, feeds, end.is_ok());
+    let worked = join_all(rt, workers, worked);
+    Hosted {
+        journal,
+        feeds,
+        worked,
+        end,
+    }
+}
+
+// Starts the workers. Whether all were started.
+fn begin<R: Threads + Wait + Copy + Send + 'static, S: PageSink + Send + Drop + 'static>(
+    rt: &R,
+    alloc: Global,
+    taps: Vec<Tap>,
+    sinks: Vec<S>,
+    workers: &mut VecDeque<Worker>,
+    worked: &mut Vec<Worked>,
+) -> bool
+    requires taps { vec_len taps ≡ PAGES }
+    requires none { (workers.old.items ≡ []) × (worked.old.items ≡ []) }
+    ensures room { vec_len worked.new + length workers.new.items ≤ vec_capacity worked.new }
+    ensures none { worked.new.items ≡ [] }
+    ensures all { OnTrue result (map started workers.new.items ≡ taps.items) }
+    ensures some { StartsSome taps.items workers.new.items }
+{
+    let mut taps = VecDeque::from(taps);
+    let mut sinks = VecDeque::from(sinks);
+    start_all(rt, alloc, &mut taps, &mut sinks, workers, worked)
+}
+
+// Runs the node where all workers were started.
+fn run_if<R: Wait, W: Words + Drop, X: Wire + Drop, C: Clock + Drop>(
+    rt: &R,
+    node: &mut Node<W, X, C>,
+    all: bool,
+    turns: u64,
+) -> Result<(), NodeFault>
+    ensures { MatchResult result (λ _. (all ≡ true) × Keeps node.new × RunsUpTo turns node.old node.new) (λ fault. StopsBy fault turns node.old node.new) }
+{
+    if !all {
+        return Err(NodeFault::Memory);
+    }
+    node.run(rt, turns)
+}
+
+// The feeds, or none, and they are let go.
+fn kept(alloc: Global, feeds: Vec<Feed>, keeps: bool) -> Vec<Feed>
+    ensures feeds { OnTrue keeps (result.items ≡ feeds.items) }
+    ensures none { OnFalse keeps (result.items ≡ []) }
+{
+    if keeps { feeds } else { Vec::new(alloc) }
+}
+
+// Starts a worker for each tap, with the sink at its place, until one can't be started. Whether all were.
+fn start_all<R: Threads + Wait + Copy + Send + 'static, S: PageSink + Send + Drop + 'static>(
+    rt: &R,
+    alloc: Global,
+    taps: &mut VecDeque<Tap>,
+    sinks: &mut VecDeque<S>,
+    workers: &mut VecDeque<Worker>,
+    worked: &mut Vec<Worked>,
+) -> bool
+    requires taps { length taps.old.items ≡ PAGES }
+    requires none { (workers.old.items ≡ []) × (worked.old.items ≡ []) }
+    ensures room { vec_len worked.new + length workers.new.items ≤ vec_capacity worked.new }
+    ensures none { worked.new.items ≡ [] }
+    ensures all { OnTrue result (map started workers.new.items ≡ taps.old.items) }
+    ensures some { StartsSome taps.old.items workers.new.items }
+{
+    for done in 0..PAGES {
+        if !start_next(rt, alloc, taps, sinks, workers, worked) {
+            return false;
+        }
+    }
+    true
+}
+
+// Starts a worker for the first tap that is left. Whether it was started.
+fn start_next<R: Threads + Wait + Copy + Send + 'static, S: PageSink + Send + Drop + 'static>(
+    rt: &R,
+    alloc: Global,
+    taps: &mut VecDeque<Tap>,
+    sinks: &mut VecDeque<S>,
+    workers: &mut VecDeque<Worker>,
+    worked: &mut Vec<Worked>,
+) -> bool
+    requires room { vec_len worked.old + length workers.old.items ≤ vec_capacity worked.old }
+    ensures room { vec_len worked.new + length workers.new.items ≤ vec_capacity worked.new }
+    ensures none { worked.new.items ≡ worked.old.items }
+    ensures next { OnTrue result (Starts taps.old.items taps.new.items workers.old.items workers.new.items) }
+    ensures same { OnFalse result (map started workers.new.items ≡ map started workers.old.items) }
+{
+    let Some(tap) = taps.pop_front() else {
+        return false;
+    };
+    let Some(sink) = sinks.pop_front() else {
+        return false;
+    };
+    start_one(rt, alloc, tap, sink, workers, worked)
+}
+
+// Starts a worker once there is a place for what it hands back. Whether it was started.
+fn start_one<R: Threads + Wait + Copy + Send + 'static, S: PageSink + Send + Drop + 'static>(
+    rt: &R,
+    alloc: Global,
+    tap: Tap,
+    sink: S,
+    workers: &mut VecDeque<Worker>,
+    worked: &mut Vec<Worked>,
+) -> bool
+    requires room { vec_len worked.old + length workers.old.items ≤ vec_capacity worked.old }
+    ensures room { vec_len worked.new + length workers.new.items ≤ vec_capacity worked.new }
+    ensures none { worked.new.items ≡ worked.old.items }
+    ensures one { OnTrue result (map started workers.new.items ≡ map started workers.old.items ++ tap ∷ []) }
+    ensures same { OnFalse result (map started workers.new.items ≡ map started workers.old.items) }
+{
+    if workers.reserve(1).is_err() {
+        return false;
+    }
+    if worked.reserve(workers.len().saturating_add(1)).is_err() {
+        return false;
+    }
+    let Some(worker) = start(rt, alloc, tap, sink) else {
+        return false;
+    };
+    workers.push_back(worker).is_ok()
+}
+
+// Starts a worker. None where there is no thread for it.
+fn start<R: Threads + Wait + Copy + Send + 'static, S: PageSink + Send + Drop + 'static>(
+    rt: &R,
+    alloc: Global,
+    tap: Tap,
+    sink: S,
+) -> Option<Worker>
+    ensures { IfSome result (λ w. started w ≡ tap) }
+{
+    let own = *rt;
+    let promise = WorksOn(Snapshot::of(&tap));
+    let spawned = thread::spawn_with(rt, promise, move || {
+        let mut sink = sink;
+        work(&own, alloc, tap, &mut sink)
+    });
+    match spawned {
+        Ok(handle) => Some(Worker { handle }),
+        Err(_) => None,
+    }
+}
+
+// Waits for all workers.
+fn join_all<R: Threads>(rt: &R, workers: VecDeque<Worker>, worked: Vec<Worked>) -> Vec<Worked>
+    requires room { vec_len worked + length workers.items ≤ vec_capacity worked }
+    requires none { worked.items ≡ [] }
+    ensures { WorkedEach (map started workers.items) result.items }
+{
+    let mut left = workers;
+    let mut worked = worked;
+    for done in 0..left.len() {
+        let Some(worker) = left.pop_front() else {
+            unreachable!()
+        };
+        let one = join_one(rt, worker);
+        put(&mut worked, one);
+    }
+    worked
+}
+
+fn join_one<R: Threads>(rt: &R, worker: Worker) -> Worked
+    ensures { Took (started worker) result.tap result.list.items }
+{
+    let Worker { handle } = worker;
+    handle.join(rt)
+}
+
+// Puts one where there is a place for it.
+fn put(worked: &mut Vec<Worked>, one: Worked)
+    requires { vec_len worked.old < vec_capacity worked.old }
+    ensures items { worked.new.items ≡ worked.old.items ++ one ∷ [] }
+    ensures room { (vec_len worked.new ≡ vec_len worked.old + 1) × (vec_capacity worked.old ≤ vec_capacity worked.new) }
+{
+    let _ = worked.push(one);
+}

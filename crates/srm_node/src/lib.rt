@@ -1,0 +1,25 @@
+//! A member that takes part in a session: its agent over a wire and a clock, with page workers and local pens in threads.
+#![tactic(auto)]
+
+mod clock;
+mod counting;
+mod drawing;
+mod fault;
+mod giving;
+mod hosting;
+mod limits;
+mod listening;
+mod node;
+mod sending;
+mod sink;
+mod ticking;
+mod working;
+
+pub use clock::Clock;
+pub use counting::Counts;
+pub use fault::NodeFault;
+pub use hosting::{Hosted, Worker, WorksOn, host};
+pub use node::Node;
+pub use sink::PageSink;
+pub use srm_wire::{Fate, Flaky, MemWire, Sent, Wire, WireFault, hub};
+pub use working::{WorkEnd, Worked, work};

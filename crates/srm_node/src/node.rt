@@ -1,0 +1,287 @@
+//! A member that takes part in a session.
+
+ghost use Rattle.std.specs.Prelude.{◌≡◌, ◌≤◌, true, false, [], None, IfOk, MatchResult};
+ghost use Rattle.srm_names.specs.declared.limits.TheConstants.{MOMENT, PAGES};
+ghost use Rattle.srm_node.specs.Counting.{counts_of};
+ghost use Rattle.srm_node.specs.Nodes.{Keeps, AreNewFeeds, IsNewNode};
+ghost use Rattle.srm_node.specs.Turns.{HearsNow, DrawsNow, LeavesNow, TicksNow, GivesNow, HearsCut, DrawsCut, GivesCut, TurnEnds, Paused, RunEnds};
+
+use crate::clock::Clock;
+use crate::counting::{Counts, counts_in};
+use crate::drawing::draw_strokes;
+use crate::fault::{NodeFault, OutOfMemory};
+use crate::giving::give_all;
+use crate::limits::BUFFER;
+use crate::listening::listen;
+use crate::sending::send_all;
+use crate::ticking::{leave, tick};
+use srm_agent::{AgentState, Config};
+use srm_names::{MOMENT, PAGES};
+use srm_pages::ends::Well;
+use srm_pages::{Feed, Stroke};
+use srm_timers::Words;
+use srm_wire::Wire;
+use srm_world::{Journal, Recorder};
+use std::alloc::{AllocError, Global};
+use std::marker::Model;
+use std::sync::Wait;
+
+/// A member that takes part in a session: its agent over a wire and a clock, the feeds of its page workers, and the well of its pens.
+/// Contracts see it as a record.
+#[derive(Drop)]
+pub struct Node<W: Words + Drop, X: Wire + Drop, C: Clock + Drop> {
+    config: Config,
+    recorder: Recorder<W>,
+    feeds: Vec<Feed>,
+    well: Well,
+    hand: Option<Stroke>,
+    wire: X,
+    clock: C,
+    buffer: Vec<u8>,
+    leave_at: Option<u64>,
+    // Whether the member is gone, and how many lanes had their close.
+    gone: bool,
+    closed: u8,
+}
+
+impl<W: Words + Drop, X: Wire + Drop, C: Clock + Drop> Model for Node<W, X, C> {
+    ghost use Rattle.std.specs.Prelude.{vec_len};
+    ghost use Rattle.srm_node.specs.Nodes.{NodeView, IsNode};
+
+    ghost Value = { NodeView };
+
+    ghost view = { λ n. record {
+      journal = n.recorder.journal;
+      feeds = n.feeds.items;
+      well = n.well;
+      hand = n.hand;
+      failures = X.failed n.wire;
+      told = X.told n.wire;
+    } };
+
+    ghost invariant = { λ n. IsNode (record {
+      journal = n.recorder.journal;
+      feeds = n.feeds.items;
+      well = n.well;
+      hand = n.hand;
+      failures = X.failed n.wire;
+      told = X.told n.wire;
+    }) n.config (vec_len n.buffer) };
+}
+
+impl<W: Words + Drop, X: Wire + Drop, C: Clock + Drop> Node<W, X, C> {
+    /// A node that did nothing yet. The feeds are eight that put nothing and aren't lost, and nothing was received of the well. Only
+    /// want of memory refuses it.
+    pub fn new(
+        alloc: Global,
+        config: Config,
+        words: W,
+        wire: X,
+        clock: C,
+        feeds: Vec<Feed>,
+        well: Well,
+    ) -> Result<Node<W, X, C>, AllocError>
+        requires feeds { AreNewFeeds feeds.items }
+        requires well { well.received ≡ [] }
+        ensures { IfOk result (λ node. IsNewNode config feeds.items well (X.failed wire) (X.told wire) node) }
+    {
+        let now = clock.now().min(MOMENT);
+        Ok(Node {
+            config,
+            recorder: Recorder::new(alloc, config, words, now)?,
+            feeds,
+            well,
+            hand: None,
+            wire,
+            clock,
+            buffer: vec![in alloc; 0; BUFFER]?,
+            leave_at: None,
+            gone: false,
+            closed: 0,
+        })
+    }
+
+    /// The node leaves at the first turn at or after this moment whose well is empty and whose pens are done.
+    pub fn ask_leave(&mut self, at: u64)
+        ensures { self.new ≡ self.old }
+    {
+        self.leave_at = Some(at);
+    }
+
+    /// One turn: the clock is read; what came is heard, up to 64 datagrams; up to 64 strokes are drawn; the member leaves if that is due; it ticks
+    /// once, and what the tick sends goes to every other member, rising; and each slot is given while there is credit.
+    ///
+    /// After fault 1, by which a call of the wire failed, the turn was done to its end, and what couldn't be sent counts as lost. After
+    /// fault 2 it was cut in one of its parts, and the parts before were done: a stroke in hand is kept for the next turn, a datagram in
+    /// hand counts as lost. Fault 2 is the answer too where fault 1 would have come in that turn.
+    pub fn turn<R: Wait>(&mut self, rt: &R) -> Result<(), NodeFault>
+        ensures keeps { Keeps self.new }
+        ensures turns { TurnEnds result self.old self.new }
+    {
+        let now = self.clock.now().min(MOMENT);
+        let Ok(unheard) = self.listen_now(now) else {
+            return Err(NodeFault::Memory);
+        };
+        let done = self.well.is_done();
+        let Ok(empty) = self.draw_now(rt, now) else {
+            return Err(NodeFault::Memory);
+        };
+        let Ok(()) = self.leave_now(done && empty, now) else {
+            return Err(NodeFault::Memory);
+        };
+        let Ok(unsent) = self.tick_now(now) else {
+            return Err(NodeFault::Memory);
+        };
+        let Ok(()) = self.give_now(rt) else {
+            return Err(NodeFault::Memory);
+        };
+        if unheard | unsent {
+            return Err(NodeFault::Wire);
+        }
+        Ok(())
+    }
+
+    /// How much of what the member was given came to nothing so far. It takes no memory, and looks at all entries.
+    pub fn counts(&self) -> Counts
+        ensures { result ≡ counts_of self.now.journal.entries }
+    {
+        counts_in(self.recorder.entries())
+    }
+
+    /// Gives the node up for its journal and its feeds. It takes no memory.
+    pub fn finish(self) -> (Journal, Vec<Feed>)
+        ensures journal { result.0 ≡ self.journal }
+        ensures feeds { result.1.items ≡ self.feeds }
+        ensures keeps { Keeps self }
+    {
+        (self.recorder.finish(), self.feeds)
+    }
+
+    /// Turns, with a pause until something is due, of at most 10,000 microseconds, between, until the member is gone and each lane had its
+    /// close or lost its tap. It stops at the first fault, and may be called again. Fault 3: the turns are spent.
+    pub fn run<R: Wait>(&mut self, rt: &R, turns: u64) -> Result<(), NodeFault>
+        ensures keeps { Keeps self.new }
+        ensures runs { RunEnds result turns self.old self.new }
+    {
+        let _ = &self.feeds;
+        for done in 0..turns {
+            if self.is_ended() {
+                return Ok(());
+            }
+            self.pause(done > 0);
+            self.turn(rt)?;
+        }
+        if self.is_ended() {
+            Ok(())
+        } else {
+            Err(NodeFault::Turns)
+        }
+    }
+
+    // Whether the member is gone and each lane had its close or lost its tap.
+    fn is_ended(&self) -> bool {
+        let lost = self.feeds.iter().filter(|feed| feed.is_lost()).count();
+        self.gone && lost.saturating_add(usize::from(self.closed)) >= usize::from(PAGES)
+    }
+
+    // Waits until something is due, but not long.
+    fn pause(&mut self, waits: bool)
+        ensures keeps { Keeps self.new }
+        ensures paused { Paused self.old self.new }
+    {
+        let now = self.clock.now().min(MOMENT);
+        let micros = time_to_wait(self.recorder.next_due(), now, waits);
+        self.wire.pause(micros);
+    }
+
+    // Hears what came. Whether a call failed.
+    fn listen_now(&mut self, now: u64) -> Result<bool, OutOfMemory>
+        requires { now ≤ MOMENT }
+        ensures keeps { Keeps self.new }
+        ensures hears { MatchResult result (λ unheard. HearsNow unheard self.old self.new) (λ _. HearsCut self.old self.new) }
+    {
+        listen(
+            &mut self.recorder,
+            &mut self.wire,
+            self.buffer.as_mut_slice(),
+            now,
+        )
+    }
+
+    // Draws strokes. Whether the well was empty.
+    fn draw_now<R: Wait>(&mut self, rt: &R, now: u64) -> Result<bool, OutOfMemory>
+        requires { now ≤ MOMENT }
+        ensures keeps { Keeps self.new }
+        ensures draws { MatchResult result (λ _. DrawsNow self.old self.new) (λ _. DrawsCut self.old self.new) }
+    {
+        let hand = self.hand.take();
+        let (kept, drawn) = draw_strokes(rt, &mut self.recorder, &mut self.well, hand, now);
+        self.hand = kept;
+        drawn
+    }
+
+    // Leaves if the node was asked to by now, and may.
+    fn leave_now(&mut self, may: bool, now: u64) -> Result<(), OutOfMemory>
+        requires { now ≤ MOMENT }
+        ensures keeps { Keeps self.new }
+        ensures leaves { MatchResult result (λ _. LeavesNow self.old self.new) (λ _. self.new ≡ self.old) }
+    {
+        let asked = self.leave_at;
+        let due = may && is_due(asked, now);
+        let left = leave(&mut self.recorder, due, now);
+        self.leave_at = still_asked(asked, due && left.is_ok());
+        left
+    }
+
+    // Ticks once, and sends. Whether a call failed.
+    fn tick_now(&mut self, now: u64) -> Result<bool, OutOfMemory>
+        requires { now ≤ MOMENT }
+        ensures keeps { Keeps self.new }
+        ensures ticks { MatchResult result (λ unsent. TicksNow unsent self.old self.new) (λ _. self.new ≡ self.old) }
+    {
+        let Ok(ticked) = tick(&mut self.recorder, now) else {
+            return Err(OutOfMemory);
+        };
+        self.gone = is_gone(ticked.state);
+        Ok(send_all(
+            &mut self.wire,
+            self.config.me(),
+            self.config.members(),
+            ticked.outs.as_slice(),
+        ))
+    }
+
+    // Gives all slots messages.
+    fn give_now<R: Wait>(&mut self, rt: &R) -> Result<(), OutOfMemory>
+        ensures keeps { Keeps self.new }
+        ensures gives { MatchResult result (λ _. GivesNow PAGES self.old self.new) (λ _. GivesCut self.old self.new) }
+    {
+        give_all(rt, &mut self.recorder, &mut self.feeds, &mut self.closed)
+    }
+}
+
+fn is_due(asked: Option<u64>, now: u64) -> bool {
+    match asked {
+        Some(at) => at <= now,
+        None => false,
+    }
+}
+
+fn still_asked(asked: Option<u64>, left: bool) -> Option<u64> {
+    if left { None } else { asked }
+}
+
+fn is_gone(state: AgentState) -> bool {
+    matches!(state, AgentState::Gone)
+}
+
+// The longest pause between two turns, in microseconds.
+const LONGEST_PAUSE: u64 = 10_000;
+
+fn time_to_wait(due: Option<u64>, now: u64, waits: bool) -> u64 {
+    match due {
+        _ if !waits => 0,
+        Some(due) => due.saturating_sub(now).min(LONGEST_PAUSE),
+        None => LONGEST_PAUSE,
+    }
+}

@@ -1,0 +1,23 @@
+//! Datagrams to all other members.
+
+ghost use Rattle.std.specs.Prelude.{◌≤◌, map};
+ghost use Rattle.srm_names.specs.declared.limits.TheConstants.{MEMBERS};
+ghost use Rattle.srm_agent_parts.specs.declared.out.Out.{Out as SentOut};
+ghost use Rattle.srm_wire.specs.Wires.{Sends, dispatched};
+
+use srm_agent::Out;
+use srm_names::Member;
+use srm_wire::{Wire, send_to_others};
+
+/// Sends each of these to every other member, rising, whatever fails. Whether a send failed.
+pub fn send_all<X: Wire>(wire: &mut X, me: Member, members: u8, outs: &[Out]) -> bool
+    requires { members ≤ MEMBERS }
+    ensures { Sends result (dispatched me members (map (λ (o : SentOut). o.bytes) outs.now)) (X.failed wire.old) (X.failed wire.new) (X.told wire.old) (X.told wire.new) }
+{
+    let mut failed = false;
+    for out in outs {
+        let lost = send_to_others(wire, me, members, out.bytes.as_slice());
+        failed = failed | lost;
+    }
+    failed
+}

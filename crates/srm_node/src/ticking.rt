@@ -1,0 +1,46 @@
+//! One tick.
+
+ghost use Rattle.std.specs.Prelude.{◌≡◌, ◌≤◌, MatchResult};
+ghost use Rattle.srm_names.specs.declared.limits.TheConstants.{MOMENT};
+ghost use Rattle.srm_world.specs.Claims.{IsLawfulJournal};
+ghost use Rattle.srm_node.specs.Parts.{Leaves, Ticks};
+
+use crate::fault::{OutOfMemory, is_memory};
+use srm_agent::Ticked;
+use srm_timers::Words;
+use srm_world::Recorder;
+
+/// Ticks once.
+pub fn tick<W: Words + Drop>(recorder: &mut Recorder<W>, now: u64) -> Result<Ticked, OutOfMemory>
+    requires { now ≤ MOMENT }
+    ensures lawful { IsLawfulJournal recorder.new.journal }
+    ensures ticks { MatchResult result (λ ticked. Ticks ticked.outs recorder.old.journal recorder.new.journal) (λ _. recorder.new.journal ≡ recorder.old.journal) }
+{
+    match recorder.tick(now) {
+        Ok(ticked) => Ok(ticked),
+        Err(_) => Err(OutOfMemory),
+    }
+}
+
+/// Asks to leave where that is due. A refusal for another cause than memory has its entry.
+pub fn leave<W: Words + Drop>(
+    recorder: &mut Recorder<W>,
+    due: bool,
+    now: u64,
+) -> Result<(), OutOfMemory>
+    requires moment { now ≤ MOMENT }
+    requires lawful { IsLawfulJournal recorder.old.journal }
+    ensures lawful { IsLawfulJournal recorder.new.journal }
+    ensures leaves { MatchResult result (λ _. Leaves recorder.old.journal recorder.new.journal) (λ _. recorder.new.journal ≡ recorder.old.journal) }
+{
+    if !due {
+        return Ok(());
+    }
+    let Err(fault) = recorder.leave(now) else {
+        return Ok(());
+    };
+    if is_memory(fault) {
+        return Err(OutOfMemory);
+    }
+    Ok(())
+}
