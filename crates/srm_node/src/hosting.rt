@@ -8,7 +8,6 @@ ghost use Rattle.srm_node.specs.Turns.{RunsUpTo};
 ghost use Rattle.srm_node.specs.Working.{Took};
 ghost use Rattle.srm_node.specs.Hosting.{started, Starts, StartsSome, StopsBy, WorkedEach, Hosts, HostFails, AreEndsOfLanes};
 
-use crate::clock::Clock;
 use crate::fault::NodeFault;
 use crate::node::Node;
 use crate::sink::PageSink;
@@ -16,7 +15,7 @@ use crate::working::{Worked, work};
 use srm_names::PAGES;
 use srm_pages::{Feed, Tap};
 use srm_timers::Words;
-use srm_wire::Wire;
+use srm_wire::{Clock, Wire};
 use srm_world::Journal;
 use std::alloc::{AllocError, Global};
 use std::collections::VecDeque;

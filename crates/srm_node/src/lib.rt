@@ -15,11 +15,10 @@ mod sink;
 mod ticking;
 mod working;
 
-pub use clock::Clock;
 pub use counting::Counts;
 pub use fault::NodeFault;
 pub use hosting::{Hosted, Worker, WorksOn, host};
 pub use node::Node;
 pub use sink::PageSink;
-pub use srm_wire::{Fate, Flaky, MemWire, Sent, Wire, WireFault, hub};
+pub use srm_wire::{Clock, Fate, Flaky, MemWire, Sent, Wire, WireFault, hub};
 pub use working::{WorkEnd, Worked, work};

@@ -1,9 +1,10 @@
-//! Wires: what carries datagrams between the members of a session.
+//! Wires: what carries datagrams between the members of a session, and the clock beside them.
 //!
-//! A node stands on the trait [`Wire`]. Here are also a network in memory ([`hub`] of [`MemWire`]s) and a wire that fails once ([`Flaky`]),
-//! both for tests; they tell what they answered and took.
+//! A node stands on the traits [`Wire`] and [`Clock`]. Here are also a network in memory ([`hub`] of [`MemWire`]s) and a wire that fails once
+//! ([`Flaky`]), both for tests; they tell what they answered and took.
 #![tactic(auto)]
 
+mod clock;
 mod fates;
 mod flaky;
 mod mem_wire;
@@ -12,6 +13,7 @@ mod sending;
 mod sent;
 mod wire;
 
+pub use clock::Clock;
 pub use fates::{Fate, Fates, LateCopy};
 pub use flaky::Flaky;
 pub use mem_wire::MemWire;
