@@ -1,0 +1,20 @@
+//! A wire over UDP, and the system's clock.
+//!
+//! ```
+//! let wire = UdpWire::bind(&rt, alloc, me, addresses)?; // the members' addresses, by number
+//! let clock = SystemClock::new(rt)?;
+//! ```
+//!
+//! **What fails.** A `send` or `receive` for which the system answers an error, but for those of [`is_loss`]: what these lose is lost as on
+//! any way, and is requested again. So a member that ends, and whose port is closed then, ends no other.
+#![tactic(auto)]
+
+mod loss;
+mod system_clock;
+#[cfg(test)]
+mod tests;
+mod udp_wire;
+
+pub use loss::is_loss;
+pub use system_clock::SystemClock;
+pub use udp_wire::UdpWire;

@@ -1,0 +1,272 @@
+//! Wires over loopback, and the clock.
+
+use crate::{SystemClock, UdpWire, is_loss};
+use mio::net::UdpSocket;
+use srm_names::Member;
+use srm_wire::{Clock, Wire, WireFault};
+use std::alloc::Global;
+use std::io::ErrorKind;
+use std::net::{Ipv4Addr, Net, SocketAddr};
+use std::process::Abort;
+use std::test::Fail;
+use std::time::Duration;
+use std::{io, thread, time};
+
+/// Some port of this machine.
+fn local() -> SocketAddr {
+    SocketAddr::from((Ipv4Addr::LOCALHOST, 0))
+}
+
+/// The wires of two members.
+fn pair(rt: &impl Net, alloc: Global) -> io::Result<(UdpWire, UdpWire)> {
+    let near = UdpSocket::bind(rt, local())?;
+    let far = UdpSocket::bind(rt, local())?;
+    let addresses = [near.local_addr()?, far.local_addr()?];
+    Ok((
+        UdpWire::over(rt, alloc, near, addresses.to_vec(alloc)?)?,
+        UdpWire::over(rt, alloc, far, addresses.to_vec(alloc)?)?,
+    ))
+}
+
+/// A wire to one member, at this address.
+fn wire_to(rt: &impl Net, alloc: Global, address: SocketAddr) -> io::Result<UdpWire> {
+    let socket = UdpSocket::bind(rt, local())?;
+    UdpWire::over(rt, alloc, socket, [address].to_vec(alloc)?)
+}
+
+fn send(wire: &mut UdpWire, to: u8, datagram: &[u8]) -> Result<(), WireFault> {
+    match Member::new(to) {
+        Some(to) => wire.send(to, datagram),
+        None => Err(WireFault),
+    }
+}
+
+fn assert_sends<R: Abort>(rt: &R, wire: &mut UdpWire, to: u8, datagram: &[u8]) {
+    assert_eq!(rt; send(wire, to, datagram), Ok(()));
+}
+
+/// Waits for the next datagram, for at most ten seconds, and receives it.
+fn assert_comes<R: Abort>(rt: &R, wire: &mut UdpWire, bytes: &[u8]) {
+    let mut buffer = [0; 8];
+    wire.pause(10_000_000);
+    let came = wire.receive(&mut buffer);
+    assert_eq!(rt; came, Ok(Some(bytes.len())));
+    assert!(rt; buffer.starts_with(bytes));
+}
+
+fn assert_nothing<R: Abort>(rt: &R, wire: &mut UdpWire) {
+    assert_eq!(rt; wire.receive(&mut [0; 8]), Ok(None));
+}
+
+/// How many microseconds a pause took.
+fn time_of_pause<C: Clock>(wire: &mut UdpWire, clock: &C, micros: u64) -> u64 {
+    let before = clock.now();
+    wire.pause(micros);
+    clock.now().saturating_sub(before)
+}
+
+#[test]
+fn datagrams_come_whole_and_once(rt: HostRuntime) -> Result<(), Fail> {
+    let (mut near, mut far) = pair(&rt, rt.alloc())?;
+    assert_nothing(&rt, &mut far);
+    assert_sends(&rt, &mut near, 1, b"hello");
+    assert_sends(&rt, &mut near, 1, b"");
+    assert_comes(&rt, &mut far, b"hello");
+    assert_comes(&rt, &mut far, b"");
+    assert_nothing(&rt, &mut far);
+    assert_sends(&rt, &mut far, 0, b"you");
+    assert_comes(&rt, &mut near, b"you");
+    assert_eq!(rt; (near.failures(), far.failures()), (0, 0));
+    Ok(())
+}
+
+#[test]
+fn a_member_may_send_to_itself(rt: HostRuntime) -> Result<(), Fail> {
+    let (mut near, _far) = pair(&rt, rt.alloc())?;
+    assert_sends(&rt, &mut near, 0, b"me");
+    assert_comes(&rt, &mut near, b"me");
+    Ok(())
+}
+
+#[test]
+fn what_fills_the_buffer_is_cut_to_it(rt: HostRuntime) -> Result<(), Fail> {
+    let alloc = rt.alloc();
+    let (mut near, mut far) = pair(&rt, alloc)?;
+    let mut buffer = vec![in alloc; 7; 4_096]?;
+    for length in [4_095, 4_096, 4_097] {
+        let datagram = vec![in alloc; 9; length]?;
+        assert_sends(&rt, &mut near, 1, datagram.as_slice());
+        far.pause(10_000_000);
+        assert_eq!(rt;
+            far.receive(buffer.as_mut_slice()),
+            Ok(Some(length.min(4_096)))
+        );
+    }
+    assert!(rt; buffer.iter().all(|byte| *byte == 9));
+    assert_nothing(&rt, &mut far);
+    Ok(())
+}
+
+#[test]
+fn a_pause_waits_where_nothing_comes(rt: HostRuntime) -> Result<(), Fail> {
+    let (_near, mut far) = pair(&rt, rt.alloc())?;
+    let clock = SystemClock::new(rt)?;
+    assert_nothing(&rt, &mut far);
+    assert!(rt; time_of_pause(&mut far, &clock, 20_000) >= 20_000);
+    assert!(rt; time_of_pause(&mut far, &clock, 20_000) >= 20_000);
+    assert!(rt; time_of_pause(&mut far, &clock, 0) < 5_000_000);
+    Ok(())
+}
+
+// The second datagram is no news to the system when the second pause begins.
+#[test]
+fn a_pause_ends_at_once_where_something_is_left(rt: HostRuntime) -> Result<(), Fail> {
+    let (mut near, mut far) = pair(&rt, rt.alloc())?;
+    let clock = SystemClock::new(rt)?;
+    assert_nothing(&rt, &mut far);
+    assert_sends(&rt, &mut near, 1, b"one");
+    assert_sends(&rt, &mut near, 1, b"two");
+    assert!(rt; time_of_pause(&mut far, &clock, 10_000_000) < 5_000_000);
+    assert!(rt; time_of_pause(&mut far, &clock, 10_000_000) < 5_000_000);
+    assert_comes(&rt, &mut far, b"one");
+    assert!(rt; time_of_pause(&mut far, &clock, 10_000_000) < 5_000_000);
+    assert_comes(&rt, &mut far, b"two");
+    assert_nothing(&rt, &mut far);
+    assert!(rt; time_of_pause(&mut far, &clock, 20_000) >= 20_000);
+    Ok(())
+}
+
+fn send_later<R: time::Clock>(rt: &R, wire: UdpWire) -> Result<(), WireFault> {
+    let mut wire = wire;
+    thread::sleep(rt, Duration::from_millis(50));
+    send(&mut wire, 1, b"late")
+}
+
+#[test]
+fn what_comes_from_another_thread_ends_a_pause(rt: HostRuntime) -> Result<(), Fail> {
+    let (near, mut far) = pair(&rt, rt.alloc())?;
+    let clock = SystemClock::new(rt)?;
+    assert_nothing(&rt, &mut far);
+    let child = thread::spawn(&rt, move || send_later(&rt, near))?;
+    assert!(rt; time_of_pause(&mut far, &clock, 20_000_000) < 15_000_000);
+    assert_comes(&rt, &mut far, b"late");
+    assert_eq!(rt; child.join(&rt), Ok(()));
+    Ok(())
+}
+
+#[test]
+fn what_the_system_refuses_is_a_failure(rt: HostRuntime) -> Result<(), Fail> {
+    let alloc = rt.alloc();
+    let (mut near, _far) = pair(&rt, alloc)?;
+    assert_eq!(rt; send(&mut near, 2, b"nobody"), Err(WireFault));
+    assert_eq!(rt; near.failures(), 1);
+    // No datagram of UDP is so long.
+    let long = vec![in alloc; 0; 70_000]?;
+    assert_eq!(rt; send(&mut near, 1, long.as_slice()), Err(WireFault));
+    assert_eq!(rt; near.failures(), 2);
+    assert_nothing(&rt, &mut near);
+    assert_eq!(rt; near.failures(), 2);
+    Ok(())
+}
+
+#[test]
+fn an_address_elsewhere_is_a_failure(rt: HostRuntime) -> Result<(), Fail> {
+    // From a socket of loopback no way leads to another network.
+    let mut near = wire_to(
+        &rt,
+        rt.alloc(),
+        SocketAddr::from((Ipv4Addr::new(192, 0, 2, 1), 9)),
+    )?;
+    assert_eq!(rt; send(&mut near, 0, b"far"), Err(WireFault));
+    assert_eq!(rt; near.failures(), 1);
+    Ok(())
+}
+
+/// Sends to a port that is closed and listens for what the system says of it.
+fn assert_only_lost<R: Abort>(rt: &R, wire: &mut UdpWire, to: u8) {
+    for _ in 0..5u8 {
+        assert_sends(rt, wire, to, b"lost");
+        wire.pause(2_000);
+        assert_nothing(rt, wire);
+    }
+    assert_eq!(rt; wire.failures(), 0);
+}
+
+#[test]
+fn a_closed_port_is_loss(rt: HostRuntime) -> Result<(), Fail> {
+    let gone = UdpSocket::bind(&rt, local())?;
+    let closed = gone.local_addr()?;
+    drop(gone);
+    let mut near = wire_to(&rt, rt.alloc(), closed)?;
+    assert_only_lost(&rt, &mut near, 0);
+    Ok(())
+}
+
+#[test]
+fn a_peer_that_closes_first_ends_no_other(rt: HostRuntime) -> Result<(), Fail> {
+    let (mut near, mut far) = pair(&rt, rt.alloc())?;
+    assert_sends(&rt, &mut far, 0, b"bye");
+    drop(far);
+    assert_only_lost_behind(&rt, &mut near);
+    Ok(())
+}
+
+/// What came before is there, and what goes after is lost.
+fn assert_only_lost_behind<R: Abort>(rt: &R, near: &mut UdpWire) {
+    assert_comes(rt, near, b"bye");
+    assert_only_lost(rt, near, 1);
+}
+
+#[test]
+fn an_address_is_bound_once(rt: HostRuntime) -> Result<(), Fail> {
+    let alloc = rt.alloc();
+    let taken = UdpSocket::bind(&rt, local())?;
+    let addresses = [taken.local_addr()?];
+    let me = Member::new(0).ok_or("a member")?;
+    let refused = UdpWire::bind(&rt, alloc, me, addresses.to_vec(alloc)?);
+    assert_eq!(rt;
+        refused.err().map(|error| error.kind()),
+        Some(ErrorKind::AddrInUse)
+    );
+    Ok(())
+}
+
+#[test]
+fn a_member_is_bound_to_its_own_address(rt: HostRuntime) -> Result<(), Fail> {
+    let alloc = rt.alloc();
+    let me = Member::new(1).ok_or("a member")?;
+    let none = UdpWire::bind(&rt, alloc, me, [local()].to_vec(alloc)?);
+    assert_eq!(rt;
+        none.err().map(|error| error.kind()),
+        Some(ErrorKind::InvalidInput)
+    );
+    let elsewhere = SocketAddr::from((Ipv4Addr::new(192, 0, 2, 1), 0));
+    let bound = UdpWire::bind(&rt, alloc, me, [elsewhere, local()].to_vec(alloc)?)?;
+    assert_eq!(rt; bound.failures(), 0);
+    Ok(())
+}
+
+#[test]
+fn losses_by_kind(rt: HostRuntime) {
+    for (kind, wanted) in [
+        (ErrorKind::WouldBlock, true),
+        (ErrorKind::ConnectionRefused, true),
+        (ErrorKind::NetworkUnreachable, false),
+        (ErrorKind::PermissionDenied, false),
+        (ErrorKind::OutOfMemory, false),
+        (ErrorKind::Uncategorized, false),
+    ] {
+        assert_eq!(rt; is_loss(kind), wanted);
+    }
+}
+
+#[test]
+fn the_clock_starts_with_itself(rt: HostRuntime) -> Result<(), Fail> {
+    let clock = SystemClock::new(rt)?;
+    let first = clock.now();
+    thread::sleep(&rt, Duration::from_micros(1_500));
+    let second = clock.now();
+    assert!(rt; first < 5_000_000);
+    assert!(rt; second.saturating_sub(first) >= 1_500);
+    Ok(())
+}

@@ -1,0 +1,159 @@
+//! A wire over UDP.
+
+ghost use Rattle.std.specs.Prelude.{◌≡◌, ◌<◌, ◌≤◌, [], None, length, vec_len, IfOk, IfSome, IsErr};
+ghost use Rattle.srm_wire.specs.Wires.{CountsFailure, RoseOrFull, TellsMore, answered, took};
+ghost use Rattle.srm_udp.specs.Udp.{CountsEach, new_wire, one_more_failure};
+
+use crate::loss::is_loss;
+use mio::net::UdpSocket;
+use mio::{Events, Interest, Poll, Token};
+use srm_names::Member;
+use srm_wire::{Wire, WireFault};
+use std::alloc::Global;
+use std::io;
+use std::io::ErrorKind;
+use std::marker::Model;
+use std::net::{Net, SocketAddr};
+use std::time::Duration;
+
+/// A member's wire over UDP: a socket that is bound once and never waits, but in a pause. Where a datagram comes from isn't looked at.
+/// It doesn't tell.
+#[derive(Drop)]
+pub struct UdpWire {
+    socket: UdpSocket,
+    addresses: Vec<SocketAddr>,
+    poll: Poll,
+    events: Events<Global>,
+    // Whether the last `receive` found nothing, and no pause found more since. The poll reports once what comes after that.
+    drained: bool,
+    failures: u64,
+}
+
+impl Model for UdpWire {
+    ghost use Rattle.srm_udp.specs.Udp.{UdpView};
+    ghost use Rattle.std.specs.Prelude.{vec_len};
+
+    ghost Value = { UdpView };
+
+    ghost view = { λ w. record { members = vec_len w.addresses; failures = w.failures } };
+}
+
+impl UdpWire {
+    /// Binds a socket to the address of a member, to send to the members at these addresses, by number. Refused is what the system refuses,
+    /// a member without an address, and want of memory.
+    pub fn bind(
+        rt: &impl Net,
+        alloc: Global,
+        me: Member,
+        addresses: Vec<SocketAddr>,
+    ) -> io::Result<UdpWire>
+        ensures new { IfOk result (λ w. w ≡ new_wire (vec_len addresses)) }
+        ensures place { IfOk result (λ w. me < w.members) }
+    {
+        let Some(own) = addresses.get(me.index()).copied() else {
+            return Err(io::Error::from(ErrorKind::InvalidInput));
+        };
+        let socket = UdpSocket::bind(rt, own)?;
+        UdpWire::over(rt, alloc, socket, addresses)
+    }
+
+    /// A wire over a socket that was bound, to the members at these addresses, by number. Refused is what the system refuses, and want of memory.
+    pub fn over(
+        rt: &impl Net,
+        alloc: Global,
+        socket: UdpSocket,
+        addresses: Vec<SocketAddr>,
+    ) -> io::Result<UdpWire>
+        ensures { IfOk result (λ w. w ≡ new_wire (vec_len addresses)) }
+    {
+        let mut socket = socket;
+        let poll = Poll::new(rt)?;
+        let events = Events::with_capacity(alloc, 1)?;
+        poll.registry()
+            .register(&mut socket, Token(0), Interest::READABLE)?;
+        Ok(UdpWire {
+            socket,
+            addresses,
+            poll,
+            events,
+            drained: false,
+            failures: 0,
+        })
+    }
+
+    // Counts a failure.
+    fn fail(&mut self) -> WireFault
+        ensures one { self.new ≡ one_more_failure self.old }
+        ensures counted { (self.old.failures ≤ self.new.failures) × RoseOrFull self.old.failures self.new.failures }
+    {
+        self.failures = self.failures.saturating_add(1);
+        WireFault
+    }
+}
+
+impl Wire for UdpWire {
+    ghost failed = { λ w. w.failures };
+
+    ghost told = { λ w. None };
+
+    /// One call of the system, which copies the bytes from where they lie. A member without an address is a failure, and a datagram that the
+    /// system cuts.
+    fn send(&mut self, to: Member, datagram: &[u8]) -> Result<(), WireFault>
+        ensures failures { CountsFailure result self.old.failures self.new.failures }
+        ensures each { CountsEach result self.old self.new }
+        ensures tells { TellsMore [] (took to datagram.now result) None None }
+        ensures stranger { self.old.members ≤ to → IsErr result }
+    {
+        let Some(address) = self.addresses.get(to.index()) else {
+            return Err(self.fail());
+        };
+        match self.socket.send_to(datagram, *address) {
+            Ok(count) if count == datagram.len() => Ok(()),
+            Err(error) if is_loss(error.kind()) => Ok(()),
+            _ => Err(self.fail()),
+        }
+    }
+
+    /// One call of the system, which copies the bytes to where they stay. What is longer than the buffer is cut to it.
+    fn receive(&mut self, buffer: &mut [u8]) -> Result<Option<usize>, WireFault>
+        ensures within { IfOk result (λ some. IfSome some (λ count. count ≤ length buffer.new)) }
+        ensures failures { CountsFailure result self.old.failures self.new.failures }
+        ensures each { CountsEach result self.old self.new }
+        ensures tells { TellsMore (answered buffer.new result) [] None None }
+    {
+        let answer = self.socket.recv_from(buffer);
+        self.drained = finds_nothing(&answer);
+        match answer {
+            Ok((count, _)) => Ok(Some(count)),
+            Err(error) if is_loss(error.kind()) => Ok(None),
+            Err(_) => Err(self.fail()),
+        }
+    }
+
+    /// Waits until a datagram came, or so many microseconds went by, rounded up to whole milliseconds. It waits only behind a `receive` that
+    /// found nothing: what is there already is no news to the system.
+    fn pause(&mut self, micros: u64)
+        ensures { self.new ≡ self.old }
+    {
+        if micros == 0 || !self.drained {
+            return;
+        }
+        // A wait that the system refuses ends at once: the next `receive` tells why.
+        let _ = self
+            .poll
+            .poll(&mut self.events, Some(Duration::from_micros(micros)));
+        self.drained = self.events.is_empty();
+    }
+
+    fn failures(&self) -> u64 {
+        self.failures
+    }
+}
+
+// Whether nothing is there to be received, as opposed to a word on an earlier send.
+fn finds_nothing<T>(answer: &io::Result<T>) -> bool {
+    match answer {
+        Ok(_) => false,
+        Err(error) => error.kind() == ErrorKind::WouldBlock,
+    }
+}
