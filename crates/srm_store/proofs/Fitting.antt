@@ -242,3 +242,6 @@ still_with a b rooms h = record {
       let g = h.each inserted shown settled f in
       record { pages = g.pages; once = g.once; held = g.held; known = g.known; rows = g.rows };
 }
+
+pub without : (a b : StoreContent) (rooms : List RoomContent) → StillFits b a → StillFits (record b { rooms = rooms }) a
+without a b rooms h = record { each = λ inserted shown settled f. h.each inserted shown settled (record { pages = f.pages; once = f.once; held = f.held; known = f.known; rows = f.rows }) }

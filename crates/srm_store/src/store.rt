@@ -65,6 +65,7 @@ impl Store {
     /// [`StoreFault::Memory`], and then what was ready before is still ready.
     pub fn room(&mut self, names: &[Name]) -> Result<(), StoreFault>
         ensures kept { StillFits self.old self.new }
+        ensures before { StillFits self.new self.old }
         ensures ready { OnOk result (AreReady names.now self.new) }
         ensures limit { (inserted : List ADrawop) (shown : List FullName) (settled : List Settling) → Fits inserted shown settled self.old
             → ((result ≡ Err PageLimit) ↔ (outgrow inserted shown (map page_of_name names.now) ≡ true)) }
@@ -82,6 +83,7 @@ impl Store {
     /// answers is made beside that of the call before, which goes once all is there.
     fn make_room(&mut self, names: &[Name]) -> Result<(), AllocError>
         ensures kept { StillFits self.old self.new }
+        ensures before { StillFits self.new self.old }
         ensures ready { OnOk result ((n : FullName) → among names.now n ≡ true → IsReady n self.new) }
         ensures settling { OnOk result (IsReadyToSettle (length names.now) self.new) }
         ensures pages { self.new.table.pages ≡ self.old.table.pages }
@@ -99,6 +101,7 @@ impl Store {
     /// Makes room for one insert and one evidence of a name, with the room for its answer among these.
     fn room_for(&mut self, name: Name, rooms: &mut Rooms) -> Result<(), AllocError>
         ensures kept { StillFits self.old self.new }
+        ensures before { StillFits self.new self.old }
         ensures ok { OnOk result (IsReady name (record self.new { rooms = rooms.new })) }
         ensures ready { StaysReady (record self.old { rooms = rooms.old }) (record self.new { rooms = rooms.new }) }
         ensures earlier { StaysReady self.old self.new }

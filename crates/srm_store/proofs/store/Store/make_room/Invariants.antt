@@ -9,6 +9,7 @@ use Rattle.srm_store.proofs.store.Store.make_room.Given as goal
 abbrev pub invariant-loop-name : goal.invariant-loop-name
 invariant-loop-name l = record {
   kept : StillFits l.fn.self l.self;
+  before : StillFits l.self l.fn.self;
   so_far : (n : FullName) → among (take l.name-index l.names) n ≡ true → IsReady n (record l.self { rooms = l.rooms });
   earlier : StaysReady l.fn.self l.self;
   finals : l.fn.self.finals.room ≤ l.self.finals.room;
