@@ -99,10 +99,6 @@ ignored_judged a moment g cause o e found judged is = record { each = λ c made 
 pub taken_at_none : {W : Type 0} (a : Content W) (g : Datagram) (o : Option Cause) → o ≡ None → ((c : Config) (made : ℕ) (past : List Entry) → Fits c made past a → ignored_for o ≡ verdict_of c past (Heard g)) → IsTaken g a
 taken_at_none a g o none judged = record { each = λ c made past h. ap ignored_for (sym none) ∙ judged c made past h }
 
-pub done_judged : {W : Type 0} (a : Content W) (g : Datagram) (o : Option Cause) (e : Entry) → o ≡ None → ((c : Config) (made : ℕ) (past : List Entry) → Fits c made past a → ignored_for o ≡ verdict_of c past (Heard g))
-    → e.verdict ≡ Done → IsJudgedBy g a e
-done_judged a g o e none judged done = record { each = λ c made past h. done ∙ ap ignored_for (sym none) ∙ judged c made past h }
-
 -- what was heard as a datagram was read as it
 pub read_enters : {W : Type 0} (draw : W → ℕ × W) (a b : Content W) (now moment : ℕ) (input : Input) (e : Entry) → moment ≡ max now a.last → Enters draw (Some moment) input a b e → Enters draw (Some now) e.input a b e
 read_enters draw a b now moment input e at enters = record { input_is = refl; moment_is = enters.moment_is ∙ omega (arith, at); fits = enters.fits; words = enters.words }

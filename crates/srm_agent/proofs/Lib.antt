@@ -21,6 +21,7 @@ pub mod Ignoring
 pub mod Heeded
 pub mod Fresh
 pub mod Taken
+pub mod Roomy
 pub mod AnswersDue
 pub mod Evident
 pub mod Requested

@@ -30,7 +30,7 @@ pub use between::names_between;
 pub use distances::distance_table;
 pub use evidence::{greatest_in, show_all};
 pub use feed::Feed;
-pub use keeping::{keep, make_room};
+pub use keeping::keep;
 pub use mentions::names_in;
 pub use out::{Out, Outgoing};
 pub use page_table::{PageTable, first_page};

@@ -6,6 +6,7 @@ ghost use Rattle.srm_codec.specs.declared.fault.DecodeFault.TheVariants.{Memory}
 ghost use Rattle.srm_codec.specs.Judging.{judge};
 ghost use Rattle.srm_codec.specs.Spelling.{IsSpellable, names_in};
 ghost use Rattle.srm_entries.specs.Entries.{is_gone};
+ghost use Rattle.srm_store.specs.Stores.{AreReady};
 ghost use Rattle.srm_agent_parts.specs.PageTables.{lacks_room_for};
 ghost use Rattle.srm_agent.specs.Heeding.{IsJudgedBy, IsNoiseFor, IsTaken};
 ghost use Rattle.srm_agent.specs.Noting.{Enters, Stays, ReadsAs, AnswersHeard, Hears, still_entry};
@@ -17,6 +18,7 @@ use srm_agent_parts::names_in;
 use srm_codec::{Datagram, DecodeFault, decode};
 use srm_entries::{AgentFault, Cause, Input, Outcome, Verdict};
 use srm_names::{Items, Name};
+use srm_store::StoreFault;
 use srm_timers::Words;
 use std::alloc::AllocError;
 
@@ -90,7 +92,8 @@ impl<W: Words + Drop> Agent<W> {
         }
     }
 
-    /// Takes a datagram with these names.
+    /// Takes a datagram with these names, once the store has room for them. Their pages have slots there, since they have them in
+    /// the page table.
     fn take(
         &mut self,
         datagram: Datagram,
@@ -104,6 +107,39 @@ impl<W: Words + Drop> Agent<W> {
         requires taken { IsTaken datagram self.old }
         requires names { names.now ≡ names_in datagram }
         requires pages { lacks_room_for self.old.pages names.now ≡ false }
+        ensures ok { IfOk result (λ noted. Enters W.draw (Some moment) (Input.Heard datagram) self.old self.new noted.entry) }
+        ensures judged { IfOk result (λ noted. IsJudgedBy datagram self.old noted.entry) }
+        ensures answer { IfOk result (λ noted. AnswersHeard noted.entry noted.answer) }
+        ensures err { OnErr result (Stays self.old self.new) }
+    {
+        match self.store.room(names) {
+            Ok(()) => self.take_ready(datagram, names, moment),
+            Err(StoreFault::PageLimit) => {
+                Ok(self.ignore(moment, Input::Heard(datagram), Cause::PageLimit))
+            }
+            Err(StoreFault::Memory) => {
+                // By a call, so that the proof has no case for each kind of datagram that goes.
+                drop(datagram);
+                Err(AllocError)
+            }
+        }
+    }
+
+    /// Takes a datagram with these names, for which the store has room.
+    fn take_ready(
+        &mut self,
+        datagram: Datagram,
+        names: &[Name],
+        moment: u64,
+    ) -> Result<Noted<Heard>, AllocError>
+        requires here { is_gone self.old.state ≡ false }
+        requires spelled { IsSpellable datagram }
+        requires later { self.old.last ≤ moment }
+        requires moment { moment ≤ MOMENT }
+        requires taken { IsTaken datagram self.old }
+        requires names { names.now ≡ names_in datagram }
+        requires pages { lacks_room_for self.old.pages names.now ≡ false }
+        requires ready { AreReady names.now self.old.store }
         ensures ok { IfOk result (λ noted. Enters W.draw (Some moment) (Input.Heard datagram) self.old self.new noted.entry) }
         ensures done { IfOk result (λ noted. noted.entry.verdict ≡ Verdict.Done) }
         ensures answer { IfOk result (λ noted. AnswersHeard noted.entry noted.answer) }

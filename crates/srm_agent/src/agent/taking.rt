@@ -5,6 +5,7 @@ ghost use Rattle.srm_names.specs.declared.limits.TheConstants.{MOMENT};
 ghost use Rattle.srm_names.specs.Names.{ascending, name_below};
 ghost use Rattle.srm_codec.specs.declared.datagram.Datagram.TheVariants.{Data, Repair};
 ghost use Rattle.srm_codec.specs.Spelling.{IsSpellable};
+ghost use Rattle.srm_store.specs.Stores.{AreReady};
 ghost use Rattle.srm_entries.specs.Entries.{is_gone};
 ghost use Rattle.srm_agent_parts.specs.PageTables.{lacks_room_for};
 ghost use Rattle.srm_agent.specs.Heeding.{IsTaken, IsFreshBelow, heard_entry};
@@ -13,7 +14,7 @@ ghost use Rattle.srm_agent.specs.Noting.{Enters, Stays, AnswersHeard};
 use super::Agent;
 use crate::heard::Heard;
 use crate::noted::Noted;
-use srm_agent_parts::{distance_table, keep, make_room, names_between};
+use srm_agent_parts::{distance_table, keep, names_between};
 use srm_codec::Datagram;
 use srm_entries::{Effects, Entry, Input, Outcome, Verdict};
 use srm_names::{Drawop, Items, Member, Name};
@@ -33,6 +34,7 @@ impl<W: Words + Drop> Agent<W> {
         requires moment { moment ≤ MOMENT }
         requires taken { IsTaken (Data drawop) self.old }
         requires pages { lacks_room_for self.old.pages (drawop.name ∷ []) ≡ false }
+        requires ready { AreReady (drawop.name ∷ []) self.old.store }
         ensures ok { IfOk result (λ noted. Enters W.draw (Some moment) (Input.Heard (Data drawop)) self.old self.new noted.entry) }
         ensures done { IfOk result (λ noted. noted.entry.verdict ≡ Verdict.Done) }
         ensures answer { IfOk result (λ noted. AnswersHeard noted.entry noted.answer) }
@@ -42,7 +44,6 @@ impl<W: Words + Drop> Agent<W> {
         let fresh = self.fresh_below(name)?;
         let kept = drawop.copy()?;
         let mut copies = Vec::with_capacity(self.alloc, fresh.len())?;
-        make_room(&mut self.store, &[name])?;
         let dist = distance_table(&self.distances);
         let arms = self
             .timers
@@ -67,6 +68,7 @@ impl<W: Words + Drop> Agent<W> {
         requires moment { moment ≤ MOMENT }
         requires taken { IsTaken (Repair sender drawop) self.old }
         requires pages { lacks_room_for self.old.pages (drawop.name ∷ []) ≡ false }
+        requires ready { AreReady (drawop.name ∷ []) self.old.store }
         ensures ok { IfOk result (λ noted. Enters W.draw (Some moment) (Input.Heard (Repair sender drawop)) self.old self.new noted.entry) }
         ensures done { IfOk result (λ noted. noted.entry.verdict ≡ Verdict.Done) }
         ensures answer { IfOk result (λ noted. AnswersHeard noted.entry noted.answer) }
@@ -76,7 +78,6 @@ impl<W: Words + Drop> Agent<W> {
         let fresh = self.fresh_below(name)?;
         let kept = drawop.copy()?;
         let mut copies = Vec::with_capacity(self.alloc, fresh.len())?;
-        make_room(&mut self.store, &[name])?;
         let dist = distance_table(&self.distances);
         let arms = self
             .timers

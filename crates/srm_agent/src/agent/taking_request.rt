@@ -5,6 +5,7 @@ ghost use Rattle.srm_names.specs.declared.limits.TheConstants.{MOMENT};
 ghost use Rattle.srm_names.specs.Names.{ascending, name_below};
 ghost use Rattle.srm_codec.specs.declared.datagram.Datagram.TheVariants.{Request};
 ghost use Rattle.srm_codec.specs.Spelling.{IsSpellable, asked_by};
+ghost use Rattle.srm_store.specs.Stores.{AreReady};
 ghost use Rattle.srm_entries.specs.Entries.{is_gone};
 ghost use Rattle.srm_agent.specs.Growth.{IsFreshUpTo};
 ghost use Rattle.srm_agent_parts.specs.PageTables.{lacks_room_for};
@@ -14,7 +15,7 @@ ghost use Rattle.srm_agent.specs.Noting.{Enters, Stays, AnswersHeard};
 use super::Agent;
 use crate::heard::Heard;
 use crate::noted::Noted;
-use srm_agent_parts::{distance_table, greatest_in, make_room, names_between, show_all};
+use srm_agent_parts::{distance_table, greatest_in, names_between, show_all};
 use srm_codec::Datagram;
 use srm_entries::{Input, Verdict};
 use srm_names::{Member, Name, Stream};
@@ -38,6 +39,7 @@ impl<W: Words + Drop> Agent<W> {
         requires taken { IsTaken (Request sender name mask) self.old }
         requires names { names.now ≡ asked_by name mask }
         requires pages { lacks_room_for self.old.pages names.now ≡ false }
+        requires ready { AreReady names.now self.old.store }
         ensures ok { IfOk result (λ noted. Enters W.draw (Some moment) (Input.Heard (Request sender name mask)) self.old self.new noted.entry) }
         ensures done { IfOk result (λ noted. noted.entry.verdict ≡ Verdict.Done) }
         ensures answer { IfOk result (λ noted. AnswersHeard noted.entry noted.answer) }
@@ -45,7 +47,6 @@ impl<W: Words + Drop> Agent<W> {
     {
         let fresh = self.fresh_up_to(&name.stream(), names)?;
         let mut copies = Vec::with_capacity(self.alloc, names.len().saturating_add(fresh.len()))?;
-        make_room(&mut self.store, names)?;
         let dist = distance_table(&self.distances);
         let arms = self.timers.hear_request(
             &self.store,

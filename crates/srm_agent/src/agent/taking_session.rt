@@ -4,6 +4,7 @@ ghost use Rattle.std.specs.Prelude.{◌≡◌, ◌≤◌, Some, Ok, IfOk, OnErr,
 ghost use Rattle.srm_names.specs.declared.limits.TheConstants.{MOMENT};
 ghost use Rattle.srm_names.specs.Names.{ascending, name_below};
 ghost use Rattle.srm_codec.specs.Spelling.{IsSpellable, names_in, row_below};
+ghost use Rattle.srm_store.specs.Stores.{AreReady};
 ghost use Rattle.srm_entries.specs.Entries.{is_gone};
 ghost use Rattle.srm_agent.specs.Growth.{IsFreshOf};
 ghost use Rattle.srm_agent_parts.specs.PageTables.{lacks_room_for};
@@ -14,7 +15,7 @@ ghost use Rattle.srm_agent.specs.Noting.{Enters, Stays, AnswersHeard};
 use super::Agent;
 use crate::heard::Heard;
 use crate::noted::Noted;
-use srm_agent_parts::{distance_table, distances_after, learn, make_room, names_between};
+use srm_agent_parts::{distance_table, distances_after, learn, names_between};
 use srm_codec::Datagram;
 use srm_entries::{Input, Verdict};
 use srm_names::Name;
@@ -37,6 +38,7 @@ impl<W: Words + Drop> Agent<W> {
         requires taken { IsTaken datagram self.old }
         requires names { names.now ≡ names_in datagram }
         requires pages { lacks_room_for self.old.pages names.now ≡ false }
+        requires ready { AreReady names.now self.old.store }
         ensures ok { IfOk result (λ noted. Enters W.draw (Some moment) (Input.Heard datagram) self.old self.new noted.entry) }
         ensures done { IfOk result (λ noted. noted.entry.verdict ≡ Verdict.Done) }
         ensures answer { IfOk result (λ noted. AnswersHeard noted.entry noted.answer) }
@@ -44,7 +46,6 @@ impl<W: Words + Drop> Agent<W> {
     {
         let fresh = self.fresh_of(names)?;
         let mut copies = Vec::with_capacity(self.alloc, fresh.len())?;
-        make_room(&mut self.store, names)?;
         let after = distances_after(&self.distances, self.config.me(), &datagram, moment);
         let dist = distance_table(&after);
         let arms = self

@@ -1,26 +1,24 @@
 use Rattle.std.proofs.Common.{refl}
 use Rattle.srm_codec.specs.declared.datagram.Datagram.TheVariants.{Repair}
 use Rattle.srm_agent_parts.specs.TimerCalls.{IsRepairOf}
-use Rattle.srm_agent.proofs.Taken.{drawop_enters, repair_brings, stays, same_timers, at_err}
+use Rattle.srm_agent.proofs.Taken.{drawop_enters, repair_brings, stays, at_err}
+use Rattle.srm_store.proofs.Fitting.{still_fits}
 use Rattle.srm_agent.proofs.agent.Agent.take_repair.Goals as goal
-
-pub returns-in_err-make_room-clause-err : goal.returns-in_err-make_room-clause-err
-returns-in_err-make_room-clause-err g c = rw (← c.self.view_is) (at_err c.from_residual-in_err-make_room.result (stays _ _ _ _ c.make_room.ensures.kept (same_timers _) refl))
 
 pub hear_repair-requires-clause-rising : goal.hear_repair-requires-clause-rising
 hear_repair-requires-clause-rising g c = rw c.deref.ensures.value c.in_ok-fresh.ensures.rising
 
-pub invariant_of-self-in_err-arms : goal.invariant_of-self-in_err-arms
-invariant_of-self-in_err-arms g c = record { last = c.self.invariant.last; feeds = c.self.invariant.feeds; settings = c.hear_repair.ensures.settings.each _ c.self.invariant.settings; waiting = c.self.invariant.waiting }
+pub invariant_of-self : goal.invariant_of-self
+invariant_of-self g c = record { last = c.self.invariant.last; feeds = c.self.invariant.feeds; settings = c.hear_repair.ensures.settings.each _ c.self.invariant.settings; waiting = c.self.invariant.waiting }
 
 pub returns-in_err-arms-clause-err : goal.returns-in_err-arms-clause-err
-returns-in_err-arms-clause-err g c = rw (← c.self.view_is) (at_err c.from_residual-in_err-arms.result (stays _ _ _ _ c.make_room.ensures.kept c.in_err-arms.ensures.kept c.in_err-arms.ensures.undrawn))
+returns-in_err-arms-clause-err g c = rw (← c.self.view_is) (at_err c.from_residual-in_err-arms.result (stays _ _ _ _ (still_fits _) c.in_err-arms.ensures.kept c.in_err-arms.ensures.undrawn))
 
 pub invariant_of-self-2 : goal.invariant_of-self-2
 invariant_of-self-2 g c = record { last = c.requires.moment; feeds = c.self.invariant.feeds; settings = c.hear_repair.ensures.settings.each _ c.self.invariant.settings; waiting = c.self.invariant.waiting }
 
 pub returns-clause-ok : goal.returns-clause-ok
 returns-clause-ok g c = rw (← c.self.view_is) (drawop_enters g.W.Words.draw _ _ c.args.moment (Repair c.args.sender c.args.drawop) (IsRepairOf c.args.drawop.name) c.args.drawop c.in_ok-fresh.fresh.items c.distance_table-dist.result.now c.in_ok-arms.arms.items
-    c.make_room.new.store c.took.result.entry (repair_brings c.args.sender c.args.drawop) refl (rw (← c.self.view_is) at c.requires.here) c.requires.spelled (rw (← c.self.view_is) at c.requires.later) (rw (← c.self.view_is) at c.requires.taken)
-    (rw (← c.self.view_is) at c.in_ok-fresh.ensures.value) c.distance_table-dist.ensures.value (rw c.deref.ensures.value at c.in_ok-arms.ensures.hears) c.make_room.ensures.kept (rw c.in_ok-kept.ensures at c.keep.ensures)
+    _ c.took.result.entry (repair_brings c.args.sender c.args.drawop) refl (rw (← c.self.view_is) at c.requires.here) c.requires.spelled (rw (← c.self.view_is) at c.requires.later) (rw (← c.self.view_is) at c.requires.taken)
+    (rw (← c.self.view_is) at c.in_ok-fresh.ensures.value) c.distance_table-dist.ensures.value (rw c.deref.ensures.value at c.in_ok-arms.ensures.hears) (still_fits _) (rw c.in_ok-kept.ensures at c.keep.ensures)
     c.add_all.ensures refl (record { last = refl; config = refl; state = refl; showing = refl; feeds = refl; bucket = refl; due = refl }) c.self.invariant.settings c.in_ok-arms.ensures.drawn c.took.ensures.entry)

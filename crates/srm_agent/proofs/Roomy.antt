@@ -1,0 +1,91 @@
+-- Room in the store: an agent fits with it what it fitted before, so what is heard with room is heard.
+use Rattle.std.proofs.Common.{◌≡◌, ℕ, ◌≤◌, true, false, List, ◌++◌, length, refl, ap, sym, ◌∙◌, subst}
+use Rattle.std.specs.Prelude.{◌↔◌, nat_lt, map, Some, Result, Ok, Err, OnErr}
+use Rattle.std.proofs.lemmas.Bool.{false≢true}
+use Rattle.srm_names.specs.declared.limits.TheConstants.{PAGES}
+use Rattle.srm_names.specs.declared.page.Page.{Page}
+use Rattle.srm_names.specs.declared.drawop.Drawop.{Drawop}
+use Rattle.srm_names.specs.FullName.{FullName}
+use Rattle.srm_names.specs.Histories.{firsts}
+use Rattle.srm_names.specs.Names.{same_page}
+use Rattle.srm_codec.specs.declared.datagram.Datagram.{Datagram}
+use Rattle.srm_store.specs.Held.{outgrow, page_of_name}
+use Rattle.srm_store.specs.Finals.{Settling}
+use Rattle.srm_store.specs.declared.fault.StoreFault.{StoreFault}
+use Rattle.srm_store.specs.declared.fault.StoreFault.TheVariants.{PageLimit}
+use Rattle.srm_store.specs.Stores.{StoreContent}
+use Rattle.srm_store.specs.Fits as store
+use Rattle.srm_store.specs.Fits.{StillFits}
+use Rattle.srm_entries.specs.declared.cause.Cause.TheVariants as causes
+use Rattle.srm_entries.specs.declared.entry.Entry.{Entry}
+use Rattle.srm_entries.specs.declared.entry.Input.{Input}
+use Rattle.srm_entries.specs.declared.entry.Input.TheVariants.{Heard}
+use Rattle.srm_entries.specs.declared.entry.Verdict.TheVariants.{Done}
+use Rattle.srm_entries.specs.Causes.{ignored_for}
+use Rattle.srm_entries.specs.Configs.{Config}
+use Rattle.srm_entries.specs.Entries.{is_gone, slots, held, shown_to_exist}
+use Rattle.srm_entries.specs.Verdicts.{verdict_of, settlings}
+use Rattle.srm_agent_parts.specs.PageTables.{lacks_room_for, pages_of}
+use Rattle.srm_agent.specs.Contents.{Content}
+use Rattle.srm_agent.specs.Fits.{Fits}
+use Rattle.srm_agent.specs.Heeding.{IsJudgedBy, IsTaken}
+use Rattle.srm_agent.specs.Noting.{Enters, Stays}
+use Rattle.srm_agent.proofs.Drawn.{slots_suffice}
+use Rattle.srm_agent.proofs.Ignoring.{ignored_datagram, ignored_judged, ignored_entry}
+use Rattle.srm_agent.proofs.Taken.{stays, same_timers}
+
+-- an agent with this store
+abbrev pub with_store : {W : Type 0} → Content W → StoreContent → Content W
+with_store a s = record a { store = s }
+
+pub stays_roomy : {W : Type 0} (a : Content W) (s : StoreContent) → StillFits a.store s → Stays a (with_store a s)
+stays_roomy a s kept = stays a s a.timers a.words kept (same_timers a.timers) refl
+
+pub taken_roomy : {W : Type 0} (g : Datagram) (a : Content W) (s : StoreContent) → StillFits s a.store → IsTaken g a → IsTaken g (with_store a s)
+taken_roomy g a s before taken = record { each = λ c made past h. taken.each c made past ((stays_roomy (with_store a s) a.store before).fits c made past h) }
+
+-- what is done once there is room is done
+pub enters_roomy : {W : Type 0} (draw : W → ℕ × W) (a b : Content W) (s : StoreContent) (moment : ℕ) (input : Input) (e : Entry) → StillFits a.store s → Enters draw (Some moment) input (with_store a s) b e → Enters draw (Some moment) input a b e
+enters_roomy draw a b s moment input e kept enters = record {
+  input_is = enters.input_is;
+  moment_is = enters.moment_is;
+  fits = λ c made past h. enters.fits c made past ((stays_roomy a s kept).fits c made past h);
+  words = enters.words;
+}
+
+pub stays_on_roomy : {W : Type 0} (a b : Content W) (s : StoreContent) → StillFits a.store s → Stays (with_store a s) b → Stays a b
+stays_on_roomy a b s kept on = record { fits = λ c made past h. on.fits c made past ((stays_roomy a s kept).fits c made past h); words = on.words }
+
+pub judged_taken : {W : Type 0} (g : Datagram) (a : Content W) (e : Entry) → IsTaken g a → e.verdict ≡ Done → IsJudgedBy g a e
+judged_taken g a e taken done = record { each = λ c made past h. done ∙ taken.each c made past h }
+
+-- the store has slots where the page table has
+abbrev pub Outgrows : StoreContent → List FullName → Type 0
+Outgrows s names = (inserted : List Drawop) (shown : List FullName) (settled : List Settling) → store.Fits inserted shown settled s → outgrow inserted shown (map page_of_name names) ≡ true
+
+pub never_full : {W : Type 0} (g : Datagram) (a : Content W) (names : List FullName) → lacks_room_for a.pages names ≡ false → Outgrows a.store names
+    → (c : Config) (made : ℕ) (past : List Entry) → Fits c made past a → ignored_for (Some causes.PageLimit) ≡ verdict_of c past (Heard g)
+never_full g a names room full c made past h =
+    let fine : nat_lt PAGES (length (firsts same_page (slots past ++ pages_of names))) ≡ false = subst (λ (ps : List Page). nat_lt PAGES (length (firsts same_page (ps ++ pages_of names))) ≡ false) h.pages room in
+    absurd (false≢true (sym (slots_suffice c made past (pages_of names) h.run fine) ∙ full (held past) (shown_to_exist past) (settlings past) h.store))
+
+pub unslotted_enters : {W : Type 0} (draw : W → ℕ × W) (a b : Content W) (moment : ℕ) (g : Datagram) (names : List FullName) (e : Entry) → is_gone a.state ≡ false → a.last ≤ moment
+    → lacks_room_for a.pages names ≡ false → Outgrows a.store names → b ≡ record a { last = moment } → e ≡ ignored_entry a moment (Heard g) causes.PageLimit → Enters draw (Some moment) (Heard g) a b e
+unslotted_enters draw a b moment g names e here late room full new is = ignored_datagram draw a b moment g causes.PageLimit (Some causes.PageLimit) e here late refl (never_full g a names room full) new is
+
+pub unslotted_judged : {W : Type 0} (a : Content W) (moment : ℕ) (g : Datagram) (names : List FullName) (e : Entry)
+    → lacks_room_for a.pages names ≡ false → Outgrows a.store names → e ≡ ignored_entry a moment (Heard g) causes.PageLimit → IsJudgedBy g a e
+unslotted_judged a moment g names e room full is = ignored_judged a moment g causes.PageLimit (Some causes.PageLimit) e refl (never_full g a names room full) is
+
+-- what room says where it is refused for pages
+pub at_full : (s : StoreContent) (names : List FullName) (r : Result (Unit {0}) StoreFault) → r ≡ Err PageLimit
+    → ((inserted : List Drawop) (shown : List FullName) (settled : List Settling) → store.Fits inserted shown settled s → ((r ≡ Err PageLimit) ↔ (outgrow inserted shown (map page_of_name names) ≡ true)))
+    → Outgrows s names
+at_full s names r e limit inserted shown settled h = (limit inserted shown settled h).0 e
+
+pub with_moment : {W : Type 0} (a b : Content W) (s : StoreContent) (moment : ℕ) → s ≡ a.store → b ≡ record a { store = s; last = moment } → b ≡ record a { last = moment }
+with_moment a b s moment same new = new ∙ ap (λ t. record a { store = t; last = moment }) same
+
+pub if_err : {A E P Q : Type 0} (r : Result A E) → OnErr r P → (P → Q) → OnErr r Q
+if_err (Ok x) p to = tt
+if_err (Err e) p to = to p
