@@ -26,7 +26,7 @@ use Rattle.srm_codec.specs.Judging.{judge}
 use Rattle.srm_entries.specs.Giving.{given, given_in}
 use Rattle.srm_entries.specs.Hearing.{bytes_heard, read_as}
 use Rattle.srm_entries.specs.Runs.{IsMemberRun}
-use Rattle.srm_world.specs.Traces.{Journal}
+use Rattle.srm_world.specs.Traces.{Journal, IsUntaken}
 use Rattle.srm_world.specs.Claims.{IsLawfulJournal}
 use Rattle.srm_world.specs.Recording.{with_entry}
 use Rattle.srm_world.proofs.Lawful.{lawful_journal}
@@ -229,7 +229,7 @@ new_run c made = record { each = tt; bucket = ([], refl, tt, tt) }
 
 pub keeps_new : (j : Journal) (feeds : List FeedView) (received : List Stroke) → j.entries ≡ [] → AreNewFeeds feeds → received ≡ [] → KeepsLists j feeds received None
 keeps_new j feeds received none new empty = record {
-  lawful = lawful_journal j (subst (IsMemberRun j.start.config j.start.made) (sym none) (new_run j.start.config j.start.made));
+  lawful = lawful_journal j (record { run = subst (IsMemberRun j.start.config j.start.made) (sym none) (new_run j.start.config j.start.made); untaken = subst (AllByRecursion IsUntaken) (sym none) tt });
   slots = new.slots;
   carries = λ slot f at_f. carried slot f (new.each slot f at_f);
   draws_are = ap (map drawing) empty ∙ ap (λ es. draws es ++ []) (sym none);

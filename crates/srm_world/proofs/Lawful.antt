@@ -2,14 +2,13 @@
 use Rattle.srm_entries.proofs.Given.{gives_law}
 use Rattle.srm_entries.proofs.Rating.{rate_law}
 use Rattle.srm_entries.proofs.Responding.{response_law}
-use Rattle.srm_entries.specs.Runs.{IsMemberRun}
-use Rattle.srm_world.specs.Traces.{Trace, Journal, IsRun, IsHonest}
-use Rattle.srm_world.specs.Claims.{IsLawful, IsLawfulJournal}
+use Rattle.srm_world.specs.Traces.{Trace, Journal, IsRun, IsHonest, IsJournal}
+use Rattle.srm_world.specs.Claims.{IsLawful, IsLawfulJournal, LawfulLaw}
 use Rattle.srm_world.proofs.Members.{responds_each, gives_each, keeps_rate_each}
 use Rattle.srm_world.proofs.Taking.{takes_law}
 use Rattle.srm_world.proofs.Resting.{rest_law}
 
-pub lawful : (t : Trace) → IsRun t → IsHonest t.entries → IsLawful t
+pub lawful : LawfulLaw
 lawful t run honest = record {
   run = run;
   honest = honest;
@@ -20,10 +19,11 @@ lawful t run honest = record {
   rates = keeps_rate_each t run;
 }
 
-pub lawful_journal : (j : Journal) → IsMemberRun j.start.config j.start.made j.entries → IsLawfulJournal j
-lawful_journal j run = record {
-  run = run;
-  responds = response_law j.start.config j.start.made j.entries run;
-  gives = gives_law j.start.config j.start.made j.entries run;
-  rate = rate_law j.start.config j.start.made j.entries run;
+pub lawful_journal : (j : Journal) → IsJournal j → IsLawfulJournal j
+lawful_journal j h = record {
+  run = h.run;
+  responds = response_law j.start.config j.start.made j.entries h.run;
+  gives = gives_law j.start.config j.start.made j.entries h.run;
+  rate = rate_law j.start.config j.start.made j.entries h.run;
+  untaken = h.untaken;
 }

@@ -14,7 +14,7 @@ use Rattle.srm_entries.specs.Runs.{IsMemberRun, RespondsInTime}
 use Rattle.srm_entries.specs.Promises.{GivesReleased}
 use Rattle.srm_entries.specs.Rates.{KeepsRate}
 use Rattle.srm_world.specs.declared.start.Start.{Start}
-use Rattle.srm_world.specs.Traces.{Trace, Journal, of_member, drawn_by, taken_by, IsHonest, IsRun}
+use Rattle.srm_world.specs.Traces.{Trace, Journal, of_member, drawn_by, taken_by, IsHonest, IsRun, IsUntaken}
 
 abbrev pub IsPrefixOf : List Drawop → List Drawop → Type 0
 IsPrefixOf xs ys = (rest : List Drawop) × (xs ++ rest ≡ ys)
@@ -102,10 +102,16 @@ pub record IsLawful (t : Trace) : Type 0 where
   pub gives : GivesEach t
   pub rates : KeepsRateEach t
 
+-- all that is claimed here holds of every honest run
+abbrev pub LawfulLaw : Type 0
+LawfulLaw = (t : Trace) → IsRun t → IsHonest t.entries → IsLawful t
+
 -- The journal is a run of its member, whatever came to it: timers, bucket, session messages and verdicts are right. And so it
--- responds in time, what it gives is a page feed of what is released, and what it sends keeps to its rate.
+-- responds in time, what it gives is a page feed of what is released, and what it sends keeps to its rate. No entry is a take: a page
+-- worker takes, and not the agent.
 pub record IsLawfulJournal (j : Journal) : Type 0 where
   pub run : IsMemberRun j.start.config j.start.made j.entries
   pub responds : RespondsInTime j.start.config j.entries
   pub gives : GivesReleased j.entries
   pub rate : KeepsRate j.start.config j.entries
+  pub untaken : AllByRecursion IsUntaken j.entries

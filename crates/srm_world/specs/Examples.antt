@@ -1,5 +1,6 @@
 -- The definitions at both stored scripts, and at what is skipped.
-use Rattle.std.specs.Prelude.{◌≡◌, ℕ, List, [], ◌∷◌, ◌++◌, map, take, slice_get, Some, None, refl}
+use Rattle.std.specs.Prelude.{◌≡◌, ℕ, true, false, List, [], ◌∷◌, ◌++◌, map, take, slice_get, Some, None, refl}
+use Rattle.std.specs.List.{AllByRecursion}
 use Rattle.std.proofs.Common.{lit<, arith, zero, suc, sym, ◌∙◌, subst}
 use Rattle.std.proofs.lemmas.Option.{same_Some}
 use Rattle.srm_names.specs.declared.page.Page.{Page}
@@ -19,7 +20,7 @@ use Rattle.srm_entries.specs.SecondScript as second
 use Rattle.srm_world.specs.declared.event.Event.{Event}
 use Rattle.srm_world.specs.declared.event.Event.TheVariants as events
 use Rattle.srm_world.specs.declared.start.Start.{Start}
-use Rattle.srm_world.specs.Traces.{of_member, drawn_by, taken_by, IsHonest}
+use Rattle.srm_world.specs.Traces.{of_member, drawn_by, taken_by, is_take, IsHonest, IsUntaken}
 use Rattle.srm_world.specs.Words.{Recorded, Played, AreByWords, AreByOwnWords, RecordsByWords, PlaysByWords}
 use Rattle.srm_world.specs.Events.{member_of, moment_in, moment_of, asked, last_of_member, IsEntryOf, Follows}
 
@@ -355,3 +356,10 @@ played entries words = record { trace = record { starts = two; entries = entries
 
 one_entry_played : PlaysByWords draw_listed (played [] ((5 ∷ []) ∷ (7 ∷ []) ∷ [])) (played (hears_c 200007 ∷ []) ((5 ∷ []) ∷ [] ∷ []))
 one_entry_played = record { added = hears_c 200007 ∷ []; grown = refl; words = own_words }
+
+-- what a page worker takes is no entry of a journal
+untaken : AllByRecursion IsUntaken first.member_0
+untaken = (refl, (refl, (refl, (refl, tt))))
+
+which_takes : map is_take (Ticked ∷ Gave 3 ∷ Took 3 ∷ Noise ∷ []) ≡ false ∷ false ∷ true ∷ false ∷ []
+which_takes = refl

@@ -1,11 +1,13 @@
 -- Traces of several members: which are runs, and which are honest.
-use Rattle.std.specs.Prelude.{◌≡◌, ℕ, ◌==◌, ◌<◌, List, length, map, filter, IfSome, Contains}
+use Rattle.std.specs.Prelude.{◌≡◌, ℕ, ◌==◌, ◌<◌, Bool, true, false, List, length, map, filter, IfSome, Contains}
 use Rattle.std.specs.List.{AllByRecursion, enumerate_from}
 use Rattle.srm_names.specs.declared.page.Page.{Page}
 use Rattle.srm_names.specs.declared.drawop.Drawop.{Drawop}
 use Rattle.srm_names.specs.declared.page_msg.PageMsg.{PageMsg}
 use Rattle.srm_names.specs.Histories.{Step, steps}
 use Rattle.srm_entries.specs.declared.entry.Entry.{Entry}
+use Rattle.srm_entries.specs.declared.entry.Input.{Input}
+use Rattle.srm_entries.specs.declared.entry.Input.TheVariants.{Took}
 use Rattle.srm_entries.specs.Configs.{Config}
 use Rattle.srm_entries.specs.Entries.{heard, sent, drawn_on}
 use Rattle.srm_entries.specs.Giving.{taken}
@@ -21,6 +23,14 @@ pub record Trace : Type 0 where
 pub record Journal : Type 0 where
   pub start : Start
   pub entries : List Entry
+
+abbrev pub is_take : Input → Bool
+is_take (Took slot) = true
+is_take _ = false
+
+-- the entry is of a call of an agent, and not of a page worker that takes
+abbrev pub IsUntaken : Entry → Type 0
+IsUntaken e = is_take e.input ≡ false
 
 -- how members with these settings begin, at moment 0
 abbrev pub started : List Config → List Start
@@ -66,3 +76,8 @@ pub record IsRunOf (starts : List Start) (es : List Entry) : Type 0 where
 
 abbrev pub IsRun : Trace → Type 0
 IsRun t = IsRunOf t.starts t.entries
+
+-- the entries are a run of the member, and none of them is a take
+pub record IsJournal (j : Journal) : Type 0 where
+  pub run : IsMemberRun j.start.config j.start.made j.entries
+  pub untaken : AllByRecursion IsUntaken j.entries

@@ -15,14 +15,13 @@ pub struct Journal {
 }
 
 impl Model for Journal {
-    ghost use Rattle.srm_entries.specs.Runs.{IsMemberRun};
-    ghost use Rattle.srm_world.specs.Traces.{Journal as Content};
+    ghost use Rattle.srm_world.specs.Traces.{Journal as Content, IsJournal};
 
     ghost Value = { Content };
 
     ghost view = { λ j. record { start = j.start; entries = j.entries.items } };
 
-    ghost invariant = { λ j. IsMemberRun j.start.config j.start.made j.entries.items };
+    ghost invariant = { λ j. IsJournal (record { start = j.start; entries = j.entries.items }) };
 }
 
 impl Journal {
@@ -33,11 +32,19 @@ impl Journal {
         self.start
     }
 
-    /// The entries of the member, oldest first: a run of it, whatever came to it. It takes no memory.
+    /// The entries of the member, oldest first: a run of it, whatever came to it, without takes. It takes no memory.
     pub fn entries(&self) -> &[Entry]
         ensures value { result.now ≡ self.now.entries }
         ensures lawful { IsLawfulJournal self.now }
     {
         self.entries.as_slice()
+    }
+
+    /// How the member began, and its entries. It takes no memory.
+    pub fn into_parts(self) -> (Start, Vec<Entry>)
+        ensures start { result.0 ≡ self.start }
+        ensures entries { result.1.items ≡ self.entries }
+    {
+        (self.start, self.entries)
     }
 }

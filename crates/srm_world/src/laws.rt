@@ -1,6 +1,6 @@
 //! What holds of every run of several members.
 
-ghost use Rattle.srm_world.specs.Claims.{RestLaw, TakesLaw};
+ghost use Rattle.srm_world.specs.Claims.{LawfulLaw, RestLaw, TakesLaw};
 
 /// In every honest run of all members, what a page worker takes of a source is a prefix of what that source drew there,
 /// each drawop once and in order. It is all of it once the source's leaving is taken.
@@ -12,4 +12,10 @@ pub fn takes()
 /// have released the same.
 pub fn rests()
     ensures { RestLaw }
+{}
+
+/// Every honest run of all members has all laws: of these two, and that each member answers in time, gives what is released to it and keeps
+/// its rate. So whoever shows that entries are an honest run, whatever made them, has the laws of them.
+pub fn honest_runs_are_lawful()
+    ensures { LawfulLaw }
 {}

@@ -2,7 +2,8 @@
 //!
 //! [`World`] applies events to all of them, and keeps a [`Trace`]; [`Recorder`] is one member that keeps its [`Journal`]. What
 //! holds of every run is proved over the definitions alone, and cited by the calls: what page workers take was drawn ([`takes`]),
-//! and members at rest have released the same ([`rests`]).
+//! and members at rest have released the same ([`rests`]). Whoever shows that entries are an honest run has all of it
+//! ([`honest_runs_are_lawful`]).
 //!
 //! ```
 //! let mut world = World::new(alloc, configs, words)?;
@@ -37,7 +38,7 @@ mod world;
 pub use event::Event;
 pub use fault::WorldFault;
 pub use journal::Journal;
-pub use laws::{rests, takes};
+pub use laws::{honest_runs_are_lawful, rests, takes};
 pub use recorder::Recorder;
 pub use start::Start;
 pub use trace::Trace;

@@ -68,7 +68,7 @@ impl<W: Words + Drop> Recorder<W> {
     }
 
     /// [`Agent::draw`].
-    #[tactic(auto, using(crate::proofs::Journaling::records_drawn, crate::proofs::Wording::no_words_recorded, crate::proofs::Journaling::still_fits, crate::proofs::Journaling::fits_same, crate::proofs::Journaling::entries_same))]
+    #[tactic(auto, using(crate::proofs::Journaling::records_drawn, crate::proofs::Wording::no_words_recorded, crate::proofs::Journaling::kept_same, crate::proofs::Journaling::entries_same))]
     pub fn draw(&mut self, page: Page, body: Bytes, now: u64) -> Result<Name, AgentFault>
         requires { now ≤ MOMENT }
         ensures records { Records (Some now) (Input.Drew page body) IsDrawnName self.old.journal self.new.journal result }
@@ -109,7 +109,7 @@ impl<W: Words + Drop> Recorder<W> {
     }
 
     /// [`Agent::tick`].
-    #[tactic(auto, using(crate::proofs::Journaling::records_ticked, crate::proofs::Wording::no_words_recorded, crate::proofs::Journaling::still_fits, crate::proofs::Journaling::fits_same, crate::proofs::Journaling::entries_same))]
+    #[tactic(auto, using(crate::proofs::Journaling::records_ticked, crate::proofs::Wording::no_words_recorded, crate::proofs::Journaling::kept_same, crate::proofs::Journaling::entries_same))]
     pub fn tick(&mut self, now: u64) -> Result<Ticked, AgentFault>
         requires { now ≤ MOMENT }
         ensures records { Records (Some now) Input.Ticked (IsTicked self.old.journal.start.config.session) self.old.journal self.new.journal result }

@@ -22,6 +22,13 @@ impl Model for Trace {
 }
 
 impl Trace {
+    /// Members that began so and did this, in one order. That it is a run of them is for its maker to say. It takes no memory.
+    pub fn new(starts: Vec<Start>, entries: Vec<Entry>) -> Trace
+        ensures { result ≡ record { starts = starts.items; entries = entries.items } }
+    {
+        Trace { starts, entries }
+    }
+
     /// How the members began, in order of their numbers. It takes no memory.
     pub fn starts(&self) -> &[Start]
         ensures { result.now ≡ self.now.starts }

@@ -1,20 +1,24 @@
 use Rattle.std.proofs.Common.{refl, ap, ◌∙◌, ◌∷◌, ◌++◌, [], Some}
 use Rattle.srm_entries.specs.declared.entry.Input.TheVariants.{Ticked}
 use Rattle.srm_world.specs.Recorders.{journal_of}
-use Rattle.srm_world.proofs.Journaling.{fits_same, entries_same, lawful, lawful_after}
+use Rattle.srm_world.proofs.Journaling.{kept_ticked, kept_same, entries_same, lawful, lawful_after}
 use Rattle.srm_world.proofs.Wording.{recorded_by}
 use Rattle.srm_world.proofs.recorder.Recorder.tick.Goals as goal
 
 pub returns-clause-lawful : goal.returns-clause-lawful
-returns-clause-lawful g c = lawful_after g.W.Words.draw (Some c.args.now) Ticked _ c.self.inside.agent c.tick_noted.new.self c.in_ok-answer.field-0.entry _ c.self.invariant c.in_ok-answer.ensures.ok
+returns-clause-lawful g c = lawful_after g.W.Words.draw (Some c.args.now) Ticked _ c.self.inside.agent c.tick_noted.new.self c.in_ok-answer.field-0.entry _ c.self.invariant c.in_ok-answer.ensures.ok refl
     (ap (λ es. record { start = c.self.inside.start; entries = es }) (c.append.ensures ∙ ap (λ es. es ++ c.in_ok-answer.field-0.entry ∷ []) c.in_ok-reserve.ensures.items))
 
 pub returns-in_err-reserve-clause-lawful : goal.returns-in_err-reserve-clause-lawful
 returns-in_err-reserve-clause-lawful g c = lawful _ c.self.inside.agent (entries_same (journal_of c.self.inside) c.self.inside.agent c.reserve.new.self.items c.self.invariant c.in_err-reserve.ensures.items)
 
 pub returns-in_err-answer-clause-lawful : goal.returns-in_err-answer-clause-lawful
-returns-in_err-answer-clause-lawful g c = lawful _ c.tick_noted.new.self (fits_same (journal_of c.self.inside) c.self.inside.agent c.tick_noted.new.self c.reserve.new.self.items c.self.invariant c.in_err-answer.ensures.err c.in_ok-reserve.ensures.items)
+returns-in_err-answer-clause-lawful g c = lawful _ c.tick_noted.new.self (kept_same (journal_of c.self.inside) c.self.inside.agent c.tick_noted.new.self c.reserve.new.self.items c.self.invariant c.in_err-answer.ensures.err c.in_ok-reserve.ensures.items)
 
 pub returns-clause-words : goal.returns-clause-words
-returns-clause-words g c = rw (← c.self.view_is) (recorded_by g.W.Words.draw (Some c.args.now) Ticked (journal_of c.self.inside) c.self.inside.agent c.tick_noted.new.self c.in_ok-answer.field-0.entry _ c.self.invariant c.in_ok-answer.ensures.ok
+returns-clause-words g c = rw (← c.self.view_is) (recorded_by g.W.Words.draw (Some c.args.now) Ticked (journal_of c.self.inside) c.self.inside.agent c.tick_noted.new.self c.in_ok-answer.field-0.entry _ c.self.invariant.fits c.in_ok-answer.ensures.ok
     (c.append.ensures ∙ ap (λ es. es ++ c.in_ok-answer.field-0.entry ∷ []) c.in_ok-reserve.ensures.items))
+
+pub invariant_of-self-2 : goal.invariant_of-self-2
+invariant_of-self-2 g c = kept_ticked g.W.Words.draw _ (journal_of c.self.inside) c.self.inside.agent c.tick_noted.new.self c.in_ok-answer.field-0.entry c.append.new.entries.items c.self.invariant c.in_ok-answer.ensures.ok
+    (c.append.ensures ∙ ap (λ es. es ++ c.in_ok-answer.field-0.entry ∷ []) c.in_ok-reserve.ensures.items)
