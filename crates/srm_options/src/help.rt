@@ -1,0 +1,71 @@
+//! What the program says of itself.
+
+/// What `srm` is.
+pub const ABOUT: &str = "A drawing that its members keep in step over lossy datagrams";
+
+/// What `srm world` does.
+pub const WORLD: &str = "Plays a script of several members of one session, and prints what happens";
+
+/// What `srm node` does.
+pub const NODE: &str =
+    "A member over UDP: draws the lines of standard input, and prints what its page workers took";
+
+/// What `srm node --help` prints behind its options.
+pub const NODE_MORE: &str = "\
+Each line of standard input, which is read to its end first, is a stroke on page
+0.0: up to 1024 bytes, whatever they are. The input has at most 1000000 bytes.
+The member leaves once its time is up and all strokes are drawn. Then it prints
+
+  took M J open C.P|draw S N TEXT|left S|close      what slot J took, in order
+  gone M
+
+Status: 0; 1 for a line that is too long, an input of more than 1000000 bytes or
+a stream that fails; 2 for a wrong command line; 3 where the socket fails; 4 for
+want of memory, or where all turns were spent.";
+
+/// What `srm world --help` prints.
+pub const WORLD_HELP: &str = "usage: srm world < SCRIPT
+
+Plays a script of several members of one session, and prints what happens.
+
+The first lines of a script, in this order; the first is needed:
+  members N           how many members there are, 1 to 32, with the numbers from 0
+  bucket R D          bytes a second that each may send, 1 to 100000000, and the
+                      depth of its bucket in bytes, 1051 to 1000000; 8000 and
+                      4204 without this line
+  words M W ..        the words, below 2^64, that waits of member M, below N, are
+                      drawn by, and then 0; at most one line a member, by rising M
+  timers              timers are printed too
+
+Then a line for each event, at a moment T in microseconds, 0 to 281474976710656
+(2^48), where it has one:
+  draw M T C.P TEXT   member M draws on page P, 0 to 65535, of creator C, 0 to 31;
+                      TEXT is up to 1024 printable ASCII characters, or missing
+  tick M T            member M asks, repairs and sends what is due
+  deliver M T K       the datagram with number K, of all that were sent, from 0
+                      on, comes to member M
+  show M T C.P        member M shows a page
+  leave M T           member M begins to leave
+  give M J            member M gives the next message of slot J, 0 to 7, to its
+                      page worker
+  take M J            the page worker takes its next message
+
+Words stand one space apart, numbers are decimal without leading zeros, and an
+empty line is bad. A datagram that is never delivered is lost. An event of a
+member up to 31 that isn't there, of a datagram up to 4294967295 that wasn't sent
+yet, or of a slot from 8 to 255 is skipped; a greater number makes a bad line.
+
+What is printed, with S a drawop's source, N its number there, K a datagram's
+number, KIND data, request, repair or session; CAUSE 1 own, 2 gone, 3 conflict,
+4 no slot for a page, 5 past a final, 6 no datagram of the session, 7 stranger;
+WHY 1 leaving, 2 gone, 3 no slot for the page, 4 stream full, 5 body too long. A
+tick with nothing to do prints nothing.
+  drew M C.P N                  refused M WHY             skipped
+  out K M KIND BYTES            heard M taken             heard M ignored CAUSE
+  ask M S C.P N                 fix M S C.P N             shown M C.P
+  arm M ask|fix S C.P N EXPONENT WAIT                     leaving M
+  gave|took M J open C.P|draw S N TEXT|left S|close|none  gone M
+
+Status: 0; 1 for a bad line, a script of more than 1000000 bytes or a stream that
+fails; 2 for a wrong command line; 4 for want of memory.
+";

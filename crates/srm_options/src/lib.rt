@@ -1,0 +1,24 @@
+//! The command lines of `srm`.
+//!
+//! ```
+//! match read_node(alloc, words) { // the words behind `srm node`
+//!     Ok(options) => run(options),
+//!     Err(reply) => tell(reply),
+//! }
+//! ```
+//!
+//! **What is refused.** Whatever isn't a command line of `srm world` or `srm node` gets a [`Reply`]: the help or the version where it asks for
+//! one, what is wrong in it, or that memory ran out.
+#![tactic(auto)]
+
+mod help;
+mod mistake;
+mod node;
+mod node_options;
+mod reply;
+mod world;
+
+pub use node::read_node;
+pub use node_options::NodeOptions;
+pub use reply::{Reply, Text};
+pub use world::read_world;

@@ -1,0 +1,19 @@
+//! What is wrong in a command line that has all its options.
+
+use srm_names::MEMBERS;
+use thiserror::Error;
+
+/// What is wrong in a command line that has all its options.
+#[derive(Clone, Copy, Debug, Error)]
+pub enum Mistake<'a> {
+    #[error("'{0}' is no IPv4 address with a port, as 127.0.0.1:47100 is one")]
+    Address(&'a str),
+    #[error("there are more than {MEMBERS} addresses")]
+    TooMany,
+    #[error("'--me <M>' is no place in the list of addresses, the first of which has the place 0")]
+    NoPlace,
+    #[error("an option is missing or out of its range")]
+    Range,
+    #[error("out of memory")]
+    Memory,
+}

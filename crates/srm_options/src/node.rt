@@ -1,0 +1,190 @@
+//! The command line of `srm node`.
+
+ghost use Rattle.std.specs.Prelude.{IfOk};
+ghost use Rattle.srm_options.specs.Options.{IsInRange};
+
+use crate::help::{NODE, NODE_MORE};
+use crate::mistake::Mistake;
+use crate::node_options::NodeOptions;
+use crate::reply::Reply;
+use clap::error::ErrorKind;
+use clap::{Arg, ArgAction, ArgMatches, Command, value_parser};
+use srm_bucket::{GREATEST_DEPTH, GREATEST_RATE, LEAST_DEPTH, LEAST_RATE};
+use srm_names::{MEMBERS, MOMENT, Member};
+use std::alloc::{AllocError, Global};
+use std::net::{SocketAddr, SocketAddrV4};
+
+/// Without `--stay` a node leaves after so many microseconds.
+const STAY: u64 = 5_000_000;
+
+/// Without `--turns` it turns so often, at most.
+const TURNS: u64 = 1_000_000;
+
+/// Without `--rate` it may send so many bytes a second.
+const RATE: u32 = 8_000;
+
+/// Without `--depth` its bucket holds so many bytes.
+const DEPTH: u32 = 4_204;
+
+/// Reads the words behind `srm node`.
+pub fn read_node<'a>(alloc: Global, words: &'a [&'a str]) -> Result<NodeOptions, Reply>
+    ensures { IfOk result IsInRange }
+{
+    let Ok(mut command) = node_command(alloc) else {
+        return Err(Reply::Memory);
+    };
+    let matches = match command.try_get_matches_from_mut(words) {
+        Ok(matches) => matches,
+        Err(error) => return Err(Reply::from(error)),
+    };
+    let options = match options_in(alloc, &matches) {
+        Ok(options) => options,
+        Err(mistake) => return Err(told(alloc, &mut command, mistake)),
+    };
+    if options.is_in_range() {
+        Ok(options)
+    } else {
+        Err(told(alloc, &mut command, Mistake::Range))
+    }
+}
+
+/// The command, for its own words and for the help on all commands.
+pub(crate) fn node_command<'a>(alloc: Global) -> Result<Command<'a>, AllocError> {
+    let command = Command::new(alloc, "node")
+        .bin_name("srm node")?
+        .no_binary_name(true)
+        .about(NODE)
+        .after_help(NODE_MORE);
+    with_addresses(alloc, with_limits(alloc, with_member(alloc, command)?)?)
+}
+
+fn option<'a>(alloc: Global, name: &'a str, value: &'a str, help: &'a str) -> Arg<'a> {
+    Arg::new(alloc, name)
+        .long(name)
+        .value_name(value)
+        .help(help)
+        .action(ArgAction::Set)
+}
+
+fn with_member<'a>(alloc: Global, command: Command<'a>) -> Result<Command<'a>, AllocError> {
+    let session = option(alloc, "session", "S", "number of the session, below 2^32")
+        .required(true)
+        .value_parser(value_parser!(u32));
+    let me = option(
+        alloc,
+        "me",
+        "M",
+        "this member: the place of its address, from 0",
+    )
+    .required(true)
+    .value_parser(value_parser!(u8));
+    let start = option(
+        alloc,
+        "start",
+        "N",
+        "start of the random waits, below 2^64; else 0",
+    )
+    .value_parser(value_parser!(u64));
+    command.arg(session)?.arg(me)?.arg(start)
+}
+
+fn with_limits<'a>(alloc: Global, command: Command<'a>) -> Result<Command<'a>, AllocError> {
+    let stay = option(
+        alloc,
+        "stay",
+        "U",
+        "leaves after so many microseconds, at most 2^48; else 5000000",
+    )
+    .value_parser(value_parser!(u64).range(..=MOMENT as i64));
+    let turns = option(
+        alloc,
+        "turns",
+        "T",
+        "turns so often, at most, below 2^64; else 1000000",
+    )
+    .value_parser(value_parser!(u64));
+    let rate = option(
+        alloc,
+        "rate",
+        "R",
+        "bytes a second, 1 to 100000000; else 8000",
+    )
+    .value_parser(value_parser!(u32).range(i64::from(LEAST_RATE)..=i64::from(GREATEST_RATE)));
+    let depth = option(
+        alloc,
+        "depth",
+        "D",
+        "depth of its bucket in bytes, 1051 to 1000000; else 4204",
+    )
+    .value_parser(value_parser!(u32).range(i64::from(LEAST_DEPTH)..=i64::from(GREATEST_DEPTH)));
+    command.arg(stay)?.arg(turns)?.arg(rate)?.arg(depth)
+}
+
+fn with_addresses<'a>(alloc: Global, command: Command<'a>) -> Result<Command<'a>, AllocError> {
+    let addresses = Arg::new(alloc, "ADDR")
+        .help("IPv4 address and port of each member, 1 to 32, as 127.0.0.1:47100")
+        .action(ArgAction::Append)
+        .num_args(1..)
+        .required(true);
+    command.arg(addresses)
+}
+
+/// What the words say.
+fn options_in<'a>(alloc: Global, matches: &ArgMatches<'a>) -> Result<NodeOptions, Mistake<'a>> {
+    let addresses = match addresses_in(alloc, matches.get_strs("ADDR").unwrap_or(&[])) {
+        Ok(addresses) => addresses,
+        Err(mistake) => return Err(mistake),
+    };
+    let Some(me) = member_in(matches, addresses.len()) else {
+        return Err(Mistake::NoPlace);
+    };
+    let Some(session) = matches.get_one::<u32>("session") else {
+        return Err(Mistake::Range);
+    };
+    Ok(NodeOptions {
+        session,
+        me,
+        start: matches.get_one::<u64>("start").unwrap_or(0),
+        stay: matches.get_one::<u64>("stay").unwrap_or(STAY),
+        turns: matches.get_one::<u64>("turns").unwrap_or(TURNS),
+        rate: matches.get_one::<u32>("rate").unwrap_or(RATE),
+        depth: matches.get_one::<u32>("depth").unwrap_or(DEPTH),
+        addresses,
+    })
+}
+
+fn addresses_in<'a>(alloc: Global, texts: &[&'a str]) -> Result<Vec<SocketAddr>, Mistake<'a>> {
+    if texts.len() > usize::from(MEMBERS) {
+        return Err(Mistake::TooMany);
+    }
+    let mut addresses = Vec::new(alloc);
+    for text in texts {
+        let Ok(address) = text.parse::<SocketAddrV4>() else {
+            return Err(Mistake::Address(text));
+        };
+        if addresses.push(SocketAddr::V4(address)).is_err() {
+            return Err(Mistake::Memory);
+        }
+    }
+    Ok(addresses)
+}
+
+/// The member, where it is one of so many.
+fn member_in(matches: &ArgMatches<'_>, members: usize) -> Option<Member> {
+    let me = matches.get_one::<u8>("me")?;
+    if usize::from(me) < members {
+        Member::new(me)
+    } else {
+        None
+    }
+}
+
+fn told<'a>(alloc: Global, command: &mut Command<'a>, mistake: Mistake<'a>) -> Reply {
+    let Ok(text) = format!(in alloc; "{mistake}") else {
+        return Reply::Memory;
+    };
+    match command.error(ErrorKind::ValueValidation, text.as_str()) {
+        Ok(error) => Reply::from(error),
+        Err(_) => Reply::Memory,
+    }
+}

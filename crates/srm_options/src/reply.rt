@@ -1,0 +1,43 @@
+//! What a command line gets in place of being done.
+
+use clap::Error;
+use clap::error::ErrorKind;
+use std::alloc::AllocError;
+use std::fmt;
+
+/// What a command line gets in place of being done.
+#[derive(Debug, Drop)]
+pub enum Reply {
+    /// The help or the version, that it asks for.
+    Shown(Text),
+    /// What is wrong in it.
+    Wrong(Text),
+    /// Memory ran out.
+    Memory,
+}
+
+/// A text for the user, with its line ends.
+#[derive(Debug, Drop)]
+pub struct Text(Error);
+
+impl fmt::Display for Text {
+    fn fmt<W: fmt::Write>(&self, f: &mut fmt::Formatter<W>) -> fmt::Result {
+        write!(f, "{}", self.0)
+    }
+}
+
+impl From<Error> for Reply {
+    fn from(error: Error) -> Reply {
+        match error.kind() {
+            ErrorKind::OutOfMemory => Reply::Memory,
+            ErrorKind::DisplayHelp | ErrorKind::DisplayVersion => Reply::Shown(Text(error)),
+            _ => Reply::Wrong(Text(error)),
+        }
+    }
+}
+
+impl From<AllocError> for Reply {
+    fn from(_error: AllocError) -> Reply {
+        Reply::Memory
+    }
+}

@@ -1,0 +1,48 @@
+//! The command lines of `srm world`, and of `srm` by itself.
+
+use crate::help::{ABOUT, WORLD, WORLD_HELP};
+use crate::node::node_command;
+use crate::reply::Reply;
+use clap::error::ErrorKind;
+use clap::{Command, Error};
+use std::alloc::{AllocError, Global};
+
+/// Reads the words behind `srm`, of which the first isn't `node`: Ok where they ask for `srm world`.
+pub fn read_world<'a>(alloc: Global, words: &'a [&'a str]) -> Result<(), Reply> {
+    let Ok(mut command) = srm_command(alloc) else {
+        return Err(Reply::Memory);
+    };
+    let matches = match command.try_get_matches_from_mut(words) {
+        Ok(matches) => matches,
+        Err(error) => return Err(Reply::from(error)),
+    };
+    match matches.subcommand_name() {
+        Some("world") => Ok(()),
+        _ => Err(told(&mut command)),
+    }
+}
+
+fn srm_command<'a>(alloc: Global) -> Result<Command<'a>, AllocError> {
+    let world = Command::new(alloc, "world")
+        .about(WORLD)
+        .override_help(WORLD_HELP);
+    Command::new(alloc, "srm")
+        .bin_name("srm")?
+        .no_binary_name(true)
+        .version("0.1.0")
+        .about(ABOUT)
+        .subcommand_required(true)
+        .subcommand(world)?
+        .subcommand(node_command(alloc)?)
+}
+
+/// That `node` comes first, for a caller who reads it here.
+fn told(command: &mut Command<'_>) -> Reply {
+    match command.error(
+        ErrorKind::InvalidSubcommand,
+        "'node' has to be the first word",
+    ) {
+        Ok(error) => Reply::from(error),
+        Err(error) => Reply::from(Error::from(error)),
+    }
+}
