@@ -1,0 +1,10 @@
+pub mod Stuck
+pub mod Texting
+pub mod Queueing
+pub mod Merging
+pub mod Ordering
+pub mod Finding
+pub mod EndedSo
+pub mod Taking
+pub mod Openings
+pub mod AuditExamples

@@ -1,0 +1,195 @@
+-- Journals that are put into one order, entry by entry.
+use Rattle.std.proofs.Common.{◌≡◌, ◌≢◌, ℕ, zero, suc, ◌+◌, ◌≤◌, ◌<◌, Bool, true, false, ◌||◌, List, [], ◌∷◌, ◌++◌, length, get_or, refl, ap, sym, ◌∙◌, subst, inl, inr, arith, append_assoc, length-set}
+use Rattle.std.specs.Prelude.{◌⊎◌, Option, Some, None, cond, slice_get, slice_set, IfSome, MatchBool, Contains}
+use Rattle.std.specs.List.{AllByRecursion}
+use Rattle.std.proofs.lemmas.Bool.{cases_eq, ne_eqb}
+use Rattle.std.proofs.lemmas.List.{append-nil}
+use Rattle.std.proofs.lemmas.Option.{same_Some, slice_get-get_or, none-some}
+use Rattle.srm_names.specs.Histories.{Step}
+use Rattle.srm_names.proofs.Lists.{AllByRecursion-parts}
+use Rattle.srm_codec.specs.declared.datagram.Datagram.{Datagram}
+use Rattle.srm_codec.specs.Spelling.{IsSpellable}
+use Rattle.srm_entries.specs.declared.entry.Entry.{Entry}
+use Rattle.srm_entries.specs.Entries.{heard, sent}
+use Rattle.srm_agent_parts.proofs.Running.{steps_more}
+use Rattle.srm_world.specs.Traces.{Journal, of_member, IsHonest}
+use Rattle.srm_world.proofs.Laning.{get_set_same, get_set_other}
+use Rattle.srm_world.proofs.Members.{of_member-append, of_member-own}
+use Rattle.srm_world.proofs.Stepping.{sent-snoc}
+use Rattle.srm_audit.specs.Audits.{entries_at}
+use Rattle.srm_audit.specs.Texts.{Knows, Learns}
+use Rattle.srm_audit.specs.Queues.{HearsSent, MayGo, PopsReady}
+use Rattle.srm_audit.specs.Merging.{Content, left, Merges, Keeps, Advances, Waits, Moves, TriesMember, Tries, Stops}
+
+pub at_queue : {X : Type 0} (xs : List X) (k : ℕ) (x : X) → k < length xs → x ≡ get_or xs k x → slice_get xs k ≡ Some x
+at_queue xs k x l is = slice_get-get_or xs k x l ∙ ap Some (sym is)
+
+-- what one call finds
+
+set_same : {X : Type 0} (xs : List X) (k : ℕ) (x : X) → slice_get xs k ≡ Some x → slice_set xs k x ≡ xs
+set_same [] k x at = absurd (none-some x at)
+set_same (y ∷ xs) zero x at = ap (λ z. z ∷ xs) (sym (same_Some y x at))
+set_same (y ∷ xs) (suc k) x at = ap (λ zs. y ∷ zs) (set_same xs k x at)
+
+parts : (m new : Content) → new.queues ≡ m.queues → new.entries ≡ m.entries → new.texts ≡ m.texts → new ≡ m
+parts m new e f g =
+    let one : List (List Entry) → Content = λ qs. record { queues = qs; entries = new.entries; texts = new.texts } in
+    let two : List Entry → Content = λ es. record { queues = m.queues; entries = es; texts = new.texts } in
+    let three : List (List ℕ) → Content = λ ts. record { queues = m.queues; entries = m.entries; texts = ts } in
+    ap one e ∙ ap two f ∙ ap three g
+
+pub waits_here : (m new : Content) (k : ℕ) (queue rest : List Entry) → k < length m.queues → queue ≡ get_or m.queues k queue → rest ≡ queue → new.queues ≡ slice_set m.queues k rest → new.entries ≡ m.entries → new.texts ≡ m.texts → MayGo m.texts queue false
+    → (new ≡ m) × Waits m k
+waits_here m new k queue rest l is same queues entries texts waits =
+    let at : slice_get m.queues k ≡ Some queue = at_queue m.queues k queue l is in (
+      parts m new (queues ∙ ap (slice_set m.queues k) same ∙ set_same m.queues k queue at) entries texts,
+      record { queue = queue; at = at; next = waits },
+    )
+
+pub waits_after : (m new : Content) (k : ℕ) (queue rest : List Entry) (popped : Option Entry) → k < length m.queues → queue ≡ get_or m.queues k queue → PopsReady m.texts queue rest popped → popped ≡ None → new.queues ≡ slice_set m.queues k rest → new.entries ≡ m.entries
+    → new.texts ≡ m.texts → (new ≡ m) × Waits m k
+waits_after m new k queue rest popped l is pops none queues entries texts =
+    let (same, waits) : PopsReady m.texts queue rest None = subst (PopsReady m.texts queue rest) none pops in
+    waits_here m new k queue rest l is same queues entries texts waits
+
+pub advances : (m new : Content) (k : ℕ) (queue rest : List Entry) (e : Entry) → k < length m.queues → queue ≡ get_or m.queues k queue → queue ≡ e ∷ rest → HearsSent m.texts e → new.queues ≡ slice_set m.queues k rest → new.entries ≡ m.entries ++ e ∷ []
+    → (outs : List Datagram) → outs ≡ e.effects.outs → Learns outs m.texts new.texts → Advances k m new
+advances m new k queue rest e l is split hears queues entries outs outs_are learns = record {
+  entry = e;
+  rest = rest;
+  next = at_queue m.queues k queue l is ∙ ap Some split;
+  queues = queues;
+  entries = entries;
+  hears = hears;
+  learns = subst (λ gs. Learns gs m.texts new.texts) outs_are learns;
+}
+
+pub goes_after : (m new : Content) (k : ℕ) (queue rest : List Entry) (popped : Option Entry) (e : Entry) → k < length m.queues → queue ≡ get_or m.queues k queue → PopsReady m.texts queue rest popped → popped ≡ Some e → new.queues ≡ slice_set m.queues k rest
+    → new.entries ≡ m.entries ++ e ∷ [] → (outs : List Datagram) → outs ≡ e.effects.outs → Learns outs m.texts new.texts → Advances k m new
+goes_after m new k queue rest popped e l is pops some queues entries outs outs_are learns =
+    let (split, hears, readable) : PopsReady m.texts queue rest (Some e) = subst (PopsReady m.texts queue rest) some pops in
+    advances m new k queue rest e l is split hears queues entries outs outs_are learns
+
+-- one entry more keeps all
+
+pub all_snoc : {X : Type 0} (P : X → Type 0) (xs : List X) (x : X) → AllByRecursion P xs → P x → AllByRecursion P (xs ++ x ∷ [])
+all_snoc P [] x all p = (p, tt)
+all_snoc P (y ∷ xs) x all p = (all.0, all_snoc P xs x all.1 p)
+
+pub other_member : (k : ℕ) (es : List Entry) (e : Entry) → e.member ≢ k → of_member k (es ++ e ∷ []) ≡ of_member k es
+other_member k es e ne = of_member-append k es (e ∷ []) ∙ ap (λ b. of_member k es ++ cond b (e ∷ []) []) (ne_eqb e.member k ne) ∙ append-nil (of_member k es)
+
+within : {X : Type 0} (xs : List X) (k : ℕ) (x : X) → slice_get xs k ≡ Some x → k < length xs
+within [] k x e = absurd (none-some x e)
+within (y ∷ xs) zero x e = omega arith
+within (y ∷ xs) (suc k) x e = let l = within xs k x e in omega arith
+
+advances_keeps : (k : ℕ) (old new : Content) → Advances k old new → (q : List Journal) → Merges q old → Merges q new
+advances_keeps k old new a q m = record {
+  count = ap length a.queues ∙ length-set old.queues k a.rest ∙ m.count;
+  own = m.own;
+  each = λ j rest at. which j rest at (cases_eq j k);
+  inside = subst (AllByRecursion (λ (e : Entry). e.member < length q)) (sym a.entries) (all_snoc (λ (e : Entry). e.member < length q) old.entries a.entry m.inside (subst (λ n. n < length q) (sym mine) (subst (λ n. k < n) m.count (within old.queues k (a.entry ∷ a.rest) a.next))));
+  honest = subst IsHonest (sym a.entries) (steps_more (λ (s : Step Entry). IfSome (heard s.this) (Contains (sent s.before))) old.entries a.entry m.honest (a.hears (sent old.entries) m.knows));
+  knows = subst (λ gs. Knows gs new.texts) (sym (ap sent a.entries ∙ sent-snoc old.entries a.entry)) (a.learns.each (sent old.entries) m.knows);
+}
+  where
+    split : of_member k old.entries ++ a.entry ∷ a.rest ≡ entries_at q k
+    split = m.each k (a.entry ∷ a.rest) a.next
+
+    mine : a.entry.member ≡ k
+    mine = (AllByRecursion-parts (λ (e : Entry). e.member ≡ k) (of_member k old.entries) (a.entry ∷ a.rest) (subst (AllByRecursion (λ (e : Entry). e.member ≡ k)) (sym split) (m.own k))).1.0
+
+    which : (j : ℕ) (rest : List Entry) → slice_get new.queues j ≡ Some rest → ((j ≡ k) ⊎ (j ≢ k)) → of_member j new.entries ++ rest ≡ entries_at q j
+    which j rest at (inl same) =
+        let is : a.rest ≡ rest = same_Some a.rest rest (sym (get_set_same old.queues k (a.entry ∷ a.rest) a.rest a.next) ∙ ap (λ xs. slice_get xs k) (sym a.queues) ∙ ap (slice_get new.queues) (sym same) ∙ at) in
+        let here : of_member k new.entries ++ a.rest ≡ entries_at q k =
+        ap (λ es. of_member k es ++ a.rest) a.entries ∙ ap (λ es. es ++ a.rest) (of_member-own k old.entries a.entry mine) ∙ append_assoc (of_member k old.entries) (a.entry ∷ []) a.rest ∙ split in
+        subst (λ (i : ℕ). of_member i new.entries ++ rest ≡ entries_at q i) (sym same) (subst (λ xs. of_member k new.entries ++ xs ≡ entries_at q k) is here)
+    which j rest at (inr differ) =
+        ap (λ es. of_member j es ++ rest) a.entries ∙ ap (λ es. es ++ rest) (other_member j old.entries a.entry (λ (e : a.entry.member ≡ j). differ (sym e ∙ mine)))
+        ∙ m.each j rest (sym (get_set_other old.queues k j a.rest differ) ∙ ap (λ xs. slice_get xs j) (sym a.queues) ∙ at)
+
+left_set : (queues : List (List Entry)) (k : ℕ) (e : Entry) (rest : List Entry) → slice_get queues k ≡ Some (e ∷ rest) → left (slice_set queues k rest) + 1 ≡ left queues
+left_set [] k e rest at = absurd (none-some (e ∷ rest) at)
+left_set (x ∷ queues) zero e rest at = let is : length x ≡ suc (length rest) = ap length (same_Some x (e ∷ rest) at) in omega arith
+left_set (x ∷ queues) (suc k) e rest at = let h = left_set queues k e rest at in omega arith
+
+advances_less : (k : ℕ) (old new : Content) → Advances k old new → left new.queues + 1 ≡ left old.queues
+advances_less k old new a = ap (λ xs. left xs + 1) a.queues ∙ left_set old.queues k a.entry a.rest a.next
+
+pub keeps_itself : (m : Content) → Keeps m m
+keeps_itself m = record { each = λ q h. h; count = refl }
+
+pub keeps_on : (old mid new : Content) → Keeps old mid → Keeps mid new → Keeps old new
+keeps_on old mid new a b = record { each = λ q h. b.each q (a.each q h); count = b.count ∙ a.count }
+
+advance_keeps : (k : ℕ) (old new : Content) → Advances k old new → Keeps old new
+advance_keeps k old new a = record { each = advances_keeps k old new a; count = ap length a.queues ∙ length-set old.queues k a.rest }
+
+-- one member goes on as far as it can
+
+-- so far it did, or nothing changed
+abbrev pub GoesSo : Content → Content → Bool → Type 0
+GoesSo old new moved = MatchBool moved (Moves old new) (new ≡ old)
+
+pub goes_more : (k : ℕ) (old mid new : Content) (moved : Bool) → GoesSo old mid moved → Advances k mid new → GoesSo old new true
+goes_more k old mid new true h a = record {
+  keeps = keeps_on old mid new h.keeps (advance_keeps k mid new a);
+  less = let l = advances_less k mid new a in let n = h.less in omega arith;
+}
+goes_more k old mid new false h a = record {
+  keeps = subst (λ (m : Content). Keeps m new) h (advance_keeps k mid new a);
+  less = subst (λ (m : Content). left new.queues + 1 ≤ left m.queues) h (let l = advances_less k mid new a in omega arith);
+}
+
+pub goes_less : (k : ℕ) (mid new : Content) → Advances k mid new → left new.queues < left mid.queues
+goes_less k mid new a = let l = advances_less k mid new a in omega arith
+
+pub goes_end : (k : ℕ) (old mid new : Content) (moved : Bool) → GoesSo old mid moved → new ≡ mid → Waits mid k → TriesMember k old new moved
+goes_end k old mid new true h same waits = subst (Moves old) (sym same) h
+goes_end k old mid new false h same waits = (same ∙ h, subst (λ (m : Content). Waits m k) h waits)
+
+pub goes_count : (k : ℕ) (old mid : Content) (moved : Bool) → k < length old.queues → GoesSo old mid moved → k < length mid.queues
+goes_count k old mid true l h = subst (λ n. k < n) (sym h.keeps.count) l
+goes_count k old mid false l h = subst (λ (m : Content). k < length m.queues) (sym h) l
+
+-- each member is tried in turn
+
+pub tries_none : (m : Content) → Tries 0 m m false
+tries_none m = record { keeps = keeps_itself m; less = omega arith; still = λ e. refl; waits = λ e k l. absurd (omega arith) }
+
+pub tries_more : (i : ℕ) (old mid new : Content) (moved went : Bool) → Tries i old mid moved → TriesMember i mid new went → Tries (i + 1) old new (moved || went)
+tries_more i old mid new true true h a = record {
+  keeps = keeps_on old mid new h.keeps a.keeps;
+  less = let l = a.less in let k = h.less in omega arith;
+  still = λ e. absurd (cc);
+  waits = λ e. absurd (cc);
+}
+tries_more i old mid new false true h a = record {
+  keeps = keeps_on old mid new h.keeps a.keeps;
+  less = let l = a.less in let k = h.less in omega arith;
+  still = λ e. absurd (cc);
+  waits = λ e. absurd (cc);
+}
+tries_more i old mid new true false h (same, waits) = record {
+  keeps = subst (Keeps old) (sym same) h.keeps;
+  less = subst (λ (m : Content). left m.queues + 1 ≤ left old.queues) (sym same) h.less;
+  still = λ e. absurd (cc);
+  waits = λ e. absurd (cc);
+}
+tries_more i old mid new false false h (same, waits) = record {
+  keeps = subst (Keeps old) (sym same) h.keeps;
+  less = subst (λ (m : Content). left m.queues + 0 ≤ left old.queues) (sym same) h.less;
+  still = λ e. same ∙ h.still refl;
+  waits = λ e k l. elim (cases_eq k i) [
+    | inl is ↦ subst (Waits old) (sym is) (subst (λ (m : Content). Waits m i) (h.still refl) waits)
+    | inr ne ↦ h.waits refl k (omega (arith, ne))
+  ];
+}
+
+pub stops : (old mid new : Content) → Keeps old mid → Tries (length mid.queues) mid new false → Stops old new
+stops old mid new keeps tries = record {
+  keeps = keeps_on old mid new keeps tries.keeps;
+  waits = λ k l. subst (λ (m : Content). Waits m k) (sym (tries.still refl)) (tries.waits refl k (subst (λ (m : Content). k < length m.queues) (tries.still refl) l));
+}

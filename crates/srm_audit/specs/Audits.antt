@@ -1,0 +1,139 @@
+-- What journals and what was taken are to one trace of all members.
+use Rattle.std.specs.Prelude.{◌≡◌, ℕ, ◌==◌, ◌<◌, ◌≤◌, Bool, false, ◌&&◌, if◌then◌else◌, List, ◌∷◌, [], ◌++◌, length, map, slice_get, Option, Some, None, option_map, unwrap_or, IfSome, IsSome, Contains}
+use Rattle.std.specs.List.{flat_map, list_any, AllByRecursion}
+use Rattle.std.specs.List.Sorted.{IsPermutation}
+use Rattle.srm_names.specs.declared.limits.TheConstants.{PAGES}
+use Rattle.srm_names.specs.declared.page_msg.PageMsg.{PageMsg}
+use Rattle.srm_names.specs.Histories.{Step, steps}
+use Rattle.srm_codec.specs.declared.datagram.Datagram.{Datagram}
+use Rattle.srm_entries.specs.declared.entry.Entry.{Entry}
+use Rattle.srm_entries.specs.declared.entry.Input.{Input}
+use Rattle.srm_entries.specs.declared.entry.Input.TheVariants.{Took}
+use Rattle.srm_entries.specs.Entries.{heard, sent}
+use Rattle.srm_entries.specs.Giving.{given}
+use Rattle.srm_world.specs.declared.start.Start.{Start}
+use Rattle.srm_world.specs.Traces.{Trace, Journal, of_member, taken_by, IsHonest, IsRoster}
+use Rattle.srm_audit.specs.declared.got.Got.{Got}
+use Rattle.srm_audit.specs.declared.mismatch.Mismatch.{Mismatch}
+use Rattle.srm_audit.specs.declared.mismatch.Mismatch.TheVariants.{Unsent, Foreign, Memory, Roster}
+
+abbrev pub starts_of : List Journal → List Start
+starts_of js = map (λ (j : Journal). j.start) js
+
+-- q has the journals js, and they are one for each member of one roster in one session, in order of member
+pub record InOrder (js q : List Journal) : Type 0 where
+  pub same : IsPermutation js q
+  pub roster : IsRoster (starts_of q)
+
+-- the journal of a member, and nothing where there is none
+abbrev pub entries_at : List Journal → ℕ → List Entry
+entries_at q m = unwrap_or (option_map (λ (j : Journal). j.entries) (slice_get q m)) []
+
+abbrev pub IsPrefix : {X : Type 0} → List X → List X → Type 0
+IsPrefix {X = X} xs ys = (rest : List X) × (xs ++ rest ≡ ys)
+
+-- the entries of each member are the first of its journal, so there are no others
+pub record ArePrefixes (q : List Journal) (es : List Entry) : Type 0 where
+  pub each : (m : ℕ) → IsPrefix (of_member m es) (entries_at q m)
+
+-- what comes next in a member's journal
+abbrev pub next_of : List Journal → List Entry → ℕ → Option Entry
+next_of q es m = slice_get (entries_at q m) (length (of_member m es))
+
+-- the entry hears a datagram that wasn't sent in these
+abbrev pub HearsUnsent : List Entry → Entry → Type 0
+HearsUnsent es e = (g : Datagram) × (heard e ≡ Some g) × ¬ (Contains (sent es) g)
+
+-- Prefixes of the journals, in an honest order, that lead no further: what comes next in each, if anything does, hears a datagram
+-- that they didn't send.
+pub record AreStuck (q : List Journal) (es : List Entry) : Type 0 where
+  pub prefixes : ArePrefixes q es
+  pub honest : IsHonest es
+  pub waits : (m : ℕ) → IfSome (next_of q es m) (HearsUnsent es)
+
+-- so it is where the smallest member of which an entry is left is this one, after so many
+pub record IsUnsent (q : List Journal) (member entry : ℕ) : Type 0 where
+  pub es : List Entry
+  pub stuck : AreStuck q es
+  pub left : IsSome (next_of q es member)
+  pub smallest : (m : ℕ) → m < member → next_of q es m ≡ None
+  pub count : entry ≡ length (of_member member es)
+
+-- no honest order of prefixes of the journals has more than so many entries of a member
+abbrev pub HasNoMore : List Journal → ℕ → ℕ → Type 0
+HasNoMore q m n = (es : List Entry) → ArePrefixes q es → IsHonest es → length (of_member m es) ≤ n
+
+abbrev pub StuckLaw : Type 0
+StuckLaw = (q : List Journal) (es : List Entry) → AreStuck q es → (m : ℕ) → HasNoMore q m (length (of_member m es))
+
+abbrev pub UnsentLaw : Type 0
+UnsentLaw = (q : List Journal) (member entry : ℕ) → IsUnsent q member entry → HasNoMore q member entry
+
+-- no honest order has the journals whole
+abbrev pub HasNoOrder : List Journal → Type 0
+HasNoOrder q = (es : List Entry) → IsHonest es → ¬ ((m : ℕ) → of_member m es ≡ entries_at q m)
+
+abbrev pub NoOrderLaw : Type 0
+NoOrderLaw = (q : List Journal) (member entry : ℕ) → IsUnsent q member entry → HasNoOrder q
+
+-- what was taken in this slot of this member
+abbrev pub is_of : ℕ → ℕ → Got → Bool
+is_of m j got = (got.member == m) && (got.slot == j)
+
+-- The list names a member and a slot, for the first time, and is a prefix of what the member gave there.
+pub record IsFound (q : List Journal) (s : Step Got) : Type 0 where
+  pub member : s.this.member < length q
+  pub slot : s.this.slot < PAGES
+  pub once : list_any (is_of s.this.member s.this.slot) s.before ≡ false
+  pub prefix : IsPrefix s.this.list (given (entries_at q s.this.member) s.this.slot)
+
+abbrev pub AreFound : List Journal → List Got → Type 0
+AreFound q gots = AllByRecursion (IsFound q) (steps gots)
+
+-- the first list that isn't found is of this member and slot
+pub record IsForeign (q : List Journal) (gots : List Got) (member slot : ℕ) : Type 0 where
+  pub before : List Got
+  pub got : Got
+  pub after : List Got
+  pub split : gots ≡ before ++ got ∷ after
+  pub found : AreFound q before
+  pub foreign : ¬ (IsFound q (record { before = before; this = got }))
+  pub member_is : got.member ≡ member
+  pub slot_is : got.slot ≡ slot
+
+-- whose entry it is, of which input, and with which message
+abbrev pub outline : Entry → ℕ × Input × Option PageMsg
+outline e = (e.member, e.input, e.effects.message)
+
+-- a take of each message of the list
+abbrev pub takes_of : Got → List (ℕ × Input × Option PageMsg)
+takes_of got = map (λ m. (got.member, Took got.slot, Some m)) got.list
+
+-- what was taken in this slot of this member, by the lists
+abbrev pub listed : List Got → ℕ → ℕ → List PageMsg
+listed gots m j = flat_map (λ got. if is_of m j got then got.list else []) gots
+
+-- The members of the trace began as the journals say. Its entries are those of the journals, each in its order, and then the takes of
+-- each list, in order. No journal has a take, so there are no others.
+pub record Assembles (q : List Journal) (gots : List Got) (t : Trace) : Type 0 where
+  pub starts : t.starts ≡ starts_of q
+  pub calls : List Entry
+  pub takes : List Entry
+  pub split : t.entries ≡ calls ++ takes
+  pub journals : (m : ℕ) → of_member m calls ≡ entries_at q m
+  pub lists : map outline takes ≡ flat_map takes_of gots
+  pub taken : (m j : ℕ) → taken_by t.entries m j ≡ listed gots m j
+
+-- the journals, in order of member, and the lists are those of the trace
+pub record AreOf (js : List Journal) (gots : List Got) (t : Trace) : Type 0 where
+  pub order : List Journal
+  pub in_order : InOrder js order
+  pub found : AreFound order gots
+  pub assembles : Assembles order gots t
+
+-- why journals and lists are refused
+abbrev pub IsRefused : List Journal → List Got → Mismatch → Type 0
+IsRefused js gots Roster = (q : List Journal) → ¬ (InOrder js q)
+IsRefused js gots (Foreign member slot) = (q : List Journal) × InOrder js q × IsForeign q gots member slot
+IsRefused js gots (Unsent member entry) = (q : List Journal) × InOrder js q × AreFound q gots × IsUnsent q member entry
+IsRefused js gots Memory = Unit {0}

@@ -1,0 +1,10 @@
+pub mod Audits
+pub mod Numbers
+pub mod Texts
+pub mod Queues
+pub mod Merging
+pub mod Rosters
+pub mod Finding
+pub mod Endings
+pub mod Refusals
+pub mod Examples

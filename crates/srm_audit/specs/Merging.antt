@@ -1,0 +1,121 @@
+-- Journals while they are put into one order.
+use Rattle.std.specs.Prelude.{◌≡◌, ℕ, ◌+◌, ◌≤◌, ◌<◌, Bool, false, List, [], ◌∷◌, ◌++◌, length, map, take, slice_get, slice_set, if◌then◌else◌, Some, IfSome, MatchBool, Contains}
+use Rattle.std.specs.List.{AllByRecursion}
+use Rattle.srm_entries.specs.declared.entry.Entry.{Entry}
+use Rattle.srm_entries.specs.Entries.{sent}
+use Rattle.srm_world.specs.declared.start.Start.{Start}
+use Rattle.srm_world.specs.Traces.{Journal, of_member, IsHonest, IsRoster}
+use Rattle.srm_audit.specs.declared.mismatch.Mismatch.{Mismatch}
+use Rattle.srm_audit.specs.declared.mismatch.Mismatch.TheVariants.{Unsent, Memory}
+use Rattle.srm_audit.specs.declared.merge.Merge.TheInside.{Inside}
+use Rattle.srm_audit.specs.Audits.{entries_at, starts_of, IsUnsent}
+use Rattle.srm_audit.specs.Texts.{Knows, Learns}
+use Rattle.srm_audit.specs.Queues.{HearsSent, HearsUnknown}
+
+-- what is left of each journal, the entries in their order so far, and what these sent
+pub record Content : Type 0 where
+  pub queues : List (List Entry)
+  pub entries : List Entry
+  pub texts : List (List ℕ)
+
+abbrev pub content_of : Inside → Content
+content_of m = record { queues = m.queues.items; entries = m.entries.items; texts = m.texts }
+
+-- how many entries are left
+abbrev pub left : List (List Entry) → ℕ
+left [] = 0
+left (es ∷ rest) = length es + left rest
+
+-- These are the journals: of each, the entries so far and then what is left. The order is honest, and what it sent is known.
+pub record Merges (q : List Journal) (m : Content) : Type 0 where
+  pub count : length m.queues ≡ length q
+  pub own : (k : ℕ) → AllByRecursion (λ (e : Entry). e.member ≡ k) (entries_at q k)
+  pub each : (k : ℕ) (rest : List Entry) → slice_get m.queues k ≡ Some rest → of_member k m.entries ++ rest ≡ entries_at q k
+  pub inside : AllByRecursion (λ (e : Entry). e.member < length q) m.entries
+  pub honest : IsHonest m.entries
+  pub knows : Knows (sent m.entries) m.texts
+
+-- whatever journals they were, they still are
+pub record Keeps (old new : Content) : Type 0 where
+  pub each : (q : List Journal) → Merges q old → Merges q new
+  pub count : length new.queues ≡ length old.queues
+
+-- the next entry of a member went to the end of the order
+pub record Advances (member : ℕ) (old new : Content) : Type 0 where
+  pub entry : Entry
+  pub rest : List Entry
+  pub next : slice_get old.queues member ≡ Some (entry ∷ rest)
+  pub queues : new.queues ≡ slice_set old.queues member rest
+  pub entries : new.entries ≡ old.entries ++ entry ∷ []
+  pub hears : HearsSent old.texts entry
+  pub learns : Learns entry.effects.outs old.texts new.texts
+
+-- nothing is left of a member, or what comes next hears what wasn't sent
+pub record Waits (m : Content) (member : ℕ) : Type 0 where
+  pub queue : List Entry
+  pub at : slice_get m.queues member ≡ Some queue
+  pub next : IfSome (slice_get queue 0) (HearsUnknown m.texts)
+
+-- whether a member went on by one entry
+abbrev pub TriesOne : ℕ → Content → Content → Bool → Type 0
+TriesOne member old new went = MatchBool went (Advances member old new) ((new ≡ old) × Waits old member)
+
+-- a member went on, by one entry or more
+pub record Moves (old new : Content) : Type 0 where
+  pub keeps : Keeps old new
+  pub less : left new.queues + 1 ≤ left old.queues
+
+-- whether a member went on
+abbrev pub TriesMember : ℕ → Content → Content → Bool → Type 0
+TriesMember member old new moved = MatchBool moved (Moves old new) ((new ≡ old) × Waits old member)
+
+-- the members up to here were tried, and whether any of them went on
+pub record Tries (count : ℕ) (old new : Content) (moved : Bool) : Type 0 where
+  pub keeps : Keeps old new
+  pub less : left new.queues + (if moved then 1 else 0) ≤ left old.queues
+  pub still : moved ≡ false → new ≡ old
+  pub waits : moved ≡ false → (k : ℕ) → k < count → Waits old k
+
+-- no member can go on
+pub record Stops (old new : Content) : Type 0 where
+  pub keeps : Keeps old new
+  pub waits : (k : ℕ) → k < length new.queues → Waits new k
+
+abbrev pub IsEmptied : List Entry → Type 0
+IsEmptied queue = queue ≡ []
+
+-- the queue at the place is the first in which something is left
+pub record IsFirstLeft (queues : List (List Entry)) (place : ℕ) : Type 0 where
+  pub queue : List Entry
+  pub at : slice_get queues place ≡ Some queue
+  pub left : 0 < length queue
+  pub emptied : AllByRecursion IsEmptied (take place queues)
+
+-- the journals in one order, whole
+pub record Completes (q : List Journal) (es : List Entry) : Type 0 where
+  pub each : (k : ℕ) → of_member k es ≡ entries_at q k
+  pub inside : AllByRecursion (λ (e : Entry). e.member < length q) es
+  pub honest : IsHonest es
+
+-- whatever journals they were, these are they
+pub record Orders (old : Content) (es : List Entry) : Type 0 where
+  pub each : (q : List Journal) → Merges q old → Completes q es
+
+-- whatever journals they were, in order, they lead no further than here
+pub record Cuts (starts : List Start) (old : Content) (member entry : ℕ) : Type 0 where
+  pub each : (q : List Journal) → Merges q old → starts ≡ starts_of q → IsRoster starts → IsUnsent q member entry
+
+abbrev pub Refuses : List Start → Content → Mismatch → Type 0
+Refuses starts old (Unsent member entry) = Cuts starts old member entry
+Refuses starts old Memory = Unit {0}
+Refuses starts old _ = ⊥
+
+-- the journals stand in the queues, and nothing else was done
+pub record Opens (q : List Journal) (m : Content) : Type 0 where
+  pub queues : m.queues ≡ map (λ (j : Journal). j.entries) q
+  pub entries : m.entries ≡ []
+  pub knows : Knows [] m.texts
+
+-- the next entry of the member at a place
+abbrev pub IsUnsentAt : List Start → List Entry → ℕ → Mismatch → Type 0
+IsUnsentAt starts entries member mismatch = (a : Start) × (slice_get starts member ≡ Some a) × (mismatch ≡ Unsent a.config.me (length (of_member member entries)))

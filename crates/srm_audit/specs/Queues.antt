@@ -1,0 +1,43 @@
+-- What is left of a journal.
+use Rattle.std.specs.Prelude.{◌≡◌, ℕ, ◌<◌, Bool, true, false, List, ◌∷◌, length, slice_get, Option, Some, None, IfSome, Contains}
+use Rattle.std.specs.List.{AllByRecursion}
+use Rattle.srm_codec.specs.declared.datagram.Datagram.{Datagram}
+use Rattle.srm_codec.specs.Spelling.{IsSpellable}
+use Rattle.srm_entries.specs.declared.entry.Entry.{Entry}
+use Rattle.srm_entries.specs.Entries.{heard}
+use Rattle.srm_audit.specs.Texts.{text_of, Knows, HearsOther}
+
+-- what the entry sends and hears has a spelling
+pub record IsReadable (e : Entry) : Type 0 where
+  pub outs : AllByRecursion IsSpellable e.effects.outs
+  pub read : IfSome (heard e) IsSpellable
+
+abbrev pub AreReadable : List Entry → Type 0
+AreReadable es = AllByRecursion IsReadable es
+
+-- the entry hears the datagram that has this text
+abbrev pub HearsText : List ℕ → Entry → Type 0
+HearsText text e = (g : Datagram) × (heard e ≡ Some g) × (text ≡ text_of g)
+
+-- all entries are readable, and a text that is kept is that of what the first one hears
+pub record IsQueue (entries : List Entry) (text : List ℕ) : Type 0 where
+  pub readable : AreReadable entries
+  pub kept : 0 < length text → IfSome (slice_get entries 0) (HearsText text)
+
+-- whatever was sent of which these are the texts, the entry hears nothing, or what was sent
+abbrev pub HearsSent : List (List ℕ) → Entry → Type 0
+HearsSent texts e = (gs : List Datagram) → Knows gs texts → IfSome (heard e) (Contains gs)
+
+-- it hears what wasn't
+abbrev pub HearsUnknown : List (List ℕ) → Entry → Type 0
+HearsUnknown texts e = (gs : List Datagram) → Knows gs texts → HearsOther gs e
+
+-- whether an entry comes next that can go
+abbrev pub MayGo : List (List ℕ) → List Entry → Bool → Type 0
+MayGo texts entries true = (e : Entry) × (slice_get entries 0 ≡ Some e) × HearsSent texts e
+MayGo texts entries false = IfSome (slice_get entries 0) (HearsUnknown texts)
+
+-- the entry was taken, and it could go; or nothing was, as none could
+abbrev pub PopsReady : List (List ℕ) → List Entry → List Entry → Option Entry → Type 0
+PopsReady texts old new (Some e) = (old ≡ e ∷ new) × HearsSent texts e × IsReadable e
+PopsReady texts old new None = (new ≡ old) × MayGo texts old false

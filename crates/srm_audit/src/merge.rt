@@ -1,0 +1,132 @@
+//! Journals, while they are put into one order.
+
+ghost use Rattle.std.specs.Prelude.{◌≡◌, ◌<◌, ◌||◌, length, IfOk, IfErr, MatchOption, OnOk};
+ghost use Rattle.std.specs.List.{AllByRecursion};
+ghost use Rattle.srm_world.specs.Traces.{of_member};
+ghost use Rattle.srm_audit.specs.Merging.{IsEmptied, IsFirstLeft, IsUnsentAt, Orders, Refuses, Stops, Tries, TriesMember, TriesOne};
+
+use crate::mismatch::Mismatch;
+use crate::queue::Queue;
+use crate::texts::Texts;
+use srm_entries::Entry;
+use srm_world::Start;
+use std::alloc::{AllocError, Global};
+use std::marker::Model;
+
+/// What is left of each member's journal, and the entries that were put into one order. Each of these hears only what those before it
+/// sent.
+#[derive(Drop)]
+pub struct Merge {
+    pub(crate) queues: Vec<Queue>,
+    pub(crate) entries: Vec<Entry>,
+    pub(crate) texts: Texts,
+}
+
+impl Model for Merge {
+    ghost use Rattle.srm_audit.specs.Merging.{Content, content_of};
+
+    ghost Value = { Content };
+
+    ghost view = { content_of };
+}
+
+impl Merge {
+    /// The next entry of a member goes to the end of the order, unless there is none or it hears what wasn't sent.
+    fn advance(&mut self, alloc: Global, member: usize) -> Result<bool, AllocError>
+        requires { member < length self.old.queues }
+        ensures { IfOk result (TriesOne member self.old self.new) }
+    {
+        let Some(entry) = self.queues[member].pop_ready(alloc, &self.texts)? else {
+            return Ok(false);
+        };
+        self.texts.add_all(alloc, entry.effects.outs.as_slice())?;
+        self.entries.push(entry)?;
+        Ok(true)
+    }
+
+    /// A member goes on as far as it can. Answers whether it did at all.
+    fn go_on(&mut self, alloc: Global, member: usize) -> Result<bool, AllocError>
+        requires { member < length self.old.queues }
+        ensures { IfOk result (TriesMember member self.old self.new) }
+    {
+        let mut moved = false;
+        while self.advance(alloc, member)? {
+            moved = true;
+        }
+        Ok(moved)
+    }
+
+    /// Each member goes on as far as it can. Answers whether any did at all.
+    fn try_each(&mut self, alloc: Global) -> Result<bool, AllocError>
+        ensures { IfOk result (Tries (length self.old.queues) self.old self.new) }
+    {
+        let mut moved = false;
+        let members = self.queues.as_slice().len();
+        for member in 0..members {
+            let went = self.go_on(alloc, member)?;
+            moved = either(moved, went);
+        }
+        Ok(moved)
+    }
+
+    /// The journals in one order, whole. Where they lead no further, it answers which entry hears what wasn't sent.
+    pub fn order(self, alloc: Global, starts: &[Start]) -> Result<Vec<Entry>, Mismatch>
+        requires { length starts.now ≡ length self.queues }
+        ensures ok { IfOk result (λ es. Orders self es.items) }
+        ensures err { IfErr result (Refuses starts.now self) }
+    {
+        let mut merge = self;
+        merge.run(alloc)?;
+        let Some(place) = first_left(&merge.queues) else {
+            return Ok(merge.entries);
+        };
+        Err(unsent_at(starts, &merge.entries, place))
+    }
+
+    /// All members go on until none can.
+    fn run(&mut self, alloc: Global) -> Result<(), AllocError>
+        ensures { OnOk result (Stops self.old self.new) }
+    {
+        while self.try_each(alloc)? {}
+        Ok(())
+    }
+}
+
+/// The place of the first queue in which something is left.
+fn first_left(queues: &[Queue]) -> Option<usize>
+    ensures { MatchOption result (AllByRecursion IsEmptied queues.now) (IsFirstLeft queues.now) }
+{
+    for (place, queue) in queues.iter().enumerate() {
+        if !queue.is_empty() {
+            return Some(place);
+        }
+    }
+    None
+}
+
+/// The next entry of a member, after these of it.
+fn unsent_at(starts: &[Start], entries: &[Entry], member: usize) -> Mismatch
+    requires { member < length starts.now }
+    ensures { IsUnsentAt starts.now entries.now member result }
+{
+    Mismatch::Unsent {
+        member: starts[member].config.me(),
+        entry: count_of(entries, member),
+    }
+}
+
+/// How many of the entries are of a member.
+fn count_of(entries: &[Entry], member: usize) -> usize
+    ensures { result ≡ length (of_member member entries.now) }
+{
+    entries
+        .iter()
+        .filter(|entry| entry.member.index() == member)
+        .count()
+}
+
+fn either(a: bool, b: bool) -> bool
+    ensures { result ≡ (a || b) }
+{
+    a || b
+}

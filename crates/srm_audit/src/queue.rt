@@ -1,0 +1,112 @@
+//! What is left of a journal.
+
+ghost use Rattle.std.specs.Prelude.{◌≡◌, ◌<◌, ◌∷◌, ◌==◌, Some, length, IfOk, OnOk, OnErr};
+ghost use Rattle.std.specs.Option.{option_copied};
+ghost use Rattle.srm_codec.specs.Spelling.{IsSpellable};
+ghost use Rattle.srm_entries.specs.Entries.{heard};
+ghost use Rattle.srm_audit.specs.Texts.{text_of};
+ghost use Rattle.srm_audit.specs.Queues.{AreReadable, IsReadable, MayGo, PopsReady};
+
+use crate::texts::{Texts, text_of};
+use srm_codec::Datagram;
+use srm_entries::{Entry, Input, Verdict};
+use std::alloc::{AllocError, Global};
+use std::collections::VecDeque;
+use std::marker::Model;
+
+/// Entries in order, of which the first goes first. Contracts see the list.
+#[derive(Drop)]
+pub struct Queue {
+    pub(crate) entries: VecDeque<Entry>,
+    /// The bytes of what the first entry hears, once they were asked for; else none.
+    pub(crate) text: Vec<u8>,
+}
+
+impl Model for Queue {
+    ghost use Rattle.std.specs.Prelude.{List};
+    ghost use Rattle.srm_entries.specs.declared.entry.Entry.{Entry};
+    ghost use Rattle.srm_audit.specs.Queues.{IsQueue};
+
+    ghost Value = { List Entry };
+
+    ghost view = { λ q. q.entries.items };
+
+    ghost invariant = { λ q. IsQueue q.entries.items q.text.items };
+}
+
+impl Queue {
+    pub fn new(alloc: Global, entries: Vec<Entry>) -> Queue
+        requires { AreReadable entries.items }
+        ensures { result ≡ entries.items }
+    {
+        Queue {
+            entries: VecDeque::from_vec(entries),
+            text: Vec::new(alloc),
+        }
+    }
+
+    pub fn is_empty(&self) -> bool
+        ensures { result ≡ (length self.now == 0) }
+    {
+        self.entries.is_empty()
+    }
+
+    /// Takes the entry that comes next, if it hears nothing or what was sent. Only want of memory refuses it.
+    pub fn pop_ready(&mut self, alloc: Global, texts: &Texts) -> Result<Option<Entry>, AllocError>
+        ensures { IfOk result (PopsReady texts.now self.old self.new) }
+    {
+        if !self.may_go(alloc, texts)? {
+            return Ok(None);
+        }
+        Ok(Some(self.pop()))
+    }
+
+    /// Whether there is an entry that comes next, and it hears nothing or what was sent. The bytes that it hears are written once, however
+    /// often it is asked.
+    fn may_go(&mut self, alloc: Global, texts: &Texts) -> Result<bool, AllocError>
+        ensures same { self.new ≡ self.old }
+        ensures goes { IfOk result (MayGo texts.now self.old) }
+    {
+        let Some(entry) = self.entries.front() else {
+            return Ok(false);
+        };
+        let Some(datagram) = heard_in(entry) else {
+            return Ok(true);
+        };
+        write(alloc, &mut self.text, datagram)?;
+        Ok(texts.has(self.text.as_slice()))
+    }
+
+    /// Takes the entry that comes next.
+    fn pop(&mut self) -> Entry
+        requires { 0 < length self.old }
+        ensures split { self.old ≡ result ∷ self.new }
+        ensures readable { IsReadable result }
+    {
+        self.text.clear();
+        self.entries.pop_front().unwrap()
+    }
+}
+
+/// The datagram that an entry hears and takes.
+fn heard_in(entry: &Entry) -> Option<&Datagram>
+    ensures { option_copied result ≡ heard entry.now }
+{
+    match (&entry.verdict, &entry.input) {
+        (Verdict::Done, Input::Heard(datagram)) => Some(datagram),
+        _ => None,
+    }
+}
+
+/// Writes the bytes of a datagram, unless they stand there.
+fn write(alloc: Global, text: &mut Vec<u8>, datagram: &Datagram) -> Result<(), AllocError>
+    requires fits { IsSpellable datagram.now }
+    requires kept { 0 < length text.old.items → text.old.items ≡ text_of datagram.now }
+    ensures ok { OnOk result (text.new.items ≡ text_of datagram.now) }
+    ensures err { OnErr result (text.new.items ≡ text.old.items) }
+{
+    if text.is_empty() {
+        *text = text_of(alloc, datagram)?;
+    }
+    Ok(())
+}
