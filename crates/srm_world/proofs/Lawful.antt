@@ -7,6 +7,7 @@ use Rattle.srm_world.specs.Claims.{IsLawful, IsLawfulJournal, LawfulLaw}
 use Rattle.srm_world.proofs.Members.{responds_each, gives_each, keeps_rate_each}
 use Rattle.srm_world.proofs.Taking.{takes_law}
 use Rattle.srm_world.proofs.Resting.{rest_law}
+use Rattle.srm_world.proofs.Unrefused.{none_for_memory}
 
 pub lawful : LawfulLaw
 lawful t run honest = record {
@@ -26,4 +27,5 @@ lawful_journal j h = record {
   gives = gives_law j.start.config j.start.made j.entries h.run;
   rate = rate_law j.start.config j.start.made j.entries h.run;
   untaken = h.untaken;
+  memory = none_for_memory j.start.config j.start.made j.entries h.run;
 }

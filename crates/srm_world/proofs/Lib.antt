@@ -13,3 +13,5 @@ pub mod Silent
 pub mod Stepping
 pub mod Beginning
 pub mod Journaling
+pub mod HearsAll
+pub mod Unrefused

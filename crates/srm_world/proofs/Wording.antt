@@ -32,7 +32,7 @@ drawn-append draw low high from mid to (a ∷ xs) ys h k = (h.0, drawn-append dr
 by_one : {W : Type 0} (draw : W → ℕ × W) (c : Config) (from to : W) (e : Entry) → AreDrawn draw (low_of c) (high_of c) from e.effects.arms to → AreByWords draw c from (e ∷ []) to
 by_one draw c from to e h = subst (λ xs. AreDrawn draw (low_of c) (high_of c) from xs to) (sym (append-nil e.effects.arms)) h
 
-by_more : {W : Type 0} (draw : W → ℕ × W) (c : Config) (from mid to : W) (xs ys : List Entry) → AreByWords draw c from xs mid → AreByWords draw c mid ys to → AreByWords draw c from (xs ++ ys) to
+pub by_more : {W : Type 0} (draw : W → ℕ × W) (c : Config) (from mid to : W) (xs ys : List Entry) → AreByWords draw c from xs mid → AreByWords draw c mid ys to → AreByWords draw c from (xs ++ ys) to
 by_more draw c from mid to xs ys h k =
     subst (λ as_. AreDrawn draw (low_of c) (high_of c) from as_ to) (sym (flat_map-append (λ (e : Entry). e.effects.arms) xs ys)) (drawn-append draw (low_of c) (high_of c) from mid to (arms_in xs) (arms_in ys) h k)
 

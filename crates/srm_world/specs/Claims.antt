@@ -1,5 +1,5 @@
 -- What holds of every honest run of several members.
-use Rattle.std.specs.Prelude.{◌≡◌, ℕ, true, false, List, [], ◌∷◌, ◌++◌, map, Some, slice_get, Contains}
+use Rattle.std.specs.Prelude.{◌≡◌, ◌≢◌, ℕ, true, false, List, [], ◌∷◌, ◌++◌, map, Some, slice_get, Contains}
 use Rattle.std.specs.List.{list_any, AllByRecursion}
 use Rattle.srm_names.specs.declared.page.Page.{Page}
 use Rattle.srm_names.specs.declared.drawop.Drawop.{Drawop}
@@ -7,7 +7,9 @@ use Rattle.srm_names.specs.FullName.{FullName}
 use Rattle.srm_names.specs.PageFeeds.{drawops_of, leaves, is_page_feed}
 use Rattle.srm_codec.specs.declared.datagram.Datagram.{Datagram}
 use Rattle.srm_codec.specs.declared.datagram.Datagram.TheVariants.{Session}
+use Rattle.srm_entries.specs.declared.fault.AgentFault.TheVariants.{Memory}
 use Rattle.srm_entries.specs.declared.entry.Entry.{Entry}
+use Rattle.srm_entries.specs.declared.entry.Verdict.TheVariants.{Refused}
 use Rattle.srm_entries.specs.Entries.{heard, known, is_missing, released, slots}
 use Rattle.srm_entries.specs.Verdicts.{stream_on}
 use Rattle.srm_entries.specs.Runs.{IsMemberRun, RespondsInTime}
@@ -106,12 +108,17 @@ pub record IsLawful (t : Trace) : Type 0 where
 abbrev pub LawfulLaw : Type 0
 LawfulLaw = (t : Trace) → IsRun t → IsHonest t.entries → IsLawful t
 
+-- none of the entries is of a call for which memory ran out
+abbrev pub NoneForMemory : List Entry → Type 0
+NoneForMemory es = AllByRecursion (λ (e : Entry). e.verdict ≢ Refused Memory) es
+
 -- The journal is a run of its member, whatever came to it: timers, bucket, session messages and verdicts are right. And so it
 -- responds in time, what it gives is a page feed of what is released, and what it sends keeps to its rate. No entry is a take: a page
--- worker takes, and not the agent.
+-- worker takes, and not the agent. Nor is one of a call for which memory ran out.
 pub record IsLawfulJournal (j : Journal) : Type 0 where
   pub run : IsMemberRun j.start.config j.start.made j.entries
   pub responds : RespondsInTime j.start.config j.entries
   pub gives : GivesReleased j.entries
   pub rate : KeepsRate j.start.config j.entries
   pub untaken : AllByRecursion IsUntaken j.entries
+  pub memory : NoneForMemory j.entries

@@ -1,5 +1,5 @@
 -- What the calls of a recorder do to its journal.
-use Rattle.std.specs.Prelude.{◌≡◌, ◌⊎◌, ℕ, List, [], ◌∷◌, ◌++◌, Option, Some, Result, Err}
+use Rattle.std.specs.Prelude.{◌≡◌, ◌⊎◌, ℕ, ◌<◌, List, [], ◌∷◌, ◌++◌, take, length, Option, Some, Result, Ok, Err}
 use Rattle.srm_entries.specs.declared.fault.AgentFault.{AgentFault}
 use Rattle.srm_entries.specs.declared.fault.AgentFault.TheVariants.{Memory}
 use Rattle.srm_agent.specs.declared.heard.Heard.{Heard}
@@ -30,3 +30,39 @@ abbrev pub RecordsHeard : ℕ → List ℕ → Journal → Journal → Result He
 RecordsHeard now bytes old new answer =
     ((e : Entry) × Grows (Some now) old new e × ((e.input, e.verdict) ≡ bytes_heard old.start.config old.entries bytes) × AnswersHeard e answer)
     ⊎ ((answer ≡ Err Memory) × (new ≡ old))
+
+-- the journal with these entries behind it
+abbrev pub with_entries : Journal → List Entry → Journal
+with_entries j es = record { start = j.start; entries = j.entries ++ es }
+
+-- the entry is at the moment that counts: the one that the caller gave, but a lower one than the last counts as the last
+abbrev pub IsAt : ℕ → Journal → Entry → Type 0
+IsAt now j e = e.moment ≡ moment_that_counts (Some now) (last_moment j.start.made j.entries)
+
+-- the entry says what these bytes are to the member: the datagram that they spell, else noise
+pub record IsHearing (now : ℕ) (j : Journal) (bytes : List ℕ) (e : Entry) : Type 0 where
+  pub moment : IsAt now j e
+  pub heard : (e.input, e.verdict) ≡ bytes_heard j.start.config j.entries bytes
+
+-- an entry for each of these, in order, and no other
+abbrev pub HearsEach : ℕ → Journal → List (List ℕ) → List Entry → Type 0
+HearsEach now j [] [] = Unit {0}
+HearsEach now j (b ∷ bs) (e ∷ es) = IsHearing now j b e × HearsEach now (with_entry j e) bs es
+HearsEach now j _ _ = ⊥
+
+-- the journal has an entry more for each of these, in order
+pub record HearsAll (now : ℕ) (all : List (List ℕ)) (old new : Journal) : Type 0 where
+  pub entries : List Entry
+  pub grown : new ≡ with_entries old entries
+  pub each : HearsEach now old all entries
+
+-- memory ran out: for each of those in front of one of them
+pub record HearsFront (now : ℕ) (all : List (List ℕ)) (old new : Journal) : Type 0 where
+  pub count : ℕ
+  pub few : count < length all
+  pub front : HearsAll now (take count all) old new
+
+-- Each was heard, or memory ran out at one of them.
+abbrev pub RecordsAll : ℕ → List (List ℕ) → Journal → Journal → Result (Unit {0}) AgentFault → Type 0
+RecordsAll now all old new (Ok _) = HearsAll now all old new
+RecordsAll now all old new (Err fault) = (fault ≡ Memory) × HearsFront now all old new

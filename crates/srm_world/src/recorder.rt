@@ -1,12 +1,12 @@
 //! An agent that keeps its journal.
 
-ghost use Rattle.std.specs.Prelude.{◌≡◌, ◌≤◌, ◌<◌, [], Some, None, IfOk};
+ghost use Rattle.std.specs.Prelude.{◌≡◌, ◌≤◌, ◌<◌, [], map, Some, None, IfOk};
 ghost use Rattle.srm_names.specs.declared.limits.TheConstants.{MOMENT, PAGES};
 ghost use Rattle.srm_agent.specs.Noting.{IsDrawnName, IsTicked};
 ghost use Rattle.srm_entries.specs.Promises.{page_to_come, IsNextDue};
 ghost use Rattle.srm_entries.specs.Admitting.{AdmitsDraw, AdmitsDrawFrom};
 ghost use Rattle.srm_world.specs.Claims.{IsLawfulJournal};
-ghost use Rattle.srm_world.specs.Recording.{Records, RecordsHeard};
+ghost use Rattle.srm_world.specs.Recording.{Records, RecordsHeard, RecordsAll};
 ghost use Rattle.srm_world.specs.Words.{RecordsByWords};
 
 use crate::appending::append;
@@ -106,6 +106,21 @@ impl<W: Words + Drop> Recorder<W> {
         let Noted { answer, entry } = self.agent.hear_noted(bytes, now)?;
         append(&mut self.entries, entry);
         answer
+    }
+
+    /// Hears each of these at one moment, one after another, as [`hear`](Recorder::hear) would: also behind noise, and behind what is ignored. Want
+    /// of memory alone refuses it; those in front of where memory ran out were heard then, and the others weren't.
+    pub fn hear_all(&mut self, datagrams: &[Vec<u8>], now: u64) -> Result<(), AgentFault>
+        requires { now ≤ MOMENT }
+        ensures records { RecordsAll now (map (λ bytes. bytes.items) datagrams.now) self.old.journal self.new.journal result }
+        ensures words { RecordsByWords W.draw self.old self.new }
+        ensures lawful { IsLawfulJournal self.new.journal }
+    {
+        let _ = &self.entries;
+        for bytes in datagrams {
+            self.hear(bytes, now)?;
+        }
+        Ok(())
     }
 
     /// [`Agent::tick`].

@@ -101,7 +101,7 @@ fn make_all(rt: &impl Abort, alloc: Global, recorder: &mut Recorder<Listed>) {
     }
 }
 
-fn check_entry(rt: &impl Abort, entry: &Entry, moment: u64, verdict: Verdict) {
+pub(crate) fn check_entry(rt: &impl Abort, entry: &Entry, moment: u64, verdict: Verdict) {
     assert_eq!(rt; (entry.moment, entry.verdict), (moment, verdict));
 }
 

@@ -1,0 +1,57 @@
+-- Hearing one datagram after another.
+use Rattle.std.proofs.Common.{◌≡◌, ℕ, ◌+◌, ◌<◌, List, [], ◌∷◌, ◌++◌, length, take, get_or, refl, ap, sym, ◌∙◌, subst, inl, inr, arith, append_assoc}
+use Rattle.std.specs.Prelude.{Result, Ok, Err, map}
+use Rattle.std.proofs.lemmas.List.{append-nil, length-map, take_more, get_or-map}
+use Rattle.srm_entries.specs.declared.entry.Entry.{Entry}
+use Rattle.srm_agent.specs.declared.heard.Heard.{Heard}
+use Rattle.srm_world.specs.Traces.{Journal}
+use Rattle.srm_world.specs.declared.start.Start.{Start}
+use Rattle.srm_world.specs.Words.{Recorded, AreByWords, RecordsByWords}
+use Rattle.srm_world.specs.Recording.{RecordsHeard, IsHearing, HearsEach, HearsAll, with_entry, with_entries}
+use Rattle.srm_world.proofs.Wording.{by_more}
+
+abbrev at : Journal → List Entry → Journal
+at j es = record { start = j.start; entries = es }
+
+-- one more, at the end
+hears-snoc : (now : ℕ) (j : Journal) (bs : List (List ℕ)) (es : List Entry) (b : List ℕ) (e : Entry) → HearsEach now j bs es → IsHearing now (with_entries j es) b e → HearsEach now j (bs ++ b ∷ []) (es ++ e ∷ [])
+hears-snoc now j [] [] b e h k = (subst (λ xs. IsHearing now (at j xs) b e) (append-nil j.entries) k, tt)
+hears-snoc now j [] (y ∷ es) b e h k = absurd h
+hears-snoc now j (x ∷ bs) [] b e h k = absurd h
+hears-snoc now j (x ∷ bs) (y ∷ es) b e h k = (h.0, hears-snoc now (with_entry j y) bs es b e h.1 (subst (λ xs. IsHearing now (at j xs) b e) (sym (append_assoc j.entries (y ∷ []) es)) k))
+
+pub hears_none : (now : ℕ) (j : Journal) → HearsAll now [] j j
+hears_none now j = record { entries = []; grown = ap (at j) (sym (append-nil j.entries)); each = tt }
+
+hears_one_more : (now : ℕ) (bs : List (List ℕ)) (bytes : List ℕ) (a b c : Journal) (e : Entry) → HearsAll now bs a b → c ≡ with_entry b e → IsHearing now b bytes e → HearsAll now (bs ++ bytes ∷ []) a c
+hears_one_more now bs bytes a b c e h grown hearing = record {
+  entries = h.entries ++ e ∷ [];
+  grown = grown ∙ ap (λ j. with_entry j e) h.grown ∙ ap (at a) (append_assoc a.entries h.entries (e ∷ []));
+  each = hears-snoc now a bs h.entries bytes e h.each (subst (λ j. IsHearing now j bytes e) h.grown hearing);
+}
+
+hears_more : (now : ℕ) (bs : List (List ℕ)) (bytes : List ℕ) (a b c : Journal) (heard : Heard) → HearsAll now bs a b → RecordsHeard now bytes b c (Ok heard) → HearsAll now (bs ++ bytes ∷ []) a c
+hears_more now bs bytes a b c heard h (inl (e, grows, says, answers)) = hears_one_more now bs bytes a b c e h grows.grown (record { moment = grows.moment; heard = says })
+hears_more now bs bytes a b c heard h (inr (wrong, same)) = absurd (is_ok wrong)
+  where
+    is_ok : {A B : Type 0} {x : A} {y : B} → Ok x ≡ Err y → ⊥
+    is_ok e = cc
+
+-- and the words go on
+pub words_go_on : {W : Type 0} (draw : W → ℕ × W) (a b c : Recorded W) → b.journal.start ≡ a.journal.start → RecordsByWords draw a b → RecordsByWords draw b c → RecordsByWords draw a c
+words_go_on draw a b c same h k = record {
+  added = h.added ++ k.added;
+  grown = k.grown ∙ ap (λ es. es ++ k.added) h.grown ∙ append_assoc a.journal.entries h.added k.added;
+  words = by_more draw a.journal.start.config a.words b.words c.words h.added k.added h.words (subst (λ (t : Start). AreByWords draw t.config b.words k.added c.words) same k.words);
+}
+
+-- one more of those that are gone through
+take_one_more : {V : Type 0} (f : V → List ℕ) (xs : List V) (i : ℕ) (v : V) → v ≡ get_or xs i v → i < length xs → take (i + 1) (map f xs) ≡ take i (map f xs) ++ f v ∷ []
+take_one_more f xs i v is lt = take_more (map f xs) i (f v) (omega (arith, lt, length-map xs f)) ∙ ap (λ y. take i (map f xs) ++ y ∷ []) (get_or-map f xs i v (f v) lt ∙ ap f (sym is))
+
+pub hears_next : {V : Type 0} (now : ℕ) (f : V → List ℕ) (xs : List V) (i : ℕ) (v : V) (a b c : Journal) (heard : Heard) → v ≡ get_or xs i v → i < length xs → HearsAll now (take i (map f xs)) a b → RecordsHeard now (f v) b c (Ok heard)
+    → HearsAll now (take (i + 1) (map f xs)) a c
+hears_next now f xs i v a b c heard is lt h r = subst (λ bs. HearsAll now bs a c) (sym (take_one_more f xs i v is lt)) (hears_more now (take i (map f xs)) (f v) a b c heard h r)
+
+pub same_start : (now : ℕ) (all : List (List ℕ)) (a b : Journal) → HearsAll now all a b → b.start ≡ a.start
+same_start now all a b h = ap (λ (j : Journal). j.start) h.grown
