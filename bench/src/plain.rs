@@ -540,7 +540,7 @@ impl Agent {
         self.rows.get(&(name.source, name.page))?.get(name.number)
     }
 
-    fn known(&self, source: u8, page: Page) -> u32 {
+    pub fn known(&self, source: u8, page: Page) -> u32 {
         self.rows.get(&(source, page)).map_or(0, |row| row.known)
     }
 

@@ -52,7 +52,7 @@ impl Digest {
         }
     }
 
-    fn add_arms(&mut self, arms: &[Arm]) {
+    pub fn add_arms(&mut self, arms: &[Arm]) {
         for arm in arms {
             self.add(u64::from(arm.kind == ArmKind::Fix));
             self.add(u64::from(arm.exponent));

@@ -1,11 +1,16 @@
-//! What the benchmark calls from Rust: one member's agent over many datagrams, gives, ticks and draws.
+//! What the benchmark and the driver for hostile datagrams call from Rust: one member's agent over many calls.
 //!
-//! Each call answers a number made of all that the agent answered, by which two agents can be compared.
+//! What the agent answered is told in numbers, by which two agents can be compared.
 #![tactic(auto)]
 
+mod caller;
+mod clock;
 mod digest;
+mod teller;
 mod workload;
 
+use crate::caller::Caller;
+use crate::teller::Teller;
 use crate::workload::Workload;
 use std::alloc::Global;
 
@@ -34,4 +39,26 @@ pub extern "C" fn srm_bench(
         .and_then(|()| workload.leave(leaves))
         .and_then(|()| workload.tick(ticks, step))
         .map_or(0, |()| workload.digest())
+}
+
+/// The agent of member `me` of so many makes `count` calls that bytes say, as [`Caller::make`](crate::caller::Caller) reads them, and writes what
+/// each answers. How many numbers were written; 0 where memory ran out, bytes say no call, or a setting is out of range.
+#[unsafe(no_mangle)]
+pub extern "C" fn srm_calls(
+    alloc: Global,
+    me: u8,
+    members: u8,
+    rate: u32,
+    depth: u32,
+    count: u32,
+    calls: &[u8],
+    told: &mut [u64],
+) -> usize {
+    let mut teller = Teller::new(told);
+    let Some(mut caller) = Caller::new(alloc, me, members, rate, depth) else {
+        return 0;
+    };
+    caller
+        .make(count, calls, &mut teller)
+        .map_or(0, |()| teller.count())
 }

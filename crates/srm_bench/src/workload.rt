@@ -1,12 +1,10 @@
 //! One member's agent and what it answered.
 
-ghost use Rattle.std.specs.Prelude.{◌≤◌};
-ghost use Rattle.srm_names.specs.declared.limits.TheConstants.{MOMENT};
-
+use crate::clock::Clock;
 use crate::digest::Digest;
 use bytes::Bytes;
 use srm_agent::{Agent, Config};
-use srm_names::{MOMENT, Member, Page};
+use srm_names::{Member, Page};
 use srm_timers::Pcg;
 use std::alloc::Global;
 
@@ -15,8 +13,7 @@ use std::alloc::Global;
 pub struct Workload {
     alloc: Global,
     agent: Agent<Pcg>,
-    /// In microseconds.
-    now: u64,
+    clock: Clock,
     digest: Digest,
 }
 
@@ -27,7 +24,7 @@ impl Workload {
         Some(Workload {
             alloc,
             agent: Agent::new(alloc, config, Pcg::new(1), 0).ok()?,
-            now: 0,
+            clock: Clock::new(),
             digest: Digest::new(),
         })
     }
@@ -42,7 +39,7 @@ impl Workload {
             return None;
         }
         for datagram in bytes.chunks(length) {
-            let now = self.after(10);
+            let now = self.clock.after(10);
             let heard = self.agent.hear(datagram, now).ok()?;
             self.digest.add_heard(&heard);
         }
@@ -66,7 +63,7 @@ impl Workload {
         };
         for _ in 0..count {
             let body = Bytes::copy_from_slice(self.alloc, &[7; 64]).ok()?;
-            let now = self.after(10);
+            let now = self.clock.after(10);
             let name = self.agent.draw(page, body, now).ok()?;
             self.digest.add(u64::from(name.number()));
         }
@@ -76,7 +73,7 @@ impl Workload {
     /// The member begins to leave, if it does.
     pub fn leave(&mut self, leaves: bool) -> Option<()> {
         if leaves {
-            let now = self.after(0);
+            let now = self.clock.after(0);
             self.agent.leave(now).ok()?;
         }
         Some(())
@@ -85,18 +82,10 @@ impl Workload {
     /// So many ticks, so many microseconds apart.
     pub fn tick(&mut self, count: u32, step: u32) -> Option<()> {
         for _ in 0..count {
-            let now = self.after(step);
+            let now = self.clock.after(step);
             let ticked = self.agent.tick(now).ok()?;
             self.digest.add_ticked(&ticked);
         }
         Some(())
-    }
-
-    /// The moment so many microseconds later.
-    fn after(&mut self, micros: u32) -> u64
-        ensures { result ≤ MOMENT }
-    {
-        self.now = self.now.saturating_add(u64::from(micros)).min(MOMENT);
-        self.now
     }
 }

@@ -1,0 +1,26 @@
+//! The caller's clock.
+
+ghost use Rattle.std.specs.Prelude.{◌≤◌};
+ghost use Rattle.srm_names.specs.declared.limits.TheConstants.{MOMENT};
+
+use srm_names::MOMENT;
+
+/// Microseconds from 0, as far as the greatest moment.
+#[derive(Clone, Copy)]
+pub struct Clock {
+    now: u64,
+}
+
+impl Clock {
+    pub fn new() -> Clock {
+        Clock { now: 0 }
+    }
+
+    /// The moment so many microseconds later.
+    pub fn after(&mut self, micros: u32) -> u64
+        ensures { result ≤ MOMENT }
+    {
+        self.now = self.now.saturating_add(u64::from(micros)).min(MOMENT);
+        self.now
+    }
+}
