@@ -4,4 +4,6 @@
 #![tactic(auto)]
 
 #[cfg(test)]
+mod changed;
+#[cfg(test)]
 mod vectors;

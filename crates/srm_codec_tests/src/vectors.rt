@@ -8,20 +8,20 @@ use std::process::Abort;
 use std::test::Fail;
 
 /// Data of member 0 on page 0.0: number 1, drawn at 0, with the body `hi`.
-const DATA: [u8; 29] = [
+pub(crate) const DATA: [u8; 29] = [
     0x53, 0x52, 0x01, 0x01, 0, 0, 0, 7, 0, // head
     0, 0, 0, 0, 0, 0, 0, 1, // name
     0, 0, 0, 0, 0, 0, 0, 0, 0, 2, 0x68, 0x69,
 ];
 
 /// Member 1 asks for the same drawop.
-const REQUEST: [u8; 17] = [
+pub(crate) const REQUEST: [u8; 17] = [
     0x53, 0x52, 0x01, 0x02, 0, 0, 0, 7, 1, // head
     0, 0, 0, 0, 0, 0, 0, 1,
 ];
 
 /// Member 1 asks for numbers 1, 3 and 33.
-const PACKED: [u8; 21] = [
+pub(crate) const PACKED: [u8; 21] = [
     0x53, 0x52, 0x02, 0x02, 0, 0, 0, 7, 1, // head
     0, 0, 0, 0, 0, 0, 0, 1, // name
     0x80, 0, 0, 2,
@@ -35,7 +35,7 @@ const EMPTY_SESSION: [u8; 23] = [
 ];
 
 /// The same with a row of number 3 of source 0, and an echo of member 1.
-const SESSION: [u8; 48] = [
+pub(crate) const SESSION: [u8; 48] = [
     0x53, 0x52, 0x01, 0x04, 0, 0, 0, 7, 3, // head
     0, 0, 0, 0, 0, 0x0f, 0x42, 0x40, 0, // sent, flags
     0, 0, 0, // shown
@@ -107,7 +107,7 @@ fn check(alloc: Global, rt: &impl Abort, datagram: &Datagram, bytes: &[u8]) -> R
     Ok(())
 }
 
-fn fault_of(alloc: Global, bytes: &[u8]) -> Option<DecodeFault> {
+pub(crate) fn fault_of(alloc: Global, bytes: &[u8]) -> Option<DecodeFault> {
     decode(alloc, 7, bytes).err()
 }
 
@@ -323,7 +323,7 @@ fn faulty(
     Ok(())
 }
 
-fn changed(alloc: Global, bytes: &[u8], at: usize, byte: u8) -> Result<Vec<u8>, Fail> {
+pub(crate) fn changed(alloc: Global, bytes: &[u8], at: usize, byte: u8) -> Result<Vec<u8>, Fail> {
     let mut other = bytes.to_vec(alloc)?;
     if at < other.len() {
         other[at] = byte;
