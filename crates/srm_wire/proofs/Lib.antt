@@ -1,3 +1,4 @@
-pub mod Arriving
+pub mod Dispatching
+pub mod Fating
 pub mod Telling
 pub mod Wiring

@@ -29,13 +29,13 @@ count_up-last : (from n : ℕ) → count_up from (suc n) ≡ count_up from n ++ 
 count_up-last from zero = ap (λ k. k ∷ []) (omega arith)
 count_up-last from (suc n) = ap (λ ks. from ∷ ks) (count_up-last (from + 1) n ∙ ap (λ k. count_up (from + 1) n ++ k ∷ []) (omega arith))
 
-up_to_more : (n : ℕ) → count_up 0 (n + 1) ≡ count_up 0 n ++ n ∷ []
+pub up_to_more : (n : ℕ) → count_up 0 (n + 1) ≡ count_up 0 n ++ n ∷ []
 up_to_more n = ap (count_up 0) (add-one n) ∙ count_up-last 0 n ∙ ap (λ k. count_up 0 n ++ k ∷ []) (omega arith)
 
 others_more : (me n : ℕ) → others me (n + 1) ≡ others me n ++ but me (n ∷ [])
 others_more me n = ap (but me) (up_to_more n) ∙ filter-append (λ m. not (m == me)) (count_up 0 n) (n ∷ [])
 
-sends_more : (me n : ℕ) (bytes : List ℕ) → sends_to (others me (n + 1)) bytes ≡ sends_to (others me n) bytes ++ sends_to (but me (n ∷ [])) bytes
+pub sends_more : (me n : ℕ) (bytes : List ℕ) → sends_to (others me (n + 1)) bytes ≡ sends_to (others me n) bytes ++ sends_to (but me (n ∷ [])) bytes
 sends_more me n bytes = ap (λ ms. sends_to ms bytes) (others_more me n) ∙ map-append (λ to. record { to = to; bytes = bytes }) (others me n) (but me (n ∷ []))
 
 pub counts_on : (a b : Bool) (x y z : ℕ) → CountsIf a x y → CountsIf b y z → CountsIf (a || b) x z

@@ -1,58 +1,30 @@
--- What becomes of the copies that a member sends.
-use Rattle.std.specs.Prelude.{◌≡◌, ℕ, ◌-◌, ◌==◌, nat_lt, List, [], ◌∷◌, ◌++◌, Option, Some, None, if◌then◌else◌}
-use Rattle.std.specs.List.{filter_map, cons_option}
-use Rattle.srm_wire.specs.declared.sent.Sent.{Sent}
+-- What becomes of the copies that a member sends: which of them come, by number from 0, and in which order.
+use Rattle.std.specs.Prelude.{ℕ, zero, suc, ◌+◌, ◌==◌, Bool, false, List, [], ◌∷◌, ◌++◌, filter, slice_get, unwrap_or, if◌then◌else◌}
+use Rattle.srm_names.specs.Histories.{count_up}
 use Rattle.srm_wire.specs.declared.fates.Fate.{Fate}
 use Rattle.srm_wire.specs.declared.fates.Fate.TheVariants.{Pass, Drop, Twice, Late}
-use Rattle.srm_wire.specs.declared.fates.LateCopy.{LateCopy}
 
--- the fates of the copies to come, and the copies that are late
-pub record FatesView : Type 0 where
-  pub left : List Fate
-  pub late : List LateCopy
+-- the fate of the copy with this number: it passes where the list is spent
+abbrev pub fate_of : List Fate → ℕ → Fate
+fate_of fates number = unwrap_or (slice_get fates number) Pass
 
--- the fate of the next copy: it passes where the list is spent
-abbrev pub next_fate : List Fate → Fate
-next_fate [] = Pass
-next_fate (f ∷ fs) = f
+-- how a copy with this fate comes as it is sent
+abbrev pub at_once : Fate → ℕ → List ℕ
+at_once Pass number = number ∷ []
+at_once Drop number = []
+at_once Twice number = number ∷ number ∷ []
+at_once (Late n) number = if n == 0 then number ∷ [] else []
 
-abbrev pub fates_after : List Fate → List Fate
-fates_after [] = []
-fates_after (f ∷ fs) = fs
+-- whether a copy with this fate and number is behind those up to this one, and no further
+abbrev pub is_behind : Fate → (number last : ℕ) → Bool
+is_behind (Late n) number last = number + n == last
+is_behind _ number last = false
 
--- how a copy with this fate comes at once
-abbrev pub at_once : Fate → Sent → List Sent
-at_once Pass c = c ∷ []
-at_once Drop c = []
-at_once Twice c = c ∷ c ∷ []
-at_once (Late n) c = if n == 0 then c ∷ [] else []
+-- what comes as the copy with this number is sent: itself by its fate, and then the late ones that it was the last before
+abbrev pub comes : List Fate → ℕ → List ℕ
+comes fates sent = at_once (fate_of fates sent) sent ++ filter (λ number. is_behind (fate_of fates number) number sent) (count_up 0 sent)
 
--- how it is late
-abbrev pub late_by : Fate → Sent → List LateCopy
-late_by (Late n) c = if n == 0 then [] else record { by = n; copy = c } ∷ []
-late_by _ c = []
-
--- one more copy was sent: a late one that was behind this one alone comes now
-abbrev pub due_now : LateCopy → Option Sent
-due_now l = if nat_lt l.by 2 then Some l.copy else None
-
--- and the others are late by one copy less
-abbrev pub still_late : LateCopy → Option LateCopy
-still_late l = if nat_lt l.by 2 then None else Some (record { by = l.by - 1; copy = l.copy })
-
--- A copy was sent, and took the next fate. It comes as that says, and behind it those late copies that were behind it alone; the other late
--- ones are nearer by one copy.
-pub record Forwards (copy : Sent) (old new : FatesView) (come : List Sent) : Type 0 where
-  pub come_are : come ≡ at_once (next_fate old.left) copy ++ filter_map due_now old.late
-  pub left : new.left ≡ fates_after old.left
-  pub late : new.late ≡ filter_map still_late old.late ++ late_by (next_fate old.left) copy
-
--- the late copies that were behind one copy came, and the others are nearer
-pub record Released (old new : List LateCopy) (was is : List Sent) : Type 0 where
-  pub come : is ≡ was ++ filter_map due_now old
-  pub late : new ≡ filter_map still_late old
-
--- the same of the first late copy alone; one that is still late goes to the end
-abbrev pub ReleasedFront : List LateCopy → List LateCopy → List Sent → List Sent → Type 0
-ReleasedFront [] new was is = (new ≡ []) × (is ≡ was)
-ReleasedFront (l ∷ ls) new was is = (new ≡ ls ++ cons_option (still_late l) []) × (is ≡ was ++ cons_option (due_now l) [])
+-- what comes of the first copies, so many
+abbrev pub coming : List Fate → ℕ → List ℕ
+coming fates zero = []
+coming fates (suc sent) = coming fates sent ++ comes fates sent

@@ -1,3 +1,5 @@
+pub mod Examples
 pub mod Fates
+pub mod Flakiness
 pub mod Networks
 pub mod Wires

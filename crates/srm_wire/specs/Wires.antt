@@ -1,5 +1,5 @@
 -- What a wire may tell, and what its calls do to the count of its failures.
-use Rattle.std.specs.Prelude.{◌≡◌, ℕ, ◌+◌, min, ◌-◌, ◌^◌, ◌<◌, ◌≤◌, ◌==◌, ◌⊎◌, Bool, not, List, [], ◌∷◌, ◌++◌, map, filter, take, Option, Some, None, option_map, Result, Ok, Err}
+use Rattle.std.specs.Prelude.{◌≡◌, ℕ, ◌+◌, min, ◌-◌, ◌^◌, ◌<◌, ◌≤◌, ◌==◌, ◌⊎◌, Bool, true, false, not, ◌||◌, List, [], ◌∷◌, ◌++◌, map, filter, take, Option, Some, None, option_map, Result, Ok, Err}
 use Rattle.std.specs.Bool.{OnTrue, OnFalse}
 use Rattle.std.specs.List.{flat_map}
 use Rattle.srm_names.specs.Histories.{count_up}
@@ -28,6 +28,19 @@ answered buffer (Err _) = []
 abbrev pub took : {T E : Type 0} → ℕ → List ℕ → Result T E → List Sent
 took to bytes (Ok _) = record { to = to; bytes = bytes } ∷ []
 took to bytes (Err _) = []
+
+-- bytes to a member
+abbrev pub bytes_to : ℕ → List ℕ → Sent
+bytes_to to bytes = record { to = to; bytes = bytes }
+
+-- a receive that answered nothing failed
+abbrev pub is_failed : List (Option (List ℕ)) → Bool
+is_failed [] = true
+is_failed (_ ∷ _) = false
+
+-- one failure more, up to the greatest count there is
+abbrev pub one_more : ℕ → ℕ
+one_more count = min (count + 1) (2 ^ 64 - 1)
 
 -- the count rose, or stands at the greatest there is
 abbrev pub RoseOrFull : ℕ → ℕ → Type 0
@@ -62,6 +75,11 @@ dispatched me members datagrams = flat_map (sends_to (others me members)) datagr
 pub record Sends (failed : Bool) (went : List Sent) (count counted : ℕ) (old new : Option Told) : Type 0 where
   pub failures : CountsIf failed count counted
   pub tells : OnFalse failed (TellsMore [] went old new)
+
+-- Each of these was sent, one after another, whatever failed, each as the wire's own relation has it; and whether one failed.
+abbrev pub SendsEach : {W : Type 0} → (W → Sent → Bool → W → Type 0) → Bool → List Sent → W → W → Type 0
+SendsEach Sends failed [] old new = (failed ≡ false) × (new ≡ old)
+SendsEach {W} Sends failed (sent ∷ more) old new = (between : W) × (lost : Bool) × (later : Bool) × (failed ≡ (lost || later)) × Sends old sent lost between × SendsEach Sends later more between new
 
 -- the failures of a wire and some more, up to the greatest there is
 abbrev pub counted_with : ℕ → ℕ → ℕ

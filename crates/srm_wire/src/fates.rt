@@ -1,13 +1,10 @@
 //! What becomes of the copies that a member sends.
 
-ghost use Rattle.std.specs.Prelude.{◌≡◌, [], IfOk, option_to_list};
-ghost use Rattle.srm_wire.specs.Fates.{Forwards, Released, ReleasedFront, at_once, late_by};
+ghost use Rattle.std.specs.Prelude.{◌≡◌, [], ◌∷◌, ◌++◌, IfOk, filter, if◌then◌else◌};
+ghost use Rattle.srm_names.specs.Histories.{count_up};
+ghost use Rattle.srm_wire.specs.Fates.{fate_of as fate_at, at_once as now_comes, is_behind as stands_behind, comes};
 
-use crate::sent::Sent;
-use srm_names::{Items, Member};
 use std::alloc::{AllocError, Global};
-use std::collections::VecDeque;
-use std::marker::Model;
 
 /// What becomes of a copy that a member sends.
 #[derive(Clone, Copy, Debug, PartialEq, Eq)]
@@ -19,121 +16,67 @@ pub enum Fate {
     Late(u32),
 }
 
-/// A copy that is late, by so many copies of its sender.
-#[derive(Drop)]
-pub struct LateCopy {
-    pub by: u32,
-    pub copy: Sent,
-}
-
-/// The fates of one sender's copies to come, and its copies that are late.
-#[derive(Drop)]
-pub struct Fates {
-    left: VecDeque<Fate>,
-    late: VecDeque<LateCopy>,
-}
-
-impl Model for Fates {
-    ghost use Rattle.srm_wire.specs.Fates.{FatesView};
-
-    ghost Value = { FatesView };
-
-    ghost view = { λ f. record { left = f.left.items; late = f.late.items } };
-}
-
-impl Fates {
-    /// These fates, in order, and no copy is late.
-    pub fn new(alloc: Global, fates: VecDeque<Fate>) -> Fates
-        ensures { result ≡ record { left = fates.items; late = [] } }
-    {
-        Fates {
-            left: fates,
-            late: VecDeque::new(alloc),
-        }
-    }
-
-    /// A copy is sent, and takes the next fate. Answers the copies that come by it, in order. Only want of memory refuses it; copies may be
-    /// lost then.
-    pub fn forward(
-        &mut self,
-        alloc: Global,
-        to: Member,
-        bytes: &[u8],
-    ) -> Result<Vec<Sent>, AllocError>
-        ensures { IfOk result (λ come. Forwards (record { to = to; bytes = bytes.now }) self.old self.new come.items) }
-    {
-        let fate = self.left.pop_front().unwrap_or(Fate::Pass);
-        let mut come = coming(alloc, fate, to, bytes)?;
-        release(&mut self.late, &mut come)?;
-        if let Some(late) = late(alloc, fate, to, bytes)? {
-            self.late.push_back(late)?;
-        }
-        Ok(come)
-    }
-}
-
-// The copies with this fate that come at once.
-fn coming(alloc: Global, fate: Fate, to: Member, bytes: &[u8]) -> Result<Vec<Sent>, AllocError>
-    ensures { IfOk result (λ come. come.items ≡ at_once fate (record { to = to; bytes = bytes.now })) }
+/// The numbers of the copies that come as the copy with this number is sent, in order. It looks at the whole list of fates.
+pub(crate) fn coming(alloc: Global, fates: &[Fate], sent: usize) -> Result<Vec<usize>, AllocError>
+    ensures { IfOk result (λ numbers. numbers.items ≡ comes fates.now sent) }
 {
-    let mut come = Vec::new(alloc);
+    let numbers = at_once(alloc, fate_of(fates, sent), sent)?;
+    with_late(fates, sent, numbers)
+}
+
+// The fate of the copy with this number, which passes where the list is spent.
+fn fate_of(fates: &[Fate], number: usize) -> Fate
+    ensures { result ≡ fate_at fates.now number }
+{
+    fates.get(number).copied().unwrap_or(Fate::Pass)
+}
+
+// How a copy comes as it is sent.
+fn at_once(alloc: Global, fate: Fate, number: usize) -> Result<Vec<usize>, AllocError>
+    ensures { IfOk result (λ numbers. numbers.items ≡ now_comes fate number) }
+{
+    let mut numbers = Vec::new(alloc);
     match fate {
-        Fate::Pass | Fate::Late(0) => come.push(copy_of(alloc, to, bytes)?)?,
+        Fate::Pass | Fate::Late(0) => numbers.push(number)?,
         Fate::Twice => {
-            come.push(copy_of(alloc, to, bytes)?)?;
-            come.push(copy_of(alloc, to, bytes)?)?;
+            numbers.push(number)?;
+            numbers.push(number)?;
         }
         Fate::Drop | Fate::Late(_) => {}
     }
-    Ok(come)
+    Ok(numbers)
 }
 
-// The copy with this fate, if it is late.
-fn late(alloc: Global, fate: Fate, to: Member, bytes: &[u8]) -> Result<Option<LateCopy>, AllocError>
-    ensures { IfOk result (λ late. option_to_list late ≡ late_by fate (record { to = to; bytes = bytes.now })) }
+#[tactic(auto, using(crate::proofs::Fating::collects_none, crate::proofs::Fating::collects_more, crate::proofs::Fating::collects_all))]
+// Behind these the late copies that this one was the last before.
+fn with_late(fates: &[Fate], sent: usize, numbers: Vec<usize>) -> Result<Vec<usize>, AllocError>
+    ensures { IfOk result (λ all. all.items ≡ numbers.items ++ filter (λ number. stands_behind (fate_at fates.now number) number sent) (count_up 0 sent)) }
+{
+    let mut numbers = numbers;
+    for number in 0..sent.min(fates.len()) {
+        let comes = is_behind(fate_of(fates, number), number, sent);
+        numbers = with_number(numbers, number, comes)?;
+    }
+    Ok(numbers)
+}
+
+// Behind these one more, if it comes.
+fn with_number(numbers: Vec<usize>, number: usize, comes: bool) -> Result<Vec<usize>, AllocError>
+    ensures { IfOk result (λ all. all.items ≡ numbers.items ++ (if comes then number ∷ [] else [])) }
+{
+    let mut numbers = numbers;
+    if comes {
+        numbers.push(number)?;
+    }
+    Ok(numbers)
+}
+
+// Whether a copy with this fate and number is behind those up to this one, and no further.
+fn is_behind(fate: Fate, number: usize, last: usize) -> bool
+    ensures { result ≡ stands_behind fate number last }
 {
     match fate {
-        Fate::Late(by) if by > 0 => Ok(Some(LateCopy {
-            by,
-            copy: copy_of(alloc, to, bytes)?,
-        })),
-        _ => Ok(None),
+        Fate::Late(by) => last.checked_sub(number) == Some(by as usize),
+        _ => false,
     }
-}
-
-// One more copy was sent: the late ones that were behind it alone come, and the others are nearer.
-#[tactic(auto, using(crate::proofs::Arriving::releasing_none, crate::proofs::Arriving::releasing_more, crate::proofs::Arriving::releasing_all))]
-fn release(late: &mut VecDeque<LateCopy>, come: &mut Vec<Sent>) -> Result<(), AllocError>
-    ensures { IfOk result (λ _. Released late.old.items late.new.items come.old.items come.new.items) }
-{
-    for done in 0..late.len() {
-        release_front(late, come)?;
-    }
-    Ok(())
-}
-
-// The first late copy comes, or goes to the end, nearer.
-fn release_front(late: &mut VecDeque<LateCopy>, come: &mut Vec<Sent>) -> Result<(), AllocError>
-    ensures { IfOk result (λ _. ReleasedFront late.old.items late.new.items come.old.items come.new.items) }
-{
-    let Some(first) = late.pop_front() else {
-        return Ok(());
-    };
-    let LateCopy { by, copy } = first;
-    if by < 2 {
-        come.push(copy)?;
-    } else {
-        late.push_back(LateCopy { by: by - 1, copy })?;
-    }
-    Ok(())
-}
-
-/// Bytes to a member, copied.
-pub(crate) fn copy_of(alloc: Global, to: Member, bytes: &[u8]) -> Result<Sent, AllocError>
-    ensures { IfOk result (λ sent. sent ≡ record { to = to; bytes = bytes.now }) }
-{
-    Ok(Sent {
-        to,
-        bytes: Items::new(bytes.to_vec(alloc)?),
-    })
 }

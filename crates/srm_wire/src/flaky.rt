@@ -1,13 +1,14 @@
 //! A wire that fails once, for tests.
 
-ghost use Rattle.std.specs.Prelude.{◌≡◌, ◌+◌, ◌-◌, ◌^◌, min};
-ghost use Rattle.std.specs.Bool.{OnTrue, OnFalse};
+ghost use Rattle.std.specs.Prelude.{◌≡◌, ◌-◌, ◌==◌};
 ghost use Rattle.srm_wire.specs.Wires.{counted_with};
 
 use crate::wire::{Wire, WireFault};
 use srm_names::Member;
+use std::marker::Model;
 
-/// A wire whose k-th `send` or `receive` fails once, k from 1, and raises its failures by one. It tells what the wire below it tells.
+/// A wire whose k-th `send` or `receive` fails once, k from 1, and raises its failures by one; every other call is that of the wire below. It
+/// tells what the wire below it tells.
 #[derive(Drop)]
 pub struct Flaky<X: Wire + Drop> {
     wire: X,
@@ -16,10 +17,18 @@ pub struct Flaky<X: Wire + Drop> {
     own: u64,
 }
 
+impl<X: Wire + Drop> Model for Flaky<X> {
+    ghost use Rattle.srm_wire.specs.Flakiness.{FlakyView};
+
+    ghost Value = { FlakyView X };
+
+    ghost view = { λ f. record { wire = f.wire; left = f.left; own = f.own } };
+}
+
 impl<X: Wire + Drop> Flaky<X> {
+    /// A wire over this one, whose k-th call fails; none does where k is 0.
     pub fn new(wire: X, k: u64) -> Flaky<X>
-        ensures below { result.wire ≡ wire }
-        ensures own { result.own ≡ 0 }
+        ensures { result ≡ record { wire = wire; left = k; own = 0 } }
     {
         Flaky {
             wire,
@@ -27,31 +36,34 @@ impl<X: Wire + Drop> Flaky<X> {
             own: 0,
         }
     }
+}
 
-    // Counts a call. Whether it is the one that fails.
-    fn fails(&mut self) -> bool
-        ensures below { self.new.wire ≡ self.old.wire }
-        ensures yes { OnTrue result (self.new.own ≡ min (self.old.own + 1) (2 ^ 64 - 1)) }
-        ensures no { OnFalse result (self.new.own ≡ self.old.own) }
-    {
-        let left = self.left;
-        self.left = left.saturating_sub(1);
-        if left != 1 {
-            return false;
-        }
-        self.own = self.own.saturating_add(1);
-        true
-    }
+// Counts a call. Whether it is the one that fails.
+fn fails(left: &mut u64) -> bool
+    ensures next { result ≡ (left.old == 1) }
+    ensures left { left.new ≡ left.old - 1 }
+{
+    let before = *left;
+    *left = before.saturating_sub(1);
+    before == 1
 }
 
 impl<X: Wire + Drop> Wire for Flaky<X> {
+    ghost use Rattle.srm_wire.specs.Wires.{is_failed};
+    ghost use Rattle.srm_wire.specs.Flakiness.{FailsOnce};
+
     ghost failed = { λ f. counted_with (X.failed f.wire) f.own };
 
     ghost told = { λ f. X.told f.wire };
 
+    ghost sends = { λ f sent failed g. FailsOnce (λ v w. X.sends v sent failed w) failed f g };
+
+    ghost receives = { λ f room answer g. FailsOnce (λ v w. X.receives v room answer w) (is_failed answer) f g };
+
     #[tactic(auto, using(crate::proofs::Telling::counts_below, crate::proofs::Telling::counts_own, crate::proofs::Telling::tells_nothing))]
     fn send(&mut self, to: Member, datagram: &[u8]) -> Result<(), WireFault> {
-        if self.fails() {
+        if fails(&mut self.left) {
+            self.own = self.own.saturating_add(1);
             return Err(WireFault);
         }
         self.wire.send(to, datagram)
@@ -59,7 +71,8 @@ impl<X: Wire + Drop> Wire for Flaky<X> {
 
     #[tactic(auto, using(crate::proofs::Telling::counts_below, crate::proofs::Telling::counts_own, crate::proofs::Telling::tells_nothing))]
     fn receive(&mut self, buffer: &mut [u8]) -> Result<Option<usize>, WireFault> {
-        if self.fails() {
+        if fails(&mut self.left) {
+            self.own = self.own.saturating_add(1);
             return Err(WireFault);
         }
         self.wire.receive(buffer)

@@ -7,6 +7,7 @@
 mod clock;
 mod fates;
 mod flaky;
+mod inboxes;
 mod mem_wire;
 mod network;
 mod sending;
@@ -14,7 +15,7 @@ mod sent;
 mod wire;
 
 pub use clock::Clock;
-pub use fates::{Fate, Fates, LateCopy};
+pub use fates::Fate;
 pub use flaky::Flaky;
 pub use mem_wire::MemWire;
 pub use network::hub;

@@ -1,35 +1,36 @@
 //! A wire of a network in memory.
 
-ghost use Rattle.std.specs.Prelude.{◌≡◌, ◌≤◌, length, take, Some};
-ghost use Rattle.srm_wire.specs.Networks.{new_wire_of};
-ghost use Rattle.srm_wire.specs.Wires.{RoseOrFull};
+ghost use Rattle.std.specs.Prelude.{◌≡◌, ◌≤◌, length, take, Some, IfOk};
+ghost use Rattle.srm_wire.specs.Networks.{copies_at, new_wire_of};
+ghost use Rattle.srm_wire.specs.Wires.{RoseOrFull, one_more};
 
-use crate::fates::{Fate, Fates, copy_of};
-use crate::sent::Sent;
+use crate::fates::{Fate, coming};
+use crate::inboxes::Network;
+use crate::sent::{Sent, copy_of};
 use crate::wire::{Wire, WireFault};
 use srm_names::{Items, Member};
 use std::alloc::{AllocError, Global};
-use std::collections::VecDeque;
 use std::marker::Model;
-use std::sync::{Arc, Mutex, Wait};
+use std::sync::Wait;
 
-pub(crate) type Inbox = Arc<Mutex<VecDeque<Vec<u8>>>, Global>;
-
-/// A member's wire in a network in memory. It tells what it answered and took; a growth that is refused is a failure.
+/// A member's wire in a network in memory. It tells what it answered and took. What comes of the copies that it sends stands in the inboxes
+/// at once, by their fates. Only a growth that is refused is a failure, and then nothing else changed.
 #[derive(Drop)]
 pub struct MemWire<R: Wait + Drop> {
     rt: R,
     alloc: Global,
     me: usize,
-    inboxes: Vec<Inbox>,
-    fates: Fates,
+    network: Network,
+    fates: Vec<Fate>,
     failures: u64,
     came: Vec<Option<Items<u8>>>,
     went: Vec<Sent>,
+    // The numbers of the copies in `went` that were put into the inboxes.
+    put: Vec<usize>,
 }
 
 impl<R: Wait + Drop> Model for MemWire<R> {
-    ghost use Rattle.srm_wire.specs.Networks.{MemWireView};
+    ghost use Rattle.srm_wire.specs.Networks.{MemWireView, PutsByFate};
 
     ghost Value = { MemWireView };
 
@@ -38,29 +39,50 @@ impl<R: Wait + Drop> Model for MemWire<R> {
       failures = w.failures;
       came = w.came.items;
       went = w.went.items;
-      fates = w.fates;
+      fates = w.fates.items;
+      put = w.put.items;
     } };
+
+    ghost invariant = { λ w. PutsByFate (record {
+      me = w.me;
+      failures = w.failures;
+      came = w.came.items;
+      went = w.went.items;
+      fates = w.fates.items;
+      put = w.put.items;
+    }) };
 }
 
 impl<R: Wait + Drop> Wire for MemWire<R> {
+    ghost use Rattle.srm_wire.specs.Networks.{SendsByFate, KeepsAnswer};
+
     ghost failed = { λ w. w.failures };
 
     ghost told = { λ w. Some (record { came = w.came; went = w.went }) };
 
+    ghost sends = { SendsByFate };
+
+    ghost receives = { λ w room answer v. KeepsAnswer w answer v };
+
+    #[tactic(auto, using(crate::proofs::Fating::puts_more, crate::proofs::Fating::comes_more))]
     fn send(&mut self, to: Member, datagram: &[u8]) -> Result<(), WireFault> {
         let Ok(sent) = copy_of(self.alloc, to, datagram) else {
             return Err(fail(&mut self.failures));
         };
-        if self.went.reserve(1).is_err() {
-            return Err(fail(&mut self.failures));
-        }
-        let Ok(come) = self.fates.forward(self.alloc, to, datagram) else {
+        let Ok(mut numbers) = coming(self.alloc, self.fates.as_slice(), self.went.len()) else {
             return Err(fail(&mut self.failures));
         };
-        if put_all(&self.rt, self.inboxes.as_slice(), come).is_err() {
+        let Ok(copies) = copies_of(self.alloc, self.went.as_slice(), &sent, &numbers) else {
+            return Err(fail(&mut self.failures));
+        };
+        if self.went.reserve(1).is_err() || self.put.reserve(numbers.len()).is_err() {
+            return Err(fail(&mut self.failures));
+        }
+        if self.network.lock(&self.rt).put(copies).is_err() {
             return Err(fail(&mut self.failures));
         }
         let _ = self.went.push(sent);
+        let _ = self.put.append(&mut numbers);
         Ok(())
     }
 
@@ -68,8 +90,7 @@ impl<R: Wait + Drop> Wire for MemWire<R> {
         if self.came.reserve(1).is_err() {
             return Err(fail(&mut self.failures));
         }
-        let front = next_in(&self.rt, self.inboxes.as_slice(), self.me);
-        let Some(bytes) = front else {
+        let Some(bytes) = self.network.lock(&self.rt).take(self.me) else {
             let _ = self.came.push(None);
             return Ok(None);
         };
@@ -92,7 +113,7 @@ impl<R: Wait + Drop> MemWire<R> {
         rt: R,
         alloc: Global,
         me: u8,
-        inboxes: Vec<Inbox>,
+        network: Network,
         fates: Vec<Fate>,
     ) -> MemWire<R>
         ensures { result ≡ new_wire_of me fates.items }
@@ -101,23 +122,41 @@ impl<R: Wait + Drop> MemWire<R> {
             rt,
             alloc,
             me: usize::from(me),
-            inboxes,
-            fates: Fates::new(alloc, VecDeque::from(fates)),
+            network,
+            fates,
             failures: 0,
             came: Vec::new(alloc),
             went: Vec::new(alloc),
+            put: Vec::new(alloc),
         }
     }
 }
 
 // Counts a failure.
 fn fail(failures: &mut u64) -> WireFault
-    ensures { (failures.old ≤ failures.new) × RoseOrFull failures.old failures.new }
+    ensures { (failures.new ≡ one_more failures.old) × (failures.old ≤ failures.new) × RoseOrFull failures.old failures.new }
 {
     if *failures < u64::MAX {
         *failures += 1;
     }
     WireFault
+}
+
+// Copies of those with these numbers, of what was sent before and then the last.
+fn copies_of(
+    alloc: Global,
+    went: &[Sent],
+    last: &Sent,
+    numbers: &Vec<usize>,
+) -> Result<Vec<Sent>, AllocError>
+    ensures { IfOk result (λ copies. copies.items ≡ copies_at went.now last.now numbers.now.items) }
+{
+    let mut copies = Vec::new(alloc);
+    for number in numbers.as_slice() {
+        let Sent { to, bytes } = went.get(*number).unwrap_or(last);
+        copies.push(copy_of(alloc, *to, bytes.as_slice())?)?;
+    }
+    Ok(copies)
 }
 
 // Fills the buffer from its front. How many bytes, and which.
@@ -130,19 +169,4 @@ fn fill(buffer: &mut [u8], bytes: Vec<u8>) -> (usize, Vec<u8>)
     let count = bytes.len();
     buffer[..count].copy_from_slice(bytes.as_slice());
     (count, bytes)
-}
-
-fn next_in<R: Wait>(rt: &R, inboxes: &[Inbox], me: usize) -> Option<Vec<u8>> {
-    inboxes.get(me)?.lock(rt).pop_front()
-}
-
-// Puts copies into the inboxes of those they go to, in order; one to a member that isn't there is lost.
-fn put_all<R: Wait>(rt: &R, inboxes: &[Inbox], copies: Vec<Sent>) -> Result<(), AllocError> {
-    for copy in copies {
-        let Sent { to, bytes } = copy;
-        if let Some(inbox) = inboxes.get(to.index()) {
-            inbox.lock(rt).push_back(bytes.into_vec())?;
-        }
-    }
-    Ok(())
 }

@@ -4,7 +4,8 @@ ghost use Rattle.std.specs.Prelude.{◌≡◌, map, IfOk};
 ghost use Rattle.srm_wire.specs.Networks.{AreNewWires, NextWire, new_wire_of};
 
 use crate::fates::Fate;
-use crate::mem_wire::{Inbox, MemWire};
+use crate::inboxes::{Inboxes, Network};
+use crate::mem_wire::MemWire;
 use std::alloc::{AllocError, Global};
 use std::collections::VecDeque;
 use std::sync::{Arc, Mutex, Wait};
@@ -21,20 +22,12 @@ pub fn hub<R: Wait + Copy + Drop>(
     ensures { IfOk result (λ wires. AreNewWires members (map (λ own. own.items) fates.items) wires.items) }
 {
     let mut fates = VecDeque::from(fates);
-    let inboxes = new_inboxes(alloc, members)?;
+    let network = Arc::new(alloc, Mutex::new(Inboxes::new(alloc, members)?))?;
     let mut wires = Vec::new(alloc);
     for me in 0..members {
-        wires.push(next_wire(rt, alloc, me, inboxes.as_slice(), &mut fates)?)?;
+        wires.push(next_wire(rt, alloc, me, &network, &mut fates)?)?;
     }
     Ok(wires)
-}
-
-fn new_inboxes(alloc: Global, members: u8) -> Result<Vec<Inbox>, AllocError> {
-    let mut inboxes = Vec::new(alloc);
-    for _ in 0..members {
-        inboxes.push(Arc::new(alloc, Mutex::new(VecDeque::new(alloc)))?)?;
-    }
-    Ok(inboxes)
 }
 
 // The wire of a member, whose copies have the first fates of those left, or pass.
@@ -42,14 +35,14 @@ fn next_wire<R: Wait + Drop>(
     rt: R,
     alloc: Global,
     me: u8,
-    inboxes: &[Inbox],
+    network: &Network,
     fates: &mut VecDeque<Vec<Fate>>,
 ) -> Result<MemWire<R>, AllocError>
     ensures { IfOk result (λ wire. NextWire me (map (λ own. own.items) fates.old.items) (map (λ own. own.items) fates.new.items) wire) }
 {
     match fates.pop_front() {
-        Some(own) => new_wire(rt, alloc, me, inboxes, own),
-        None => new_wire(rt, alloc, me, inboxes, Vec::new(alloc)),
+        Some(own) => new_wire(rt, alloc, me, network, own),
+        None => new_wire(rt, alloc, me, network, Vec::new(alloc)),
     }
 }
 
@@ -57,14 +50,10 @@ fn new_wire<R: Wait + Drop>(
     rt: R,
     alloc: Global,
     me: u8,
-    all: &[Inbox],
+    network: &Network,
     fates: Vec<Fate>,
 ) -> Result<MemWire<R>, AllocError>
     ensures { IfOk result (λ wire. wire ≡ new_wire_of me fates.items) }
 {
-    let mut inboxes = Vec::new(alloc);
-    for inbox in all {
-        inboxes.push(Arc::try_clone(inbox)?)?;
-    }
-    Ok(MemWire::new(rt, alloc, me, inboxes, fates))
+    Ok(MemWire::new(rt, alloc, me, Arc::try_clone(network)?, fates))
 }

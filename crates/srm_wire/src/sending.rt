@@ -2,16 +2,17 @@
 
 ghost use Rattle.std.specs.Prelude.{◌≤◌, ◌<◌, ◌∷◌, []};
 ghost use Rattle.srm_names.specs.declared.limits.TheConstants.{MEMBERS};
-ghost use Rattle.srm_wire.specs.Wires.{Sends, but, others, sends_to};
+ghost use Rattle.srm_wire.specs.Wires.{Sends, SendsEach, but, others, sends_to};
 
 use crate::wire::Wire;
 use srm_names::Member;
 
-#[tactic(auto, using(crate::proofs::Telling::sends_to_more, crate::proofs::Telling::sends_none))]
+#[tactic(auto, using(crate::proofs::Telling::sends_to_more, crate::proofs::Telling::sends_none, crate::proofs::Dispatching::each_to_more, crate::proofs::Dispatching::each_none))]
 /// Sends bytes to every other member, rising, whatever fails. Whether a send failed.
 pub fn send_to_others<X: Wire>(wire: &mut X, me: Member, members: u8, bytes: &[u8]) -> bool
     requires { members ≤ MEMBERS }
-    ensures { Sends result (sends_to (others me members) bytes.now) (X.failed wire.old) (X.failed wire.new) (X.told wire.old) (X.told wire.new) }
+    ensures sends { Sends result (sends_to (others me members) bytes.now) (X.failed wire.old) (X.failed wire.new) (X.told wire.old) (X.told wire.new) }
+    ensures each { SendsEach X.sends result (sends_to (others me members) bytes.now) wire.old wire.new }
 {
     let mut failed = false;
     for number in 0..members {
@@ -21,10 +22,12 @@ pub fn send_to_others<X: Wire>(wire: &mut X, me: Member, members: u8, bytes: &[u
     failed
 }
 
+#[tactic(auto, using(crate::proofs::Dispatching::each_none, crate::proofs::Dispatching::each_one))]
 // Sends bytes to a member unless it is this one. Whether the send failed.
 fn send_to_other<X: Wire>(wire: &mut X, me: Member, number: u8, bytes: &[u8]) -> bool
     requires { number < MEMBERS }
-    ensures { Sends result (sends_to (but me (number ∷ [])) bytes.now) (X.failed wire.old) (X.failed wire.new) (X.told wire.old) (X.told wire.new) }
+    ensures sends { Sends result (sends_to (but me (number ∷ [])) bytes.now) (X.failed wire.old) (X.failed wire.new) (X.told wire.old) (X.told wire.new) }
+    ensures each { SendsEach X.sends result (sends_to (but me (number ∷ [])) bytes.now) wire.old wire.new }
 {
     if number == me.number() {
         return false;

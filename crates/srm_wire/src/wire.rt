@@ -1,7 +1,8 @@
 //! What carries datagrams between members.
 
-ghost use Rattle.std.specs.Prelude.{◌≡◌, ◌≤◌, ℕ, [], length, Option, IfOk, IfSome};
-ghost use Rattle.srm_wire.specs.Wires.{Told, TellsMore, CountsFailure, answered, took};
+ghost use Rattle.std.specs.Prelude.{◌≡◌, ◌≤◌, ℕ, Bool, List, [], length, Option, IfOk, IfSome, is_err};
+ghost use Rattle.srm_wire.specs.declared.sent.Sent.{Sent};
+ghost use Rattle.srm_wire.specs.Wires.{Told, TellsMore, CountsFailure, answered, bytes_to, took};
 
 use srm_names::Member;
 use thiserror::Error;
@@ -15,21 +16,30 @@ pub struct WireFault;
 /// lowers it.
 ///
 /// A wire may tell: contracts then see what `receive` answered and what `send` took. One that doesn't has `told` at None for ever.
+///
+/// It may also say what its calls do: `sends` of the wire before, what was to be sent, whether it failed, and the wire after; `receives` of the
+/// wire before, the buffer's length, the answer (none where it failed), and the wire after. One that says nothing leaves them out.
 pub trait Wire {
     ghost failed: { Self → ℕ };
 
     ghost told: { Self → Option Told };
 
+    ghost sends: { Self → Sent → Bool → Self → Type 0 } = { λ old sent failed new. Unit {0} };
+
+    ghost receives: { Self → ℕ → List (Option (List ℕ)) → Self → Type 0 } = { λ old room answer new. Unit {0} };
+
     /// Sends bytes to a member.
     fn send(&mut self, to: Member, datagram: &[u8]) -> Result<(), WireFault>
         ensures failures { CountsFailure result (failed self.old) (failed self.new) }
-        ensures tells { TellsMore [] (took to datagram.now result) (told self.old) (told self.new) };
+        ensures tells { TellsMore [] (took to datagram.now result) (told self.old) (told self.new) }
+        ensures sends { sends self.old (bytes_to to datagram.now) (is_err result) self.new };
 
     /// Receives a datagram into the buffer, of which it fills so many bytes. None where none is there.
     fn receive(&mut self, buffer: &mut [u8]) -> Result<Option<usize>, WireFault>
         ensures within { IfOk result (λ some. IfSome some (λ count. count ≤ length buffer.new)) }
         ensures failures { CountsFailure result (failed self.old) (failed self.new) }
-        ensures tells { TellsMore (answered buffer.new result) [] (told self.old) (told self.new) };
+        ensures tells { TellsMore (answered buffer.new result) [] (told self.old) (told self.new) }
+        ensures receives { receives self.old (length buffer.new) (answered buffer.new result) self.new };
 
     /// Waits until a datagram may be there, or so many microseconds went by.
     fn pause(&mut self, micros: u64)

@@ -1,0 +1,51 @@
+//! The inboxes of a network in memory.
+
+ghost use Rattle.std.specs.Prelude.{◌≡◌, map, IfOk, OnErr};
+
+use crate::sent::Sent;
+use std::alloc::{AllocError, Global};
+use std::collections::VecDeque;
+use std::marker::Model;
+use std::sync::{Arc, Mutex};
+
+/// The inboxes that the wires of a network share.
+pub(crate) type Network = Arc<Mutex<Inboxes>, Global>;
+
+/// What is under way to each member of a network, by number.
+#[derive(Drop)]
+pub struct Inboxes {
+    all: Vec<VecDeque<Vec<u8>>>,
+}
+
+impl Inboxes {
+    /// An empty inbox for each of so many members.
+    pub(crate) fn new(alloc: Global, members: u8) -> Result<Inboxes, AllocError> {
+        let mut all = Vec::new(alloc);
+        for _ in 0..members {
+            all.push(VecDeque::new(alloc))?;
+        }
+        Ok(Inboxes { all })
+    }
+
+    /// Puts copies into the inboxes of those that they go to, in order; one to a member that isn't there is lost. Where memory is refused
+    /// none is put.
+    pub(crate) fn put(&mut self, copies: Vec<Sent>) -> Result<(), AllocError> {
+        for copy in copies.as_slice() {
+            if let Some(inbox) = self.all.get_mut(copy.to.index()) {
+                inbox.reserve(copies.len())?;
+            }
+        }
+        for copy in copies {
+            let Sent { to, bytes } = copy;
+            if let Some(inbox) = self.all.get_mut(to.index()) {
+                inbox.push_back(bytes.into_vec())?;
+            }
+        }
+        Ok(())
+    }
+
+    /// Takes the oldest datagram of a member.
+    pub(crate) fn take(&mut self, member: usize) -> Option<Vec<u8>> {
+        self.all.get_mut(member)?.pop_front()
+    }
+}
