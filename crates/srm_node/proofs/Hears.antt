@@ -18,18 +18,18 @@ abbrev at : Journal → List Entry → Journal
 at j es = record { start = j.start; entries = es }
 
 -- one more, at the end
-hears-snoc : (j : Journal) (bs : List (List ℕ)) (es : List Entry) (b : List ℕ) (e : Entry) → HearsEach j bs es → IsHearing (with_entries j es) b e → HearsEach j (bs ++ b ∷ []) (es ++ e ∷ [])
-hears-snoc j [] [] b e h k = (subst (λ xs. IsHearing (at j xs) b e) (append-nil j.entries) k, tt)
-hears-snoc j [] (y ∷ es) b e h k = absurd h
-hears-snoc j (x ∷ bs) [] b e h k = absurd h
-hears-snoc j (x ∷ bs) (y ∷ es) b e h k = (h.0, hears-snoc (with_entry j y) bs es b e h.1 (subst (λ xs. IsHearing (at j xs) b e) (sym (append_assoc j.entries (y ∷ []) es)) k))
+hears-snoc : (now : ℕ) (j : Journal) (bs : List (List ℕ)) (es : List Entry) (b : List ℕ) (e : Entry) → HearsEach now j bs es → IsHearing now (with_entries j es) b e → HearsEach now j (bs ++ b ∷ []) (es ++ e ∷ [])
+hears-snoc now j [] [] b e h k = (subst (λ xs. IsHearing now (at j xs) b e) (append-nil j.entries) k, tt)
+hears-snoc now j [] (y ∷ es) b e h k = absurd h
+hears-snoc now j (x ∷ bs) [] b e h k = absurd h
+hears-snoc now j (x ∷ bs) (y ∷ es) b e h k = (h.0, hears-snoc now (with_entry j y) bs es b e h.1 (subst (λ xs. IsHearing now (at j xs) b e) (sym (append_assoc j.entries (y ∷ []) es)) k))
 
-pub listens_none : (j : Journal) (t : Option Told) → Listens 0 [] j j t t
-listens_none j t = record { came = []; entries = []; counted = refl; grown = ap (at j) (sym (append-nil j.entries)); each = tt; told = tells_nothing t }
+pub listens_none : (now : ℕ) (j : Journal) (t : Option Told) → Listens now 0 [] j j t t
+listens_none now j t = record { came = []; entries = []; counted = refl; grown = ap (at j) (sym (append-nil j.entries)); each = tt; told = tells_nothing t }
 
 -- more was told
-pub listens_told : (n : ℕ) (ended : List (Option (List ℕ))) (a b : Journal) (s t u : Option Told) → Listens n [] a b s t → TellsMore ended [] t u → Listens n ended a b s u
-listens_told n ended a b s t u h k = record {
+pub listens_told : (now n : ℕ) (ended : List (Option (List ℕ))) (a b : Journal) (s t u : Option Told) → Listens now n [] a b s t → TellsMore ended [] t u → Listens now n ended a b s u
+listens_told now n ended a b s t u h k = record {
   came = h.came;
   entries = h.entries;
   counted = h.counted;
@@ -39,22 +39,22 @@ listens_told n ended a b s t u h k = record {
 }
 
 -- one more was heard
-heard_more : (n : ℕ) (bytes : List ℕ) (a b c : Journal) (s t u : Option Told) (e : Entry) → Listens n [] a b s t → c ≡ with_entry b e → IsHearing b bytes e → TellsMore (Some bytes ∷ []) [] t u → Listens (n + 1) [] a c s u
-heard_more n bytes a b c s t u e h grown hearing told =
+heard_more : (now n : ℕ) (bytes : List ℕ) (a b c : Journal) (s t u : Option Told) (e : Entry) → Listens now n [] a b s t → c ≡ with_entry b e → IsHearing now b bytes e → TellsMore (Some bytes ∷ []) [] t u → Listens now (n + 1) [] a c s u
+heard_more now n bytes a b c s t u e h grown hearing told =
     let came : List (Option (List ℕ)) = map (λ x. Some x) h.came in
     record {
       came = h.came ++ bytes ∷ [];
       entries = h.entries ++ e ∷ [];
       counted = length-append h.came (bytes ∷ []) ∙ ap (λ k. k + 1) h.counted;
       grown = grown ∙ ap (λ j. with_entry j e) h.grown ∙ ap (at a) (append_assoc a.entries h.entries (e ∷ []));
-      each = hears-snoc a h.came h.entries bytes e h.each (subst (λ j. IsHearing j bytes e) h.grown hearing);
+      each = hears-snoc now a h.came h.entries bytes e h.each (subst (λ j. IsHearing now j bytes e) h.grown hearing);
       told = subst (λ all. TellsMore all [] s u) (ap (λ all. all ++ Some bytes ∷ []) (append-nil came) ∙ sym (map-append (λ x. Some x) h.came (bytes ∷ [])) ∙ sym (append-nil (map (λ x. Some x) (h.came ++ bytes ∷ []))))
           (tells_on (came ++ []) (Some bytes ∷ []) [] [] s t u h.told told);
     }
 
-pub listens_more : (n now : ℕ) (bytes : List ℕ) (a b c : Journal) (s t u : Option Told) (heard : Heard) → Listens n [] a b s t → RecordsHeard now bytes b c (Ok heard) → TellsMore (Some bytes ∷ []) [] t u → Listens (n + 1) [] a c s u
-listens_more n now bytes a b c s t u heard h (inl (e, grows, hearing, answers)) told = heard_more n bytes a b c s t u e h grows.grown hearing told
-listens_more n now bytes a b c s t u heard h (inr (wrong, same)) told = absurd (is_ok wrong)
+pub listens_more : (now n : ℕ) (bytes : List ℕ) (a b c : Journal) (s t u : Option Told) (heard : Heard) → Listens now n [] a b s t → RecordsHeard now bytes b c (Ok heard) → TellsMore (Some bytes ∷ []) [] t u → Listens now (n + 1) [] a c s u
+listens_more now n bytes a b c s t u heard h (inl (e, grows, hearing, answers)) told = heard_more now n bytes a b c s t u e h grows.grown (record { moment = grows.moment; heard = hearing }) told
+listens_more now n bytes a b c s t u heard h (inr (wrong, same)) told = absurd (is_ok wrong)
   where
     is_ok : {A B : Type 0} {x : A} {y : B} → Ok x ≡ Err y → ⊥
     is_ok e = cc
@@ -64,20 +64,20 @@ pub heard_nothing : (now : ℕ) (bytes : List ℕ) (b c : Journal) (fault : Agen
 heard_nothing now bytes b c fault (inl (e, grows, hearing, answers)) = absurd answers
 heard_nothing now bytes b c fault (inr (is, same)) = same
 
-pub listened_fails : (n : ℕ) (ended : List (Option (List ℕ))) (a b : Journal) (s u : Option Told) → Listens n ended a b s u → Listened true a b s u
-listened_fails n ended a b s u h = record { count = n; ended = ended; listens = h; whole = tt }
+pub listened_fails : (now n : ℕ) (ended : List (Option (List ℕ))) (a b : Journal) (s u : Option Told) → Listens now n ended a b s u → Listened now true a b s u
+listened_fails now n ended a b s u h = record { count = n; ended = ended; listens = h; whole = tt }
 
-pub listened_none : (n : ℕ) (a b : Journal) (s u : Option Told) → n < RECEIVED → Listens n (None ∷ []) a b s u → Listened false a b s u
-listened_none n a b s u few h = record { count = n; ended = None ∷ []; listens = h; whole = inr (few, refl) }
+pub listened_none : (now n : ℕ) (a b : Journal) (s u : Option Told) → n < RECEIVED → Listens now n (None ∷ []) a b s u → Listened now false a b s u
+listened_none now n a b s u few h = record { count = n; ended = None ∷ []; listens = h; whole = inr (few, refl) }
 
-pub listened_all : (n : ℕ) (a b : Journal) (s u : Option Told) → n ≡ RECEIVED → Listens n [] a b s u → Listened false a b s u
-listened_all n a b s u all h = record { count = n; ended = []; listens = h; whole = inl (all, refl) }
+pub listened_all : (now n : ℕ) (a b : Journal) (s u : Option Told) → n ≡ RECEIVED → Listens now n [] a b s u → Listened now false a b s u
+listened_all now n a b s u all h = record { count = n; ended = []; listens = h; whole = inl (all, refl) }
 
 -- memory ran out, and what came last is lost
-pub listened_lost : (n now : ℕ) (bytes : List ℕ) (a b c : Journal) (s t u : Option Told) (fault : AgentFault) → n < RECEIVED → Listens n [] a b s t → RecordsHeard now bytes b c (Err fault) → TellsMore (Some bytes ∷ []) [] t u → ListenedCut a c s u
-listened_lost n now bytes a b c s t u fault few h r told = record {
+pub listened_lost : (now n : ℕ) (bytes : List ℕ) (a b c : Journal) (s t u : Option Told) (fault : AgentFault) → n < RECEIVED → Listens now n [] a b s t → RecordsHeard now bytes b c (Err fault) → TellsMore (Some bytes ∷ []) [] t u → ListenedCut now a c s u
+listened_lost now n bytes a b c s t u fault few h r told = record {
   count = n;
   lost = bytes;
   few = few;
-  listens = listens_told n (Some bytes ∷ []) a c s t u (subst (λ j. Listens n [] a j s t) (sym (heard_nothing now bytes b c fault r)) h) told;
+  listens = listens_told now n (Some bytes ∷ []) a c s t u (subst (λ j. Listens now n [] a j s t) (sym (heard_nothing now bytes b c fault r)) h) told;
 }

@@ -33,9 +33,12 @@ use Rattle.srm_world.proofs.Lawful.{lawful_journal}
 use Rattle.srm_node.specs.declared.fault.OutOfMemory.{OutOfMemory}
 use Rattle.srm_wire.specs.Wires.{Told}
 use Rattle.srm_node.specs.Carrying.{with_entries, Carries, CarriesEach, drew, draws, drawing, DrawsReceived, KeepsLists}
-use Rattle.srm_node.specs.Parts.{HearsEach, Listens, Listened, ListenedCut, DrawsOf, Draws, Leaves, Ticks, GivesUpTo, GaveSome, is_give}
+use Rattle.srm_node.specs.Parts.{HearsEach, Listens, Listened, ListenedCut, DrawsOf, Draws, DrewStrokes, DrewStrokesCut, Leaves, Ticks, GivesUpTo, GaveSome, is_give}
 use Rattle.srm_node.specs.Nodes.{NodeView, IsNode, AreNewFeeds}
+use Rattle.srm_node.specs.declared.listening.Listening.{Listening}
+use Rattle.srm_node.specs.declared.drawing.Drawn.{Drawn}
 use Rattle.srm_node.proofs.Gives.{given-append}
+use Rattle.srm_node.proofs.Draws.{inputs_drawn}
 
 abbrev at : Journal → List Entry → Journal
 at j es = record { start = j.start; entries = es }
@@ -96,24 +99,24 @@ quiet_if false x y h k = k
 quiet_bytes : (c : Config) (es : List Entry) (bytes : List ℕ) → Quiet (bytes_heard c es bytes).0
 quiet_bytes c es bytes = quiet_if (is_gone (state es)) (Noise, Ignored causes.Gone) (read_as c es (judge c.session bytes)) (refl, λ slot m. refl) (quiet_read c es (judge c.session bytes))
 
-quiet_heard : (j : Journal) (bs : List (List ℕ)) (es : List Entry) → HearsEach j bs es → AreQuiet es
-quiet_heard j [] [] h = tt
-quiet_heard j [] (e ∷ es) h = absurd h
-quiet_heard j (b ∷ bs) [] h = absurd h
-quiet_heard j (b ∷ bs) (e ∷ es) h = (subst Quiet (sym (ap (λ (p : Input × Verdict). p.0) h.0)) (quiet_bytes j.start.config j.entries b), quiet_heard (with_entry j e) bs es h.1)
+quiet_heard : (now : ℕ) (j : Journal) (bs : List (List ℕ)) (es : List Entry) → HearsEach now j bs es → AreQuiet es
+quiet_heard now j [] [] h = tt
+quiet_heard now j [] (e ∷ es) h = absurd h
+quiet_heard now j (b ∷ bs) [] h = absurd h
+quiet_heard now j (b ∷ bs) (e ∷ es) h = (subst Quiet (sym (ap (λ (p : Input × Verdict). p.0) h.0.heard)) (quiet_bytes j.start.config j.entries b), quiet_heard now (with_entry j e) bs es h.1)
 
-node_hears : (n : NodeView) (k : Journal) (failures : ℕ) (told : Option Told) (config : Config) (room count : ℕ) (ended : List (Option (List ℕ))) → IsNode n config room → IsLawfulJournal k → Listens count ended n.journal k n.told told
+node_hears : (now : ℕ) (n : NodeView) (k : Journal) (failures : ℕ) (told : Option Told) (config : Config) (room count : ℕ) (ended : List (Option (List ℕ))) → IsNode n config room → IsLawfulJournal k → Listens now count ended n.journal k n.told told
     → IsNode (record n { journal = k; failures = failures; told = told }) config room
-node_hears n k failures told config room count ended h lawful l = record {
-  lists = keeps_quiet n.journal k l.entries n.feeds n.well.received n.hand h.lists lawful l.grown (quiet_heard n.journal l.came l.entries l.each);
+node_hears now n k failures told config room count ended h lawful l = record {
+  lists = keeps_quiet n.journal k l.entries n.feeds n.well.received n.hand h.lists lawful l.grown (quiet_heard now n.journal l.came l.entries l.each);
   settings = settings_of n.journal k l.entries l.grown ∙ h.settings;
   room_is = h.room_is;
 }
 
-pub node_listened : (n : NodeView) (k : Journal) (failures : ℕ) (told : Option Told) (config : Config) (room : ℕ) (r : Result Bool OutOfMemory) → IsNode n config room → IsLawfulJournal k
-    → MatchResult r (λ failed. Listened failed n.journal k n.told told) (λ _. ListenedCut n.journal k n.told told) → IsNode (record n { journal = k; failures = failures; told = told }) config room
-node_listened n k failures told config room (Ok failed) h lawful x = node_hears n k failures told config room x.count x.ended h lawful x.listens
-node_listened n k failures told config room (Err e) h lawful x = node_hears n k failures told config room x.count (Some x.lost ∷ []) h lawful x.listens
+pub node_listened : (now : ℕ) (n : NodeView) (k : Journal) (failures : ℕ) (told : Option Told) (config : Config) (room : ℕ) (r : Result Listening OutOfMemory) → IsNode n config room → IsLawfulJournal k
+    → MatchResult r (λ l. Listened now l.failed n.journal k n.told told) (λ _. ListenedCut now n.journal k n.told told) → IsNode (record n { journal = k; failures = failures; told = told }) config room
+node_listened now n k failures told config room (Ok l) h lawful x = node_hears now n k failures told config room x.count x.ended h lawful x.listens
+node_listened now n k failures told config room (Err e) h lawful x = node_hears now n k failures told config room x.count (Some x.lost ∷ []) h lawful x.listens
 
 -- DRAWING
 
@@ -133,8 +136,8 @@ drawn_draws (e ∷ es) (s ∷ ss) h =
     let tail : map (λ (x : Entry). x.input) es ≡ map drawing ss = cc in
     ap (λ i. cons_option (drew i) (draws es)) head ∙ ap (λ xs. drawing s ∷ xs) (drawn_draws es ss tail)
 
-received_more : (j k : Journal) (from to : WellView) (hand kept : Option Stroke) (d : Draws j k from to hand kept) → DrawsReceived j from.received hand → DrawsReceived k to.received kept
-received_more j k from to hand kept d h =
+received_more : (now count : ℕ) (j k : Journal) (from to : WellView) (hand kept : Option Stroke) (d : Draws now count j k from to hand kept) → DrawsReceived j from.received hand → DrawsReceived k to.received kept
+received_more now count j k from to hand kept d h =
     let p = d.pops in
     let x = d.draws in
     let hands : List Stroke = option_to_list hand in
@@ -145,23 +148,28 @@ received_more j k from to hand kept d h =
     ∙ append_assoc (draws j.entries) (map drawing hands) (map drawing p.popped)
     ∙ ap (λ is. draws j.entries ++ is) (sym (map-append drawing hands p.popped) ∙ ap (map drawing) (sym p.all_is ∙ x.all_is) ∙ map-append drawing x.strokes keeps)
     ∙ sym (append_assoc (draws j.entries) (map drawing x.strokes) (map drawing keeps))
-    ∙ ap (λ is. is ++ map drawing keeps) (ap (λ is. draws j.entries ++ is) (sym (drawn_draws x.entries x.strokes x.inputs)) ∙ sym (draws_grown j k x.entries x.grown))
+    ∙ ap (λ is. is ++ map drawing keeps) (ap (λ is. draws j.entries ++ is) (sym (drawn_draws x.entries x.strokes (inputs_drawn now j x.strokes x.entries x.each))) ∙ sym (draws_grown j k x.entries x.grown))
 
-pub node_drawn : (n : NodeView) (k : Journal) (well : WellView) (from hand : Option Stroke) (config : Config) (room : ℕ) → IsNode n config room → IsLawfulJournal k → from ≡ n.hand → Draws n.journal k n.well well from hand
+node_drawn : (now count : ℕ) (n : NodeView) (k : Journal) (well : WellView) (from hand : Option Stroke) (config : Config) (room : ℕ) → IsNode n config room → IsLawfulJournal k → from ≡ n.hand → Draws now count n.journal k n.well well from hand
     → IsNode (record n { journal = k; well = well; hand = hand }) config room
-node_drawn n k well from hand config room h lawful same d =
-    let e : Draws n.journal k n.well well n.hand hand = subst (λ x. Draws n.journal k n.well well x hand) same d in
+node_drawn now count n k well from hand config room h lawful same d =
+    let e : Draws now count n.journal k n.well well n.hand hand = subst (λ x. Draws now count n.journal k n.well well x hand) same d in
     let x = e.draws in
     record {
       lists = record {
         lawful = lawful;
         slots = h.lists.slots;
-        carries = carries_more n.journal k x.entries n.feeds x.grown (drawn_none_given x.entries x.strokes x.inputs) h.lists.carries;
-        draws_are = received_more n.journal k n.well well n.hand hand e h.lists.draws_are;
+        carries = carries_more n.journal k x.entries n.feeds x.grown (drawn_none_given x.entries x.strokes (inputs_drawn now n.journal x.strokes x.entries x.each)) h.lists.carries;
+        draws_are = received_more now count n.journal k n.well well n.hand hand e h.lists.draws_are;
       };
       settings = settings_of n.journal k x.entries x.grown ∙ h.settings;
       room_is = h.room_is;
     }
+
+pub node_drew : (now : ℕ) (n : NodeView) (k : Journal) (well : WellView) (from hand : Option Stroke) (config : Config) (room : ℕ) (r : Result Drawn OutOfMemory) → IsNode n config room → IsLawfulJournal k → from ≡ n.hand
+    → MatchResult r (λ drawn. DrewStrokes now drawn.none_left n.journal k n.well well from hand) (λ _. DrewStrokesCut now n.journal k n.well well from hand) → IsNode (record n { journal = k; well = well; hand = hand }) config room
+node_drew now n k well from hand config room (Ok drawn) h lawful same x = node_drawn now x.count n k well from hand config room h lawful same x.draws
+node_drew now n k well from hand config room (Err e) h lawful same x = node_drawn now x.count n k well from hand config room h lawful same x.draws
 
 -- LEAVING AND TICKING
 
@@ -169,21 +177,21 @@ quiet_leaves : (es : List Entry) → AllByRecursion (λ (e : Entry). e.input ≡
 quiet_leaves [] h = tt
 quiet_leaves (e ∷ es) h = (subst Quiet (sym h.0) (refl, λ slot m. refl), quiet_leaves es h.1)
 
-pub node_left : (n : NodeView) (k : Journal) (config : Config) (room : ℕ) → IsNode n config room → IsLawfulJournal k → Leaves n.journal k → IsNode (record n { journal = k }) config room
-node_left n k config room h lawful l = record {
+node_left : (now : ℕ) (none_left : Bool) (n : NodeView) (k : Journal) (config : Config) (room : ℕ) → IsNode n config room → IsLawfulJournal k → Leaves now none_left n.journal k → IsNode (record n { journal = k }) config room
+node_left now none_left n k config room h lawful l = record {
   lists = keeps_quiet n.journal k l.entries n.feeds n.well.received n.hand h.lists lawful l.grown (quiet_leaves l.entries l.inputs);
   settings = settings_of n.journal k l.entries l.grown ∙ h.settings;
   room_is = h.room_is;
 }
 
-pub node_leaves : (n : NodeView) (k : Journal) (config : Config) (room : ℕ) (r : Result (Unit {0}) OutOfMemory) → IsNode n config room → IsLawfulJournal k → MatchResult r (λ _. Leaves n.journal k) (λ _. k ≡ n.journal)
+pub node_leaves : (now : ℕ) (none_left : Bool) (n : NodeView) (k : Journal) (config : Config) (room : ℕ) (r : Result (Unit {0}) OutOfMemory) → IsNode n config room → IsLawfulJournal k → MatchResult r (λ _. Leaves now none_left n.journal k) (λ _. k ≡ n.journal)
     → IsNode (record n { journal = k }) config room
-node_leaves n k config room (Ok u) h lawful l = node_left n k config room h lawful l
-node_leaves n k config room (Err e) h lawful same = subst (λ x. IsNode (record n { journal = x }) config room) (sym same) h
+node_leaves now none_left n k config room (Ok u) h lawful l = node_left now none_left n k config room h lawful l
+node_leaves now none_left n k config room (Err e) h lawful same = subst (λ x. IsNode (record n { journal = x }) config room) (sym same) h
 
-pub node_ticked : (n : NodeView) (k : Journal) (failures : ℕ) (told : Option Told) (config : Config) (room : ℕ) (outs : List Out) → IsNode n config room → IsLawfulJournal k → Ticks outs n.journal k
+pub node_ticked : (now : ℕ) (n : NodeView) (k : Journal) (failures : ℕ) (told : Option Told) (config : Config) (room : ℕ) (outs : List Out) → IsNode n config room → IsLawfulJournal k → Ticks now outs n.journal k
     → IsNode (record n { journal = k; failures = failures; told = told }) config room
-node_ticked n k failures told config room outs h lawful t = record {
+node_ticked now n k failures told config room outs h lawful t = record {
   lists = keeps_quiet n.journal k (t.entry ∷ []) n.feeds n.well.received n.hand h.lists lawful t.grown (subst Quiet (sym t.is_tick.input) (refl, λ slot m. refl), tt);
   settings = settings_of n.journal k (t.entry ∷ []) t.grown ∙ h.settings;
   room_is = h.room_is;

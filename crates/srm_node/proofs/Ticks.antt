@@ -1,5 +1,5 @@
 -- A tick, and a leaving that is due.
-use Rattle.std.proofs.Common.{◌≡◌, ℕ, ◌≤◌, List, [], ◌∷◌, ◌++◌, length, refl, ap, sym, ◌∙◌, subst, inl, inr, arith}
+use Rattle.std.proofs.Common.{◌≡◌, ℕ, ◌≤◌, Bool, true, false, List, [], ◌∷◌, ◌++◌, length, refl, ap, sym, ◌∙◌, subst, inl, inr, arith}
 use Rattle.std.specs.Prelude.{Option, Some, None, Result, Ok, Err}
 use Rattle.std.proofs.lemmas.List.{append-nil}
 use Rattle.srm_entries.specs.declared.entry.Entry.{Entry}
@@ -19,10 +19,10 @@ use Rattle.srm_node.proofs.Rightly.{tick_done, leave_not_memory}
 abbrev at : Journal → List Entry → Journal
 at j es = record { start = j.start; entries = es }
 
-pub ticks_once : (now : ℕ) (j k : Journal) (ticked : TickedAnswer) → IsLawfulJournal k → Records (Some now) Ticked (IsTicked j.start.config.session) j k (Ok ticked) → Ticks ticked.outs j k
+pub ticks_once : (now : ℕ) (j k : Journal) (ticked : TickedAnswer) → IsLawfulJournal k → Records (Some now) Ticked (IsTicked j.start.config.session) j k (Ok ticked) → Ticks now ticked.outs j k
 ticks_once now j k ticked lawful (inl (e, grows, input, answers)) =
     let t : IsTicked j.start.config.session e ticked = subst (λ v. AnswersAs (IsTicked j.start.config.session e) v (Ok ticked)) (tick_done j k e grows.grown lawful input) answers in
-    record { entry = e; grown = grows.grown; is_tick = record { input = input; outs_are = t.outs; spelled = t.spelled } }
+    record { entry = e; grown = grows.grown; moment = grows.moment; is_tick = record { input = input; outs_are = t.outs; spelled = t.spelled } }
 ticks_once now j k ticked lawful (inr (wrong, same)) = absurd (differ (Ok ticked) refl wrong)
   where
     differ : (a : Result TickedAnswer AgentFault) {f : AgentFault} → a ≡ Ok ticked → a ≡ Err f → ⊥
@@ -33,12 +33,13 @@ ticks_not now j k fault lawful (inr (is, same)) = same
 ticks_not now j k fault lawful (inl (e, grows, input, answers)) =
     absurd (let a : AnswersAs (IsTicked j.start.config.session e) Done (Err fault) = subst (λ v. AnswersAs (IsTicked j.start.config.session e) v (Err fault)) (tick_done j k e grows.grown lawful input) answers in a)
 
-pub leaves_not : (j : Journal) → Leaves j j
-leaves_not j = record { entries = []; grown = ap (at j) (sym (append-nil j.entries)); once = omega arith; inputs = tt }
+pub leaves_not : (now : ℕ) (none_left : Bool) (j : Journal) → Leaves now none_left j j
+leaves_not now true j = record { entries = []; grown = ap (at j) (sym (append-nil j.entries)); moments = tt; once = omega arith; inputs = tt; waits = tt }
+leaves_not now false j = record { entries = []; grown = ap (at j) (sym (append-nil j.entries)); moments = tt; once = omega arith; inputs = tt; waits = refl }
 
-pub leaves_so : {A : Type 0} (now : ℕ) (is : Entry → A → Type 0) (j k : Journal) (answer : Result A AgentFault) → Records (Some now) AskedLeave is j k answer → Leaves j k
-leaves_so now is j k answer (inl (e, grows, input, answers)) = record { entries = e ∷ []; grown = grows.grown; once = omega arith; inputs = (input, tt) }
-leaves_so now is j k answer (inr (wrong, same)) = subst (λ x. Leaves j x) (sym same) (leaves_not j)
+pub leaves_so : {A : Type 0} (now : ℕ) (is : Entry → A → Type 0) (j k : Journal) (answer : Result A AgentFault) → Records (Some now) AskedLeave is j k answer → Leaves now true j k
+leaves_so now is j k answer (inl (e, grows, input, answers)) = record { entries = e ∷ []; grown = grows.grown; moments = (grows.moment, tt); once = omega arith; inputs = (input, tt); waits = tt }
+leaves_so now is j k answer (inr (wrong, same)) = subst (λ x. Leaves now true j x) (sym same) (leaves_not now true j)
 
 -- memory ran out, and nothing was asked
 pub leaves_cut : {A : Type 0} (now : ℕ) (is : Entry → A → Type 0) (j k : Journal) (fault : AgentFault) → IsLawfulJournal k → fault ≡ faults.Memory → Records (Some now) AskedLeave is j k (Err fault) → k ≡ j

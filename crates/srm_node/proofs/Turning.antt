@@ -1,6 +1,6 @@
 -- A turn of its parts.
 use Rattle.std.proofs.Common.{◌≡◌, ℕ, ◌+◌, ◌<◌, ◌≤◌, ◌||◌, Bool, true, false, refl, ap, sym, ◌∙◌, subst, inl, inr, arith, add-one}
-use Rattle.std.specs.Prelude.{List, Option, is_some, Result, Ok, Err, MatchResult, IfErr}
+use Rattle.std.specs.Prelude.{List, Option, Result, Ok, Err, MatchResult}
 use Rattle.std.specs.Bool.{OnTrue}
 use Rattle.srm_names.specs.declared.limits.TheConstants.{PAGES}
 use Rattle.srm_pages.specs.declared.stroke.Stroke.{Stroke}
@@ -9,28 +9,33 @@ use Rattle.srm_world.specs.Traces.{Journal}
 use Rattle.srm_node.specs.declared.fault.NodeFault.{NodeFault}
 use Rattle.srm_node.specs.declared.fault.NodeFault.TheVariants.{Wire, Memory, Turns}
 use Rattle.srm_node.specs.declared.fault.OutOfMemory.{OutOfMemory}
+use Rattle.srm_node.specs.declared.listening.Listening.{Listening}
+use Rattle.srm_node.specs.declared.drawing.Drawn.{Drawn}
 use Rattle.srm_wire.specs.Wires.{Told, CountsIf, RoseOrFull}
-use Rattle.srm_node.specs.Parts.{Listened, ListenedCut, Draws, Leaves, GivesUpTo, GaveSome}
+use Rattle.srm_node.specs.Parts.{Listened, ListenedCut, DrewStrokes, DrewStrokesCut, Leaves, GivesUpTo, GaveSome}
 use Rattle.srm_node.specs.Nodes.{NodeView}
-use Rattle.srm_node.specs.Turns.{HearsNow, DrawsNow, LeavesNow, TicksNow, GivesNow, HearsCut, DrawsCut, GivesCut, IsCut, Turned, TurnedDeaf, TurnEnds, Paused, RunsOf, Runs, RunsInto, RunsUpTo, RunEnds}
+use Rattle.srm_node.specs.Turns.{HearsNow, DrawsNow, LeavesNow, TicksNow, GivesNow, HearsCut, DrawsCut, GivesCut, CutHearing, IsCut, Turned, TurnedDeaf, TurnEnds, Paused, RunsOf, Runs, RunsInto, RunsUpTo, RunEnds}
 use Rattle.srm_wire.proofs.Telling.{counts_on}
 
 -- what was heard stays, also where memory ran out
-pub hears_now : (n : NodeView) (k : Journal) (failures : ℕ) (told : Option Told) (r : Result Bool OutOfMemory) → MatchResult r (λ failed. CountsIf failed n.failures failures) (λ _. CountsIf false n.failures failures)
-    → MatchResult r (λ failed. Listened failed n.journal k n.told told) (λ _. ListenedCut n.journal k n.told told)
-    → MatchResult r (λ failed. HearsNow failed n (record n { journal = k; failures = failures; told = told })) (λ _. HearsCut n (record n { journal = k; failures = failures; told = told }))
-hears_now n k failures told (Ok failed) counts listened = record { listened = listened; failures = counts; same = refl }
-hears_now n k failures told (Err e) counts listened = record { listened = listened; failures = counts.0; same = refl }
+pub hears_now : (now : ℕ) (n : NodeView) (k : Journal) (failures : ℕ) (told : Option Told) (failed : Bool) → CountsIf failed n.failures failures → Listened now failed n.journal k n.told told
+    → HearsNow now failed n (record n { journal = k; failures = failures; told = told })
+hears_now now n k failures told failed counts listened = record { listened = listened; failures = counts; same = refl }
 
-pub draws_now : (n : NodeView) (k : Journal) (well : WellView) (from hand : Option Stroke) (r : Result Bool OutOfMemory) → from ≡ n.hand → Draws n.journal k n.well well from hand → IfErr r (λ _. is_some hand ≡ true)
-    → MatchResult r (λ _. DrawsNow n (record n { journal = k; well = well; hand = hand })) (λ _. DrawsCut n (record n { journal = k; well = well; hand = hand }))
-draws_now n k well from hand (Ok empty) same draws kept = record { draws = subst (λ x. Draws n.journal k n.well well x hand) same draws; same = refl }
-draws_now n k well from hand (Err e) same draws kept = record { draws = record { draws = subst (λ x. Draws n.journal k n.well well x hand) same draws; same = refl }; in_hand = kept }
+pub hears_cut : (now : ℕ) (n : NodeView) (k : Journal) (failures : ℕ) (told : Option Told) → CountsIf false n.failures failures → ListenedCut now n.journal k n.told told → HearsCut now n (record n { journal = k; failures = failures; told = told })
+hears_cut now n k failures told counts listened = record { listened = listened; failures = counts.0; same = refl }
 
-pub leaves_now : (n : NodeView) (k : Journal) (r : Result (Unit {0}) OutOfMemory) → MatchResult r (λ _. Leaves n.journal k) (λ _. k ≡ n.journal)
-    → MatchResult r (λ _. LeavesNow n (record n { journal = k })) (λ _. record n { journal = k } ≡ n)
-leaves_now n k (Ok u) leaves = record { leaves = leaves; same = refl }
-leaves_now n k (Err e) same = ap (λ j. record n { journal = j }) same
+pub draws_now : (now : ℕ) (none_left : Bool) (n : NodeView) (k : Journal) (well : WellView) (from hand : Option Stroke) → from ≡ n.hand → DrewStrokes now none_left n.journal k n.well well from hand
+    → DrawsNow now none_left n (record n { journal = k; well = well; hand = hand })
+draws_now now none_left n k well from hand same drew = record { drew = subst (λ x. DrewStrokes now none_left n.journal k n.well well x hand) same drew; same = refl }
+
+pub draws_cut : (now : ℕ) (n : NodeView) (k : Journal) (well : WellView) (from hand : Option Stroke) → from ≡ n.hand → DrewStrokesCut now n.journal k n.well well from hand → DrawsCut now n (record n { journal = k; well = well; hand = hand })
+draws_cut now n k well from hand same drew = record { drew = subst (λ x. DrewStrokesCut now n.journal k n.well well x hand) same drew; same = refl }
+
+pub leaves_now : (now : ℕ) (none_left : Bool) (n : NodeView) (k : Journal) (r : Result (Unit {0}) OutOfMemory) → MatchResult r (λ _. Leaves now none_left n.journal k) (λ _. k ≡ n.journal)
+    → MatchResult r (λ _. LeavesNow now none_left n (record n { journal = k })) (λ _. record n { journal = k } ≡ n)
+leaves_now now none_left n k (Ok u) leaves = record { leaves = leaves; same = refl }
+leaves_now now none_left n k (Err e) same = ap (λ j. record n { journal = j }) same
 
 pub gives_now : (n : NodeView) (k : Journal) (feeds : List FeedView) (r : Result (Unit {0}) OutOfMemory) → MatchResult r (λ _. GivesUpTo PAGES n.journal k n.feeds feeds) (λ _. GaveSome n.journal k n.feeds feeds)
     → MatchResult r (λ _. GivesNow PAGES n (record n { journal = k; feeds = feeds })) (λ _. GivesCut n (record n { journal = k; feeds = feeds }))
@@ -38,34 +43,34 @@ gives_now n k feeds (Ok u) gives = record { gives = gives; same = refl }
 gives_now n k feeds (Err e) gives = record { gives = gives; same = refl }
 
 -- the turn was cut in one of its parts
-pub cut_hearing : (a b : NodeView) → HearsCut a b → IsCut a b
-cut_hearing a b h = inl h
+pub cut_hearing : (now : ℕ) (a b : NodeView) → HearsCut now a b → IsCut a b
+cut_hearing now a b h = inl (record { now = now; hears = h })
 
-pub cut_drawing : (u : Bool) (a b c : NodeView) → HearsNow u a b → DrawsCut b c → IsCut a c
-cut_drawing u a b c h d = inr (inl (record { unheard = u; heard = b; hears = h; draws = d }))
+pub cut_drawing : (now : ℕ) (u : Bool) (a b c : NodeView) → HearsNow now u a b → DrawsCut now b c → IsCut a c
+cut_drawing now u a b c h d = inr (inl (record { now = now; unheard = u; heard = b; hears = h; draws = d }))
 
-pub cut_leaving : (u : Bool) (a b c d : NodeView) → HearsNow u a b → DrawsNow b c → d ≡ c → IsCut a d
-cut_leaving u a b c d h x same = inr (inr (inl (record { unheard = u; heard = b; hears = h; draws = subst (λ n. DrawsNow b n) (sym same) x })))
+pub cut_leaving : (now : ℕ) (u w : Bool) (a b c d : NodeView) → HearsNow now u a b → DrawsNow now w b c → d ≡ c → IsCut a d
+cut_leaving now u w a b c d h x same = inr (inr (inl (record { now = now; none_left = w; unheard = u; heard = b; hears = h; draws = subst (λ n. DrawsNow now w b n) (sym same) x })))
 
-pub cut_ticking : (u : Bool) (a b c d e : NodeView) → HearsNow u a b → DrawsNow b c → LeavesNow c d → e ≡ d → IsCut a e
-cut_ticking u a b c d e h x l same = inr (inr (inr (inl (record { unheard = u; heard = b; drawn = c; hears = h; draws = x; leaves = subst (λ n. LeavesNow c n) (sym same) l }))))
+pub cut_ticking : (now : ℕ) (u w : Bool) (a b c d e : NodeView) → HearsNow now u a b → DrawsNow now w b c → LeavesNow now w c d → e ≡ d → IsCut a e
+cut_ticking now u w a b c d e h x l same = inr (inr (inr (inl (record { now = now; none_left = w; unheard = u; heard = b; drawn = c; hears = h; draws = x; leaves = subst (λ n. LeavesNow now w c n) (sym same) l }))))
 
-pub cut_giving : (u v : Bool) (a b c d e f : NodeView) → HearsNow u a b → DrawsNow b c → LeavesNow c d → TicksNow v d e → GivesCut e f → IsCut a f
-cut_giving u v a b c d e f h x l t g = inr (inr (inr (inr (record { unheard = u; unsent = v; heard = b; drawn = c; left = d; ticked = e; hears = h; draws = x; leaves = l; ticks = t; gives = g }))))
+pub cut_giving : (now : ℕ) (u v w : Bool) (a b c d e f : NodeView) → HearsNow now u a b → DrawsNow now w b c → LeavesNow now w c d → TicksNow now v d e → GivesCut e f → IsCut a f
+cut_giving now u v w a b c d e f h x l t g = inr (inr (inr (inr (record { now = now; none_left = w; unheard = u; unsent = v; heard = b; drawn = c; left = d; ticked = e; hears = h; draws = x; leaves = l; ticks = t; gives = g }))))
 
-pub turned : (u v : Bool) (a b c d e f : NodeView) → HearsNow u a b → DrawsNow b c → LeavesNow c d → TicksNow v d e → GivesNow PAGES e f → Turned u v a f
-turned u v a b c d e f h x l t g = record { heard = b; drawn = c; left = d; ticked = e; hears = h; draws = x; leaves = l; ticks = t; gives = g }
+pub turned : (now : ℕ) (u v w : Bool) (a b c d e f : NodeView) → HearsNow now u a b → DrawsNow now w b c → LeavesNow now w c d → TicksNow now v d e → GivesNow PAGES e f → Turned u v a f
+turned now u v w a b c d e f h x l t g = record { now = now; none_left = w; heard = b; drawn = c; left = d; ticked = e; hears = h; draws = x; leaves = l; ticks = t; gives = g }
 
-pub turned_whole : (u v : Bool) (a b c d e f : NodeView) → HearsNow u a b → DrawsNow b c → LeavesNow c d → TicksNow v d e → GivesNow PAGES e f → (u || v) ≡ false → Turned false false a f
-turned_whole true v a b c d e f h x l t g none = cc
-turned_whole false true a b c d e f h x l t g none = cc
-turned_whole false false a b c d e f h x l t g none = turned false false a b c d e f h x l t g
+pub turned_whole : (now : ℕ) (u v w : Bool) (a b c d e f : NodeView) → HearsNow now u a b → DrawsNow now w b c → LeavesNow now w c d → TicksNow now v d e → GivesNow PAGES e f → (u || v) ≡ false → Turned false false a f
+turned_whole now true v w a b c d e f h x l t g none = cc
+turned_whole now false true w a b c d e f h x l t g none = cc
+turned_whole now false false w a b c d e f h x l t g none = turned now false false w a b c d e f h x l t g
 
-pub turned_deaf : (u v : Bool) (a b c d e f : NodeView) → HearsNow u a b → DrawsNow b c → LeavesNow c d → TicksNow v d e → GivesNow PAGES e f → (u || v) ≡ true → TurnedDeaf a f
-turned_deaf u v a b c d e f h x l t g some = record {
+pub turned_deaf : (now : ℕ) (u v w : Bool) (a b c d e f : NodeView) → HearsNow now u a b → DrawsNow now w b c → LeavesNow now w c d → TicksNow now v d e → GivesNow PAGES e f → (u || v) ≡ true → TurnedDeaf a f
+turned_deaf now u v w a b c d e f h x l t g some = record {
   unheard = u;
   unsent = v;
-  turned = turned u v a b c d e f h x l t g;
+  turned = turned now u v w a b c d e f h x l t g;
   failed = rose (counts_on u v a.failures d.failures f.failures (subst (λ n. CountsIf u a.failures n) (sym same_before) h.failures) (subst (λ n. CountsIf v d.failures n) (sym same_after) t.sends.failures));
 }
   where

@@ -1,5 +1,5 @@
 -- The parts of a turn.
-use Rattle.std.specs.Prelude.{◌≡◌, ◌⊎◌, ℕ, ◌<◌, ◌≤◌, ◌==◌, Bool, true, false, ◌&&◌, ◌||◌, List, [], ◌∷◌, ◌++◌, map, length, slice_get, Option, Some, None, is_none, option_to_list}
+use Rattle.std.specs.Prelude.{◌≡◌, ◌⊎◌, ℕ, ◌<◌, ◌≤◌, ◌==◌, Bool, true, false, ◌&&◌, ◌||◌, List, [], ◌∷◌, ◌++◌, map, length, slice_get, Option, Some, None, is_none, option_to_list, is_some}
 use Rattle.std.specs.Bool.{OnTrue, OnFalse}
 use Rattle.std.specs.List.{AllByRecursion, list_any}
 use Rattle.srm_names.specs.declared.limits.TheConstants.{PAGES}
@@ -11,34 +11,42 @@ use Rattle.srm_entries.specs.declared.entry.Input.{Input}
 use Rattle.srm_entries.specs.declared.entry.Input.TheVariants.{Gave, AskedLeave, Ticked}
 use Rattle.srm_entries.specs.Hearing.{bytes_heard}
 use Rattle.srm_entries.specs.Giving.{given}
+use Rattle.srm_entries.specs.Entries.{last_moment}
+use Rattle.srm_entries.specs.Admitting.{AdmitsDraw}
+use Rattle.srm_agent.specs.Noting.{moment_that_counts}
 use Rattle.srm_agent_parts.specs.declared.out.Out.{Out}
 use Rattle.srm_agent_parts.specs.Outs.{IsOut}
 use Rattle.srm_world.specs.Traces.{Journal}
 use Rattle.srm_world.specs.Claims.{IsLawfulJournal}
 use Rattle.srm_world.specs.Recording.{with_entry}
-use Rattle.srm_node.specs.declared.limits.TheConstants.{RECEIVED}
+use Rattle.srm_node.specs.declared.limits.TheConstants.{RECEIVED, DRAWN}
 use Rattle.srm_wire.specs.Wires.{Told, TellsMore}
 use Rattle.srm_node.specs.Carrying.{with_entries, Carries, CarriesEach, drawing}
+
+-- the entry is at the moment that counts: the one that the clock gave, but a lower one than the last counts as the last
+abbrev pub IsAt : ℕ → Journal → Entry → Type 0
+IsAt now j e = e.moment ≡ moment_that_counts (Some now) (last_moment j.start.made j.entries)
 
 -- LISTENING
 
 -- the entry says what these bytes are to the member: the datagram that they spell, else noise
-abbrev pub IsHearing : Journal → List ℕ → Entry → Type 0
-IsHearing j bytes e = (e.input, e.verdict) ≡ bytes_heard j.start.config j.entries bytes
+pub record IsHearing (now : ℕ) (j : Journal) (bytes : List ℕ) (e : Entry) : Type 0 where
+  pub moment : IsAt now j e
+  pub heard : (e.input, e.verdict) ≡ bytes_heard j.start.config j.entries bytes
 
 -- an entry for each of these, in order, and no other
-abbrev pub HearsEach : Journal → List (List ℕ) → List Entry → Type 0
-HearsEach j [] [] = Unit {0}
-HearsEach j (b ∷ bs) (e ∷ es) = IsHearing j b e × HearsEach (with_entry j e) bs es
-HearsEach j _ _ = ⊥
+abbrev pub HearsEach : ℕ → Journal → List (List ℕ) → List Entry → Type 0
+HearsEach now j [] [] = Unit {0}
+HearsEach now j (b ∷ bs) (e ∷ es) = IsHearing now j b e × HearsEach now (with_entry j e) bs es
+HearsEach now j _ _ = ⊥
 
 -- So many datagrams came, and each has its entry. A wire that tells has told of them, and then of so much more.
-pub record Listens (count : ℕ) (ended : List (Option (List ℕ))) (old new : Journal) (was is : Option Told) : Type 0 where
+pub record Listens (now count : ℕ) (ended : List (Option (List ℕ))) (old new : Journal) (was is : Option Told) : Type 0 where
   pub came : List (List ℕ)
   pub entries : List Entry
   pub counted : length came ≡ count
   pub grown : new ≡ with_entries old entries
-  pub each : HearsEach old came entries
+  pub each : HearsEach now old came entries
   pub told : TellsMore (map (λ b. Some b) came ++ ended) [] was is
 
 -- as many came as a turn receives, or fewer and then none was there
@@ -46,18 +54,18 @@ abbrev pub IsWhole : ℕ → List (Option (List ℕ)) → Type 0
 IsWhole count ended = ((count ≡ RECEIVED) × (ended ≡ [])) ⊎ ((count < RECEIVED) × (ended ≡ None ∷ []))
 
 -- what came was heard, and all of it unless a call failed
-pub record Listened (failed : Bool) (old new : Journal) (was is : Option Told) : Type 0 where
+pub record Listened (now : ℕ) (failed : Bool) (old new : Journal) (was is : Option Told) : Type 0 where
   pub count : ℕ
   pub ended : List (Option (List ℕ))
-  pub listens : Listens count ended old new was is
+  pub listens : Listens now count ended old new was is
   pub whole : OnFalse failed (IsWhole count ended)
 
 -- Memory ran out: what came was heard, but for the last of it, which is lost.
-pub record ListenedCut (old new : Journal) (was is : Option Told) : Type 0 where
+pub record ListenedCut (now : ℕ) (old new : Journal) (was is : Option Told) : Type 0 where
   pub count : ℕ
   pub lost : List ℕ
   pub few : count < RECEIVED
-  pub listens : Listens count (Some lost ∷ []) old new was is
+  pub listens : Listens now count (Some lost ∷ []) old new was is
 
 -- DRAWING
 
@@ -67,28 +75,72 @@ pub record Pops (from to : WellView) (hand all : List Stroke) : Type 0 where
   pub received : to ≡ record from { received = from.received ++ popped }
   pub all_is : all ≡ hand ++ popped
 
--- of these strokes the first are drawn in order, each with its entry, and the others kept
-pub record DrawsOf (all kept : List Stroke) (old new : Journal) : Type 0 where
+-- whether the rate lets this stroke's datagram go at once, at this moment: a body that is too long counts as the longest
+abbrev pub IsAdmitted : ℕ → Journal → Stroke → Bool → Type 0
+IsAdmitted now j s answer = AdmitsDraw j.start.config j.start.made j.entries (length s.body) now answer
+
+-- the entry is of this stroke's draw, which the rate let go
+pub record IsDrawing (now : ℕ) (j : Journal) (s : Stroke) (e : Entry) : Type 0 where
+  pub moment : IsAt now j e
+  pub input : e.input ≡ drawing s
+  pub admitted : IsAdmitted now j s true
+
+-- the journal has one more entry, of this stroke's draw
+pub record DrawsOne (now : ℕ) (s : Stroke) (old new : Journal) : Type 0 where
+  pub entry : Entry
+  pub grown : new ≡ with_entry old entry
+  pub is_drawing : IsDrawing now old s entry
+
+-- an entry for each of these, in order, and no other
+abbrev pub DrawsEach : ℕ → Journal → List Stroke → List Entry → Type 0
+DrawsEach now j [] [] = Unit {0}
+DrawsEach now j (s ∷ ss) (e ∷ es) = IsDrawing now j s e × DrawsEach now (with_entry j e) ss es
+DrawsEach now j _ _ = ⊥
+
+-- of these strokes the first so many are drawn in order, each with its entry, and the others kept
+pub record DrawsOf (now count : ℕ) (all kept : List Stroke) (old new : Journal) : Type 0 where
   pub strokes : List Stroke
   pub entries : List Entry
+  pub counted : length strokes ≡ count
   pub grown : new ≡ with_entries old entries
-  pub inputs : map (λ (e : Entry). e.input) entries ≡ map drawing strokes
+  pub each : DrawsEach now old strokes entries
   pub all_is : all ≡ strokes ++ kept
 
--- Strokes were popped, and all but the one in hand drawn in order.
-pub record Draws (old new : Journal) (from to : WellView) (hand kept : Option Stroke) : Type 0 where
+-- Strokes were popped, and all but the one in hand drawn in order, so many.
+pub record Draws (now count : ℕ) (old new : Journal) (from to : WellView) (hand kept : Option Stroke) : Type 0 where
   pub all : List Stroke
   pub pops : Pops from to (option_to_list hand) all
-  pub draws : DrawsOf all (option_to_list kept) old new
+  pub draws : DrawsOf now count all (option_to_list kept) old new
+
+-- As many were drawn as a turn draws, or none was left, or the one in hand isn't admitted.
+abbrev pub DrawingEnds : (now count : ℕ) → Bool → Journal → Option Stroke → Type 0
+DrawingEnds now count none_left j (Some s) = (none_left ≡ false) × IsAdmitted now j s false
+DrawingEnds now count none_left j None = OnFalse none_left (count ≡ DRAWN)
+
+-- strokes were drawn, until there was cause to end
+pub record DrewStrokes (now : ℕ) (none_left : Bool) (old new : Journal) (from to : WellView) (hand kept : Option Stroke) : Type 0 where
+  pub count : ℕ
+  pub few : count ≤ DRAWN
+  pub draws : Draws now count old new from to hand kept
+  pub ends : DrawingEnds now count none_left new kept
+
+-- Memory ran out: the stroke for which it did is in hand.
+pub record DrewStrokesCut (now : ℕ) (old new : Journal) (from to : WellView) (hand kept : Option Stroke) : Type 0 where
+  pub count : ℕ
+  pub few : count < DRAWN
+  pub draws : Draws now count old new from to hand kept
+  pub in_hand : is_some kept ≡ true
 
 -- LEAVING
 
--- the member asked to leave, or not
-pub record Leaves (old new : Journal) : Type 0 where
+-- the member asked to leave, or not; not while strokes are left
+pub record Leaves (now : ℕ) (none_left : Bool) (old new : Journal) : Type 0 where
   pub entries : List Entry
   pub grown : new ≡ with_entries old entries
+  pub moments : AllByRecursion (IsAt now old) entries
   pub once : length entries ≤ 1
   pub inputs : AllByRecursion (λ (e : Entry). e.input ≡ AskedLeave) entries
+  pub waits : OnFalse none_left (entries ≡ [])
 
 -- TICKING
 
@@ -99,9 +151,10 @@ pub record IsTick (session : ℕ) (e : Entry) (outs : List Out) : Type 0 where
   pub spelled : AllByRecursion (IsOut session) outs
 
 -- the journal has one more entry, of a tick that sends these
-pub record Ticks (outs : List Out) (old new : Journal) : Type 0 where
+pub record Ticks (now : ℕ) (outs : List Out) (old new : Journal) : Type 0 where
   pub entry : Entry
   pub grown : new ≡ with_entry old entry
+  pub moment : IsAt now old entry
   pub is_tick : IsTick old.start.config.session entry outs
 
 -- GIVING
@@ -122,7 +175,7 @@ is_served slot es f = (credit_of f == 0) || list_any (gave_nothing slot) es || f
 abbrev pub SameFeed : FeedView → FeedView → Type 0
 SameFeed f g = g ≡ record f { put = g.put; seen = g.seen; lost = g.lost }
 
--- The slot was given messages, and its lane carries them. At the end it is served.
+-- The slot was given messages, which by the law of runs have the last moment, and its lane carries them. At the end it is served.
 pub record Gives (slot : ℕ) (ended : Bool) (old new : Journal) (from to : FeedView) : Type 0 where
   pub entries : List Entry
   pub grown : new ≡ with_entries old entries

@@ -1,33 +1,33 @@
 -- One turn of a node, part by part.
-use Rattle.std.specs.Prelude.{◌≡◌, ◌⊎◌, ℕ, zero, suc, ◌<◌, ◌≤◌, Bool, true, false, List, map, Option, is_some, Result, Ok, Err}
+use Rattle.std.specs.Prelude.{◌≡◌, ◌⊎◌, ℕ, zero, suc, ◌<◌, ◌≤◌, Bool, true, false, List, map, Option, Result, Ok, Err}
 use Rattle.srm_names.specs.declared.limits.TheConstants.{PAGES}
 use Rattle.srm_agent_parts.specs.declared.out.Out.{Out}
 use Rattle.srm_node.specs.declared.fault.NodeFault.{NodeFault}
 use Rattle.srm_node.specs.declared.fault.NodeFault.TheVariants.{Wire, Memory, Turns}
 use Rattle.srm_wire.specs.Wires.{CountsIf, RoseOrFull, Sends, dispatched}
-use Rattle.srm_node.specs.Parts.{Listened, ListenedCut, Draws, Leaves, Ticks, GivesUpTo, GaveSome}
+use Rattle.srm_node.specs.Parts.{Listened, ListenedCut, DrewStrokes, DrewStrokesCut, Leaves, Ticks, GivesUpTo, GaveSome}
 use Rattle.srm_node.specs.Nodes.{NodeView}
 
 -- What came was heard, all of it unless a call failed.
-pub record HearsNow (unheard : Bool) (old new : NodeView) : Type 0 where
-  pub listened : Listened unheard old.journal new.journal old.told new.told
+pub record HearsNow (now : ℕ) (unheard : Bool) (old new : NodeView) : Type 0 where
+  pub listened : Listened now unheard old.journal new.journal old.told new.told
   pub failures : CountsIf unheard old.failures new.failures
   pub same : new ≡ record old { journal = new.journal; failures = new.failures; told = new.told }
 
--- Strokes were drawn.
-pub record DrawsNow (old new : NodeView) : Type 0 where
-  pub draws : Draws old.journal new.journal old.well new.well old.hand new.hand
+-- Strokes were drawn, as far as the rate lets them go.
+pub record DrawsNow (now : ℕ) (none_left : Bool) (old new : NodeView) : Type 0 where
+  pub drew : DrewStrokes now none_left old.journal new.journal old.well new.well old.hand new.hand
   pub same : new ≡ record old { journal = new.journal; well = new.well; hand = new.hand }
 
--- The member asked to leave, or not.
-pub record LeavesNow (old new : NodeView) : Type 0 where
-  pub leaves : Leaves old.journal new.journal
+-- The member asked to leave, or not; not while strokes are left.
+pub record LeavesNow (now : ℕ) (none_left : Bool) (old new : NodeView) : Type 0 where
+  pub leaves : Leaves now none_left old.journal new.journal
   pub same : new ≡ record old { journal = new.journal }
 
 -- The member ticked once. What the tick sends went to all other members, unless a call failed.
-pub record TicksNow (unsent : Bool) (old new : NodeView) : Type 0 where
+pub record TicksNow (now : ℕ) (unsent : Bool) (old new : NodeView) : Type 0 where
   pub outs : List Out
-  pub ticks : Ticks outs old.journal new.journal
+  pub ticks : Ticks now outs old.journal new.journal
   pub sends : Sends unsent (dispatched old.journal.start.config.me old.journal.start.config.members (map (λ (o : Out). o.bytes) outs)) old.failures new.failures old.told new.told
   pub same : new ≡ record old { journal = new.journal; failures = new.failures; told = new.told }
 
@@ -36,16 +36,19 @@ pub record GivesNow (below : ℕ) (old new : NodeView) : Type 0 where
   pub gives : GivesUpTo below old.journal new.journal old.feeds new.feeds
   pub same : new ≡ record old { journal = new.journal; feeds = new.feeds }
 
--- A turn: what came is heard, strokes are drawn, the member leaves if that is due, it ticks once, and all slots are served.
+-- A turn at the moment that the clock gave: what came is heard, strokes are drawn, the member leaves if that is due, it ticks once,
+-- and all slots are served.
 pub record Turned (unheard unsent : Bool) (old new : NodeView) : Type 0 where
+  pub now : ℕ
+  pub none_left : Bool
   pub heard : NodeView
   pub drawn : NodeView
   pub left : NodeView
   pub ticked : NodeView
-  pub hears : HearsNow unheard old heard
-  pub draws : DrawsNow heard drawn
-  pub leaves : LeavesNow drawn left
-  pub ticks : TicksNow unsent left ticked
+  pub hears : HearsNow now unheard old heard
+  pub draws : DrawsNow now none_left heard drawn
+  pub leaves : LeavesNow now none_left drawn left
+  pub ticks : TicksNow now unsent left ticked
   pub gives : GivesNow PAGES ticked new
 
 -- the turn was done to its end, though calls of the wire failed, whose count shows it
@@ -56,61 +59,73 @@ pub record TurnedDeaf (old new : NodeView) : Type 0 where
   pub failed : RoseOrFull old.failures new.failures
 
 -- Memory ran out while the node heard: what came last is lost.
-pub record HearsCut (old new : NodeView) : Type 0 where
-  pub listened : ListenedCut old.journal new.journal old.told new.told
+pub record HearsCut (now : ℕ) (old new : NodeView) : Type 0 where
+  pub listened : ListenedCut now old.journal new.journal old.told new.told
   pub failures : old.failures ≤ new.failures
   pub same : new ≡ record old { journal = new.journal; failures = new.failures; told = new.told }
 
 -- Memory ran out while it drew: the stroke is in hand.
-pub record DrawsCut (old new : NodeView) : Type 0 where
-  pub draws : DrawsNow old new
-  pub in_hand : is_some new.hand ≡ true
+pub record DrawsCut (now : ℕ) (old new : NodeView) : Type 0 where
+  pub drew : DrewStrokesCut now old.journal new.journal old.well new.well old.hand new.hand
+  pub same : new ≡ record old { journal = new.journal; well = new.well; hand = new.hand }
 
 -- Memory ran out while it gave: no message of that slot was given for which it did.
 pub record GivesCut (old new : NodeView) : Type 0 where
   pub gives : GaveSome old.journal new.journal old.feeds new.feeds
   pub same : new ≡ record old { journal = new.journal; feeds = new.feeds }
 
--- the turn was cut in its second part
+-- the turn was cut in its first part
+pub record CutHearing (old new : NodeView) : Type 0 where
+  pub now : ℕ
+  pub hears : HearsCut now old new
+
+-- in its second
 pub record CutDrawing (old new : NodeView) : Type 0 where
+  pub now : ℕ
   pub unheard : Bool
   pub heard : NodeView
-  pub hears : HearsNow unheard old heard
-  pub draws : DrawsCut heard new
+  pub hears : HearsNow now unheard old heard
+  pub draws : DrawsCut now heard new
 
 -- in its third, of which nothing was done
 pub record CutLeaving (old new : NodeView) : Type 0 where
+  pub now : ℕ
+  pub none_left : Bool
   pub unheard : Bool
   pub heard : NodeView
-  pub hears : HearsNow unheard old heard
-  pub draws : DrawsNow heard new
+  pub hears : HearsNow now unheard old heard
+  pub draws : DrawsNow now none_left heard new
 
 -- in its fourth, of which nothing was done
 pub record CutTicking (old new : NodeView) : Type 0 where
+  pub now : ℕ
+  pub none_left : Bool
   pub unheard : Bool
   pub heard : NodeView
   pub drawn : NodeView
-  pub hears : HearsNow unheard old heard
-  pub draws : DrawsNow heard drawn
-  pub leaves : LeavesNow drawn new
+  pub hears : HearsNow now unheard old heard
+  pub draws : DrawsNow now none_left heard drawn
+  pub leaves : LeavesNow now none_left drawn new
 
 -- in its last
 pub record CutGiving (old new : NodeView) : Type 0 where
+  pub now : ℕ
+  pub none_left : Bool
   pub unheard : Bool
   pub unsent : Bool
   pub heard : NodeView
   pub drawn : NodeView
   pub left : NodeView
   pub ticked : NodeView
-  pub hears : HearsNow unheard old heard
-  pub draws : DrawsNow heard drawn
-  pub leaves : LeavesNow drawn left
-  pub ticks : TicksNow unsent left ticked
+  pub hears : HearsNow now unheard old heard
+  pub draws : DrawsNow now none_left heard drawn
+  pub leaves : LeavesNow now none_left drawn left
+  pub ticks : TicksNow now unsent left ticked
   pub gives : GivesCut ticked new
 
 -- The turn was cut by want of memory, in one of its parts. The parts before were done, each as in a whole turn.
 abbrev pub IsCut : NodeView → NodeView → Type 0
-IsCut old new = HearsCut old new ⊎ CutDrawing old new ⊎ CutLeaving old new ⊎ CutTicking old new ⊎ CutGiving old new
+IsCut old new = CutHearing old new ⊎ CutDrawing old new ⊎ CutLeaving old new ⊎ CutTicking old new ⊎ CutGiving old new
 
 abbrev pub TurnEnds : Result (Unit {0}) NodeFault → NodeView → NodeView → Type 0
 TurnEnds (Ok _) old new = Turned false false old new

@@ -1,9 +1,9 @@
 //! Drawing what the pens sent.
 
-ghost use Rattle.std.specs.Prelude.{◌≡◌, ◌≤◌, true, [], ◌∷◌, option_to_list, is_some, IfErr};
+ghost use Rattle.std.specs.Prelude.{◌≡◌, ◌≤◌, true, option_to_list, MatchResult};
 ghost use Rattle.srm_names.specs.declared.limits.TheConstants.{MOMENT};
 ghost use Rattle.srm_world.specs.Claims.{IsLawfulJournal};
-ghost use Rattle.srm_node.specs.Parts.{Pops, DrawsOf, Draws};
+ghost use Rattle.srm_node.specs.Parts.{Pops, IsAdmitted, DrawsOne, DrewStrokes, DrewStrokesCut};
 
 use crate::fault::{OutOfMemory, is_memory};
 use crate::limits::DRAWN;
@@ -13,32 +13,60 @@ use srm_timers::Words;
 use srm_world::Recorder;
 use std::sync::Wait;
 
-/// Draws up to 64 strokes, the one in hand first. Answers the stroke that is then in hand, which memory was refused for, and whether the
-/// well was empty. A stroke that is refused for another cause is dropped.
+/// What a turn drew: how many strokes, and whether none was left, in the well or in hand.
+#[derive(Clone, Copy)]
+pub struct Drawn {
+    pub count: u8,
+    pub none_left: bool,
+}
+
+/// Draws up to 64 strokes, the one in hand first, as long as the rate lets their datagrams go at once. Answers the stroke that is then in
+/// hand: one that the rate keeps back, or for which memory was refused. A stroke that is refused for another cause is dropped.
 pub fn draw_strokes<R: Wait, W: Words + Drop>(
     rt: &R,
     recorder: &mut Recorder<W>,
     well: &mut Well,
     hand: Option<Stroke>,
     now: u64,
-) -> (Option<Stroke>, Result<bool, OutOfMemory>)
+) -> (Option<Stroke>, Result<Drawn, OutOfMemory>)
     requires moment { now ≤ MOMENT }
     requires lawful { IsLawfulJournal recorder.old.journal }
     ensures lawful { IsLawfulJournal recorder.new.journal }
-    ensures draws { Draws recorder.old.journal recorder.new.journal well.old well.new hand result.0 }
-    ensures kept { IfErr result.1 (λ _. is_some result.0 ≡ true) }
+    ensures draws { MatchResult result.1 (λ drawn. DrewStrokes now drawn.none_left recorder.old.journal recorder.new.journal well.old well.new hand result.0)
+        (λ _. DrewStrokesCut now recorder.old.journal recorder.new.journal well.old well.new hand result.0) }
 {
     let mut kept = hand;
-    for done in 0..DRAWN {
+    for count in 0..DRAWN {
         let Some(stroke) = next_stroke(rt, well, kept) else {
-            return (None, Ok(true));
+            return (
+                None,
+                Ok(Drawn {
+                    count,
+                    none_left: true,
+                }),
+            );
         };
-        kept = draw_stroke(recorder, stroke, now);
-        if kept.is_some() {
-            return (kept, Err(OutOfMemory));
+        if !is_admitted(recorder, &stroke, now) {
+            return (
+                Some(stroke),
+                Ok(Drawn {
+                    count,
+                    none_left: false,
+                }),
+            );
         }
+        let Ok(()) = draw_stroke(recorder, &stroke, now) else {
+            return (Some(stroke), Err(OutOfMemory));
+        };
+        kept = None;
     }
-    (kept, Ok(false))
+    (
+        None,
+        Ok(Drawn {
+            count: DRAWN,
+            none_left: false,
+        }),
+    )
 }
 
 // The stroke in hand, if there is one, else the front one of the well.
@@ -51,22 +79,36 @@ fn next_stroke<R: Wait>(rt: &R, well: &mut Well, hand: Option<Stroke>) -> Option
     }
 }
 
-// Draws a stroke. It comes back where memory ran out.
+// Whether the rate lets a stroke's datagram go at once.
+fn is_admitted<W: Words + Drop>(recorder: &Recorder<W>, stroke: &Stroke, now: u64) -> bool
+    ensures { IsAdmitted now recorder.now.journal stroke.now result }
+{
+    recorder.admits_draw(stroke.body.len(), now)
+}
+
+// Draws a stroke that is admitted. Only want of memory keeps it back.
 fn draw_stroke<W: Words + Drop>(
     recorder: &mut Recorder<W>,
-    stroke: Stroke,
+    stroke: &Stroke,
     now: u64,
-) -> Option<Stroke>
+) -> Result<(), OutOfMemory>
     requires moment { now ≤ MOMENT }
     requires lawful { IsLawfulJournal recorder.old.journal }
+    requires admitted { IsAdmitted now recorder.old.journal stroke.now true }
     ensures lawful { IsLawfulJournal recorder.new.journal }
-    ensures draws { DrawsOf (stroke ∷ []) (option_to_list result) recorder.old.journal recorder.new.journal }
+    ensures draws { MatchResult result (λ _. DrawsOne now stroke.now recorder.old.journal recorder.new.journal) (λ _. recorder.new.journal ≡ recorder.old.journal) }
 {
     let Ok(body) = stroke.body.clone() else {
-        return Some(stroke);
+        return Err(OutOfMemory);
     };
     match recorder.draw(stroke.page, body, now) {
-        Ok(_) => None,
-        Err(fault) => { if is_memory(fault) { Some(stroke) } else { None } }
+        Ok(_) => Ok(()),
+        Err(fault) => {
+            if is_memory(fault) {
+                Err(OutOfMemory)
+            } else {
+                Ok(())
+            }
+        }
     }
 }

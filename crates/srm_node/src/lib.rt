@@ -10,6 +10,7 @@ mod hosting;
 mod limits;
 mod listening;
 mod node;
+mod pausing;
 mod sending;
 mod sink;
 mod ticking;

@@ -12,31 +12,47 @@ use srm_timers::Words;
 use srm_wire::Wire;
 use srm_world::Recorder;
 
-/// Hears what came: up to 64 datagrams, until none is there or a receive fails. Whether one failed. Where memory runs out, a datagram
-/// in hand counts as lost.
+/// What a turn heard: how many datagrams, and whether a receive failed.
+#[derive(Clone, Copy)]
+pub struct Listening {
+    pub count: u8,
+    pub failed: bool,
+}
+
+/// Hears what came: up to 64 datagrams, until none is there or a receive fails. Where memory runs out, a datagram in hand counts as
+/// lost.
 pub fn listen<W: Words + Drop, X: Wire>(
     recorder: &mut Recorder<W>,
     wire: &mut X,
     buffer: &mut [u8],
     now: u64,
-) -> Result<bool, OutOfMemory>
+) -> Result<Listening, OutOfMemory>
     requires moment { now ≤ MOMENT }
     requires lawful { IsLawfulJournal recorder.old.journal }
     ensures lawful { IsLawfulJournal recorder.new.journal }
-    ensures failures { MatchResult result (λ failed. CountsIf failed (X.failed wire.old) (X.failed wire.new)) (λ _. CountsIf false (X.failed wire.old) (X.failed wire.new)) }
-    ensures hears { MatchResult result (λ failed. Listened failed recorder.old.journal recorder.new.journal (X.told wire.old) (X.told wire.new))
-        (λ _. ListenedCut recorder.old.journal recorder.new.journal (X.told wire.old) (X.told wire.new)) }
+    ensures failures { MatchResult result (λ heard. CountsIf heard.failed (X.failed wire.old) (X.failed wire.new)) (λ _. CountsIf false (X.failed wire.old) (X.failed wire.new)) }
+    ensures hears { MatchResult result (λ heard. Listened now heard.failed recorder.old.journal recorder.new.journal (X.told wire.old) (X.told wire.new))
+        (λ _. ListenedCut now recorder.old.journal recorder.new.journal (X.told wire.old) (X.told wire.new)) }
 {
-    for done in 0..RECEIVED {
+    for count in 0..RECEIVED {
         match wire.receive(buffer) {
-            Err(_) => return Ok(true),
-            Ok(None) => return Ok(false),
-            Ok(Some(count)) => {
-                let Ok(_) = recorder.hear(&buffer[..count], now) else {
+            Err(_) => return Ok(Listening {
+                count,
+                failed: true,
+            }),
+            Ok(None) => return Ok(Listening {
+                count,
+                failed: false,
+            }),
+            Ok(Some(length)) => {
+                let Ok(_) = recorder.hear(&buffer[..length], now) else {
                     return Err(OutOfMemory);
                 };
             }
         }
     }
-    Ok(false)
+    Ok(Listening {
+        count: RECEIVED,
+        failed: false,
+    })
 }

@@ -11,8 +11,9 @@ use crate::counting::{Counts, counts_in};
 use crate::drawing::draw_strokes;
 use crate::fault::{NodeFault, OutOfMemory};
 use crate::giving::give_all;
-use crate::limits::BUFFER;
+use crate::limits::{BUFFER, DRAWN, RECEIVED};
 use crate::listening::listen;
+use crate::pausing::{earlier, time_to_wait};
 use crate::sending::send_all;
 use crate::ticking::{leave, tick};
 use srm_agent::{AgentState, Config};
@@ -42,6 +43,9 @@ pub struct Node<W: Words + Drop, X: Wire + Drop, C: Clock + Drop> {
     // Whether the member is gone, and how many lanes had their close.
     gone: bool,
     closed: u8,
+    // How many datagrams the last turn heard, and how many strokes it drew.
+    heard: u8,
+    drawn: u8,
 }
 
 impl<W: Words + Drop, X: Wire + Drop, C: Clock + Drop> Model for Node<W, X, C> {
@@ -98,18 +102,22 @@ impl<W: Words + Drop, X: Wire + Drop, C: Clock + Drop> Node<W, X, C> {
             leave_at: None,
             gone: false,
             closed: 0,
+            // As after a full turn: the first one comes at once.
+            heard: RECEIVED,
+            drawn: DRAWN,
         })
     }
 
-    /// The node leaves at the first turn at or after this moment whose well is empty and whose pens are done.
+    /// The node leaves at the first turn at or after this moment that leaves no stroke in the well or in hand, and whose pens are done.
     pub fn ask_leave(&mut self, at: u64)
         ensures { self.new ≡ self.old }
     {
         self.leave_at = Some(at);
     }
 
-    /// One turn: the clock is read; what came is heard, up to 64 datagrams; up to 64 strokes are drawn; the member leaves if that is due; it ticks
-    /// once, and what the tick sends goes to every other member, rising; and each slot is given while there is credit.
+    /// One turn: the clock is read; what came is heard, up to 64 datagrams; up to 64 strokes are drawn, as long as the rate lets their datagrams
+    /// go at once; the member leaves if that is due and no stroke is left; it ticks once, and what the tick sends goes to every other member,
+    /// rising; and each slot is given while there is credit. A stroke that the rate keeps back is in hand for the next turn.
     ///
     /// After fault 1, by which a call of the wire failed, the turn was done to its end, and what couldn't be sent counts as lost. After
     /// fault 2 it was cut in one of its parts, and the parts before were done: a stroke in hand is kept for the next turn, a datagram in
@@ -123,10 +131,10 @@ impl<W: Words + Drop, X: Wire + Drop, C: Clock + Drop> Node<W, X, C> {
             return Err(NodeFault::Memory);
         };
         let done = self.well.is_done();
-        let Ok(empty) = self.draw_now(rt, now) else {
+        let Ok(none_left) = self.draw_now(rt, now) else {
             return Err(NodeFault::Memory);
         };
-        let Ok(()) = self.leave_now(done && empty, now) else {
+        let Ok(()) = self.leave_now(done, none_left, now) else {
             return Err(NodeFault::Memory);
         };
         let Ok(unsent) = self.tick_now(now) else {
@@ -157,8 +165,10 @@ impl<W: Words + Drop, X: Wire + Drop, C: Clock + Drop> Node<W, X, C> {
         (self.recorder.finish(), self.feeds)
     }
 
-    /// Turns, with a pause until something is due, of at most 10,000 microseconds, between, until the member is gone and each lane had its
-    /// close or lost its tap. It stops at the first fault, and may be called again. Fault 3: the turns are spent.
+    /// Turns, with a pause before each but a node's first, until the member is gone and each lane had its close or lost its tap. A pause lasts until something is due
+    /// or the rate lets the stroke in hand go, at most 10,000 microseconds; after a turn that neither heard nor drew anything it takes at
+    /// least 1,000, and after one that heard or drew 64 there is none. It stops at the first fault, and may be called again. Fault 3:
+    /// the turns are spent.
     pub fn run<R: Wait>(&mut self, rt: &R, turns: u64) -> Result<(), NodeFault>
         ensures keeps { Keeps self.new }
         ensures runs { RunEnds result turns self.old self.new }
@@ -168,7 +178,7 @@ impl<W: Words + Drop, X: Wire + Drop, C: Clock + Drop> Node<W, X, C> {
             if self.is_ended() {
                 return Ok(());
             }
-            self.pause(done > 0);
+            self.pause();
             self.turn(rt)?;
         }
         if self.is_ended() {
@@ -184,52 +194,70 @@ impl<W: Words + Drop, X: Wire + Drop, C: Clock + Drop> Node<W, X, C> {
         self.gone && lost.saturating_add(usize::from(self.closed)) >= usize::from(PAGES)
     }
 
-    // Waits until something is due, but not long.
-    fn pause(&mut self, waits: bool)
+    // Waits until something is due or the stroke in hand may go, but not long.
+    fn pause(&mut self)
         ensures keeps { Keeps self.new }
         ensures paused { Paused self.old self.new }
     {
         let now = self.clock.now().min(MOMENT);
-        let micros = time_to_wait(self.recorder.next_due(), now, waits);
+        let due = earlier(self.recorder.next_due(), self.hand_due());
+        let micros = time_to_wait(self.heard, self.drawn, due, now);
         self.wire.pause(micros);
+    }
+
+    // The moment from which the rate lets the stroke in hand go.
+    fn hand_due(&self) -> Option<u64> {
+        match &self.hand {
+            Some(stroke) => self.recorder.admits_draw_from(stroke.body.len()),
+            None => None,
+        }
     }
 
     // Hears what came. Whether a call failed.
     fn listen_now(&mut self, now: u64) -> Result<bool, OutOfMemory>
         requires { now ≤ MOMENT }
         ensures keeps { Keeps self.new }
-        ensures hears { MatchResult result (λ unheard. HearsNow unheard self.old self.new) (λ _. HearsCut self.old self.new) }
+        ensures hears { MatchResult result (λ unheard. HearsNow now unheard self.old self.new) (λ _. HearsCut now self.old self.new) }
     {
-        listen(
+        let listened = listen(
             &mut self.recorder,
             &mut self.wire,
             self.buffer.as_mut_slice(),
             now,
-        )
+        );
+        let Ok(listening) = listened else {
+            return Err(OutOfMemory);
+        };
+        self.heard = listening.count;
+        Ok(listening.failed)
     }
 
-    // Draws strokes. Whether the well was empty.
+    // Draws strokes, as far as the rate lets them go. Whether none is left.
     fn draw_now<R: Wait>(&mut self, rt: &R, now: u64) -> Result<bool, OutOfMemory>
         requires { now ≤ MOMENT }
         ensures keeps { Keeps self.new }
-        ensures draws { MatchResult result (λ _. DrawsNow self.old self.new) (λ _. DrawsCut self.old self.new) }
+        ensures draws { MatchResult result (λ none_left. DrawsNow now none_left self.old self.new) (λ _. DrawsCut now self.old self.new) }
     {
         let hand = self.hand.take();
-        let (kept, drawn) = draw_strokes(rt, &mut self.recorder, &mut self.well, hand, now);
+        let (kept, drew) = draw_strokes(rt, &mut self.recorder, &mut self.well, hand, now);
         self.hand = kept;
-        drawn
+        let Ok(drawn) = drew else {
+            return Err(OutOfMemory);
+        };
+        self.drawn = drawn.count;
+        Ok(drawn.none_left)
     }
 
-    // Leaves if the node was asked to by now, and may.
-    fn leave_now(&mut self, may: bool, now: u64) -> Result<(), OutOfMemory>
+    // Leaves if the node was asked to by now, its pens are done, and no stroke is left.
+    fn leave_now(&mut self, done: bool, none_left: bool, now: u64) -> Result<(), OutOfMemory>
         requires { now ≤ MOMENT }
         ensures keeps { Keeps self.new }
-        ensures leaves { MatchResult result (λ _. LeavesNow self.old self.new) (λ _. self.new ≡ self.old) }
+        ensures leaves { MatchResult result (λ _. LeavesNow now none_left self.old self.new) (λ _. self.new ≡ self.old) }
     {
         let asked = self.leave_at;
-        let due = may && is_due(asked, now);
-        let left = leave(&mut self.recorder, due, now);
-        self.leave_at = still_asked(asked, due && left.is_ok());
+        let due = done && is_due(asked, now);
+        let left = leave(&mut self.recorder, none_left, due, now);
+        self.leave_at = still_asked(asked, none_left && due && left.is_ok());
         left
     }
 
@@ -237,7 +265,7 @@ impl<W: Words + Drop, X: Wire + Drop, C: Clock + Drop> Node<W, X, C> {
     fn tick_now(&mut self, now: u64) -> Result<bool, OutOfMemory>
         requires { now ≤ MOMENT }
         ensures keeps { Keeps self.new }
-        ensures ticks { MatchResult result (λ unsent. TicksNow unsent self.old self.new) (λ _. self.new ≡ self.old) }
+        ensures ticks { MatchResult result (λ unsent. TicksNow now unsent self.old self.new) (λ _. self.new ≡ self.old) }
     {
         let Ok(ticked) = tick(&mut self.recorder, now) else {
             return Err(OutOfMemory);
@@ -273,15 +301,4 @@ fn still_asked(asked: Option<u64>, left: bool) -> Option<u64> {
 
 fn is_gone(state: AgentState) -> bool {
     matches!(state, AgentState::Gone)
-}
-
-// The longest pause between two turns, in microseconds.
-const LONGEST_PAUSE: u64 = 10_000;
-
-fn time_to_wait(due: Option<u64>, now: u64, waits: bool) -> u64 {
-    match due {
-        _ if !waits => 0,
-        Some(due) => due.saturating_sub(now).min(LONGEST_PAUSE),
-        None => LONGEST_PAUSE,
-    }
 }

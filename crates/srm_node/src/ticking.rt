@@ -14,7 +14,7 @@ use srm_world::Recorder;
 pub fn tick<W: Words + Drop>(recorder: &mut Recorder<W>, now: u64) -> Result<Ticked, OutOfMemory>
     requires { now ≤ MOMENT }
     ensures lawful { IsLawfulJournal recorder.new.journal }
-    ensures ticks { MatchResult result (λ ticked. Ticks ticked.outs recorder.old.journal recorder.new.journal) (λ _. recorder.new.journal ≡ recorder.old.journal) }
+    ensures ticks { MatchResult result (λ ticked. Ticks now ticked.outs recorder.old.journal recorder.new.journal) (λ _. recorder.new.journal ≡ recorder.old.journal) }
 {
     match recorder.tick(now) {
         Ok(ticked) => Ok(ticked),
@@ -22,17 +22,21 @@ pub fn tick<W: Words + Drop>(recorder: &mut Recorder<W>, now: u64) -> Result<Tic
     }
 }
 
-/// Asks to leave where that is due. A refusal for another cause than memory has its entry.
+/// Asks to leave where that is due and no stroke is left. A refusal for another cause than memory has its entry.
 pub fn leave<W: Words + Drop>(
     recorder: &mut Recorder<W>,
+    none_left: bool,
     due: bool,
     now: u64,
 ) -> Result<(), OutOfMemory>
     requires moment { now ≤ MOMENT }
     requires lawful { IsLawfulJournal recorder.old.journal }
     ensures lawful { IsLawfulJournal recorder.new.journal }
-    ensures leaves { MatchResult result (λ _. Leaves recorder.old.journal recorder.new.journal) (λ _. recorder.new.journal ≡ recorder.old.journal) }
+    ensures leaves { MatchResult result (λ _. Leaves now none_left recorder.old.journal recorder.new.journal) (λ _. recorder.new.journal ≡ recorder.old.journal) }
 {
+    if !none_left {
+        return Ok(());
+    }
     if !due {
         return Ok(());
     }

@@ -1,0 +1,60 @@
+-- The drawing and the leaving of a turn, at worked examples.
+use Rattle.std.specs.Prelude.{◌≡◌, ℕ, Bool, true, false, List, [], ◌∷◌, ◌++◌, Option, Some, None, replicate, refl}
+use Rattle.std.proofs.Common.{arith}
+use Rattle.srm_names.specs.Names.{first_page}
+use Rattle.srm_pages.specs.declared.stroke.Stroke.{Stroke}
+use Rattle.srm_pages.specs.Ends.{WellView}
+use Rattle.srm_entries.specs.declared.entry.Entry.{Entry}
+use Rattle.srm_entries.specs.declared.entry.Input.TheVariants.{AskedLeave}
+use Rattle.srm_entries.specs.declared.state.AgentState.TheVariants.{Active}
+use Rattle.srm_entries.specs.declared.state.AgentState.TheVariants as states
+use Rattle.srm_entries.specs.Sample.{in_roster, drawop_of, draws, entry, quiet}
+use Rattle.srm_world.specs.Traces.{Journal}
+use Rattle.srm_node.specs.Parts.{IsAt, IsAdmitted, Draws, DrawingEnds, Leaves}
+
+-- a member with a bucket of 1,051 bytes, which is one full datagram
+abbrev journal : List Entry → Journal
+journal es = record { start = record { config = in_roster 0 2 1051; made = 3 }; entries = es }
+
+-- the clock tells 5, and then 2, which counts as 5
+abbrev first_drawn : Entry
+first_drawn = draws 0 5 (drawop_of 1 1 (replicate 1024 7))
+
+abbrev asked : Entry
+asked = entry 0 5 AskedLeave (quiet states.Leaving)
+
+at_the_clock : IsAt 5 (journal []) first_drawn
+at_the_clock = refl
+
+not_earlier : IsAt 2 (journal (first_drawn ∷ [])) asked
+not_earlier = refl
+
+-- a full stroke, and one of 1 byte
+abbrev full : Stroke
+full = record { pen = 0; page = first_page; body = replicate 1024 7 }
+
+abbrev short : Stroke
+short = record { pen = 0; page = first_page; body = 7 ∷ [] }
+
+-- nothing waits, and so the first is admitted
+first_admitted : IsAdmitted 5 (journal []) full true
+first_admitted = record { marked = ([], refl, tt, tt); is = refl }
+
+-- a turn that takes both out of the well has drawn the first, and the second is in hand
+abbrev after : WellView → WellView
+after w = record w { received = w.received ++ full ∷ short ∷ [] }
+
+draws_one : (w : WellView) → Draws 5 1 (journal []) (journal (first_drawn ∷ [])) w (after w) None (Some short)
+draws_one w = record {
+  all = full ∷ short ∷ [];
+  pops = record { popped = full ∷ short ∷ []; received = refl; all_is = refl };
+  draws = record { strokes = full ∷ []; entries = first_drawn ∷ []; counted = refl; grown = refl; each = (record { moment = refl; input = refl; admitted = first_admitted }, tt); all_is = refl };
+}
+
+-- with one in hand it ends only where that isn't admitted
+not_while_admitted : DrawingEnds 5 0 false (journal []) (Some full) ≡ ((false ≡ false) × IsAdmitted 5 (journal []) full false)
+not_while_admitted = refl
+
+-- a member leaves where none is left
+leaves_then : Leaves 2 true (journal (first_drawn ∷ [])) (journal (first_drawn ∷ asked ∷ []))
+leaves_then = record { entries = asked ∷ []; grown = refl; moments = (refl, tt); once = omega arith; inputs = (refl, tt); waits = tt }
