@@ -9,8 +9,6 @@ mod admitting;
 #[cfg(test)]
 mod faults;
 #[cfg(test)]
-mod hearing_all;
-#[cfg(test)]
 mod lines;
 #[cfg(test)]
 mod reading;
