@@ -16,7 +16,7 @@ mod ticking;
 
 use srm_entries::Config;
 use srm_names::Name;
-use srm_timers::{Arm, Asks, Fixes, Ordered, TimerFault, Words};
+use srm_timers::{Arm, Asks, Fixes, TimerFault, Tree, Words};
 use std::alloc::{AllocError, Global};
 use std::marker::Model;
 
@@ -26,8 +26,8 @@ use std::marker::Model;
 #[derive(Drop)]
 pub struct Timers {
     alloc: Global,
-    asks: Asks<Ordered>,
-    fixes: Fixes<Ordered>,
+    asks: Asks<Tree>,
+    fixes: Fixes<Tree>,
 }
 
 impl Model for Timers {
@@ -46,8 +46,8 @@ impl Timers {
     {
         Timers {
             alloc,
-            asks: Asks::new(alloc, Ordered::new(alloc), config.c1(), config.c2()),
-            fixes: Fixes::new(alloc, Ordered::new(alloc), config.d1(), config.d2()),
+            asks: Asks::new(alloc, Tree::new(alloc), config.c1(), config.c2()),
+            fixes: Fixes::new(alloc, Tree::new(alloc), config.d1(), config.d2()),
         }
     }
 

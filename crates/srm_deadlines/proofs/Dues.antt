@@ -121,7 +121,7 @@ pub among_names : (xs : List Timed) (n : FullName) → among (names_of xs) n ≡
 among_names [] n = refl
 among_names (x ∷ xs) n = ap (λ b. same_name n x.name || b) (among_names xs n)
 
-names_counted : (xs : List Timed) (n : FullName) → length (filter (same_name n) (names_of xs)) ≡ length (of_name n xs)
+pub names_counted : (xs : List Timed) (n : FullName) → length (filter (same_name n) (names_of xs)) ≡ length (of_name n xs)
 names_counted [] n = refl
 names_counted (x ∷ xs) n = go (same_name n x.name) (names_counted xs n)
   where
@@ -141,7 +141,7 @@ fewer p q (x ∷ xs) = go (p x) refl (q x) (fewer p q xs)
     go false e false h = h
 
 -- names that are sorted and stand once each rise
-rise : (ns : List FullName) → IsSorted name_order ns → ((n : FullName) → length (filter (same_name n) ns) ≤ 1) → ascending name_below ns ≡ true
+pub rise : (ns : List FullName) → IsSorted name_order ns → ((n : FullName) → length (filter (same_name n) ns) ≤ 1) → ascending name_below ns ≡ true
 rise [] sorted once = refl
 rise (a ∷ []) sorted once = refl
 rise (a ∷ b ∷ ns) sorted once = ap (λ c. c && ascending name_below (b ∷ ns)) first ∙ rise (b ∷ ns) tail shorter

@@ -15,7 +15,7 @@ use Rattle.srm_deadlines.specs.Places.{is_timed, is_at, names_of, has_place, val
 use Rattle.srm_deadlines.specs.Deadlines.{has_come, DueAmong, DueFit}
 use Rattle.srm_deadlines.specs.Agenda.{of_name, is_due, PairsFit}
 use Rattle.srm_deadlines.proofs.Agendas.{there_is_room, none_among, rising_once, short_of}
-use Rattle.srm_deadlines.proofs.Dues.{front_passes, any_both, among_names, fewer}
+use Rattle.srm_deadlines.proofs.Dues.{front_passes, any_both, among_names, names_counted, fewer}
 use Rattle.srm_deadlines.proofs.Looking.{DueSoFar}
 use Rattle.srm_deadlines.proofs.Order.{take_drop, map_take}
 
@@ -44,6 +44,14 @@ no_more pairs all once inside =
     let k : length pairs ≤ length (map as_place all) = there_is_room (map as_place all) pairs once
     (λ n without. none_among pairs n (not_both (among (names_of pairs) n) (among all n) (inside n) (sym (placed all n) ∙ without))) in
     omega (arith, length-map all as_place)
+
+-- the same of names
+pub once_no_more : (names all : List FullName) → ((n : FullName) → length (filter (same_name n) names) ≤ 1) → ((n : FullName) → among names n ≡ true → among all n ≡ true) → length names ≤ length all
+once_no_more names all once inside =
+    let k : length (map as_timed names) ≤ length all = no_more (map as_timed names) all
+    (λ n. subst (λ l. l ≤ 1) (sym (ap (λ ns. length (filter (same_name n) ns)) (named names)) ∙ names_counted (map as_timed names) n) (once n))
+    (λ n at. inside n (ap (λ ns. among ns n) (sym (named names)) ∙ at)) in
+    omega (arith, length-map names as_timed)
 
 -- the front of an agenda
 pub front_fits : (now : ℕ) (pairs : List Timed) (count room : ℕ) → ((n : FullName) → length (of_name n pairs) ≤ 1) → count ≤ length pairs

@@ -1,6 +1,8 @@
 pub mod Same
 pub mod Tables
 pub mod Order
+pub mod Rows
+pub mod Puts
 pub mod Looking
 pub mod Moments
 pub mod Orders
@@ -8,3 +10,4 @@ pub mod Agendas
 pub mod Dues
 pub mod Following
 pub mod Fitting
+pub mod Found

@@ -1,6 +1,6 @@
 -- The definitions at worked examples.
 use Rattle.std.specs.Prelude.{◌≡◌, ℕ, ◌≤◌, Bool, true, false, ◌||◌, cond, if◌then◌else◌, List, [], ◌∷◌, Option, Some, None, IfSome, option_map, refl}
-use Rattle.std.proofs.Common.{arith}
+use Rattle.std.proofs.Common.{arith, zero, suc, ◌+◌, ◌*◌, ◌<◌}
 use Rattle.std.specs.declared.cmp.Ordering.TheVariants.{Less, Equal, Greater}
 use Rattle.srm_names.specs.FullName.{FullName}
 use Rattle.srm_names.specs.Histories.{or_else}
@@ -10,6 +10,7 @@ use Rattle.srm_deadlines.specs.declared.timed.Timed.{Timed}
 use Rattle.srm_deadlines.specs.Agenda.{timed_order, of_name, timed_for, timed_among, is_due}
 use Rattle.srm_deadlines.specs.Deadlines.{has_come, DueAmong, DueFit}
 use Rattle.srm_deadlines.specs.Least.{lesser}
+use Rattle.srm_deadlines.specs.Rows.{item_at, values_of, due_in, IsUnder, IsLeastIn, IsFirstIn, AreLeasts, Stands}
 use Rattle.srm_deadlines.specs.Places.{value_in, value_at, has_place, moment_among, Holds, GivesPlaces, Keeps, Sets, SetsAll, ClearsAll, HasPlaces, IsLeast, place_names}
 
 -- ---- places: three names, of which the second has no moment, and a fourth without a place
@@ -213,3 +214,81 @@ none_is_least_of_none = record { none = λ h n. go (same_name n one); is_one = t
     go : (b : Bool) → value_in (cond b (Some empty) None) ≡ None
     go true = refl
     go false = refl
+
+-- ---- moments in a row
+
+abbrev row : List (Option ℕ)
+row = Some 40 ∷ None ∷ Some 30 ∷ []
+
+stands_there : item_at row 2 ≡ Some 30
+stands_there = refl
+
+nothing_past_the_end : item_at row 3 ≡ None
+nothing_past_the_end = refl
+
+values_in_their_order : values_of places ≡ row
+values_in_their_order = refl
+
+due_of_the_row : due_in 30 places ≡ name 1 1 ∷ []
+due_of_the_row = refl
+
+due_in_the_order_of_places : due_in 40 places ≡ name 0 1 ∷ name 1 1 ∷ []
+due_in_the_order_of_places = refl
+
+less_is_under : IsUnder (Some 30) (Some 40)
+less_is_under = omega arith
+
+more_is_not_under : IsUnder (Some 40) (Some 30) → ⊥
+more_is_not_under h = let k : 40 ≤ 30 = h in absurd (omega arith)
+
+none_is_under_none_alone : IsUnder None (Some 30) → ⊥
+none_is_under_none_alone h = h
+
+-- from the second on the third is the least and the first that has come
+least_of_two : IsLeastIn row 1 3 (Some 30)
+least_of_two = record { under = λ i from below. go i from below; is_one = λ t e. (2, omega arith, omega arith, e) }
+  where
+    go : (i : ℕ) → 1 ≤ i → i < 3 → IsUnder (Some 30) (item_at row i)
+    go zero from below = absurd (omega arith)
+    go (suc zero) from below = tt
+    go (suc (suc zero)) from below = omega arith
+    go (suc (suc (suc i))) from below = absurd (omega arith)
+
+not_the_first_of_all : IsFirstIn 40 row 0 3 (Some 2) → ⊥
+not_the_first_of_all h = absurd (let k : true ≡ false = h.before 2 refl 0 (omega arith) (omega arith) in cc)
+
+longer_row_stands : Stands (Some 40 ∷ None ∷ Some 30 ∷ None ∷ []) places
+longer_row_stands = record { each = go; long = omega arith }
+  where
+    go : (i : ℕ) → item_at (Some 40 ∷ None ∷ Some 30 ∷ None ∷ []) i ≡ item_at row i
+    go zero = refl
+    go (suc zero) = refl
+    go (suc (suc zero)) = refl
+    go (suc (suc (suc zero))) = refl
+    go (suc (suc (suc (suc i)))) = refl
+
+another_moment_does_not : Stands (Some 41 ∷ None ∷ Some 30 ∷ []) places → ⊥
+another_moment_does_not h = absurd (let k : Some 41 ≡ Some 40 = h.each 0 in cc)
+
+-- three moments make one block, and its least stands above
+one_block : AreLeasts (Some 30 ∷ []) row
+one_block = record { covers = omega arith; each = go }
+  where
+    first : (i : ℕ) → IsUnder (Some 30) (item_at row i)
+    first zero = omega arith
+    first (suc zero) = tt
+    first (suc (suc zero)) = omega arith
+    first (suc (suc (suc i))) = tt
+
+    later : (j i : ℕ) → 16 * suc j ≤ i → IsUnder None (item_at row i)
+    later j zero from = absurd (omega arith)
+    later j (suc zero) from = tt
+    later j (suc (suc zero)) from = absurd (omega arith)
+    later j (suc (suc (suc i))) from = tt
+
+    go : (j : ℕ) → IsLeastIn row (16 * j) (16 * j + 16) (item_at (Some 30 ∷ []) j)
+    go zero = record { under = λ i from below. first i; is_one = λ t e. (2, omega arith, omega arith, e) }
+    go (suc j) = record { under = λ i from below. later j i from; is_one = λ t e. absurd (let k : None ≡ Some t = e in cc) }
+
+not_a_greater : AreLeasts (Some 40 ∷ []) row → ⊥
+not_a_greater h = let k : 40 ≤ 30 = (h.each 0).under 2 (omega arith) (omega arith) in absurd (omega arith)

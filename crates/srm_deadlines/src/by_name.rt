@@ -1,9 +1,10 @@
 //! Values by name.
 
-ghost use Rattle.std.specs.Prelude.{◌≡◌, ℕ, ◌≤◌, ◌<◌, ◌+◌, ◌^◌, List, [], ◌∷◌, Bool, true, OnOk, OnErr, IsOk, length, slice_index_or, Some, None};
+ghost use Rattle.std.specs.Prelude.{◌≡◌, ℕ, ◌≤◌, ◌<◌, ◌+◌, ◌^◌, List, [], ◌∷◌, Bool, true, OnOk, OnErr, IsOk, length, slice_index_or, if◌then◌else◌, nat_eq, Some, None};
 ghost use Rattle.std.specs.List.{IsDistinct};
 ghost use Rattle.srm_names.specs.FullName.{FullName};
 ghost use Rattle.srm_names.specs.Names.{among, ascending, name_below, same_name};
+ghost use Rattle.srm_deadlines.specs.Rows.{item_at, values_of};
 ghost use Rattle.srm_deadlines.specs.Places.{value_at, has_place, names_of, place_names, Holds, GivesPlaces, Keeps, Sets, SetsAll, ClearsAll, HasPlaces};
 
 use crate::timed::Timed;
@@ -89,6 +90,7 @@ impl<V: Copy> ByName<V> {
         ensures ok { OnOk result (has_place self.new name ≡ true) }
         ensures again { has_place self.old name ≡ true → IsOk result }
         ensures more { length self.new ≤ length self.old + 1 }
+        ensures values { (i : ℕ) → item_at (values_of self.new) i ≡ item_at (values_of self.old) i }
         ensures err { OnErr result (self.new ≡ self.old) }
     {
         if !self.places.contains_key(&name) {
@@ -121,6 +123,20 @@ impl<V: Copy> ByName<V> {
     {
         // An insert at a key that is there takes no memory.
         let _ = self.places.insert(name, value);
+    }
+
+    /// Sets the value of a name that has a place, or takes it away, and answers the index of its place.
+    pub fn put(&mut self, name: Name, value: Option<V>) -> usize
+        requires { has_place self.old name ≡ true }
+        ensures sets { Sets name value self.old self.new }
+        ensures held { Holds self.old self.new }
+        ensures only { GivesPlaces [] self.old self.new }
+        ensures length { length self.new ≡ length self.old }
+        ensures within { result < length self.old }
+        ensures values { (i : ℕ) → item_at (values_of self.new) i ≡ (if nat_eq i result then value else item_at (values_of self.old) i) }
+    {
+        // An insert at a key that is there takes no memory.
+        self.places.insert_full(name, value).ok().unwrap().0
     }
 
     /// Takes a name's value away, if it has one.

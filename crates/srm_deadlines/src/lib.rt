@@ -1,11 +1,12 @@
 //! Moments by name, and which of them have come.
 //!
 //! [`Deadlines`] is the contract: a moment for each name that has one, the names whose moments have come, in order, and the first
-//! moment. [`Ordered`] keeps the moments in order, and [`Scanned`] looks through them all. Both stand on [`ByName`], which has
+//! moment. [`Tree`] keeps the least moments of blocks, so that to set, to clear and to find the next cost the logarithm of the
+//! names; [`Ordered`] keeps the moments in order, and [`Scanned`] looks through them all. All three stand on [`ByName`], which has
 //! values of any kind by name.
 //!
 //! ```
-//! let mut deadlines = Ordered::new(alloc);
+//! let mut deadlines = Tree::new(alloc);
 //! deadlines.room(&[name])?; // a place for the name
 //! deadlines.set(name, 1_000_000);
 //! let mut come = Vec::with_capacity(alloc, 1)?;
@@ -17,11 +18,14 @@
 #![tactic(auto)]
 
 mod agenda;
+mod blocks;
 mod by_name;
 mod deadlines;
 mod ordered;
+mod row;
 mod scanned;
 mod timed;
+mod tree;
 
 pub use agenda::put_names;
 pub use by_name::{ByName, Place};
@@ -29,3 +33,4 @@ pub use deadlines::Deadlines;
 pub use ordered::Ordered;
 pub use scanned::Scanned;
 pub use timed::Timed;
+pub use tree::Tree;

@@ -98,7 +98,7 @@ impl Deadlines for Scanned {
 }
 
 /// Whether a moment has come.
-fn come(moment: Option<u64>, now: u64) -> bool
+pub(crate) fn come(moment: Option<u64>, now: u64) -> bool
     ensures { result ≡ has_come now moment }
 {
     match moment {
@@ -108,7 +108,7 @@ fn come(moment: Option<u64>, now: u64) -> bool
 }
 
 /// The lesser of two moments, where there are two.
-fn lesser(a: Option<u64>, b: Option<u64>) -> Option<u64>
+pub(crate) fn lesser(a: Option<u64>, b: Option<u64>) -> Option<u64>
     ensures { result ≡ lesser a b }
 {
     match (a, b) {

@@ -5,7 +5,7 @@
 //! they keep is what the definitions in `specs/` say of this list. They keep no history.
 //!
 //! ```
-//! let mut asks = Asks::new(alloc, Ordered::new(alloc), 2, 2);
+//! let mut asks = Asks::new(alloc, Tree::new(alloc), 2, 2);
 //! let arms = asks.detect(&missing, &[], &distances, now, &mut words)?; // each name waits for 2 to 4 distances
 //! let again = asks.heard_request(name, &distances, now, &mut words); // another asked: this member needn't
 //! asks.gained(name);
@@ -37,5 +37,5 @@ pub use fixes::Fixes;
 pub use limits::{EXPONENT, LONGEST_WAIT, TIMER_SETTING};
 pub use listed::Listed;
 pub use pcg::Pcg;
-pub use srm_deadlines::{Deadlines, Ordered, Place, Scanned, Timed, put_names};
+pub use srm_deadlines::{Deadlines, Ordered, Place, Scanned, Timed, Tree, put_names};
 pub use words::{Words, wait_between};

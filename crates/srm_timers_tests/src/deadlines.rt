@@ -5,7 +5,9 @@ ghost use Rattle.srm_names.specs.Names.{ascending, name_below};
 ghost use Rattle.srm_deadlines.specs.Places.{names_of};
 
 use srm_names::{Member, Name, Page};
-use srm_timers::{Deadlines, Listed, Ordered, Pcg, Scanned, Timed, Words, put_names, wait_between};
+use srm_timers::{
+    Deadlines, Listed, Ordered, Pcg, Scanned, Timed, Tree, Words, put_names, wait_between,
+};
 use std::alloc::{AllocError, Global};
 use std::process::Abort;
 use std::test::Fail;
@@ -38,10 +40,15 @@ fn waits_are_taken_round_their_interval(rt: HostRuntime) -> Result<(), Fail> {
 
 /// A name of one of four members, on the first page, with a number from 1 to 8.
 fn name(word: u64, rt: &impl Abort) -> Name {
+    name_up_to(word % 32, rt)
+}
+
+/// A name of one of four members, on the first page, with a number from 1 to 1,024.
+fn name_up_to(word: u64, rt: &impl Abort) -> Name {
     let source = Member::new((word % 4) as u8).expect(rt, "a member");
     let creator = Member::new(0).expect(rt, "a creator");
     let page = Page { creator, number: 0 };
-    Name::new(source, page, (word / 4 % 8) as u32 + 1).expect(rt, "a number")
+    Name::new(source, page, (word / 4 % 1_024) as u32 + 1).expect(rt, "a number")
 }
 
 /// Sets the moment of a name, which has a place from then on.
@@ -109,32 +116,73 @@ fn compare<D: Deadlines, E: Deadlines>(
 }
 
 /// Sets or clears the moment of a name in both bodies, as the words say, and compares them.
-fn set_or_clear(
+fn set_or_clear<D: Deadlines, E: Deadlines>(
     alloc: Global,
     words: &mut Pcg,
-    scanned: &mut Scanned,
-    ordered: &mut Ordered,
+    left: &mut D,
+    right: &mut E,
     rt: &impl Abort,
 ) -> Result<(), Fail> {
     let (name, moment) = (name(words.word(), rt), words.word() % 100);
     if words.word() % 4 == 0 {
-        scanned.clear(name);
-        ordered.clear(name);
+        left.clear(name);
+        right.clear(name);
     } else {
-        arm(scanned, name, moment)?;
-        arm(ordered, name, moment)?;
+        arm(left, name, moment)?;
+        arm(right, name, moment)?;
     }
-    assert_eq!(rt; scanned.get(name), ordered.get(name));
-    compare(alloc, scanned, ordered, words.word() % 100, rt)
+    assert_eq!(rt; left.get(name), right.get(name));
+    compare(alloc, left, right, words.word() % 100, rt)
 }
 
 #[test]
-fn both_bodies_answer_1_000_calls_alike(rt: HostRuntime) -> Result<(), Fail> {
+fn ordered_answers_1_000_calls_as_scanned(rt: HostRuntime) -> Result<(), Fail> {
     let mut words = Pcg::new(1);
     let mut scanned = Scanned::new(rt.alloc());
     let mut ordered = Ordered::new(rt.alloc());
     for _ in 0..1_000 {
         set_or_clear(rt.alloc(), &mut words, &mut scanned, &mut ordered, &rt)?;
+    }
+    Ok(())
+}
+
+#[test]
+fn tree_answers_1_000_calls_as_scanned(rt: HostRuntime) -> Result<(), Fail> {
+    let mut words = Pcg::new(2);
+    let mut scanned = Scanned::new(rt.alloc());
+    let mut tree = Tree::new(rt.alloc());
+    for _ in 0..1_000 {
+        set_or_clear(rt.alloc(), &mut words, &mut scanned, &mut tree, &rt)?;
+    }
+    Ok(())
+}
+
+/// Sets the moment of a name of many, in both bodies, or takes away one.
+fn set_of_many(
+    words: &mut Pcg,
+    scanned: &mut Scanned,
+    tree: &mut Tree,
+    rt: &impl Abort,
+) -> Result<(), AllocError> {
+    let (name, moment) = (name_up_to(words.word(), rt), words.word() % 10_000);
+    arm(scanned, name, moment)?;
+    arm(tree, name, moment)?;
+    let other = name_up_to(words.word(), rt);
+    scanned.clear(other);
+    tree.clear(other);
+    Ok(())
+}
+
+#[test]
+fn tree_has_many_names_as_scanned(rt: HostRuntime) -> Result<(), Fail> {
+    let mut words = Pcg::new(3);
+    let mut scanned = Scanned::new(rt.alloc());
+    let mut tree = Tree::new(rt.alloc());
+    for _ in 0..10_000 {
+        set_of_many(&mut words, &mut scanned, &mut tree, &rt)?;
+    }
+    for now in [0, 5, 200, 10_000] {
+        compare(rt.alloc(), &scanned, &tree, now, &rt)?;
     }
     Ok(())
 }
@@ -218,6 +266,11 @@ fn ordered_sets_and_reads(rt: HostRuntime) -> Result<(), Fail> {
     sets_and_reads(rt.alloc(), &mut Ordered::new(rt.alloc()), &rt)
 }
 
+#[test]
+fn tree_sets_and_reads(rt: HostRuntime) -> Result<(), Fail> {
+    sets_and_reads(rt.alloc(), &mut Tree::new(rt.alloc()), &rt)
+}
+
 /// Up to 32 names that rise, with moments below 100: a name where its word is even.
 fn some_moments(words: &mut Pcg, alloc: Global, rt: &impl Abort) -> Result<Vec<Timed>, AllocError> {
     let mut moments = Vec::new(alloc);
@@ -237,39 +290,50 @@ fn some_moments(words: &mut Pcg, alloc: Global, rt: &impl Abort) -> Result<Vec<T
 }
 
 /// Checks that the first of these moments was set.
-fn check_first(scanned: &Scanned, moments: &[Timed], rt: &impl Abort) {
+fn check_first<D: Deadlines>(deadlines: &D, moments: &[Timed], rt: &impl Abort) {
     if let Some(timed) = moments.first() {
-        assert_eq!(rt; scanned.get(timed.name), Some(timed.moment));
+        assert_eq!(rt; deadlines.get(timed.name), Some(timed.moment));
     }
 }
 
 /// Sets a list of moments in both bodies, and takes some away again, comparing them.
-fn set_list(
+fn set_list<D: Deadlines, E: Deadlines>(
     alloc: Global,
     words: &mut Pcg,
-    scanned: &mut Scanned,
-    ordered: &mut Ordered,
+    left: &mut D,
+    right: &mut E,
     rt: &impl Abort,
 ) -> Result<(), Fail> {
     let moments = some_moments(words, alloc, rt)?;
     assert!(rt; rises(&moments));
-    arm_all(alloc, scanned, &moments)?;
-    arm_all(alloc, ordered, &moments)?;
-    check_first(scanned, &moments, rt);
-    compare(alloc, scanned, ordered, words.word() % 100, rt)?;
+    arm_all(alloc, left, &moments)?;
+    arm_all(alloc, right, &moments)?;
+    check_first(left, &moments, rt);
+    compare(alloc, left, right, words.word() % 100, rt)?;
     let now = words.word() % 20;
-    clear_due(alloc, scanned, now)?;
-    clear_due(alloc, ordered, now)?;
-    compare(alloc, scanned, ordered, words.word() % 100, rt)
+    clear_due(alloc, left, now)?;
+    clear_due(alloc, right, now)?;
+    compare(alloc, left, right, words.word() % 100, rt)
 }
 
 #[test]
-fn both_bodies_set_100_lists_alike(rt: HostRuntime) -> Result<(), Fail> {
+fn ordered_sets_100_lists_as_scanned(rt: HostRuntime) -> Result<(), Fail> {
     let mut words = Pcg::new(1);
     let mut scanned = Scanned::new(rt.alloc());
     let mut ordered = Ordered::new(rt.alloc());
     for _ in 0..100 {
         set_list(rt.alloc(), &mut words, &mut scanned, &mut ordered, &rt)?;
+    }
+    Ok(())
+}
+
+#[test]
+fn tree_sets_100_lists_as_scanned(rt: HostRuntime) -> Result<(), Fail> {
+    let mut words = Pcg::new(2);
+    let mut scanned = Scanned::new(rt.alloc());
+    let mut tree = Tree::new(rt.alloc());
+    for _ in 0..100 {
+        set_list(rt.alloc(), &mut words, &mut scanned, &mut tree, &rt)?;
     }
     Ok(())
 }
