@@ -96,6 +96,13 @@ kept_same j a b es kept stays is = record {
   untaken = subst (AllByRecursion IsUntaken) (sym is) kept.untaken;
 }
 
+-- an agent that did nothing yet
+pub kept_at_first : {W : Type 0} (j : Journal) (a : Content W) → j.entries ≡ [] → Fits j.start.config j.start.made [] a → IsKept j a
+kept_at_first j a none fits = record {
+  fits = subst (λ xs. Fits j.start.config j.start.made xs a) (sym none) fits;
+  untaken = subst (AllByRecursion IsUntaken) (sym none) tt;
+}
+
 -- the same entries in another place
 pub entries_same : {W : Type 0} (j : Journal) (a : Content W) (es : List Entry) → IsKept j a → es ≡ j.entries → IsKept (record { start = j.start; entries = es }) a
 entries_same j a es kept is = record {
