@@ -137,6 +137,37 @@ pub(crate) fn hear(rt: &impl Abort, agent: &mut Agent<Listed>, sent: Sent, now: 
     hear_bytes(rt, agent, &bytes[..count], now)
 }
 
+/// Member 0's session message sent at 1, which shows page 0.0, as far as its rows.
+const REPORT: [u8; 21] = [
+    0x53, 0x52, 1, 4, 0, 0, 0, 7, 0, // head
+    0, 0, 0, 0, 0, 0, 0, 1, 0, 0, 0, 0, // when, flags, page shown
+];
+
+/// It with so many rows, each of number 1: eight pages of member 0 for each source.
+fn rows(alloc: Global, count: u8) -> Result<Vec<u8>, AllocError> {
+    let mut bytes = Vec::from_slice(alloc, &REPORT)?;
+    bytes.push(count)?;
+    for place in 0..count {
+        bytes.extend_from_slice(&[place / 8, 0, 0, place % 8, 0, 0, 0, 1])?;
+    }
+    bytes.push(0)?;
+    Ok(bytes)
+}
+
+/// Hears a session message with so many rows, at 5.
+pub(crate) fn hear_rows(
+    rt: &impl Abort,
+    alloc: Global,
+    agent: &mut Agent<Listed>,
+    count: u8,
+) -> Heard {
+    let bytes = match rows(alloc, count) {
+        Ok(bytes) => bytes,
+        Err(_) => rows(alloc, count).expect(rt, "memory"),
+    };
+    hear_bytes(rt, agent, &bytes, 5)
+}
+
 /// Hears data of member 0 from one number to the one before another.
 pub(crate) fn hear_numbers(
     rt: &impl Abort,

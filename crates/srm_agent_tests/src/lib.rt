@@ -20,6 +20,8 @@ mod hearing;
 #[cfg(test)]
 mod leaving;
 #[cfg(test)]
+mod lying;
+#[cfg(test)]
 mod making;
 #[cfg(test)]
 mod next_due;

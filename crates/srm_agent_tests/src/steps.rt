@@ -1,8 +1,8 @@
 //! Lists of calls of an agent, each followed by what it tells.
 
 use crate::calls::{
-    Noise, draw, give, hear, hear_noise, hear_numbers, hear_others, leave, show, show_of,
-    show_pages, tick,
+    Noise, draw, give, hear, hear_noise, hear_numbers, hear_others, hear_rows, leave, show,
+    show_of, show_pages, tick,
 };
 use crate::datagrams::Sent;
 use crate::making::agent_with;
@@ -41,6 +41,8 @@ pub(crate) enum Step {
     HearNoise(Noise),
     /// Number 65,536 of member 0 is heard first, at a moment: timers are set for all others, in order. It tells what became of it.
     HearLast(u64),
+    /// A session message of member 0 is heard with so many rows of number 1. It tells what became of it, and how many timers were set.
+    HearRows(u8),
     /// Data of member 0 is heard, from one number to the one before another. It tells nothing.
     HearNumbers(u32, u32, u64),
     /// Number 1 and a session message of each member from 1 to this one are heard. It tells nothing.
@@ -168,6 +170,18 @@ fn hear_last(rt: &impl Abort, agent: &mut Agent<Listed>, tales: &mut Tales, now:
     tell(rt, tales, of_outcome(heard.outcome));
 }
 
+fn hear_rows_and_tell(
+    rt: &impl Abort,
+    alloc: Global,
+    agent: &mut Agent<Listed>,
+    tales: &mut Tales,
+    count: u8,
+) {
+    let heard = hear_rows(rt, alloc, agent, count);
+    tell(rt, tales, of_outcome(heard.outcome));
+    tell(rt, tales, Told::Timers(heard.arms.as_slice().len()));
+}
+
 /// Makes a call.
 fn call(rt: &impl Abort, alloc: Global, agent: &mut Agent<Listed>, tales: &mut Tales, step: Step) {
     match step {
@@ -195,6 +209,7 @@ fn call(rt: &impl Abort, alloc: Global, agent: &mut Agent<Listed>, tales: &mut T
         }
         Step::HearNoise(noise) => hear_noise_and_tell(rt, agent, tales, noise),
         Step::HearLast(now) => hear_last(rt, agent, tales, now),
+        Step::HearRows(count) => hear_rows_and_tell(rt, alloc, agent, tales, count),
         Step::HearNumbers(from, to, now) => hear_numbers(rt, agent, from, to, now),
         Step::HearOthers(last, now) => hear_others(rt, agent, last, now),
         Step::Give(slot) => give_and_tell(rt, agent, tales, slot),

@@ -19,6 +19,8 @@ pub(crate) enum Told {
     AsksIn(u32, u8, u64),
     /// A repair timer was set, with this wait.
     RepairsIn(u32, u64),
+    /// So many timers were set.
+    Timers(usize),
     Asked(u32),
     Repaired(u32),
     /// A datagram of so many bytes was sent.
