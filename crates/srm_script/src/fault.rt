@@ -1,5 +1,8 @@
 //! Why a script isn't run to its end.
 
+ghost use Rattle.std.specs.Prelude.{◌≡◌};
+ghost use Rattle.srm_script.specs.Statuses.{status_of};
+
 use srm_world::WorldFault;
 use std::alloc::AllocError;
 use std::io;
@@ -28,7 +31,9 @@ pub enum Fault {
 
 impl Fault {
     /// Prints the fault on standard error, and answers the status that the program ends with.
-    pub fn tell<E: Write>(&self, err: &mut E) -> u8 {
+    pub fn tell<E: Write>(&self, err: &mut E) -> u8
+        ensures { result ≡ status_of self.now }
+    {
         // Where this can't be written there is nobody left to tell.
         let _ = writeln!(err, "{self}");
         match self {

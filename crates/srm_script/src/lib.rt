@@ -18,6 +18,7 @@ mod report;
 mod script;
 
 pub use fault::Fault;
+pub use input::read_input;
 pub use play::{print_newest, run_event, run_script};
-pub use report::Report;
+pub use report::{Report, ShownMessage};
 pub use script::{Script, read_script};

@@ -5,7 +5,8 @@ ghost use Rattle.srm_codec.specs.Spelling.{IsSpellable};
 
 mod shown;
 
-use shown::{ShownArm, ShownMessage, ShownName, ShownPage};
+pub use shown::ShownMessage;
+use shown::{ShownAnswer, ShownArm, ShownName, ShownPage};
 use srm_agent::{AgentState, Arm, Cause, Effects, Entry, Input, Verdict};
 use srm_codec::{Datagram, length};
 use srm_names::Name;
@@ -65,14 +66,14 @@ impl Report {
                 writeln!(
                     out,
                     "gave {member} {slot} {}",
-                    ShownMessage(&effects.message)
+                    ShownAnswer(&effects.message)
                 )
             }
             Input::Took(slot) => {
                 writeln!(
                     out,
                     "took {member} {slot} {}",
-                    ShownMessage(&effects.message)
+                    ShownAnswer(&effects.message)
                 )
             }
         }

@@ -45,22 +45,34 @@ impl fmt::Display for ShownArm<'_> {
     }
 }
 
-/// What a page worker was given or took.
+/// What a slot's worker was given or took, if there was something.
 #[derive(Drop)]
-pub struct ShownMessage<'a>(pub &'a Option<PageMsg>);
+pub struct ShownAnswer<'a>(pub &'a Option<PageMsg>);
+
+impl fmt::Display for ShownAnswer<'_> {
+    fn fmt<W: fmt::Write>(&self, f: &mut fmt::Formatter<W>) -> fmt::Result {
+        match self.0 {
+            None => write!(f, "none"),
+            Some(message) => write!(f, "{}", ShownMessage(message)),
+        }
+    }
+}
+
+/// A message of a page feed, as printed lines have it. A byte of a body that isn't printable ASCII is shown as `?`.
+#[derive(Drop)]
+pub struct ShownMessage<'a>(pub &'a PageMsg);
 
 impl fmt::Display for ShownMessage<'_> {
     fn fmt<W: fmt::Write>(&self, f: &mut fmt::Formatter<W>) -> fmt::Result {
         match self.0 {
-            None => write!(f, "none"),
-            Some(PageMsg::Open(page)) => write!(f, "open {}", ShownPage(*page)),
-            Some(PageMsg::Draw(drawop)) => {
+            PageMsg::Open(page) => write!(f, "open {}", ShownPage(*page)),
+            PageMsg::Draw(drawop) => {
                 let source = drawop.name.source().number();
                 let number = drawop.name.number();
                 write!(f, "draw {source} {number} {}", ShownBody(&drawop.body))
             }
-            Some(PageMsg::Left(member)) => write!(f, "left {}", member.number()),
-            Some(PageMsg::Close) => write!(f, "close"),
+            PageMsg::Left(member) => write!(f, "left {}", member.number()),
+            PageMsg::Close => write!(f, "close"),
         }
     }
 }
