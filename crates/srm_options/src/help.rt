@@ -14,6 +14,7 @@ pub const NODE: &str =
 pub const NODE_MORE: &str = "\
 Each line of standard input, which is read to its end first, is a stroke on page
 0.0: up to 1024 bytes, whatever they are. The input has at most 1000000 bytes.
+Lines go to four pens in turn; strokes of different pens may change places.
 The member leaves once its time is up and all strokes are drawn. Then it prints
 
   took M J open C.P|draw S N TEXT|left S|close      what slot J took, in order
