@@ -21,9 +21,9 @@ use Rattle.srm_entries.specs.Giving.{given, given_in}
 use Rattle.srm_agent.specs.Noting.{AnswersAs}
 use Rattle.srm_world.specs.Traces.{Journal}
 use Rattle.srm_world.specs.Claims.{IsLawfulJournal}
-use Rattle.srm_world.specs.Recording.{Records, with_entry}
+use Rattle.srm_world.specs.Recording.{Records, with_entry, with_entries}
 use Rattle.srm_world.proofs.Laning.{get_set_same, get_set_other}
-use Rattle.srm_node.specs.Carrying.{with_entries, Carries, CarriesEach}
+use Rattle.srm_node.specs.Carrying.{Carries, CarriesEach}
 use Rattle.srm_node.specs.Parts.{Gives, GivesUpTo, GaveSome, SameFeed, SameFeeds, is_served, gave_nothing, gives_in, is_give}
 use Rattle.srm_node.proofs.Rightly.{give_done}
 

@@ -7,22 +7,15 @@ use Rattle.srm_entries.specs.declared.entry.Entry.{Entry}
 use Rattle.srm_entries.specs.declared.fault.AgentFault.{AgentFault}
 use Rattle.srm_agent.specs.declared.heard.Heard.{Heard}
 use Rattle.srm_world.specs.Traces.{Journal}
-use Rattle.srm_world.specs.Recording.{RecordsHeard, with_entry}
+use Rattle.srm_world.specs.Recording.{RecordsHeard, with_entry, IsHearing}
+use Rattle.srm_world.proofs.HearsAll.{hears-snoc}
 use Rattle.srm_node.specs.declared.limits.TheConstants.{RECEIVED}
 use Rattle.srm_wire.specs.Wires.{Told, TellsMore}
-use Rattle.srm_node.specs.Carrying.{with_entries}
-use Rattle.srm_node.specs.Parts.{IsHearing, HearsEach, Listens, Listened, ListenedCut, IsWhole}
+use Rattle.srm_node.specs.Parts.{Listens, Listened, ListenedCut, IsWhole}
 use Rattle.srm_wire.proofs.Telling.{tells_nothing, tells_on}
 
 abbrev at : Journal → List Entry → Journal
 at j es = record { start = j.start; entries = es }
-
--- one more, at the end
-hears-snoc : (now : ℕ) (j : Journal) (bs : List (List ℕ)) (es : List Entry) (b : List ℕ) (e : Entry) → HearsEach now j bs es → IsHearing now (with_entries j es) b e → HearsEach now j (bs ++ b ∷ []) (es ++ e ∷ [])
-hears-snoc now j [] [] b e h k = (subst (λ xs. IsHearing now (at j xs) b e) (append-nil j.entries) k, tt)
-hears-snoc now j [] (y ∷ es) b e h k = absurd h
-hears-snoc now j (x ∷ bs) [] b e h k = absurd h
-hears-snoc now j (x ∷ bs) (y ∷ es) b e h k = (h.0, hears-snoc now (with_entry j y) bs es b e h.1 (subst (λ xs. IsHearing now (at j xs) b e) (sym (append_assoc j.entries (y ∷ []) es)) k))
 
 pub listens_none : (now : ℕ) (j : Journal) (t : Option Told) → Listens now 0 [] j j t t
 listens_none now j t = record { came = []; entries = []; counted = refl; grown = ap (at j) (sym (append-nil j.entries)); each = tt; told = tells_nothing t }

@@ -28,12 +28,12 @@ use Rattle.srm_entries.specs.Hearing.{bytes_heard, read_as}
 use Rattle.srm_entries.specs.Runs.{IsMemberRun}
 use Rattle.srm_world.specs.Traces.{Journal, IsUntaken}
 use Rattle.srm_world.specs.Claims.{IsLawfulJournal}
-use Rattle.srm_world.specs.Recording.{with_entry}
+use Rattle.srm_world.specs.Recording.{with_entry, with_entries, HearsEach}
 use Rattle.srm_world.proofs.Lawful.{lawful_journal}
 use Rattle.srm_node.specs.declared.fault.OutOfMemory.{OutOfMemory}
 use Rattle.srm_wire.specs.Wires.{Told}
-use Rattle.srm_node.specs.Carrying.{with_entries, Carries, CarriesEach, drew, draws, drawing, DrawsReceived, KeepsLists}
-use Rattle.srm_node.specs.Parts.{HearsEach, Listens, Listened, ListenedCut, DrawsOf, Draws, DrewStrokes, DrewStrokesCut, Leaves, Ticks, GivesUpTo, GaveSome, is_give}
+use Rattle.srm_node.specs.Carrying.{Carries, CarriesEach, drew, draws, drawing, DrawsReceived, KeepsLists}
+use Rattle.srm_node.specs.Parts.{Listens, Listened, ListenedCut, DrawsOf, Draws, DrewStrokes, DrewStrokesCut, Leaves, Ticks, GivesUpTo, GaveSome, is_give}
 use Rattle.srm_node.specs.Nodes.{NodeView, IsNode, AreNewFeeds}
 use Rattle.srm_node.specs.declared.listening.Listening.{Listening}
 use Rattle.srm_node.specs.declared.drawing.Drawn.{Drawn}

@@ -9,36 +9,18 @@ use Rattle.srm_pages.specs.Ends.{FeedView, WellView, credit_of}
 use Rattle.srm_entries.specs.declared.entry.Entry.{Entry}
 use Rattle.srm_entries.specs.declared.entry.Input.{Input}
 use Rattle.srm_entries.specs.declared.entry.Input.TheVariants.{Gave, AskedLeave, Ticked}
-use Rattle.srm_entries.specs.Hearing.{bytes_heard}
 use Rattle.srm_entries.specs.Giving.{given}
-use Rattle.srm_entries.specs.Entries.{last_moment}
 use Rattle.srm_entries.specs.Admitting.{AdmitsDraw}
-use Rattle.srm_agent.specs.Noting.{moment_that_counts}
 use Rattle.srm_agent_parts.specs.declared.out.Out.{Out}
 use Rattle.srm_agent_parts.specs.Outs.{IsOut}
 use Rattle.srm_world.specs.Traces.{Journal}
 use Rattle.srm_world.specs.Claims.{IsLawfulJournal}
-use Rattle.srm_world.specs.Recording.{with_entry}
+use Rattle.srm_world.specs.Recording.{with_entry, with_entries, IsAt, HearsEach}
 use Rattle.srm_node.specs.declared.limits.TheConstants.{RECEIVED, DRAWN}
 use Rattle.srm_wire.specs.Wires.{Told, TellsMore}
-use Rattle.srm_node.specs.Carrying.{with_entries, Carries, CarriesEach, drawing}
-
--- the entry is at the moment that counts: the one that the clock gave, but a lower one than the last counts as the last
-abbrev pub IsAt : ℕ → Journal → Entry → Type 0
-IsAt now j e = e.moment ≡ moment_that_counts (Some now) (last_moment j.start.made j.entries)
+use Rattle.srm_node.specs.Carrying.{Carries, CarriesEach, drawing}
 
 -- LISTENING
-
--- the entry says what these bytes are to the member: the datagram that they spell, else noise
-pub record IsHearing (now : ℕ) (j : Journal) (bytes : List ℕ) (e : Entry) : Type 0 where
-  pub moment : IsAt now j e
-  pub heard : (e.input, e.verdict) ≡ bytes_heard j.start.config j.entries bytes
-
--- an entry for each of these, in order, and no other
-abbrev pub HearsEach : ℕ → Journal → List (List ℕ) → List Entry → Type 0
-HearsEach now j [] [] = Unit {0}
-HearsEach now j (b ∷ bs) (e ∷ es) = IsHearing now j b e × HearsEach now (with_entry j e) bs es
-HearsEach now j _ _ = ⊥
 
 -- So many datagrams came, and each has its entry. A wire that tells has told of them, and then of so much more.
 pub record Listens (now count : ℕ) (ended : List (Option (List ℕ))) (old new : Journal) (was is : Option Told) : Type 0 where

@@ -10,7 +10,8 @@ use Rattle.srm_entries.specs.declared.state.AgentState.TheVariants.{Active}
 use Rattle.srm_entries.specs.declared.state.AgentState.TheVariants as states
 use Rattle.srm_entries.specs.Sample.{in_roster, drawop_of, draws, entry, quiet}
 use Rattle.srm_world.specs.Traces.{Journal}
-use Rattle.srm_node.specs.Parts.{IsAt, IsAdmitted, Draws, DrawingEnds, Leaves}
+use Rattle.srm_world.specs.Recording.{IsAt}
+use Rattle.srm_node.specs.Parts.{IsAdmitted, Draws, DrawingEnds, Leaves}
 
 -- a member with a bucket of 1,051 bytes, which is one full datagram
 abbrev journal : List Entry → Journal

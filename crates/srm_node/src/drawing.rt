@@ -20,6 +20,15 @@ pub struct Drawn {
     pub none_left: bool,
 }
 
+impl Drawn {
+    fn new(count: u8, none_left: bool) -> Drawn
+        ensures count { result.count ≡ count }
+        ensures none_left { result.none_left ≡ none_left }
+    {
+        Drawn { count, none_left }
+    }
+}
+
 /// Draws up to 64 strokes, the one in hand first, as long as the rate lets their datagrams go at once. Answers the stroke that is then in
 /// hand: one that the rate keeps back, or for which memory was refused. A stroke that is refused for another cause is dropped.
 pub fn draw_strokes<R: Wait, W: Words + Drop>(
@@ -38,35 +47,17 @@ pub fn draw_strokes<R: Wait, W: Words + Drop>(
     let mut kept = hand;
     for count in 0..DRAWN {
         let Some(stroke) = next_stroke(rt, well, kept) else {
-            return (
-                None,
-                Ok(Drawn {
-                    count,
-                    none_left: true,
-                }),
-            );
+            return (None, Ok(Drawn::new(count, true)));
         };
         if !is_admitted(recorder, &stroke, now) {
-            return (
-                Some(stroke),
-                Ok(Drawn {
-                    count,
-                    none_left: false,
-                }),
-            );
+            return (Some(stroke), Ok(Drawn::new(count, false)));
         }
         let Ok(()) = draw_stroke(recorder, &stroke, now) else {
             return (Some(stroke), Err(OutOfMemory));
         };
         kept = None;
     }
-    (
-        None,
-        Ok(Drawn {
-            count: DRAWN,
-            none_left: false,
-        }),
-    )
+    (None, Ok(Drawn::new(DRAWN, false)))
 }
 
 // The stroke in hand, if there is one, else the front one of the well.

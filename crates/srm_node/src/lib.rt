@@ -1,7 +1,6 @@
 //! A member that takes part in a session: its agent over a wire and a clock, with page workers and local pens in threads.
 #![tactic(auto)]
 
-mod clock;
 mod counting;
 mod drawing;
 mod fault;

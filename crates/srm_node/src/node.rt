@@ -6,7 +6,6 @@ ghost use Rattle.srm_node.specs.Counting.{counts_of};
 ghost use Rattle.srm_node.specs.Nodes.{Keeps, AreNewFeeds, IsNewNode};
 ghost use Rattle.srm_node.specs.Turns.{HearsNow, DrawsNow, LeavesNow, TicksNow, GivesNow, HearsCut, DrawsCut, GivesCut, TurnEnds, Paused, RunEnds};
 
-use crate::clock::Clock;
 use crate::counting::{Counts, counts_in};
 use crate::drawing::draw_strokes;
 use crate::fault::{NodeFault, OutOfMemory};
@@ -21,7 +20,7 @@ use srm_names::{MOMENT, PAGES};
 use srm_pages::ends::Well;
 use srm_pages::{Feed, Stroke};
 use srm_timers::Words;
-use srm_wire::Wire;
+use srm_wire::{Clock, Wire};
 use srm_world::{Journal, Recorder};
 use std::alloc::{AllocError, Global};
 use std::marker::Model;

@@ -14,7 +14,7 @@ abbrev at : Journal → List Entry → Journal
 at j es = record { start = j.start; entries = es }
 
 -- one more, at the end
-hears-snoc : (now : ℕ) (j : Journal) (bs : List (List ℕ)) (es : List Entry) (b : List ℕ) (e : Entry) → HearsEach now j bs es → IsHearing now (with_entries j es) b e → HearsEach now j (bs ++ b ∷ []) (es ++ e ∷ [])
+pub hears-snoc : (now : ℕ) (j : Journal) (bs : List (List ℕ)) (es : List Entry) (b : List ℕ) (e : Entry) → HearsEach now j bs es → IsHearing now (with_entries j es) b e → HearsEach now j (bs ++ b ∷ []) (es ++ e ∷ [])
 hears-snoc now j [] [] b e h k = (subst (λ xs. IsHearing now (at j xs) b e) (append-nil j.entries) k, tt)
 hears-snoc now j [] (y ∷ es) b e h k = absurd h
 hears-snoc now j (x ∷ bs) [] b e h k = absurd h
