@@ -1,6 +1,6 @@
 -- Giving one message after another, and one slot after another.
-use Rattle.std.proofs.Common.{◌≡◌, ◌≢◌, ℕ, zero, ◌+◌, ◌<◌, ◌==◌, ◌||◌, ◌&&◌, Bool, true, false, List, [], ◌∷◌, ◌++◌, length, get_or, refl, ap, sym, ◌∙◌, subst, inl, inr, arith, append_assoc, eq-eqb}
-use Rattle.std.specs.Prelude.{◌⊎◌, Option, Some, None, Result, Ok, Err, MatchBool, OnOk, IfErr, slice_get, slice_set, cond, option_to_list, is_none}
+use Rattle.std.proofs.Common.{◌≡◌, ◌≢◌, ℕ, ◌+◌, ◌<◌, ◌==◌, ◌||◌, ◌&&◌, Bool, true, false, List, [], ◌∷◌, ◌++◌, length, get_or, refl, ap, sym, ◌∙◌, subst, inl, inr, arith, append_assoc, eq-eqb}
+use Rattle.std.specs.Prelude.{◌⊎◌, Option, Some, None, Result, Ok, Err, MatchBool, slice_get, slice_set, cond, is_none}
 use Rattle.std.specs.Bool.{OnTrue}
 use Rattle.std.specs.List.{AllByRecursion, list_any, cons_option}
 use Rattle.std.proofs.lemmas.Bool.{cases_eq, ne_eqb}
@@ -12,7 +12,6 @@ use Rattle.srm_names.specs.declared.page_msg.PageMsg.{PageMsg}
 use Rattle.srm_names.specs.PageFeeds.{is_page_feed}
 use Rattle.srm_pages.specs.Ends.{FeedView, credit_of}
 use Rattle.srm_entries.specs.declared.entry.Entry.{Entry}
-use Rattle.srm_entries.specs.declared.entry.Input.{Input}
 use Rattle.srm_entries.specs.declared.entry.Input.TheVariants.{Gave}
 use Rattle.srm_entries.specs.declared.entry.Verdict.{Verdict}
 use Rattle.srm_entries.specs.declared.entry.Verdict.TheVariants.{Done, Ignored, Refused}
@@ -24,7 +23,7 @@ use Rattle.srm_world.specs.Claims.{IsLawfulJournal}
 use Rattle.srm_world.specs.Recording.{Records, with_entry, with_entries}
 use Rattle.srm_world.proofs.Laning.{get_set_same, get_set_other}
 use Rattle.srm_node.specs.Carrying.{Carries, CarriesEach}
-use Rattle.srm_node.specs.Parts.{Gives, GivesUpTo, GaveSome, SameFeed, SameFeeds, is_served, gave_nothing, gives_in, is_give}
+use Rattle.srm_node.specs.Parts.{Gives, GivesUpTo, GaveSome, SameFeed, is_served, gave_nothing, gives_in, is_give}
 use Rattle.srm_node.proofs.Rightly.{give_done}
 
 abbrev at : Journal → List Entry → Journal

@@ -1,7 +1,6 @@
 -- Hearing one datagram after another.
-use Rattle.std.proofs.Common.{◌≡◌, ℕ, ◌+◌, ◌<◌, Bool, true, false, List, [], ◌∷◌, ◌++◌, length, refl, ap, sym, ◌∙◌, subst, inl, inr, arith, append_assoc}
-use Rattle.std.specs.Prelude.{Option, Some, None, map, Result, Ok, Err}
-use Rattle.std.specs.Bool.{OnFalse}
+use Rattle.std.proofs.Common.{◌≡◌, ℕ, ◌+◌, ◌<◌, true, false, List, [], ◌∷◌, ◌++◌, refl, ap, sym, ◌∙◌, subst, inl, inr, append_assoc}
+use Rattle.std.specs.Prelude.{Option, Some, None, map, Ok, Err}
 use Rattle.std.proofs.lemmas.List.{append-nil, map-append, length-append}
 use Rattle.srm_entries.specs.declared.entry.Entry.{Entry}
 use Rattle.srm_entries.specs.declared.fault.AgentFault.{AgentFault}
@@ -11,7 +10,7 @@ use Rattle.srm_world.specs.Recording.{RecordsHeard, with_entry, IsHearing}
 use Rattle.srm_world.proofs.HearsAll.{hears-snoc}
 use Rattle.srm_node.specs.declared.limits.TheConstants.{RECEIVED}
 use Rattle.srm_wire.specs.Wires.{Told, TellsMore}
-use Rattle.srm_node.specs.Parts.{Listens, Listened, ListenedCut, IsWhole}
+use Rattle.srm_node.specs.Parts.{Listens, Listened, ListenedCut}
 use Rattle.srm_wire.proofs.Telling.{tells_nothing, tells_on}
 
 abbrev at : Journal → List Entry → Journal

@@ -13,7 +13,7 @@ use Rattle.srm_node.specs.declared.working.Worked.{Worked}
 use Rattle.srm_node.specs.Working.{Took}
 use Rattle.srm_node.specs.Parts.{SameFeed, SameFeeds}
 use Rattle.srm_node.specs.Nodes.{NodeView, Keeps}
-use Rattle.srm_node.specs.Turns.{Turned, Paused, RunsOf, RunsUpTo}
+use Rattle.srm_node.specs.Turns.{Turned, RunsOf, RunsUpTo}
 use Rattle.srm_node.specs.Hosting.{started, Starts, StartsSome, StopsBy, WorkedEach, Joins, Hosts, HostFails, AreEndsOfLanes}
 
 each-snoc : (ts : List TapView) (ws : List Worked) (t : TapView) (w : Worked) → WorkedEach ts ws → Took t w.tap w.list.items → WorkedEach (ts ++ t ∷ []) (ws ++ w ∷ [])

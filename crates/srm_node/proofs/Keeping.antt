@@ -1,7 +1,7 @@
 -- A node's lists hang together after each part of a turn.
-use Rattle.std.proofs.Common.{◌≡◌, ℕ, zero, suc, Bool, true, false, List, [], ◌∷◌, ◌++◌, length, refl, ap, sym, ◌∙◌, subst, append_assoc, arith}
-use Rattle.std.specs.Prelude.{Option, Some, None, Result, Ok, Err, MatchResult, MatchBool, map, slice_get, option_to_list, if◌then◌else◌}
-use Rattle.std.specs.List.{AllByRecursion, filter_map, cons_option}
+use Rattle.std.proofs.Common.{◌≡◌, ℕ, Bool, true, false, List, [], ◌∷◌, ◌++◌, refl, ap, sym, ◌∙◌, subst, append_assoc, arith}
+use Rattle.std.specs.Prelude.{Option, Some, None, Result, Ok, Err, MatchResult, MatchBool, map, option_to_list, if◌then◌else◌}
+use Rattle.std.specs.List.{AllByRecursion, cons_option}
 use Rattle.std.proofs.lemmas.List.{append-nil, map-append}
 use Rattle.std.proofs.lemmas.List.Elements.{filter_map-append}
 use Rattle.srm_names.specs.declared.limits.TheConstants.{PAGES}
@@ -33,7 +33,7 @@ use Rattle.srm_world.proofs.Lawful.{lawful_journal}
 use Rattle.srm_node.specs.declared.fault.OutOfMemory.{OutOfMemory}
 use Rattle.srm_wire.specs.Wires.{Told}
 use Rattle.srm_node.specs.Carrying.{Carries, CarriesEach, drew, draws, drawing, DrawsReceived, KeepsLists}
-use Rattle.srm_node.specs.Parts.{Listens, Listened, ListenedCut, DrawsOf, Draws, DrewStrokes, DrewStrokesCut, Leaves, Ticks, GivesUpTo, GaveSome, is_give}
+use Rattle.srm_node.specs.Parts.{Listens, Listened, ListenedCut, Draws, DrewStrokes, DrewStrokesCut, Leaves, Ticks, GivesUpTo, GaveSome, is_give}
 use Rattle.srm_node.specs.Nodes.{NodeView, IsNode, AreNewFeeds}
 use Rattle.srm_node.specs.declared.listening.Listening.{Listening}
 use Rattle.srm_node.specs.declared.drawing.Drawn.{Drawn}

@@ -1,6 +1,6 @@
 -- A tick, and a leaving that is due.
-use Rattle.std.proofs.Common.{◌≡◌, ℕ, ◌≤◌, Bool, true, false, List, [], ◌∷◌, ◌++◌, length, refl, ap, sym, ◌∙◌, subst, inl, inr, arith}
-use Rattle.std.specs.Prelude.{Option, Some, None, Result, Ok, Err}
+use Rattle.std.proofs.Common.{◌≡◌, ℕ, Bool, true, false, List, [], ◌∷◌, refl, ap, sym, ◌∙◌, subst, inl, inr, arith}
+use Rattle.std.specs.Prelude.{Some, Result, Ok, Err}
 use Rattle.std.proofs.lemmas.List.{append-nil}
 use Rattle.srm_entries.specs.declared.entry.Entry.{Entry}
 use Rattle.srm_entries.specs.declared.entry.Input.TheVariants.{Ticked, AskedLeave}
@@ -12,7 +12,7 @@ use Rattle.srm_agent.specs.declared.ticked.Ticked.{Ticked as TickedAnswer}
 use Rattle.srm_agent.specs.Noting.{AnswersAs, IsTicked}
 use Rattle.srm_world.specs.Traces.{Journal}
 use Rattle.srm_world.specs.Claims.{IsLawfulJournal}
-use Rattle.srm_world.specs.Recording.{Records, with_entry}
+use Rattle.srm_world.specs.Recording.{Records}
 use Rattle.srm_node.specs.Parts.{Ticks, Leaves}
 use Rattle.srm_node.proofs.Rightly.{tick_done, leave_not_memory}
 

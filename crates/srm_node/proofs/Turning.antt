@@ -1,5 +1,5 @@
 -- A turn of its parts.
-use Rattle.std.proofs.Common.{◌≡◌, ℕ, ◌+◌, ◌<◌, ◌≤◌, ◌||◌, Bool, true, false, refl, ap, sym, ◌∙◌, subst, inl, inr, arith, add-one}
+use Rattle.std.proofs.Common.{◌≡◌, ℕ, ◌+◌, ◌<◌, ◌≤◌, ◌||◌, Bool, true, false, refl, ap, sym, ◌∙◌, subst, inl, inr, add-one}
 use Rattle.std.specs.Prelude.{List, Option, Result, Ok, Err, MatchResult}
 use Rattle.std.specs.Bool.{OnTrue}
 use Rattle.srm_names.specs.declared.limits.TheConstants.{PAGES}
@@ -9,12 +9,10 @@ use Rattle.srm_world.specs.Traces.{Journal}
 use Rattle.srm_node.specs.declared.fault.NodeFault.{NodeFault}
 use Rattle.srm_node.specs.declared.fault.NodeFault.TheVariants.{Wire, Memory, Turns}
 use Rattle.srm_node.specs.declared.fault.OutOfMemory.{OutOfMemory}
-use Rattle.srm_node.specs.declared.listening.Listening.{Listening}
-use Rattle.srm_node.specs.declared.drawing.Drawn.{Drawn}
 use Rattle.srm_wire.specs.Wires.{Told, CountsIf, RoseOrFull}
 use Rattle.srm_node.specs.Parts.{Listened, ListenedCut, DrewStrokes, DrewStrokesCut, Leaves, GivesUpTo, GaveSome}
 use Rattle.srm_node.specs.Nodes.{NodeView}
-use Rattle.srm_node.specs.Turns.{HearsNow, DrawsNow, LeavesNow, TicksNow, GivesNow, HearsCut, DrawsCut, GivesCut, CutHearing, IsCut, Turned, TurnedDeaf, TurnEnds, Paused, RunsOf, Runs, RunsInto, RunsUpTo, RunEnds}
+use Rattle.srm_node.specs.Turns.{HearsNow, DrawsNow, LeavesNow, TicksNow, GivesNow, HearsCut, DrawsCut, GivesCut, IsCut, Turned, TurnedDeaf, TurnEnds, Paused, RunsOf, Runs, RunsUpTo, RunEnds}
 use Rattle.srm_wire.proofs.Telling.{counts_on}
 
 -- what was heard stays, also where memory ran out

@@ -1,5 +1,5 @@
 -- The drawing and the leaving of a turn, at worked examples.
-use Rattle.std.specs.Prelude.{◌≡◌, ℕ, Bool, true, false, List, [], ◌∷◌, ◌++◌, Option, Some, None, replicate, refl}
+use Rattle.std.specs.Prelude.{◌≡◌, true, false, List, [], ◌∷◌, ◌++◌, Some, None, replicate, refl}
 use Rattle.std.proofs.Common.{arith}
 use Rattle.srm_names.specs.Names.{first_page}
 use Rattle.srm_pages.specs.declared.stroke.Stroke.{Stroke}

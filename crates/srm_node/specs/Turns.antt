@@ -1,5 +1,5 @@
 -- One turn of a node, part by part.
-use Rattle.std.specs.Prelude.{◌≡◌, ◌⊎◌, ℕ, zero, suc, ◌<◌, ◌≤◌, Bool, true, false, List, map, Option, Result, Ok, Err}
+use Rattle.std.specs.Prelude.{◌≡◌, ◌⊎◌, ℕ, zero, suc, ◌<◌, ◌≤◌, Bool, false, List, map, Result, Ok, Err}
 use Rattle.srm_names.specs.declared.limits.TheConstants.{PAGES}
 use Rattle.srm_agent_parts.specs.declared.out.Out.{Out}
 use Rattle.srm_node.specs.declared.fault.NodeFault.{NodeFault}

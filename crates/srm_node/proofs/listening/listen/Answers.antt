@@ -1,4 +1,4 @@
-use Rattle.std.proofs.Common.{◌≤◌, ◌∷◌, [], arith}
+use Rattle.std.proofs.Common.{arith}
 use Rattle.srm_node.proofs.Hears.{listens_none, listens_told, listens_more, listened_lost, listened_none}
 use Rattle.srm_node.proofs.listening.listen.Goals as goal
 
