@@ -1,9 +1,9 @@
 //! What one hostile datagram costs at worst.
 
-use crate::calls::{Calls, HEAR, Ran, Setup, TICK};
-use crate::datagram::{DRAWOPS, Datagram, Echo, Name, Page};
-use crate::hostile::SESSION;
+use crate::ran::{self, Ran};
 use crate::session::Attack;
+use srm_bench::calls::{Calls, Kind, SESSION, Setup};
+use srm_bench::datagram::{DRAWOPS, Datagram, Echo, Name, Page};
 
 /// The settings that an agent has where nothing else is said, in a roster of 32.
 const USUAL: Setup = Setup { me: 1, members: 32, rate: 8_000, depth: 4_204 };
@@ -28,12 +28,12 @@ fn close_by(number: u32) -> Vec<u8> {
     Datagram::Session { sender: 0, sent: 1, farewell: false, shown: page(0), rows, echoes }.encode(SESSION)
 }
 
-fn run(calls: &[(u8, u32, Vec<u8>)]) -> Ran {
+fn run(calls: &[(Kind, u32, Vec<u8>)]) -> Ran {
     let mut all = Calls::default();
     for (kind, after, bytes) in calls {
         all.add(*kind, 0, *after, bytes);
     }
-    all.run(USUAL, 1 << 22)
+    ran::run(&all, USUAL, 1 << 22)
 }
 
 fn print(title: &str, bytes: usize, ran: &Ran) {
@@ -41,21 +41,21 @@ fn print(title: &str, bytes: usize, ran: &Ran) {
 }
 
 pub fn measure() {
-    print("an agent that hears nothing", 0, &run(&[(TICK, 1, Vec::new())]));
+    print("an agent that hears nothing", 0, &run(&[(Kind::Tick, 1, Vec::new())]));
     for count in [1, 16, 240] {
         let message = rows(count);
-        let ran = run(&[(HEAR, 1, message.clone())]);
+        let ran = run(&[(Kind::Hear, 1, message.clone())]);
         print(&format!("a session message with {count} rows"), message.len(), &ran);
     }
     let zero = vec![0u8; 1_051];
     for (title, bytes) in [("noise", zero), ("a session message that says nothing new", close_by(1))] {
-        let calls: Vec<(u8, u32, Vec<u8>)> = (0..100_000).map(|_| (HEAR, 1, bytes.clone())).collect();
+        let calls: Vec<(Kind, u32, Vec<u8>)> = (0..100_000).map(|_| (Kind::Hear, 1, bytes.clone())).collect();
         print(&format!("100,000 times {title}"), bytes.len(), &run(&calls));
     }
     for number in [1, 33, 1_000, DRAWOPS] {
         let message = close_by(number);
-        let mut calls = vec![(HEAR, 1, message.clone())];
-        calls.extend((0..100).map(|_| (TICK, 1_000, Vec::new())));
+        let mut calls = vec![(Kind::Hear, 1, message.clone())];
+        calls.extend((0..100).map(|_| (Kind::Tick, 1_000, Vec::new())));
         let ran = run(&calls);
         print(&format!("{number} numbers that look a microsecond away, and 100 ticks"), message.len(), &ran);
     }

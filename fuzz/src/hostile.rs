@@ -1,10 +1,9 @@
 //! Datagrams of whoever wants to do harm, by a seed.
 
-use crate::datagram::{DRAWOPS, Datagram, Drawop, Echo, MEMBERS, Name, Page};
-use crate::plain::Agent;
 use crate::random::Random;
-
-pub const SESSION: u32 = 7;
+use srm_bench::calls::SESSION;
+use srm_bench::datagram::{DRAWOPS, Datagram, Drawop, Echo, MEMBERS, Name, Page};
+use srm_bench::plain::Agent;
 
 /// Who makes datagrams, and for which session.
 pub struct Hostile {

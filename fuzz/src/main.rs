@@ -1,23 +1,19 @@
 //! Hostile datagrams against the proved agent.
 
-mod calls;
 mod costs;
-#[path = "../../bench/src/datagram.rs"]
-mod datagram;
 mod hostile;
 mod judge;
+#[path = "../../bench/src/memory.rs"]
 mod memory;
-#[path = "../../bench/src/plain.rs"]
-mod plain;
 mod random;
+mod ran;
 mod session;
-#[path = "../../bench/src/words.rs"]
-mod words;
+mod spelled;
 
-use calls::Setup;
 use hostile::Hostile;
 use random::Random;
 use session::Attack;
+use srm_bench::calls::Setup;
 use std::time::Instant;
 
 /// Bytes of memory that a known name takes at most, beside its body, and that everything else does.

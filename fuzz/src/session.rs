@@ -1,14 +1,14 @@
 //! One agent under attack: its calls, and what the plain agent answers to the same.
 
-use crate::calls::{Calls, DRAW, GIVE, HEAR, LEAVE, Ran, Setup, TICK};
-use crate::datagram::{Datagram, Drawop, Name, Page};
-use crate::hostile::{GAP, Hostile, SESSION};
+use crate::hostile::{GAP, Hostile};
 use crate::judge::{self, Judge, Wanted};
-use crate::plain::{Agent, Config, Outcome, State};
-use crate::words::Pcg;
+use crate::ran::{self, Ran};
+use crate::spelled::Spelled;
+use srm_bench::calls::{Calls, FIRST_PAGE, Kind, Setup};
+use srm_bench::datagram::{Datagram, Drawop, Name, Page};
+use srm_bench::plain::{Agent, Outcome, State};
+use srm_bench::teller;
 use std::collections::HashSet;
-
-const FIRST_PAGE: Page = Page { creator: 0, number: 0 };
 
 /// Calls with what they are to answer, and what the plain agent knows after them.
 pub struct Attack {
@@ -26,12 +26,9 @@ pub struct Attack {
 
 impl Attack {
     pub fn new(setup: Setup) -> Attack {
-        let Setup { me, members, rate, depth } = setup;
-        let (rate, depth) = (rate.into(), depth.into());
-        let config = Config { me, members, session: SESSION, rate, depth, c1: 2, c2: 2, d1: 1, d2: 1 };
         Attack {
             setup,
-            plain: Agent::new(config, Pcg::new(1), 0),
+            plain: setup.plain_agent(),
             now: 0,
             calls: Calls::default(),
             wanted: Vec::new(),
@@ -41,22 +38,24 @@ impl Attack {
         }
     }
 
-    fn call(&mut self, kind: u8, slot: u8, after: u32, bytes: &[u8]) {
+    /// After each call the proved agent also tells when something is next due.
+    fn call(&mut self, kind: Kind, slot: u8, after: u32, bytes: &[u8]) {
         self.calls.add(kind, slot, after, bytes);
+        self.calls.add(Kind::Due, 0, 0, &[]);
         self.now += u64::from(after);
     }
 
     pub fn hear(&mut self, after: u32, bytes: &[u8]) {
-        self.call(HEAR, 0, after, bytes);
-        let datagram = Datagram::decode(SESSION, bytes);
+        self.call(Kind::Hear, 0, after, bytes);
+        let spelled = Spelled::read(bytes);
         let streams: HashSet<(u8, Page)> =
-            datagram.iter().flat_map(|datagram| datagram.names()).map(|name| (name.source, name.page)).collect();
+            spelled.iter().flat_map(|spelled| &spelled.names).map(|name| (name.source, name.page)).collect();
         let known = |plain: &Agent| -> u64 { streams.iter().map(|stream| u64::from(plain.known(stream.0, stream.1))).sum() };
         let before = known(&self.plain);
         let (arms, outcome) = self.plain.hear(bytes, self.now);
         self.known += known(&self.plain) - before;
         self.wanted.push(judge::heard(bytes, &arms, outcome));
-        if let (Outcome::Taken, Some(Datagram::Data(drawop) | Datagram::Repair { drawop, .. })) = (outcome, datagram) {
+        if let (Outcome::Taken, Some(Spelled { drawop: Some(drawop), .. })) = (outcome, spelled) {
             self.hold(&drawop);
         }
     }
@@ -69,20 +68,20 @@ impl Attack {
 
     /// Ticks, and answers how many datagrams went and whether data of its own was among them.
     pub fn tick(&mut self, after: u32) -> (usize, bool) {
-        self.call(TICK, 0, after, &[]);
+        self.call(Kind::Tick, 0, after, &[]);
         let ticked = self.plain.tick(self.now);
-        self.wanted.push(judge::ticked(&ticked));
+        self.wanted.push(Wanted::Said(teller::ticked(&ticked)));
         let has_data = ticked.outs.iter().any(|(datagram, _)| matches!(datagram, Datagram::Data(_)));
         (ticked.outs.len(), has_data)
     }
 
     pub fn give(&mut self, slot: u8) {
-        self.call(GIVE, slot, 0, &[]);
-        self.wanted.push(judge::given(&self.plain.give(slot.into())));
+        self.call(Kind::Give, slot, 0, &[]);
+        self.wanted.push(Wanted::Said(teller::given(&self.plain.give(slot.into()))));
     }
 
     pub fn draw(&mut self, body: &[u8]) {
-        self.call(DRAW, 0, 0, body);
+        self.call(Kind::Draw, 0, 0, body);
         let name = self.plain.draw(FIRST_PAGE, body, self.now).expect("room for a drawop");
         let drawop = Drawop { name, stamp: self.now, body: body.into() };
         self.known += 1;
@@ -92,13 +91,13 @@ impl Attack {
 
     /// The member leaves, and ticks until it is gone.
     pub fn leave(&mut self) {
-        self.call(LEAVE, 0, 0, &[]);
+        self.call(Kind::Leave, 0, 0, &[]);
         self.plain.leave(self.now);
-        self.wanted.push(judge::left());
+        self.wanted.push(Wanted::Said(teller::left()));
         loop {
-            self.call(TICK, 0, 1_000_000, &[]);
+            self.call(Kind::Tick, 0, 1_000_000, &[]);
             let ticked = self.plain.tick(self.now);
-            self.wanted.push(judge::ticked(&ticked));
+            self.wanted.push(Wanted::Said(teller::ticked(&ticked)));
             if ticked.state == State::Gone {
                 break;
             }
@@ -112,7 +111,7 @@ impl Attack {
         let sender = (self.setup.me + 1) % self.setup.members;
         for name in names {
             let drawop = Drawop { name, stamp: 1 << 48, body: b"another".as_slice().into() };
-            let bytes = Datagram::Repair { sender, drawop }.encode(SESSION);
+            let bytes = Datagram::Repair { sender, drawop }.encode(srm_bench::calls::SESSION);
             self.hear(0, &bytes);
         }
     }
@@ -127,7 +126,7 @@ impl Attack {
 
     /// Whether a datagram's numbers lie at most so far ahead.
     pub fn is_near(&self, bytes: &[u8]) -> bool {
-        let names = Datagram::decode(SESSION, bytes).map_or(Vec::new(), |datagram| datagram.names());
+        let names = Spelled::read(bytes).map_or(Vec::new(), |spelled| spelled.names);
         names.iter().all(|name| name.number <= self.plain.known(name.source, name.page) + GAP)
     }
 
@@ -156,8 +155,8 @@ impl Attack {
 
     /// Two proved agents make the calls; what they told is judged.
     pub fn run(&self) -> (Ran, Judge) {
-        let mut ran = self.calls.run(self.setup, self.room());
-        let again = self.calls.run(self.setup, self.room());
+        let mut ran = ran::run(&self.calls, self.setup, self.room());
+        let again = ran::run(&self.calls, self.setup, self.room());
         assert!(ran.told == again.told, "a second agent answers the same");
         ran.most = ran.most.max(again.most);
         let mut judge = Judge::default();

@@ -18,6 +18,10 @@ const DRAW: u8 = 3;
 
 const LEAVE: u8 = 4;
 
+const DUE: u8 = 5;
+
+const REST: u8 = 6;
+
 /// An agent of session 7 that makes calls and tells what they answer. Each is `None` where memory ran out.
 #[derive(Drop)]
 pub struct Caller {
@@ -41,8 +45,7 @@ impl Caller {
     }
 
     /// Makes so many calls, as far as bytes say them. A call is its kind, a slot, in two bytes how many bytes it hands in, in four how
-    /// many microseconds it comes after the one before, and the bytes. After what it answers comes when something is next due, or
-    /// the greatest number.
+    /// many microseconds it comes after the one before, and the bytes. One that rests does nothing.
     pub fn make(&mut self, count: u32, calls: &[u8], teller: &mut Teller) -> Option<()> {
         let mut rest = calls;
         for _ in 0..count {
@@ -55,7 +58,6 @@ impl Caller {
             let (bytes, behind) = behind.split_at(length);
             let after = u32::from_be_bytes([a, b, c, d]);
             self.call(kind, slot, bytes, after, teller)?;
-            teller.tell(self.agent.next_due().unwrap_or(u64::MAX));
             rest = behind;
         }
         Some(())
@@ -80,6 +82,8 @@ impl Caller {
                 teller.tell(drawn.map_or(0, of_name));
             }
             LEAVE => teller.tell(u64::from(self.agent.leave(now).is_ok())),
+            DUE => teller.tell(self.agent.next_due().unwrap_or(u64::MAX)),
+            REST => {}
             _ => return None,
         }
         Some(())

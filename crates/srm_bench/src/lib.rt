@@ -1,4 +1,5 @@
-//! What the benchmark and the driver for hostile datagrams call from Rust: one member's agent over many calls.
+//! What the benchmark and the driver for hostile datagrams call from Rust: one member's agent over many calls, and the moments of
+//! many names, which are cleared and set.
 //!
 //! What the agent answered is told in numbers, by which two agents can be compared.
 #![tactic(auto)]
@@ -6,43 +7,17 @@
 mod caller;
 mod clock;
 mod digest;
+mod moments;
 mod teller;
-mod workload;
 
 use crate::caller::Caller;
+use crate::moments::Moments;
 use crate::teller::Teller;
-use crate::workload::Workload;
 use std::alloc::Global;
 
-/// The agent of member 0 of three hears datagrams of `length` bytes each, ten microseconds apart, then gives so many times in
-/// slot 0, then draws so many bodies of 64 bytes on the first page, then begins to leave if it `leaves`, and then ticks so many
-/// times, `step` microseconds apart.
-/// 0 where memory ran out, or a number is out of range.
-#[unsafe(no_mangle)]
-pub extern "C" fn srm_bench(
-    alloc: Global,
-    bytes: &[u8],
-    length: usize,
-    gives: u32,
-    draws: u32,
-    ticks: u32,
-    step: u32,
-    leaves: bool,
-) -> u64 {
-    let Some(mut workload) = Workload::new(alloc) else {
-        return 0;
-    };
-    workload
-        .hear(bytes, length)
-        .and_then(|()| workload.give(gives))
-        .and_then(|()| workload.draw(draws))
-        .and_then(|()| workload.leave(leaves))
-        .and_then(|()| workload.tick(ticks, step))
-        .map_or(0, |()| workload.digest())
-}
-
 /// The agent of member `me` of so many makes `count` calls that bytes say, as [`Caller::make`](crate::caller::Caller) reads them, and writes what
-/// each answers. How many numbers were written; 0 where memory ran out, bytes say no call, or a setting is out of range.
+/// each answers. How many numbers were written; the greatest number where memory ran out, bytes say no call, or a setting is out of
+/// range.
 #[unsafe(no_mangle)]
 pub extern "C" fn srm_calls(
     alloc: Global,
@@ -56,9 +31,24 @@ pub extern "C" fn srm_calls(
 ) -> usize {
     let mut teller = Teller::new(told);
     let Some(mut caller) = Caller::new(alloc, me, members, rate, depth) else {
-        return 0;
+        return usize::MAX;
     };
     caller
         .make(count, calls, &mut teller)
-        .map_or(0, |()| teller.count())
+        .map_or(usize::MAX, |()| teller.count())
+}
+
+/// The moments of so many names of one stream, up to 65,536, are set, and then so many times the moment of one of them is found, and cleared
+/// and set again if it `sets` them. The first moment at the end; the greatest number where memory ran out, or there are no or too many
+/// names.
+#[unsafe(no_mangle)]
+pub extern "C" fn srm_moments(alloc: Global, names: u32, turns: u32, sets: bool) -> u64 {
+    let Some(mut moments) = Moments::new(alloc) else {
+        return u64::MAX;
+    };
+    moments
+        .set_first(names)
+        .and_then(|()| moments.turn(names, turns, sets))
+        .and_then(|()| moments.next())
+        .unwrap_or(u64::MAX)
 }

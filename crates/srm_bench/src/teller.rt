@@ -5,7 +5,7 @@ use srm_agent::{Arm, Cause, Heard, Outcome, Ticked};
 use srm_codec::Datagram;
 use srm_names::{Drawop, Name, Page, PageMsg};
 
-/// Numbers that are written one behind the other, as far as there is room.
+/// Numbers that are written one behind the other, as far as there is room. Behind the last place nothing is worked out.
 #[derive(Drop)]
 pub struct Teller<'a> {
     room: &'a mut [u64],
@@ -20,6 +20,10 @@ impl<'a> Teller<'a> {
     /// How many were written.
     pub fn count(&self) -> usize {
         self.count
+    }
+
+    fn is_full(&self) -> bool {
+        self.count >= self.room.len()
     }
 
     pub fn tell(&mut self, number: u64) {
@@ -40,6 +44,9 @@ impl<'a> Teller<'a> {
 
     /// How many were asked for and repaired, the timers, and each datagram.
     pub fn tell_ticked(&mut self, ticked: &Ticked) {
+        if self.is_full() {
+            return;
+        }
         self.tell_names(ticked.asks.as_slice());
         self.tell_names(ticked.fixes.as_slice());
         self.tell_arms(ticked.arms.as_slice());
@@ -81,6 +88,9 @@ impl<'a> Teller<'a> {
     }
 
     fn tell_arms(&mut self, arms: &[Arm]) {
+        if self.is_full() {
+            return;
+        }
         let mut digest = Digest::new();
         digest.add_arms(arms);
         self.tell(of_length(arms.len()));
@@ -88,6 +98,9 @@ impl<'a> Teller<'a> {
     }
 
     fn tell_names(&mut self, names: &[Name]) {
+        if self.is_full() {
+            return;
+        }
         let mut digest = Digest::new();
         for name in names {
             digest.add(of_name(*name));
@@ -97,6 +110,9 @@ impl<'a> Teller<'a> {
     }
 
     fn tell_bytes(&mut self, bytes: &[u8]) {
+        if self.is_full() {
+            return;
+        }
         let mut digest = Digest::new();
         for byte in bytes {
             digest.add(u64::from(*byte));

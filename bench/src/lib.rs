@@ -1,0 +1,10 @@
+//! The proved agent and a plain one at the same calls.
+
+pub mod calls;
+pub mod datagram;
+pub mod meter;
+pub mod moments;
+pub mod plain;
+pub mod teller;
+pub mod words;
+pub mod workload;
