@@ -1,82 +1,55 @@
-//! The program: a world of scripts.
+//! The program: a world of scripts, and a member over UDP.
 #![tactic(auto)]
 
-mod help;
-#[cfg(test)]
-mod tests;
-
-use help::{HELP, USAGE};
+use srm_member::{print_reply, run_node};
+use srm_options::read_world;
 use srm_script::{Fault, run_script};
+use std::alloc::{AllocError, Global};
 use std::io::{ErrorKind, Write, writer};
 use std::process::ExitCode;
 use std::rt::Env;
 use std::{env, io};
 
-/// The status of a command line that asks for nothing that the program does.
+/// The status of a command line that isn't text.
 const WRONG_USAGE: u8 = 2;
-
-/// What a command line asks for.
-#[derive(Clone, Copy, Debug, PartialEq, Eq)]
-enum Asked {
-    World,
-    Help,
-    Nothing,
-}
 
 fn main(rt: HostRuntime) -> ExitCode {
     let alloc = rt.alloc();
     let mut err = rt.stderr();
-    let status = match read_command_line(&rt) {
-        Ok(Asked::World) => run_script(alloc, &mut rt.stdin(), &mut writer(&rt), &mut err),
-        Ok(Asked::Help) => print_help(&mut writer(&rt), &mut err),
-        Err(error) if error.kind() == ErrorKind::OutOfMemory => Fault::Memory.tell(&mut err),
-        // A command line that isn't text asks for nothing either.
-        Ok(Asked::Nothing) | Err(_) => {
-            let _ = write!(err, "{USAGE}");
-            WRONG_USAGE
-        }
+    let words = match read_words(&rt) {
+        Ok(words) => words,
+        Err(error) => return ExitCode::from(tell_words(&error, &mut err)),
+    };
+    let Ok(texts) = texts_of(alloc, words.as_slice()) else {
+        return ExitCode::from(Fault::Memory.tell(&mut err));
+    };
+    let status = match texts.as_slice() {
+        ["node", words @ ..] => run_node(&rt, words, &mut rt.stdin(), &mut writer(&rt), &mut err),
+        words => match read_world(alloc, words) {
+            Ok(()) => run_script(alloc, &mut rt.stdin(), &mut writer(&rt), &mut err),
+            Err(reply) => print_reply(&reply, &mut writer(&rt), &mut err),
+        },
     };
     ExitCode::from(status)
 }
 
-/// Prints what the program does, and answers its status.
-fn print_help<O: Write, E: Write>(out: &mut O, err: &mut E) -> u8 {
-    match write!(out, "{HELP}") {
-        Ok(()) => 0,
-        Err(error) => Fault::of_output(error).tell(err),
-    }
+/// The words behind the program's name.
+fn read_words<R: Env + AllocGlobal>(rt: &R) -> io::Result<Vec<String>> {
+    let words: Vec<String> = env::args(rt)?.skip(1).collect(rt.alloc())?;
+    Ok(words)
 }
 
-/// What the command line asks for: `world`, or `--help` alone or behind it.
-fn read_command_line<R: Env + AllocGlobal>(rt: &R) -> io::Result<Asked> {
-    let mut words = env::args(rt)?;
-    let _program = words.next();
-    let Some(first) = words.next() else {
-        return Ok(Asked::Nothing);
-    };
-    let second = words.next();
-    if words.next().is_some() {
-        return Ok(Asked::Nothing);
-    }
-    Ok(match second {
-        None => asked_by(first.as_str()),
-        Some(second) => asked_of_world(first.as_str(), second.as_str()),
-    })
+fn texts_of<'a>(alloc: Global, words: &'a [String]) -> Result<Vec<&'a str>, AllocError> {
+    words.iter().map(|word| word.as_str()).collect(alloc)
 }
 
-/// What one word asks for.
-fn asked_by(word: &str) -> Asked {
-    match word {
-        "world" => Asked::World,
-        "--help" | "-h" => Asked::Help,
-        _ => Asked::Nothing,
-    }
-}
-
-/// What two words ask for.
-fn asked_of_world(first: &str, second: &str) -> Asked {
-    match (asked_by(first), asked_by(second)) {
-        (Asked::World, Asked::Help) => Asked::Help,
-        _ => Asked::Nothing,
+/// Prints why the command line can't be read, and answers the status.
+fn tell_words<E: Write>(error: &io::Error, err: &mut E) -> u8 {
+    match error.kind() {
+        ErrorKind::OutOfMemory => Fault::Memory.tell(err),
+        _ => {
+            let _ = writeln!(err, "error: the command line is no text");
+            WRONG_USAGE
+        }
     }
 }

@@ -1,0 +1,4 @@
+pub mod Lanes
+pub mod Splitting
+pub mod Stations
+pub mod Strokes

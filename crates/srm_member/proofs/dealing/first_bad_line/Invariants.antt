@@ -1,0 +1,12 @@
+use Rattle.std.proofs.Common.{◌≡◌, ◌+◌, ◌≤◌, length}
+use Rattle.srm_member.specs.Lines.{lines_of, bad_line}
+use Rattle.srm_member.proofs.dealing.first_bad_line.Given as goal
+
+abbrev pub invariant-loop-line : goal.invariant-loop-line
+invariant-loop-line l = record {
+  same : bad_line 1 (lines_of l.input) ≡ bad_line l.number (lines_of l.left);
+  room : l.number + length l.left ≤ length l.input + 1;
+}
+
+abbrev pub decreases-loop-line : goal.decreases-loop-line
+decreases-loop-line l = length l.left

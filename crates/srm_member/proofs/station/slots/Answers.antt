@@ -1,0 +1,8 @@
+use Rattle.srm_member.proofs.Lanes.{new_feeds, ends_of_lanes}
+use Rattle.srm_member.proofs.station.slots.Goals as goal
+
+pub returns-clause-feeds : goal.returns-clause-feeds
+returns-clause-feeds c = new_feeds 0 _ _ _ c.in_ok-ends.ensures
+
+pub returns-clause-lanes : goal.returns-clause-lanes
+returns-clause-lanes c = ends_of_lanes 0 _ _ _ c.in_ok-ends.ensures

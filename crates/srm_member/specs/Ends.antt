@@ -1,0 +1,41 @@
+-- How a member ends, and with which status.
+use Rattle.std.specs.Prelude.{◌≡◌, ◌⊎◌, ℕ, Bool, true, false, Option, Some, None, Result, Ok, Err}
+use Rattle.srm_script.specs.declared.fault.Fault.TheVariants.{Memory as OutOfMemory}
+use Rattle.srm_script.specs.Statuses.{status_of}
+use Rattle.srm_node.specs.declared.fault.NodeFault.{NodeFault}
+use Rattle.srm_node.specs.declared.fault.NodeFault.TheVariants.{Wire, Memory, Turns}
+use Rattle.srm_node.specs.declared.working.WorkEnd.{WorkEnd}
+use Rattle.srm_node.specs.declared.working.WorkEnd.TheVariants as end
+use Rattle.srm_node.specs.declared.working.Worked.{Worked}
+use Rattle.srm_options.specs.declared.reply.Reply.{Reply}
+use Rattle.srm_options.specs.declared.reply.Reply.TheVariants as reply
+use Rattle.srm_member.specs.declared.fault.MemberFault.{MemberFault}
+use Rattle.srm_member.specs.declared.fault.MemberFault.TheVariants as fault
+
+abbrev is_memory : WorkEnd → Bool
+is_memory end.Memory = true
+is_memory _ = false
+
+-- the worker ended for want of memory
+abbrev pub lacks_memory : Worked → Bool
+lacks_memory w = is_memory w.end
+
+-- Why a run was no whole one, by its end and whether a worker lacked memory: want of memory comes before all else.
+abbrev pub fault_of : Result (Unit {0}) NodeFault → Bool → Option MemberFault
+fault_of _ true = Some (fault.Script OutOfMemory)
+fault_of (Ok _) false = None
+fault_of (Err Memory) false = Some (fault.Script OutOfMemory)
+fault_of (Err Wire) false = Some fault.Wire
+fault_of (Err Turns) false = Some fault.Turns
+
+-- the status that the program ends with
+abbrev pub status_of_member : MemberFault → ℕ
+status_of_member (fault.Script f) = status_of f
+status_of_member fault.Wire = 3
+status_of_member fault.Turns = 4
+
+-- What was asked for is shown, unless the output fails; a wrong line is status 2, want of memory 4.
+abbrev pub StatusOf : Reply → ℕ → Type 0
+StatusOf (reply.Shown text) status = (status ≡ 0) ⊎ (status ≡ 1) ⊎ (status ≡ 4)
+StatusOf (reply.Wrong text) status = status ≡ 2
+StatusOf reply.Memory status = status ≡ 4

@@ -1,0 +1,18 @@
+-- What a pen draws.
+use Rattle.std.specs.Prelude.{◌≡◌, ℕ, List, ◌++◌, map}
+use Rattle.srm_pages.specs.declared.stroke.Stroke.{Stroke}
+use Rattle.srm_pages.specs.Ends.{PenView}
+
+-- the stroke with this body, of the pen at this place, on the first page
+abbrev pub stroke_of : ℕ → List ℕ → Stroke
+stroke_of pen body = record { pen = pen; page = record { creator = 0; number = 0 }; body = body }
+
+-- The pen sent all of these bodies but those that are left behind them, each once and in order.
+pub record Drew (bodies left : List (List ℕ)) (old new : PenView) : Type 0 where
+  pub sent : List (List ℕ)
+  pub split : bodies ≡ sent ++ left
+  pub is : new ≡ record old { sent = old.sent ++ map (stroke_of old.place) sent }
+
+-- the pen sent a front of these bodies
+abbrev pub DrewFront : List (List ℕ) → PenView → PenView → Type 0
+DrewFront bodies old new = (left : List (List ℕ)) × Drew bodies left old new

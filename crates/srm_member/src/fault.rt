@@ -1,0 +1,97 @@
+//! Why a member isn't run, or not to its end.
+
+ghost use Rattle.std.specs.Prelude.{◌≡◌, ◌≤◌};
+ghost use Rattle.std.specs.List.{list_any};
+ghost use Rattle.srm_member.specs.Ends.{fault_of, lacks_memory, status_of_member};
+
+use srm_node::{NodeFault, WorkEnd, Worked};
+use srm_script::Fault;
+use std::alloc::AllocError;
+use std::io;
+use std::io::{ErrorKind, Write};
+use thiserror::Error;
+
+/// Why a member isn't run, or not to its end. Its text is the line that standard error gets.
+#[derive(Debug, Drop, PartialEq, Eq, Error)]
+pub enum MemberFault {
+    /// As of a script: a stream that fails, an input that is refused, or want of memory.
+    #[error("{0}")]
+    Script(Fault),
+    /// The address can't be bound, or the socket failed.
+    #[error("srm: wire")]
+    Wire,
+    /// The turns were spent.
+    #[error("srm: turns")]
+    Turns,
+}
+
+impl MemberFault {
+    /// Why a run was no whole one, by its end and its workers. Want of memory, a worker's too, comes before all else.
+    pub fn of_run(end: Result<(), NodeFault>, worked: &[Worked]) -> Option<MemberFault>
+        ensures { result ≡ fault_of end (list_any lacks_memory worked.now) }
+    {
+        if any_lacks_memory(worked) {
+            return Some(MemberFault::Script(Fault::Memory));
+        }
+        match end {
+            Ok(()) => None,
+            Err(NodeFault::Memory) => Some(MemberFault::Script(Fault::Memory)),
+            Err(NodeFault::Wire) => Some(MemberFault::Wire),
+            Err(NodeFault::Turns) => Some(MemberFault::Turns),
+        }
+    }
+
+    /// Prints the fault on standard error, and answers the status that the program ends with.
+    pub fn tell<E: Write>(&self, err: &mut E) -> u8
+        ensures status { result ≡ status_of_member self.now }
+        ensures greatest { result ≤ 4 }
+    {
+        match self {
+            MemberFault::Script(fault) => fault.tell(err),
+            MemberFault::Wire => told(self, err, 3),
+            MemberFault::Turns => told(self, err, 4),
+        }
+    }
+
+    /// The fault of making a socket or a clock.
+    pub fn of_binding(error: io::Error) -> MemberFault {
+        match error.kind() {
+            ErrorKind::OutOfMemory => MemberFault::Script(Fault::Memory),
+            _ => MemberFault::Wire,
+        }
+    }
+}
+
+impl From<Fault> for MemberFault {
+    fn from(fault: Fault) -> MemberFault {
+        MemberFault::Script(fault)
+    }
+}
+
+impl From<AllocError> for MemberFault {
+    fn from(_error: AllocError) -> MemberFault {
+        MemberFault::Script(Fault::Memory)
+    }
+}
+
+// Prints the fault, and answers its status.
+fn told<E: Write>(fault: &MemberFault, err: &mut E, status: u8) -> u8
+    ensures { result ≡ status }
+{
+    // Where this can't be written there is nobody left to tell.
+    let _ = writeln!(err, "{fault}");
+    status
+}
+
+// Whether one of these workers ended for want of memory.
+fn any_lacks_memory(worked: &[Worked]) -> bool
+    ensures { result ≡ list_any lacks_memory worked.now }
+{
+    worked.iter().any(ended_for_memory)
+}
+
+fn ended_for_memory(worked: &Worked) -> bool
+    ensures { result ≡ lacks_memory worked.now }
+{
+    matches!(worked.end, WorkEnd::Memory)
+}

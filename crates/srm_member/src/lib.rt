@@ -1,0 +1,28 @@
+//! A member of a session over UDP, as `srm node` runs it.
+//!
+//! ```
+//! let status = run_node(&rt, words, &mut stdin, &mut stdout, &mut stderr); // the words behind `srm node`
+//! ```
+//!
+//! The member's node runs in the calling thread, its four pens and eight page workers in threads of their own. [`run_node`] reads all of the
+//! input before it binds the socket, and prints once all of them have ended. [`deal`] and [`Station`] are its parts, for a program that binds
+//! its sockets itself.
+//!
+//! **What is refused**, in this order: a wrong command line; an input that fails, is too long or has a line that is; an address that can't be
+//! bound; and what ends a run. [`MemberFault`] has the text and the status of each.
+#![tactic(auto)]
+
+mod dealing;
+mod fault;
+mod pens;
+mod printing;
+mod replying;
+mod running;
+mod sink;
+mod station;
+
+pub use dealing::deal;
+pub use fault::MemberFault;
+pub use replying::print_reply;
+pub use running::run_node;
+pub use station::Station;

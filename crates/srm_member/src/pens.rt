@@ -1,0 +1,138 @@
+//! The pens, each in a thread of its own.
+
+ghost use Rattle.std.specs.Prelude.{◌≡◌, [], ◌∷◌, ◌++◌};
+ghost use Rattle.std.specs.Bool.{OnTrue, OnFalse};
+ghost use Rattle.srm_member.specs.Strokes.{stroke_of, DrewFront};
+
+use bytes::Bytes;
+use srm_names::{Member, Page};
+use srm_pages::{Inked, Pen, Stroke};
+use std::alloc::{AllocError, Global};
+use std::collections::VecDeque;
+use std::sync::atomic::{AtomicBool, Ordering};
+use std::sync::{Arc, Wait};
+use std::thread::{JoinHandle, Threads};
+use std::time::Duration;
+use std::{thread, time};
+
+/// How long a pen waits before it tries again, in microseconds. To yield alone would keep a processor busy for each pen, as long as the rate
+/// keeps strokes back.
+const WAIT: u64 = 1_000;
+
+/// The threads of the pens, and the flag that tells them that the node has ended.
+#[derive(Drop)]
+pub struct PenThreads {
+    threads: VecDeque<JoinHandle<Inked>>,
+    ended: Arc<AtomicBool, Global>,
+}
+
+impl PenThreads {
+    /// No thread yet. Only want of memory refuses it.
+    pub fn new(alloc: Global) -> Result<PenThreads, AllocError> {
+        Ok(PenThreads {
+            threads: VecDeque::new(alloc),
+            ended: Arc::new(alloc, AtomicBool::new(false))?,
+        })
+    }
+
+    /// Starts a thread for each pen, which draws the bodies at its place, until one can't be started. Whether all were.
+    pub fn start<R: time::Clock + Threads + Wait + Copy + Send + 'static>(
+        &mut self,
+        rt: &R,
+        pens: Vec<Pen>,
+        dealt: Vec<Vec<Bytes>>,
+    ) -> bool {
+        let mut pens = VecDeque::from(pens);
+        let mut dealt = VecDeque::from(dealt);
+        for _ in 0..pens.len() {
+            let (Some(pen), Some(bodies)) = (pens.pop_front(), dealt.pop_front()) else {
+                return false;
+            };
+            if !self.start_one(rt, pen, bodies) {
+                return false;
+            }
+        }
+        true
+    }
+
+    /// Starts the thread of a pen. Whether it was started.
+    fn start_one<R: time::Clock + Threads + Wait + Copy + Send + 'static>(
+        &mut self,
+        rt: &R,
+        pen: Pen,
+        bodies: Vec<Bytes>,
+    ) -> bool {
+        if self.threads.reserve(1).is_err() {
+            return false;
+        }
+        let Ok(ended) = Arc::try_clone(&self.ended) else {
+            return false;
+        };
+        let own = *rt;
+        match thread::spawn(rt, move || draw_all(&own, pen, bodies, &ended)) {
+            Ok(thread) => self.threads.push_back(thread).is_ok(),
+            Err(_) => false,
+        }
+    }
+
+    /// Tells the threads that the node has ended, and waits for them.
+    pub fn end<R: Threads>(self, rt: &R) {
+        let PenThreads { threads, ended } = self;
+        ended.store(true, Ordering::SeqCst);
+        for thread in threads {
+            thread.join(rt);
+        }
+    }
+}
+
+/// Draws these bodies on the first page, in order, until the node has ended. The pen is then done.
+#[tactic(auto, using(crate::proofs::Strokes::drew_none, crate::proofs::Strokes::drew_more))]
+fn draw_all<R: time::Clock + Wait>(
+    rt: &R,
+    pen: Pen,
+    bodies: Vec<Bytes>,
+    ended: &AtomicBool,
+) -> Inked
+    ensures { DrewFront bodies.items pen result }
+{
+    let mut pen = pen;
+    for body in bodies {
+        if !draw(rt, &mut pen, body, ended) {
+            break;
+        }
+    }
+    pen.done()
+}
+
+/// Sends a stroke, and again while it comes back from a full well, until the node has ended. Whether it was sent.
+fn draw<R: time::Clock + Wait>(rt: &R, pen: &mut Pen, body: Bytes, ended: &AtomicBool) -> bool
+    ensures sent { OnTrue result (pen.new ≡ record pen.old { sent = pen.old.sent ++ stroke_of pen.old.place body ∷ [] }) }
+    ensures ended { OnFalse result (pen.new ≡ pen.old) }
+{
+    let mut stroke = Stroke {
+        pen: pen.place(),
+        page: first_page(),
+        body,
+    };
+    for _ in rt.forever() {
+        let Err(back) = pen.stroke(rt, stroke) else {
+            return true;
+        };
+        if ended.load(Ordering::SeqCst) {
+            return false;
+        }
+        stroke = back;
+        thread::sleep(rt, Duration::from_micros(WAIT));
+    }
+    unreachable!()
+}
+
+/// The page that every member has from the start.
+fn first_page() -> Page
+    ensures { result ≡ record { creator = 0; number = 0 } }
+{
+    let Some(creator) = Member::new(0) else {
+        unreachable!()
+    };
+    Page { creator, number: 0 }
+}

@@ -1,0 +1,40 @@
+//! What is printed at a member's end.
+
+use srm_names::Member;
+use srm_node::Worked;
+use srm_script::{Fault, ShownMessage};
+use std::alloc::Global;
+use std::io;
+use std::io::{BufWriter, Write};
+
+/// Prints what the worker of each slot took, in order, and that the member is gone. Refused is an output that can't be written, and, before
+/// anything is, want of memory.
+pub fn print_taken<O: Write>(
+    alloc: Global,
+    out: &mut O,
+    me: Member,
+    worked: &[Worked],
+) -> Result<(), Fault> {
+    let Ok(mut out) = BufWriter::new(alloc, out) else {
+        return Err(Fault::Memory);
+    };
+    match print_all(&mut out, me.number(), worked) {
+        Ok(()) => Ok(()),
+        Err(_) => Err(Fault::Output),
+    }
+}
+
+fn print_all<O: Write>(out: &mut O, me: u8, worked: &[Worked]) -> io::Result<()> {
+    for (slot, worked) in (0..u8::MAX).zip(worked) {
+        print_slot(out, me, slot, worked)?;
+    }
+    writeln!(out, "gone {me}")?;
+    out.flush()
+}
+
+fn print_slot<O: Write>(out: &mut O, me: u8, slot: u8, worked: &Worked) -> io::Result<()> {
+    for message in worked.list.as_slice() {
+        writeln!(out, "took {me} {slot} {}", ShownMessage(message))?;
+    }
+    Ok(())
+}

@@ -1,0 +1,29 @@
+//! What a command line gets in place of being done.
+
+ghost use Rattle.srm_member.specs.Ends.{StatusOf};
+
+use srm_options::Reply;
+use srm_script::Fault;
+use std::io::Write;
+
+/// The status of a wrong command line.
+const WRONG_USAGE: u8 = 2;
+
+/// Prints what a command line gets in place of being done: what it asks for to `out`, what is wrong in it to `err`. Answers the program's
+/// status.
+pub fn print_reply<O: Write, E: Write>(reply: &Reply, out: &mut O, err: &mut E) -> u8
+    ensures { StatusOf reply.now result }
+{
+    match reply {
+        Reply::Shown(text) => match write!(out, "{text}") {
+            Ok(()) => 0,
+            Err(error) => Fault::of_output(error).tell(err),
+        },
+        Reply::Wrong(text) => {
+            // Where this can't be written there is nobody left to tell.
+            let _ = write!(err, "{text}");
+            WRONG_USAGE
+        }
+        Reply::Memory => Fault::Memory.tell(err),
+    }
+}

@@ -1,0 +1,29 @@
+//! What the page workers of a member hand their messages to.
+
+ghost use Rattle.std.specs.Prelude.{◌≡◌, vec_len, IfOk};
+ghost use Rattle.srm_names.specs.declared.limits.TheConstants.{PAGES};
+
+use srm_names::{PAGES, PageMsg};
+use srm_node::PageSink;
+use std::alloc::{AllocError, Global};
+
+/// Shows nothing while the member runs: what was taken is printed at its end.
+#[derive(Clone, Copy, Debug)]
+pub struct Unseen;
+
+impl PageSink for Unseen {
+    fn message(&mut self, _slot: u8, _message: &PageMsg) -> bool {
+        true
+    }
+}
+
+/// One for each slot. Only want of memory refuses it.
+pub fn sinks(alloc: Global) -> Result<Vec<Unseen>, AllocError>
+    ensures { IfOk result (λ sinks. vec_len sinks ≡ PAGES) }
+{
+    let mut sinks = Vec::new(alloc);
+    for _ in 0..PAGES {
+        sinks.push(Unseen)?;
+    }
+    Ok(sinks)
+}
