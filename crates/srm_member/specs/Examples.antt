@@ -1,6 +1,10 @@
--- Texts and their lines.
-use Rattle.std.specs.Prelude.{◌≡◌, [], ◌∷◌, codes, refl, Some, None}
+-- Texts and their lines, and how a member ends.
+use Rattle.std.specs.Prelude.{◌≡◌, true, false, [], ◌∷◌, map, codes, refl, Some, None, Ok, Err}
+use Rattle.srm_script.specs.declared.fault.Fault.TheVariants.{Input, Memory}
+use Rattle.srm_node.specs.declared.fault.NodeFault.TheVariants as node
+use Rattle.srm_member.specs.declared.fault.MemberFault.TheVariants.{Script, Wire, Turns}
 use Rattle.srm_member.specs.Lines.{lines_of, each_fourth, bad_line}
+use Rattle.srm_member.specs.Ends.{fault_of, status_of_member}
 
 no_lines : lines_of [] ≡ []
 no_lines = refl
@@ -19,3 +23,12 @@ the_second_of_six = refl
 
 none_is_too_long : bad_line 1 ([] ∷ (97 ∷ []) ∷ []) ≡ None
 none_is_too_long = refl
+
+statuses : map status_of_member (Script Input ∷ Script Memory ∷ Wire ∷ Turns ∷ []) ≡ 1 ∷ 4 ∷ 3 ∷ 4 ∷ []
+statuses = refl
+
+a_worker_without_memory : fault_of (Ok tt) true ∷ fault_of (Err node.Wire) true ∷ [] ≡ Some (Script Memory) ∷ Some (Script Memory) ∷ []
+a_worker_without_memory = refl
+
+the_node_s_own_end : fault_of (Ok tt) false ∷ fault_of (Err node.Memory) false ∷ fault_of (Err node.Wire) false ∷ fault_of (Err node.Turns) false ∷ [] ≡ None ∷ Some (Script Memory) ∷ Some Wire ∷ Some Turns ∷ []
+the_node_s_own_end = refl

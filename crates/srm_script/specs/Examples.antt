@@ -1,9 +1,11 @@
--- Numbers of a script.
-use Rattle.std.specs.Prelude.{codes, refl}
+-- Numbers of a script, and the statuses of its faults.
+use Rattle.std.specs.Prelude.{◌≡◌, [], ◌∷◌, map, codes, refl}
 use Rattle.std.specs.Fmt.{digits}
 use Rattle.std.proofs.Common.{arith, inl, inr}
 use Rattle.srm_names.specs.declared.limits.TheConstants.{MOMENT}
+use Rattle.srm_script.specs.declared.fault.Fault.TheVariants.{Input, TooLong, BadLine, Output, Memory}
 use Rattle.srm_script.specs.Decimals.{IsDecimalUpTo, IsPadded}
+use Rattle.srm_script.specs.Statuses.{status_of}
 
 zero_is_a_number : IsDecimalUpTo 31 (codes "0") 0
 unfolding digits
@@ -22,3 +24,6 @@ a_leading_zero = inr (refl, omega arith)
 
 a_plus : IsPadded (codes "+1")
 a_plus = inl refl
+
+statuses : map status_of (Input ∷ TooLong ∷ BadLine 7 ∷ Output ∷ Memory ∷ []) ≡ 1 ∷ 1 ∷ 1 ∷ 1 ∷ 4 ∷ []
+statuses = refl
