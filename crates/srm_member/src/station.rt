@@ -1,6 +1,6 @@
 //! A member's station: its node, the taps for its page workers, and its pens.
 
-ghost use Rattle.std.specs.Prelude.{◌≡◌, vec_len, map, IfOk, IfSome, MatchResult};
+ghost use Rattle.std.specs.Prelude.{◌≡◌, Bool, vec_len, map, IfOk, IfSome, MatchResult};
 ghost use Rattle.srm_names.specs.declared.limits.TheConstants.{PAGES};
 ghost use Rattle.srm_node.specs.Nodes.{AreNewFeeds};
 ghost use Rattle.srm_node.specs.Hosting.{Hosts, HostFails, AreEndsOfLanes};
@@ -39,7 +39,7 @@ impl<R: time::Clock + Copy + Drop> Station<R> {
     where
         R: Net,
         requires { IsInRange options }
-        ensures { IfOk result (λ s. IsNewStation (config_of options) s.node s.taps.items s.pens.items) }
+        ensures { IfOk result (λ s. IsNewStation (config_of options) s.node.view s.taps.items s.pens.items) }
     {
         let config = config(&options);
         let NodeOptions {
@@ -64,7 +64,7 @@ impl<R: time::Clock + Copy + Drop> Station<R> {
     ) -> Result<Station<R>, MemberFault>
         requires options { IsInRange options.now }
         requires wire { wire.failures ≡ 0 }
-        ensures { IfOk result (λ s. IsNewStation (config_of options.now) s.node s.taps.items s.pens.items) }
+        ensures { IfOk result (λ s. IsNewStation (config_of options.now) s.node.view s.taps.items s.pens.items) }
     {
         Station::new(
             rt,
@@ -85,7 +85,7 @@ impl<R: time::Clock + Copy + Drop> Station<R> {
         wire: UdpWire,
     ) -> Result<Station<R>, MemberFault>
         requires { wire.failures ≡ 0 }
-        ensures { IfOk result (λ s. IsNewStation config s.node s.taps.items s.pens.items) }
+        ensures { IfOk result (λ s. IsNewStation config s.node.view s.taps.items s.pens.items) }
     {
         let clock = match SystemClock::new(*rt) {
             Ok(clock) => clock,
@@ -111,8 +111,8 @@ impl<R: time::Clock + Copy + Drop> Station<R> {
     where
         R: Threads + Wait + Send + 'static,
         requires { vec_len self.taps ≡ PAGES }
-        ensures hosts { IfOk result (λ h. MatchResult h.end (λ _. Hosts self.node self.taps.items turns h) (λ fault. HostFails self.node self.taps.items turns fault h)) }
-        ensures lanes { IfOk result (λ h. IfOk h.end (λ _. AreEndsOfLanes self.node.feeds self.taps.items → AreEndsOfLanes h.feeds.items (map (λ w. w.tap) h.worked.items))) }
+        ensures hosts { IfOk result (λ h. MatchResult h.end (λ _. Hosts self.node.view self.taps.items turns h) (λ fault. (all : Bool) × HostFails all self.node.view self.taps.items turns fault h)) }
+        ensures lanes { IfOk result (λ h. IfOk h.end (λ _. AreEndsOfLanes self.node.view.feeds self.taps.items → AreEndsOfLanes h.feeds.items (map (λ w. w.tap) h.worked.items))) }
     {
         let Station { node, taps, pens } = self;
         let sinks = sinks(alloc)?;
@@ -141,8 +141,8 @@ where
     R: time::Clock + Threads + Wait + Copy + Send + Drop + 'static,
     requires taps { vec_len taps ≡ PAGES }
     requires sinks { vec_len sinks ≡ PAGES }
-    ensures hosts { IfSome result (λ h. MatchResult h.end (λ _. Hosts node taps.items turns h) (λ fault. HostFails node taps.items turns fault h)) }
-    ensures lanes { IfSome result (λ h. IfOk h.end (λ _. AreEndsOfLanes node.feeds taps.items → AreEndsOfLanes h.feeds.items (map (λ w. w.tap) h.worked.items))) }
+    ensures hosts { IfSome result (λ h. MatchResult h.end (λ _. Hosts node.view taps.items turns h) (λ fault. (all : Bool) × HostFails all node.view taps.items turns fault h)) }
+    ensures lanes { IfSome result (λ h. IfOk h.end (λ _. AreEndsOfLanes node.view.feeds taps.items → AreEndsOfLanes h.feeds.items (map (λ w. w.tap) h.worked.items))) }
 {
     if !all {
         return None;

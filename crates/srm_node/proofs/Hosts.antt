@@ -4,7 +4,7 @@ use Rattle.std.specs.Prelude.{Some, slice_get, Result, Ok, Err, IfOk, MatchResul
 use Rattle.std.specs.Bool.{OnTrue, OnFalse}
 use Rattle.srm_node.specs.declared.fault.NodeFault.{NodeFault}
 use Rattle.srm_node.specs.declared.hosting.Hosted.{Hosted}
-use Rattle.std.proofs.lemmas.List.{append-nil}
+use Rattle.std.proofs.lemmas.List.{append-nil, length-append}
 use Rattle.std.proofs.lemmas.Option.{same_Some, slice_get_within}
 use Rattle.srm_pages.specs.Ends.{FeedView, TapView}
 use Rattle.srm_world.proofs.Laning.{at_place}
@@ -91,9 +91,9 @@ lanes_of_run limit a b h = lanes_of_turns h.count a b h.runs.turns
 
 -- what is handed out of a node that ran, and of its workers
 pub hosted : (r : Result (Unit {0}) NodeFault) (node last : NodeView) (taps : List TapView) (turns : ℕ) (all : Bool) (h : Hosted) (feeds : List FeedView) (keeps : Bool)
-    → MatchResult r (λ _. (all ≡ true) × Keeps last × RunsUpTo turns node last) (λ fault. StopsBy fault turns node last) → Keeps last
+    → MatchResult r (λ _. (all ≡ true) × Keeps last × RunsUpTo turns node last) (λ fault. StopsBy all fault turns node last) → Keeps last
     → h.journal ≡ last.journal → feeds ≡ last.feeds → OnTrue keeps (h.feeds.items ≡ feeds) → OnFalse keeps (h.feeds.items ≡ []) → keeps ≡ is_ok r → WorkedEach taps h.worked.items
-    → MatchResult r (λ _. (all ≡ true) × Hosts node taps turns h) (λ fault. HostFails node taps turns fault h)
+    → MatchResult r (λ _. (all ≡ true) × Hosts node taps turns h) (λ fault. HostFails all node taps turns fault h)
 hosted (Ok u) node last taps turns all h feeds keeps ran lists journal same kept none ok workers = (
   ran.0,
   record {
@@ -116,8 +116,13 @@ hosted (Err e) node last taps turns all h feeds keeps ran lists journal same kep
   joined = taps;
   rest = [];
   split = append-nil taps;
+  whole = no_more all [];
   workers = workers;
 }
+  where
+    no_more : (b : Bool) (ts : List TapView) → OnTrue b (ts ≡ ts)
+    no_more true ts = refl
+    no_more false ts = tt
 
 -- of the taps handed in the workers were started with the first
 pub starts_some : (all left : List TapView) (workers more : List Worker) → map started workers ++ left ≡ all → map started more ≡ map started workers → StartsSome all more
@@ -126,11 +131,16 @@ starts_some all left workers more starts same = record { rest = left; split = ap
 pub starts_whole : (all : List TapView) (workers : List Worker) → map started workers ≡ all → StartsSome all workers
 starts_whole all workers is = record { rest = []; split = append-nil (map started workers) ∙ is }
 
+-- nothing stands behind what is the whole already
+none_behind : (xs ys all : List TapView) → xs ++ ys ≡ all → xs ≡ all → ys ≡ []
+none_behind xs [] all split whole = refl
+none_behind xs (y ∷ ys) all split whole = absurd (omega (arith, ap length split, ap length whole, length-append xs (y ∷ ys)))
+
 -- what is handed out of the taps handed in
 pub host_ends : (r : Result (Unit {0}) NodeFault) (node : NodeView) (taps : List TapView) (workers : List Worker) (turns : ℕ) (all : Bool) (h : Hosted) → StartsSome taps workers → OnTrue all (map started workers ≡ taps)
-    → MatchResult r (λ _. (all ≡ true) × Hosts node (map started workers) turns h) (λ fault. HostFails node (map started workers) turns fault h) → MatchResult r (λ _. Hosts node taps turns h) (λ fault. HostFails node taps turns fault h)
+    → MatchResult r (λ _. (all ≡ true) × Hosts node (map started workers) turns h) (λ fault. HostFails all node (map started workers) turns fault h) → MatchResult r (λ _. Hosts node taps turns h) (λ fault. (all : Bool) × HostFails all node taps turns fault h)
 host_ends (Ok u) node taps workers turns all h some whole ran = subst (λ ts. Hosts node ts turns h) (let w : map started workers ≡ taps = subst (λ b. OnTrue b (map started workers ≡ taps)) ran.0 whole in w) ran.1
-host_ends (Err fault) node taps workers turns all h some whole f = record {
+host_ends (Err fault) node taps workers turns all h some whole f = (all, record {
   last = f.last;
   runs = f.runs;
   keeps = f.keeps;
@@ -139,8 +149,13 @@ host_ends (Err fault) node taps workers turns all h some whole f = record {
   joined = f.joined;
   rest = f.rest ++ some.rest;
   split = sym (append_assoc f.joined f.rest some.rest) ∙ ap (λ ts. ts ++ some.rest) f.split ∙ some.split;
+  whole = no_rest all whole f.whole;
   workers = f.workers;
-}
+})
+  where
+    no_rest : (b : Bool) → OnTrue b (map started workers ≡ taps) → OnTrue b (f.rest ≡ []) → OnTrue b (f.rest ++ some.rest ≡ [])
+    no_rest true same none = ap (λ ts. ts ++ some.rest) none ∙ none_behind (map started workers) some.rest taps some.split same
+    no_rest false same none = tt
 
 worked_at : (ts : List TapView) (ws : List Worked) (k : ℕ) (t : TapView) → WorkedEach ts ws → slice_get (map (λ (w : Worked). w.tap) ws) k ≡ Some t → (s : TapView) × (slice_get ts k ≡ Some s) × (t.lane ≡ s.lane)
 worked_at [] [] k t h at_t = cc
@@ -157,7 +172,7 @@ still_ends node taps turns h x ends k f t at_f at_t =
     let (s, at_s, lane) = worked_at taps h.worked.items k t x.workers at_t in
     ap (λ (y : FeedView). y.lane) (x.lanes k g f at_g at_last) ∙ ends k g s at_g at_s ∙ sym lane
 
-pub host_lanes : (r : Result (Unit {0}) NodeFault) (node : NodeView) (taps : List TapView) (turns : ℕ) (h : Hosted) → MatchResult r (λ _. Hosts node taps turns h) (λ fault. HostFails node taps turns fault h)
+pub host_lanes : (r : Result (Unit {0}) NodeFault) (node : NodeView) (taps : List TapView) (turns : ℕ) (h : Hosted) → MatchResult r (λ _. Hosts node taps turns h) (λ fault. (all : Bool) × HostFails all node taps turns fault h)
     → IfOk r (λ _. AreEndsOfLanes node.feeds taps → AreEndsOfLanes h.feeds.items (map (λ (w : Worked). w.tap) h.worked.items))
 host_lanes (Ok u) node taps turns h x = still_ends node taps turns h x
 host_lanes (Err e) node taps turns h x = tt

@@ -6,6 +6,7 @@ pub mod Draws
 pub mod Gives
 pub mod Ticks
 pub mod Keeping
+pub mod Waiting
 pub mod Turning
 pub mod Works
 pub mod Hosts

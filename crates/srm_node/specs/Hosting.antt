@@ -1,5 +1,6 @@
 -- A node and its page workers in threads.
-use Rattle.std.specs.Prelude.{◌≡◌, ◌⊎◌, ℕ, List, [], ◌∷◌, ◌++◌, map, length, slice_get, Some, Err}
+use Rattle.std.specs.Prelude.{◌≡◌, ◌⊎◌, ℕ, Bool, true, false, List, [], ◌∷◌, ◌++◌, map, length, slice_get, Some, Err}
+use Rattle.std.specs.Bool.{OnTrue}
 use Rattle.srm_pages.specs.Ends.{FeedView, TapView}
 use Rattle.srm_node.specs.declared.hosting.Worker.{Worker}
 use Rattle.srm_node.specs.declared.hosting.Hosted.{Hosted}
@@ -38,20 +39,22 @@ pub record StartsSome (taps : List TapView) (workers : List Worker) : Type 0 whe
   pub rest : List TapView
   pub split : map started workers ++ rest ≡ taps
 
--- the node ran into this fault; or it was not turned, since a worker couldn't be started
-abbrev pub StopsBy : NodeFault → ℕ → NodeView → NodeView → Type 0
-StopsBy fault turns old new = RunEnds (Err fault) turns old new ⊎ ((fault ≡ Memory) × (new ≡ old))
+-- with all workers started the node ran into this fault; or it was not turned, since a worker couldn't be started
+abbrev pub StopsBy : Bool → NodeFault → ℕ → NodeView → NodeView → Type 0
+StopsBy all fault turns old new = ((all ≡ true) × RunEnds (Err fault) turns old new) ⊎ ((all ≡ false) × (fault ≡ Memory) × (new ≡ old))
 
--- After a fault: the feeds were let go. Its journal is handed back, and the tap and list of each worker that was started.
-pub record HostFails (node : NodeView) (taps : List TapView) (turns : ℕ) (fault : NodeFault) (h : Hosted) : Type 0 where
+-- After a fault: the feeds were let go. The node's journal is handed back, and the tap and list of each worker that was started: of all, or
+-- of some.
+pub record HostFails (all : Bool) (node : NodeView) (taps : List TapView) (turns : ℕ) (fault : NodeFault) (h : Hosted) : Type 0 where
   pub last : NodeView
-  pub runs : StopsBy fault turns node last
+  pub runs : StopsBy all fault turns node last
   pub keeps : Keeps last
   pub journal : h.journal ≡ last.journal
   pub feeds : h.feeds.items ≡ []
   pub joined : List TapView
   pub rest : List TapView
   pub split : joined ++ rest ≡ taps
+  pub whole : OnTrue all (rest ≡ [])
   pub workers : WorkedEach joined h.worked.items
 
 -- the feed and the tap of a slot are the ends of one lane

@@ -2,6 +2,7 @@ pub mod Carrying
 pub mod Counting
 pub mod Parts
 pub mod Nodes
+pub mod Waits
 pub mod Turns
 pub mod TurnExamples
 pub mod Working

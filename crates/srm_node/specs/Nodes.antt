@@ -5,6 +5,7 @@ use Rattle.srm_pages.specs.declared.stroke.Stroke.{Stroke}
 use Rattle.srm_pages.specs.Ends.{FeedView, WellView}
 use Rattle.srm_entries.specs.Configs.{Config}
 use Rattle.srm_world.specs.Traces.{Journal}
+use Rattle.srm_world.specs.Words.{Recorded}
 use Rattle.srm_node.specs.declared.limits.TheConstants.{BUFFER}
 use Rattle.srm_wire.specs.Wires.{Told}
 use Rattle.srm_node.specs.Carrying.{KeepsLists}
@@ -17,6 +18,15 @@ pub record NodeView : Type 0 where
   pub hand : Option Stroke
   pub failures : ℕ
   pub told : Option Told
+
+-- what contracts see of a node: this, and its source of words as it stands
+pub record NodeState (W : Type 0) : Type 0 where
+  pub view : NodeView
+  pub words : W
+
+-- what they see of the recorder in it
+abbrev pub recorded_in : {W : Type 0} → NodeState W → Recorded W
+recorded_in n = record { journal = n.view.journal; words = n.words }
 
 -- what always holds of a node
 abbrev pub Keeps : NodeView → Type 0

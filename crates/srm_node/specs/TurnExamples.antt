@@ -1,17 +1,21 @@
--- The drawing and the leaving of a turn, at worked examples.
-use Rattle.std.specs.Prelude.{◌≡◌, true, false, List, [], ◌∷◌, ◌++◌, Some, None, replicate, refl}
+-- The drawing, the leaving and the waits of a turn, at worked examples.
+use Rattle.std.specs.Prelude.{◌≡◌, ℕ, true, false, List, [], ◌∷◌, ◌++◌, Some, None, replicate, refl}
 use Rattle.std.proofs.Common.{arith}
 use Rattle.srm_names.specs.Names.{first_page}
+use Rattle.srm_codec.specs.declared.datagram.Datagram.TheVariants.{Data}
+use Rattle.srm_timers.specs.Draws.{draw_listed}
 use Rattle.srm_pages.specs.declared.stroke.Stroke.{Stroke}
 use Rattle.srm_pages.specs.Ends.{WellView}
 use Rattle.srm_entries.specs.declared.entry.Entry.{Entry}
 use Rattle.srm_entries.specs.declared.entry.Input.TheVariants.{AskedLeave}
 use Rattle.srm_entries.specs.declared.state.AgentState.TheVariants.{Active}
 use Rattle.srm_entries.specs.declared.state.AgentState.TheVariants as states
-use Rattle.srm_entries.specs.Sample.{in_roster, drawop_of, draws, entry, quiet}
+use Rattle.srm_entries.specs.Sample.{in_roster, drawop_of, draws, hears, ask_arm, entry, quiet}
 use Rattle.srm_world.specs.Traces.{Journal}
 use Rattle.srm_world.specs.Recording.{IsAt}
+use Rattle.srm_world.specs.Words.{Recorded}
 use Rattle.srm_node.specs.Parts.{IsAdmitted, Draws, DrawingEnds, Leaves}
+use Rattle.srm_node.specs.Waits.{WaitsByWords}
 
 -- a member with a bucket of 1,051 bytes, which is one full datagram
 abbrev journal : List Entry → Journal
@@ -59,3 +63,16 @@ not_while_admitted = refl
 -- a member leaves where none is left
 leaves_then : Leaves 2 true (journal (first_drawn ∷ [])) (journal (first_drawn ∷ asked ∷ []))
 leaves_then = record { entries = asked ∷ []; grown = refl; moments = (refl, tt); once = omega arith; inputs = (refl, tt); waits = tt }
+
+-- Behind a draw, which sets no timer, number 2 is heard and number 1 is missing: its wait is by the next word, and the other stays.
+abbrev one_missing : (wait : ℕ) → Entry
+one_missing wait = hears 0 7 (Data (drawop_of 1 2 (7 ∷ []))) (ask_arm 1 0 wait ∷ [])
+
+abbrev before_it : Recorded (List ℕ)
+before_it = record { journal = journal []; words = 5 ∷ 9 ∷ [] }
+
+abbrev behind_it : (wait : ℕ) → List ℕ → Recorded (List ℕ)
+behind_it wait words = record { journal = journal (first_drawn ∷ one_missing wait ∷ []); words = words }
+
+waits_by_one_word : WaitsByWords draw_listed before_it (behind_it 200005 (9 ∷ []))
+waits_by_one_word = record { start = refl; words = record { added = first_drawn ∷ one_missing 200005 ∷ []; grown = refl; words = (refl, refl) } }

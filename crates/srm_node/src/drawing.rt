@@ -4,6 +4,7 @@ ghost use Rattle.std.specs.Prelude.{◌≡◌, ◌≤◌, true, option_to_list, 
 ghost use Rattle.srm_names.specs.declared.limits.TheConstants.{MOMENT};
 ghost use Rattle.srm_world.specs.Claims.{IsLawfulJournal};
 ghost use Rattle.srm_node.specs.Parts.{Pops, IsAdmitted, DrawsOne, DrewStrokes, DrewStrokesCut};
+ghost use Rattle.srm_node.specs.Waits.{WaitsByWords};
 
 use crate::fault::{OutOfMemory, is_memory};
 use crate::limits::DRAWN;
@@ -41,6 +42,7 @@ pub fn draw_strokes<R: Wait, W: Words + Drop>(
     requires moment { now ≤ MOMENT }
     requires lawful { IsLawfulJournal recorder.old.journal }
     ensures lawful { IsLawfulJournal recorder.new.journal }
+    ensures words { WaitsByWords W.draw recorder.old recorder.new }
     ensures draws { MatchResult result.1 (λ drawn. DrewStrokes now drawn.none_left recorder.old.journal recorder.new.journal well.old well.new hand result.0)
         (λ _. DrewStrokesCut now recorder.old.journal recorder.new.journal well.old well.new hand result.0) }
 {
@@ -87,6 +89,7 @@ fn draw_stroke<W: Words + Drop>(
     requires lawful { IsLawfulJournal recorder.old.journal }
     requires admitted { IsAdmitted now recorder.old.journal stroke.now true }
     ensures lawful { IsLawfulJournal recorder.new.journal }
+    ensures words { WaitsByWords W.draw recorder.old recorder.new }
     ensures draws { MatchResult result (λ _. DrawsOne now stroke.now recorder.old.journal recorder.new.journal) (λ _. recorder.new.journal ≡ recorder.old.journal) }
 {
     let Ok(body) = stroke.body.clone() else {

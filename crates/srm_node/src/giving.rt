@@ -7,6 +7,7 @@ ghost use Rattle.srm_entries.specs.Giving.{given};
 ghost use Rattle.srm_world.specs.Claims.{IsLawfulJournal};
 ghost use Rattle.srm_node.specs.Carrying.{Carries, CarriesEach};
 ghost use Rattle.srm_node.specs.Parts.{Gives, GivesUpTo, GaveSome};
+ghost use Rattle.srm_node.specs.Waits.{WaitsByWords};
 
 use crate::fault::OutOfMemory;
 use srm_names::{PAGES, PageMsg};
@@ -25,7 +26,8 @@ pub fn give_all<R: Wait, W: Words + Drop>(
     requires lawful { IsLawfulJournal recorder.old.journal }
     requires slots { length feeds.old.items ≡ PAGES }
     requires carries { CarriesEach recorder.old.journal feeds.old.items }
-    ensures { MatchResult result (λ _. GivesUpTo PAGES recorder.old.journal recorder.new.journal feeds.old.items feeds.new.items)
+    ensures words { WaitsByWords W.draw recorder.old recorder.new }
+    ensures gives { MatchResult result (λ _. GivesUpTo PAGES recorder.old.journal recorder.new.journal feeds.old.items feeds.new.items)
         (λ _. GaveSome recorder.old.journal recorder.new.journal feeds.old.items feeds.new.items) }
 {
     for slot in 0..PAGES {
@@ -48,7 +50,8 @@ fn give_slot<R: Wait, W: Words + Drop>(
     requires lawful { IsLawfulJournal recorder.old.journal }
     requires slot { slot < PAGES }
     requires carries { Carries (given recorder.old.journal.entries slot) feed.old }
-    ensures { MatchResult result (λ _. Gives slot true recorder.old.journal recorder.new.journal feed.old feed.new)
+    ensures words { WaitsByWords W.draw recorder.old recorder.new }
+    ensures gives { MatchResult result (λ _. Gives slot true recorder.old.journal recorder.new.journal feed.old feed.new)
         (λ _. Gives slot false recorder.old.journal recorder.new.journal feed.old feed.new) }
 {
     for _ in rt.forever() {
@@ -58,7 +61,10 @@ fn give_slot<R: Wait, W: Words + Drop>(
         if feed.credit() == 0 {
             return Ok(());
         }
-        if give_next(rt, recorder, feed, slot, closed)? {
+        let Ok(ended) = give_next(rt, recorder, feed, slot, closed) else {
+            return Err(OutOfMemory);
+        };
+        if ended {
             return Ok(());
         }
     }
@@ -78,7 +84,8 @@ fn give_next<R: Wait, W: Words + Drop>(
     requires stands { feed.old.lost ≡ false }
     requires credit { 0 < credit_of feed.old }
     requires carries { Carries (given recorder.old.journal.entries slot) feed.old }
-    ensures { MatchResult result (λ ended. Gives slot ended recorder.old.journal recorder.new.journal feed.old feed.new)
+    ensures words { WaitsByWords W.draw recorder.old recorder.new }
+    ensures gives { MatchResult result (λ ended. Gives slot ended recorder.old.journal recorder.new.journal feed.old feed.new)
         (λ _. Gives slot false recorder.old.journal recorder.new.journal feed.old feed.new) }
 {
     let Ok(given) = recorder.give(slot) else {

@@ -1,6 +1,6 @@
 //! A node and its page workers, in threads.
 
-ghost use Rattle.std.specs.Prelude.{◌≡◌, ◌+◌, ◌<◌, ◌≤◌, true, [], ◌∷◌, ◌++◌, map, length, vec_len, vec_capacity, IfOk, IfSome, MatchResult};
+ghost use Rattle.std.specs.Prelude.{◌≡◌, ◌+◌, ◌<◌, ◌≤◌, Bool, true, [], ◌∷◌, ◌++◌, map, length, vec_len, vec_capacity, IfOk, IfSome, MatchResult};
 ghost use Rattle.std.specs.Bool.{OnTrue, OnFalse};
 ghost use Rattle.srm_names.specs.declared.limits.TheConstants.{PAGES};
 ghost use Rattle.srm_node.specs.Nodes.{Keeps};
@@ -70,8 +70,8 @@ pub fn host<
 ) -> Result<Hosted, AllocError>
     requires taps { vec_len taps ≡ PAGES }
     requires sinks { vec_len sinks ≡ PAGES }
-    ensures hosts { IfOk result (λ h. MatchResult h.end (λ _. Hosts node taps.items turns h) (λ fault. HostFails node taps.items turns fault h)) }
-    ensures lanes { IfOk result (λ h. IfOk h.end (λ _. AreEndsOfLanes node.feeds taps.items → AreEndsOfLanes h.feeds.items (map (λ w. w.tap) h.worked.items))) }
+    ensures hosts { IfOk result (λ h. MatchResult h.end (λ _. Hosts node.view taps.items turns h) (λ fault. (all : Bool) × HostFails all node.view taps.items turns fault h)) }
+    ensures lanes { IfOk result (λ h. IfOk h.end (λ _. AreEndsOfLanes node.view.feeds taps.items → AreEndsOfLanes h.feeds.items (map (λ w. w.tap) h.worked.items))) }
 {
     let (mut workers, mut worked) = places(alloc)?;
     let all = begin(rt, alloc, taps, sinks, &mut workers, &mut worked);
@@ -101,7 +101,7 @@ fn go<R: Threads + Wait, W: Words + Drop, X: Wire + Drop, C: Clock + Drop>(
 ) -> Hosted
     requires room { vec_len worked + length workers.items ≤ vec_capacity worked }
     requires none { worked.items ≡ [] }
-    ensures { MatchResult result.end (λ _. (all ≡ true) × Hosts node (map started workers.items) turns result) (λ fault. HostFails node (map started workers.items) turns fault result) }
+    ensures { MatchResult result.end (λ _. (all ≡ true) × Hosts node.view (map started workers.items) turns result) (λ fault. HostFails all node.view (map started workers.items) turns fault result) }
 {
     let mut node = node;
     let end = run_if(rt, &mut node, all, turns);
@@ -144,7 +144,7 @@ fn run_if<R: Wait, W: Words + Drop, X: Wire + Drop, C: Clock + Drop>(
     all: bool,
     turns: u64,
 ) -> Result<(), NodeFault>
-    ensures { MatchResult result (λ _. (all ≡ true) × Keeps node.new × RunsUpTo turns node.old node.new) (λ fault. StopsBy fault turns node.old node.new) }
+    ensures { MatchResult result (λ _. (all ≡ true) × Keeps node.new.view × RunsUpTo turns node.old.view node.new.view) (λ fault. StopsBy all fault turns node.old.view node.new.view) }
 {
     if !all {
         return Err(NodeFault::Memory);

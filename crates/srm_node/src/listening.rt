@@ -5,6 +5,7 @@ ghost use Rattle.srm_names.specs.declared.limits.TheConstants.{MOMENT};
 ghost use Rattle.srm_world.specs.Claims.{IsLawfulJournal};
 ghost use Rattle.srm_wire.specs.Wires.{CountsIf};
 ghost use Rattle.srm_node.specs.Parts.{Listened, ListenedCut};
+ghost use Rattle.srm_node.specs.Waits.{WaitsByWords};
 
 use crate::fault::OutOfMemory;
 use crate::limits::RECEIVED;
@@ -30,6 +31,7 @@ pub fn listen<W: Words + Drop, X: Wire>(
     requires moment { now ≤ MOMENT }
     requires lawful { IsLawfulJournal recorder.old.journal }
     ensures lawful { IsLawfulJournal recorder.new.journal }
+    ensures words { WaitsByWords W.draw recorder.old recorder.new }
     ensures failures { MatchResult result (λ heard. CountsIf heard.failed (X.failed wire.old) (X.failed wire.new)) (λ _. CountsIf false (X.failed wire.old) (X.failed wire.new)) }
     ensures hears { MatchResult result (λ heard. Listened now heard.failed recorder.old.journal recorder.new.journal (X.told wire.old) (X.told wire.new))
         (λ _. ListenedCut now recorder.old.journal recorder.new.journal (X.told wire.old) (X.told wire.new)) }

@@ -3,7 +3,8 @@
 ghost use Rattle.std.specs.Prelude.{◌≡◌, ◌≤◌, true, false, [], None, IfOk, MatchResult};
 ghost use Rattle.srm_names.specs.declared.limits.TheConstants.{MOMENT, PAGES};
 ghost use Rattle.srm_node.specs.Counting.{counts_of};
-ghost use Rattle.srm_node.specs.Nodes.{Keeps, AreNewFeeds, IsNewNode};
+ghost use Rattle.srm_node.specs.Nodes.{Keeps, AreNewFeeds, IsNewNode, recorded_in};
+ghost use Rattle.srm_node.specs.Waits.{WaitsByWords};
 ghost use Rattle.srm_node.specs.Turns.{HearsNow, DrawsNow, LeavesNow, TicksNow, GivesNow, HearsCut, DrawsCut, GivesCut, TurnEnds, Paused, RunEnds};
 
 use crate::counting::{Counts, counts_in};
@@ -27,7 +28,7 @@ use std::marker::Model;
 use std::sync::Wait;
 
 /// A member that takes part in a session: its agent over a wire and a clock, the feeds of its page workers, and the well of its pens.
-/// Contracts see it as a record.
+/// Contracts see it as a record, and its source of words as it stands.
 #[derive(Drop)]
 pub struct Node<W: Words + Drop, X: Wire + Drop, C: Clock + Drop> {
     config: Config,
@@ -49,17 +50,20 @@ pub struct Node<W: Words + Drop, X: Wire + Drop, C: Clock + Drop> {
 
 impl<W: Words + Drop, X: Wire + Drop, C: Clock + Drop> Model for Node<W, X, C> {
     ghost use Rattle.std.specs.Prelude.{vec_len};
-    ghost use Rattle.srm_node.specs.Nodes.{NodeView, IsNode};
+    ghost use Rattle.srm_node.specs.Nodes.{NodeState, IsNode};
 
-    ghost Value = { NodeView };
+    ghost Value = { NodeState W };
 
     ghost view = { λ n. record {
-      journal = n.recorder.journal;
-      feeds = n.feeds.items;
-      well = n.well;
-      hand = n.hand;
-      failures = X.failed n.wire;
-      told = X.told n.wire;
+      view = record {
+        journal = n.recorder.journal;
+        feeds = n.feeds.items;
+        well = n.well;
+        hand = n.hand;
+        failures = X.failed n.wire;
+        told = X.told n.wire;
+      };
+      words = n.recorder.words;
     } };
 
     ghost invariant = { λ n. IsNode (record {
@@ -86,7 +90,8 @@ impl<W: Words + Drop, X: Wire + Drop, C: Clock + Drop> Node<W, X, C> {
     ) -> Result<Node<W, X, C>, AllocError>
         requires feeds { AreNewFeeds feeds.items }
         requires well { well.received ≡ [] }
-        ensures { IfOk result (λ node. IsNewNode config feeds.items well (X.failed wire) (X.told wire) node) }
+        ensures value { IfOk result (λ node. IsNewNode config feeds.items well (X.failed wire) (X.told wire) node.view) }
+        ensures words { IfOk result (λ node. node.words ≡ words) }
     {
         let now = clock.now().min(MOMENT);
         Ok(Node {
@@ -122,8 +127,9 @@ impl<W: Words + Drop, X: Wire + Drop, C: Clock + Drop> Node<W, X, C> {
     /// fault 2 it was cut in one of its parts, and the parts before were done: a stroke in hand is kept for the next turn, a datagram in
     /// hand counts as lost. Fault 2 is the answer too where fault 1 would have come in that turn.
     pub fn turn<R: Wait>(&mut self, rt: &R) -> Result<(), NodeFault>
-        ensures keeps { Keeps self.new }
-        ensures turns { TurnEnds result self.old self.new }
+        ensures keeps { Keeps self.new.view }
+        ensures turns { TurnEnds result self.old.view self.new.view }
+        ensures words { WaitsByWords W.draw (recorded_in self.old) (recorded_in self.new) }
     {
         let now = self.clock.now().min(MOMENT);
         let Ok(unheard) = self.listen_now(now) else {
@@ -150,16 +156,16 @@ impl<W: Words + Drop, X: Wire + Drop, C: Clock + Drop> Node<W, X, C> {
 
     /// How much of what the member was given came to nothing so far. It takes no memory, and looks at all entries.
     pub fn counts(&self) -> Counts
-        ensures { result ≡ counts_of self.now.journal.entries }
+        ensures { result ≡ counts_of self.now.view.journal.entries }
     {
         counts_in(self.recorder.entries())
     }
 
     /// Gives the node up for its journal and its feeds. It takes no memory.
     pub fn finish(self) -> (Journal, Vec<Feed>)
-        ensures journal { result.0 ≡ self.journal }
-        ensures feeds { result.1.items ≡ self.feeds }
-        ensures keeps { Keeps self }
+        ensures journal { result.0 ≡ self.view.journal }
+        ensures feeds { result.1.items ≡ self.view.feeds }
+        ensures keeps { Keeps self.view }
     {
         (self.recorder.finish(), self.feeds)
     }
@@ -169,8 +175,9 @@ impl<W: Words + Drop, X: Wire + Drop, C: Clock + Drop> Node<W, X, C> {
     /// least 1,000, and after one that heard or drew 64 there is none. It stops at the first fault, and may be called again. Fault 3:
     /// the turns are spent.
     pub fn run<R: Wait>(&mut self, rt: &R, turns: u64) -> Result<(), NodeFault>
-        ensures keeps { Keeps self.new }
-        ensures runs { RunEnds result turns self.old self.new }
+        ensures keeps { Keeps self.new.view }
+        ensures runs { RunEnds result turns self.old.view self.new.view }
+        ensures words { WaitsByWords W.draw (recorded_in self.old) (recorded_in self.new) }
     {
         let _ = &self.feeds;
         for done in 0..turns {
@@ -195,8 +202,9 @@ impl<W: Words + Drop, X: Wire + Drop, C: Clock + Drop> Node<W, X, C> {
 
     // Waits until something is due or the stroke in hand may go, but not long.
     fn pause(&mut self)
-        ensures keeps { Keeps self.new }
-        ensures paused { Paused self.old self.new }
+        ensures keeps { Keeps self.new.view }
+        ensures paused { Paused self.old.view self.new.view }
+        ensures words { self.new.words ≡ self.old.words }
     {
         let now = self.clock.now().min(MOMENT);
         let due = earlier(self.recorder.next_due(), self.hand_due());
@@ -215,8 +223,9 @@ impl<W: Words + Drop, X: Wire + Drop, C: Clock + Drop> Node<W, X, C> {
     // Hears what came. Whether a call failed.
     fn listen_now(&mut self, now: u64) -> Result<bool, OutOfMemory>
         requires { now ≤ MOMENT }
-        ensures keeps { Keeps self.new }
-        ensures hears { MatchResult result (λ unheard. HearsNow now unheard self.old self.new) (λ _. HearsCut now self.old self.new) }
+        ensures keeps { Keeps self.new.view }
+        ensures hears { MatchResult result (λ unheard. HearsNow now unheard self.old.view self.new.view) (λ _. HearsCut now self.old.view self.new.view) }
+        ensures words { WaitsByWords W.draw (recorded_in self.old) (recorded_in self.new) }
     {
         let listened = listen(
             &mut self.recorder,
@@ -234,8 +243,9 @@ impl<W: Words + Drop, X: Wire + Drop, C: Clock + Drop> Node<W, X, C> {
     // Draws strokes, as far as the rate lets them go. Whether none is left.
     fn draw_now<R: Wait>(&mut self, rt: &R, now: u64) -> Result<bool, OutOfMemory>
         requires { now ≤ MOMENT }
-        ensures keeps { Keeps self.new }
-        ensures draws { MatchResult result (λ none_left. DrawsNow now none_left self.old self.new) (λ _. DrawsCut now self.old self.new) }
+        ensures keeps { Keeps self.new.view }
+        ensures draws { MatchResult result (λ none_left. DrawsNow now none_left self.old.view self.new.view) (λ _. DrawsCut now self.old.view self.new.view) }
+        ensures words { WaitsByWords W.draw (recorded_in self.old) (recorded_in self.new) }
     {
         let hand = self.hand.take();
         let (kept, drew) = draw_strokes(rt, &mut self.recorder, &mut self.well, hand, now);
@@ -250,8 +260,9 @@ impl<W: Words + Drop, X: Wire + Drop, C: Clock + Drop> Node<W, X, C> {
     // Leaves if the node was asked to by now, its pens are done, and no stroke is left.
     fn leave_now(&mut self, done: bool, none_left: bool, now: u64) -> Result<(), OutOfMemory>
         requires { now ≤ MOMENT }
-        ensures keeps { Keeps self.new }
-        ensures leaves { MatchResult result (λ _. LeavesNow now none_left self.old self.new) (λ _. self.new ≡ self.old) }
+        ensures keeps { Keeps self.new.view }
+        ensures leaves { MatchResult result (λ _. LeavesNow now none_left self.old.view self.new.view) (λ _. self.new.view ≡ self.old.view) }
+        ensures words { WaitsByWords W.draw (recorded_in self.old) (recorded_in self.new) }
     {
         let asked = self.leave_at;
         let due = done && is_due(asked, now);
@@ -263,8 +274,9 @@ impl<W: Words + Drop, X: Wire + Drop, C: Clock + Drop> Node<W, X, C> {
     // Ticks once, and sends. Whether a call failed.
     fn tick_now(&mut self, now: u64) -> Result<bool, OutOfMemory>
         requires { now ≤ MOMENT }
-        ensures keeps { Keeps self.new }
-        ensures ticks { MatchResult result (λ unsent. TicksNow now unsent self.old self.new) (λ _. self.new ≡ self.old) }
+        ensures keeps { Keeps self.new.view }
+        ensures ticks { MatchResult result (λ unsent. TicksNow now unsent self.old.view self.new.view) (λ _. self.new.view ≡ self.old.view) }
+        ensures words { WaitsByWords W.draw (recorded_in self.old) (recorded_in self.new) }
     {
         let Ok(ticked) = tick(&mut self.recorder, now) else {
             return Err(OutOfMemory);
@@ -280,8 +292,9 @@ impl<W: Words + Drop, X: Wire + Drop, C: Clock + Drop> Node<W, X, C> {
 
     // Gives all slots messages.
     fn give_now<R: Wait>(&mut self, rt: &R) -> Result<(), OutOfMemory>
-        ensures keeps { Keeps self.new }
-        ensures gives { MatchResult result (λ _. GivesNow PAGES self.old self.new) (λ _. GivesCut self.old self.new) }
+        ensures keeps { Keeps self.new.view }
+        ensures gives { MatchResult result (λ _. GivesNow PAGES self.old.view self.new.view) (λ _. GivesCut self.old.view self.new.view) }
+        ensures words { WaitsByWords W.draw (recorded_in self.old) (recorded_in self.new) }
     {
         give_all(rt, &mut self.recorder, &mut self.feeds, &mut self.closed)
     }

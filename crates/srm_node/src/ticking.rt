@@ -4,6 +4,7 @@ ghost use Rattle.std.specs.Prelude.{◌≡◌, ◌≤◌, MatchResult};
 ghost use Rattle.srm_names.specs.declared.limits.TheConstants.{MOMENT};
 ghost use Rattle.srm_world.specs.Claims.{IsLawfulJournal};
 ghost use Rattle.srm_node.specs.Parts.{Leaves, Ticks};
+ghost use Rattle.srm_node.specs.Waits.{WaitsByWords};
 
 use crate::fault::{OutOfMemory, is_memory};
 use srm_agent::Ticked;
@@ -14,6 +15,7 @@ use srm_world::Recorder;
 pub fn tick<W: Words + Drop>(recorder: &mut Recorder<W>, now: u64) -> Result<Ticked, OutOfMemory>
     requires { now ≤ MOMENT }
     ensures lawful { IsLawfulJournal recorder.new.journal }
+    ensures words { WaitsByWords W.draw recorder.old recorder.new }
     ensures ticks { MatchResult result (λ ticked. Ticks now ticked.outs recorder.old.journal recorder.new.journal) (λ _. recorder.new.journal ≡ recorder.old.journal) }
 {
     match recorder.tick(now) {
@@ -32,6 +34,7 @@ pub fn leave<W: Words + Drop>(
     requires moment { now ≤ MOMENT }
     requires lawful { IsLawfulJournal recorder.old.journal }
     ensures lawful { IsLawfulJournal recorder.new.journal }
+    ensures words { WaitsByWords W.draw recorder.old recorder.new }
     ensures leaves { MatchResult result (λ _. Leaves now none_left recorder.old.journal recorder.new.journal) (λ _. recorder.new.journal ≡ recorder.old.journal) }
 {
     if !none_left {

@@ -7,5 +7,5 @@ use Rattle.srm_member.proofs.station.Station.new.Goals as goal
 pub returns : goal.returns
 returns g c =
     let slots : length c.in_ok-feeds.taps.items ≡ PAGES = search (rules, c.in_ok-feeds.ensures.taps) in
-    subst (λ n. IsNewStation c.args.config n c.in_ok-feeds.taps.items c.in_ok-well.pens.items) (sym c.ask_leave.ensures)
-    (new_station _ _ _ _ _ _ _ c.in_ok-node.ensures c.requires slots c.in_ok-feeds.ensures.lanes c.in_ok-well.ensures.pens.1)
+    subst (λ n. IsNewStation c.args.config n.view c.in_ok-feeds.taps.items c.in_ok-well.pens.items) (sym c.ask_leave.ensures)
+    (new_station _ _ _ _ _ _ _ c.in_ok-node.ensures.value c.requires slots c.in_ok-feeds.ensures.lanes c.in_ok-well.ensures.pens.1)

@@ -1,0 +1,14 @@
+use Rattle.srm_node.proofs.Turning.{runs_more}
+use Rattle.srm_node.proofs.Waiting.{waits_on, waits_paused}
+use Rattle.srm_node.proofs.node.Node.run.Goals as goal
+
+pub returns-in_err-turn-clause-words : goal.returns-in_err-turn-clause-words
+returns-in_err-turn-clause-words g c =
+    waits_on g.W.Words.draw _ _ _ (waits_on g.W.Words.draw _ _ _ c.loop-done.invariant.words (waits_paused g.W.Words.draw c.loop-done.self c.pause.new.self c.pause.ensures.paused c.pause.ensures.words)) c.in_err-turn.ensures.words
+
+pub loop-done-preserved : goal.loop-done-preserved
+loop-done-preserved g c = record {
+  keeps = c.in_ok-turn.ensures.keeps;
+  words = waits_on g.W.Words.draw _ _ _ (waits_on g.W.Words.draw _ _ _ c.loop-done.invariant.words (waits_paused g.W.Words.draw c.loop-done.self c.pause.new.self c.pause.ensures.paused c.pause.ensures.words)) c.in_ok-turn.ensures.words;
+  runs = runs_more c.loop-done.done _ c.loop-done.self.view c.pause.new.self.view _ c.loop-done.invariant.runs c.pause.ensures.paused c.in_ok-turn.ensures.turns;
+}
