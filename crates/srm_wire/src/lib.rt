@@ -12,6 +12,8 @@ mod mem_wire;
 mod network;
 mod sending;
 mod sent;
+#[cfg(test)]
+mod tests;
 mod wire;
 
 pub use clock::Clock;

@@ -1,0 +1,85 @@
+//! What became of a node and its workers.
+
+ghost use Rattle.std.specs.Prelude.{◌≡◌, vec_len};
+ghost use Rattle.srm_names.specs.declared.limits.TheConstants.{PAGES};
+
+use crate::station::Station;
+use srm_agent::{Entry, Input};
+use srm_names::PageMsg;
+use srm_node::{Hosted, NodeFault, PageSink, WorkEnd, Worked, host};
+use std::alloc::Global;
+use std::process::Abort;
+use std::sync::Wait;
+use std::thread::Threads;
+
+/// Hosts the node for so many turns.
+pub(crate) fn host_station<
+    R: Threads + Wait + Abort + Copy + Send + Drop + 'static,
+    S: PageSink + Send + Drop + 'static,
+>(rt: &R, alloc: Global, station: Station<R>, sinks: Vec<S>, turns: u64) -> Hosted
+    requires taps { vec_len station.taps ≡ PAGES }
+    requires sinks { vec_len sinks ≡ PAGES }
+{
+    let Station { node, taps, .. } = station;
+    match host(rt, alloc, node, taps, sinks, turns) {
+        Ok(hosted) => hosted,
+        Err(_) => panic!(rt; "memory"),
+    }
+}
+
+/// What the journal gave in slot 0: how many messages, and whether a close is among them.
+#[derive(Clone, Copy)]
+pub(crate) struct Gave {
+    pub count: usize,
+    pub closed: bool,
+}
+
+fn message_in_first(entry: &Entry) -> Option<&PageMsg> {
+    match entry.input {
+        Input::Gave(0) => entry.effects.message.as_ref(),
+        _ => None,
+    }
+}
+
+pub(crate) fn gave_in_first(entries: &[Entry]) -> Gave {
+    let mut gave = Gave {
+        count: 0,
+        closed: false,
+    };
+    for entry in entries {
+        if let Some(message) = message_in_first(entry) {
+            gave = Gave {
+                count: gave.count.saturating_add(1),
+                closed: gave.closed || matches!(message, PageMsg::Close),
+            };
+        }
+    }
+    gave
+}
+
+fn assert_worker(rt: &impl Abort, worked: &Worked, count: usize, end: WorkEnd) {
+    assert_eq!(rt; worked.list.len(), count);
+    assert_eq!(rt; worked.end, end);
+}
+
+/// There are eight workers, which took so many messages each, in order of their slots, and ended so.
+fn assert_workers(rt: &impl Abort, all: &[Worked], wanted: &[(usize, WorkEnd)]) {
+    assert_eq!(rt; (all.len(), wanted.len()), (8, 8));
+    for (worked, (count, end)) in all.iter().zip(wanted) {
+        assert_worker(rt, worked, *count, *end);
+    }
+}
+
+/// The node ended so, handed back so many feeds, and its workers took so many messages each and ended so. What it gave in slot 0.
+pub(crate) fn assert_hosted(
+    rt: &impl Abort,
+    hosted: Hosted,
+    end: Result<(), NodeFault>,
+    feeds: usize,
+    wanted: &[(usize, WorkEnd)],
+) -> Gave {
+    assert_eq!(rt; hosted.end, end);
+    assert_eq!(rt; hosted.feeds.len(), feeds);
+    assert_workers(rt, hosted.worked.as_slice(), wanted);
+    gave_in_first(hosted.journal.entries())
+}

@@ -1,0 +1,18 @@
+//! Nodes and their page workers in threads, as their callers see them: that calls go through with ample memory, that messages arrive
+//! between threads, and how workers end.
+#![tactic(auto)]
+
+#[cfg(test)]
+mod hosted;
+#[cfg(test)]
+mod hosting;
+#[cfg(test)]
+mod seen;
+#[cfg(test)]
+mod sinks;
+#[cfg(test)]
+mod station;
+#[cfg(test)]
+mod three;
+#[cfg(test)]
+mod working;

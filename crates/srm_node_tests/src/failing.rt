@@ -1,0 +1,171 @@
+//! Wires that fail.
+
+ghost use Rattle.std.specs.Prelude.{None};
+
+use crate::plays::{pair, play_over, two};
+use crate::rig::config;
+use crate::seen::Seen;
+use crate::steps::{Step, play};
+use crate::tales::{Tale, end};
+use srm_names::Member;
+use srm_node::{NodeFault, Wire, WireFault};
+use std::alloc::Global;
+use std::process::Abort;
+use std::sync::Wait;
+
+/// A wire that fails for ever, and tells nothing.
+#[derive(Drop)]
+pub(crate) struct Broken {
+    failures: u64,
+}
+
+impl Wire for Broken {
+    ghost failed = { λ w. w.failures };
+
+    ghost told = { λ _. None };
+
+    fn send(&mut self, _to: Member, _datagram: &[u8]) -> Result<(), WireFault> {
+        self.failures = self.failures.saturating_add(1);
+        Err(WireFault)
+    }
+
+    fn receive(&mut self, _buffer: &mut [u8]) -> Result<Option<usize>, WireFault> {
+        self.failures = self.failures.saturating_add(1);
+        Err(WireFault)
+    }
+
+    fn pause(&mut self, _micros: u64) {}
+
+    fn failures(&self) -> u64 {
+        self.failures
+    }
+}
+
+fn play_broken<R: Wait + Abort>(
+    rt: &R,
+    alloc: Global,
+    failures: u64,
+    steps: &[Step],
+    tales: &[Tale],
+) {
+    let wire = Broken { failures };
+    play_over(rt, alloc, config(rt, 0, 2), wire, 0, steps, tales);
+}
+
+// Each turn is done to its end, a run's too: it stops at the first fault, and may be called again.
+#[test]
+fn a_wire_that_fails_for_ever_cuts_no_turn(rt: HostRuntime) {
+    let steps = [
+        Step::Ink(b'a'),
+        Step::Turn(Err(NodeFault::Wire)),
+        Step::Takes(0, Seen::Open(0, 0)),
+        Step::Takes(0, Seen::Draw(0, 1, 1, b'a')),
+        Step::Run(9, Err(NodeFault::Wire)),
+        Step::Run(9, Err(NodeFault::Wire)),
+    ];
+    let tales = [Tale::Sizes(30, 3, 26), Tale::Drawn(1, 5, 5)];
+    play_broken(&rt, rt.alloc(), 0, &steps, &tales);
+}
+
+// A count of failures that stands at the greatest stays there.
+#[test]
+fn a_wire_may_have_failed_as_often_as_can_be_counted(rt: HostRuntime) {
+    let steps = [Step::Turn(Err(NodeFault::Wire))];
+    play_broken(&rt, rt.alloc(), u64::MAX, &steps, &[]);
+}
+
+/// Member 0 draws three strokes and leaves, over a wire whose k-th call fails; then member 1 turns, is asked to leave and turns once
+/// more. Its first tap takes these. In its first turn, undisturbed, member 0 receives once, and sends three strokes and its farewell:
+/// five calls.
+fn assert_over_flaky<R: Wait + Abort + Copy + Drop>(rt: R, alloc: Global, k: u64, taken: &[Step]) {
+    let (mut first, mut second) = pair(rt, alloc, two(&rt), k, &[]);
+    let draws = [
+        Step::Ink(b'a'),
+        Step::Ink(b'b'),
+        Step::Ink(b'c'),
+        Step::Done,
+        Step::Leave(0),
+        Step::Turn(Err(NodeFault::Wire)),
+        Step::Turn(Ok(())),
+        Step::Turn(Ok(())),
+    ];
+    let hears = [
+        Step::Done,
+        Step::Turn(Ok(())),
+        Step::Leave(0),
+        Step::Turn(Ok(())),
+        Step::Takes(0, Seen::Open(0, 0)),
+    ];
+    play(&rt, alloc, &mut first, &draws);
+    play(&rt, alloc, &mut second, &hears);
+    play(&rt, alloc, &mut second, taken);
+    end(&rt, first, &[Tale::Drawn(3, 5, 5)]);
+    end(&rt, second, &[]);
+}
+
+#[test]
+fn a_receive_that_fails_loses_nothing(rt: HostRuntime) {
+    let taken = [
+        Step::Takes(0, Seen::Draw(0, 1, 1, b'a')),
+        Step::Takes(0, Seen::Draw(0, 2, 1, b'b')),
+        Step::Takes(0, Seen::Draw(0, 3, 1, b'c')),
+        Step::Takes(0, Seen::Left(0)),
+        Step::Takes(0, Seen::Close),
+    ];
+    assert_over_flaky(rt, rt.alloc(), 1, &taken);
+}
+
+#[test]
+fn a_first_send_that_fails_leaves_nothing(rt: HostRuntime) {
+    assert_over_flaky(rt, rt.alloc(), 2, &[Step::Takes(0, Seen::Close)]);
+}
+
+#[test]
+fn a_second_send_that_fails_leaves_one_stroke(rt: HostRuntime) {
+    let taken = [
+        Step::Takes(0, Seen::Draw(0, 1, 1, b'a')),
+        Step::Takes(0, Seen::Close),
+    ];
+    assert_over_flaky(rt, rt.alloc(), 3, &taken);
+}
+
+#[test]
+fn a_third_send_that_fails_leaves_two_strokes(rt: HostRuntime) {
+    let taken = [
+        Step::Takes(0, Seen::Draw(0, 1, 1, b'a')),
+        Step::Takes(0, Seen::Draw(0, 2, 1, b'b')),
+        Step::Takes(0, Seen::Close),
+    ];
+    assert_over_flaky(rt, rt.alloc(), 4, &taken);
+}
+
+#[test]
+fn a_farewell_that_is_not_sent_leaves_all_strokes(rt: HostRuntime) {
+    let taken = [
+        Step::Takes(0, Seen::Draw(0, 1, 1, b'a')),
+        Step::Takes(0, Seen::Draw(0, 2, 1, b'b')),
+        Step::Takes(0, Seen::Draw(0, 3, 1, b'c')),
+        Step::Takes(0, Seen::Close),
+    ];
+    assert_over_flaky(rt, rt.alloc(), 5, &taken);
+}
+
+// The sixth call is the receive of the second turn.
+#[test]
+fn a_first_turn_makes_five_calls(rt: HostRuntime) {
+    let alloc = rt.alloc();
+    let (mut first, second) = pair(rt, alloc, two(&rt), 6, &[]);
+    let steps = [
+        Step::Ink(b'a'),
+        Step::Ink(b'b'),
+        Step::Ink(b'c'),
+        Step::Done,
+        Step::Leave(0),
+        Step::Turn(Ok(())),
+        Step::Turn(Err(NodeFault::Wire)),
+        Step::Turn(Ok(())),
+    ];
+    play(&rt, alloc, &mut first, &steps);
+    end(&rt, first, &[]);
+    end(&rt, second, &[]);
+}

@@ -1,0 +1,41 @@
+//! Nodes and wires in memory at worked calls, as their callers see them: what no clause says, that calls go through with ample memory
+//! and that messages arrive.
+//!
+//! Most tests are lists of steps, which one function takes with a node whose clock is set by hand. The tests stand in a crate of their
+//! own: the node is proved once, and not a second time with them.
+#![tactic(auto)]
+
+#[cfg(test)]
+mod counting;
+#[cfg(test)]
+mod datagrams;
+#[cfg(test)]
+mod failing;
+#[cfg(test)]
+mod faults;
+#[cfg(test)]
+mod filling;
+#[cfg(test)]
+mod giving;
+#[cfg(test)]
+mod pairs;
+#[cfg(test)]
+mod plays;
+#[cfg(test)]
+mod rating;
+#[cfg(test)]
+mod rig;
+#[cfg(test)]
+mod running;
+#[cfg(test)]
+mod seen;
+#[cfg(test)]
+mod settings;
+#[cfg(test)]
+mod steps;
+#[cfg(test)]
+mod strokes;
+#[cfg(test)]
+mod tales;
+#[cfg(test)]
+mod turning;

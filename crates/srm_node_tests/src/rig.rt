@@ -1,0 +1,151 @@
+//! A node with what is outside it: its clock, its taps, its pens, and wires of members without a node.
+
+ghost use Rattle.std.specs.Prelude.{◌≡◌, []};
+ghost use Rattle.srm_node.specs.Nodes.{AreNewFeeds};
+
+use srm_agent::Config;
+use srm_names::Member;
+use srm_node::{Clock, Fate, Flaky, MemWire, Node, Wire, hub};
+use srm_pages::{Feed, Pen, Tap, ends, lanes, well};
+use srm_timers::Listed;
+use std::alloc::{AllocError, Global};
+use std::process::Abort;
+use std::sync::atomic::{AtomicU64, Ordering};
+use std::sync::{Arc, Wait};
+
+/// A clock that is set by hand, and goes on by so many microseconds whenever it is read.
+#[derive(Drop)]
+pub(crate) struct TestClock {
+    now: Arc<AtomicU64, Global>,
+    step: u64,
+}
+
+impl Clock for TestClock {
+    fn now(&self) -> u64 {
+        self.now.fetch_add(self.step, Ordering::SeqCst)
+    }
+}
+
+/// A node with what is outside it.
+#[derive(Drop)]
+pub(crate) struct Rig<X: Wire + Drop> {
+    pub node: Node<Listed, X, TestClock>,
+    pub now: Arc<AtomicU64, Global>,
+    pub taps: Vec<Tap>,
+    pub pens: Vec<Pen>,
+    /// Wires of other members, which have no node.
+    pub beside: Vec<X>,
+}
+
+/// The wire that most nodes have.
+pub(crate) type TestWire<R> = Flaky<MemWire<R>>;
+
+pub(crate) fn member(rt: &impl Abort, number: u8) -> Member {
+    Member::new(number).expect(rt, "a member")
+}
+
+/// The settings that most members have, in session 7.
+pub(crate) fn config(rt: &impl Abort, me: u8, members: u8) -> Config {
+    Config::new(member(rt, me), members, 7, 8_000, 4_204, 2, 2, 1, 1).expect(rt, "settings")
+}
+
+/// The wires of a network of so many members, where copies of member 0 have these fates.
+fn wires_by<R: Wait + Copy + Drop>(
+    rt: R,
+    alloc: Global,
+    members: u8,
+    fates: &[Fate],
+) -> Result<Vec<MemWire<R>>, AllocError> {
+    let own = fates.to_vec(alloc)?;
+    let mut all = Vec::new(alloc);
+    all.push(own)?;
+    hub(rt, alloc, members, all)
+}
+
+/// The wires of a network of so many members, where copies of member 0 have these fates.
+pub(crate) fn wires<R: Wait + Abort + Copy + Drop>(
+    rt: R,
+    alloc: Global,
+    members: u8,
+    fates: &[Fate],
+) -> Vec<MemWire<R>> {
+    wires_by(rt, alloc, members, fates).expect(&rt, "memory")
+}
+
+/// The wire of the first member of those left.
+pub(crate) fn first<R: Wait + Abort + Drop>(rt: &R, wires: &mut Vec<MemWire<R>>) -> MemWire<R> {
+    assert!(rt; !wires.is_empty());
+    wires.remove(0)
+}
+
+/// The wire of the last member of those left.
+pub(crate) fn last<R: Wait + Abort + Drop>(rt: &R, wires: &mut Vec<MemWire<R>>) -> MemWire<R> {
+    wires.pop().expect(rt, "a wire")
+}
+
+/// The feeds and taps of new lanes.
+fn new_lanes(rt: &impl Abort, alloc: Global) -> (Vec<Feed>, Vec<Tap>)
+    ensures { AreNewFeeds result.0.items }
+{
+    match lanes(alloc, 0) {
+        Ok(ends) => (ends.feeds, ends.taps),
+        Err(_) => panic!(rt; "memory"),
+    }
+}
+
+fn new_well(rt: &impl Abort, alloc: Global) -> (ends::Well, Vec<Pen>)
+    ensures { result.0.received ≡ [] }
+{
+    match well(alloc) {
+        Ok(made) => made,
+        Err(_) => panic!(rt; "memory"),
+    }
+}
+
+/// What a clock is read from and set by, which stands at 5.
+fn new_now(rt: &impl Abort, alloc: Global) -> Arc<AtomicU64, Global> {
+    Arc::new(alloc, AtomicU64::new(5)).expect(rt, "memory")
+}
+
+fn new_node<X: Wire + Drop>(
+    rt: &impl Abort,
+    alloc: Global,
+    config: Config,
+    wire: X,
+    clock: TestClock,
+    feeds: Vec<Feed>,
+    well: ends::Well,
+) -> Node<Listed, X, TestClock>
+    requires feeds { AreNewFeeds feeds.items }
+    requires well { well.received ≡ [] }
+{
+    let words = Listed::new(Vec::new(alloc));
+    match Node::new(alloc, config, words, wire, clock, feeds, well) {
+        Ok(node) => node,
+        Err(_) => panic!(rt; "memory"),
+    }
+}
+
+/// A new node, whose clock stands at 5 and goes on by so many microseconds whenever it is read.
+pub(crate) fn make_rig<X: Wire + Drop>(
+    rt: &impl Abort,
+    alloc: Global,
+    config: Config,
+    wire: X,
+    step: u64,
+) -> Rig<X> {
+    let now = new_now(rt, alloc);
+    let clock = TestClock {
+        now: Arc::try_clone(&now).expect(rt, "memory"),
+        step,
+    };
+    let (feeds, taps) = new_lanes(rt, alloc);
+    let (well, pens) = new_well(rt, alloc);
+    Rig {
+        node: new_node(rt, alloc, config, wire, clock, feeds, well),
+        now,
+        taps,
+        pens,
+        beside: Vec::new(alloc),
+    }
+}

@@ -1,0 +1,77 @@
+//! Runs of one node, and how it leaves.
+
+use crate::plays::play_alone;
+use crate::seen::Seen;
+use crate::steps::Step;
+use srm_node::NodeFault;
+
+// In its second turn the node is gone, and has given a close in each slot.
+#[test]
+fn a_run_goes_on_after_its_turns_are_spent(rt: HostRuntime) {
+    let steps = [
+        Step::Ink(b'a'),
+        Step::Done,
+        Step::Run(0, Err(NodeFault::Turns)),
+        Step::Run(1, Err(NodeFault::Turns)),
+        Step::Leave(0),
+        Step::Run(1, Ok(())),
+        Step::Run(0, Ok(())),
+        Step::Takes(0, Seen::Open(0, 0)),
+        Step::Takes(0, Seen::Draw(0, 1, 1, b'a')),
+        Step::Takes(0, Seen::Close),
+        Step::Takes(0, Seen::End),
+        Step::Takes(7, Seen::Close),
+    ];
+    play_alone(rt, rt.alloc(), &steps, &[]);
+}
+
+#[test]
+fn a_node_leaves_at_the_moment_it_was_asked_for(rt: HostRuntime) {
+    let steps = [
+        Step::Done,
+        Step::Leave(1_000),
+        Step::At(999),
+        Step::Run(3, Err(NodeFault::Turns)),
+        Step::At(1_000),
+        Step::Run(1, Ok(())),
+    ];
+    play_alone(rt, rt.alloc(), &steps, &[]);
+}
+
+#[test]
+fn a_node_stays_until_its_pens_are_done(rt: HostRuntime) {
+    let steps = [
+        Step::Leave(0),
+        Step::Run(3, Err(NodeFault::Turns)),
+        Step::Done,
+        Step::Run(1, Ok(())),
+    ];
+    play_alone(rt, rt.alloc(), &steps, &[]);
+}
+
+// As far as the node knows, strokes of the pen that was dropped may still be under way.
+#[test]
+fn a_pen_dropped_before_it_is_done_keeps_the_node(rt: HostRuntime) {
+    let steps = [
+        Step::DropPen,
+        Step::Done,
+        Step::Leave(0),
+        Step::Run(5, Err(NodeFault::Turns)),
+    ];
+    play_alone(rt, rt.alloc(), &steps, &[]);
+}
+
+// Each lane has its close or lost its tap.
+#[test]
+fn a_run_ends_with_a_tap_that_is_gone(rt: HostRuntime) {
+    let steps = [
+        Step::DropTap,
+        Step::Ink(b'a'),
+        Step::Done,
+        Step::Leave(0),
+        Step::Run(9, Ok(())),
+        Step::Takes(0, Seen::Close),
+        Step::Takes(6, Seen::Close),
+    ];
+    play_alone(rt, rt.alloc(), &steps, &[]);
+}

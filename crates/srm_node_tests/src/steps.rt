@@ -1,0 +1,123 @@
+//! Lists of steps with one node.
+
+use crate::datagrams::{Sent, send_by};
+use crate::rig::Rig;
+use crate::seen::{Seen, assert_taken};
+use crate::strokes::{end_all, ink_by, ink_many};
+use srm_node::{Counts, NodeFault, Wire};
+use std::alloc::Global;
+use std::process::Abort;
+use std::sync::Wait;
+use std::sync::atomic::Ordering;
+
+/// What is done with a node, or what it tells then.
+#[derive(Clone, Copy)]
+pub(crate) enum Step {
+    /// Its clock is set to a moment.
+    At(u64),
+    /// The first pen sends a stroke of one byte on the first page.
+    Ink(u8),
+    /// The pen at a place sends so many equal bytes on a page of member 0.
+    InkOn(usize, u16, u8, usize),
+    /// The first pen sends so many strokes of one byte on the first page.
+    InkMany(u8),
+    /// So often the first pen sends 64 strokes of one byte on the first page, and the node turns.
+    Fill(u16),
+    /// The last pen is dropped, and isn't done.
+    DropPen,
+    /// All pens that are left are done.
+    Done,
+    /// Member 0, which has no node, sends this so often.
+    Send(Sent, u8),
+    /// It is asked to leave at a moment.
+    Leave(u64),
+    /// It turns once, which ends so.
+    Turn(Result<(), NodeFault>),
+    /// It runs for so many turns, which ends so.
+    Run(u64, Result<(), NodeFault>),
+    /// The first tap is dropped, so that the others stand one place lower.
+    DropTap,
+    /// The tap at a place takes this next.
+    Takes(usize, Seen),
+    /// The first tap takes so many drawops of member 0, numbered from 1 on, each of one byte.
+    TakesMany(u32),
+    /// How much was noise, was ignored by cause, and was dropped.
+    Counts(u64, [u64; 7], u64),
+}
+
+fn turn<R: Wait + Abort, X: Wire + Drop>(rt: &R, rig: &mut Rig<X>, end: Result<(), NodeFault>) {
+    assert_eq!(rt; rig.node.turn(rt), end);
+}
+
+fn run<R: Wait + Abort, X: Wire + Drop>(
+    rt: &R,
+    rig: &mut Rig<X>,
+    turns: u64,
+    end: Result<(), NodeFault>,
+) {
+    assert_eq!(rt; rig.node.run(rt, turns), end);
+}
+
+fn fill<R: Wait + Abort, X: Wire + Drop>(rt: &R, alloc: Global, rig: &mut Rig<X>, turns: u16) {
+    for _ in 0..turns {
+        ink_many(rt, alloc, &mut rig.pens, 64);
+        turn(rt, rig, Ok(()));
+    }
+}
+
+fn counts<X: Wire + Drop>(rt: &impl Abort, rig: &Rig<X>, wanted: Counts) {
+    assert_eq!(rt; rig.node.counts(), wanted);
+}
+
+fn take_many<R: Wait + Abort, X: Wire + Drop>(rt: &R, rig: &mut Rig<X>, count: u32) {
+    for before in 0..count {
+        assert_taken(rt, &mut rig.taps, 0, Seen::Draw(0, before + 1, 1, b'x'));
+    }
+}
+
+fn drop_tap<X: Wire + Drop>(rt: &impl Abort, rig: &mut Rig<X>) {
+    assert!(rt; !rig.taps.is_empty());
+    drop(rig.taps.remove(0));
+}
+
+fn take<R: Wait + Abort, X: Wire + Drop>(rt: &R, alloc: Global, rig: &mut Rig<X>, step: Step) {
+    match step {
+        Step::At(moment) => rig.now.store(moment, Ordering::SeqCst),
+        Step::Ink(byte) => ink_by(rt, alloc, &mut rig.pens, 0, 0, byte, 1),
+        Step::InkOn(place, page, byte, length) => {
+            ink_by(rt, alloc, &mut rig.pens, place, page, byte, length);
+        }
+        Step::InkMany(count) => ink_many(rt, alloc, &mut rig.pens, count),
+        Step::Fill(turns) => fill(rt, alloc, rig, turns),
+        Step::DropPen => drop(rig.pens.pop()),
+        Step::Done => end_all(&mut rig.pens),
+        Step::Send(sent, count) => send_by(rt, alloc, &mut rig.beside, sent, count),
+        Step::Leave(at) => rig.node.ask_leave(at),
+        Step::Turn(end) => turn(rt, rig, end),
+        Step::Run(turns, end) => run(rt, rig, turns, end),
+        Step::DropTap => drop_tap(rt, rig),
+        Step::Takes(place, wanted) => assert_taken(rt, &mut rig.taps, place, wanted),
+        Step::TakesMany(count) => take_many(rt, rig, count),
+        Step::Counts(noise, ignored, dropped) => counts(
+            rt,
+            rig,
+            Counts {
+                noise,
+                ignored,
+                dropped,
+            },
+        ),
+    }
+}
+
+/// Takes these steps.
+pub(crate) fn play<R: Wait + Abort, X: Wire + Drop>(
+    rt: &R,
+    alloc: Global,
+    rig: &mut Rig<X>,
+    steps: &[Step],
+) {
+    for step in steps {
+        take(rt, alloc, rig, *step);
+    }
+}

@@ -1,0 +1,125 @@
+//! What a node's journal tells in the end.
+
+use crate::rig::Rig;
+use crate::seen::{Seen, look_at};
+use srm_agent::{Config, Entry, Input, Verdict};
+use srm_node::Wire;
+use srm_world::Journal;
+use std::process::Abort;
+
+/// What a journal tells.
+#[derive(Clone, Copy)]
+pub(crate) enum Tale {
+    /// How many entries it has, how many are ticks, and how many are gives.
+    Sizes(usize, usize, usize),
+    /// The moment of the first entry, and its verdict.
+    First(u64, Verdict),
+    /// How many messages were given in a slot, and the last of them.
+    Given(u8, usize, Seen),
+    /// The moments of so many draws, the first and the last.
+    Drawn(usize, u64, u64),
+    /// The moment of the first entry that asked for a drawop.
+    Asked(u64),
+    /// The moment of the first entry that repaired a drawop.
+    Repaired(u64),
+    /// Whose journal it is.
+    Of(Config),
+}
+
+fn is_tick(entry: &Entry) -> bool {
+    matches!(entry.input, Input::Ticked)
+}
+
+fn is_give(entry: &Entry) -> bool {
+    matches!(entry.input, Input::Gave(_))
+}
+
+/// What was given in the slot, if the entry gives a message there.
+fn given(entry: &Entry, slot: u8) -> Option<Seen> {
+    match entry.input {
+        Input::Gave(own) if own == slot => Some(look_at(entry.effects.message.as_ref()?)),
+        _ => None,
+    }
+}
+
+/// How many messages were given in the slot, and the last of them, `End` where there is none.
+pub(crate) fn all_given(entries: &[Entry], slot: u8) -> (usize, Seen) {
+    let mut all = (0_usize, Seen::End);
+    for entry in entries {
+        if let Some(seen) = given(entry, slot) {
+            all = (all.0.saturating_add(1), seen);
+        }
+    }
+    all
+}
+
+fn sizes(entries: &[Entry]) -> (usize, usize, usize) {
+    let ticks = entries.iter().filter(|entry| is_tick(entry)).count();
+    let gives = entries.iter().filter(|entry| is_give(entry)).count();
+    (entries.len(), ticks, gives)
+}
+
+/// How many draws there are, and the moments of the first and the last, 0 where there is none.
+fn drawn(entries: &[Entry]) -> (usize, u64, u64) {
+    let mut all = (0_usize, 0, 0);
+    for entry in entries {
+        if matches!(entry.input, Input::Drew(_, _)) {
+            let first = if all.0 == 0 { entry.moment } else { all.1 };
+            all = (all.0.saturating_add(1), first, entry.moment);
+        }
+    }
+    all
+}
+
+fn has_asked(entry: &Entry) -> bool {
+    !entry.effects.asks.as_slice().is_empty()
+}
+
+fn has_repaired(entry: &Entry) -> bool {
+    !entry.effects.fixes.as_slice().is_empty()
+}
+
+fn moment(entry: Option<&Entry>) -> Option<u64> {
+    Some(entry?.moment)
+}
+
+fn first(entries: &[Entry]) -> Option<(u64, Verdict)> {
+    let entry = entries.first()?;
+    Some((entry.moment, entry.verdict))
+}
+
+fn assert_tells(rt: &impl Abort, journal: &Journal, tale: Tale) {
+    let entries = journal.entries();
+    match tale {
+        Tale::Sizes(all, ticks, gives) => assert_eq!(rt; sizes(entries), (all, ticks, gives)),
+        Tale::First(at, verdict) => assert_eq!(rt; first(entries), Some((at, verdict))),
+        Tale::Given(slot, count, seen) => {
+            assert_eq!(rt; all_given(entries, slot), (count, seen));
+        }
+        Tale::Drawn(count, from, to) => assert_eq!(rt; drawn(entries), (count, from, to)),
+        Tale::Asked(at) => {
+            let asking = entries.iter().find(|entry| has_asked(entry));
+            assert_eq!(rt; moment(asking), Some(at));
+        }
+        Tale::Repaired(at) => {
+            let repairing = entries.iter().find(|entry| has_repaired(entry));
+            assert_eq!(rt; moment(repairing), Some(at));
+        }
+        Tale::Of(config) => assert_eq!(rt; journal.start().config, config),
+    }
+}
+
+/// Gives a node up for its journal.
+fn journal_of<X: Wire + Drop>(rig: Rig<X>) -> Journal {
+    let Rig { node, .. } = rig;
+    let (journal, _feeds) = node.finish();
+    journal
+}
+
+/// Gives a node up, whose journal tells these.
+pub(crate) fn end<X: Wire + Drop>(rt: &impl Abort, rig: Rig<X>, tales: &[Tale]) {
+    let journal = journal_of(rig);
+    for tale in tales {
+        assert_tells(rt, &journal, *tale);
+    }
+}
