@@ -5,6 +5,7 @@ pub mod datagram;
 pub mod meter;
 pub mod moments;
 pub mod plain;
+pub mod sessions;
 pub mod teller;
 pub mod words;
 pub mod workload;

@@ -1,5 +1,5 @@
-//! What the benchmark and the driver for hostile datagrams call from Rust: one member's agent over many calls, and the moments of
-//! many names, which are cleared and set.
+//! What the benchmarks and the driver for hostile datagrams call from Rust: one member's agent over many calls, the moments of
+//! many names, which are cleared and set, and the journals of a session, which are put together.
 //!
 //! What the agent answered is told in numbers, by which two agents can be compared.
 #![tactic(auto)]
@@ -7,11 +7,15 @@
 mod caller;
 mod clock;
 mod digest;
+mod lists;
 mod moments;
+mod session;
+mod sessions;
 mod teller;
 
 use crate::caller::Caller;
 use crate::moments::Moments;
+use crate::sessions::{mingled, talked};
 use crate::teller::Teller;
 use std::alloc::Global;
 
@@ -51,4 +55,26 @@ pub extern "C" fn srm_moments(alloc: Global, names: u32, turns: u32, sets: bool)
         .and_then(|()| moments.turn(names, turns, sets))
         .and_then(|()| moments.next())
         .unwrap_or(u64::MAX)
+}
+
+/// So many members make calls over so many turns. If it `mingles`, in each turn one draws and all tick and give, and most of what is sent comes;
+/// else two draw and hear each other by turns, and all others hear the last of all alone, so that whoever puts the journals together finds
+/// them waiting until the end. The journals are put together if it `reconciles`. How many entries they have in all, what was taken included; the
+/// greatest number where memory ran out or the journals don't fit.
+#[unsafe(no_mangle)]
+pub extern "C" fn srm_sessions(
+    alloc: Global,
+    members: u8,
+    turns: u32,
+    mingles: bool,
+    reconciles: bool,
+) -> usize {
+    let session = if mingles {
+        mingled(alloc, members, turns)
+    } else {
+        talked(alloc, members, turns)
+    };
+    session
+        .and_then(|session| session.end(reconciles))
+        .unwrap_or(usize::MAX)
 }
