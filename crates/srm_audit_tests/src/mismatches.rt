@@ -12,44 +12,20 @@ fn check_told(rt: &impl Abort, alloc: Global, mismatch: Mismatch, number: u8, te
 }
 
 #[test]
-fn an_unsent_entry(rt: HostRuntime) {
-    let unsent = Mismatch::Unsent {
-        member: member(&rt, 3),
-        entry: 5,
-    };
-    check_told(
-        &rt,
-        rt.alloc(),
-        unsent,
-        1,
-        "an entry hears what nobody sent before",
-    );
-}
-
-#[test]
-fn a_foreign_list(rt: HostRuntime) {
-    let foreign = Mismatch::Foreign {
-        member: member(&rt, 3),
-        slot: 2,
-    };
-    check_told(
-        &rt,
-        rt.alloc(),
-        foreign,
-        2,
-        "what was taken isn't what was given",
-    );
-}
-
-#[test]
-fn want_of_memory_and_another_roster(rt: HostRuntime) {
-    let alloc = rt.alloc();
-    check_told(&rt, alloc, Mismatch::Memory, 3, "out of memory");
-    check_told(
-        &rt,
-        alloc,
-        Mismatch::Roster,
-        4,
-        "the journals aren't those of one roster",
-    );
+fn each_mismatch_has_a_number_and_a_text(rt: HostRuntime) {
+    let member = member(&rt, 3);
+    let unsent = Mismatch::Unsent { member, entry: 5 };
+    let foreign = Mismatch::Foreign { member, slot: 2 };
+    for (mismatch, number, text) in [
+        (unsent, 1, "an entry hears what nobody sent before"),
+        (foreign, 2, "what was taken isn't what was given"),
+        (Mismatch::Memory, 3, "out of memory"),
+        (
+            Mismatch::Roster,
+            4,
+            "the journals aren't those of one roster",
+        ),
+    ] {
+        check_told(&rt, rt.alloc(), mismatch, number, text);
+    }
 }

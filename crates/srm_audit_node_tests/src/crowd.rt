@@ -1,0 +1,135 @@
+//! Thirty-two nodes over a network in memory, of whose copies three in ten are lost and three in ten come twice.
+
+use crate::checks::{check_fronts, check_reconciles};
+use crate::clock::TestClock;
+use crate::member::{Rig, config, make_rig};
+use crate::served::{Kept, keep};
+use srm_names::MEMBERS;
+use srm_node::{Fate, MemWire, hub};
+use srm_timers::{Pcg, Words};
+use std::alloc::Global;
+use std::collections::VecDeque;
+use std::process::Abort;
+use std::sync::Wait;
+
+/// For how many copies of each member the fate is drawn. Those behind them pass.
+const COPIES: u32 = 300;
+
+/// How often each member turns, at every 50,000 microseconds.
+const TURNS: u32 = 30;
+
+fn fate_by(word: u64) -> Fate {
+    match word % 10 {
+        0..=2 => Fate::Drop,
+        3..=5 => Fate::Twice,
+        _ => Fate::Pass,
+    }
+}
+
+/// The fates of the copies of one member.
+fn some_fates(rt: &impl Abort, alloc: Global, words: &mut Pcg) -> Vec<Fate> {
+    let mut fates = Vec::new(alloc);
+    for _ in 0..COPIES {
+        fates.push(fate_by(words.word())).expect(rt, "memory");
+    }
+    fates
+}
+
+fn wires<R: Wait + Abort + Copy + Drop>(rt: R, alloc: Global, seed: u64) -> Vec<MemWire<R>> {
+    let mut words = Pcg::new(seed);
+    let mut fates = Vec::new(alloc);
+    for _ in 0..MEMBERS {
+        let own = some_fates(&rt, alloc, &mut words);
+        fates.push(own).expect(&rt, "memory");
+    }
+    hub(rt, alloc, MEMBERS, fates).expect(&rt, "memory")
+}
+
+/// The node of a member that has four strokes and leaves after a second.
+fn node<R: Wait + Abort + Copy + Drop>(
+    rt: R,
+    alloc: Global,
+    me: u8,
+    wire: Option<MemWire<R>>,
+) -> Rig<MemWire<R>, TestClock> {
+    let wire = wire.expect(&rt, "a wire");
+    let settings = config(&rt, me, MEMBERS);
+    let clock = TestClock::new(50_000);
+    make_rig(
+        &rt,
+        alloc,
+        settings,
+        me.into(),
+        wire,
+        clock,
+        b"abcd",
+        1_000_000,
+    )
+}
+
+fn nodes<R: Wait + Abort + Copy + Drop>(
+    rt: R,
+    alloc: Global,
+    wires: Vec<MemWire<R>>,
+) -> Vec<Rig<MemWire<R>, TestClock>> {
+    let mut wires = VecDeque::from(wires);
+    let mut rigs = Vec::new(alloc);
+    for me in 0..MEMBERS {
+        let rig = node(rt, alloc, me, wires.pop_front());
+        rigs.push(rig).expect(&rt, "memory");
+    }
+    rigs
+}
+
+fn turn_each<R: Wait + Abort + Copy + Drop>(rt: &R, rigs: &mut Vec<Rig<MemWire<R>, TestClock>>) {
+    for rig in rigs.as_mut_slice() {
+        assert_eq!(rt; rig.node.turn(rt), Ok(()));
+    }
+}
+
+fn keep_next<R: Wait + Abort + Copy + Drop>(
+    rt: &R,
+    alloc: Global,
+    kept: &mut Kept,
+    rigs: &mut VecDeque<Rig<MemWire<R>, TestClock>>,
+) {
+    if let Some(rig) = rigs.pop_front() {
+        keep(rt, alloc, kept, rig);
+    }
+}
+
+/// What became of the members after all their turns.
+fn crowd<R: Wait + Abort + Copy + Drop>(rt: R, alloc: Global, seed: u64) -> Kept {
+    let mut rigs = nodes(rt, alloc, wires(rt, alloc, seed));
+    for _ in 0..TURNS {
+        turn_each(&rt, &mut rigs);
+    }
+    let mut kept = Kept::new(alloc);
+    let mut rigs = VecDeque::from(rigs);
+    for _ in 0..MEMBERS {
+        keep_next(&rt, alloc, &mut kept, &mut rigs);
+    }
+    kept
+}
+
+// Each member takes at least its page and its own four drawops.
+fn check_crowd<R: Wait + Abort + Copy + Drop>(rt: R, alloc: Global, seed: u64) {
+    let kept = crowd(rt, alloc, seed);
+    check_fronts(&rt, kept.lists.as_slice(), 0, 0);
+    check_reconciles(&rt, alloc, kept, 32, 160);
+}
+
+#[test]
+fn thirty_two_nodes_reconcile_whatever_is_lost(rt: HostRuntime) {
+    check_crowd(rt, rt.alloc(), 1);
+}
+
+#[test]
+fn thirty_two_nodes_reconcile_whatever_else_is_lost(rt: HostRuntime) {
+    check_crowd(rt, rt.alloc(), 2);
+}
+
+#[test]
+fn thirty_two_nodes_reconcile_whatever_is_lost_besides(rt: HostRuntime) {
+    check_crowd(rt, rt.alloc(), 3);
+}

@@ -1,0 +1,20 @@
+//! Journals of nodes and what their page workers took, put together: over a network in memory, turned by hand and in threads, and over
+//! loopback.
+#![tactic(auto)]
+
+#[cfg(test)]
+mod checks;
+#[cfg(test)]
+mod clock;
+#[cfg(test)]
+mod crowd;
+#[cfg(test)]
+mod loopback;
+#[cfg(test)]
+mod member;
+#[cfg(test)]
+mod pair;
+#[cfg(test)]
+mod served;
+#[cfg(test)]
+mod threads;

@@ -1,0 +1,146 @@
+//! What became of members: their journals, and what their page workers took.
+
+ghost use Rattle.std.specs.Prelude.{◌≡◌, vec_len};
+ghost use Rattle.srm_names.specs.declared.limits.TheConstants.{PAGES};
+
+use crate::member::Rig;
+use srm_audit::Got;
+use srm_names::{Items, Member, PAGES, PageMsg};
+use srm_node::{Clock, Hosted, NodeFault, PageSink, Wire, Worked, host, work};
+use srm_pages::Tap;
+use srm_world::Journal;
+use std::alloc::Global;
+use std::collections::VecDeque;
+use std::process::Abort;
+use std::sync::Wait;
+use std::thread::Threads;
+
+/// A sink that takes all.
+#[derive(Clone, Copy)]
+struct All;
+
+impl PageSink for All {
+    fn message(&mut self, _slot: u8, _message: &PageMsg) -> bool {
+        true
+    }
+}
+
+/// The journals of members in some order, the list of each slot of each, and how many entries and messages they have.
+#[derive(Drop)]
+pub(crate) struct Kept {
+    pub journals: Vec<Journal>,
+    pub lists: Vec<Got>,
+    pub entries: usize,
+    pub messages: usize,
+}
+
+impl Kept {
+    pub(crate) fn new(alloc: Global) -> Kept {
+        Kept {
+            journals: Vec::new(alloc),
+            lists: Vec::new(alloc),
+            entries: 0,
+            messages: 0,
+        }
+    }
+
+    fn add_journal(&mut self, rt: &impl Abort, journal: Journal) {
+        self.entries = self.entries.saturating_add(journal.entries().len());
+        self.journals.push(journal).expect(rt, "memory");
+    }
+
+    fn add_list(&mut self, rt: &impl Abort, member: Member, worked: Worked) {
+        let Worked { tap, list, .. } = worked;
+        self.messages = self.messages.saturating_add(list.len());
+        let got = Got {
+            member,
+            slot: tap.slot(),
+            list: Items::new(list),
+        };
+        self.lists.push(got).expect(rt, "memory");
+    }
+}
+
+/// Lets the taps of a node that is gone be worked to their end, one after another.
+fn work_each<R: Wait + Abort>(
+    rt: &R,
+    alloc: Global,
+    kept: &mut Kept,
+    member: Member,
+    taps: Vec<Tap>,
+) {
+    let mut taps = VecDeque::from(taps);
+    for _ in 0..PAGES {
+        if let Some(tap) = taps.pop_front() {
+            let worked = work(rt, alloc, tap, &mut All);
+            kept.add_list(rt, member, worked);
+        }
+    }
+}
+
+/// The journal of a node, and what there was to take in its lanes.
+pub(crate) fn keep<R: Wait + Abort, X: Wire + Drop, C: Clock + Drop>(
+    rt: &R,
+    alloc: Global,
+    kept: &mut Kept,
+    rig: Rig<X, C>,
+) {
+    let Rig { node, taps } = rig;
+    let (journal, feeds) = node.finish();
+    drop(feeds);
+    let member = journal.start().config.me();
+    kept.add_journal(rt, journal);
+    work_each(rt, alloc, kept, member, taps);
+}
+
+/// A sink for each slot.
+fn sinks(rt: &impl Abort, alloc: Global) -> Vec<All>
+    ensures { vec_len result ≡ PAGES }
+{
+    match Vec::from_array(alloc, [All; 8]) {
+        Ok(sinks) => sinks,
+        Err(_) => panic!(rt; "memory"),
+    }
+}
+
+/// Runs a node and its workers in threads, for so many turns.
+pub(crate) fn host_rig<
+    R: Threads + Wait + Abort + Copy + Send + 'static,
+    X: Wire + Drop,
+    C: Clock + Drop,
+>(rt: &R, alloc: Global, rig: Rig<X, C>, turns: u64) -> Hosted
+    requires { vec_len rig.taps ≡ PAGES }
+{
+    let Rig { node, taps } = rig;
+    match host(rt, alloc, node, taps, sinks(rt, alloc), turns) {
+        Ok(hosted) => hosted,
+        Err(_) => panic!(rt; "memory"),
+    }
+}
+
+fn check_end(rt: &impl Abort, end: Result<(), NodeFault>) {
+    assert_eq!(rt; end, Ok(()));
+}
+
+fn keep_worked(rt: &impl Abort, kept: &mut Kept, member: Member, worked: Vec<Worked>) {
+    let mut worked = VecDeque::from(worked);
+    for _ in 0..PAGES {
+        if let Some(one) = worked.pop_front() {
+            kept.add_list(rt, member, one);
+        }
+    }
+}
+
+/// The journal and the lists of a node that ended without a fault.
+pub(crate) fn keep_hosted(rt: &impl Abort, kept: &mut Kept, hosted: Hosted) {
+    let Hosted {
+        journal,
+        worked,
+        end,
+        ..
+    } = hosted;
+    check_end(rt, end);
+    let member = journal.start().config.me();
+    kept.add_journal(rt, journal);
+    keep_worked(rt, kept, member, worked);
+}
