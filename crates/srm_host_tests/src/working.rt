@@ -9,18 +9,27 @@ use std::alloc::Global;
 use std::process::Abort;
 use std::sync::Wait;
 
-/// The first tap of a node that drew two strokes in one turn, may have left in it, and is gone.
-fn tap_of_two<R: Wait + Abort + Copy + Drop>(rt: R, alloc: Global, leaves: bool) -> Tap {
-    let mut station = alone(rt, alloc);
-    ink_text(&rt, alloc, &mut station.pens, b"ab");
+/// A node draws two strokes in one turn, and may leave in it.
+fn draw_two<R: Wait + Abort + Drop>(rt: &R, alloc: Global, station: &mut Station<R>, leaves: bool) {
+    ink_text(rt, alloc, &mut station.pens, b"ab");
     end_all(&mut station.pens);
     if leaves {
         station.node.ask_leave(0);
     }
-    assert_eq!(rt; station.node.turn(&rt), Ok(()));
-    let Station { mut taps, .. } = station;
+    assert_eq!(rt; station.node.turn(rt), Ok(()));
+}
+
+fn first(rt: &impl Abort, mut taps: Vec<Tap>) -> Tap {
     assert!(rt; !taps.is_empty());
     taps.remove(0)
+}
+
+/// The first tap of a node that drew two strokes, may have left, and is gone.
+fn tap_of_two<R: Wait + Abort + Copy + Drop>(rt: R, alloc: Global, leaves: bool) -> Tap {
+    let mut station = alone(rt, alloc);
+    draw_two(&rt, alloc, &mut station, leaves);
+    let Station { taps, .. } = station;
+    first(&rt, taps)
 }
 
 /// A sink that stops at the message with this number.
