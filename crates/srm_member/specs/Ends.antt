@@ -1,5 +1,7 @@
 -- How a member ends, and with which status.
 use Rattle.std.specs.Prelude.{◌≡◌, ◌⊎◌, ℕ, Bool, true, false, Option, Some, None, Result, Ok, Err}
+use Rattle.std.specs.declared.io.ErrorKind.{ErrorKind}
+use Rattle.std.specs.declared.io.ErrorKind.TheVariants as kind
 use Rattle.srm_script.specs.declared.fault.Fault.TheVariants.{Memory as OutOfMemory}
 use Rattle.srm_script.specs.Statuses.{status_of}
 use Rattle.srm_node.specs.declared.fault.NodeFault.{NodeFault}
@@ -27,6 +29,11 @@ fault_of (Ok _) false = None
 fault_of (Err Memory) false = Some (fault.Script OutOfMemory)
 fault_of (Err Wire) false = Some fault.Wire
 fault_of (Err Turns) false = Some fault.Turns
+
+-- Why a socket or a clock can't be had, by what the system says: it lacks memory, or it refuses for another cause.
+abbrev pub fault_of_binding : ErrorKind → MemberFault
+fault_of_binding kind.OutOfMemory = fault.Script OutOfMemory
+fault_of_binding _ = fault.Wire
 
 -- the status that the program ends with
 abbrev pub status_of_member : MemberFault → ℕ

@@ -2,7 +2,8 @@
 
 ghost use Rattle.std.specs.Prelude.{◌≡◌, ◌≤◌};
 ghost use Rattle.std.specs.List.{list_any};
-ghost use Rattle.srm_member.specs.Ends.{fault_of, lacks_memory, status_of_member};
+ghost use Rattle.std.specs.IoError.{error_kind};
+ghost use Rattle.srm_member.specs.Ends.{fault_of, fault_of_binding, lacks_memory, status_of_member};
 
 use srm_node::{NodeFault, WorkEnd, Worked};
 use srm_script::Fault;
@@ -54,7 +55,9 @@ impl MemberFault {
     }
 
     /// The fault of making a socket or a clock.
-    pub fn of_binding(error: io::Error) -> MemberFault {
+    pub(crate) fn of_binding(error: io::Error) -> MemberFault
+        ensures { result ≡ fault_of_binding (error_kind error) }
+    {
         match error.kind() {
             ErrorKind::OutOfMemory => MemberFault::Script(Fault::Memory),
             _ => MemberFault::Wire,

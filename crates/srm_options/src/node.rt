@@ -180,6 +180,9 @@ fn member_in(matches: &ArgMatches<'_>, members: usize) -> Option<Member> {
 }
 
 fn told<'a>(alloc: Global, command: &mut Command<'a>, mistake: Mistake<'a>) -> Reply {
+    if matches!(mistake, Mistake::Memory) {
+        return Reply::Memory;
+    }
     let Ok(text) = format!(in alloc; "{mistake}") else {
         return Reply::Memory;
     };
