@@ -12,8 +12,8 @@ use std::collections::VecDeque;
 use std::process::Abort;
 use std::sync::Wait;
 
-/// For how many copies of each member the fate is drawn. Those behind them pass.
-const COPIES: u32 = 300;
+/// For how many copies of each member the fate is drawn: more than any sends.
+const COPIES: u32 = 1_500;
 
 /// How often each member turns, at every 50,000 microseconds.
 const TURNS: u32 = 30;
