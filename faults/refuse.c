@@ -1,0 +1,157 @@
+/* Preloaded into a program, it refuses one of its calls of the C library, or all from that one on.
+ *
+ * REFUSE is KIND:N or KIND:N+, N from 1: the N-th call of this kind, or each from the N-th on.
+ *
+ *   memory                   malloc, calloc, realloc, posix_memalign, aligned_alloc: no memory
+ *   read, write              read or write fails
+ *   send, receive            sendto or recvfrom fails
+ *   short-read, short-write  the call moves one byte, where it was to move more
+ *   short-send               the same of a datagram
+ *   socket                   socket, bind, ioctl, epoll_create1 or epoll_ctl fails
+ *   poll                     epoll_wait fails
+ *   clock                    clock_gettime fails
+ *   thread                   pthread_create fails
+ *
+ * All other calls go through, and so do all without REFUSE. The file REFUSED, where it is named, is made once the N-th call was met; so a run
+ * that leaves none had fewer. `nm -D` of a program lists the calls that it makes.
+ */
+#define _GNU_SOURCE
+#include <dlfcn.h>
+#include <errno.h>
+#include <fcntl.h>
+#include <pthread.h>
+#include <stdatomic.h>
+#include <stdlib.h>
+#include <string.h>
+#include <sys/epoll.h>
+#include <sys/ioctl.h>
+#include <sys/socket.h>
+#include <sys/syscall.h>
+#include <time.h>
+#include <unistd.h>
+
+extern void *__libc_malloc(size_t);
+extern void *__libc_calloc(size_t, size_t);
+extern void *__libc_realloc(void *, size_t);
+extern void *__libc_memalign(size_t, size_t);
+
+/* The library's own calls, which those below stand before. */
+#define EACH(X)                                                                                                                                \
+    X(read) X(write) X(sendto) X(recvfrom) X(socket) X(bind) X(ioctl) X(epoll_create1) X(epoll_ctl) X(epoll_wait) X(clock_gettime)              \
+    X(pthread_create)
+#define DECLARE(name) static __typeof__(name) *real_##name;
+#define FIND(name) real_##name = (__typeof__(name) *)dlsym(RTLD_NEXT, #name);
+EACH(DECLARE)
+
+static const char *refused = ""; /* the kind */
+static size_t length;            /* of its name */
+static long first;
+static int for_ever;
+static atomic_long seen;
+
+/* Before this nothing is counted: what the C library does as it starts is none of the program's. */
+__attribute__((constructor)) static void begin(void) {
+    EACH(FIND)
+    const char *text = getenv("REFUSE");
+    const char *colon = text ? strchr(text, ':') : NULL;
+    if (!colon)
+        return;
+    char *rest;
+    first = strtol(colon + 1, &rest, 10);
+    for_ever = *rest == '+';
+    length = colon - text;
+    refused = text;
+}
+
+/* The file is made by bare calls of the system, which nobody counts. */
+static void tell(void) {
+    const char *file = getenv("REFUSED");
+    long made = file ? syscall(SYS_openat, AT_FDCWD, file, O_WRONLY | O_CREAT, 0600) : -1;
+    if (made >= 0)
+        syscall(SYS_close, made);
+}
+
+/* Counts a call of this kind. Whether it is refused. */
+static int is_refused(const char *kind) {
+    if (strlen(kind) != length || strncmp(kind, refused, length))
+        return 0;
+    long number = atomic_fetch_add(&seen, 1) + 1;
+    if (number == first)
+        tell();
+    return number == first || (for_ever && number > first);
+}
+
+/* Whether a call of this kind fails, and by which error. */
+static int fails(const char *kind, int error) {
+    if (!is_refused(kind))
+        return 0;
+    errno = error;
+    return 1;
+}
+
+static int lacks_memory(void) { return fails("memory", ENOMEM); }
+
+/* A call that was to move one byte or none can't be short, so it isn't counted. */
+static size_t shortened(const char *kind, size_t count) { return count > 1 && is_refused(kind) ? 1 : count; }
+
+void *malloc(size_t size) { return lacks_memory() ? NULL : __libc_malloc(size); }
+
+void *calloc(size_t count, size_t size) { return lacks_memory() ? NULL : __libc_calloc(count, size); }
+
+void *realloc(void *old, size_t size) { return lacks_memory() ? NULL : __libc_realloc(old, size); }
+
+void *aligned_alloc(size_t alignment, size_t size) { return lacks_memory() ? NULL : __libc_memalign(alignment, size); }
+
+int posix_memalign(void **made, size_t alignment, size_t size) {
+    void *block = lacks_memory() ? NULL : __libc_memalign(alignment, size);
+    if (!block)
+        return ENOMEM;
+    *made = block;
+    return 0;
+}
+
+ssize_t read(int file, void *bytes, size_t count) {
+    return fails("read", EIO) ? -1 : real_read(file, bytes, shortened("short-read", count));
+}
+
+ssize_t write(int file, const void *bytes, size_t count) {
+    return fails("write", EIO) ? -1 : real_write(file, bytes, shortened("short-write", count));
+}
+
+ssize_t sendto(int file, const void *bytes, size_t count, int flags, const struct sockaddr *to, socklen_t size) {
+    return fails("send", EIO) ? -1 : real_sendto(file, bytes, shortened("short-send", count), flags, to, size);
+}
+
+ssize_t recvfrom(int file, void *bytes, size_t count, int flags, struct sockaddr *from, socklen_t *size) {
+    return fails("receive", EIO) ? -1 : real_recvfrom(file, bytes, count, flags, from, size);
+}
+
+int socket(int domain, int type, int protocol) { return fails("socket", EMFILE) ? -1 : real_socket(domain, type, protocol); }
+
+int bind(int file, const struct sockaddr *address, socklen_t size) {
+    return fails("socket", EADDRINUSE) ? -1 : real_bind(file, address, size);
+}
+
+int ioctl(int file, unsigned long request, ...) {
+    __builtin_va_list words;
+    __builtin_va_start(words, request);
+    void *word = __builtin_va_arg(words, void *);
+    __builtin_va_end(words);
+    return fails("socket", EIO) ? -1 : real_ioctl(file, request, word);
+}
+
+int epoll_create1(int flags) { return fails("socket", EMFILE) ? -1 : real_epoll_create1(flags); }
+
+int epoll_ctl(int poll, int what, int file, struct epoll_event *event) {
+    return fails("socket", ENOSPC) ? -1 : real_epoll_ctl(poll, what, file, event);
+}
+
+int epoll_wait(int poll, struct epoll_event *events, int count, int millis) {
+    return fails("poll", EINTR) ? -1 : real_epoll_wait(poll, events, count, millis);
+}
+
+int clock_gettime(clockid_t clock, struct timespec *time) { return fails("clock", EINVAL) ? -1 : real_clock_gettime(clock, time); }
+
+int pthread_create(pthread_t *thread, const pthread_attr_t *how, void *(*start)(void *), void *with) {
+    return is_refused("thread") ? EAGAIN : real_pthread_create(thread, how, start, with);
+}
