@@ -140,18 +140,21 @@ none_behind xs (y ∷ ys) all split whole = absurd (omega (arith, ap length spli
 pub host_ends : (r : Result (Unit {0}) NodeFault) (node : NodeView) (taps : List TapView) (workers : List Worker) (turns : ℕ) (all : Bool) (h : Hosted) → StartsSome taps workers → OnTrue all (map started workers ≡ taps)
     → MatchResult r (λ _. (all ≡ true) × Hosts node (map started workers) turns h) (λ fault. HostFails all node (map started workers) turns fault h) → MatchResult r (λ _. Hosts node taps turns h) (λ fault. (all : Bool) × HostFails all node taps turns fault h)
 host_ends (Ok u) node taps workers turns all h some whole ran = subst (λ ts. Hosts node ts turns h) (let w : map started workers ≡ taps = subst (λ b. OnTrue b (map started workers ≡ taps)) ran.0 whole in w) ran.1
-host_ends (Err fault) node taps workers turns all h some whole f = (all, record {
-  last = f.last;
-  runs = f.runs;
-  keeps = f.keeps;
-  journal = f.journal;
-  feeds = f.feeds;
-  joined = f.joined;
-  rest = f.rest ++ some.rest;
-  split = sym (append_assoc f.joined f.rest some.rest) ∙ ap (λ ts. ts ++ some.rest) f.split ∙ some.split;
-  whole = no_rest all whole f.whole;
-  workers = f.workers;
-})
+host_ends (Err fault) node taps workers turns all h some whole f = (
+  all,
+  record {
+    last = f.last;
+    runs = f.runs;
+    keeps = f.keeps;
+    journal = f.journal;
+    feeds = f.feeds;
+    joined = f.joined;
+    rest = f.rest ++ some.rest;
+    split = sym (append_assoc f.joined f.rest some.rest) ∙ ap (λ ts. ts ++ some.rest) f.split ∙ some.split;
+    whole = no_rest all whole f.whole;
+    workers = f.workers;
+  },
+)
   where
     no_rest : (b : Bool) → OnTrue b (map started workers ≡ taps) → OnTrue b (f.rest ≡ []) → OnTrue b (f.rest ++ some.rest ≡ [])
     no_rest true same none = ap (λ ts. ts ++ some.rest) none ∙ none_behind (map started workers) some.rest taps some.split same
