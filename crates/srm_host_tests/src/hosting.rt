@@ -1,12 +1,14 @@
 //! A node and its workers in threads.
 
 use crate::hosted::{assert_hosted, host_station};
-use crate::sinks::{held_sinks, plain_sinks};
-use crate::station::{alone, end_all, ink, ink_text};
+use crate::sinks::{held_sinks, own_sinks, plain_sinks};
+use crate::station::{SteppedNode, alone, alone_in_steps, end_all, ink, ink_text};
 use srm_node::{Hosted, NodeFault, WorkEnd};
+use srm_pages::Pen;
 use std::alloc::Global;
 use std::process::Abort;
-use std::sync::Wait;
+use std::sync::atomic::{AtomicU64, Ordering};
+use std::sync::{Arc, Wait};
 use std::thread::Threads;
 use std::time::Clock;
 
@@ -65,5 +67,72 @@ fn workers_are_at_work_at_once(rt: HostRuntime) {
     let mut wanted = [(1, WorkEnd::Closed); 8];
     wanted[0] = (3, WorkEnd::Closed);
     wanted[1] = (3, WorkEnd::Closed);
+    assert_hosted(&rt, hosted, Ok(()), 8, &wanted);
+}
+
+// The first shows its page, two strokes and the close, and each of the others a close.
+#[test]
+fn each_worker_shows_its_own_sink_what_it_takes(rt: HostRuntime) {
+    let alloc = rt.alloc();
+    let mut station = alone(rt, alloc);
+    ink_text(&rt, alloc, &mut station.pens, b"ab");
+    end_all(&mut station.pens);
+    station.node.ask_leave(0);
+    let seen = Arc::new(alloc, AtomicU64::new(0)).expect(&rt, "memory");
+    let sinks = own_sinks(&rt, alloc, &seen);
+    let hosted = host_station(&rt, alloc, station, sinks, 1_000);
+    let mut wanted = [(1, WorkEnd::Closed); 8];
+    wanted[0] = (4, WorkEnd::Closed);
+    assert_hosted(&rt, hosted, Ok(()), 8, &wanted);
+    assert_eq!(rt; seen.load(Ordering::SeqCst), 11);
+}
+
+// The lanes of a member that stays have no close: the workers end since the feeds are let go, before they are waited for.
+#[test]
+fn workers_end_after_a_fault(rt: HostRuntime) {
+    let alloc = rt.alloc();
+    let station = alone(rt, alloc);
+    let sinks = plain_sinks(&rt, alloc, false);
+    let hosted = host_station(&rt, alloc, station, sinks, 3);
+    let mut wanted = [(0, WorkEnd::Closed); 8];
+    wanted[0] = (1, WorkEnd::Closed);
+    assert_hosted(&rt, hosted, Err(NodeFault::Turns), 0, &wanted);
+}
+
+/// A member's first pen sends 50 strokes, and it turns once.
+fn draw_50<R: Wait + Abort + Drop>(
+    rt: &R,
+    alloc: Global,
+    node: &mut SteppedNode<R>,
+    pens: &mut Vec<Pen>,
+) {
+    ink_text(rt, alloc, pens, &[b'x'; 50]);
+    assert_eq!(rt; node.turn(rt), Ok(()));
+}
+
+fn draw_200<R: Wait + Abort + Drop>(
+    rt: &R,
+    alloc: Global,
+    node: &mut SteppedNode<R>,
+    pens: &mut Vec<Pen>,
+) {
+    for _ in 0..4 {
+        draw_50(rt, alloc, node, pens);
+    }
+}
+
+// Three times what a lane holds. At 28 bytes a stroke, 50 of them are let go in each turn from the depth of 4,204 bytes, and what the rate
+// gives in the 0.1 s between two readings of the clock.
+#[test]
+fn a_lane_carries_200_strokes(rt: HostRuntime) {
+    let alloc = rt.alloc();
+    let mut station = alone_in_steps(rt, alloc, 100_000);
+    draw_200(&rt, alloc, &mut station.node, &mut station.pens);
+    end_all(&mut station.pens);
+    station.node.ask_leave(0);
+    let sinks = plain_sinks(&rt, alloc, false);
+    let hosted = host_station(&rt, alloc, station, sinks, 100_000);
+    let mut wanted = [(1, WorkEnd::Closed); 8];
+    wanted[0] = (202, WorkEnd::Closed);
     assert_hosted(&rt, hosted, Ok(()), 8, &wanted);
 }

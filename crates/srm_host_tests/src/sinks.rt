@@ -99,3 +99,40 @@ pub(crate) fn held_sinks<R: Clock + Abort + Drop + Copy>(rt: R, alloc: Global) -
     }
     sinks
 }
+
+/// The sink of one slot. It counts what it sees of its slot.
+#[derive(Drop)]
+pub(crate) struct Own {
+    slot: u8,
+    seen: Arc<AtomicU64, Global>,
+}
+
+impl PageSink for Own {
+    fn message(&mut self, slot: u8, _message: &PageMsg) -> bool {
+        if slot == self.slot {
+            self.seen.fetch_add(1, Ordering::SeqCst);
+        }
+        true
+    }
+}
+
+fn make_own(rt: &impl Abort, slot: u8, seen: &Arc<AtomicU64, Global>) -> Own {
+    Own {
+        slot,
+        seen: Arc::try_clone(seen).expect(rt, "memory"),
+    }
+}
+
+/// For each slot its own sink, all of which count here.
+pub(crate) fn own_sinks(rt: &impl Abort, alloc: Global, seen: &Arc<AtomicU64, Global>) -> Vec<Own>
+    ensures { vec_len result ≡ PAGES }
+{
+    let mut sinks = Vec::new(alloc);
+    for slot in 0..PAGES {
+        match sinks.push(make_own(rt, slot, seen)) {
+            Ok(()) => {}
+            Err(_) => panic!(rt; "memory"),
+        }
+    }
+    sinks
+}

@@ -28,10 +28,13 @@ impl Clock for StepClock {
     }
 }
 
+/// A node over a network in memory whose waits come from a list.
+pub(crate) type SteppedNode<R> = Node<Listed, MemWire<R>, StepClock>;
+
 /// A node over a network in memory, with its taps and pens.
 #[derive(Drop)]
 pub(crate) struct Station<R: Wait + Drop> {
-    pub node: Node<Listed, MemWire<R>, StepClock>,
+    pub node: SteppedNode<R>,
     pub taps: Vec<Tap>,
     pub pens: Vec<Pen>,
 }
@@ -87,7 +90,7 @@ fn new_node<R: Wait + Abort + Drop>(
     step: u64,
     feeds: Vec<Feed>,
     well: ends::Well,
-) -> Node<Listed, MemWire<R>, StepClock>
+) -> SteppedNode<R>
     requires feeds { AreNewFeeds feeds.items }
     requires well { well.received ≡ [] }
 {
@@ -123,13 +126,24 @@ pub(crate) fn make_station<R: Wait + Abort + Drop>(
     }
 }
 
-/// A node that is the only member, whose clock stands.
-pub(crate) fn alone<R: Wait + Abort + Copy + Drop>(rt: R, alloc: Global) -> Station<R>
+/// A node that is the only member, whose clock goes on by so many microseconds whenever it is read.
+pub(crate) fn alone_in_steps<R: Wait + Abort + Copy + Drop>(
+    rt: R,
+    alloc: Global,
+    step: u64,
+) -> Station<R>
     ensures { vec_len result.taps ≡ PAGES }
 {
     let mut wires = wires(rt, alloc, 1, Vec::new(alloc));
     let wire = last(&rt, &mut wires);
-    make_station(&rt, alloc, 0, 1, wire, 0)
+    make_station(&rt, alloc, 0, 1, wire, step)
+}
+
+/// A node that is the only member, whose clock stands.
+pub(crate) fn alone<R: Wait + Abort + Copy + Drop>(rt: R, alloc: Global) -> Station<R>
+    ensures { vec_len result.taps ≡ PAGES }
+{
+    alone_in_steps(rt, alloc, 0)
 }
 
 fn body_of(alloc: Global, byte: u8) -> Result<Bytes, AllocError> {
