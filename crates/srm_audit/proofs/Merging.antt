@@ -8,7 +8,6 @@ use Rattle.std.proofs.lemmas.Option.{same_Some, slice_get-get_or, none-some}
 use Rattle.srm_names.specs.Histories.{Step}
 use Rattle.srm_names.proofs.Lists.{AllByRecursion-parts}
 use Rattle.srm_codec.specs.declared.datagram.Datagram.{Datagram}
-use Rattle.srm_codec.specs.Spelling.{IsSpellable}
 use Rattle.srm_entries.specs.declared.entry.Entry.{Entry}
 use Rattle.srm_entries.specs.Entries.{heard, sent}
 use Rattle.srm_agent_parts.proofs.Running.{steps_more}

@@ -226,7 +226,7 @@ foreign_at q gots place mismatch first (got, at, is) =
 
 pub refused : (q : List Journal) (gots : List Got) (starts : List Start) (m : Content) (mismatch : Mismatch) → IsRoster (starts_of q) → AllByRecursion IsLawfulJournal q → AreFound q gots → starts ≡ starts_of q → Opens q m → Refuses starts m mismatch → IsRefusedInOrder q gots mismatch
 refused q gots starts m (Unsent member entry) roster known found same opened cut = (found, cut.each q (merges q m roster known opened) same (subst IsRoster (sym same) roster))
-refused q gots starts m Memory roster known found same opened cut = tt
+refused q gots starts m Memory roster known found same opened cut = found
 refused q gots starts m (Foreign member slot) roster known found same opened cut = absurd cut
 refused q gots starts m Roster roster known found same opened cut = absurd cut
 

@@ -1,12 +1,12 @@
 -- The first entry of a queue, and the bytes of what it hears.
-use Rattle.std.proofs.Common.{◌≡◌, ℕ, ◌<◌, Bool, true, false, List, [], ◌∷◌, length, refl, ap, sym, ◌∙◌, subst, arith}
-use Rattle.std.specs.Prelude.{Option, Some, None, slice_get, IfSome, Contains}
+use Rattle.std.proofs.Common.{◌≡◌, ℕ, ◌<◌, Bool, true, false, List, [], ◌∷◌, length, ap, sym, ◌∙◌, subst, arith}
+use Rattle.std.specs.Prelude.{Some, None, slice_get, IfSome, Contains}
 use Rattle.std.proofs.lemmas.Option.{same_Some, none-some}
 use Rattle.srm_codec.specs.declared.datagram.Datagram.{Datagram}
 use Rattle.srm_codec.specs.Spelling.{IsSpellable}
 use Rattle.srm_entries.specs.declared.entry.Entry.{Entry}
 use Rattle.srm_entries.specs.Entries.{heard}
-use Rattle.srm_audit.specs.Texts.{text_of, is_text, Knows, HearsOther}
+use Rattle.srm_audit.specs.Texts.{text_of, is_text}
 use Rattle.srm_audit.specs.Queues.{IsReadable, AreReadable, HearsText, IsQueue, HearsSent, HearsUnknown, MayGo, PopsReady}
 
 -- what the first entry hears

@@ -76,6 +76,10 @@ HasNoOrder q = (es : List Entry) → IsHonest es → ¬ ((m : ℕ) → of_member
 abbrev pub NoOrderLaw : Type 0
 NoOrderLaw = (q : List Journal) (member entry : ℕ) → IsUnsent q member entry → HasNoOrder q
 
+-- two entries that can be told as unsent are one
+abbrev pub OneUnsentLaw : Type 0
+OneUnsentLaw = (q : List Journal) (member entry other number : ℕ) → IsUnsent q member entry → IsUnsent q other number → (other ≡ member) × (number ≡ entry)
+
 -- what was taken in this slot of this member
 abbrev pub is_of : ℕ → ℕ → Got → Bool
 is_of m j got = (got.member == m) && (got.slot == j)
@@ -131,9 +135,10 @@ pub record AreOf (js : List Journal) (gots : List Got) (t : Trace) : Type 0 wher
   pub found : AreFound order gots
   pub assembles : Assembles order gots t
 
--- why journals and lists are refused
+-- Why journals and lists are refused. Want of memory takes neither of the first two's place: where it is told, the roster is right and all
+-- lists are found.
 abbrev pub IsRefused : List Journal → List Got → Mismatch → Type 0
 IsRefused js gots Roster = (q : List Journal) → ¬ (InOrder js q)
 IsRefused js gots (Foreign member slot) = (q : List Journal) × InOrder js q × IsForeign q gots member slot
 IsRefused js gots (Unsent member entry) = (q : List Journal) × InOrder js q × AreFound q gots × IsUnsent q member entry
-IsRefused js gots Memory = Unit {0}
+IsRefused js gots Memory = (q : List Journal) × InOrder js q × AreFound q gots

@@ -17,7 +17,7 @@ abbrev pub IsRefusedInOrder : List Journal → List Got → Mismatch → Type 0
 IsRefusedInOrder q gots Roster = ⊥
 IsRefusedInOrder q gots (Foreign member slot) = IsForeign q gots member slot
 IsRefusedInOrder q gots (Unsent member entry) = AreFound q gots × IsUnsent q member entry
-IsRefusedInOrder q gots Memory = Unit {0}
+IsRefusedInOrder q gots Memory = AreFound q gots
 
 -- the list at the place is told as foreign
 abbrev pub IsForeignAt : List Got → ℕ → Mismatch → Type 0

@@ -1,6 +1,7 @@
 use Rattle.std.proofs.Common.{subst, ◌∙◌, ap, map, refl}
 use Rattle.std.specs.List.{AllByRecursion}
 use Rattle.srm_world.specs.Claims.{IsLawfulJournal}
+use Rattle.srm_audit.specs.declared.mismatch.Mismatch.TheVariants.{Memory}
 use Rattle.srm_audit.specs.Audits.{AreFound}
 use Rattle.srm_audit.specs.Finding.{IsFirstForeign}
 use Rattle.srm_audit.specs.Endings.{ending_of}
@@ -11,6 +12,21 @@ use Rattle.srm_audit.proofs.reconciling.assemble.Goals as goal
 
 pub returns-in-Some-clause-err : goal.returns-in-Some-clause-err
 returns-in-Some-clause-err c = foreign_at c.args.journals.items c.args.gots.now c.in-Some.place c.foreign.result (subst (λ q. IsFirstForeign q c.args.gots.now c.in-Some.place) c.deref-2.ensures.value c.in-Some.ensures) c.foreign.ensures
+
+pub returns-in_err-endings-clause-err : goal.returns-in_err-endings-clause-err
+returns-in_err-endings-clause-err c =
+    let found : AreFound c.args.journals.items c.args.gots.now = subst (λ q. AreFound q c.args.gots.now) c.deref-2.ensures.value c.in_default.ensures in
+    handed_on c.from_residual.result Memory (IsRefusedInOrder c.args.journals.items c.args.gots.now) c.from_residual.ensures.1 found
+
+pub returns-in_err-starts-clause-err : goal.returns-in_err-starts-clause-err
+returns-in_err-starts-clause-err c =
+    let found : AreFound c.args.journals.items c.args.gots.now = subst (λ q. AreFound q c.args.gots.now) c.deref-2.ensures.value c.in_default.ensures in
+    handed_on c.from_residual-in_err-starts.result Memory (IsRefusedInOrder c.args.journals.items c.args.gots.now) c.from_residual-in_err-starts.ensures.1 found
+
+pub returns-in_err-take_all-clause-err : goal.returns-in_err-take_all-clause-err
+returns-in_err-take_all-clause-err c =
+    let found : AreFound c.args.journals.items c.args.gots.now = subst (λ q. AreFound q c.args.gots.now) c.deref-2.ensures.value c.in_default.ensures in
+    handed_on c.from_residual-in_err-take_all.result Memory (IsRefusedInOrder c.args.journals.items c.args.gots.now) c.from_residual-in_err-take_all.ensures.1 found
 
 pub returns-in_err-entries-clause-err : goal.returns-in_err-entries-clause-err
 returns-in_err-entries-clause-err c =
