@@ -56,14 +56,14 @@ pub heard_nothing : (now : ℕ) (bytes : List ℕ) (b c : Journal) (fault : Agen
 heard_nothing now bytes b c fault (inl (e, grows, hearing, answers)) = absurd answers
 heard_nothing now bytes b c fault (inr (is, same)) = same
 
-pub listened_fails : (now n : ℕ) (ended : List (Option (List ℕ))) (a b : Journal) (s u : Option Told) → Listens now n ended a b s u → Listened now true a b s u
-listened_fails now n ended a b s u h = record { count = n; ended = ended; listens = h; whole = tt }
+pub listened_fails : (now n : ℕ) (a b : Journal) (s u : Option Told) → n < RECEIVED → Listens now n [] a b s u → Listened now true a b s u
+listened_fails now n a b s u few h = record { count = n; ended = []; listens = h; ends = (few, refl) }
 
 pub listened_none : (now n : ℕ) (a b : Journal) (s u : Option Told) → n < RECEIVED → Listens now n (None ∷ []) a b s u → Listened now false a b s u
-listened_none now n a b s u few h = record { count = n; ended = None ∷ []; listens = h; whole = inr (few, refl) }
+listened_none now n a b s u few h = record { count = n; ended = None ∷ []; listens = h; ends = inr (few, refl) }
 
 pub listened_all : (now n : ℕ) (a b : Journal) (s u : Option Told) → n ≡ RECEIVED → Listens now n [] a b s u → Listened now false a b s u
-listened_all now n a b s u all h = record { count = n; ended = []; listens = h; whole = inl (all, refl) }
+listened_all now n a b s u all h = record { count = n; ended = []; listens = h; ends = inl (all, refl) }
 
 -- memory ran out, and what came last is lost
 pub listened_lost : (now n : ℕ) (bytes : List ℕ) (a b c : Journal) (s t u : Option Told) (fault : AgentFault) → n < RECEIVED → Listens now n [] a b s t → RecordsHeard now bytes b c (Err fault) → TellsMore (Some bytes ∷ []) [] t u → ListenedCut now a c s u

@@ -37,6 +37,7 @@ use Rattle.srm_node.specs.Parts.{Listens, Listened, ListenedCut, Draws, DrewStro
 use Rattle.srm_node.specs.Nodes.{NodeView, IsNode, AreNewFeeds}
 use Rattle.srm_node.specs.declared.listening.Listening.{Listening}
 use Rattle.srm_node.specs.declared.drawing.Drawn.{Drawn}
+use Rattle.srm_node.proofs.Releasing.{puts_released}
 use Rattle.srm_node.proofs.Gives.{given-append}
 use Rattle.srm_node.proofs.Draws.{inputs_drawn}
 
@@ -80,6 +81,7 @@ keeps_quiet j k es feeds received hand h lawful grown quiet = record {
   lawful = lawful;
   slots = h.slots;
   carries = carries_more j k es feeds grown (quiet_given es quiet) h.carries;
+  puts = puts_released k feeds lawful (carries_more j k es feeds grown (quiet_given es quiet) h.carries);
   draws_are = received_still j k es received hand grown (quiet_draws es quiet) h.draws_are;
 }
 
@@ -155,11 +157,13 @@ node_drawn : (now count : ℕ) (n : NodeView) (k : Journal) (well : WellView) (f
 node_drawn now count n k well from hand config room h lawful same d =
     let e : Draws now count n.journal k n.well well n.hand hand = subst (λ x. Draws now count n.journal k n.well well x hand) same d in
     let x = e.draws in
+    let still : CarriesEach k n.feeds = carries_more n.journal k x.entries n.feeds x.grown (drawn_none_given x.entries x.strokes (inputs_drawn now n.journal x.strokes x.entries x.each)) h.lists.carries in
     record {
       lists = record {
         lawful = lawful;
         slots = h.lists.slots;
-        carries = carries_more n.journal k x.entries n.feeds x.grown (drawn_none_given x.entries x.strokes (inputs_drawn now n.journal x.strokes x.entries x.each)) h.lists.carries;
+        carries = still;
+        puts = puts_released k n.feeds lawful still;
         draws_are = received_more now count n.journal k n.well well n.hand hand e h.lists.draws_are;
       };
       settings = settings_of n.journal k x.entries x.grown ∙ h.settings;
@@ -219,6 +223,7 @@ node_given n k feeds config room below h g = record {
     lawful = g.lawful;
     slots = g.slots ∙ h.lists.slots;
     carries = g.carries;
+    puts = puts_released k feeds g.lawful g.carries;
     draws_are = received_still n.journal k g.entries n.well.received n.hand g.grown (gives_draw_nothing g.entries g.inputs) h.lists.draws_are;
   };
   settings = settings_of n.journal k g.entries g.grown ∙ h.settings;
@@ -237,14 +242,21 @@ new_run c made = record { each = tt; bucket = ([], refl, tt, tt) }
 
 pub keeps_new : (j : Journal) (feeds : List FeedView) (received : List Stroke) → j.entries ≡ [] → AreNewFeeds feeds → received ≡ [] → KeepsLists j feeds received None
 keeps_new j feeds received none new empty = record {
-  lawful = lawful_journal j (record { run = subst (IsMemberRun j.start.config j.start.made) (sym none) (new_run j.start.config j.start.made); untaken = subst (AllByRecursion IsUntaken) (sym none) tt });
+  lawful = lawful;
   slots = new.slots;
-  carries = λ slot f at_f. carried slot f (new.each slot f at_f);
+  carries = carries;
+  puts = puts_released j feeds lawful carries;
   draws_are = ap (map drawing) empty ∙ ap (λ es. draws es ++ []) (sym none);
 }
   where
+    lawful : IsLawfulJournal j
+    lawful = lawful_journal j (record { run = subst (IsMemberRun j.start.config j.start.made) (sym none) (new_run j.start.config j.start.made); untaken = subst (AllByRecursion IsUntaken) (sym none) tt })
+
     carried : (slot : ℕ) (f : FeedView) → ((f.put ≡ []) × (f.lost ≡ false)) → Carries (given j.entries slot) f
     carried slot f h = subst (λ b. MatchBool b ((back : PageMsg) × (given j.entries slot ≡ f.put ++ back ∷ [])) (given j.entries slot ≡ f.put)) (sym h.1) (ap (λ es. given es slot) none ∙ sym h.0)
+
+    carries : CarriesEach j feeds
+    carries = λ slot f at_f. carried slot f (new.each slot f at_f)
 
 -- the feeds of new lanes are new
 pub new_feeds : (viewers : ℕ) (feeds : List FeedView) (taps : List TapView) (sights : List Sight) → AreLanes viewers feeds taps sights → AreNewFeeds feeds

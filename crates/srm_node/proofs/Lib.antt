@@ -4,6 +4,7 @@ pub mod Rightly
 pub mod Tallies
 pub mod Draws
 pub mod Gives
+pub mod Releasing
 pub mod Ticks
 pub mod Keeping
 pub mod Waiting

@@ -68,6 +68,7 @@ pub turned_deaf : (now : ℕ) (u v w : Bool) (a b c d e f : NodeView) → HearsN
 turned_deaf now u v w a b c d e f h x l t g some = record {
   unheard = u;
   unsent = v;
+  some = some;
   turned = turned now u v w a b c d e f h x l t g;
   failed = rose (counts_on u v a.failures d.failures f.failures (subst (λ n. CountsIf u a.failures n) (sym same_before) h.failures) (subst (λ n. CountsIf v d.failures n) (sym same_after) t.sends.failures));
 }

@@ -7,3 +7,4 @@ pub mod Turns
 pub mod TurnExamples
 pub mod Working
 pub mod Hosting
+pub mod NodeExamples

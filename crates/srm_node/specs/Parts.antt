@@ -1,5 +1,5 @@
 -- The parts of a turn.
-use Rattle.std.specs.Prelude.{◌≡◌, ◌⊎◌, ℕ, ◌<◌, ◌≤◌, ◌==◌, Bool, true, false, ◌&&◌, ◌||◌, List, [], ◌∷◌, ◌++◌, map, length, slice_get, Option, Some, None, is_none, option_to_list, is_some}
+use Rattle.std.specs.Prelude.{◌≡◌, ◌⊎◌, ℕ, ◌<◌, ◌≤◌, ◌==◌, Bool, true, false, ◌&&◌, ◌||◌, List, [], ◌∷◌, ◌++◌, map, length, slice_get, Option, Some, None, is_none, option_to_list, is_some, MatchBool}
 use Rattle.std.specs.Bool.{OnTrue, OnFalse}
 use Rattle.std.specs.List.{AllByRecursion, list_any}
 use Rattle.srm_names.specs.declared.limits.TheConstants.{PAGES}
@@ -34,12 +34,17 @@ pub record Listens (now count : ℕ) (ended : List (Option (List ℕ))) (old new
 abbrev pub IsWhole : ℕ → List (Option (List ℕ)) → Type 0
 IsWhole count ended = ((count ≡ RECEIVED) × (ended ≡ [])) ⊎ ((count < RECEIVED) × (ended ≡ None ∷ []))
 
+-- How hearing ends: where a receive failed, before as many came as a turn receives, and nothing more is told of; else all was heard.
+abbrev pub HearingEnds : Bool → ℕ → List (Option (List ℕ)) → Type 0
+HearingEnds true count ended = (count < RECEIVED) × (ended ≡ [])
+HearingEnds false count ended = IsWhole count ended
+
 -- what came was heard, and all of it unless a call failed
 pub record Listened (now : ℕ) (failed : Bool) (old new : Journal) (was is : Option Told) : Type 0 where
   pub count : ℕ
   pub ended : List (Option (List ℕ))
   pub listens : Listens now count ended old new was is
-  pub whole : OnFalse failed (IsWhole count ended)
+  pub ends : HearingEnds failed count ended
 
 -- Memory ran out: what came was heard, but for the last of it, which is lost.
 pub record ListenedCut (now : ℕ) (old new : Journal) (was is : Option Told) : Type 0 where
@@ -93,10 +98,11 @@ pub record Draws (now count : ℕ) (old new : Journal) (from to : WellView) (han
   pub pops : Pops from to (option_to_list hand) all
   pub draws : DrawsOf now count all (option_to_list kept) old new
 
--- As many were drawn as a turn draws, or none was left, or the one in hand isn't admitted.
+-- As many were drawn as a turn draws, by which it isn't known whether more are left; or fewer, and none was left; or the one in hand isn't
+-- admitted.
 abbrev pub DrawingEnds : (now count : ℕ) → Bool → Journal → Option Stroke → Type 0
 DrawingEnds now count none_left j (Some s) = (none_left ≡ false) × IsAdmitted now j s false
-DrawingEnds now count none_left j None = OnFalse none_left (count ≡ DRAWN)
+DrawingEnds now count none_left j None = MatchBool none_left (count < DRAWN) (count ≡ DRAWN)
 
 -- strokes were drawn, until there was cause to end
 pub record DrewStrokes (now : ℕ) (none_left : Bool) (old new : Journal) (from to : WellView) (hand kept : Option Stroke) : Type 0 where

@@ -1,5 +1,5 @@
 -- The drawing, the leaving and the waits of a turn, at worked examples.
-use Rattle.std.specs.Prelude.{◌≡◌, ℕ, true, false, List, [], ◌∷◌, ◌++◌, Some, None, replicate, refl}
+use Rattle.std.specs.Prelude.{◌≡◌, ◌<◌, ℕ, true, false, List, [], ◌∷◌, ◌++◌, Some, None, replicate, refl}
 use Rattle.std.proofs.Common.{arith}
 use Rattle.srm_names.specs.Names.{first_page}
 use Rattle.srm_codec.specs.declared.datagram.Datagram.TheVariants.{Data}
@@ -59,6 +59,13 @@ draws_one w = record {
 -- with one in hand it ends only where that isn't admitted
 not_while_admitted : DrawingEnds 5 0 false (journal []) (Some full) ≡ ((false ≡ false) × IsAdmitted 5 (journal []) full false)
 not_while_admitted = refl
+
+-- after 64 it isn't known whether more are left
+not_known_after_64 : DrawingEnds 5 64 true (journal []) None ≡ (64 < 64)
+not_known_after_64 = refl
+
+known_after_63 : DrawingEnds 5 63 true (journal []) None
+known_after_63 = omega arith
 
 -- a member leaves where none is left
 leaves_then : Leaves 2 true (journal (first_drawn ∷ [])) (journal (first_drawn ∷ asked ∷ []))

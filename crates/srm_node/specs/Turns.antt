@@ -1,5 +1,5 @@
 -- One turn of a node, part by part.
-use Rattle.std.specs.Prelude.{◌≡◌, ◌⊎◌, ℕ, zero, suc, ◌<◌, ◌≤◌, Bool, false, List, map, Result, Ok, Err}
+use Rattle.std.specs.Prelude.{◌≡◌, ◌⊎◌, ℕ, zero, suc, ◌<◌, ◌≤◌, ◌||◌, Bool, true, false, List, map, Result, Ok, Err}
 use Rattle.srm_names.specs.declared.limits.TheConstants.{PAGES}
 use Rattle.srm_agent_parts.specs.declared.out.Out.{Out}
 use Rattle.srm_node.specs.declared.fault.NodeFault.{NodeFault}
@@ -51,10 +51,11 @@ pub record Turned (unheard unsent : Bool) (old new : NodeView) : Type 0 where
   pub ticks : TicksNow now unsent left ticked
   pub gives : GivesNow PAGES ticked new
 
--- the turn was done to its end, though calls of the wire failed, whose count shows it
+-- the turn was done to its end, though a receive or a send failed, which the wire's count shows
 pub record TurnedDeaf (old new : NodeView) : Type 0 where
   pub unheard : Bool
   pub unsent : Bool
+  pub some : (unheard || unsent) ≡ true
   pub turned : Turned unheard unsent old new
   pub failed : RoseOrFull old.failures new.failures
 
@@ -69,7 +70,7 @@ pub record DrawsCut (now : ℕ) (old new : NodeView) : Type 0 where
   pub drew : DrewStrokesCut now old.journal new.journal old.well new.well old.hand new.hand
   pub same : new ≡ record old { journal = new.journal; well = new.well; hand = new.hand }
 
--- Memory ran out while it gave: no message of that slot was given for which it did.
+-- Memory ran out while it gave, in one of the slots: those before it are served, and each lane carries what was given.
 pub record GivesCut (old new : NodeView) : Type 0 where
   pub gives : GaveSome old.journal new.journal old.feeds new.feeds
   pub same : new ≡ record old { journal = new.journal; feeds = new.feeds }

@@ -169,3 +169,33 @@ fn a_first_turn_makes_five_calls(rt: HostRuntime) {
     end(&rt, first, &[]);
     end(&rt, second, &[]);
 }
+
+// The first stroke is lost, and the second goes all the same: so the first is asked for.
+#[test]
+fn what_is_behind_a_send_that_fails_is_sent(rt: HostRuntime) {
+    let alloc = rt.alloc();
+    let (mut first, mut second) = pair(rt, alloc, two(&rt), 2, &[]);
+    let draws = [
+        Step::Ink(b'a'),
+        Step::Ink(b'b'),
+        Step::Turn(Err(NodeFault::Wire)),
+    ];
+    let asks = [Step::Turn(Ok(())), Step::At(200_005), Step::Turn(Ok(()))];
+    play(&rt, alloc, &mut first, &draws);
+    play(&rt, alloc, &mut second, &asks);
+    end(&rt, first, &[]);
+    end(&rt, second, &[Tale::Asked(200_005)]);
+}
+
+// What was there when a receive failed is heard in the next turn.
+#[test]
+fn a_receive_that_fails_loses_nothing_that_is_there(rt: HostRuntime) {
+    let alloc = rt.alloc();
+    let (mut first, mut second) = pair(rt, alloc, two(&rt), 1, &[]);
+    let draws = [Step::Ink(b'a'), Step::Turn(Ok(()))];
+    let hears = [Step::Turn(Err(NodeFault::Wire)), Step::Turn(Ok(()))];
+    play(&rt, alloc, &mut second, &draws);
+    play(&rt, alloc, &mut first, &hears);
+    end(&rt, first, &[Tale::Given(0, 2, Seen::Draw(1, 1, 1, b'a'))]);
+    end(&rt, second, &[]);
+}

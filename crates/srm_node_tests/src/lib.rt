@@ -18,7 +18,13 @@ mod filling;
 #[cfg(test)]
 mod giving;
 #[cfg(test)]
+mod noting;
+#[cfg(test)]
 mod pairs;
+#[cfg(test)]
+mod passing;
+#[cfg(test)]
+mod pausing;
 #[cfg(test)]
 mod plays;
 #[cfg(test)]
@@ -39,3 +45,5 @@ mod strokes;
 mod tales;
 #[cfg(test)]
 mod turning;
+#[cfg(test)]
+mod wires;

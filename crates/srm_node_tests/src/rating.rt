@@ -1,13 +1,18 @@
 //! Strokes above the rate.
 
+use crate::passing::Passing;
 use crate::plays::pair;
-use crate::rig::member;
+use crate::rig::{Rig, config, first, make_rig, make_rig_at, member, new_now, wires};
 use crate::seen::Seen;
-use crate::steps::{Step, play};
+use crate::steps::{Step, play, turn};
+use crate::strokes::ink_what_goes;
 use crate::tales::{Tale, end};
 use srm_agent::Config;
-use srm_node::NodeFault;
+use srm_node::{MemWire, NodeFault};
+use std::alloc::Global;
 use std::process::Abort;
+use std::sync::atomic::Ordering;
+use std::sync::{Arc, Wait};
 
 /// The settings of one of two members with the smallest depth, 1,051 bytes, and 8,000 bytes a second.
 fn shallow(rt: &impl Abort, me: u8) -> Config {
@@ -52,4 +57,70 @@ fn strokes_above_the_rate_stay_and_all_go_in_the_end(rt: HostRuntime) {
     play(&rt, alloc, &mut second, &takes);
     end(&rt, first, &[Tale::Drawn(3, 5, 262_755)]);
     end(&rt, second, &[]);
+}
+
+/// The first of two members over a network in memory, with the smallest depth; time passes while it pauses, and only then.
+fn passing<R: Wait + Abort + Copy + Drop>(rt: R, alloc: Global) -> Rig<Passing<MemWire<R>>> {
+    let mut wires = wires(rt, alloc, 2, &[]);
+    let now = new_now(&rt, alloc);
+    let wire = Passing {
+        wire: first(&rt, &mut wires),
+        now: Arc::try_clone(&now).expect(&rt, "memory"),
+    };
+    make_rig_at(&rt, alloc, shallow(&rt, 0), wire, now, 0)
+}
+
+// A pause that ended later than the rate lets the stroke in hand go would leave tokens unused: more than 1,051 aren't kept.
+#[test]
+fn strokes_of_one_byte_use_the_rate(rt: HostRuntime) {
+    let mut rig = passing(rt, rt.alloc());
+    play(&rt, rt.alloc(), &mut rig, &[Step::Flow(3_000)]);
+    end(&rt, rig, &[Tale::Used(4_000_000, 8_000)]);
+}
+
+/// The node of the next member of three, with the usual settings.
+fn next_of_three<R: Wait + Abort + Copy + Drop>(
+    rt: R,
+    alloc: Global,
+    me: u8,
+    wires: &mut Vec<MemWire<R>>,
+) -> Rig<MemWire<R>> {
+    let wire = first(&rt, wires);
+    make_rig(&rt, alloc, config(&rt, me, 3), wire, 0)
+}
+
+/// At this moment a member's pen sends what the well takes of so many strokes, and its node turns once. How many are left.
+fn flow_at<R: Wait + Abort + Drop>(
+    rt: &R,
+    alloc: Global,
+    rig: &mut Rig<MemWire<R>>,
+    now: u64,
+    left: u16,
+) -> u16 {
+    rig.now.store(now, Ordering::SeqCst);
+    let left = ink_what_goes(rt, alloc, &mut rig.pens, left);
+    turn(rt, rig, Ok(()));
+    left
+}
+
+// A stroke of 30 bytes is a datagram of 57, so the rate alone needs 3.75 s for 600 of them. Drawn at once they would be told of before
+// they go, and be asked for by the hundred; so only one may be that is drawn where nothing waits, and waits for its tokens, since these
+// members are a millisecond apart.
+#[test]
+fn a_backlog_goes_at_the_rate(rt: HostRuntime) {
+    let alloc = rt.alloc();
+    let mut wires = wires(rt, alloc, 3, &[]);
+    let mut one = next_of_three(rt, alloc, 0, &mut wires);
+    let mut two = next_of_three(rt, alloc, 1, &mut wires);
+    let mut three = next_of_three(rt, alloc, 2, &mut wires);
+    let mut left = [600, 400, 400];
+    for round in 0..4_000 {
+        let now = 5 + round * 1_000;
+        left[0] = flow_at(&rt, alloc, &mut one, now, left[0]);
+        left[1] = flow_at(&rt, alloc, &mut two, now, left[1]);
+        left[2] = flow_at(&rt, alloc, &mut three, now, left[2]);
+    }
+    end(&rt, one, &[Tale::Flowed(600, 4_000_000, 800, 14)]);
+    end(&rt, two, &[Tale::Flowed(400, 4_000_000, 1_000, 14)]);
+    end(&rt, three, &[Tale::Flowed(400, 4_000_000, 1_000, 14)]);
 }

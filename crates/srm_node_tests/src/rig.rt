@@ -103,7 +103,7 @@ fn new_well(rt: &impl Abort, alloc: Global) -> (ends::Well, Vec<Pen>)
 }
 
 /// What a clock is read from and set by, which stands at 5.
-fn new_now(rt: &impl Abort, alloc: Global) -> Arc<AtomicU64, Global> {
+pub(crate) fn new_now(rt: &impl Abort, alloc: Global) -> Arc<AtomicU64, Global> {
     Arc::new(alloc, AtomicU64::new(5)).expect(rt, "memory")
 }
 
@@ -135,6 +135,18 @@ pub(crate) fn make_rig<X: Wire + Drop>(
     step: u64,
 ) -> Rig<X> {
     let now = new_now(rt, alloc);
+    make_rig_at(rt, alloc, config, wire, now, step)
+}
+
+/// A new node with this clock, which goes on by so many microseconds whenever it is read.
+pub(crate) fn make_rig_at<X: Wire + Drop>(
+    rt: &impl Abort,
+    alloc: Global,
+    config: Config,
+    wire: X,
+    now: Arc<AtomicU64, Global>,
+    step: u64,
+) -> Rig<X> {
     let clock = TestClock {
         now: Arc::try_clone(&now).expect(rt, "memory"),
         step,

@@ -3,6 +3,7 @@
 use crate::plays::play_alone;
 use crate::seen::Seen;
 use crate::steps::Step;
+use crate::tales::Tale;
 use srm_node::NodeFault;
 
 // In its second turn the node is gone, and has given a close in each slot.
@@ -74,4 +75,50 @@ fn a_run_ends_with_a_tap_that_is_gone(rt: HostRuntime) {
         Step::Takes(6, Seen::Close),
     ];
     play_alone(rt, rt.alloc(), &steps, &[]);
+}
+
+// The first turn asks to leave, ticks, and gives 17 times: a page, eight closes, and in each slot nothing more. The second ticks, and gives
+// nothing in each slot.
+#[test]
+fn a_node_asks_to_leave_once(rt: HostRuntime) {
+    let steps = [
+        Step::Done,
+        Step::Leave(0),
+        Step::Turn(Ok(())),
+        Step::Turn(Ok(())),
+    ];
+    play_alone(rt, rt.alloc(), &steps, &[Tale::Sizes(28, 2, 25)]);
+}
+
+#[test]
+fn a_node_leaves_at_the_moment_it_was_asked_for_last(rt: HostRuntime) {
+    let steps = [
+        Step::Done,
+        Step::Leave(5_000),
+        Step::Leave(1_000),
+        Step::At(1_000),
+        Step::Run(1, Ok(())),
+    ];
+    play_alone(rt, rt.alloc(), &steps, &[]);
+}
+
+// A stroke in hand and 64 in the well are one more than a turn draws: the last one goes in the next turn, and only then the member leaves.
+#[test]
+fn a_node_leaves_behind_the_65th_stroke(rt: HostRuntime) {
+    let steps = [
+        Step::InkOn(0, 0, b'a', 1_024),
+        Step::InkOn(0, 0, b'a', 1_024),
+        Step::InkOn(0, 0, b'a', 1_024),
+        Step::InkOn(0, 0, b'a', 1_024),
+        Step::Ink(b'b'),
+        Step::Turn(Ok(())),
+        Step::InkMany(64),
+        Step::Done,
+        Step::Leave(0),
+        Step::At(300_000),
+        Step::Turn(Ok(())),
+        Step::Turn(Ok(())),
+        Step::Counts(0, [0; 7], 0),
+    ];
+    play_alone(rt, rt.alloc(), &steps, &[Tale::Drawn(69, 5, 300_000)]);
 }

@@ -3,7 +3,7 @@
 use crate::datagrams::{Sent, send_by};
 use crate::rig::Rig;
 use crate::seen::{Seen, assert_taken};
-use crate::strokes::{end_all, ink_by, ink_many};
+use crate::strokes::{end_all, ink_by, ink_many, ink_until_full};
 use srm_node::{Counts, NodeFault, Wire};
 use std::alloc::Global;
 use std::process::Abort;
@@ -23,6 +23,8 @@ pub(crate) enum Step {
     InkMany(u8),
     /// So often the first pen sends 64 strokes of one byte on the first page, and the node turns.
     Fill(u16),
+    /// So often the first pen fills the well with strokes of one byte on the first page, and the node runs for one turn.
+    Flow(u16),
     /// The last pen is dropped, and isn't done.
     DropPen,
     /// All pens that are left are done.
@@ -45,7 +47,12 @@ pub(crate) enum Step {
     Counts(u64, [u64; 7], u64),
 }
 
-fn turn<R: Wait + Abort, X: Wire + Drop>(rt: &R, rig: &mut Rig<X>, end: Result<(), NodeFault>) {
+/// The node turns once, which ends so.
+pub(crate) fn turn<R: Wait + Abort, X: Wire + Drop>(
+    rt: &R,
+    rig: &mut Rig<X>,
+    end: Result<(), NodeFault>,
+) {
     assert_eq!(rt; rig.node.turn(rt), end);
 }
 
@@ -62,6 +69,13 @@ fn fill<R: Wait + Abort, X: Wire + Drop>(rt: &R, alloc: Global, rig: &mut Rig<X>
     for _ in 0..turns {
         ink_many(rt, alloc, &mut rig.pens, 64);
         turn(rt, rig, Ok(()));
+    }
+}
+
+fn flow<R: Wait + Abort, X: Wire + Drop>(rt: &R, alloc: Global, rig: &mut Rig<X>, turns: u16) {
+    for _ in 0..turns {
+        ink_until_full(rt, alloc, &mut rig.pens);
+        run(rt, rig, 1, Err(NodeFault::Turns));
     }
 }
 
@@ -89,6 +103,7 @@ fn take<R: Wait + Abort, X: Wire + Drop>(rt: &R, alloc: Global, rig: &mut Rig<X>
         }
         Step::InkMany(count) => ink_many(rt, alloc, &mut rig.pens, count),
         Step::Fill(turns) => fill(rt, alloc, rig, turns),
+        Step::Flow(turns) => flow(rt, alloc, rig, turns),
         Step::DropPen => drop(rig.pens.pop()),
         Step::Done => end_all(&mut rig.pens),
         Step::Send(sent, count) => send_by(rt, alloc, &mut rig.beside, sent, count),

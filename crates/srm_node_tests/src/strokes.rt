@@ -20,7 +20,25 @@ fn body_of(alloc: Global, byte: u8, length: usize) -> Result<Bytes, AllocError> 
     Bytes::copy_from_slice(alloc, bytes.as_slice())
 }
 
-/// Sends so many equal bytes as a stroke on a page of member 0.
+/// Sends so many equal bytes as a stroke on a page of member 0. Whether the well took it.
+fn has_inked<R: Wait + Abort>(
+    rt: &R,
+    alloc: Global,
+    pen: &mut Pen,
+    number: u16,
+    byte: u8,
+    length: usize,
+) -> bool {
+    let creator = member(rt, 0);
+    let stroke = Stroke {
+        pen: pen.place(),
+        page: Page { creator, number },
+        body: body_of(alloc, byte, length).expect(rt, "memory"),
+    };
+    pen.stroke(rt, stroke).is_ok()
+}
+
+/// Sends so many equal bytes as a stroke on a page of member 0, which goes into the well.
 fn ink<R: Wait + Abort>(
     rt: &R,
     alloc: Global,
@@ -29,13 +47,20 @@ fn ink<R: Wait + Abort>(
     byte: u8,
     length: usize,
 ) {
-    let creator = member(rt, 0);
-    let stroke = Stroke {
-        pen: pen.place(),
-        page: Page { creator, number },
-        body: body_of(alloc, byte, length).expect(rt, "memory"),
+    assert!(rt; has_inked(rt, alloc, pen, number, byte, length));
+}
+
+/// The first pen sends strokes of one byte on the first page until one comes back: the well is full.
+pub(crate) fn ink_until_full<R: Wait + Abort>(rt: &R, alloc: Global, pens: &mut Vec<Pen>) {
+    let Some(pen) = pens.get_mut(0) else {
+        panic!(rt; "no pen")
     };
-    assert!(rt; pen.stroke(rt, stroke).is_ok());
+    for _ in 0..65 {
+        if !has_inked(rt, alloc, pen, 0, b'x', 1) {
+            return;
+        }
+    }
+    panic!(rt; "no full well");
 }
 
 /// The pen at this place sends a stroke, which goes into the well.
@@ -59,6 +84,24 @@ pub(crate) fn ink_many<R: Wait + Abort>(rt: &R, alloc: Global, pens: &mut Vec<Pe
     for _ in 0..count {
         ink_by(rt, alloc, pens, 0, 0, b'x', 1);
     }
+}
+
+/// The first pen sends so many strokes of 30 bytes on the first page, or as many as the well takes. How many are left.
+pub(crate) fn ink_what_goes<R: Wait + Abort>(
+    rt: &R,
+    alloc: Global,
+    pens: &mut Vec<Pen>,
+    count: u16,
+) -> u16 {
+    let Some(pen) = pens.get_mut(0) else {
+        panic!(rt; "no pen")
+    };
+    for sent in 0..count {
+        if !has_inked(rt, alloc, pen, 0, b'x', 30) {
+            return count - sent;
+        }
+    }
+    0
 }
 
 /// The last pen that is left is done.

@@ -18,6 +18,12 @@ pub(crate) enum Tale {
     Given(u8, usize, Seen),
     /// The moments of so many draws, the first and the last.
     Drawn(usize, u64, u64),
+    /// For so long at least it drew strokes of one byte, each a datagram of 28, and used at least nine tenths of so many bytes a second.
+    Used(u64, u64),
+    /// So many strokes were drawn, the last by this moment, at least so many datagrams were heard, and at most so many entries asked or repaired.
+    Flowed(usize, u64, usize, usize),
+    /// The moment of the first entry that sent a datagram.
+    Sent(u64),
     /// The moment of the first entry that asked for a drawop.
     Asked(u64),
     /// The moment of the first entry that repaired a drawop.
@@ -71,12 +77,58 @@ fn drawn(entries: &[Entry]) -> (usize, u64, u64) {
     all
 }
 
+/// The bytes of so many datagrams of 28, and nine tenths of what may go at this rate in so many microseconds, both ten million times.
+fn bytes_used(count: usize, micros: u64, rate: u64) -> (u128, u128) {
+    let Ok(count) = u128::try_from(count) else {
+        return (0, 1);
+    };
+    let used = count.saturating_mul(280_000_000);
+    (
+        used,
+        u128::from(micros)
+            .saturating_mul(u128::from(rate))
+            .saturating_mul(9),
+    )
+}
+
+fn assert_used(rt: &impl Abort, entries: &[Entry], least: u64, rate: u64) {
+    let (count, from, to) = drawn(entries);
+    let micros = to.saturating_sub(from);
+    assert!(rt; least <= micros);
+    let (used, wanted) = bytes_used(count, micros, rate);
+    assert!(rt; wanted <= used);
+}
+
+fn has_sent(entry: &Entry) -> bool {
+    !entry.effects.outs.as_slice().is_empty()
+}
+
 fn has_asked(entry: &Entry) -> bool {
     !entry.effects.asks.as_slice().is_empty()
 }
 
 fn has_repaired(entry: &Entry) -> bool {
     !entry.effects.fixes.as_slice().is_empty()
+}
+
+fn is_heard(entry: &Entry) -> bool {
+    matches!(entry.input, Input::Heard(_))
+}
+
+fn assert_flowed(
+    rt: &impl Abort,
+    entries: &[Entry],
+    count: usize,
+    by: u64,
+    heard: usize,
+    recovering: usize,
+) {
+    let (drawn, _, last) = drawn(entries);
+    assert_eq!(rt; drawn, count);
+    assert!(rt; last <= by);
+    assert!(rt; heard <= entries.iter().filter(|entry| is_heard(entry)).count());
+    let recovers = |entry: &&Entry| has_asked(entry) || has_repaired(entry);
+    assert!(rt; entries.iter().filter(recovers).count() <= recovering);
 }
 
 fn moment(entry: Option<&Entry>) -> Option<u64> {
@@ -97,6 +149,14 @@ fn assert_tells(rt: &impl Abort, journal: &Journal, tale: Tale) {
             assert_eq!(rt; all_given(entries, slot), (count, seen));
         }
         Tale::Drawn(count, from, to) => assert_eq!(rt; drawn(entries), (count, from, to)),
+        Tale::Used(least, rate) => assert_used(rt, entries, least, rate),
+        Tale::Flowed(count, by, heard, recovering) => {
+            assert_flowed(rt, entries, count, by, heard, recovering);
+        }
+        Tale::Sent(at) => {
+            let sending = entries.iter().find(|entry| has_sent(entry));
+            assert_eq!(rt; moment(sending), Some(at));
+        }
         Tale::Asked(at) => {
             let asking = entries.iter().find(|entry| has_asked(entry));
             assert_eq!(rt; moment(asking), Some(at));

@@ -74,3 +74,15 @@ fn the_clock_counts_up_to_the_greatest_moment(rt: HostRuntime) {
     let first = Tale::First(MOMENT, Verdict::Done);
     play_alone(rt, rt.alloc(), &steps, &[first]);
 }
+
+// A node is made at the moment that the clock tells, 5, so its first session message is due a second later.
+#[test]
+fn a_node_is_made_at_the_moment_of_its_clock(rt: HostRuntime) {
+    let steps = [
+        Step::At(1_000_004),
+        Step::Turn(Ok(())),
+        Step::At(1_000_005),
+        Step::Turn(Ok(())),
+    ];
+    play_alone(rt, rt.alloc(), &steps, &[Tale::Sent(1_000_005)]);
+}

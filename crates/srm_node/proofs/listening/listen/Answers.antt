@@ -1,10 +1,13 @@
 use Rattle.std.proofs.Common.{arith}
-use Rattle.srm_node.proofs.Hears.{listens_none, listens_told, listens_more, listened_lost, listened_none}
+use Rattle.srm_node.proofs.Hears.{listens_none, listens_told, listens_more, listened_lost, listened_none, listened_fails}
 use Rattle.srm_node.proofs.Waiting.{waits_none, waits_heard, waits_on}
 use Rattle.srm_node.proofs.listening.listen.Goals as goal
 
 pub loop-count-init : goal.loop-count-init
 loop-count-init g c = record { lawful = c.requires.lawful; words = waits_none g.W.Words.draw _; counts = omega arith; listens = listens_none c.args.now _ _ }
+
+pub returns-in-Err-clause-hears : goal.returns-in-Err-clause-hears
+returns-in-Err-clause-hears g c = listened_fails c.args.now c.loop-count.count _ _ _ _ c.loop-count-test.true (listens_told c.args.now _ _ _ _ _ _ _ c.loop-count.invariant.listens c.in-Err.ensures.tells)
 
 pub returns-in-Ok-None-clause-hears : goal.returns-in-Ok-None-clause-hears
 returns-in-Ok-None-clause-hears g c = listened_none c.args.now c.loop-count.count _ _ _ _ c.loop-count-test.true (listens_told c.args.now _ _ _ _ _ _ _ c.loop-count.invariant.listens (rw c.in-Ok-None.field-0-is at c.in-Ok-None.ensures.tells))

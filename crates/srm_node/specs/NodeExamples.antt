@@ -1,0 +1,124 @@
+-- What lanes carry, what is counted and how runs, workers and hosts end, at worked examples.
+use Rattle.std.specs.Prelude.{◌≡◌, ℕ, suc, ◌==◌, Bool, true, false, List, [], ◌∷◌, Ok, Err, Some, None, replicate, refl}
+use Rattle.std.proofs.Common.{arith, inl, inr}
+use Rattle.srm_names.specs.Names.{first_page}
+use Rattle.srm_names.specs.declared.page_msg.PageMsg.{PageMsg}
+use Rattle.srm_names.specs.declared.page_msg.PageMsg.TheVariants.{Open, Draw, Close}
+use Rattle.srm_names.specs.PageFeeds.{is_page_feed}
+use Rattle.srm_pages.specs.Ends.{FeedView, TapView, LaneId}
+use Rattle.srm_entries.specs.declared.cause.Cause.TheVariants.{Own, Stranger}
+use Rattle.srm_entries.specs.declared.fault.AgentFault.TheVariants.{BodyLong}
+use Rattle.srm_entries.specs.declared.entry.Entry.{Entry}
+use Rattle.srm_entries.specs.declared.entry.Input.TheVariants.{Drew, Noise, Ticked}
+use Rattle.srm_entries.specs.declared.entry.Verdict.TheVariants.{Ignored, Refused}
+use Rattle.srm_entries.specs.declared.state.AgentState.TheVariants.{Active}
+use Rattle.srm_entries.specs.Entries.{released}
+use Rattle.srm_entries.specs.Giving.{given}
+use Rattle.srm_entries.specs.Verdicts.{stream_on}
+use Rattle.srm_entries.specs.Sample.{a, b, entry, quiet, draws, gives}
+use Rattle.srm_node.specs.declared.fault.NodeFault.TheVariants.{Memory, Turns}
+use Rattle.srm_node.specs.Counting.{counts_of}
+use Rattle.srm_node.specs.Carrying.{Carries, PutsReleased}
+use Rattle.srm_node.specs.Parts.{HearingEnds}
+use Rattle.srm_node.specs.Nodes.{NodeView}
+use Rattle.srm_node.specs.Turns.{RunEnds, TurnEnds}
+use Rattle.srm_node.specs.Working.{Took, SeesEach}
+use Rattle.srm_node.specs.Hosting.{StopsBy, WorkedEach}
+
+-- HEARING
+
+-- None came after 3, which the wire tells: without a failed receive that is the end.
+none_after_3 : HearingEnds false 3 (None ∷ [])
+none_after_3 = inr (omega arith, refl)
+
+-- so it is after 64, and no None is told
+full_turn : HearingEnds false 64 []
+full_turn = inl (refl, refl)
+
+-- a receive that failed was one of the 64, and nothing more is told
+failed_after_63 : HearingEnds true 63 []
+failed_after_63 = (omega arith, refl)
+
+not_failed_after_64 : HearingEnds true 64 [] → ⊥
+not_failed_after_64 h = omega (arith, h.0)
+
+-- LANES
+
+-- The page was opened for the worker, and the first drawop of member 0 given; the journal has a second one that isn't given yet.
+abbrev released_two : List Entry
+released_two = draws 0 5 a ∷ gives 0 5 (Some (Open first_page)) ∷ gives 0 5 (Some (Draw a)) ∷ draws 0 6 b ∷ []
+
+gave_both : given released_two 0 ≡ Open first_page ∷ Draw a ∷ []
+gave_both = refl
+
+abbrev feed : Bool → List PageMsg → LaneId → FeedView
+feed lost put lane = record { put = put; seen = 0; lost = lost; slot = 0; lane = lane; board = lane.stamps }
+
+-- a lane that stands has all that was given
+carries_all : (lane : LaneId) → Carries (given released_two 0) (feed false (Open first_page ∷ Draw a ∷ []) lane)
+carries_all lane = refl
+
+-- of a lost one the last message given came back
+carries_but_the_last : (lane : LaneId) → Carries (given released_two 0) (feed true (Open first_page ∷ []) lane)
+carries_but_the_last lane = (Draw a, refl)
+
+-- With the page alone put, what is released stands all before the worker; the feed begins with its page.
+puts_the_page : PutsReleased released_two 0 (Open first_page ∷ [])
+puts_the_page = record { feed = refl; prefix = λ source page at. (released released_two (stream_on source page), refl) }
+
+-- a drawop before its page is no page feed
+page_comes_first : is_page_feed (Draw a ∷ []) ≡ false
+page_comes_first = refl
+
+-- COUNTING
+
+-- noise, an own datagram that came back, a stranger's, and a stroke that is too long
+abbrev came_to_nothing : List Entry
+came_to_nothing = entry 0 5 Noise (quiet Active) ∷ record (entry 0 5 Noise (quiet Active)) { verdict = Ignored Own } ∷ record (entry 0 5 Ticked (quiet Active)) { verdict = Ignored Stranger }
+    ∷ record (entry 0 6 (Drew first_page (replicate 1025 7)) (quiet Active)) { verdict = Refused BodyLong } ∷ []
+
+counted : counts_of came_to_nothing ≡ record { noise = 2; ignored = 1 ∷ 0 ∷ 0 ∷ 0 ∷ 0 ∷ 0 ∷ 1 ∷ []; dropped = 1 }
+counted = refl
+
+-- RUNS
+
+-- no turn, no change
+no_turns : (n : NodeView) → RunEnds (Err Turns) 0 n n
+no_turns n = record { turns = refl }
+
+-- a run that came to its end needn't have spent its turns
+ends_at_once : (n : NodeView) → RunEnds (Ok tt) 5 n n
+ends_at_once n = record { count = 0; few = omega arith; runs = record { turns = refl } }
+
+-- no turn ends by fault 3
+no_turn_is_spent : (old new : NodeView) → TurnEnds (Err Turns) old new ≡ ⊥
+no_turn_is_spent old new = refl
+
+-- WORKERS
+
+abbrev tap : List PageMsg → LaneId → TapView
+tap taken lane = record { taken = taken; seat = []; slot = 3; lane = lane; board = lane.stamps }
+
+took_two : (lane : LaneId) → Took (tap (Open first_page ∷ []) lane) (tap (Open first_page ∷ Draw a ∷ Close ∷ []) lane) (Draw a ∷ Close ∷ [])
+took_two lane = record { is = refl }
+
+-- A sink that counts, and stops its worker at the second message: of two it saw both, in slot 3.
+abbrev Stops : ℕ → ℕ → PageMsg → Bool → ℕ → Type 0
+Stops old slot m goes_on new = (slot ≡ 3) × (new ≡ suc old) × (goes_on ≡ (old == 0))
+
+stopped_at_two : SeesEach Stops 3 true (Open first_page ∷ Draw a ∷ []) 0 2
+stopped_at_two = (1, true, (refl, refl, refl), (2, false, (refl, refl, refl), (refl, refl, refl)))
+
+-- it goes on behind one
+not_stopped_at_one : SeesEach Stops 3 false (Open first_page ∷ []) 0 1
+not_stopped_at_one = (1, true, (refl, refl, refl), (refl, refl))
+
+-- HOSTS
+
+-- where a worker couldn't be started the node wasn't turned, and that is want of memory
+not_turned : (n : NodeView) → StopsBy false Memory 5 n n
+not_turned n = inr (refl, refl, refl)
+
+-- a worker that is left out, or one too many, is no host's end
+one_left_out : (t : TapView) → WorkedEach (t ∷ []) [] ≡ ⊥
+one_left_out t = refl

@@ -1,0 +1,106 @@
+//! How long a node pauses in a run, and into how much room it receives.
+
+use crate::noting::{Notes, Noting, make_noting, new_notes};
+use crate::rig::{Rig, config, make_rig, member};
+use crate::steps::{Step, play};
+use srm_agent::Config;
+use srm_node::NodeFault;
+use std::alloc::Global;
+use std::process::Abort;
+use std::sync::Wait;
+use std::sync::atomic::Ordering;
+
+/// At this moment so many datagrams are there, and the node has paused so long before its turn.
+#[derive(Clone, Copy)]
+struct Pause(u64, u64, u64);
+
+fn run_once<R: Wait + Abort>(
+    rt: &R,
+    alloc: Global,
+    rig: &mut Rig<Noting>,
+    notes: &Notes,
+    step: Pause,
+) {
+    let Pause(at, noise, wanted) = step;
+    notes.noise.store(noise, Ordering::SeqCst);
+    let steps = [Step::At(at), Step::Run(1, Err(NodeFault::Turns))];
+    play(rt, alloc, rig, &steps);
+    assert_eq!(rt; notes.paused.load(Ordering::SeqCst), wanted);
+    assert_eq!(rt; notes.room.load(Ordering::SeqCst), 4_096);
+}
+
+fn play_pauses<R: Wait + Abort>(
+    rt: &R,
+    alloc: Global,
+    config: Config,
+    steps: &[Step],
+    pauses: &[Pause],
+) {
+    let notes = new_notes(rt, alloc);
+    let mut rig = make_rig(rt, alloc, config, make_noting(rt, &notes), 0);
+    play(rt, alloc, &mut rig, steps);
+    for one in pauses {
+        run_once(rt, alloc, &mut rig, &notes, *one);
+    }
+}
+
+/// The settings of the first of two members with so many bytes a second and this depth.
+fn settings(rt: &impl Abort, rate: u32, depth: u32) -> Config {
+    Config::new(member(rt, 0), 2, 7, rate, depth, 2, 2, 1, 1).expect(rt, "settings")
+}
+
+// A node made at 5 sends its first session message at 1,000,005.
+#[test]
+fn a_node_pauses_until_something_is_due(rt: HostRuntime) {
+    let pauses = [
+        Pause(5, 0, 0),
+        Pause(5, 0, 10_000),
+        Pause(990_004, 0, 10_000),
+        Pause(990_006, 0, 9_999),
+        Pause(999_005, 0, 1_000),
+        Pause(999_505, 1, 1_000),
+        Pause(999_505, 0, 500),
+        Pause(1_000_004, 64, 1_000),
+        Pause(1_000_004, 63, 0),
+        Pause(1_000_004, 0, 1),
+        Pause(1_000_004, 0, 1_000),
+    ];
+    play_pauses(&rt, rt.alloc(), config(&rt, 0, 2), &[], &pauses);
+}
+
+// The first stroke takes all the tokens at 5, and goes; then nothing waits, so the second is drawn at once, and goes at 131,380.
+#[test]
+fn a_node_pauses_until_the_rate_lets_a_stroke_go(rt: HostRuntime) {
+    let steps = [
+        Step::InkOn(0, 0, b'a', 1_024),
+        Step::InkOn(0, 0, b'b', 1_024),
+    ];
+    let pauses = [
+        Pause(5, 0, 0),
+        Pause(5, 0, 0),
+        Pause(131_000, 0, 380),
+        Pause(131_000, 0, 1_000),
+        Pause(131_380, 0, 1_000),
+        Pause(131_380, 0, 10_000),
+    ];
+    play_pauses(
+        &rt,
+        rt.alloc(),
+        settings(&rt, 8_000, 1_051),
+        &steps,
+        &pauses,
+    );
+}
+
+// 64 strokes are a full turn too.
+#[test]
+fn a_node_does_not_pause_after_64_strokes(rt: HostRuntime) {
+    let pauses = [Pause(5, 0, 0), Pause(5, 0, 0), Pause(5, 0, 10_000)];
+    play_pauses(
+        &rt,
+        rt.alloc(),
+        settings(&rt, 100_000_000, 1_000_000),
+        &[Step::InkMany(64)],
+        &pauses,
+    );
+}
