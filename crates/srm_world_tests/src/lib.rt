@@ -23,8 +23,6 @@ mod rows;
 #[cfg(test)]
 mod running;
 #[cfg(test)]
-mod stored;
-#[cfg(test)]
 mod streams;
 #[cfg(test)]
 mod wholes;

@@ -1,7 +1,6 @@
 //! Worlds to which all events of a list happen in one call.
 
 use crate::running::{repeated, run_good};
-use crate::stored::{OUT_OF_ORDER, REPAIRED_BY_ANOTHER};
 use srm_agent::{AgentFault, Verdict};
 use srm_script::{Fault, Script, read_script};
 use srm_timers::Listed;
@@ -69,9 +68,8 @@ fn events_of_each_kind(rt: HostRuntime) {
 
 #[test]
 fn a_whole_script_in_one_call_is_its_events_one_by_one(rt: HostRuntime) {
-    for (text, _) in [EACH_KIND, OUT_OF_ORDER, REPAIRED_BY_ANOTHER] {
-        check_script(&rt, rt.alloc(), text);
-    }
+    let (text, _) = EACH_KIND;
+    check_script(&rt, rt.alloc(), text);
 }
 
 /// A list of 65,537 draws, of which the last is refused, since the stream is full.

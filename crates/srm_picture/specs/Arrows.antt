@@ -1,0 +1,91 @@
+-- What was sent and what came, and the arrows of both.
+use Rattle.std.specs.Prelude.{◌≡◌, ℕ, ◌==◌, Bool, true, false, List, [], ◌∷◌, map, filter, Some, slice_get, if◌then◌else◌}
+use Rattle.std.specs.List.{flat_map, enumerate_from, AllByRecursion}
+use Rattle.srm_names.specs.Histories.{Step, steps}
+use Rattle.srm_codec.specs.declared.datagram.Datagram.{Datagram}
+use Rattle.srm_codec.specs.declared.datagram.Datagram.TheVariants.{Data as AData, Request as ARequest, Repair as ARepair, Session as ASession}
+use Rattle.srm_entries.specs.declared.entry.Entry.{Entry}
+use Rattle.srm_entries.specs.declared.entry.Input.{Input}
+use Rattle.srm_entries.specs.declared.entry.Input.TheVariants.{Heard, Noise}
+use Rattle.srm_entries.specs.declared.entry.Verdict.{Verdict}
+use Rattle.srm_entries.specs.declared.entry.Verdict.TheVariants.{Done}
+use Rattle.srm_entries.specs.Entries.{sent}
+use Rattle.srm_picture.specs.declared.arrow.Kind.{Kind}
+use Rattle.srm_picture.specs.declared.arrow.Kind.TheVariants.{Data, Request, Repair, Session}
+use Rattle.srm_picture.specs.declared.arrow.Launch.{Launch}
+use Rattle.srm_picture.specs.declared.arrow.Hearing.{Hearing}
+use Rattle.srm_picture.specs.declared.arrow.End.{End}
+use Rattle.srm_picture.specs.declared.arrow.End.TheVariants.{Taken, Ignored, Lost}
+use Rattle.srm_picture.specs.declared.arrow.Arrow.{Arrow}
+use Rattle.srm_picture.specs.declared.place.Place.{Place}
+use Rattle.srm_picture.specs.Rows.{by_row, place_of}
+
+abbrev pub kind_of : Datagram → Kind
+kind_of (AData drawop) = Data
+kind_of (ARequest sender name mask) = Request
+kind_of (ARepair sender drawop) = Repair
+kind_of (ASession sender sent farewell shown rows echoes) = Session
+
+abbrev pub launch : Place → ℕ × Datagram → Launch
+launch place p = record { from = place; nth = p.0; kind = kind_of p.1 }
+
+abbrev pub launched_in : ℕ × Entry → List Launch
+launched_in r = map (launch (place_of r)) (enumerate_from 0 r.1.effects.outs)
+
+-- each datagram that the entries sent, in order
+abbrev pub launches_in : List Entry → List Launch
+launches_in es = by_row launched_in es
+
+-- the entry is of a datagram that came: to a member that is gone as noise
+abbrev pub IsComing : Datagram → Input → Type 0
+IsComing g (Heard h) = h ≡ g
+IsComing g Noise = Unit {0}
+IsComing g _ = ⊥
+
+abbrev pub something_comes : Input → Bool
+something_comes (Heard h) = true
+something_comes Noise = true
+something_comes _ = false
+
+abbrev pub is_done : Verdict → Bool
+is_done Done = true
+is_done _ = false
+
+-- in this entry the datagram with this number came, which had been sent before
+pub record IsHearing (es : List Entry) (h : Hearing) : Type 0 where
+  pub step : Step Entry
+  pub datagram : Datagram
+  pub at : slice_get (steps es) h.at.row ≡ Some step
+  pub member : step.this.member ≡ h.at.member
+  pub sent : slice_get (sent step.before) h.number ≡ Some datagram
+  pub comes : IsComing datagram step.this.input
+  pub taken : h.taken ≡ is_done step.this.verdict
+
+abbrev pub coming_in : ℕ × Entry → List Place
+coming_in r = if something_comes r.1.input then place_of r ∷ [] else []
+
+-- each is a hearing, and each entry in which something came has one, in order
+pub record AreHearings (es : List Entry) (hs : List Hearing) : Type 0 where
+  pub each : AllByRecursion (IsHearing es) hs
+  pub places : map (λ (h : Hearing). h.at) hs ≡ by_row coming_in es
+
+abbrev pub end_of : Hearing → End
+end_of h = if h.taken then Taken h.at else Ignored h.at
+
+abbrev pub arrow_to : ℕ × Launch → Hearing → Arrow
+arrow_to p h = record { number = p.0; launch = p.1; end = end_of h }
+
+abbrev pub hearings_of : ℕ → List Hearing → List Hearing
+hearings_of n hs = filter (λ (h : Hearing). h.number == n) hs
+
+-- where there is none, one to nobody
+abbrev pub or_lost : ℕ × Launch → List Arrow → List Arrow
+or_lost p [] = record { number = p.0; launch = p.1; end = Lost } ∷ []
+or_lost p (a ∷ arrows) = a ∷ arrows
+
+-- a datagram's arrows: one to each hearing, or one to nobody where it never came
+abbrev pub arrows_of : List Hearing → ℕ × Launch → List Arrow
+arrows_of hs p = or_lost p (map (arrow_to p) (hearings_of p.0 hs))
+
+abbrev pub arrows_in : List Launch → List Hearing → List Arrow
+arrows_in ls hs = by_row (arrows_of hs) ls

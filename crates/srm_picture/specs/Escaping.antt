@@ -1,0 +1,19 @@
+-- Text in XML.
+use Rattle.std.specs.Prelude.{ℕ, ◌==◌, nat_le, ◌&&◌, List, [], ◌∷◌, codes, if◌then◌else◌}
+use Rattle.std.specs.List.{flat_map}
+
+-- a byte that isn't printable ASCII is a question mark
+abbrev pub printable : ℕ → List ℕ
+printable byte = if nat_le 32 byte && nat_le byte 126 then byte ∷ [] else 63 ∷ []
+
+-- what has a meaning in XML is spelled out
+abbrev pub escape : ℕ → List ℕ
+escape byte =
+    if byte == 38 then codes "&amp;"
+    else if byte == 60 then codes "&lt;"
+    else if byte == 62 then codes "&gt;"
+    else if byte == 34 then codes "&quot;"
+    else printable byte
+
+abbrev pub escaped : List ℕ → List ℕ
+escaped text = flat_map escape text

@@ -1,0 +1,7 @@
+pub mod Arrows
+pub mod Brackets
+pub mod Escaping
+pub mod Examples
+pub mod Pictures
+pub mod Rows
+pub mod Ticks

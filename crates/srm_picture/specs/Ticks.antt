@@ -1,0 +1,52 @@
+-- What happens at a member by itself.
+use Rattle.std.specs.Prelude.{ℕ, ◌==◌, not, ◌&&◌, List, length, Option, Some, None, option_map, option_to_list, if◌then◌else◌}
+use Rattle.srm_names.specs.declared.page_msg.PageMsg.{PageMsg}
+use Rattle.srm_names.specs.declared.page_msg.PageMsg.TheVariants.{Draw}
+use Rattle.srm_entries.specs.declared.entry.Entry.{Entry}
+use Rattle.srm_entries.specs.declared.entry.Effects.{Effects}
+use Rattle.srm_entries.specs.declared.entry.Input.{Input}
+use Rattle.srm_entries.specs.declared.entry.Input.TheVariants.{Drew as Draws, Ticked, Showed, AskedLeave, Gave as Gives, Took as Takes}
+use Rattle.srm_entries.specs.declared.entry.Verdict.{Verdict}
+use Rattle.srm_entries.specs.declared.entry.Verdict.TheVariants.{Done, Refused}
+use Rattle.srm_entries.specs.Entries.{is_gone}
+use Rattle.srm_picture.specs.declared.tick.TickKind.{TickKind}
+use Rattle.srm_picture.specs.declared.tick.TickKind.TheVariants.{Drew, Gave, Took, Noted, Gone}
+use Rattle.srm_picture.specs.declared.tick.Tick.{Tick}
+use Rattle.srm_picture.specs.Rows.{by_row, place_of}
+
+-- a message of a slot, which may be no drawop
+abbrev pub message_kind : TickKind → Option PageMsg → Option TickKind
+message_kind kind None = None
+message_kind kind (Some (Draw drawop)) = Some kind
+message_kind kind (Some message) = Some Noted
+
+-- the member sent its farewell: one that is gone sends nothing more
+abbrev pub goes : Effects → Option TickKind
+goes f = if is_gone f.state && not (length f.outs == 0) then Some Gone else None
+
+abbrev pub done_kind : Input → Effects → Option TickKind
+done_kind (Draws page body) f = Some Drew
+done_kind (Gives slot) f = message_kind Gave f.message
+done_kind (Takes slot) f = message_kind Took f.message
+done_kind (Showed page) f = Some Noted
+done_kind AskedLeave f = Some Noted
+done_kind Ticked f = goes f
+done_kind _ f = None
+
+abbrev pub kind_for : Verdict → Input → Effects → Option TickKind
+kind_for Done input f = done_kind input f
+kind_for (Refused fault) input f = Some Noted
+kind_for _ input f = None
+
+abbrev pub tick_kind : Entry → Option TickKind
+tick_kind e = kind_for e.verdict e.input e.effects
+
+abbrev pub tick : ℕ × Entry → TickKind → Tick
+tick r kind = record { at = place_of r; nth = length r.1.effects.outs; kind = kind }
+
+abbrev pub ticks_at : ℕ × Entry → List Tick
+ticks_at r = option_to_list (option_map (tick r) (tick_kind r.1))
+
+-- each tick of the entries, in order
+abbrev pub ticks_in : List Entry → List Tick
+ticks_in es = by_row ticks_at es

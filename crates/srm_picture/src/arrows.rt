@@ -1,0 +1,112 @@
+//! The arrows of a trace.
+
+ghost use Rattle.std.specs.Prelude.{◌≡◌, map, IfOk};
+ghost use Rattle.std.specs.List.{enumerate_from};
+ghost use Rattle.srm_picture.specs.Arrows.{arrow_to, arrows_in, arrows_of as arrows_for, end_of as end_at, hearings_of, launch, launches_in};
+
+use crate::arrow::{Arrow, End, Hearing, Kind, Launch};
+use crate::place::Place;
+use srm_codec::Datagram;
+use srm_entries::Entry;
+use std::alloc::{AllocError, Global};
+
+/// Each datagram that was sent, in order of sending.
+pub(crate) fn launches(alloc: Global, entries: &[Entry]) -> Result<Vec<Launch>, AllocError>
+    ensures { IfOk result (λ launches. launches.items ≡ launches_in entries.now) }
+{
+    let mut launches = Vec::new(alloc);
+    for (row, entry) in entries.iter().enumerate() {
+        let from = Place {
+            row,
+            member: entry.member,
+        };
+        launches.append(&mut launched(alloc, &from, entry.effects.outs.as_slice())?)?;
+    }
+    Ok(launches)
+}
+
+/// The datagrams that one entry sent.
+fn launched(alloc: Global, from: &Place, outs: &[Datagram]) -> Result<Vec<Launch>, AllocError>
+    ensures { IfOk result (λ launches. launches.items ≡ map (launch from.now) (enumerate_from 0 outs.now)) }
+{
+    let mut launches = Vec::new(alloc);
+    for (nth, datagram) in outs.iter().enumerate() {
+        launches.push(launch_of(from, nth, datagram))?;
+    }
+    Ok(launches)
+}
+
+fn launch_of(from: &Place, nth: usize, datagram: &Datagram) -> Launch
+    ensures { result ≡ launch from.now (nth, datagram.now) }
+{
+    Launch {
+        from: *from,
+        nth,
+        kind: Kind::of(datagram),
+    }
+}
+
+/// Each datagram's arrows: one to each hearing, or one to nobody where it was never delivered.
+pub(crate) fn arrows(
+    alloc: Global,
+    launches: &[Launch],
+    hearings: &[Hearing],
+) -> Result<Vec<Arrow>, AllocError>
+    ensures { IfOk result (λ arrows. arrows.items ≡ arrows_in launches.now hearings.now) }
+{
+    let mut arrows = Vec::new(alloc);
+    for (number, launch) in launches.iter().enumerate() {
+        arrows.append(&mut arrows_of(alloc, number, launch, hearings)?)?;
+    }
+    Ok(arrows)
+}
+
+/// The arrows of one datagram.
+fn arrows_of(
+    alloc: Global,
+    number: usize,
+    launch: &Launch,
+    hearings: &[Hearing],
+) -> Result<Vec<Arrow>, AllocError>
+    ensures { IfOk result (λ arrows. arrows.items ≡ arrows_for hearings.now (number, launch.now)) }
+{
+    let mut arrows = reaching(alloc, number, launch, hearings)?;
+    if arrows.is_empty() {
+        arrows.push(Arrow {
+            number,
+            launch: *launch,
+            end: End::Lost,
+        })?;
+    }
+    Ok(arrows)
+}
+
+/// The arrows of one datagram that reach somebody.
+fn reaching(
+    alloc: Global,
+    number: usize,
+    launch: &Launch,
+    hearings: &[Hearing],
+) -> Result<Vec<Arrow>, AllocError>
+    ensures { IfOk result (λ arrows. arrows.items ≡ map (arrow_to (number, launch.now)) (hearings_of number hearings.now)) }
+{
+    hearings
+        .iter()
+        .filter(|hearing| hearing.number == number)
+        .map(|hearing| Arrow {
+            number,
+            launch: *launch,
+            end: end_of(hearing),
+        })
+        .collect(alloc)
+}
+
+fn end_of(hearing: &Hearing) -> End
+    ensures { result ≡ end_at hearing.now }
+{
+    if hearing.taken {
+        End::Taken(hearing.at)
+    } else {
+        End::Ignored(hearing.at)
+    }
+}

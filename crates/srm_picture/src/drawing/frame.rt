@@ -1,0 +1,122 @@
+//! What stands around the shapes: the title, the moments and the lifelines.
+
+use crate::drawing::legend::STYLE;
+use crate::picture::Picture;
+use crate::plan::{MOMENTS, Plan};
+use crate::session::Session;
+use crate::tick::TickKind;
+use srm_names::Member;
+use std::io;
+use std::io::Write;
+
+/// The beginning of the file, and its title.
+pub(super) fn write_head<W: Write>(
+    out: &mut W,
+    session: &Session<'_>,
+    plan: &Plan,
+) -> io::Result<()> {
+    let width = plan.width();
+    let height = plan.height();
+    let members = session.members;
+    let events = session.entries.len();
+    writeln!(
+        out,
+        "<svg xmlns=\"http://www.w3.org/2000/svg\" width=\"{width}\" height=\"{height}\" viewBox=\"0 0 {width} {height}\" role=\"img\">"
+    )?;
+    writeln!(
+        out,
+        "<title>A session of {members} members in {events} events</title>"
+    )?;
+    out.write_all(STYLE)?;
+    writeln!(
+        out,
+        "<rect class=\"paper\" width=\"{width}\" height=\"{height}\"/>"
+    )?;
+    writeln!(
+        out,
+        "<text class=\"head\" x=\"20\" y=\"28\">A session of {members} members in {events} events</text>"
+    )
+}
+
+/// A line for each entry, and its moment where it differs from the one before.
+pub(super) fn write_moments<W: Write>(
+    out: &mut W,
+    session: &Session<'_>,
+    plan: &Plan,
+) -> io::Result<()> {
+    let right = plan.width().saturating_sub(16);
+    writeln!(
+        out,
+        "<text class=\"moment\" x=\"{}\" y=\"62\">seconds</text>",
+        MOMENTS - 12
+    )?;
+    let mut last = None;
+    for (row, entry) in session.entries.iter().enumerate() {
+        let y = plan.y(row, 0);
+        writeln!(
+            out,
+            "<path class=\"guide\" d=\"M{} {y}H{right}\"/>",
+            MOMENTS - 6
+        )?;
+        if last != Some(entry.moment) {
+            write_moment(out, entry.moment, y)?;
+        }
+        last = Some(entry.moment);
+    }
+    Ok(())
+}
+
+/// A moment in microseconds, as seconds.
+fn write_moment<W: Write>(out: &mut W, moment: u64, y: u64) -> io::Result<()> {
+    writeln!(
+        out,
+        "<text class=\"moment\" x=\"{}\" y=\"{}\">{}.{:06}</text>",
+        MOMENTS - 12,
+        y.saturating_add(4),
+        moment / 1_000_000,
+        moment % 1_000_000
+    )
+}
+
+/// A line for each member, which is dashed once it is gone.
+pub(super) fn write_lifelines<W: Write>(
+    out: &mut W,
+    session: &Session<'_>,
+    picture: &Picture,
+    plan: &Plan,
+) -> io::Result<()> {
+    for member in (0..session.members).filter_map(Member::new) {
+        write_lifeline(out, picture, plan, member)?;
+    }
+    Ok(())
+}
+
+fn write_lifeline<W: Write>(
+    out: &mut W,
+    picture: &Picture,
+    plan: &Plan,
+    member: Member,
+) -> io::Result<()> {
+    let x = plan.x(member);
+    let bottom = plan.bottom();
+    let end = gone_at(picture, plan, member).unwrap_or(bottom);
+    let number = member.number();
+    writeln!(out, "<path class=\"life\" d=\"M{x} 70V{end}\"/>")?;
+    writeln!(out, "<path class=\"after\" d=\"M{x} {end}V{bottom}\"/>")?;
+    writeln!(
+        out,
+        "<rect class=\"name\" x=\"{}\" y=\"46\" width=\"84\" height=\"24\" rx=\"5\"/>",
+        x.saturating_sub(42)
+    )?;
+    writeln!(
+        out,
+        "<text class=\"name\" x=\"{x}\" y=\"62\">member {number}</text>"
+    )
+}
+
+/// Where a member goes, if it does.
+fn gone_at(picture: &Picture, plan: &Plan, member: Member) -> Option<u64> {
+    let gone = picture.ticks.iter().find(|tick| tick.kind == TickKind::Gone
+        && tick.at.member == member)?;
+    Some(plan.y(gone.at.row, gone.nth))
+}

@@ -1,0 +1,153 @@
+//! Text beside the lifelines.
+
+use crate::escaping::escaped;
+use crate::picture::Picture;
+use crate::plan::Plan;
+use crate::session::Session;
+use crate::tick::{Tick, TickKind};
+use srm_codec::Datagram;
+use std::alloc::Global;
+use std::io::Write;
+use std::{fmt, io};
+
+/// A label has so many characters, at most; the title has all.
+const LABEL: usize = 34;
+
+/// Writes text of what happened into XML.
+pub(super) fn write_text<W: Write>(alloc: Global, out: &mut W, text: &[u8]) -> io::Result<()> {
+    out.write_all(escaped(alloc, text)?.as_slice())
+}
+
+/// The nth of the lines that begin with a word, without its line feed.
+pub(super) fn line_of<'a>(lines: &'a [u8], word: &[u8], nth: usize) -> &'a [u8] {
+    lines
+        .split(|byte| *byte == b'\n')
+        .filter(|line| line.starts_with(word))
+        .nth(nth)
+        .unwrap_or(b"")
+}
+
+/// What a datagram is about, in short.
+#[derive(Drop)]
+struct ShownDatagram<'a>(&'a Datagram);
+
+impl fmt::Display for ShownDatagram<'_> {
+    fn fmt<W: fmt::Write>(&self, f: &mut fmt::Formatter<W>) -> fmt::Result {
+        match self.0 {
+            Datagram::Data(drawop) => write!(f, "data {}", drawop.name.number()),
+            Datagram::Request { name, mask, .. } => {
+                let more = if *mask == 0 { "" } else { " .." };
+                write!(f, "request {}{more}", name.number())
+            }
+            Datagram::Repair { drawop, .. } => write!(f, "repair {}", drawop.name.number()),
+            Datagram::Session { farewell, .. } => {
+                write!(f, "{}", if *farewell { "farewell" } else { "session" })
+            }
+        }
+    }
+}
+
+/// A label for each datagram where it was sent.
+pub(super) fn write_datagrams<W: Write>(
+    out: &mut W,
+    session: &Session<'_>,
+    picture: &Picture,
+    plan: &Plan,
+) -> io::Result<()> {
+    let mut last = None;
+    for arrow in &picture.arrows {
+        if last == Some(arrow.number) {
+            continue;
+        }
+        last = Some(arrow.number);
+        let from = arrow.launch.from;
+        let entry = session.entries.get(from.row);
+        let datagram = entry.and_then(|entry| entry.effects.outs.as_slice().get(arrow.launch.nth));
+        if let Some(datagram) = datagram {
+            let x = plan.x(from.member).saturating_add(9);
+            let y = plan.y(from.row, arrow.launch.nth).saturating_sub(5);
+            let class = arrow.launch.kind.word();
+            let shown = ShownDatagram(datagram);
+            writeln!(
+                out,
+                "<text class=\"label {class}\" x=\"{x}\" y=\"{y}\">{shown}</text>"
+            )?;
+        }
+    }
+    Ok(())
+}
+
+/// A tick and its line for each thing that happens at a member by itself.
+pub(super) fn write_ticks<W: Write>(
+    alloc: Global,
+    out: &mut W,
+    session: &Session<'_>,
+    picture: &Picture,
+    plan: &Plan,
+) -> io::Result<()> {
+    for tick in &picture.ticks {
+        let line = line_of_tick(session, tick);
+        write!(out, "<g class=\"tick\"><title>")?;
+        write_text(alloc, out, line)?;
+        writeln!(out, "</title>")?;
+        write_tick(out, plan, tick)?;
+        write_label(alloc, out, plan, tick, line)?;
+        writeln!(out, "</g>")?;
+    }
+    Ok(())
+}
+
+fn line_of_tick<'a>(session: &'a Session<'_>, tick: &Tick) -> &'a [u8] {
+    let word: &[u8] = match tick.kind {
+        TickKind::Gone => b"gone ",
+        TickKind::Drew | TickKind::Gave | TickKind::Took | TickKind::Noted => b"",
+    };
+    line_of(session.lines_of(tick.at.row), word, 0)
+}
+
+fn write_tick<W: Write>(out: &mut W, plan: &Plan, tick: &Tick) -> io::Result<()> {
+    let x = plan.x(tick.at.member);
+    let y = plan.y(tick.at.row, tick.nth);
+    match tick.kind {
+        TickKind::Drew => writeln!(
+            out,
+            "<rect class=\"drew\" x=\"{}\" y=\"{}\" width=\"9\" height=\"9\"/>",
+            x.saturating_sub(4),
+            y.saturating_sub(4)
+        ),
+        TickKind::Gave => writeln!(out, "<path class=\"gave\" d=\"M{x} {y}h11\"/>"),
+        TickKind::Took => writeln!(
+            out,
+            "<path class=\"gave\" d=\"M{x} {y}h11\"/><circle class=\"took\" cx=\"{}\" cy=\"{y}\" r=\"3.5\"/>",
+            x.saturating_add(9)
+        ),
+        TickKind::Noted => writeln!(out, "<path class=\"noted\" d=\"M{x} {y}h7\"/>"),
+        TickKind::Gone => writeln!(
+            out,
+            "<path class=\"gone\" d=\"M{} {y}h16\"/>",
+            x.saturating_sub(8)
+        ),
+    }
+}
+
+fn write_label<W: Write>(
+    alloc: Global,
+    out: &mut W,
+    plan: &Plan,
+    tick: &Tick,
+    line: &[u8],
+) -> io::Result<()> {
+    let class = match tick.kind {
+        TickKind::Noted => "label dim",
+        TickKind::Drew | TickKind::Gave | TickKind::Took | TickKind::Gone => "label",
+    };
+    let x = plan.x(tick.at.member).saturating_add(17);
+    let y = plan.y(tick.at.row, tick.nth).saturating_add(4);
+    write!(out, "<text class=\"{class}\" x=\"{x}\" y=\"{y}\">")?;
+    let shown = line.get(..LABEL).unwrap_or(line);
+    write_text(alloc, out, shown)?;
+    if shown.len() < line.len() {
+        write!(out, "&#8230;")?;
+    }
+    writeln!(out, "</text>")
+}

@@ -1,0 +1,200 @@
+//! Brackets and arrows.
+
+use crate::arrow::{Arrow, End, Launch};
+use crate::bracket::{Bracket, Ending};
+use crate::drawing::labels::{line_of, write_text};
+use crate::picture::Picture;
+use crate::place::Place;
+use crate::plan::{LINE, Plan};
+use crate::session::Session;
+use srm_entries::ArmKind;
+use srm_names::Member;
+use std::alloc::Global;
+use std::io;
+use std::io::Write;
+
+/// How far an arrow goes that never comes, to the side.
+const STUB: u64 = 60;
+
+/// And down.
+const FALL: u64 = 14;
+
+pub(super) fn write_brackets<W: Write>(
+    alloc: Global,
+    out: &mut W,
+    session: &Session<'_>,
+    picture: &Picture,
+    plan: &Plan,
+) -> io::Result<()> {
+    for (index, bracket) in picture.brackets.iter().enumerate() {
+        let x = plan.bracket_x(index, bracket.from.member);
+        let class = match bracket.kind {
+            ArmKind::Ask => "ask",
+            ArmKind::Fix => "fix",
+        };
+        write!(out, "<g class=\"bracket {class}\"><title>")?;
+        let line = line_of(session.lines_of(bracket.from.row), b"arm ", bracket.nth);
+        write_text(alloc, out, line)?;
+        writeln!(out, ", {}</title>", ending_of(bracket))?;
+        write_bracket(out, plan, bracket, x)?;
+        writeln!(out, "</g>")?;
+    }
+    Ok(())
+}
+
+/// How a timer ends, in words.
+fn ending_of(bracket: &Bracket) -> &'static str {
+    match bracket.end {
+        None => "still running",
+        Some(end) => match end.ending {
+            Ending::RanOut => "ran out",
+            Ending::BackedOff => "backed off",
+            Ending::Cancelled => "cancelled",
+        },
+    }
+}
+
+fn write_bracket<W: Write>(out: &mut W, plan: &Plan, bracket: &Bracket, x: u64) -> io::Result<()> {
+    let from = plan.y(bracket.from.row, 0).saturating_add(3);
+    let Some(end) = bracket.end else {
+        return writeln!(
+            out,
+            "<path d=\"M{} {from}H{x}V{}\"/>",
+            x.saturating_add(6),
+            plan.bottom()
+        );
+    };
+    let until = plan
+        .y(end.row, 0)
+        .saturating_sub(3)
+        .max(from.saturating_add(6));
+    writeln!(
+        out,
+        "<path d=\"M{} {from}H{x}V{until}h6\"/>",
+        x.saturating_add(6)
+    )?;
+    match end.ending {
+        Ending::RanOut => Ok(()),
+        Ending::BackedOff => write_strike(out, x, from, until, "l10 -8"),
+        Ending::Cancelled => write_strike(out, x, from, until, "l10 -8m0 8l-10 -8"),
+    }
+}
+
+/// Strikes a bracket in its middle.
+fn write_strike<W: Write>(
+    out: &mut W,
+    x: u64,
+    from: u64,
+    until: u64,
+    strokes: &str,
+) -> io::Result<()> {
+    let middle = from.saturating_add(until) / 2;
+    writeln!(
+        out,
+        "<path class=\"strike\" d=\"M{} {}{strokes}\"/>",
+        x.saturating_sub(5),
+        middle.saturating_add(4)
+    )
+}
+
+pub(super) fn write_arrows<W: Write>(
+    alloc: Global,
+    out: &mut W,
+    session: &Session<'_>,
+    picture: &Picture,
+    plan: &Plan,
+) -> io::Result<()> {
+    for arrow in &picture.arrows {
+        write!(
+            out,
+            "<g class=\"arrow {}\"><title>",
+            arrow.launch.kind.word()
+        )?;
+        write_title(alloc, out, session, arrow)?;
+        writeln!(out, "</title>")?;
+        write_arrow(out, plan, arrow)?;
+        writeln!(out, "</g>")?;
+    }
+    Ok(())
+}
+
+/// What an arrow is: the line of its sending, and that of its hearing.
+fn write_title<W: Write>(
+    alloc: Global,
+    out: &mut W,
+    session: &Session<'_>,
+    arrow: &Arrow,
+) -> io::Result<()> {
+    let launch = arrow.launch;
+    write_text(
+        alloc,
+        out,
+        line_of(session.lines_of(launch.from.row), b"out ", launch.nth),
+    )?;
+    match arrow.end {
+        End::Taken(at) | End::Ignored(at) => {
+            write!(out, ", ")?;
+            write_text(alloc, out, line_of(session.lines_of(at.row), b"heard ", 0))
+        }
+        End::Lost => write!(out, ", never delivered"),
+    }
+}
+
+fn write_arrow<W: Write>(out: &mut W, plan: &Plan, arrow: &Arrow) -> io::Result<()> {
+    match &arrow.end {
+        End::Taken(at) => {
+            write!(out, "<path class=\"way taken\" d=\"")?;
+            write_way(out, plan, arrow, at)?;
+            writeln!(out, "\"/>")
+        }
+        End::Ignored(at) => {
+            write!(out, "<path class=\"way\" d=\"")?;
+            write_way(out, plan, arrow, at)?;
+            writeln!(out, "\"/>")?;
+            write_cross(out, plan.x(at.member), plan.y(at.row, 0))
+        }
+        End::Lost => write_lost(out, plan, &arrow.launch),
+    }
+}
+
+/// A way that ends between the lifelines.
+fn write_lost<W: Write>(out: &mut W, plan: &Plan, launch: &Launch) -> io::Result<()> {
+    let x = plan.x(launch.from.member);
+    let y = plan.y(launch.from.row, launch.nth);
+    let end = lost_x(plan, launch.from.member, x);
+    let bottom = y.saturating_add(FALL);
+    writeln!(out, "<path class=\"way\" d=\"M{x} {y}L{end} {bottom}\"/>")?;
+    write_cross(out, end, bottom)
+}
+
+/// From the sending to the hearing: a straight line, or a bow where both are at one member.
+fn write_way<W: Write>(out: &mut W, plan: &Plan, arrow: &Arrow, at: &Place) -> io::Result<()> {
+    let from = &arrow.launch.from;
+    let x = plan.x(from.member);
+    let y = plan.y(from.row, arrow.launch.nth);
+    let end = plan.y(at.row, 0);
+    if at.member == from.member {
+        let bow = x.saturating_add(LINE).saturating_add(LINE);
+        write!(out, "M{x} {y}C{bow} {y} {bow} {end} {x} {end}")
+    } else {
+        write!(out, "M{x} {y}L{} {end}", plan.x(at.member))
+    }
+}
+
+fn write_cross<W: Write>(out: &mut W, x: u64, y: u64) -> io::Result<()> {
+    writeln!(
+        out,
+        "<path class=\"cross\" d=\"M{} {}l10 10m0 -10l-10 10\"/>",
+        x.saturating_sub(5),
+        y.saturating_sub(5)
+    )
+}
+
+/// Where an arrow ends that never comes: right of its member, or left of the last one.
+fn lost_x(plan: &Plan, member: Member, x: u64) -> u64 {
+    if plan.is_last(member) {
+        x.saturating_sub(STUB)
+    } else {
+        x.saturating_add(STUB)
+    }
+}

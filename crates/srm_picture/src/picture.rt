@@ -1,0 +1,37 @@
+//! What is to be drawn.
+
+ghost use Rattle.std.specs.Prelude.{IfOk};
+ghost use Rattle.srm_picture.specs.Pictures.{Draws};
+
+use crate::arrow::{Arrow, Hearing};
+use crate::arrows::{arrows, launches};
+use crate::bracket::Bracket;
+use crate::brackets::brackets;
+use crate::tick::{Tick, ticks};
+use srm_entries::Entry;
+use std::alloc::{AllocError, Global};
+
+/// What is to be drawn of a session: shapes, each by the entries that it speaks of.
+#[derive(Debug, Drop)]
+pub struct Picture {
+    /// By datagram, and then by hearing.
+    pub arrows: Vec<Arrow>,
+    /// In the order in which the timers were set.
+    pub brackets: Vec<Bracket>,
+    /// In the order of the entries.
+    pub ticks: Vec<Tick>,
+}
+
+impl Picture {
+    /// The picture of what happened, in which these datagrams came. Only want of memory refuses it.
+    pub fn of(alloc: Global, entries: &[Entry], hearings: &[Hearing]) -> Result<Picture, AllocError>
+        ensures { IfOk result (Draws entries.now hearings.now) }
+    {
+        let launches = launches(alloc, entries)?;
+        Ok(Picture {
+            arrows: arrows(alloc, launches.as_slice(), hearings)?,
+            brackets: brackets(alloc, entries)?,
+            ticks: ticks(alloc, entries)?,
+        })
+    }
+}

@@ -1,0 +1,189 @@
+//! Where things stand in a drawing, in pixels.
+
+ghost use Rattle.std.specs.Prelude.{◌*◌, ◌<◌, ◌≤◌};
+
+use crate::bracket::Bracket;
+use crate::picture::Picture;
+use crate::session::Session;
+use crate::tick::becomes_gone;
+use srm_entries::Entry;
+use srm_names::{MEMBERS, Member};
+use std::alloc::{AllocError, Global};
+
+/// From one line to the next.
+pub(crate) const LINE: u64 = 24;
+
+/// Above the first line: the title and the members' names.
+const HEAD: u64 = 92;
+
+/// Below the last line: the legend.
+const FOOT: u64 = 136;
+
+/// Left of all lifelines: the moments.
+pub(crate) const MOMENTS: u64 = 112;
+
+/// Right of the last lifeline: its labels.
+const LABELS: u64 = 220;
+
+/// The legend needs so much.
+const LEAST_WIDTH: u64 = 700;
+
+/// From one bracket to the next beside it.
+const LANE: u64 = 9;
+
+/// Brackets side by side at a lifeline, at most: those past these lie on the last.
+const LANES: usize = 8;
+
+/// Where the lines of each entry stand, and which lane each bracket has.
+#[derive(Drop)]
+pub(crate) struct Plan {
+    members: u64,
+    /// The first line of each entry, and behind them the line after the last.
+    lines: Vec<u64>,
+    /// Of each bracket.
+    lanes: Vec<u64>,
+    /// Lanes that are used, at most [`LANES`].
+    used: u64,
+}
+
+impl Plan {
+    pub fn of(alloc: Global, session: &Session<'_>, picture: &Picture) -> Result<Plan, AllocError> {
+        let lanes = lanes_of(alloc, picture.brackets.as_slice())?;
+        let used = lanes.iter().map(|lane| lane.saturating_add(1)).max();
+        Ok(Plan {
+            members: u64::from(session.members),
+            lines: lines_of(alloc, session.entries)?,
+            lanes,
+            used: used.unwrap_or(0),
+        })
+    }
+
+    /// Pixels from the left to a member's lifeline.
+    pub fn x(&self, member: Member) -> u64 {
+        self.x_at(u64::from(member.number()))
+    }
+
+    fn x_at(&self, member: u64) -> u64 {
+        MOMENTS
+            .saturating_add(self.gutter())
+            .saturating_add(member.saturating_mul(self.pitch()))
+    }
+
+    /// Whether no lifeline stands right of a member's, and one stands left of it.
+    pub fn is_last(&self, member: Member) -> bool {
+        let place = u64::from(member.number());
+        place > 0 && place.saturating_add(1) >= self.members
+    }
+
+    /// Pixels from the top to the nth line of an entry.
+    pub fn y(&self, row: usize, nth: usize) -> u64 {
+        let line = self.lines.get(row).copied().unwrap_or(0);
+        y_of(line.saturating_add(nth as u64))
+    }
+
+    /// Pixels from the top to where the lifelines end.
+    pub fn bottom(&self) -> u64 {
+        y_of(self.lines.last().copied().unwrap_or(0))
+    }
+
+    /// Pixels from the left to a bracket.
+    pub fn bracket_x(&self, index: usize, member: Member) -> u64 {
+        let lane = self.lanes.get(index).copied().unwrap_or(0);
+        self.x(member)
+            .saturating_sub(10)
+            .saturating_sub(lane.saturating_mul(LANE))
+    }
+
+    pub fn width(&self) -> u64 {
+        self.x_at(self.members.saturating_sub(1))
+            .saturating_add(LABELS)
+            .max(LEAST_WIDTH)
+    }
+
+    pub fn height(&self) -> u64 {
+        self.bottom().saturating_add(FOOT)
+    }
+
+    /// From one lifeline to the next.
+    fn pitch(&self) -> u64 {
+        let column = match self.members {
+            0..=4 => 190,
+            5..=8 => 150,
+            _ => 110,
+        };
+        self.gutter().saturating_add(column)
+    }
+
+    /// Left of each lifeline: its brackets, and half of the member's name above them.
+    fn gutter(&self) -> u64 {
+        self.used.saturating_mul(LANE).saturating_add(36)
+    }
+}
+
+fn y_of(line: u64) -> u64 {
+    line.saturating_mul(LINE).saturating_add(HEAD)
+}
+
+/// The first line of each entry, and the line after the last.
+fn lines_of(alloc: Global, entries: &[Entry]) -> Result<Vec<u64>, AllocError> {
+    let mut lines = Vec::new(alloc);
+    let mut next = 0;
+    lines.push(next)?;
+    for entry in entries {
+        next = lines_after(next, entry);
+        lines.push(next)?;
+    }
+    Ok(lines)
+}
+
+/// The line after those of an entry: it has one for each datagram that it sent, one for going, and at least one.
+fn lines_after(line: u64, entry: &Entry) -> u64 {
+    let sent = entry.effects.outs.as_slice().len() as u64;
+    let gone = u64::from(becomes_gone(&entry.effects));
+    line.saturating_add(sent.saturating_add(gone).max(1))
+}
+
+/// Of each bracket the first lane that is free at its member as it begins.
+fn lanes_of(alloc: Global, brackets: &[Bracket]) -> Result<Vec<u64>, AllocError> {
+    let mut lanes = Vec::new(alloc);
+    let mut busy = vec![in alloc; 0; LANES * usize::from(MEMBERS)]?;
+    for bracket in brackets {
+        let from = bracket.from.row;
+        let until = match bracket.end {
+            Some(end) => end.row,
+            None => usize::MAX,
+        };
+        lanes.push(lane_of(busy.as_mut_slice(), bracket.from.member, from, until))?;
+    }
+    Ok(lanes)
+}
+
+/// The first lane of a member that is free from a row on, or the last; it is then busy up to another row.
+fn lane_of(busy: &mut [usize], member: Member, from: usize, until: usize) -> u64 {
+    let first = member.index() * LANES;
+    let lane = free_lane(busy, first, from);
+    if let Some(busy_until) = busy.get_mut(first + lane) {
+        *busy_until = until;
+    }
+    lane as u64
+}
+
+/// The first lane that is free from a row on, or the last.
+fn free_lane(busy: &[usize], first: usize, from: usize) -> usize
+    requires { first ≤ MEMBERS * LANES }
+    ensures { result < LANES }
+{
+    for lane in 0..LANES {
+        if is_free(busy, first + lane, from) {
+            return lane;
+        }
+    }
+    LANES - 1
+}
+
+fn is_free(busy: &[usize], place: usize, from: usize) -> bool {
+    match busy.get(place) {
+        Some(until) => *until <= from,
+        None => false,
+    }
+}

@@ -1,0 +1,53 @@
+//! What ends a run, and with which text and status.
+
+use srm_member::MemberFault;
+use srm_node::{NodeFault, WorkEnd, Worked};
+use srm_pages::lanes;
+use std::alloc::{AllocError, Global};
+use std::process::Abort;
+use std::test::Fail;
+
+/// A worker that ended so, having taken nothing.
+fn worker_that_ended(alloc: Global, end: WorkEnd) -> Result<Vec<Worked>, AllocError> {
+    let mut worked = Vec::new(alloc);
+    if let Some(tap) = lanes(alloc, 0)?.taps.pop() {
+        let list = Vec::new(alloc);
+        worked.push(Worked { tap, list, end })?;
+    }
+    Ok(worked)
+}
+
+fn assert_ends<R: Abort + AllocGlobal>(
+    rt: &R,
+    end: Result<(), NodeFault>,
+    of_worker: WorkEnd,
+    text: &str,
+    status: u8,
+) -> Result<(), Fail> {
+    let worked = worker_that_ended(rt.alloc(), of_worker)?;
+    let mut err = Vec::new(rt.alloc());
+    let told = match MemberFault::of_run(end, worked.as_slice()) {
+        Some(fault) => fault.tell(&mut err),
+        None => 0,
+    };
+    assert_eq!(rt; told, status);
+    assert_eq!(rt; str::from_utf8(err.as_slice()), Ok(text));
+    Ok(())
+}
+
+#[test]
+fn want_of_memory_comes_before_all_else(rt: HostRuntime) -> Result<(), Fail> {
+    for (end, of_worker, text, status) in [
+        (Ok(()), WorkEnd::Closed, "", 0),
+        (Ok(()), WorkEnd::Memory, "srm: memory\n", 4),
+        (Err(NodeFault::Wire), WorkEnd::Closed, "srm: wire\n", 3),
+        (Err(NodeFault::Wire), WorkEnd::Memory, "srm: memory\n", 4),
+        (Err(NodeFault::Turns), WorkEnd::Closed, "srm: turns\n", 4),
+        (Err(NodeFault::Turns), WorkEnd::Memory, "srm: memory\n", 4),
+        (Err(NodeFault::Memory), WorkEnd::Closed, "srm: memory\n", 4),
+        (Err(NodeFault::Memory), WorkEnd::Memory, "srm: memory\n", 4),
+    ] {
+        assert_ends(&rt, end, of_worker, text, status)?;
+    }
+    Ok(())
+}

@@ -1,0 +1,80 @@
+//! What a command line of `srm node` is read as.
+
+use srm_options::{NodeOptions, read_node};
+use std::alloc::Global;
+use std::net::{Ipv4Addr, SocketAddr};
+use std::process::Abort;
+use std::test::Fail;
+
+/// The numbers of a command line, in the order of its options in the help, and how many addresses it has.
+type Numbers = (u32, u8, u64, u64, u64, u32, u32, usize);
+
+fn read(alloc: Global, line: &str) -> Option<NodeOptions> {
+    let words: Vec<&str> = line.split(' ').collect(alloc).ok()?;
+    read_node(alloc, words.as_slice()).ok()
+}
+
+fn numbers(alloc: Global, line: &str) -> Option<Numbers> {
+    let options = read(alloc, line)?;
+    Some((
+        options.session,
+        options.me.number(),
+        options.start,
+        options.stay,
+        options.turns,
+        options.rate,
+        options.depth,
+        options.addresses.len(),
+    ))
+}
+
+fn assert_read<R: Abort + AllocGlobal>(rt: &R, line: &str, wanted: Numbers) {
+    assert_eq!(rt; numbers(rt.alloc(), line), Some(wanted), "{line}");
+}
+
+#[test]
+fn what_is_left_out_has_its_default(rt: HostRuntime) {
+    assert_read(
+        &rt,
+        "--session 7 --me 0 127.0.0.1:1",
+        (7, 0, 0, 5_000_000, 1_000_000, 8_000, 4_204, 1),
+    );
+}
+
+#[test]
+fn each_option_says_its_own_number(rt: HostRuntime) {
+    assert_read(
+        &rt,
+        "--session 11 --me 1 --start 13 --stay 14 --turns 15 --rate 16 --depth 1700 127.0.0.1:1 127.0.0.1:2",
+        (11, 1, 13, 14, 15, 16, 1_700, 2),
+    );
+}
+
+// Options may stand behind the addresses and in any order, and a value behind an equals sign.
+#[test]
+fn options_come_in_any_order(rt: HostRuntime) {
+    assert_read(
+        &rt,
+        "127.0.0.1:1 --depth=1700 127.0.0.1:2 --rate=16 --me=1 --turns=15 --stay=14 --start=13 --session=11",
+        (11, 1, 13, 14, 15, 16, 1_700, 2),
+    );
+}
+
+fn address_at(alloc: Global, line: &str, place: usize) -> Option<SocketAddr> {
+    let options = read(alloc, line)?;
+    options.addresses.get(place).copied()
+}
+
+#[test]
+fn addresses_keep_their_order(rt: HostRuntime) {
+    let line = "--session 7 --me 0 127.0.0.1:47100 10.1.2.3:1 255.254.253.252:65535";
+    for (place, address, port) in [
+        (0, Ipv4Addr::new(127, 0, 0, 1), 47_100),
+        (1, Ipv4Addr::new(10, 1, 2, 3), 1),
+        (2, Ipv4Addr::new(255, 254, 253, 252), 65_535),
+    ] {
+        let wanted = SocketAddr::from((address, port));
+        assert_eq!(rt; address_at(rt.alloc(), line, place), Some(wanted));
+    }
+    assert_eq!(rt; address_at(rt.alloc(), line, 3), None);
+}

@@ -1,0 +1,130 @@
+//! A node and its workers in threads, where memory may be refused to any of them.
+
+ghost use Rattle.std.specs.Prelude.{◌≡◌, vec_len, None};
+ghost use Rattle.srm_names.specs.declared.limits.TheConstants.{PAGES};
+
+use crate::rig::{Rig, make};
+use srm_names::{Member, PageMsg};
+use srm_node::{Hosted, NodeFault, PageSink, Wire, WireFault, WorkEnd, Worked, host};
+use std::alloc::Global;
+use std::process::Abort;
+use std::sync::Wait;
+use std::thread::Threads;
+
+/// A wire over which nothing comes, and which takes all. It needs no memory and tells nothing.
+#[derive(Drop)]
+struct Silent;
+
+impl Wire for Silent {
+    ghost failed = { λ _. 0 };
+
+    ghost told = { λ _. None };
+
+    fn send(&mut self, _to: Member, _datagram: &[u8]) -> Result<(), WireFault> {
+        Ok(())
+    }
+
+    fn receive(&mut self, _buffer: &mut [u8]) -> Result<Option<usize>, WireFault> {
+        Ok(None)
+    }
+
+    fn pause(&mut self, _micros: u64) {}
+
+    fn failures(&self) -> u64 {
+        0
+    }
+}
+
+/// A sink that takes all.
+#[derive(Clone, Copy)]
+struct Open;
+
+impl PageSink for Open {
+    fn message(&mut self, _slot: u8, _message: &PageMsg) -> bool {
+        true
+    }
+}
+
+/// A sink for each slot.
+fn sinks(rt: &impl Abort, alloc: Global) -> Vec<Open>
+    ensures { vec_len result ≡ PAGES }
+{
+    if let Ok(sinks) = Vec::from_array(alloc, [Open; 8]) {
+        return sinks;
+    }
+    match Vec::from_array(alloc, [Open; 8]) {
+        Ok(sinks) => sinks,
+        Err(_) => panic!(rt; "memory"),
+    }
+}
+
+fn host_rig<R: Threads + Wait + Abort + Copy + Send + Drop + 'static>(
+    rt: &R,
+    alloc: Global,
+    rig: Rig<Silent>,
+    sinks: Vec<Open>,
+) -> Option<Hosted>
+    requires taps { vec_len rig.taps ≡ PAGES }
+    requires sinks { vec_len sinks ≡ PAGES }
+{
+    let Rig { node, taps } = rig;
+    match host(rt, alloc, node, taps, sinks, 1_000) {
+        Ok(hosted) => Some(hosted),
+        Err(_) => None,
+    }
+}
+
+/// Hosts the only member of a session, which draws three strokes and leaves. None where memory was refused before any worker was started.
+fn try_host<R: Threads + Wait + Abort + Copy + Send + Drop + 'static>(
+    rt: &R,
+    alloc: Global,
+) -> Option<Hosted> {
+    match make(rt, alloc, 0, 1, Silent, b"abc") {
+        Some(rig) => host_rig(rt, alloc, rig, sinks(rt, alloc)),
+        None => None,
+    }
+}
+
+/// Whether a worker took so many messages to the close, or ended for want of memory.
+fn is_served(worked: &Worked, count: usize) -> bool {
+    match worked.end {
+        WorkEnd::Closed => worked.list.len() == count,
+        WorkEnd::Memory => worked.list.len() <= count,
+        WorkEnd::Broken | WorkEnd::Stopped => false,
+    }
+}
+
+/// The first worker takes its page, three strokes and the close, and each other the close.
+fn check_served(rt: &impl Abort, worked: &[Worked]) {
+    assert_eq!(rt; worked.len(), 8);
+    for (slot, worked) in worked.iter().enumerate() {
+        let count = if slot == 0 { 5 } else { 1 };
+        assert!(rt; is_served(worked, count));
+    }
+}
+
+/// A host ends whole, or for want of memory and with no feed.
+fn check_hosted(rt: &impl Abort, hosted: &Hosted) {
+    match hosted.end {
+        Ok(()) => check_served(rt, hosted.worked.as_slice()),
+        Err(fault) => {
+            assert_eq!(rt; fault, NodeFault::Memory);
+            assert!(rt; hosted.feeds.is_empty());
+        }
+    }
+}
+
+/// Before any worker was started memory was refused, which it isn't again.
+fn check_again<R: Threads + Wait + Abort + Copy + Send + Drop + 'static>(rt: &R, alloc: Global) {
+    let hosted = try_host(rt, alloc).expect(rt, "a host");
+    assert_eq!(rt; hosted.end, Ok(()));
+    check_served(rt, hosted.worked.as_slice());
+}
+
+#[test]
+fn a_host_ends_whole_or_for_want_of_memory(rt: HostRuntime) {
+    match try_host(&rt, rt.alloc()) {
+        Some(hosted) => check_hosted(&rt, &hosted),
+        None => check_again(&rt, rt.alloc()),
+    }
+}

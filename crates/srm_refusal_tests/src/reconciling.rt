@@ -1,0 +1,204 @@
+//! Journals of two recorders, put together.
+
+use crate::again::{config, member, text};
+use crate::meeting::{meet, recorder};
+use srm_audit::{Got, Mismatch, reconcile};
+use srm_names::{Items, PageMsg};
+use srm_world::{Journal, Trace};
+use std::alloc::Global;
+use std::process::Abort;
+
+/// Room for eight messages.
+fn message_room(rt: &impl Abort, alloc: Global) -> Vec<PageMsg> {
+    match Vec::with_capacity(alloc, 8) {
+        Ok(room) => room,
+        Err(_) => Vec::with_capacity(alloc, 8).expect(rt, "memory"),
+    }
+}
+
+/// Room for two lists.
+fn list_room(rt: &impl Abort, alloc: Global) -> Vec<Got> {
+    match Vec::with_capacity(alloc, 2) {
+        Ok(room) => room,
+        Err(_) => Vec::with_capacity(alloc, 2).expect(rt, "memory"),
+    }
+}
+
+/// Room for two journals.
+fn journal_room(rt: &impl Abort, alloc: Global) -> Vec<Journal> {
+    match Vec::with_capacity(alloc, 2) {
+        Ok(room) => room,
+        Err(_) => Vec::with_capacity(alloc, 2).expect(rt, "memory"),
+    }
+}
+
+fn copy_of(rt: &impl Abort, message: &PageMsg) -> PageMsg {
+    match message.copy() {
+        Ok(copy) => copy,
+        Err(_) => message.copy().expect(rt, "memory"),
+    }
+}
+
+fn push_copy(rt: &impl Abort, list: &mut Vec<PageMsg>, message: &PageMsg) {
+    let copy = copy_of(rt, message);
+    list.push(copy).expect(rt, "room");
+}
+
+/// What the first slot was given, by the journal.
+fn given(rt: &impl Abort, alloc: Global, journal: &Journal) -> Got {
+    let mut list = message_room(rt, alloc);
+    for entry in journal.entries() {
+        if let Some(message) = &entry.effects.message {
+            push_copy(rt, &mut list, message);
+        }
+    }
+    Got {
+        member: journal.start().config.me(),
+        slot: 0,
+        list: Items::new(list),
+    }
+}
+
+/// The same, so often.
+fn lists(rt: &impl Abort, alloc: Global, journal: &Journal, times: u8) -> Vec<Got> {
+    let mut lists = list_room(rt, alloc);
+    for _ in 0..times {
+        let list = given(rt, alloc, journal);
+        lists.push(list).expect(rt, "room");
+    }
+    lists
+}
+
+/// Which journals there are: both, the second with that of a first that did nothing, or the second alone.
+#[derive(Clone, Copy)]
+enum Kind {
+    Whole,
+    Silent,
+    Alone,
+}
+
+/// A journal of member 0, which did nothing.
+fn silent(rt: &impl Abort, alloc: Global) -> Journal {
+    let settings = config(rt, 0, 2);
+    recorder(rt, alloc, &settings).finish()
+}
+
+/// The journal of the first member: as it is, of one that did nothing, or none.
+fn first_for(rt: &impl Abort, alloc: Global, kind: Kind, first: Journal) -> Option<Journal> {
+    match kind {
+        Kind::Whole => Some(first),
+        Kind::Silent => Some(silent(rt, alloc)),
+        Kind::Alone => None,
+    }
+}
+
+/// The journal of the second member, and then that of the first, if it is there.
+fn journals(
+    rt: &impl Abort,
+    alloc: Global,
+    first: Option<Journal>,
+    second: Journal,
+) -> Vec<Journal> {
+    let mut journals = journal_room(rt, alloc);
+    journals.push(second).expect(rt, "room");
+    if let Some(first) = first {
+        journals.push(first).expect(rt, "room");
+    }
+    journals
+}
+
+/// The journals of both members once they met.
+#[derive(Drop)]
+struct Both {
+    first: Journal,
+    second: Journal,
+}
+
+fn met(rt: &impl Abort, alloc: Global) -> Both {
+    let settings = config(rt, 0, 2);
+    let mut first = recorder(rt, alloc, &settings);
+    let settings = config(rt, 1, 2);
+    let mut second = recorder(rt, alloc, &settings);
+    meet(rt, alloc, &mut first, &mut second);
+    Both {
+        first: first.finish(),
+        second: second.finish(),
+    }
+}
+
+/// What `reconcile` answers to journals and so many lists.
+fn once(rt: &impl Abort, alloc: Global, kind: Kind, times: u8) -> Result<Trace, Mismatch> {
+    let Both { first, second } = met(rt, alloc);
+    let lists = lists(rt, alloc, &second, times);
+    let first = first_for(rt, alloc, kind, first);
+    let journals = journals(rt, alloc, first, second);
+    reconcile(alloc, journals, lists)
+}
+
+fn lacks_memory(answered: &Result<Trace, Mismatch>) -> bool {
+    matches!(answered, Err(Mismatch::Memory))
+}
+
+/// The same, with journals and lists that are made again where it lacks memory.
+fn answer(rt: &impl Abort, alloc: Global, kind: Kind, times: u8) -> Result<Trace, Mismatch> {
+    let answered = once(rt, alloc, kind, times);
+    if lacks_memory(&answered) {
+        return once(rt, alloc, kind, times);
+    }
+    answered
+}
+
+/// The trace of both journals and one list.
+fn whole(rt: &impl Abort, alloc: Global) -> Trace {
+    answer(rt, alloc, Kind::Whole, 1).ok().expect(rt, "a trace")
+}
+
+fn check_sizes(rt: &impl Abort, trace: &Trace, starts: usize, entries: usize) {
+    assert_eq!(rt; trace.starts().len(), starts);
+    assert_eq!(rt; trace.entries().len(), entries);
+}
+
+/// Five calls of member 0, seven of member 1, and four takes.
+#[test]
+fn journals_reconcile_once_memory_is_there(rt: HostRuntime) {
+    let trace = whole(&rt, rt.alloc());
+    check_sizes(&rt, &trace, 2, 16);
+}
+
+fn whole_text(rt: &impl Abort, alloc: Global) -> String {
+    let trace = whole(rt, alloc);
+    text(rt, alloc, &trace)
+}
+
+/// One of the two was answered undisturbed.
+#[test]
+fn the_same_journals_have_the_same_trace(rt: HostRuntime) {
+    let one = whole_text(&rt, rt.alloc());
+    let other = whole_text(&rt, rt.alloc());
+    assert!(rt; one == other);
+}
+
+fn check_mismatch(rt: &impl Abort, alloc: Global, kind: Kind, times: u8, wanted: Mismatch) {
+    assert_eq!(rt; answer(rt, alloc, kind, times).err(), Some(wanted));
+}
+
+/// A list that is there twice.
+#[test]
+fn a_list_that_is_there_twice_is_told_once_memory_is_there(rt: HostRuntime) {
+    let member = member(&rt, 1);
+    let wanted = Mismatch::Foreign { member, slot: 0 };
+    check_mismatch(&rt, rt.alloc(), Kind::Whole, 2, wanted);
+}
+
+/// Entries that hear what nobody sent.
+#[test]
+fn what_nobody_sent_is_told_once_memory_is_there(rt: HostRuntime) {
+    let member = member(&rt, 1);
+    let wanted = Mismatch::Unsent { member, entry: 0 };
+    check_mismatch(&rt, rt.alloc(), Kind::Silent, 1, wanted);
+}
+
+#[test]
+fn a_roster_that_lacks_a_member_is_told_once_memory_is_there(rt: HostRuntime) {
+    check_mismatch(&rt, rt.alloc(), Kind::Alone, 0, Mismatch::Roster);
+}

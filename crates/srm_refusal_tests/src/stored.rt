@@ -1,0 +1,140 @@
+//! Worlds of scripts to which each event happens that memory doesn't refuse, and once more where it does.
+
+ghost use Rattle.std.specs.Prelude.{All, IfOk};
+ghost use Rattle.srm_world.specs.Events.{IsTimely};
+
+use crate::again::{buffer, text};
+use crate::scripts::{BY_WORDS, OUT_OF_ORDER, REPAIRED_BY_ANOTHER};
+use srm_script::{Fault, Report, Script, print_newest, read_script};
+use srm_timers::Listed;
+use srm_world::{Event, World};
+use std::alloc::Global;
+use std::process::Abort;
+use std::slice::from_ref;
+
+/// A world that begins, its events, and whether timers are printed.
+#[derive(Drop)]
+struct Begun {
+    world: World<Listed>,
+    events: Vec<Event>,
+    timers: bool,
+}
+
+fn try_begin(alloc: Global, script: &str) -> Result<Begun, Fault>
+    ensures { IfOk result (λ begun. All IsTimely begun.events.items) }
+{
+    let Script {
+        configs,
+        words,
+        timers,
+        events,
+    } = read_script(alloc, script.as_bytes())?;
+    let world = World::new(alloc, configs, words)?;
+    Ok(Begun {
+        world,
+        events,
+        timers,
+    })
+}
+
+/// A script is read again where memory is refused to it or to its world.
+fn begin(rt: &impl Abort, alloc: Global, script: &str) -> Begun
+    ensures { All IsTimely result.events.items }
+{
+    if let Ok(begun) = try_begin(alloc, script) {
+        return begun;
+    }
+    match try_begin(alloc, script) {
+        Ok(begun) => begun,
+        Err(_) => panic!(rt; "a world"),
+    }
+}
+
+/// An event happens, and once more where it is refused for memory. What it did is printed.
+fn step(
+    rt: &impl Abort,
+    world: &mut World<Listed>,
+    event: &Event,
+    report: &mut Report,
+    out: &mut Vec<u8>,
+)
+    requires { IsTimely event.now }
+{
+    if world.run(from_ref(event)).is_err() {
+        assert!(rt; world.run(from_ref(event)).is_ok());
+    }
+    assert!(rt; print_newest(world, report, out).is_ok());
+}
+
+fn run_each(
+    rt: &impl Abort,
+    world: &mut World<Listed>,
+    events: &[Event],
+    report: &mut Report,
+    out: &mut Vec<u8>,
+)
+    requires { All IsTimely events.now }
+{
+    for event in events {
+        step(rt, world, event, report, out);
+    }
+}
+
+/// The trace of a script whose refused events happened again, which prints this.
+fn play(rt: &impl Abort, alloc: Global, script: &str, wanted: &str) -> String {
+    let Begun {
+        mut world,
+        events,
+        timers,
+    } = begin(rt, alloc, script);
+    let mut report = Report::new(timers);
+    let mut out = buffer(rt, alloc);
+    run_each(rt, &mut world, events.as_slice(), &mut report, &mut out);
+    assert_eq!(rt; out.as_slice(), wanted.as_bytes());
+    text(rt, alloc, world.trace())
+}
+
+/// The trace of a script all of whose events happened in one call, if memory wasn't refused to it.
+fn try_whole(rt: &impl Abort, alloc: Global, script: &str) -> Option<String> {
+    let Begun {
+        mut world,
+        events,
+        ..
+    } = begin(rt, alloc, script);
+    match world.run(events.as_slice()) {
+        Ok(()) => Some(text(rt, alloc, world.trace())),
+        Err(_) => None,
+    }
+}
+
+fn whole(rt: &impl Abort, alloc: Global, script: &str) -> String {
+    match try_whole(rt, alloc, script) {
+        Some(text) => text,
+        None => try_whole(rt, alloc, script).expect(rt, "a run"),
+    }
+}
+
+/// With any one allocation refused what is printed is this, and the trace is that of a world to which all events happened in one call.
+fn check(rt: &impl Abort, alloc: Global, script: &str, wanted: &str) {
+    let one_by_one = play(rt, alloc, script, wanted);
+    assert!(rt; one_by_one == whole(rt, alloc, script));
+}
+
+#[test]
+fn three_strokes_come_doubled_and_out_of_order(rt: HostRuntime) {
+    let (script, wanted) = OUT_OF_ORDER;
+    check(&rt, rt.alloc(), script, wanted);
+}
+
+#[test]
+fn another_member_repairs_what_one_that_left_drew(rt: HostRuntime) {
+    let (script, wanted) = REPAIRED_BY_ANOTHER;
+    check(&rt, rt.alloc(), script, wanted);
+}
+
+/// A refused event draws no word, or the waits would be others.
+#[test]
+fn words_are_drawn_once(rt: HostRuntime) {
+    let (script, wanted) = BY_WORDS;
+    check(&rt, rt.alloc(), script, wanted);
+}
