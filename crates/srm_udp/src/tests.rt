@@ -65,6 +65,15 @@ fn time_of_pause<C: Clock>(wire: &mut UdpWire, clock: &C, micros: u64) -> u64 {
     clock.now().saturating_sub(before)
 }
 
+/// How many microseconds the shortest of five pauses took: the machine may be busy in some.
+fn shortest_pause<C: Clock>(wire: &mut UdpWire, clock: &C, micros: u64) -> u64 {
+    let mut shortest = u64::MAX;
+    for _ in 0..5u8 {
+        shortest = shortest.min(time_of_pause(wire, clock, micros));
+    }
+    shortest
+}
+
 #[test]
 fn datagrams_come_whole_and_once(rt: HostRuntime) -> Result<(), Fail> {
     let (mut near, mut far) = pair(&rt, rt.alloc())?;
@@ -115,6 +124,15 @@ fn a_pause_waits_where_nothing_comes(rt: HostRuntime) -> Result<(), Fail> {
     assert!(rt; time_of_pause(&mut far, &clock, 20_000) >= 20_000);
     assert!(rt; time_of_pause(&mut far, &clock, 20_000) >= 20_000);
     assert!(rt; time_of_pause(&mut far, &clock, 0) < 5_000_000);
+    Ok(())
+}
+
+#[test]
+fn a_pause_is_no_longer_than_asked_for(rt: HostRuntime) -> Result<(), Fail> {
+    let (_near, mut far) = pair(&rt, rt.alloc())?;
+    let clock = SystemClock::new(rt)?;
+    assert_nothing(&rt, &mut far);
+    assert!(rt; shortest_pause(&mut far, &clock, 20_000) < 100_000);
     Ok(())
 }
 
@@ -268,5 +286,16 @@ fn the_clock_starts_with_itself(rt: HostRuntime) -> Result<(), Fail> {
     let second = clock.now();
     assert!(rt; first < 5_000_000);
     assert!(rt; second.saturating_sub(first) >= 1_500);
+    Ok(())
+}
+
+#[test]
+fn the_clock_tells_microseconds(rt: HostRuntime) -> Result<(), Fail> {
+    let clock = SystemClock::new(rt)?;
+    let first = clock.now();
+    thread::sleep(&rt, Duration::from_millis(200));
+    let passed = clock.now().saturating_sub(first);
+    assert!(rt; passed >= 200_000);
+    assert!(rt; passed < 2_000_000);
     Ok(())
 }
