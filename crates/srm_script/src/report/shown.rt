@@ -83,13 +83,20 @@ struct ShownBody<'a>(&'a [u8]);
 
 impl fmt::Display for ShownBody<'_> {
     fn fmt<W: fmt::Write>(&self, f: &mut fmt::Formatter<W>) -> fmt::Result {
-        for byte in self.0 {
-            let shown = match byte {
-                b' '..=b'~' => char::from(*byte),
-                _ => '?',
-            };
-            f.write_char(shown)?;
+        let mut runs = self.0.split(|byte| !matches!(byte, b' '..=b'~'));
+        if let Some(first) = runs.next() {
+            write_run(f, first)?;
+        }
+        for run in runs {
+            f.write_char('?')?;
+            write_run(f, run)?;
         }
         Ok(())
     }
+}
+
+/// Writes a run of printable ASCII at once, since a body is mostly text and a character by itself costs as much as many.
+fn write_run<W: fmt::Write>(f: &mut fmt::Formatter<W>, run: &[u8]) -> fmt::Result {
+    let text = str::from_utf8(run).map_err(|_| fmt::Error)?;
+    f.write_str(text)
 }
