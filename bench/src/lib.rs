@@ -2,6 +2,7 @@
 
 pub mod calls;
 pub mod datagram;
+pub mod losses;
 pub mod meter;
 pub mod moments;
 pub mod plain;

@@ -1,5 +1,5 @@
 //! What the benchmarks and the driver for hostile datagrams call from Rust: one member's agent over many calls, the moments of
-//! many names, which are cleared and set, and the journals of a session, which are put together.
+//! many names, which are cleared and set, the journals of a session, which are put together, and a group that repairs what it lost.
 //!
 //! What the agent answered is told in numbers, by which two agents can be compared.
 #![tactic(auto)]
@@ -7,6 +7,7 @@
 mod caller;
 mod clock;
 mod digest;
+mod group;
 mod lists;
 mod moments;
 mod session;
@@ -14,6 +15,7 @@ mod sessions;
 mod teller;
 
 use crate::caller::Caller;
+use crate::group::{Group, Waits};
 use crate::moments::Moments;
 use crate::sessions::{mingled, talked};
 use crate::teller::Teller;
@@ -77,4 +79,35 @@ pub extern "C" fn srm_sessions(
     session
         .and_then(|session| session.end(reconciles))
         .unwrap_or(usize::MAX)
+}
+
+/// A group of so many members with these waits loses so many drawops of member 0, all members or the last one alone, and repairs them. It tells
+/// how many requests and how many repairs were sent in all, and how many microseconds passed in all from when a loss was shown until it was
+/// mended. How many numbers were told, which is 3; the greatest number where memory ran out, a setting is out of range, or there is no
+/// room for three numbers.
+#[unsafe(no_mangle)]
+pub extern "C" fn srm_losses(
+    alloc: Global,
+    members: u8,
+    c1: u8,
+    c2: u8,
+    d1: u8,
+    d2: u8,
+    seed: u32,
+    times: u32,
+    all_lose: bool,
+    told: &mut [u64],
+) -> usize {
+    let waits = Waits { c1, c2, d1, d2 };
+    let mut teller = Teller::new(told);
+    let cost = Group::new(alloc, members, waits, seed, all_lose).and_then(|mut group| group.lose(
+        times,
+    ));
+    let Some(cost) = cost else {
+        return usize::MAX;
+    };
+    teller.tell(cost.requests);
+    teller.tell(cost.repairs);
+    teller.tell(cost.micros);
+    teller.count()
 }

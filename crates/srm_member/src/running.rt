@@ -1,7 +1,6 @@
 //! A member from its command line to its end.
 
 ghost use Rattle.std.specs.Prelude.{◌≤◌};
-ghost use Rattle.srm_options.specs.Options.{IsInRange};
 
 use crate::dealing::deal;
 use crate::fault::MemberFault;
@@ -52,12 +51,11 @@ fn run<R, I: Read, O: Write>(
 ) -> Result<(), MemberFault>
 where
     R: Net + time::Clock + Threads + Wait + Copy + Send + Drop + 'static,
-    requires { IsInRange options }
 {
     let input = read_input(alloc, reader)?;
     let dealt = deal(alloc, input.as_slice())?;
     drop(input);
-    let me = options.me;
+    let me = options.config.me();
     let turns = options.turns;
     let station = Station::bind(rt, alloc, options)?;
     let hosted = station.run(rt, alloc, dealt, turns)?;

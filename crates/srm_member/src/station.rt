@@ -4,14 +4,13 @@ ghost use Rattle.std.specs.Prelude.{◌≡◌, Bool, vec_len, map, IfOk, IfSome,
 ghost use Rattle.srm_names.specs.declared.limits.TheConstants.{PAGES};
 ghost use Rattle.srm_node.specs.Nodes.{AreNewFeeds};
 ghost use Rattle.srm_node.specs.Hosting.{Hosts, HostFails, AreEndsOfLanes};
-ghost use Rattle.srm_options.specs.Options.{IsInRange};
-ghost use Rattle.srm_member.specs.Stations.{IsNewStation, config_of};
+ghost use Rattle.srm_member.specs.Stations.{IsNewStation};
 
 use crate::fault::MemberFault;
 use crate::pens::PenThreads;
 use crate::sink::{Unseen, sinks};
 use bytes::Bytes;
-use srm_agent::{Config, Settings};
+use srm_agent::Config;
 use srm_node::{Hosted, Node, host};
 use srm_options::NodeOptions;
 use srm_pages::{Feed, Pen, Tap, lanes, well};
@@ -38,18 +37,16 @@ impl<R: time::Clock + Copy + Drop> Station<R> {
     pub fn bind(rt: &R, alloc: Global, options: NodeOptions) -> Result<Station<R>, MemberFault>
     where
         R: Net,
-        requires { IsInRange options }
-        ensures { IfOk result (λ s. IsNewStation (config_of options) s.node.view s.taps.items s.pens.items) }
+        ensures { IfOk result (λ s. IsNewStation options.config s.node.view s.taps.items s.pens.items) }
     {
-        let config = config(&options);
         let NodeOptions {
-            me,
+            config,
             start,
             stay,
             addresses,
             ..
         } = options;
-        match UdpWire::bind(rt, alloc, me, addresses) {
+        match UdpWire::bind(rt, alloc, config.me(), addresses) {
             Ok(wire) => Station::new(rt, alloc, config, start, stay, wire),
             Err(error) => Err(MemberFault::of_binding(error)),
         }
@@ -62,18 +59,10 @@ impl<R: time::Clock + Copy + Drop> Station<R> {
         options: &NodeOptions,
         wire: UdpWire,
     ) -> Result<Station<R>, MemberFault>
-        requires options { IsInRange options.now }
-        requires wire { wire.failures ≡ 0 }
-        ensures { IfOk result (λ s. IsNewStation (config_of options.now) s.node.view s.taps.items s.pens.items) }
+        requires { wire.failures ≡ 0 }
+        ensures { IfOk result (λ s. IsNewStation options.now.config s.node.view s.taps.items s.pens.items) }
     {
-        Station::new(
-            rt,
-            alloc,
-            config(options),
-            options.start,
-            options.stay,
-            wire,
-        )
+        Station::new(rt, alloc, options.config, options.start, options.stay, wire)
     }
 
     fn new(
@@ -151,25 +140,6 @@ where
         Ok(hosted) => Some(hosted),
         Err(_) => None,
     }
-}
-
-/// The settings that these options say.
-fn config(options: &NodeOptions) -> Config
-    requires { IsInRange options.now }
-    ensures { result ≡ config_of options.now }
-{
-    let settings = Settings {
-        rate: options.rate,
-        depth: options.depth,
-        ..Settings::default()
-    };
-    Config::with(
-        options.me,
-        options.addresses.len() as u8,
-        options.session,
-        settings,
-    )
-    .unwrap()
 }
 
 /// The ends of a lane for each slot. Only want of memory refuses it.

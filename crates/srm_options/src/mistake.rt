@@ -1,6 +1,7 @@
 //! What is wrong in a command line that has all its options.
 
 use srm_names::MEMBERS;
+use srm_timers::TIMER_SETTING;
 use thiserror::Error;
 
 /// What is wrong in a command line that has all its options.
@@ -12,6 +13,8 @@ pub enum Mistake<'a> {
     TooMany,
     #[error("'--me <M>' is no place in the list of addresses, the first of which has the place 0")]
     NoPlace,
+    #[error("invalid value '{0}' for '--waits <C1,C2,D1,D2>': that isn't four numbers from 0 to {TIMER_SETTING} with commas between")]
+    Waits(&'a str),
     #[error("an option is missing or out of its range")]
     Range,
     #[error("out of memory")]

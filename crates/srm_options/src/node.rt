@@ -10,7 +10,9 @@ use crate::reply::Reply;
 use clap::error::ErrorKind;
 use clap::{Arg, ArgAction, ArgMatches, Command, value_parser};
 use srm_bucket::{GREATEST_DEPTH, GREATEST_RATE, LEAST_DEPTH, LEAST_RATE};
+use srm_entries::{Config, Settings};
 use srm_names::{MEMBERS, MOMENT, Member};
+use srm_timers::TIMER_SETTING;
 use std::alloc::{AllocError, Global};
 use std::net::{SocketAddr, SocketAddrV4};
 
@@ -19,12 +21,6 @@ const STAY: u64 = 5_000_000;
 
 /// Without `--turns` it turns so often, at most.
 const TURNS: u64 = 1_000_000;
-
-/// Without `--rate` it may send so many bytes a second.
-const RATE: u32 = 8_000;
-
-/// Without `--depth` its bucket holds so many bytes.
-const DEPTH: u32 = 4_204;
 
 /// Reads the words behind `srm node`.
 pub fn read_node<'a>(alloc: Global, words: &'a [&'a str]) -> Result<NodeOptions, Reply>
@@ -117,7 +113,18 @@ fn with_limits<'a>(alloc: Global, command: Command<'a>) -> Result<Command<'a>, A
         "depth of its bucket in bytes, 1051 to 1000000; else 4204",
     )
     .value_parser(value_parser!(u32).range(i64::from(LEAST_DEPTH)..=i64::from(GREATEST_DEPTH)));
-    command.arg(stay)?.arg(turns)?.arg(rate)?.arg(depth)
+    let waits = option(
+        alloc,
+        "waits",
+        "C1,C2,D1,D2",
+        "a request waits C1 to C1+C2 distances, a repair D1 to D1+D2; each 0 to 16; else 2,2,1,1",
+    );
+    command
+        .arg(stay)?
+        .arg(turns)?
+        .arg(rate)?
+        .arg(depth)?
+        .arg(waits)
 }
 
 fn with_addresses<'a>(alloc: Global, command: Command<'a>) -> Result<Command<'a>, AllocError> {
@@ -141,16 +148,68 @@ fn options_in<'a>(alloc: Global, matches: &ArgMatches<'a>) -> Result<NodeOptions
     let Some(session) = matches.get_one::<u32>("session") else {
         return Err(Mistake::Range);
     };
+    let settings = match settings_in(matches) {
+        Ok(settings) => settings,
+        Err(mistake) => return Err(mistake),
+    };
+    let Ok(members) = u8::try_from(addresses.len()) else {
+        return Err(Mistake::TooMany);
+    };
+    let Some(config) = Config::with(me, members, session, settings) else {
+        return Err(Mistake::Range);
+    };
     Ok(NodeOptions {
-        session,
-        me,
+        config,
         start: matches.get_one::<u64>("start").unwrap_or(0),
         stay: matches.get_one::<u64>("stay").unwrap_or(STAY),
         turns: matches.get_one::<u64>("turns").unwrap_or(TURNS),
-        rate: matches.get_one::<u32>("rate").unwrap_or(RATE),
-        depth: matches.get_one::<u32>("depth").unwrap_or(DEPTH),
         addresses,
     })
+}
+
+/// What the member may send and how long it waits.
+fn settings_in<'a>(matches: &ArgMatches<'a>) -> Result<Settings, Mistake<'a>> {
+    let usual = Settings::default();
+    let [c1, c2, d1, d2] = match matches.get_str("waits") {
+        Some(text) => match waits_in(text) {
+            Some(waits) => waits,
+            None => return Err(Mistake::Waits(text)),
+        },
+        None => [usual.c1, usual.c2, usual.d1, usual.d2],
+    };
+    Ok(Settings {
+        rate: matches.get_one::<u32>("rate").unwrap_or(usual.rate),
+        depth: matches.get_one::<u32>("depth").unwrap_or(usual.depth),
+        c1,
+        c2,
+        d1,
+        d2,
+    })
+}
+
+/// Four numbers of distances, with commas between.
+fn waits_in(text: &str) -> Option<[u8; 4]> {
+    let mut parts = text.split(',');
+    let waits = [
+        wait_in(parts.next()?)?,
+        wait_in(parts.next()?)?,
+        wait_in(parts.next()?)?,
+        wait_in(parts.next()?)?,
+    ];
+    match parts.next() {
+        Some(_) => None,
+        None => Some(waits),
+    }
+}
+
+/// A number of distances, in decimal.
+fn wait_in(text: &str) -> Option<u8> {
+    let wait = text.parse::<u8>().ok()?;
+    if wait <= TIMER_SETTING {
+        Some(wait)
+    } else {
+        None
+    }
 }
 
 fn addresses_in<'a>(alloc: Global, texts: &[&'a str]) -> Result<Vec<SocketAddr>, Mistake<'a>> {

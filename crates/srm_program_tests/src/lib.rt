@@ -32,4 +32,6 @@ mod streams;
 #[cfg(test)]
 mod three;
 #[cfg(test)]
+mod waiting;
+#[cfg(test)]
 mod world_options;

@@ -89,6 +89,7 @@ fn options_that_come_twice(rt: HostRuntime) -> Result<(), Fail> {
         ("--turns 1 --turns 1", "--turns"),
         ("--rate 1 --rate 1", "--rate"),
         ("--depth 1051 --depth 1051", "--depth"),
+        ("--waits 2,2,1,1 --waits 2,2,1,1", "--waits"),
     ] {
         let line = line_with(&rt, words, "127.0.0.1:1")?;
         assert_wrong(&rt, line.as_str(), named)?;
@@ -98,9 +99,69 @@ fn options_that_come_twice(rt: HostRuntime) -> Result<(), Fail> {
 
 #[test]
 fn options_without_a_value(rt: HostRuntime) -> Result<(), Fail> {
-    for option in ["--start", "--stay", "--turns", "--rate", "--depth"] {
+    for option in [
+        "--start", "--stay", "--turns", "--rate", "--depth", "--waits",
+    ] {
         let line = line_with(&rt, "127.0.0.1:1", option)?;
         assert_wrong(&rt, line.as_str(), option)?;
+    }
+    Ok(())
+}
+
+/// What is told of waits that aren't four numbers up to 16.
+fn named_waits(alloc: Global, value: &str) -> Result<String, AllocError> {
+    format!(in alloc;
+        "error: invalid value '{value}' for '--waits <C1,C2,D1,D2>': that isn't four numbers from 0 to 16 with commas between\n"
+    )
+}
+
+#[test]
+fn waits_that_are_none(rt: HostRuntime) -> Result<(), Fail> {
+    for value in [
+        "x",
+        "2",
+        "2,2,1",
+        "2,2,1,1,1",
+        "2,2,1,1,",
+        ",2,2,1,1",
+        "2,,1,1",
+        "2,2,1,",
+        "2;2;1;1",
+        "17,2,1,1",
+        "2,17,1,1",
+        "2,2,17,1",
+        "2,2,1,17",
+        "2,2,1,256",
+        "2,2,1,18446744073709551618",
+        "2,2,1,1.5",
+        "2,2,1,x",
+    ] {
+        let words = format!(in rt.alloc(); "--waits {value}")?;
+        let line = line_with(&rt, words.as_str(), "127.0.0.1:1")?;
+        let named = named_waits(rt.alloc(), value)?;
+        assert_wrong(&rt, line.as_str(), named.as_str())?;
+    }
+    Ok(())
+}
+
+// An option that clap refuses comes before all that is read of it; then addresses, the member's place, and its waits.
+#[test]
+fn the_first_of_several_faults_is_told(rt: HostRuntime) -> Result<(), Fail> {
+    for (line, named) in [
+        ("--session 7 --me 5 --waits x --rate 0 nowhere", "--rate"),
+        ("--session x --me 5 --waits x nowhere", "--session"),
+        (
+            "--session 7 --me 5 --waits x nowhere",
+            "is no IPv4 address with a port",
+        ),
+        ("--session 7 --me 5 --waits x 127.0.0.1:1", "'--me <M>'"),
+        (
+            "--session 7 --me 0 --waits x 127.0.0.1:1",
+            "'--waits <C1,C2,D1,D2>'",
+        ),
+        ("--session 7 --me 0 --waits x", "ADDR"),
+    ] {
+        assert_wrong(&rt, line, named)?;
     }
     Ok(())
 }
@@ -111,6 +172,8 @@ fn the_ends_of_the_ranges(rt: HostRuntime) -> Result<(), Fail> {
         "--start 0 --stay 0 --turns 0 --rate 1 --depth 1051",
         "--start 18446744073709551615 --stay 281474976710656",
         "--turns 18446744073709551615 --rate 100000000 --depth 1000000",
+        "--waits 0,0,0,0",
+        "--waits 16,16,16,16",
     ] {
         let line = line_with(&rt, words, "192.0.2.1:9")?;
         assert_good(&rt, line.as_str())?;
@@ -160,5 +223,6 @@ fn help_is_shown(rt: HostRuntime) -> Result<(), Fail> {
     let ran = run(&rt, "--help", b"")?;
     assert_eq!(rt; (ran.status, ran.err.len()), (0, 0));
     assert_has(&rt, "--help", ran.out.as_slice(), "Usage: srm node");
+    assert_has(&rt, "--help", ran.out.as_slice(), "--waits <C1,C2,D1,D2>");
     Ok(())
 }

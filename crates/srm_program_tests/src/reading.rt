@@ -17,13 +17,13 @@ fn read(alloc: Global, line: &str) -> Option<NodeOptions> {
 fn numbers(alloc: Global, line: &str) -> Option<Numbers> {
     let options = read(alloc, line)?;
     Some((
-        options.session,
-        options.me.number(),
+        options.config.session(),
+        options.config.me().number(),
         options.start,
         options.stay,
         options.turns,
-        options.rate,
-        options.depth,
+        options.config.rate(),
+        options.config.depth(),
         options.addresses.len(),
     ))
 }
@@ -58,6 +58,45 @@ fn options_come_in_any_order(rt: HostRuntime) {
         "127.0.0.1:1 --depth=1700 127.0.0.1:2 --rate=16 --me=1 --turns=15 --stay=14 --start=13 --session=11",
         (11, 1, 13, 14, 15, 16, 1_700, 2),
     );
+}
+
+/// How long the member of a command line waits, in distances: a request at least, and so many more at most, and the same of a repair.
+fn waits(alloc: Global, line: &str) -> Option<[u8; 4]> {
+    let config = read(alloc, line)?.config;
+    Some([config.c1(), config.c2(), config.d1(), config.d2()])
+}
+
+#[test]
+fn waits_are_read_in_their_order(rt: HostRuntime) {
+    for (line, wanted) in [
+        ("--session 7 --me 0 127.0.0.1:1", [2, 2, 1, 1]),
+        (
+            "--session 7 --me 0 --waits 2,2,1,1 127.0.0.1:1",
+            [2, 2, 1, 1],
+        ),
+        (
+            "--session 7 --me 0 --waits 3,5,7,11 127.0.0.1:1",
+            [3, 5, 7, 11],
+        ),
+        (
+            "--waits=16,0,0,16 --session 7 --me 0 127.0.0.1:1",
+            [16, 0, 0, 16],
+        ),
+        (
+            "--session 7 --me 0 127.0.0.1:1 --waits 0,0,0,0",
+            [0, 0, 0, 0],
+        ),
+    ] {
+        assert_eq!(rt; waits(rt.alloc(), line), Some(wanted), "{line}");
+    }
+}
+
+#[test]
+fn a_member_is_one_of_as_many_as_have_an_address(rt: HostRuntime) -> Result<(), Fail> {
+    let line = "--session 7 --me 1 127.0.0.1:1 127.0.0.1:2 127.0.0.1:3";
+    let options = read(rt.alloc(), line).ok_or("options")?;
+    assert_eq!(rt; options.config.members(), 3);
+    Ok(())
 }
 
 fn address_at(alloc: Global, line: &str, place: usize) -> Option<SocketAddr> {

@@ -1,7 +1,6 @@
 //! How long a member stays, looked at by its turns: what leaves at its first turn, and what doesn't, hangs on no machine's speed.
 
 ghost use Rattle.std.specs.Prelude.{◌≡◌};
-ghost use Rattle.srm_options.specs.Options.{IsInRange};
 
 use crate::rig::bound;
 use mio::net::UdpSocket;
@@ -49,8 +48,7 @@ fn journal_over<R: Clock + Wait + Copy + Drop>(
     options: &NodeOptions,
     wire: UdpWire,
 ) -> Option<Journal>
-    requires options { IsInRange options.now }
-    requires wire { wire.failures ≡ 0 }
+    requires { wire.failures ≡ 0 }
 {
     let Ok(station) = Station::over(rt, alloc, options, wire) else {
         return None;

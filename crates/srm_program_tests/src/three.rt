@@ -2,7 +2,6 @@
 
 ghost use Rattle.std.specs.Prelude.{◌≡◌, vec_len};
 ghost use Rattle.srm_names.specs.declared.limits.TheConstants.{PAGES};
-ghost use Rattle.srm_options.specs.Options.{IsInRange};
 
 use crate::judging::assert_three;
 use crate::rig::bound;
@@ -93,8 +92,7 @@ fn start_over<R>(
 ) -> Option<JoinHandle<Option<Hosted>>>
 where
     R: Clock + Threads + Wait + Copy + Send + Drop + 'static,
-    requires options { IsInRange options.now }
-    requires wire { wire.failures ≡ 0 }
+    requires { wire.failures ≡ 0 }
 {
     let Ok(station) = Station::over(rt, alloc, options, wire) else {
         return None;
