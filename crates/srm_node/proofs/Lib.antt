@@ -11,3 +11,4 @@ pub mod Waiting
 pub mod Turning
 pub mod Works
 pub mod Hosts
+mod KeepingExample

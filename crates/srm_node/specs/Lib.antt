@@ -8,3 +8,5 @@ pub mod TurnExamples
 pub mod Working
 pub mod Hosting
 pub mod NodeExamples
+pub mod WholeTurnExamples
+pub mod HostExamples

@@ -1,10 +1,11 @@
 -- What lanes carry, what is counted and how runs, workers and hosts end, at worked examples.
-use Rattle.std.specs.Prelude.{◌≡◌, ℕ, suc, ◌==◌, Bool, true, false, List, [], ◌∷◌, Ok, Err, Some, None, replicate, refl}
-use Rattle.std.proofs.Common.{arith, inl, inr}
+use Rattle.std.specs.Prelude.{◌≡◌, ℕ, suc, ◌+◌, ◌==◌, Bool, true, false, List, [], ◌∷◌, Ok, Err, Some, None, replicate, refl}
+use Rattle.std.proofs.Common.{arith, inl, inr, ap, sym}
 use Rattle.srm_names.specs.Names.{first_page}
 use Rattle.srm_names.specs.declared.page_msg.PageMsg.{PageMsg}
 use Rattle.srm_names.specs.declared.page_msg.PageMsg.TheVariants.{Open, Draw, Close}
 use Rattle.srm_names.specs.PageFeeds.{is_page_feed}
+use Rattle.srm_pages.specs.declared.stroke.Stroke.{Stroke}
 use Rattle.srm_pages.specs.Ends.{FeedView, TapView, LaneId}
 use Rattle.srm_entries.specs.declared.cause.Cause.TheVariants.{Own, Stranger}
 use Rattle.srm_entries.specs.declared.fault.AgentFault.TheVariants.{BodyLong}
@@ -21,8 +22,8 @@ use Rattle.srm_node.specs.Counting.{counts_of}
 use Rattle.srm_node.specs.Carrying.{Carries, PutsReleased}
 use Rattle.srm_node.specs.Parts.{HearingEnds}
 use Rattle.srm_node.specs.Nodes.{NodeView}
-use Rattle.srm_node.specs.Turns.{RunEnds, TurnEnds}
-use Rattle.srm_node.specs.Working.{Took, SeesEach}
+use Rattle.srm_node.specs.Turns.{Paused, RunEnds, TurnEnds}
+use Rattle.srm_node.specs.Working.{Took, SeesEach, TakesAndShows}
 use Rattle.srm_node.specs.Hosting.{StopsBy, WorkedEach}
 
 -- HEARING
@@ -94,6 +95,14 @@ ends_at_once n = record { count = 0; few = omega arith; runs = record { turns = 
 no_turn_is_spent : (old new : NodeView) → TurnEnds (Err Turns) old new ≡ ⊥
 no_turn_is_spent old new = refl
 
+-- a pause in which two calls of the wire failed
+paused : (n : NodeView) → Paused n (record n { failures = n.failures + 2 })
+paused n = record { failures = omega arith; same = refl }
+
+-- none takes a stroke in hand
+takes_no_stroke : (n : NodeView) (s : Stroke) → Paused n (record n { hand = Some s }) → n.hand ≡ Some s
+takes_no_stroke n s h = sym (ap (λ (x : NodeView). x.hand) h.same)
+
 -- WORKERS
 
 abbrev tap : List PageMsg → LaneId → TapView
@@ -112,6 +121,14 @@ stopped_at_two = (1, true, (refl, refl, refl), (2, false, (refl, refl, refl), (r
 -- it goes on behind one
 not_stopped_at_one : SeesEach Stops 3 false (Open first_page ∷ []) 0 1
 not_stopped_at_one = (1, true, (refl, refl, refl), (refl, refl))
+
+-- a step of the worker that took the second one, which the sink saw and stopped it at
+took_the_second : (lane : LaneId) → TakesAndShows Stops true (tap (Open first_page ∷ []) lane) (tap (Open first_page ∷ Draw a ∷ []) lane) (Open first_page ∷ []) (Open first_page ∷ Draw a ∷ []) 1 2
+took_the_second lane = record { more = Draw a ∷ []; took = record { is = refl }; grew = refl; seen = (2, false, (refl, refl, refl), (refl, refl, refl)) }
+
+-- a step that took nothing, where the lane was at its end
+took_nothing : (lane : LaneId) → TakesAndShows Stops false (tap (Open first_page ∷ []) lane) (tap (Open first_page ∷ []) lane) (Open first_page ∷ []) (Open first_page ∷ []) 1 1
+took_nothing lane = record { more = []; took = record { is = refl }; grew = refl; seen = (refl, refl) }
 
 -- HOSTS
 

@@ -1,0 +1,58 @@
+-- What a node keeps after a turn, and what a host hands back, at worked examples.
+use Rattle.std.proofs.Common.{◌≡◌, false, [], ◌∷◌, ◌++◌, refl, sym, subst, inr}
+use Rattle.std.specs.Prelude.{None}
+use Rattle.srm_pages.specs.Ends.{WellView, LaneId}
+use Rattle.srm_entries.proofs.Plain.{config}
+use Rattle.srm_node.specs.declared.fault.NodeFault.TheVariants.{Memory}
+use Rattle.srm_node.specs.declared.hosting.Hosted.{Hosted}
+use Rattle.srm_node.specs.declared.working.Worked.{Worked}
+use Rattle.srm_node.specs.Carrying.{DrawsReceived}
+use Rattle.srm_node.specs.Nodes.{Keeps, IsNode}
+use Rattle.srm_node.specs.Hosting.{WorkedEach, HostFails, Hosts}
+use Rattle.srm_node.specs.WholeTurnExamples.{before, after, put, feeds, journal, entries, stroke, lawful, carries, new_feeds, gives_all}
+use Rattle.srm_node.specs.HostExamples.{tap, worked_so, ran_once}
+use Rattle.srm_node.proofs.Keeping.{keeps_new}
+use Rattle.srm_node.proofs.Releasing.{puts_released}
+
+-- over a well of which nothing had been received
+keeps : (lane : LaneId) (well : WellView) → well.received ≡ [] → Keeps (after lane well)
+keeps lane well none = record {
+  lawful = lawful;
+  slots = refl;
+  carries = carries lane;
+  puts = puts_released (journal entries) (feeds put lane) lawful (carries lane);
+  draws_are = subst (λ received. DrawsReceived (journal entries) (received ++ stroke ∷ []) None) (sym none) refl;
+}
+
+is_node : (lane : LaneId) (well : WellView) → well.received ≡ [] → IsNode (after lane well) (config 0) 4096
+is_node lane well none = record { lists = keeps lane well none; settings = refl; room_is = refl }
+
+-- The node did one turn, and its worker of slot 0 took what was put.
+hosted : (lane : LaneId) (well : WellView) (w : Worked) (h : Hosted) → well.received ≡ [] → w.tap ≡ tap 0 put lane → w.list.items ≡ put
+    → h.journal ≡ (after lane well).journal → h.feeds.items ≡ (after lane well).feeds → h.worked.items ≡ w ∷ [] → Hosts (before lane well) (tap 0 [] lane ∷ []) 5 h
+hosted lane well w h none is list journal_is feeds_are worked_is = record {
+  last = after lane well;
+  runs = ran_once lane well;
+  keeps = keeps lane well none;
+  journal = journal_is;
+  feeds = feeds_are;
+  slots = refl;
+  lanes = (gives_all lane well).gives.same;
+  workers = subst (WorkedEach (tap 0 [] lane ∷ [])) (sym worked_is) (worked_so w (tap 0 [] lane) (tap 0 put lane) put is list (record { is = refl }), tt);
+}
+
+-- No worker could be started: the node wasn't turned, and its feeds were let go.
+not_started : (lane : LaneId) (well : WellView) (h : Hosted) → well.received ≡ [] → h.journal ≡ (before lane well).journal → h.feeds.items ≡ [] → h.worked.items ≡ []
+    → HostFails false (before lane well) (tap 0 [] lane ∷ []) 5 Memory h
+not_started lane well h none journal_is feeds_are worked_are = record {
+  last = before lane well;
+  runs = inr (refl, refl, refl);
+  keeps = keeps_new (journal []) (feeds [] lane) well.received refl (new_feeds lane) none;
+  journal = journal_is;
+  feeds = feeds_are;
+  joined = [];
+  rest = tap 0 [] lane ∷ [];
+  split = refl;
+  whole = tt;
+  workers = subst (WorkedEach []) (sym worked_are) tt;
+}

@@ -1,0 +1,367 @@
+-- A node's first turn, in which it draws a stroke and gives it, whole and cut, at worked examples.
+use Rattle.std.specs.Prelude.{◌≡◌, ◌<◌, ℕ, zero, suc, true, false, List, [], ◌∷◌, ◌++◌, map, take, Option, Some, None, Ok, slice_get, refl}
+use Rattle.std.specs.List.{AllByRecursion}
+use Rattle.std.proofs.Common.{arith, inl, inr, subst, ap, lit≤}
+use Rattle.std.proofs.lemmas.Option.{same_Some}
+use Rattle.srm_names.specs.FullName.{FullName}
+use Rattle.srm_names.specs.Histories.{steps, greatest}
+use Rattle.srm_names.specs.Names.{first_page}
+use Rattle.srm_names.specs.declared.page_msg.PageMsg.{PageMsg}
+use Rattle.srm_names.specs.declared.page_msg.PageMsg.TheVariants.{Open, Draw}
+use Rattle.srm_codec.specs.declared.datagram.Datagram.{Datagram}
+use Rattle.srm_codec.specs.declared.datagram.Datagram.TheVariants.{Data}
+use Rattle.srm_codec.specs.Spelling.{head, page_bytes, name_bytes, drawop_bytes, spelling}
+use Rattle.srm_bucket.specs.declared.class.Class.{Class}
+use Rattle.srm_bucket.specs.declared.class.Class.TheVariants.{Shown, New, Other}
+use Rattle.srm_bucket.specs.Calls.{Classed, Call, Handed, Popped}
+use Rattle.srm_bucket.specs.Classes.{rank, handed, gone}
+use Rattle.srm_bucket.specs.Law.{IsPrefixOf, BucketLaw, GoesRight as CallRight}
+use Rattle.srm_pages.specs.declared.stroke.Stroke.{Stroke}
+use Rattle.srm_pages.specs.Ends.{FeedView, WellView, LaneId}
+use Rattle.srm_entries.specs.declared.entry.Entry.{Entry}
+use Rattle.srm_entries.specs.declared.entry.Input.TheVariants.{Drew, Ticked, Gave}
+use Rattle.srm_entries.specs.declared.state.AgentState.TheVariants.{Active}
+use Rattle.srm_entries.specs.Entries.{state, is_missing}
+use Rattle.srm_entries.specs.Timers.{fix_running}
+use Rattle.srm_entries.specs.Giving.{given, MessageRight}
+use Rattle.srm_entries.specs.Bucket.{Going, GoesRight, classed, bucket_calls}
+use Rattle.srm_entries.specs.Runs.{EntryRight, MomentRight, state_due}
+use Rattle.srm_entries.proofs.Plain.{one, config, plain, idle, idle_right, one_spelled, right, one_held, none_missing_in, missing_none, one_of}
+use Rattle.srm_agent_parts.specs.declared.out.Out.{Out}
+use Rattle.srm_world.specs.Traces.{Journal}
+use Rattle.srm_world.specs.Claims.{IsLawfulJournal}
+use Rattle.srm_world.proofs.Lawful.{lawful_journal}
+use Rattle.srm_wire.specs.Wires.{bytes_to}
+use Rattle.srm_node.specs.Carrying.{Carries, CarriesEach, DrawsReceived}
+use Rattle.srm_node.specs.Parts.{IsAdmitted, SameFeed, is_served}
+use Rattle.srm_node.specs.Nodes.{NodeView, AreNewFeeds, IsNewNode}
+use Rattle.srm_node.specs.Turns.{HearsNow, DrawsNow, LeavesNow, TicksNow, GivesNow, DrawsCut, Turned, TurnEnds, IsCut}
+
+-- WHAT HOLDS OF EACH FEED
+
+abbrev AllAt : (ℕ → FeedView → Type 0) → List FeedView → Type 0
+AllAt P [] = Unit {0}
+AllAt P (f ∷ fs) = P zero f × AllAt (λ k g. P (suc k) g) fs
+
+at_each : (P : ℕ → FeedView → Type 0) (fs : List FeedView) → AllAt P fs → (slot : ℕ) (f : FeedView) → slice_get fs slot ≡ Some f → P slot f
+at_each P [] h slot f at_f = cc
+at_each P (x ∷ xs) h zero f at_f = subst (P zero) (same_Some x f at_f) h.0
+at_each P (x ∷ xs) h (suc k) f at_f = at_each (λ i g. P (suc i) g) xs h.1 k f at_f
+
+-- A NEW NODE
+
+abbrev pub feed : ℕ → List PageMsg → LaneId → FeedView
+feed slot put lane = record { put = put; seen = 0; lost = false; slot = slot; lane = lane; board = lane.stamps }
+
+-- eight feeds, of which the first one put these
+abbrev pub feeds : List PageMsg → LaneId → List FeedView
+feeds put lane = feed 0 put lane ∷ feed 1 [] lane ∷ feed 2 [] lane ∷ feed 3 [] lane ∷ feed 4 [] lane ∷ feed 5 [] lane ∷ feed 6 [] lane ∷ feed 7 [] lane ∷ []
+
+abbrev pub journal : List Entry → Journal
+journal es = record { start = record { config = config 0; made = 0 }; entries = es }
+
+-- member 0 of two over a wire that tells, which did nothing yet
+abbrev pub before : LaneId → WellView → NodeView
+before lane well = record { journal = journal []; feeds = feeds [] lane; well = well; hand = None; failures = 0; told = Some (record { came = []; went = [] }) }
+
+pub new_feeds : (lane : LaneId) → AreNewFeeds (feeds [] lane)
+new_feeds lane = record {
+  slots = refl;
+  each = at_each (λ slot f. (f.put ≡ []) × (f.lost ≡ false)) (feeds [] lane) ((refl, refl), ((refl, refl), ((refl, refl), ((refl, refl), ((refl, refl), ((refl, refl), ((refl, refl), ((refl, refl), tt))))))));
+}
+
+-- feeds of which one has put something aren't new
+not_new : (lane : LaneId) → AreNewFeeds (feeds (Open first_page ∷ []) lane) → ⊥
+not_new lane h = let e : Open first_page ∷ [] ≡ [] = (h.each 0 (feed 0 (Open first_page ∷ []) lane) refl).0 in cc
+
+new_node : (lane : LaneId) (well : WellView) → IsNewNode (config 0) (feeds [] lane) well 0 (Some (record { came = []; went = [] })) (before lane well)
+new_node lane well = record { made = 0; is = refl }
+
+-- WHAT THE TURN WRITES
+
+-- One stroke is in the well. It is drawn and sent at moment 1; then slot 0 is given its page and the drawop, and then there is nothing more.
+abbrev pub stroke : Stroke
+stroke = record { pen = 0; page = first_page; body = 97 ∷ [] }
+
+abbrev draws : Entry
+draws = plain 0 1 (Drew first_page (97 ∷ [])) (Some one) [] None Active
+
+abbrev sends : Entry
+sends = plain 0 1 Ticked None (Data one ∷ []) None Active
+
+abbrev gives : ℕ → Option PageMsg → Entry
+gives slot message = plain 0 1 (Gave slot) None [] message Active
+
+abbrev opens : Entry
+opens = gives 0 (Some (Open first_page))
+
+abbrev shows : Entry
+shows = gives 0 (Some (Draw one))
+
+-- nothing is given in slot 0, and in those behind it
+abbrev nothing_more : List Entry
+nothing_more = gives 0 None ∷ gives 1 None ∷ gives 2 None ∷ gives 3 None ∷ gives 4 None ∷ gives 5 None ∷ gives 6 None ∷ gives 7 None ∷ []
+
+abbrev all_gives : List Entry
+all_gives = opens ∷ shows ∷ nothing_more
+
+abbrev pub entries : List Entry
+entries = draws ∷ sends ∷ all_gives
+
+abbrev one_bytes : List ℕ
+one_bytes = 0x53 ∷ 0x52 ∷ 1 ∷ 1 ∷ 0 ∷ 0 ∷ 0 ∷ 1 ∷ 0 ∷ 0 ∷ 0 ∷ 0 ∷ 0 ∷ 0 ∷ 0 ∷ 0 ∷ 1 ∷ 0 ∷ 0 ∷ 0 ∷ 0 ∷ 0 ∷ 0 ∷ 0 ∷ 1 ∷ 0 ∷ 1 ∷ 97 ∷ []
+
+abbrev out : Out
+out = record { datagram = Data one; bytes = one_bytes }
+
+spelled_so : one_bytes ≡ spelling 1 (Data one)
+unfolding head page_bytes name_bytes drawop_bytes spelling
+spelled_so = refl
+
+-- THE JOURNAL IS LAWFUL
+
+missing_drawn : (n : FullName) → is_missing (draws ∷ []) n ≡ false
+missing_drawn n = none_missing_in (draws ∷ []) one_held (λ n e. ap (λ b. greatest (one_of b ++ [])) e) n
+
+-- a give that the entries before it allow
+gives_right : (past : List Entry) (slot : ℕ) (message : Option PageMsg) → ((n : FullName) → is_missing past n ≡ false) → ((n : FullName) → is_missing (past ++ gives slot message ∷ []) n ≡ false)
+    → ((n : FullName) → fix_running past n ≡ None) → MomentRight (config 0) 0 past (gives slot message) → MessageRight (config 0) past (Gave slot) message → Active ≡ state_due (state past) false (Some (Gave slot))
+    → EntryRight (config 0) 0 (record { before = past; this = gives slot message })
+gives_right past slot message here next fix moment given after = right (config 0) 0 past 0 1 (Gave slot) None [] message Active here next (λ n. refl) fix refl moment refl refl tt tt tt refl given after
+
+abbrev sent : List Entry
+sent = draws ∷ sends ∷ []
+
+abbrev shown : List Entry
+shown = sent ++ opens ∷ shows ∷ []
+
+-- with nothing given in the slots below this one
+abbrev served : ℕ → List Entry
+served below = shown ++ take below nothing_more
+
+each_right : AllByRecursion (EntryRight (config 0) 0) (steps entries)
+each_right = (
+  right (config 0) 0 [] 0 1 (Drew first_page (97 ∷ [])) (Some one) [] None Active missing_none missing_drawn (λ n. refl) (λ n. refl) refl (lit≤ tt) refl refl tt tt tt refl refl refl,
+  (
+    right (config 0) 0 (draws ∷ []) 0 1 Ticked None (Data one ∷ []) None Active missing_drawn missing_drawn (λ n. refl) (λ n. refl) refl (lit≤ tt) refl refl (refl, tt) (one_spelled, tt) tt refl refl refl,
+    (
+      gives_right sent 0 (Some (Open first_page)) missing_drawn missing_drawn (λ n. refl) refl (refl, refl) refl,
+      (
+        gives_right (sent ++ opens ∷ []) 0 (Some (Draw one)) missing_drawn missing_drawn (λ n. refl) refl (refl, refl, refl, refl) refl,
+        (
+          gives_right (served 0) 0 None missing_drawn missing_drawn (λ n. refl) refl ((λ h. h), refl) refl,
+          (
+            gives_right (served 1) 1 None missing_drawn missing_drawn (λ n. refl) refl ((λ h. h), refl) refl,
+            (
+              gives_right (served 2) 2 None missing_drawn missing_drawn (λ n. refl) refl ((λ h. h), refl) refl,
+              (
+                gives_right (served 3) 3 None missing_drawn missing_drawn (λ n. refl) refl ((λ h. h), refl) refl,
+                (
+                  gives_right (served 4) 4 None missing_drawn missing_drawn (λ n. refl) refl ((λ h. h), refl) refl,
+                  (
+                    gives_right (served 5) 5 None missing_drawn missing_drawn (λ n. refl) refl ((λ h. h), refl) refl,
+                    (
+                      gives_right (served 6) 6 None missing_drawn missing_drawn (λ n. refl) refl ((λ h. h), refl) refl,
+                      (
+                        gives_right (served 7) 7 None missing_drawn missing_drawn (λ n. refl) refl ((λ h. h), refl) refl,
+                        tt,
+                      ),
+                    ),
+                  ),
+                ),
+              ),
+            ),
+          ),
+        ),
+      ),
+    ),
+  ),
+)
+
+abbrev one_data : Classed Datagram
+one_data = classed New (Data one)
+
+abbrev goings : List Going
+goings = idle draws ∷ record { entry = sends; goes = one_data ∷ [] } ∷ map idle all_gives
+
+abbrev handed_one : List (Call Datagram)
+handed_one = Handed one_data ∷ []
+
+abbrev went_one : List (Call Datagram)
+went_one = handed_one ++ Popped 1 (Some one_data) ∷ []
+
+law : BucketLaw 8000 4204 (bucket_calls 0 goings)
+law = (hands, (goes, (ends, tt)))
+  where
+    hands : CallRight 8000 4204 [] handed_one (Handed one_data)
+    hands = record { in_order = λ class. (handed class handed_one, refl); highest_first = tt; not_too_much = tt; all_that_may = tt }
+
+    all_gone : (class : Class) → IsPrefixOf (gone class went_one) (handed class went_one)
+    all_gone Shown = ([], refl)
+    all_gone New = ([], refl)
+    all_gone Other = ([], refl)
+
+    none_higher : (class : Class) → rank class < 2 → gone class handed_one ≡ handed class handed_one
+    none_higher Shown l = refl
+    none_higher New l = absurd (omega arith)
+    none_higher Other l = absurd (omega arith)
+
+    goes : CallRight 8000 4204 handed_one went_one (Popped 1 (Some one_data))
+    goes = record { in_order = all_gone; highest_first = none_higher; not_too_much = (lit≤ tt, lit≤ tt, tt); all_that_may = tt }
+
+    ends : CallRight 8000 4204 went_one (went_one ++ Popped 1 None ∷ []) (Popped 1 None)
+    ends = record { in_order = all_gone; highest_first = tt; not_too_much = (lit≤ tt, lit≤ tt, tt); all_that_may = tt }
+
+goings_right : AllByRecursion GoesRight (steps goings)
+goings_right = (idle_right refl, (record { same = refl; at_ticks = tt }, (idle_right refl, (idle_right refl, (idle_right refl, (idle_right refl, (idle_right refl, (idle_right refl, (idle_right refl, (idle_right refl, (idle_right refl, (idle_right refl, tt))))))))))))
+
+pub lawful : IsLawfulJournal (journal entries)
+lawful = lawful_journal (journal entries) (record {
+  run = record { each = each_right; bucket = (goings, refl, goings_right, law) };
+  untaken = (refl, (refl, (refl, (refl, (refl, (refl, (refl, (refl, (refl, (refl, (refl, (refl, tt))))))))))));
+})
+
+-- A WHOLE TURN
+
+abbrev heard : LaneId → WellView → NodeView
+heard lane well = record (before lane well) { told = Some (record { came = None ∷ []; went = [] }) }
+
+abbrev popped : WellView → WellView
+popped well = record well { received = well.received ++ stroke ∷ [] }
+
+abbrev drawn : LaneId → WellView → NodeView
+drawn lane well = record (heard lane well) { journal = journal (draws ∷ []); well = popped well }
+
+abbrev ticked : LaneId → WellView → NodeView
+ticked lane well = record (drawn lane well) { journal = journal (draws ∷ sends ∷ []); told = Some (record { came = None ∷ []; went = bytes_to 1 one_bytes ∷ [] }) }
+
+abbrev pub put : List PageMsg
+put = Open first_page ∷ Draw one ∷ []
+
+-- the node after its turn
+abbrev pub after : LaneId → WellView → NodeView
+after lane well = record (ticked lane well) { journal = journal entries; feeds = feeds put lane }
+
+hears : (lane : LaneId) (well : WellView) → HearsNow 1 false (before lane well) (heard lane well)
+hears lane well = record {
+  listened = record {
+    count = 0;
+    ended = None ∷ [];
+    listens = record { came = []; entries = []; counted = refl; grown = refl; each = tt; told = record { told = refl } };
+    ends = inr (omega arith, refl);
+  };
+  failures = (omega arith, tt);
+  same = refl;
+}
+
+admitted : IsAdmitted 1 (journal []) stroke true
+admitted = record { marked = ([], refl, tt, tt); is = refl }
+
+draws_it : (lane : LaneId) (well : WellView) → DrawsNow 1 true (heard lane well) (drawn lane well)
+draws_it lane well = record {
+  drew = record {
+    count = 1;
+    few = omega arith;
+    draws = record {
+      all = stroke ∷ [];
+      pops = record { popped = stroke ∷ []; received = refl; all_is = refl };
+      draws = record { strokes = stroke ∷ []; entries = draws ∷ []; counted = refl; grown = refl; each = (record { moment = refl; input = refl; admitted = admitted }, tt); all_is = refl };
+    };
+    ends = omega arith;
+  };
+  same = refl;
+}
+
+-- nobody asked to leave
+stays : (lane : LaneId) (well : WellView) → LeavesNow 1 true (drawn lane well) (drawn lane well)
+stays lane well = record { leaves = record { entries = []; grown = refl; moments = tt; once = omega arith; inputs = tt; waits = tt }; same = refl }
+
+ticks_once : (lane : LaneId) (well : WellView) → TicksNow 1 false (drawn lane well) (ticked lane well)
+ticks_once lane well = record {
+  outs = out ∷ [];
+  ticks = record { entry = sends; grown = refl; moment = refl; is_tick = record { input = refl; outs_are = refl; spelled = (record { spelled = record { fits = one_spelled; text = spelled_so } }, tt) } };
+  sends = record { failures = (omega arith, tt); tells = record { told = refl } };
+  same = refl;
+}
+
+pub carries : (lane : LaneId) → CarriesEach (journal entries) (feeds put lane)
+carries lane = at_each (λ slot f. Carries (given entries slot) f) (feeds put lane) (refl, (refl, (refl, (refl, (refl, (refl, (refl, (refl, tt))))))))
+
+pub gives_all : (lane : LaneId) (well : WellView) → GivesNow 8 (ticked lane well) (after lane well)
+gives_all lane well = record {
+  gives = record {
+    entries = all_gives;
+    grown = refl;
+    inputs = (refl, (refl, (refl, (refl, (refl, (refl, (refl, (refl, (refl, (refl, tt))))))))));
+    lawful = lawful;
+    carries = carries lane;
+    slots = refl;
+    same = λ slot f g at_f at_g. at_each (λ k y. (x : FeedView) → slice_get (feeds [] lane) k ≡ Some x → SameFeed x y) (feeds put lane)
+        (is 0 put, (is 1 [], (is 2 [], (is 3 [], (is 4 [], (is 5 [], (is 6 [], (is 7 [], tt)))))))) slot g at_g f at_f;
+    served = λ slot f below at_f. at_each (λ k y. is_served k all_gives y ≡ true) (feeds put lane) (refl, (refl, (refl, (refl, (refl, (refl, (refl, (refl, tt)))))))) slot f at_f;
+  };
+  same = refl;
+}
+  where
+    is : (slot : ℕ) (more : List PageMsg) (x : FeedView) → Some (feed slot [] lane) ≡ Some x → SameFeed x (feed slot more lane)
+    is slot more x at_x = subst (λ (y : FeedView). SameFeed y (feed slot more lane)) (same_Some (feed slot [] lane) x at_x) refl
+
+pub whole : (lane : LaneId) (well : WellView) → Turned false false (before lane well) (after lane well)
+whole lane well = record {
+  now = 1;
+  none_left = true;
+  heard = heard lane well;
+  drawn = drawn lane well;
+  left = drawn lane well;
+  ticked = ticked lane well;
+  hears = hears lane well;
+  draws = draws_it lane well;
+  leaves = stays lane well;
+  ticks = ticks_once lane well;
+  gives = gives_all lane well;
+}
+
+-- what such a turn answers is no fault
+ends_well : (lane : LaneId) (well : WellView) → TurnEnds (Ok tt) (before lane well) (after lane well) ≡ Turned false false (before lane well) (after lane well)
+ends_well lane well = refl
+
+-- WHAT THE WELL GAVE
+
+received_one : DrawsReceived (journal entries) (stroke ∷ []) None
+received_one = refl
+
+-- a stroke that was neither drawn nor kept
+not_dropped : DrawsReceived (journal entries) (stroke ∷ stroke ∷ []) None → ⊥
+not_dropped h = cc
+
+-- the second one is in hand
+keeps_it : DrawsReceived (journal entries) (stroke ∷ stroke ∷ []) (Some stroke)
+keeps_it = refl
+
+-- A TURN THAT IS CUT
+
+-- Memory ran out for the stroke, which is in hand then.
+abbrev cut : LaneId → WellView → NodeView
+cut lane well = record (heard lane well) { well = popped well; hand = Some stroke }
+
+draws_none : (lane : LaneId) (well : WellView) → DrawsCut 1 (heard lane well) (cut lane well)
+draws_none lane well = record {
+  drew = record {
+    count = 0;
+    few = omega arith;
+    draws = record {
+      all = stroke ∷ [];
+      pops = record { popped = stroke ∷ []; received = refl; all_is = refl };
+      draws = record { strokes = []; entries = []; counted = refl; grown = refl; each = tt; all_is = refl };
+    };
+    in_hand = refl;
+  };
+  same = refl;
+}
+
+cut_drawing : (lane : LaneId) (well : WellView) → IsCut (before lane well) (cut lane well)
+cut_drawing lane well = inr (inl (record { now = 1; unheard = false; heard = heard lane well; hears = hears lane well; draws = draws_none lane well }))
+
+-- where the stroke isn't in hand the turn isn't cut so
+not_lost : (lane : LaneId) (well : WellView) → DrawsCut 1 (heard lane well) (record (cut lane well) { hand = None }) → ⊥
+not_lost lane well h = let some : false ≡ true = h.drew.in_hand in cc
