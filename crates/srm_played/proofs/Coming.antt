@@ -1,0 +1,165 @@
+-- What came in an entry, as entries are added.
+use Rattle.std.proofs.Common.{◌≡◌, ℕ, suc, ◌+◌, Bool, true, false, List, [], ◌∷◌, ◌++◌, length, refl, ap, sym, ◌∙◌, subst, arith}
+use Rattle.std.specs.Prelude.{Option, Some, None, option_map, option_to_list, slice_get, map, nat_lt, cond}
+use Rattle.std.specs.List.{AllByRecursion, enumerate_from, flat_map}
+use Rattle.std.proofs.lemmas.Option.{same_Some}
+use Rattle.std.proofs.lemmas.List.{map-append, append-nil}
+use Rattle.srm_names.specs.Histories.{steps, steps_after}
+use Rattle.srm_names.proofs.Snoc.{steps-snoc}
+use Rattle.srm_names.proofs.Lists.{slice_get-front}
+use Rattle.srm_codec.specs.declared.datagram.Datagram.{Datagram}
+use Rattle.srm_entries.specs.declared.entry.Entry.{Entry}
+use Rattle.srm_entries.specs.declared.entry.Input.{Input}
+use Rattle.srm_entries.specs.declared.entry.Input.TheVariants.{Drew, Ticked, Showed, AskedLeave, Gave, Took}
+use Rattle.srm_entries.specs.Entries.{sent, is_gone, state}
+use Rattle.srm_entries.proofs.Adding.{flat_map-snoc}
+use Rattle.srm_world.specs.declared.start.Start.{Start}
+use Rattle.srm_world.specs.declared.event.Event.{Event}
+use Rattle.srm_world.specs.declared.event.Event.TheVariants.{Draw, Deliver, Tick, Show, Leave, Give, Take}
+use Rattle.srm_world.specs.Traces.{of_member}
+use Rattle.srm_world.specs.Events.{asked, comes, input_of, in_slot, member_of}
+use Rattle.srm_picture.specs.declared.arrow.Hearing.{Hearing}
+use Rattle.srm_picture.specs.declared.place.Place.{Place}
+use Rattle.srm_picture.specs.Rows.{by_row, place_of}
+use Rattle.srm_picture.specs.Arrows.{IsComing, IsHearing, AreHearings, something_comes, coming_in}
+use Rattle.srm_picture.proofs.Rows.{enumerate_from-append}
+use Rattle.srm_played.specs.Plays.{came, hearing_in, number_in}
+
+length-steps_after : {X : Type 0} (before xs : List X) → length (steps_after before xs) ≡ length xs
+length-steps_after before [] = refl
+length-steps_after before (x ∷ xs) = ap suc (length-steps_after (before ++ x ∷ []) xs)
+
+at_end : {X : Type 0} (xs : List X) (x : X) → slice_get (xs ++ x ∷ []) (length xs) ≡ Some x
+at_end [] x = refl
+at_end (y ∷ xs) x = at_end xs x
+
+newest_step : (es : List Entry) (e : Entry) → slice_get (steps (es ++ e ∷ [])) (length es) ≡ Some (record { before = es; this = e })
+newest_step es e =
+    ap (λ ss. slice_get ss (length es)) (steps-snoc es e) ∙ ap (λ n. slice_get (steps es ++ record { before = es; this = e } ∷ []) n) (sym (length-steps_after [] es)) ∙ at_end (steps es) (record { before = es; this = e })
+
+-- a hearing stays one as more happens
+still : (es : List Entry) (e : Entry) (h : Hearing) → IsHearing es h → IsHearing (es ++ e ∷ []) h
+still es e h is = record {
+  step = is.step;
+  datagram = is.datagram;
+  at = slice_get-front (steps es) (steps (es ++ e ∷ [])) h.at.row is.step (record { before = es; this = e } ∷ [], sym (steps-snoc es e)) is.at;
+  member = is.member;
+  sent = is.sent;
+  comes = is.comes;
+  taken = is.taken;
+}
+
+all_still : (es : List Entry) (e : Entry) (hs : List Hearing) → AllByRecursion (IsHearing es) hs → AllByRecursion (IsHearing (es ++ e ∷ [])) hs
+all_still es e [] all = tt
+all_still es e (h ∷ hs) all = (still es e h all.0, all_still es e hs all.1)
+
+all_join : {X : Type 0} (P : X → Type 0) (xs ys : List X) → AllByRecursion P xs → AllByRecursion P ys → AllByRecursion P (xs ++ ys)
+all_join P [] ys all more = more
+all_join P (x ∷ xs) ys all more = (all.0, all_join P xs ys all.1 more)
+
+comings-snoc : (es : List Entry) (e : Entry) → by_row coming_in (es ++ e ∷ []) ≡ by_row coming_in es ++ coming_in (length es, e)
+comings-snoc es e =
+    ap flat (enumerate_from-append 0 es (e ∷ [])) ∙ flat_map-snoc coming_in (enumerate_from 0 es) (0 + length es, e) ∙ ap (λ n. by_row coming_in es ++ coming_in (n, e)) (zero_more (length es))
+  where
+    flat : List (ℕ × Entry) → List Place
+    flat rs = flat_map coming_in rs
+
+    zero_more : (n : ℕ) → 0 + n ≡ n
+    zero_more n = omega arith
+
+-- what an event asks
+
+asked_input : (starts : List Start) (es : List Entry) (event : Event) (input : Input) → asked starts es event ≡ Some input → input_of es event ≡ Some input
+asked_input starts es event input e = which (nat_lt (member_of event) (length starts)) (input_of es event) e
+  where
+    which : (b : Bool) (o : Option Input) → cond b o None ≡ Some input → o ≡ Some input
+    which true o e = e
+    which false o e = absurd (cc)
+
+-- the datagram that a delivery delivers
+delivered : (gone : Bool) (o : Option Datagram) (input : Input) → option_map (comes gone) o ≡ Some input → (g : Datagram) × (o ≡ Some g) × (input ≡ comes gone g)
+delivered gone None input e = absurd (cc)
+delivered gone (Some g) input e = (g, refl, sym (same_Some (comes gone g) input e))
+
+comes_so : (gone : Bool) (g : Datagram) → IsComing g (comes gone g)
+comes_so true g = tt
+comes_so false g = refl
+
+something : (gone : Bool) (g : Datagram) → something_comes (comes gone g) ≡ true
+something true g = refl
+something false g = refl
+
+slot_quiet : (slot : ℕ) (input made : Input) → in_slot slot made ≡ Some input → something_comes made ≡ false → something_comes input ≡ false
+slot_quiet slot input made e quiet = which (nat_lt slot 8) e
+  where
+    which : (b : Bool) → cond b (Some made) None ≡ Some input → something_comes input ≡ false
+    which true e = ap something_comes (sym (same_Some made input e)) ∙ quiet
+    which false e = absurd (cc)
+
+-- an event that delivers nothing brings nothing
+quiet : (es : List Entry) (event : Event) (input : Input) → number_in event ≡ None → input_of es event ≡ Some input → something_comes input ≡ false
+quiet es (Draw member now page body) input none e = ap something_comes (sym (same_Some (Drew page body) input e))
+quiet es (Deliver member now index) input none e = absurd (cc)
+quiet es (Tick member now) input none e = ap something_comes (sym (same_Some Ticked input e))
+quiet es (Show member now page) input none e = ap something_comes (sym (same_Some (Showed page) input e))
+quiet es (Leave member now) input none e = ap something_comes (sym (same_Some AskedLeave input e))
+quiet es (Give member slot) input none e = slot_quiet slot input (Gave slot) e refl
+quiet es (Take member slot) input none e = slot_quiet slot input (Took slot) e refl
+
+-- what a delivery brings
+record Brings (es : List Entry) (number : ℕ) (input : Input) : Type 0 where
+  pub datagram : Datagram
+  pub sent : slice_get (sent es) number ≡ Some datagram
+  pub comes : IsComing datagram input
+  pub something : something_comes input ≡ true
+
+brings : (es : List Entry) (event : Event) (number : ℕ) (input : Input) → number_in event ≡ Some number → input_of es event ≡ Some input → Brings es number input
+brings es (Deliver member now index) number input n e =
+    let (g, there, is) = delivered (is_gone (state (of_member member es))) (slice_get (sent es) index) input e in
+    record {
+      datagram = g;
+      sent = ap (slice_get (sent es)) (sym (same_Some index number n)) ∙ there;
+      comes = subst (IsComing g) (sym is) (comes_so (is_gone (state (of_member member es))) g);
+      something = ap something_comes is ∙ something (is_gone (state (of_member member es))) g;
+    }
+brings es (Draw member now page body) number input n e = absurd (cc)
+brings es (Tick member now) number input n e = absurd (cc)
+brings es (Show member now page) number input n e = absurd (cc)
+brings es (Leave member now) number input n e = absurd (cc)
+brings es (Give member slot) number input n e = absurd (cc)
+brings es (Take member slot) number input n e = absurd (cc)
+
+-- one entry more
+
+come_one : (row : ℕ) (e : Entry) → something_comes e.input ≡ true → coming_in (row, e) ≡ place_of (row, e) ∷ []
+come_one row e some = ap (λ b. cond b (place_of (row, e) ∷ []) []) some
+
+come_none : (row : ℕ) (e : Entry) → something_comes e.input ≡ false → coming_in (row, e) ≡ []
+come_none row e none = ap (λ b. cond b (place_of (row, e) ∷ []) []) none
+
+right_one : (es : List Entry) (e : Entry) (hs : List Hearing) (number : ℕ) → Brings es number e.input → AreHearings es hs → AreHearings (es ++ e ∷ []) (hs ++ hearing_in (length es, e) number ∷ [])
+right_one es e hs number b all = record {
+  each = all_join (IsHearing (es ++ e ∷ [])) hs (hearing_in (length es, e) number ∷ []) (all_still es e hs all.each) (newest, tt);
+  places = map-append (λ (x : Hearing). x.at) hs (hearing_in (length es, e) number ∷ []) ∙ ap (λ ps. ps ++ place_of (length es, e) ∷ []) all.places
+      ∙ ap (λ ps. by_row coming_in es ++ ps) (sym (come_one (length es) e b.something)) ∙ sym (comings-snoc es e);
+}
+  where
+    newest : IsHearing (es ++ e ∷ []) (hearing_in (length es, e) number)
+    newest = record { step = record { before = es; this = e }; datagram = b.datagram; at = newest_step es e; member = refl; sent = b.sent; comes = b.comes; taken = refl }
+
+right_none : (es : List Entry) (e : Entry) (hs : List Hearing) → something_comes e.input ≡ false → AreHearings es hs → AreHearings (es ++ e ∷ []) (hs ++ [])
+right_none es e hs none all = record {
+  each = all_join (IsHearing (es ++ e ∷ [])) hs [] (all_still es e hs all.each) tt;
+  places = ap (map (λ (x : Hearing). x.at)) (append-nil hs) ∙ all.places ∙ sym (comings-snoc es e ∙ ap (λ ps. by_row coming_in es ++ ps) (come_none (length es) e none) ∙ append-nil (by_row coming_in es));
+}
+
+-- an event that left an entry
+pub right_more : (starts : List Start) (es : List Entry) (event : Event) (e : Entry) (hs : List Hearing) → asked starts es event ≡ Some e.input → AreHearings es hs → AreHearings (es ++ e ∷ []) (hs ++ came (number_in event) (length es, e))
+right_more starts es event e hs asks all = which (number_in event) refl
+  where
+    asks_it : input_of es event ≡ Some e.input
+    asks_it = asked_input starts es event e.input asks
+
+    which : (o : Option ℕ) → number_in event ≡ o → AreHearings (es ++ e ∷ []) (hs ++ came o (length es, e))
+    which (Some number) is = right_one es e hs number (brings es event number e.input is asks_it) all
+    which None is = right_none es e hs (quiet es event e.input is asks_it) all

@@ -1,0 +1,4 @@
+pub mod Examples
+pub mod Played
+pub mod Plays
+pub mod Statuses

@@ -1,0 +1,49 @@
+-- What the events of a script come to: the trace of a world, and which datagram came in which entry.
+use Rattle.std.specs.Prelude.{◌≡◌, ℕ, List, [], ◌∷◌, ◌++◌, length, drop, Option, Some, None, option_map, option_to_list}
+use Rattle.std.specs.List.{flat_map, enumerate_from}
+use Rattle.srm_entries.specs.declared.entry.Entry.{Entry}
+use Rattle.srm_world.specs.declared.start.Start.{Start}
+use Rattle.srm_world.specs.declared.event.Event.{Event}
+use Rattle.srm_world.specs.declared.event.Event.TheVariants.{Deliver}
+use Rattle.srm_world.specs.Traces.{Trace}
+use Rattle.srm_world.specs.Events.{FollowsOne}
+use Rattle.srm_picture.specs.declared.arrow.Hearing.{Hearing}
+use Rattle.srm_picture.specs.Rows.{place_of}
+use Rattle.srm_picture.specs.Arrows.{is_done}
+
+-- what happened, and which datagrams came in which entries
+pub record Content : Type 0 where
+  pub trace : Trace
+  pub hearings : List Hearing
+
+-- members that began so, and did nothing yet
+abbrev pub unplayed : List Start → Content
+unplayed starts = record { trace = record { starts = starts; entries = [] }; hearings = [] }
+
+-- the number of the datagram that an event delivers
+abbrev pub number_in : Event → Option ℕ
+number_in (Deliver member now index) = Some index
+number_in _ = None
+
+-- that the datagram with this number came in an entry
+abbrev pub hearing_in : ℕ × Entry → ℕ → Hearing
+hearing_in r number = record { number = number; at = place_of r; taken = is_done r.1.verdict }
+
+-- what came in an entry, by the number that its event has
+abbrev pub came : Option ℕ → ℕ × Entry → List Hearing
+came number r = option_to_list (option_map (hearing_in r) number)
+
+-- the new entries behind the old ones, each with its row
+abbrev pub added : List Entry → List Entry → List (ℕ × Entry)
+added old new = enumerate_from (length old) (drop (length old) new)
+
+-- an event: the trace goes on as that of a world, and what came in the entry that was added, if one was, is noted
+pub record PlaysOne (old : Content) (event : Event) (new : Content) : Type 0 where
+  pub starts : new.trace.starts ≡ old.trace.starts
+  pub follows : FollowsOne old.trace.starts old.trace.entries event new.trace.entries
+  pub hearings : new.hearings ≡ old.hearings ++ flat_map (came (number_in event)) (added old.trace.entries new.trace.entries)
+
+-- events in order
+abbrev pub Plays : Content → List Event → Content → Type 0
+Plays old [] new = new ≡ old
+Plays old (event ∷ events) new = (between : Content) × PlaysOne old event between × Plays between events new

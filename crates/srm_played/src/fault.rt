@@ -1,0 +1,55 @@
+//! Why there is no picture of a script.
+
+ghost use Rattle.std.specs.Prelude.{◌≡◌};
+ghost use Rattle.srm_script.specs.declared.fault.Fault.TheVariants.{Memory};
+ghost use Rattle.srm_played.specs.declared.fault.PictureFault.TheVariants.{Script};
+ghost use Rattle.srm_played.specs.Statuses.{status_of};
+
+use crate::limits::EVENTS;
+use srm_script::Fault;
+use std::alloc::AllocError;
+use std::io::Write;
+use thiserror::Error;
+
+/// Why there is no picture of a script. Its text is the line that standard error gets.
+#[derive(Debug, Drop, PartialEq, Eq, Error)]
+pub enum PictureFault {
+    /// The script can't be read or has a bad line, the output can't be written, or memory ran out.
+    #[error("{0}")]
+    Script(Fault),
+    /// The script has more than [`EVENTS`] events.
+    #[error("more than {EVENTS} events")]
+    TooManyEvents,
+}
+
+impl PictureFault {
+    /// Prints the fault on standard error, and answers the status that the program ends with.
+    pub fn tell<E: Write>(&self, err: &mut E) -> u8
+        ensures { result ≡ status_of self.now }
+    {
+        match self {
+            PictureFault::Script(fault) => fault.tell(err),
+            PictureFault::TooManyEvents => {
+                // Where this can't be written there is nobody left to tell.
+                let _ = writeln!(err, "{self}");
+                1
+            }
+        }
+    }
+}
+
+impl From<Fault> for PictureFault {
+    ghost from_gives = { λ fault gives. gives ≡ Script fault };
+
+    fn from(fault: Fault) -> PictureFault {
+        PictureFault::Script(fault)
+    }
+}
+
+impl From<AllocError> for PictureFault {
+    ghost from_gives = { λ _ gives. gives ≡ Script Memory };
+
+    fn from(_error: AllocError) -> PictureFault {
+        PictureFault::Script(Fault::Memory)
+    }
+}

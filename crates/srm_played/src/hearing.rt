@@ -1,0 +1,60 @@
+//! Which datagram came in an entry.
+
+ghost use Rattle.std.specs.Prelude.{◌≡◌, ◌<◌, ◌++◌, vec_len, vec_capacity, OnOk, OnErr};
+ghost use Rattle.srm_world.specs.Events.{IsTimely};
+ghost use Rattle.srm_played.specs.Plays.{PlaysOne, came, number_in};
+
+use srm_agent::{Entry, Verdict};
+use srm_picture::{Hearing, Place};
+use srm_timers::Listed;
+use srm_world::{Event, World, WorldFault};
+
+/// Applies an event to a world, and notes the datagram that came, where one did. Answers whether the event left an entry. Refused is want of
+/// memory, and then all is as before.
+pub(crate) fn advance(
+    world: &mut World<Listed>,
+    hearings: &mut Vec<Hearing>,
+    event: Event,
+) -> Result<bool, WorldFault>
+    requires { IsTimely event }
+    ensures plays { OnOk result (PlaysOne (record { trace = world.old.trace; hearings = hearings.old.items }) event (record { trace = world.new.trace; hearings = hearings.new.items })) }
+    ensures world { OnErr result (world.new.trace ≡ world.old.trace) }
+    ensures hearings { OnErr result (hearings.new.items ≡ hearings.old.items) }
+{
+    let number = number_of(&event);
+    let row = world.trace().entries().len();
+    hearings.reserve(1)?;
+    if !world.apply(event)? {
+        return Ok(false);
+    }
+    note(hearings, number, row, &world.trace().entries()[row]);
+    Ok(true)
+}
+
+/// The number of the datagram that an event delivers, if it delivers one.
+fn number_of(event: &Event) -> Option<usize>
+    ensures { result ≡ number_in event.now }
+{
+    match event {
+        Event::Deliver { index, .. } => Some(*index),
+        _ => None,
+    }
+}
+
+/// Notes that the datagram with this number came in an entry, where there is a number. There is room for it.
+fn note(hearings: &mut Vec<Hearing>, number: Option<usize>, row: usize, entry: &Entry)
+    requires { vec_len hearings.old < vec_capacity hearings.old }
+    ensures { hearings.new.items ≡ hearings.old.items ++ came number (row, entry.now) }
+{
+    let Some(number) = number else {
+        return;
+    };
+    let _ = hearings.push(Hearing {
+        number,
+        at: Place {
+            row,
+            member: entry.member,
+        },
+        taken: matches!(entry.verdict, Verdict::Done),
+    });
+}

@@ -1,0 +1,24 @@
+//! Scripts that were played, and their pictures.
+//!
+//! ```
+//! let played = play(alloc, read_script(alloc, text)?)?;
+//! write_svg(alloc, &mut out, &played.session(), &played.picture(alloc)?)?;
+//! ```
+//!
+//! [`play`] plays a script to its end and keeps which datagram came in which entry, so that `srm_picture` can draw it. [`run_picture`] is the
+//! whole of `srm picture`, over any streams.
+//!
+//! **What is refused.** What `srm_script` refuses of a script, and one of more than [`EVENTS`] events. [`PictureFault`] has the text and the
+//! status of each.
+#![tactic(auto)]
+
+mod fault;
+mod hearing;
+mod limits;
+mod played;
+mod run;
+
+pub use fault::PictureFault;
+pub use limits::EVENTS;
+pub use played::{Played, play};
+pub use run::run_picture;

@@ -1,0 +1,135 @@
+//! Scripts that were played.
+
+ghost use Rattle.std.specs.Prelude.{◌≡◌, ◌<◌, ◌↔◌, Err, length, All, IfOk};
+ghost use Rattle.srm_world.specs.Traces.{IsRoster, started};
+ghost use Rattle.srm_world.specs.Events.{IsTimely};
+ghost use Rattle.srm_played.specs.Plays.{Plays, unplayed};
+ghost use Rattle.srm_played.specs.declared.fault.PictureFault.TheVariants.{TooManyEvents};
+
+use crate::fault::PictureFault;
+use crate::hearing::advance;
+use crate::limits::EVENTS;
+use srm_agent::Config;
+use srm_picture::{Hearing, Picture, Session};
+use srm_script::{Fault, Report, Script, print_newest};
+use srm_timers::Listed;
+use srm_world::{Event, World};
+use std::alloc::{AllocError, Global};
+use std::marker::Model;
+
+/// A world that played a script to its end. Contracts see what happened, and which datagrams came in which entries.
+#[derive(Drop)]
+pub struct Played {
+    world: World<Listed>,
+    hearings: Vec<Hearing>,
+    /// The lines of each entry, as `srm world` prints them with timers.
+    lines: Vec<Vec<u8>>,
+}
+
+impl Model for Played {
+    ghost use Rattle.srm_played.specs.Plays.{Content};
+    ghost use Rattle.srm_played.specs.Played.{content_of, IsPlayed};
+
+    ghost Value = { Content };
+
+    ghost view = { content_of };
+
+    ghost invariant = { IsPlayed };
+}
+
+/// Plays a script to its end. Refused is a script of more than [`EVENTS`] events, before any is played, and want of memory.
+pub fn play(alloc: Global, script: Script) -> Result<Played, PictureFault>
+    requires roster { IsRoster (started script.configs.items) }
+    requires words { length script.words.items ≡ length script.configs.items }
+    requires timely { All IsTimely script.events.items }
+    ensures refused { (result ≡ Err TooManyEvents) ↔ (EVENTS < length script.events.items) }
+    ensures plays { IfOk result (Plays (unplayed (started script.configs.items)) script.events.items) }
+{
+    if script.events.len() > EVENTS {
+        return Err(PictureFault::TooManyEvents);
+    }
+    let Script {
+        configs,
+        words,
+        events,
+        ..
+    } = script;
+    let mut played = Played::new(alloc, configs, words)?;
+    played.run(alloc, events)?;
+    Ok(played)
+}
+
+impl Played {
+    ghost use Rattle.std.specs.Prelude.{◌≡◌, length, All, IfOk, OnOk};
+    ghost use Rattle.srm_world.specs.Traces.{IsRoster, started};
+    ghost use Rattle.srm_world.specs.Events.{IsTimely};
+    ghost use Rattle.srm_picture.specs.Arrows.{AreHearings};
+    ghost use Rattle.srm_picture.specs.Pictures.{Draws};
+    ghost use Rattle.srm_played.specs.Plays.{Plays, PlaysOne, unplayed};
+
+    /// The picture of what happened. Only want of memory refuses it.
+    pub fn picture(&self, alloc: Global) -> Result<Picture, AllocError>
+        ensures draws { IfOk result (Draws self.now.trace.entries self.now.hearings) }
+        ensures heard { AreHearings self.now.trace.entries self.now.hearings }
+    {
+        Picture::of(alloc, self.world.trace().entries(), self.hearings.as_slice())
+    }
+
+    /// What is drawn beside the shapes of its picture. It takes no memory.
+    pub fn session(&self) -> Session<'_>
+        ensures members { result.members ≡ length self.now.trace.starts }
+        ensures entries { result.entries.now ≡ self.now.trace.entries }
+    {
+        Session {
+            members: self.members(),
+            entries: self.world.trace().entries(),
+            lines: self.lines.as_slice(),
+        }
+    }
+
+    /// How many members there are, as the settings of each say.
+    fn members(&self) -> u8
+        ensures { result ≡ length self.now.trace.starts }
+    {
+        self.world.trace().starts()[0].config.members()
+    }
+
+    /// A world in which nothing happened yet.
+    fn new(alloc: Global, configs: Vec<Config>, words: Vec<Listed>) -> Result<Played, AllocError>
+        requires roster { IsRoster (started configs.items) }
+        requires words { length words.items ≡ length configs.items }
+        ensures { IfOk result (λ played. played ≡ unplayed (started configs.items)) }
+    {
+        Ok(Played {
+            world: World::new(alloc, configs, words)?,
+            hearings: Vec::new(alloc),
+            lines: Vec::new(alloc),
+        })
+    }
+
+    /// Plays events in order. Refused is [`Fault::Memory`] alone.
+    #[tactic(auto, using(crate::proofs::Playing::reaches_none, crate::proofs::Playing::reaches_more, crate::proofs::Playing::reaches_all))]
+    fn run(&mut self, alloc: Global, events: Vec<Event>) -> Result<(), Fault>
+        requires { All IsTimely events.items }
+        ensures { OnOk result (Plays self.old events.items self.new) }
+    {
+        let mut report = Report::new(true);
+        for event in events {
+            self.apply(alloc, &mut report, event)?;
+        }
+        Ok(())
+    }
+
+    /// Plays an event, and keeps the lines of what it did.
+    fn apply(&mut self, alloc: Global, report: &mut Report, event: Event) -> Result<(), Fault>
+        requires { IsTimely event }
+        ensures { OnOk result (PlaysOne self.old event self.new) }
+    {
+        if advance(&mut self.world, &mut self.hearings, event)? {
+            let mut lines = Vec::new(alloc);
+            print_newest(&self.world, report, &mut lines).map_err(Fault::of_output)?;
+            self.lines.push(lines).map_err(AllocError::from)?;
+        }
+        Ok(())
+    }
+}
