@@ -1,6 +1,6 @@
 -- What came in an entry, as entries are added.
 use Rattle.std.proofs.Common.{◌≡◌, ℕ, suc, ◌+◌, Bool, true, false, List, [], ◌∷◌, ◌++◌, length, refl, ap, sym, ◌∙◌, subst, arith}
-use Rattle.std.specs.Prelude.{Option, Some, None, option_map, option_to_list, slice_get, map, nat_lt, cond}
+use Rattle.std.specs.Prelude.{Option, Some, None, option_map, slice_get, map, nat_lt, cond}
 use Rattle.std.specs.List.{AllByRecursion, enumerate_from, flat_map}
 use Rattle.std.proofs.lemmas.Option.{same_Some}
 use Rattle.std.proofs.lemmas.List.{map-append, append-nil}

@@ -72,7 +72,11 @@ impl Played {
         ensures draws { IfOk result (Draws self.now.trace.entries self.now.hearings) }
         ensures heard { AreHearings self.now.trace.entries self.now.hearings }
     {
-        Picture::of(alloc, self.world.trace().entries(), self.hearings.as_slice())
+        Picture::of(
+            alloc,
+            self.world.trace().entries(),
+            self.hearings.as_slice(),
+        )
     }
 
     /// What is drawn beside the shapes of its picture. It takes no memory.
@@ -125,11 +129,21 @@ impl Played {
         requires { IsTimely event }
         ensures { OnOk result (PlaysOne self.old event self.new) }
     {
-        if advance(&mut self.world, &mut self.hearings, event)? {
-            let mut lines = Vec::new(alloc);
-            print_newest(&self.world, report, &mut lines).map_err(Fault::of_output)?;
-            self.lines.push(lines).map_err(AllocError::from)?;
+        if !advance(&mut self.world, &mut self.hearings, event)? {
+            return Ok(());
         }
-        Ok(())
+        keep_lines(alloc, &self.world, report, &mut self.lines)
     }
+}
+
+/// Keeps the lines of a world's newest entry.
+fn keep_lines(
+    alloc: Global,
+    world: &World<Listed>,
+    report: &mut Report,
+    lines: &mut Vec<Vec<u8>>,
+) -> Result<(), Fault> {
+    let mut printed = Vec::new(alloc);
+    print_newest(world, report, &mut printed).map_err(Fault::of_output)?;
+    Ok(lines.push(printed).map_err(AllocError::from)?)
 }
