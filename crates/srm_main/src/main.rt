@@ -1,8 +1,9 @@
-//! The program: a world of scripts, and a member over UDP.
+//! The program: a world of scripts, pictures of it, and a member over UDP.
 #![tactic(auto)]
 
 use srm_member::{print_reply, run_node};
-use srm_options::read_world;
+use srm_options::{read_picture, read_world};
+use srm_played::run_picture;
 use srm_script::{Fault, run_script};
 use std::alloc::{AllocError, Global};
 use std::io::{ErrorKind, Write, writer};
@@ -25,6 +26,10 @@ fn main(rt: HostRuntime) -> ExitCode {
     };
     let status = match texts.as_slice() {
         ["node", words @ ..] => run_node(&rt, words, &mut rt.stdin(), &mut writer(&rt), &mut err),
+        ["picture", words @ ..] => match read_picture(alloc, words) {
+            Ok(()) => run_picture(alloc, &mut rt.stdin(), &mut writer(&rt), &mut err),
+            Err(reply) => print_reply(&reply, &mut writer(&rt), &mut err),
+        },
         words => match read_world(alloc, words) {
             Ok(()) => run_script(alloc, &mut rt.stdin(), &mut writer(&rt), &mut err),
             Err(reply) => print_reply(&reply, &mut writer(&rt), &mut err),

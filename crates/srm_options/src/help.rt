@@ -6,6 +6,22 @@ pub const ABOUT: &str = "A drawing that its members keep in step over lossy data
 /// What `srm world` does.
 pub const WORLD: &str = "Plays a script of several members of one session, and prints what happens";
 
+/// What `srm picture` does.
+pub const PICTURE: &str = "Plays a script as `srm world` does, and writes a picture of it as SVG";
+
+/// What `srm picture --help` prints.
+pub const PICTURE_HELP: &str = "usage: srm picture < SCRIPT > PICTURE.svg
+
+Plays a script as `srm world` does, of at most 2000 events, and writes a picture
+of it as SVG: a lifeline for each member, time downwards, each datagram an arrow
+from its sending to each hearing, timers as brackets from set to end. A shape's
+title has the lines that `srm world` prints of it. `srm world --help` says what a
+script is.
+
+Status: 0; 1 for a bad line, a script of more than 1000000 bytes or 2000 events,
+or a stream that fails; 2 for a wrong command line; 4 for want of memory.
+";
+
 /// What `srm node` does.
 pub const NODE: &str =
     "A member over UDP: draws the lines of standard input, and prints what its page workers took";

@@ -7,18 +7,20 @@
 //! }
 //! ```
 //!
-//! **What is refused.** Whatever isn't a command line of `srm world` or `srm node` gets a [`Reply`]: the help or the version where it asks for
-//! one, what is wrong in it, or that memory ran out.
+//! **What is refused.** Whatever isn't a command line of `srm world`, `srm picture` or `srm node` gets a [`Reply`]: the help or the version where
+//! it asks for one, what is wrong in it, or that memory ran out.
 #![tactic(auto)]
 
 mod help;
 mod mistake;
 mod node;
 mod node_options;
+mod picture;
 mod reply;
 mod world;
 
 pub use node::read_node;
 pub use node_options::NodeOptions;
+pub use picture::read_picture;
 pub use reply::{Reply, Text};
 pub use world::read_world;

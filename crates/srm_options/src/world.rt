@@ -2,12 +2,13 @@
 
 use crate::help::{ABOUT, WORLD, WORLD_HELP};
 use crate::node::node_command;
+use crate::picture::picture_command;
 use crate::reply::Reply;
 use clap::error::ErrorKind;
 use clap::{Command, Error};
 use std::alloc::{AllocError, Global};
 
-/// Reads the words behind `srm`, of which the first isn't `node`: Ok where they ask for `srm world`.
+/// Reads the words behind `srm`, of which the first isn't `node` or `picture`: Ok where they ask for `srm world`.
 pub fn read_world<'a>(alloc: Global, words: &'a [&'a str]) -> Result<(), Reply> {
     let Ok(mut command) = srm_command(alloc) else {
         return Err(Reply::Memory);
@@ -18,7 +19,8 @@ pub fn read_world<'a>(alloc: Global, words: &'a [&'a str]) -> Result<(), Reply> 
     };
     match matches.subcommand_name() {
         Some("world") => Ok(()),
-        _ => Err(told(&mut command)),
+        Some("picture") => Err(told(&mut command, "'picture' has to be the first word")),
+        _ => Err(told(&mut command, "'node' has to be the first word")),
     }
 }
 
@@ -33,15 +35,13 @@ fn srm_command<'a>(alloc: Global) -> Result<Command<'a>, AllocError> {
         .about(ABOUT)
         .subcommand_required(true)
         .subcommand(world)?
+        .subcommand(picture_command(alloc)?)?
         .subcommand(node_command(alloc)?)
 }
 
-/// That `node` comes first, for a caller who reads it here.
-fn told(command: &mut Command<'_>) -> Reply {
-    match command.error(
-        ErrorKind::InvalidSubcommand,
-        "'node' has to be the first word",
-    ) {
+/// That `node` or `picture` comes first, for a caller who reads it here.
+fn told(command: &mut Command<'_>, text: &str) -> Reply {
+    match command.error(ErrorKind::InvalidSubcommand, text) {
         Ok(error) => Reply::from(error),
         Err(error) => Reply::from(Error::from(error)),
     }

@@ -1,0 +1,27 @@
+//! The command line of `srm picture`.
+
+use crate::help::{PICTURE, PICTURE_HELP};
+use crate::reply::Reply;
+use clap::Command;
+use std::alloc::{AllocError, Global};
+
+/// Reads the words behind `srm picture`, which takes none: Ok where there are none.
+pub fn read_picture<'a>(alloc: Global, words: &'a [&'a str]) -> Result<(), Reply> {
+    let Ok(mut command) = picture_command(alloc) else {
+        return Err(Reply::Memory);
+    };
+    match command.try_get_matches_from_mut(words) {
+        Ok(_) => Ok(()),
+        Err(error) => Err(Reply::from(error)),
+    }
+}
+
+/// The command, for its own words and for the help on all commands.
+pub(crate) fn picture_command<'a>(alloc: Global) -> Result<Command<'a>, AllocError> {
+    let command = Command::new(alloc, "picture")
+        .bin_name("srm picture")?
+        .no_binary_name(true)
+        .about(PICTURE)
+        .override_help(PICTURE_HELP);
+    Ok(command)
+}

@@ -1,0 +1,91 @@
+//! How many shapes of each kind a picture has.
+
+use srm_picture::{End, Ending, Kind, Picture, TickKind};
+use srm_played::{PictureFault, play};
+use srm_script::read_script;
+use std::alloc::Global;
+
+/// How many shapes of each kind a picture has.
+#[derive(Clone, Copy, Debug, PartialEq, Eq)]
+pub(crate) struct Counts {
+    /// Arrows of data, requests, repairs and session messages.
+    pub arrows: [usize; 4],
+    /// Arrows that were ignored, and that were never delivered.
+    pub crosses: [usize; 2],
+    /// Timers that ran out, backed off, were cancelled, and still run.
+    pub brackets: [usize; 4],
+    /// Drawops drawn, given and taken, other things, and members gone.
+    pub ticks: [usize; 5],
+}
+
+/// The counts of a script's picture.
+pub(crate) fn counts_of(alloc: Global, script: &str) -> Result<Counts, PictureFault> {
+    let picture = picture_of(alloc, script)?;
+    Ok(Counts {
+        arrows: [
+            arrows(&picture, Kind::Data),
+            arrows(&picture, Kind::Request),
+            arrows(&picture, Kind::Repair),
+            arrows(&picture, Kind::Session),
+        ],
+        crosses: [ignored(&picture), lost(&picture)],
+        brackets: [
+            brackets(&picture, Some(Ending::RanOut)),
+            brackets(&picture, Some(Ending::BackedOff)),
+            brackets(&picture, Some(Ending::Cancelled)),
+            brackets(&picture, None),
+        ],
+        ticks: [
+            ticks(&picture, TickKind::Drew),
+            ticks(&picture, TickKind::Gave),
+            ticks(&picture, TickKind::Took),
+            ticks(&picture, TickKind::Noted),
+            ticks(&picture, TickKind::Gone),
+        ],
+    })
+}
+
+fn picture_of(alloc: Global, script: &str) -> Result<Picture, PictureFault> {
+    let played = play(alloc, read_script(alloc, script.as_bytes())?)?;
+    Ok(played.picture(alloc)?)
+}
+
+fn arrows(picture: &Picture, kind: Kind) -> usize {
+    picture
+        .arrows
+        .iter()
+        .filter(|arrow| arrow.launch.kind == kind)
+        .count()
+}
+
+fn ignored(picture: &Picture) -> usize {
+    picture
+        .arrows
+        .iter()
+        .filter(|arrow| matches!(arrow.end, End::Ignored(_)))
+        .count()
+}
+
+fn lost(picture: &Picture) -> usize {
+    picture
+        .arrows
+        .iter()
+        .filter(|arrow| matches!(arrow.end, End::Lost))
+        .count()
+}
+
+fn brackets(picture: &Picture, ending: Option<Ending>) -> usize {
+    picture
+        .brackets
+        .iter()
+        .filter(|bracket| bracket.end.map(|end| end.ending) == ending)
+        .count()
+}
+
+fn ticks(picture: &Picture, kind: TickKind) -> usize {
+    picture
+        .ticks
+        .iter()
+        .filter(|tick| tick.kind == kind)
+        .count()
+}
