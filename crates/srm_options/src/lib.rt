@@ -7,8 +7,8 @@
 //! }
 //! ```
 //!
-//! **What is refused.** Whatever isn't a command line of `srm world`, `srm picture` or `srm node` gets a [`Reply`]: the help or the version where
-//! it asks for one, what is wrong in it, or that memory ran out.
+//! **What is refused.** Whatever isn't a command line of `srm world`, `srm picture` or `srm node` gets a [`Reply`]: the help or the version where it asks for
+//! one, what is wrong in it, or that memory ran out.
 #![tactic(auto)]
 
 mod help;
