@@ -12,24 +12,28 @@ use std::sync::{Arc, Wait};
 use std::thread::Threads;
 use std::time::Clock;
 
-/// Hosts the only member of a roster, which has 64 strokes and is to leave, where the worker of slot 0 may stop at its first message.
+/// Turns enough: a network in memory doesn't pause, and workers need not get a processor soon where others are at work too.
+const MANY: u64 = 100_000;
+
+/// Hosts the only member of a roster for so many turns, which has 64 strokes and is to leave, where the worker of slot 0 may stop at its first message.
 fn host_64<R: Threads + Wait + Abort + Copy + Send + Drop + 'static>(
     rt: R,
     alloc: Global,
     stops: bool,
+    turns: u64,
 ) -> Hosted {
     let mut station = alone(rt, alloc);
     ink_text(&rt, alloc, &mut station.pens, &[b'x'; 64]);
     end_all(&mut station.pens);
     station.node.ask_leave(0);
     let sinks = plain_sinks(&rt, alloc, stops);
-    host_station(&rt, alloc, station, sinks, 1_000)
+    host_station(&rt, alloc, station, sinks, turns)
 }
 
 // The lane holds 64 messages and has room for one more where the first was seen taken.
 #[test]
 fn a_worker_that_stops_holds_its_lane(rt: HostRuntime) {
-    let hosted = host_64(rt, rt.alloc(), true);
+    let hosted = host_64(rt, rt.alloc(), true, 1_000);
     let mut wanted = [(1, WorkEnd::Closed); 8];
     wanted[0] = (1, WorkEnd::Stopped);
     let gave = assert_hosted(&rt, hosted, Err(NodeFault::Turns), 0, &wanted);
@@ -39,7 +43,7 @@ fn a_worker_that_stops_holds_its_lane(rt: HostRuntime) {
 
 #[test]
 fn workers_take_all_and_the_node_ends(rt: HostRuntime) {
-    let hosted = host_64(rt, rt.alloc(), false);
+    let hosted = host_64(rt, rt.alloc(), false, MANY);
     let mut wanted = [(1, WorkEnd::Closed); 8];
     wanted[0] = (66, WorkEnd::Closed);
     let gave = assert_hosted(&rt, hosted, Ok(()), 8, &wanted);
@@ -57,7 +61,7 @@ fn host_held<R: Threads + Wait + Abort + Clock + Copy + Send + Drop + 'static>(
     ink(&rt, alloc, &mut station.pens, 1, 1, b'b');
     end_all(&mut station.pens);
     station.node.ask_leave(0);
-    host_station(&rt, alloc, station, held_sinks(rt, alloc), 10_000)
+    host_station(&rt, alloc, station, held_sinks(rt, alloc), MANY)
 }
 
 // Workers that ran one after another would wait here.
@@ -80,7 +84,7 @@ fn each_worker_shows_its_own_sink_what_it_takes(rt: HostRuntime) {
     station.node.ask_leave(0);
     let seen = Arc::new(alloc, AtomicU64::new(0)).expect(&rt, "memory");
     let sinks = own_sinks(&rt, alloc, &seen);
-    let hosted = host_station(&rt, alloc, station, sinks, 1_000);
+    let hosted = host_station(&rt, alloc, station, sinks, MANY);
     let mut wanted = [(1, WorkEnd::Closed); 8];
     wanted[0] = (4, WorkEnd::Closed);
     assert_hosted(&rt, hosted, Ok(()), 8, &wanted);
@@ -131,7 +135,7 @@ fn a_lane_carries_200_strokes(rt: HostRuntime) {
     end_all(&mut station.pens);
     station.node.ask_leave(0);
     let sinks = plain_sinks(&rt, alloc, false);
-    let hosted = host_station(&rt, alloc, station, sinks, 100_000);
+    let hosted = host_station(&rt, alloc, station, sinks, MANY);
     let mut wanted = [(1, WorkEnd::Closed); 8];
     wanted[0] = (202, WorkEnd::Closed);
     assert_hosted(&rt, hosted, Ok(()), 8, &wanted);
