@@ -1,0 +1,26 @@
+//! What is heard.
+
+use std::alloc::{AllocError, Global};
+
+/// How many bytes each body has.
+const BODY: u8 = 64;
+
+/// Data of member 1 in session 7, on the first page, stamped 0.
+fn data(alloc: Global, number: u32) -> Result<Vec<u8>, AllocError> {
+    let [a, b, c, d] = number.to_be_bytes();
+    let head = [
+        0x53, 0x52, 1, 1, 0, 0, 0, 7, 1, 1, 0, 0, 0, a, b, c, d, 0, 0, 0, 0, 0, 0, 0, 0, 0, BODY,
+    ];
+    let mut bytes = Vec::from_array(alloc, head)?;
+    bytes.resize(head.len() + usize::from(BODY), 7)?;
+    Ok(bytes)
+}
+
+/// Data with so many numbers, from 1 on.
+pub fn data_in_order(alloc: Global, count: u32) -> Result<Vec<Vec<u8>>, AllocError> {
+    let mut all = Vec::new(alloc);
+    for before in 0..count {
+        all.push(data(alloc, before.saturating_add(1))?)?;
+    }
+    Ok(all)
+}
