@@ -116,8 +116,8 @@ fn with_limits<'a>(alloc: Global, command: Command<'a>) -> Result<Command<'a>, A
     let waits = option(
         alloc,
         "waits",
-        "C1,C2,D1,D2",
-        "a request waits C1 to C1+C2 distances, a repair D1 to D1+D2; each 0 to 16; else 2,2,1,1",
+        "c1,c2,d1,d2",
+        "a request waits c1 to c1+c2 distances, a repair d1 to d1+d2; each 0 to 16; else 2,2,1,1",
     );
     command
         .arg(stay)?

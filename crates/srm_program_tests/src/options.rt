@@ -111,7 +111,7 @@ fn options_without_a_value(rt: HostRuntime) -> Result<(), Fail> {
 /// What is told of waits that aren't four numbers up to 16.
 fn named_waits(alloc: Global, value: &str) -> Result<String, AllocError> {
     format!(in alloc;
-        "error: invalid value '{value}' for '--waits <C1,C2,D1,D2>': that isn't four numbers from 0 to 16 with commas between\n"
+        "error: invalid value '{value}' for '--waits <c1,c2,d1,d2>': that isn't four numbers from 0 to 16 with commas between\n"
     )
 }
 
@@ -157,7 +157,7 @@ fn the_first_of_several_faults_is_told(rt: HostRuntime) -> Result<(), Fail> {
         ("--session 7 --me 5 --waits x 127.0.0.1:1", "'--me <M>'"),
         (
             "--session 7 --me 0 --waits x 127.0.0.1:1",
-            "'--waits <C1,C2,D1,D2>'",
+            "'--waits <c1,c2,d1,d2>'",
         ),
         ("--session 7 --me 0 --waits x", "ADDR"),
     ] {
@@ -223,6 +223,6 @@ fn help_is_shown(rt: HostRuntime) -> Result<(), Fail> {
     let ran = run(&rt, "--help", b"")?;
     assert_eq!(rt; (ran.status, ran.err.len()), (0, 0));
     assert_has(&rt, "--help", ran.out.as_slice(), "Usage: srm node");
-    assert_has(&rt, "--help", ran.out.as_slice(), "--waits <C1,C2,D1,D2>");
+    assert_has(&rt, "--help", ran.out.as_slice(), "--waits <c1,c2,d1,d2>");
     Ok(())
 }
