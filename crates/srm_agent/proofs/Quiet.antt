@@ -11,14 +11,14 @@ use Rattle.srm_names.proofs.Snoc.{steps-snoc, last_of-snoc, first_of-snoc, or_el
 use Rattle.srm_timers.specs.declared.arm.Arm.{Arm}
 use Rattle.srm_timers.specs.declared.arm.ArmKind.{ArmKind}
 use Rattle.srm_timers.specs.declared.arm.ArmKind.TheVariants.{Ask, Fix}
-use Rattle.srm_timers.specs.Arms.{Setting, setting, ran_out}
+use Rattle.srm_timers.specs.Arms.{Setting, setting, ran_out, arm_of}
 use Rattle.srm_bucket.specs.Content.{Content as BucketContent}
 use Rattle.srm_entries.specs.declared.entry.Entry.{Entry}
 use Rattle.srm_agent_parts.specs.declared.out.Outgoing.{Outgoing}
 use Rattle.srm_entries.specs.Configs.{Config}
 use Rattle.srm_entries.specs.Entries.{heard, ticked, state, is_gone, held, held_by, drawops_in, shown_to_exist, drawn, is_missing, is_held}
 use Rattle.srm_entries.specs.Distances.{distance_calls, calls_in, calls_of}
-use Rattle.srm_entries.specs.Timers.{arm_of, arm_in, last_ask, fix_running, held_off, asker, asker_in, repaired, repairs_in, ask_exponent, ask_setting, fix_setting, setting_of, ArmsRight, TimersRight}
+use Rattle.srm_entries.specs.Timers.{arm_in, last_ask, fix_running, held_off, asker, asker_in, repaired, repairs_in, ask_exponent, ask_setting, fix_setting, setting_of, ArmsRight, TimersRight}
 use Rattle.srm_entries.specs.Verdicts.{settlings, settling_of}
 use Rattle.srm_entries.specs.Sessions.{session_due, pause_after, ending, EndsWith, SessionRight}
 use Rattle.srm_entries.specs.Bucket.{Going, GoesRight, entries_of, bucket_calls, calls_by}

@@ -28,7 +28,7 @@ mod taking_session;
 mod ticking;
 
 use crate::noted::Noted;
-use srm_agent_parts::{Feed, Outgoing, PageTable, Timers, first_page};
+use srm_agent_parts::{Feed, Outgoing, PageTable, Timers};
 use srm_bucket::Bucket;
 use srm_distance::Distances;
 use srm_entries::{AgentFault, AgentState, Config, Effects, Entry, Input, Verdict};
@@ -122,7 +122,7 @@ impl<W: Words + Drop> Agent<W> {
             words,
             state: AgentState::Active,
             last: now,
-            showing: first_page(),
+            showing: Page::first(),
             pages: PageTable::new(alloc)?,
             feeds: empty_feeds(alloc)?,
             store: Store::new(alloc)?,

@@ -17,7 +17,7 @@ use Rattle.srm_timers.specs.declared.arm.Armed.{Armed}
 use Rattle.srm_timers.specs.declared.arm.ArmKind.TheVariants.{Ask}
 use Rattle.srm_deadlines.specs.declared.by_name.Place.{Place}
 use Rattle.srm_timers.specs.Arms as timers
-use Rattle.srm_timers.specs.Arms.{Setting, setting, arm_names, ran_out, next_exponent, ArmsAre, IsAsk, AreAsks, AreOfMembers, AreDrawn}
+use Rattle.srm_timers.specs.Arms.{Setting, setting, arm_names, ran_out, next_exponent, ArmsAre, IsAsk, AreAsks, AreOfMembers, AreDrawn, arm_of}
 use Rattle.srm_timers.specs.AskCalls.{AskContent, AskStays, AskAdds, AskedAgain, ask_timer, sets, due_setting, again_setting, again_exponent}
 use Rattle.srm_timers.specs.AskCalls as asks
 use Rattle.srm_timers.specs.FixCalls.{FixStays, FixDue, FixRepairs, repairs, hold_end}
@@ -30,7 +30,7 @@ use Rattle.srm_timers.proofs.FixSteps.{asked_first-repairs, fix_timer-repairs, i
 use Rattle.srm_entries.specs.declared.entry.Entry.{Entry}
 use Rattle.srm_entries.specs.Entries.{heard, state, is_gone, shown_by, drawops_in, names_heard, is_held, is_missing, known}
 use Rattle.srm_entries.specs.Distances.{distance}
-use Rattle.srm_entries.specs.Timers.{arm_of, asker, asker_in, repaired, repairs_in, ask_exponent, ask_setting, fix_setting, setting_of, last_ask, fix_running, held_off, TimersRight}
+use Rattle.srm_entries.specs.Timers.{asker, asker_in, repaired, repairs_in, ask_exponent, ask_setting, fix_setting, setting_of, last_ask, fix_running, held_off, TimersRight}
 use Rattle.srm_agent_parts.specs.TimersKept.{TimersContent, shown_if}
 use Rattle.srm_agent_parts.specs.TimerCalls.{TicksWith, TimersTick, AreToAsk, AreToFix, WaitsAreDrawn, ask_running}
 use Rattle.srm_entries.proofs.Adding.{shows, gains, is_missing-snoc}

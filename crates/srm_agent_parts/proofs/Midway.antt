@@ -11,7 +11,7 @@ use Rattle.srm_timers.specs.declared.arm.ArmKind.{ArmKind}
 use Rattle.srm_timers.specs.declared.arm.ArmKind.TheVariants.{Ask, Fix}
 use Rattle.srm_timers.specs.declared.arm.Armed.{Armed}
 use Rattle.srm_timers.specs.Arms as timers
-use Rattle.srm_timers.specs.Arms.{setting, arm_names, AreDrawn, end_of, ran_out, RunsOutFirst, ArmsAre}
+use Rattle.srm_timers.specs.Arms.{setting, arm_names, AreDrawn, end_of, ran_out, RunsOutFirst, ArmsAre, arm_of}
 use Rattle.srm_timers.specs.Timers.{armed_at}
 use Rattle.srm_deadlines.specs.Least.{lesser}
 use Rattle.srm_timers.specs.AskCalls.{AskCall, AskContent, AskFits, AskStays, AskDue, AskNext, AskedFirst, AskHolds, ask_timer, first_exponent}
@@ -22,7 +22,7 @@ use Rattle.srm_entries.specs.declared.entry.Entry.{Entry}
 use Rattle.srm_entries.specs.Configs.{Config}
 use Rattle.srm_entries.specs.Entries.{is_missing}
 use Rattle.srm_entries.specs.Distances.{distance}
-use Rattle.srm_entries.specs.Timers.{arm_in, arm_of, last_ask, asker, repaired, first_asker, fix_running, held_off}
+use Rattle.srm_entries.specs.Timers.{arm_in, last_ask, asker, repaired, first_asker, fix_running, held_off}
 use Rattle.srm_agent_parts.specs.TimersKept.{TimersContent, TimersFit, shown_if}
 use Rattle.srm_agent_parts.specs.TimerCalls.{KeepSettings, WaitsAreDrawn, TimersStay, AsksPending, FixesPending, IsBefore, TimersNext, ask_running}
 use Rattle.srm_entries.proofs.Adding.{last_ask-snoc, fix_running-snoc, held_off-snoc}

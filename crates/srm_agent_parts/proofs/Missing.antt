@@ -19,7 +19,7 @@ use Rattle.srm_store.specs.Held.{number_in, has_name}
 use Rattle.srm_timers.specs.declared.arm.Arm.{Arm}
 use Rattle.srm_timers.specs.declared.arm.Armed.{Armed}
 use Rattle.srm_timers.specs.declared.arm.ArmKind.TheVariants.{Ask, Fix}
-use Rattle.srm_timers.specs.Arms.{Setting, setting, arm_names}
+use Rattle.srm_timers.specs.Arms.{Setting, setting, arm_names, arm_of}
 use Rattle.srm_timers.specs.AskCalls.{AskCall, Gained, AskContent, AskFits, AskAdds, AskedFirst, sets, ask_timer, found_setting, first_exponent}
 use Rattle.srm_timers.specs.AskCalls as asks
 use Rattle.srm_timers.specs.FixCalls.{FixCall, FixContent, FixFits, FixStays, FixRepairs, repairs, hold_end}
@@ -33,7 +33,7 @@ use Rattle.srm_entries.specs.Configs.{Config}
 use Rattle.srm_entries.specs.declared.entry.Entry.{Entry}
 use Rattle.srm_entries.specs.Entries.{heard, held, shown_by, drawops_in, names_heard, is_held, is_missing, known}
 use Rattle.srm_entries.specs.Distances.{distance}
-use Rattle.srm_entries.specs.Timers.{arm_of, asker, asker_in, first_asker, repaired, repairs_in, ask_exponent, ask_setting, fix_setting, setting_of, fix_running, held_off, ArmsRight}
+use Rattle.srm_entries.specs.Timers.{asker, asker_in, first_asker, repaired, repairs_in, ask_exponent, ask_setting, fix_setting, setting_of, fix_running, held_off, ArmsRight}
 use Rattle.srm_agent_parts.specs.TimersKept.{TimersContent, HaveSettings, TimersFit}
 use Rattle.srm_agent_parts.specs.TimerCalls.{AreFresh, HearsWith, KeepSettings, AreDistancesAfter, TimersHear, WaitsAreDrawn, IsDataOf, IsRepairOf, IsSession, ask_running}
 use Rattle.srm_entries.proofs.Adding.{shows, gains, is_missing-snoc}

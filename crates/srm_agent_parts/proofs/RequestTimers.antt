@@ -26,7 +26,7 @@ use Rattle.srm_timers.specs.declared.arm.Arm.{Arm}
 use Rattle.srm_timers.specs.declared.arm.Armed.{Armed}
 use Rattle.srm_timers.specs.declared.arm.ArmKind.{ArmKind}
 use Rattle.srm_timers.specs.declared.arm.ArmKind.TheVariants.{Ask, Fix}
-use Rattle.srm_timers.specs.Arms.{Setting, Plan, same_kind, next_exponent, setting, plan_of, arm_names, backs_off, AreDrawn}
+use Rattle.srm_timers.specs.Arms.{Setting, Plan, same_kind, next_exponent, setting, plan_of, arm_names, backs_off, AreDrawn, arm_of}
 use Rattle.srm_timers.specs.Timers.{armed_at}
 use Rattle.srm_timers.specs.Distances.{distance_to}
 use Rattle.srm_timers.specs.AskCalls.{AskCall, AskContent, AskFits, AskAdds, AskHolds, AskReady, AnswerReady, AskedFirst, ask_timer, sets, first_exponent, found_setting, ask_plan}
@@ -42,7 +42,7 @@ use Rattle.srm_entries.specs.declared.entry.Entry.{Entry}
 use Rattle.srm_entries.specs.Entries.{heard, held, shown_to_exist, drawops_in, is_held, is_missing, known}
 use Rattle.srm_distance.specs.Distance as defined
 use Rattle.srm_entries.specs.Distances.{distance, distance_calls, calls_in, calls_of}
-use Rattle.srm_entries.specs.Timers.{arm_of, asker, asker_in, repaired, repairs_in, low_of, high_of, ask_exponent, ask_setting, fix_setting, setting_of, last_ask, fix_running, held_off}
+use Rattle.srm_entries.specs.Timers.{asker, asker_in, repaired, repairs_in, low_of, high_of, ask_exponent, ask_setting, fix_setting, setting_of, last_ask, fix_running, held_off}
 use Rattle.srm_entries.specs.Verdicts.{settlings}
 use Rattle.srm_agent_parts.specs.TimersKept.{TimersContent, TimersFit, shown_if}
 use Rattle.srm_agent_parts.specs.TimerCalls.{AreFresh, HearsWith, AreDistancesAfter, IsAnswered, IsRequestOf, KeepSettings, TimersAdd, TimersHearRequest, TimersStay, WaitsAreDrawn, ask_running}

@@ -6,10 +6,10 @@ use Rattle.std.proofs.lemmas.List.{append-nil, map-append, take_more, take_all, 
 use Rattle.std.proofs.lemmas.Bool.Decides.{nat_tests}
 use Rattle.srm_names.specs.declared.page.Page.{Page}
 use Rattle.srm_names.specs.FullName.{FullName}
-use Rattle.srm_names.specs.Histories.{firsts}
+use Rattle.srm_names.specs.Histories.{firsts, IsPrefix}
 use Rattle.srm_names.specs.Names.{same_page}
 use Rattle.srm_names.proofs.Snoc.{firsts-snoc}
-use Rattle.srm_names.proofs.Lists.{IsFront, firsts-front}
+use Rattle.srm_names.proofs.Lists.{firsts-front}
 use Rattle.srm_agent_parts.specs.PageTables.{with_page, lacks_room, pages_of, with_pages_of, lacks_room_for}
 use Rattle.srm_entries.proofs.Adding.{list_any-append}
 use Rattle.srm_agent_parts.proofs.Listing.{firsts_more, firsts_again}
@@ -30,7 +30,7 @@ longer pages names rest = go (firsts-front same_page (pages ++ pages_of names) (
     all : (pages ++ pages_of names) ++ pages_of rest ≡ pages ++ pages_of (names ++ rest)
     all = append_assoc pages (pages_of names) (pages_of rest) ∙ ap (λ ps. pages ++ ps) (sym (map-append (λ (m : FullName). m.stream.page) names rest))
 
-    go : IsFront (with_pages_of pages names) (firsts same_page ((pages ++ pages_of names) ++ pages_of rest)) → length (with_pages_of pages names) ≤ length (with_pages_of pages (names ++ rest))
+    go : IsPrefix (with_pages_of pages names) (firsts same_page ((pages ++ pages_of names) ++ pages_of rest)) → length (with_pages_of pages names) ≤ length (with_pages_of pages (names ++ rest))
     go (more, e) =
         let k : length (with_pages_of pages names) + length more ≡ length (with_pages_of pages (names ++ rest)) = sym (length-append (with_pages_of pages names) more) ∙ ap length e ∙ ap (λ ps. length (firsts same_page ps)) all in
         omega (arith, k)

@@ -33,7 +33,7 @@ pub use feed::Feed;
 pub use keeping::keep;
 pub use mentions::names_in;
 pub use out::{Out, Outgoing};
-pub use page_table::{PageTable, first_page};
+pub use page_table::PageTable;
 pub use reports::{distances_after, learn};
 pub use roster::{member, page_in_range, stream_in_range};
 pub use timers::{Timers, earlier};

@@ -5,7 +5,7 @@ ghost use Rattle.std.specs.List.{list_any};
 ghost use Rattle.srm_names.specs.Names.{first_page, same_page};
 ghost use Rattle.srm_agent_parts.specs.PageTables.{IsTable, lacks_room, with_page, pages_of, with_pages_of, lacks_room_for};
 
-use srm_names::{Member, Name, PAGES, Page};
+use srm_names::{Name, PAGES, Page};
 use std::alloc::{AllocError, Global};
 use std::marker::Model;
 
@@ -34,7 +34,7 @@ impl PageTable {
         ensures { IfOk result (λ table. table ≡ first_page ∷ []) }
     {
         let mut pages = Vec::with_capacity(alloc, usize::from(PAGES))?;
-        pages.push(first_page())?;
+        pages.push(Page::first())?;
         Ok(PageTable { pages })
     }
 
@@ -118,14 +118,4 @@ fn are_on(names: &[Name], page: &Page) -> bool
     ensures { result ≡ list_any (λ other. same_page other.stream.page page.now) names.now }
 {
     names.iter().any(|name| name.stream().page == *page)
-}
-
-/// The page that each member has from the start.
-pub fn first_page() -> Page
-    ensures { result ≡ first_page }
-{
-    Page {
-        creator: Member::new(0).unwrap(),
-        number: 0,
-    }
 }

@@ -4,7 +4,7 @@ use Rattle.std.specs.List.{flat_map, list_any, AllByRecursion}
 use Rattle.std.specs.List.Sorted.{IsPermutation}
 use Rattle.srm_names.specs.declared.limits.TheConstants.{PAGES}
 use Rattle.srm_names.specs.declared.page_msg.PageMsg.{PageMsg}
-use Rattle.srm_names.specs.Histories.{Step, steps}
+use Rattle.srm_names.specs.Histories.{IsPrefix, Step, steps}
 use Rattle.srm_codec.specs.declared.datagram.Datagram.{Datagram}
 use Rattle.srm_entries.specs.declared.entry.Entry.{Entry}
 use Rattle.srm_entries.specs.declared.entry.Input.{Input}
@@ -28,9 +28,6 @@ pub record InOrder (js q : List Journal) : Type 0 where
 -- the journal of a member, and nothing where there is none
 abbrev pub entries_at : List Journal → ℕ → List Entry
 entries_at q m = unwrap_or (option_map (λ (j : Journal). j.entries) (slice_get q m)) []
-
-abbrev pub IsPrefix : {X : Type 0} → List X → List X → Type 0
-IsPrefix {X = X} xs ys = (rest : List X) × (xs ++ rest ≡ ys)
 
 -- the entries of each member are the first of its journal, so there are no others
 pub record ArePrefixes (q : List Journal) (es : List Entry) : Type 0 where

@@ -2,7 +2,7 @@
 use Rattle.std.specs.Prelude.{◌≡◌, ℕ, ◌<◌, ◌≤◌, nat_le, Bool, true, false, List, [], ◌∷◌, ◌++◌, if◌then◌else◌, max, Option, Some, None, IfSome, IsSome}
 use Rattle.std.specs.Bool.{OnTrue}
 use Rattle.std.specs.List.{AllByRecursion}
-use Rattle.srm_names.specs.Histories.{steps}
+use Rattle.srm_names.specs.Histories.{IsPrefix, steps}
 use Rattle.srm_bucket.specs.declared.class.Class.{Class}
 use Rattle.srm_bucket.specs.declared.item.Item.{Item}
 use Rattle.srm_bucket.specs.Calls.{Classed, Call, Handed, Refilled, Popped}
@@ -24,9 +24,6 @@ ends_tick (Handed c) = false
 ends_tick (Refilled now) = false
 ends_tick (Popped now went) = lets_nothing_go went
 
-abbrev pub IsPrefixOf : {T : Type 0} → List (Item T) → List (Item T) → Type 0
-IsPrefixOf {T = T} xs ys = (rest : List (Item T)) × (xs ++ rest ≡ ys)
-
 -- nothing that was handed in of a higher class is left
 abbrev pub NoneHigher : {T : Type 0} → List (Call T) → Classed T → Type 0
 NoneHigher before c = (class : Class) → rank class < rank c.class → gone class before ≡ handed class before
@@ -41,7 +38,7 @@ level_at rate depth calls now = level rate depth (max (last_moment calls) now) (
 --     not_too_much     from each tick on, no more went than the depth, and the rate times the time
 --     all_that_may     where the call ends a tick, nothing is left, or what would go next costs more than the level
 pub record GoesRight {T : Type 0} (rate depth : ℕ) (before upto : List (Call T)) (call : Call T) : Type 0 where
-  pub in_order : (class : Class) → IsPrefixOf (gone class upto) (handed class upto)
+  pub in_order : (class : Class) → IsPrefix (gone class upto) (handed class upto)
   pub highest_first : IfSome (went_in call) (NoneHigher before)
   pub not_too_much : IsWithin rate depth (last_moment upto) (ticks upto)
   pub all_that_may : OnTrue (ends_tick call) (IfSome (next_of upto) (λ c. level_at rate depth upto (last_moment upto) < cost (Some c)))

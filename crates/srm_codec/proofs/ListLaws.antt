@@ -6,8 +6,8 @@ use Rattle.std.specs.Int.{w8}
 use Rattle.std.proofs.lemmas.Bool.{eqb-true, and_parts, and_from}
 use Rattle.srm_names.specs.declared.echo.Echo.{Echo}
 use Rattle.srm_names.specs.FullName.{FullName}
-use Rattle.srm_names.specs.Names.{ascending}
-use Rattle.srm_codec.specs.Spelling.{AreRows, AreEchoes, is_name, is_echo, row_below, echo_below, name_bytes, echo_bytes}
+use Rattle.srm_names.specs.Names.{ascending, echo_below}
+use Rattle.srm_codec.specs.Spelling.{AreRows, AreEchoes, is_name, is_echo, row_below, name_bytes, echo_bytes}
 use Rattle.srm_codec.specs.Judging.{◌>>=◌, Read, number_at, is_wanted, is_above, name_at, follows, echo_at, items_at, list_at}
 use Rattle.srm_codec.proofs.Readers.{IsBytes, bind_ok, ok_is, Takes, Takes-then, Reads, renamed}
 use Rattle.srm_codec.proofs.FieldLaws.{one_byte, wide8, number_reads, IsNext, name_reads, IsNextEcho, echo_reads}

@@ -7,7 +7,7 @@ use Rattle.srm_names.specs.declared.page.Page.{Page}
 use Rattle.srm_names.specs.declared.drawop.Drawop.{Drawop}
 use Rattle.srm_names.specs.declared.echo.Echo.{Echo}
 use Rattle.srm_names.specs.FullName.{FullName}
-use Rattle.srm_names.specs.Names.{named, ascending, stream_below}
+use Rattle.srm_names.specs.Names.{named, ascending, stream_below, echo_below}
 use Rattle.srm_codec.specs.declared.datagram.Datagram.{Datagram}
 use Rattle.srm_codec.specs.declared.datagram.Datagram.TheVariants.{Data, Request, Repair, Session}
 
@@ -48,9 +48,6 @@ is_echo e = (e.member < MEMBERS) × (e.t1 ≤ MOMENT) × (e.delay ≤ MOMENT)
 
 abbrev pub row_below : FullName → FullName → Bool
 row_below a b = stream_below a.stream b.stream
-
-abbrev pub echo_below : Echo → Echo → Bool
-echo_below a b = nat_lt a.member b.member
 
 -- rows rise by stream, and in a farewell the source of each is the sender
 pub record AreRows (farewell : Bool) (sender : ℕ) (rows : List FullName) : Type 0 where

@@ -3,8 +3,8 @@
 ghost use Rattle.std.specs.Prelude.{◌≡◌, ◌<◌, ◌↔◌, IsTrue, All, true};
 ghost use Rattle.std.specs.List.{AllByRecursion};
 ghost use Rattle.srm_names.specs.declared.limits.TheConstants.{MEMBERS};
-ghost use Rattle.srm_names.specs.Names.{ascending};
-ghost use Rattle.srm_codec.specs.Spelling.{IsSpellable, asked_by, AreRows, AreEchoes, is_page, is_name, is_drawop, is_echo, row_below, echo_below};
+ghost use Rattle.srm_names.specs.Names.{ascending, echo_below};
+ghost use Rattle.srm_codec.specs.Spelling.{IsSpellable, asked_by, AreRows, AreEchoes, is_page, is_name, is_drawop, is_echo, row_below};
 
 use crate::datagram::Datagram;
 use crate::mask::is_within;

@@ -8,9 +8,9 @@ use Rattle.std.proofs.lemmas.Bool.Decides.{nat_tests}
 use Rattle.std.proofs.lemmas.Bool.{and_parts, and_from, eq-eqb}
 use Rattle.srm_names.specs.declared.echo.Echo.{Echo}
 use Rattle.srm_names.specs.Histories.{count_up}
-use Rattle.srm_names.specs.Names.{ascending}
+use Rattle.srm_names.specs.Names.{ascending, echo_below}
 use Rattle.srm_distance.specs.Calls.{Call}
-use Rattle.srm_distance.specs.Echoes.{echo_to, CanBeSent, echo_below}
+use Rattle.srm_distance.specs.Echoes.{echo_to, CanBeSent}
 use Rattle.srm_distance.specs.Content.{Content}
 use Rattle.srm_distance.specs.Fits.{Fits}
 

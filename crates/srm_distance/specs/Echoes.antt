@@ -4,7 +4,7 @@ use Rattle.std.specs.List.{filter_map, list_any, All}
 use Rattle.srm_names.specs.declared.echo.Echo.{Echo}
 use Rattle.srm_names.specs.declared.limits.TheConstants.{MEMBERS, MOMENT}
 use Rattle.srm_names.specs.Histories.{first_best, count_up}
-use Rattle.srm_names.specs.Names.{ascending}
+use Rattle.srm_names.specs.Names.{ascending, echo_below}
 use Rattle.srm_distance.specs.declared.report.Report.{Report}
 use Rattle.srm_distance.specs.Calls.{Call, Heard, Forgot}
 
@@ -44,9 +44,6 @@ pub record CanBeSent (me now : ℕ) (echo : Echo) : Type 0 where
   pub other : echo.member ≢ me
   pub t1 : echo.t1 ≤ MOMENT
   pub delay : echo.delay ≤ now
-
-abbrev pub echo_below : Echo → Echo → Bool
-echo_below a b = nat_lt a.member b.member
 
 -- Echoes as a session message can hold them: they rise strictly by member, each can be sent, and there is at most one
 -- for each other member.

@@ -13,8 +13,8 @@ use Rattle.srm_timers.specs.declared.arm.ArmKind.{ArmKind}
 use Rattle.srm_timers.specs.declared.arm.ArmKind.TheVariants.{Ask, Fix}
 use Rattle.srm_entries.specs.Distances.{distance}
 use Rattle.srm_timers.specs.declared.arm.Armed.{Armed}
-use Rattle.srm_timers.specs.Arms.{Setting, setting, same_kind}
-use Rattle.srm_entries.specs.Timers.{arm_in, arm_of, setting_of, low_of, high_of, ArmsRight}
+use Rattle.srm_timers.specs.Arms.{Setting, setting, same_kind, arm_of}
+use Rattle.srm_entries.specs.Timers.{arm_in, setting_of, low_of, high_of, ArmsRight}
 
 -- finding by one test and by two
 

@@ -12,11 +12,11 @@ use Rattle.srm_names.specs.declared.drawop.Drawop.{Drawop}
 use Rattle.srm_names.specs.declared.page_msg.PageMsg.{PageMsg}
 use Rattle.srm_names.specs.declared.page_msg.PageMsg.TheVariants.{Open, Draw, Left, Close}
 use Rattle.srm_names.specs.FullName.{FullName}
-use Rattle.srm_names.specs.Histories.{steps, or_else, firsts}
+use Rattle.srm_names.specs.Histories.{steps, or_else, firsts, IsPrefix}
 use Rattle.srm_names.specs.Names.{named, same_page, first_page}
 use Rattle.srm_names.specs.PageFeeds.{continues, is_page_feed, drawops_of, drawop_from, leaves, is_open_at, opened, page_opened, is_close}
 use Rattle.srm_names.proofs.Snoc.{along, first_of-snoc, or_else-none, list_any-snoc, is_page_feed-snoc}
-use Rattle.srm_names.proofs.Lists.{Has, IsFront, front_of_front, front_more, front_next, slice_get-front, firsts-front, until_none-at, find-Has}
+use Rattle.srm_names.proofs.Lists.{Has, front_of_front, front_more, front_next, slice_get-front, firsts-front, until_none-at, find-Has}
 use Rattle.srm_names.proofs.Same.{same_name-is, same_page-itself}
 use Rattle.srm_entries.specs.Configs.{Config}
 use Rattle.srm_entries.specs.declared.entry.Entry.{Entry}
@@ -36,7 +36,7 @@ use Rattle.srm_entries.proofs.Telling.{ToldRight, told_stays, told_step, told_st
 pub record FedRight (es : List Entry) (page : Option Page) (g : List PageMsg) : Type 0 where
   pub fed : is_page_feed g ≡ true
   pub there : (p : Page) → opened g ≡ Some p → page ≡ Some p
-  pub part : (source : ℕ) (p : Page) → opened g ≡ Some p → IsFront (drawops_of source g) (released es (stream_on source p))
+  pub part : (source : ℕ) (p : Page) → opened g ≡ Some p → IsPrefix (drawops_of source g) (released es (stream_on source p))
   pub left : (source : ℕ) (p : Page) → opened g ≡ Some p → list_any (leaves source) g ≡ true → final es (stream_on source p) ≡ Some (length (drawops_of source g))
   pub unopened : opened g ≡ None → (source : ℕ) → (drawops_of source g ≡ []) × (list_any (leaves source) g ≡ false)
 
@@ -83,7 +83,7 @@ fed_plain : (es : List Entry) (page : Option Page) (g : List PageMsg) (m : PageM
 fed_plain es page g m o d l goes right = record {
   fed = is_page_feed-snoc g m right.fed goes;
   there = λ p q. right.there p (sym (opened_same g m o) ∙ q);
-  part = λ source p q. subst (λ w. IsFront w (released es (stream_on source p))) (sym (drawops_same source g m (d source))) (right.part source p (sym (opened_same g m o) ∙ q));
+  part = λ source p q. subst (λ w. IsPrefix w (released es (stream_on source p))) (sym (drawops_same source g m (d source))) (right.part source p (sym (opened_same g m o) ∙ q));
   left = λ source p q k. right.left source p (sym (opened_same g m o) ∙ q) (sym (leaves_same source g m (l source)) ∙ k) ∙ ap (λ w. Some (length w)) (sym (drawops_same source g m (d source)));
   unopened = λ q source. let k = right.unopened (sym (opened_same g m o) ∙ q) source in (drawops_same source g m (d source) ∙ k.0, leaves_same source g m (l source) ∙ k.1);
 }
@@ -171,10 +171,10 @@ fed_draw es page g d closed next is right = record {
     next_at : (source : ℕ) (p : Page) → source ≡ d.name.stream.source → p ≡ page → slice_get (released es (stream_on source p)) (length (drawops_of source g)) ≡ Some d
     next_at source p e f = ap (λ w. slice_get (released es (stream_on source w)) (length (drawops_of source g))) f ∙ ap (λ w. slice_get (released es (stream_on w page)) (length (drawops_of w g))) e ∙ next
 
-    part : (source : ℕ) (b : Bool) → (source == d.name.stream.source) ≡ b → (p : Page) → opened g ≡ Some p → IsFront (drawops_of source (g ++ Draw d ∷ [])) (released es (stream_on source p))
-    part source true q p o = subst (λ w. IsFront w (released es (stream_on source p))) (sym (more source true q))
+    part : (source : ℕ) (b : Bool) → (source == d.name.stream.source) ≡ b → (p : Page) → opened g ≡ Some p → IsPrefix (drawops_of source (g ++ Draw d ∷ [])) (released es (stream_on source p))
+    part source true q p o = subst (λ w. IsPrefix w (released es (stream_on source p))) (sym (more source true q))
         (front_next (drawops_of source g) (released es (stream_on source p)) d (right.part source p o) (next_at source p (eqb-true source d.name.stream.source q) (same_Some p page (sym o ∙ is.at_page))))
-    part source false q p o = subst (λ w. IsFront w (released es (stream_on source p))) (sym (more source false q ∙ append-nil (drawops_of source g))) (right.part source p o)
+    part source false q p o = subst (λ w. IsPrefix w (released es (stream_on source p))) (sym (more source false q ∙ append-nil (drawops_of source g))) (right.part source p o)
 
     left : (source : ℕ) (b : Bool) → (source == d.name.stream.source) ≡ b → (p : Page) → opened g ≡ Some p → list_any (leaves source) g ≡ true
         → final es (stream_on source p) ≡ Some (length (drawops_of source (g ++ Draw d ∷ [])))
@@ -194,7 +194,7 @@ fed_left : (es : List Entry) (page : Page) (g : List PageMsg) (s : ℕ) → is_s
 fed_left es page g s e closed may right = record {
   fed = is_page_feed-snoc g (Left s) right.fed (all_three (is_some (opened g)) (list_any is_close g) (list_any (leaves s) g) e closed (not-true (list_any (leaves s) g) parts.1));
   there = λ p q. right.there p (same ∙ q);
-  part = λ source p q. subst (λ w. IsFront w (released es (stream_on source p))) (sym (drawops_same source g (Left s) refl)) (right.part source p (same ∙ q));
+  part = λ source p q. subst (λ w. IsPrefix w (released es (stream_on source p))) (sym (drawops_same source g (Left s) refl)) (right.part source p (same ∙ q));
   left = λ source p q l. left source p (same ∙ q) (or_either (list_any (leaves source) g) (source == s) (sym (list_any-snoc (leaves source) g (Left s)) ∙ l)) ∙ ap (λ w. Some (length w)) (sym (drawops_same source g (Left s) refl));
   unopened = λ q. absurd (none-some page (sym q ∙ sym same ∙ open_at es page g right e));
 }
@@ -229,7 +229,7 @@ fed_gives c es (Some page) g Close t gives right = fed_close es (Some page) g gi
 pub record FeedsRight (c : Config) (es : List Entry) : Type 0 where
   pub tells : ToldRight c es
   pub feeds : (j : ℕ) → FedRight es (slice_get (slots es) j) (given es j)
-  pub takes : (j : ℕ) → IsFront (taken es j) (given es j)
+  pub takes : (j : ℕ) → IsPrefix (taken es j) (given es j)
 
 pub given-snoc : (es : List Entry) (e : Entry) (j : ℕ) → given (es ++ e ∷ []) j ≡ given es j ++ cons_option (given_in j e.input e.effects.message) []
 given-snoc es e j = filter_map-append (λ (x : Entry). given_in j x.input x.effects.message) es (e ∷ [])
@@ -268,7 +268,7 @@ takes_so c es AskedLeave message j m right e = absurd (none-some m e)
 pub slots_keep : (es : List Entry) (e : Entry) (j : ℕ) (page : Page) → slice_get (slots es) j ≡ Some page → slice_get (slots (es ++ e ∷ [])) j ≡ Some page
 slots_keep es e j page h =
     slice_get-front (slots es) (slots (es ++ e ∷ [])) j page
-    (subst (λ w. IsFront (slots es) (firsts same_page (first_page ∷ w))) (sym (flat_map-snoc (λ (x : Entry). pages_in (done x)) es e))
+    (subst (λ w. IsPrefix (slots es) (firsts same_page (first_page ∷ w))) (sym (flat_map-snoc (λ (x : Entry). pages_in (done x)) es e))
     (firsts-front same_page (first_page ∷ flat_map (λ (x : Entry). pages_in (done x)) es) (pages_in (done e)))) h
 
 feeds_step : (c : Config) (made : ℕ) (es : List Entry) (e : Entry) → FeedsRight c es → EntryRight c made (record { before = es; this = e }) → FeedsRight c (es ++ e ∷ [])
@@ -276,16 +276,16 @@ feeds_step c made es e p right = record {
   tells = told_step c made es e p.tells right;
   feeds = λ j. fed_grows es e (slice_get (slots es) j) (slice_get (slots (es ++ e ∷ [])) j) (given (es ++ e ∷ []) j) (λ page q. slots_keep es e j page q)
       (subst (λ w. FedRight es (slice_get (slots es) j) w) (sym (given-snoc es e j)) (feeds j (given_in j e.input e.effects.message) refl));
-  takes = λ j. subst (λ w. IsFront (taken (es ++ e ∷ []) j) w) (sym (given-snoc es e j)) (front_more (taken (es ++ e ∷ []) j) (given es j) (cons_option (given_in j e.input e.effects.message) [])
-      (subst (λ w. IsFront w (given es j)) (sym (taken-snoc es e j)) (takes j (taken_in j e.input e.effects.message) refl)));
+  takes = λ j. subst (λ w. IsPrefix (taken (es ++ e ∷ []) j) w) (sym (given-snoc es e j)) (front_more (taken (es ++ e ∷ []) j) (given es j) (cons_option (given_in j e.input e.effects.message) [])
+      (subst (λ w. IsPrefix w (given es j)) (sym (taken-snoc es e j)) (takes j (taken_in j e.input e.effects.message) refl)));
 }
   where
     feeds : (j : ℕ) (o : Option PageMsg) → given_in j e.input e.effects.message ≡ o → FedRight es (slice_get (slots es) j) (given es j ++ cons_option o [])
     feeds j None q = subst (λ w. FedRight es (slice_get (slots es) j) w) (sym (append-nil (given es j))) (p.feeds j)
     feeds j (Some m) q = fed_gives c es (slice_get (slots es) j) (given es j) m p.tells (gives_so c es e.input e.effects.message j m right.message q) (p.feeds j)
 
-    takes : (j : ℕ) (o : Option PageMsg) → taken_in j e.input e.effects.message ≡ o → IsFront (taken es j ++ cons_option o []) (given es j)
-    takes j None q = subst (λ w. IsFront w (given es j)) (sym (append-nil (taken es j))) (p.takes j)
+    takes : (j : ℕ) (o : Option PageMsg) → taken_in j e.input e.effects.message ≡ o → IsPrefix (taken es j ++ cons_option o []) (given es j)
+    takes j None q = subst (λ w. IsPrefix w (given es j)) (sym (append-nil (taken es j))) (p.takes j)
     takes j (Some m) q = front_next (taken es j) (given es j) m (p.takes j) (takes_so c es e.input e.effects.message j m right.message q)
 
 feeds_start : (c : Config) → FeedsRight c []
@@ -299,11 +299,11 @@ pub feeds_right : (c : Config) (made : ℕ) (es : List Entry) → AllByRecursion
 feeds_right c made es all = along (EntryRight c made) (FeedsRight c) (λ before e p right. feeds_step c made before e p right) [] es (feeds_start c) all
 
 -- in a slot of this page the part of a source is a front of what is released of it
-pub slot_part : (es : List Entry) (page : Page) (g : List PageMsg) (source : ℕ) → FedRight es (Some page) g → IsFront (drawops_of source g) (released es (stream_on source page))
+pub slot_part : (es : List Entry) (page : Page) (g : List PageMsg) (source : ℕ) → FedRight es (Some page) g → IsPrefix (drawops_of source g) (released es (stream_on source page))
 slot_part es page g source right = which (opened g) refl
   where
-    which : (o : Option Page) → opened g ≡ o → IsFront (drawops_of source g) (released es (stream_on source page))
-    which None q = subst (λ w. IsFront w (released es (stream_on source page))) (sym (right.unopened q source).0) (released es (stream_on source page), refl)
+    which : (o : Option Page) → opened g ≡ o → IsPrefix (drawops_of source g) (released es (stream_on source page))
+    which None q = subst (λ w. IsPrefix w (released es (stream_on source page))) (sym (right.unopened q source).0) (released es (stream_on source page), refl)
     which (Some p) q = right.part source page (q ∙ ap Some (sym (same_Some page p (right.there p q))))
 
 -- where a leaving was given, the source was told, and its drawops were given as far as its farewell says

@@ -4,7 +4,7 @@ use Rattle.std.proofs.Common.{◌≡◌, ℕ, true, List, subst}
 use Rattle.std.specs.Prelude.{Some, slice_get}
 use Rattle.srm_names.specs.declared.page.Page.{Page}
 use Rattle.srm_names.specs.PageFeeds.{is_page_feed, drawops_of}
-use Rattle.srm_names.proofs.Lists.{IsFront}
+use Rattle.srm_names.specs.Histories.{IsPrefix}
 use Rattle.srm_entries.specs.Configs.{Config}
 use Rattle.srm_entries.specs.declared.entry.Entry.{Entry}
 use Rattle.srm_entries.specs.Entries.{released, slots}
@@ -17,8 +17,8 @@ use Rattle.srm_entries.proofs.Silence.{gone_sends_nothing}
 
 pub record GivenRight (es : List Entry) : Type 0 where
   pub feed : (j : ℕ) → is_page_feed (given es j) ≡ true
-  pub part : (j source : ℕ) (page : Page) → slice_get (slots es) j ≡ Some page → IsFront (drawops_of source (given es j)) (released es (stream_on source page))
-  pub front : (j : ℕ) → IsFront (taken es j) (given es j)
+  pub part : (j source : ℕ) (page : Page) → slice_get (slots es) j ≡ Some page → IsPrefix (drawops_of source (given es j)) (released es (stream_on source page))
+  pub front : (j : ℕ) → IsPrefix (taken es j) (given es j)
 
 pub given_right : (c : Config) (made : ℕ) (es : List Entry) → IsMemberRun c made es → GivenRight es
 given_right c made es run = record {

@@ -8,23 +8,20 @@ use Rattle.std.proofs.lemmas.List.Folds.{find-append}
 use Rattle.srm_names.specs.declared.drawop.Drawop.{Drawop}
 use Rattle.srm_names.specs.declared.stream.Stream.{Stream}
 use Rattle.srm_names.specs.FullName.{FullName}
-use Rattle.srm_names.specs.Histories.{count_up, until_none, greatest}
+use Rattle.srm_names.specs.Histories.{IsPrefix, count_up, until_none, greatest}
 use Rattle.srm_names.specs.Names.{named}
 use Rattle.srm_entries.specs.declared.entry.Entry.{Entry}
 use Rattle.srm_store.specs.Held.{has_name, number_in, greatest_in}
 use Rattle.srm_entries.specs.Entries.{held, held_by, held_at, released}
 use Rattle.srm_entries.proofs.Adding.{flat_map-append, greatest-append}
 
-abbrev pub IsFrontOf : List Drawop → List Drawop → Type 0
-IsFrontOf xs ys = (rest : List Drawop) × (xs ++ rest ≡ ys)
-
 grows_at : (f g : ℕ → Option Drawop) (from : ℕ) (xs ys : List (Option Drawop)) (o : Option Drawop) → f from ≡ o → ((d : Drawop) → f from ≡ Some d → g from ≡ Some d)
-    → IsFrontOf (until_none xs) (until_none ys) → IsFrontOf (until_none (f from ∷ xs)) (until_none (g from ∷ ys))
+    → IsPrefix (until_none xs) (until_none ys) → IsPrefix (until_none (f from ∷ xs)) (until_none (g from ∷ ys))
 grows_at f g from xs ys None e keeps more = rw e (until_none (g from ∷ ys), refl)
 grows_at f g from xs ys (Some d) e keeps more = rw (e, keeps d e) (more.0, ap (λ zs. d ∷ zs) more.1)
 
 grows : (f g : ℕ → Option Drawop) → ((n : ℕ) (d : Drawop) → f n ≡ Some d → g n ≡ Some d) → (from few many : ℕ) → few ≤ many
-    → IsFrontOf (until_none (map f (count_up from few))) (until_none (map g (count_up from many)))
+    → IsPrefix (until_none (map f (count_up from few))) (until_none (map g (count_up from many)))
 grows f g keeps from zero many l = (until_none (map g (count_up from many)), refl)
 grows f g keeps from (suc few) zero l = absurd (omega arith)
 grows f g keeps from (suc few) (suc many) l =
@@ -46,7 +43,7 @@ held_numbers-grow es e s = rw (
     ∙ greatest-append (flat_map (number_in s) (map (λ (d : Drawop). d.name) (held es))) (flat_map (number_in s) (map (λ (d : Drawop). d.name) (held (e ∷ []))))
     ) (omega arith)
 
-pub released-grows : (es : List Entry) (e : Entry) (s : Stream) → IsFrontOf (released es s) (released (es ++ e ∷ []) s)
+pub released-grows : (es : List Entry) (e : Entry) (s : Stream) → IsPrefix (released es s) (released (es ++ e ∷ []) s)
 released-grows es e s =
     grows (λ k. held_at es (named s k)) (λ k. held_at (es ++ e ∷ []) (named s k)) (λ k d h. held_at-stays es e (named s k) d h) 1
     (greatest_in (map (λ (d : Drawop). d.name) (held es)) s) (greatest_in (map (λ (d : Drawop). d.name) (held (es ++ e ∷ []))) s) (held_numbers-grow es e s)

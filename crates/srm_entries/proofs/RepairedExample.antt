@@ -5,7 +5,7 @@ use Rattle.std.specs.Prelude.{Option, Some, None, option_map, if◌then◌else�
 use Rattle.std.specs.List.{list_any}
 use Rattle.std.proofs.lemmas.Bool.Decides.{nat_tests}
 use Rattle.srm_names.specs.FullName.{FullName}
-use Rattle.srm_names.specs.Histories.{greatest, or_else}
+use Rattle.srm_names.specs.Histories.{greatest, or_else, IsPrefix}
 use Rattle.srm_names.specs.Names.{named, same_name}
 use Rattle.srm_codec.specs.declared.datagram.Datagram.{Datagram}
 use Rattle.srm_codec.specs.declared.datagram.Datagram.TheVariants.{Data, Request, Repair}
@@ -14,15 +14,15 @@ use Rattle.srm_bucket.specs.declared.class.Class.{Class}
 use Rattle.srm_bucket.specs.declared.class.Class.TheVariants.{Shown, New, Other}
 use Rattle.srm_bucket.specs.Calls.{Classed, Call, Handed, Popped}
 use Rattle.srm_bucket.specs.Classes.{rank, handed, gone}
-use Rattle.srm_bucket.specs.Law.{IsPrefixOf, BucketLaw, GoesRight as CallRight}
+use Rattle.srm_bucket.specs.Law.{BucketLaw, GoesRight as CallRight}
 use Rattle.srm_timers.specs.declared.arm.Arm.{Arm}
 use Rattle.srm_timers.specs.declared.arm.ArmKind.TheVariants.{Fix}
-use Rattle.srm_timers.specs.Arms.{Setting, setting, ran_out}
+use Rattle.srm_timers.specs.Arms.{Setting, setting, ran_out, arm_of}
 use Rattle.srm_entries.specs.Configs.{Config}
 use Rattle.srm_entries.specs.declared.entry.Entry.{Entry}
 use Rattle.srm_entries.specs.Entries.{is_held, is_missing, ticked}
 use Rattle.srm_entries.specs.Distances.{distance}
-use Rattle.srm_entries.specs.Timers.{repaired, ask_due, fix_due, asker, setting_of, arm_of}
+use Rattle.srm_entries.specs.Timers.{repaired, ask_due, fix_due, asker, setting_of}
 use Rattle.srm_entries.specs.Bucket.{Going, classed, bucket_calls}
 use Rattle.srm_entries.specs.Runs.{EntryRight, IsMemberRun}
 use Rattle.srm_entries.specs.Sample.{in_roster, zeros, hears, ticks, fix_arm, idle}
@@ -166,7 +166,7 @@ law = (hands, (goes, (ends, tt)))
     hands : CallRight 8000 4204 [] handed_one (Handed repair_item)
     hands = record { in_order = λ class. (handed class handed_one, refl); highest_first = tt; not_too_much = tt; all_that_may = tt }
 
-    all_gone : (class : Class) → IsPrefixOf (gone class went_one) (handed class went_one)
+    all_gone : (class : Class) → IsPrefix (gone class went_one) (handed class went_one)
     all_gone Shown = ([], refl)
     all_gone New = ([], refl)
     all_gone Other = ([], refl)

@@ -4,7 +4,7 @@ use Rattle.std.specs.Prelude.{Option, Some, None, not, option_to_list, option_ma
 use Rattle.std.specs.List.{flat_map, filter_map, cons_option, AllByRecursion}
 use Rattle.srm_names.specs.declared.drawop.Drawop.{Drawop}
 use Rattle.srm_names.specs.FullName.{FullName}
-use Rattle.srm_names.specs.Histories.{Step, steps, steps_after}
+use Rattle.srm_names.specs.Histories.{Step, steps, steps_after, IsPrefix}
 use Rattle.srm_names.proofs.Snoc.{along}
 use Rattle.srm_names.proofs.Lists.{Has, Has-append, Has-front, Has-map, map-Has, Has-flat_map, flat_map-Has, Has-steps, Has-step_split, Has-split, Has-back, find-Has, at_parts, steps-append}
 use Rattle.srm_codec.specs.declared.datagram.Datagram.{Datagram}
@@ -15,7 +15,7 @@ use Rattle.srm_bucket.specs.declared.item.Item.{Item}
 use Rattle.srm_bucket.specs.Calls.{Classed, Call, Handed, Popped}
 use Rattle.srm_bucket.specs.Classes.{rank, in_class, handed_in, gone_in, gone}
 use Rattle.srm_bucket.specs.Classes as bucket
-use Rattle.srm_bucket.specs.Law.{BucketLaw, IsPrefixOf, GoesRight as CallRight}
+use Rattle.srm_bucket.specs.Law.{BucketLaw, GoesRight as CallRight}
 use Rattle.srm_entries.specs.Configs.{Config}
 use Rattle.srm_entries.specs.declared.entry.Entry.{Entry}
 use Rattle.srm_store.specs.Held.{has_name}
@@ -78,9 +78,9 @@ handed_data me d es i h e =
     flat_map-Has (λ (x : Entry). option_to_list x.effects.drawn) d s.this es (Has-steps s [] es k) (from_step me d s i m e)
 
 -- what went, by class, was handed in
-pub went_first : (rate depth : ℕ) (calls : List (Call Datagram)) → BucketLaw rate depth calls → (class : Class) → IsPrefixOf (gone class calls) (bucket.handed class calls)
+pub went_first : (rate depth : ℕ) (calls : List (Call Datagram)) → BucketLaw rate depth calls → (class : Class) → IsPrefix (gone class calls) (bucket.handed class calls)
 went_first rate depth calls law =
-    along (λ s. CallRight rate depth s.before (s.before ++ s.this ∷ []) s.this) (λ cs. (class : Class) → IsPrefixOf (gone class cs) (bucket.handed class cs))
+    along (λ s. CallRight rate depth s.before (s.before ++ s.this ∷ []) s.this) (λ cs. (class : Class) → IsPrefix (gone class cs) (bucket.handed class cs))
     (λ before call p right. right.in_order) [] calls (λ class. ([], refl)) law
 
 same_rank : (c : Class) → (rank c == rank c) ≡ true

@@ -12,11 +12,11 @@ use Rattle.srm_timers.specs.declared.arm.Arm.{Arm}
 use Rattle.srm_timers.specs.declared.arm.ArmKind.{ArmKind}
 use Rattle.srm_timers.specs.declared.arm.ArmKind.TheVariants.{Ask, Fix}
 use Rattle.srm_timers.specs.Arms as timers
-use Rattle.srm_timers.specs.Arms.{Setting, setting, same_kind, arm_names, AreDrawn}
+use Rattle.srm_timers.specs.Arms.{Setting, setting, same_kind, arm_names, AreDrawn, arm_of}
 use Rattle.srm_timers.specs.AskCalls as asks
 use Rattle.srm_timers.proofs.Arming.{same_itself, ascending_tail}
 use Rattle.srm_entries.specs.Configs.{Config}
-use Rattle.srm_entries.specs.Timers.{arm_of, low_of, high_of}
+use Rattle.srm_entries.specs.Timers.{low_of, high_of}
 use Rattle.srm_entries.proofs.Arming.{kind_and_name}
 
 -- the arm that was found, where it is of a kind

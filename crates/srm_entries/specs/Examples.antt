@@ -8,9 +8,9 @@ use Rattle.srm_entries.specs.Configs.{Config, default_settings, config_with}
 use Rattle.srm_entries.specs.declared.entry.Entry.{Entry}
 use Rattle.srm_timers.specs.declared.arm.Arm.{Arm}
 use Rattle.srm_entries.specs.Distances.{distance}
-use Rattle.srm_timers.specs.Arms.{setting}
+use Rattle.srm_timers.specs.Arms.{setting, arm_of}
 use Rattle.srm_entries.specs.Sample.{in_roster, zeros, drawop_of, hears, ticks, ask_arm, fix_arm, ask_set, fix_set}
-use Rattle.srm_entries.specs.Timers.{setting_of, ask_due, fix_due, arm_of, low_of, high_of}
+use Rattle.srm_entries.specs.Timers.{setting_of, ask_due, fix_due, low_of, high_of}
 
 abbrev config : ℕ → Config
 config me = in_roster me 4 4204

@@ -13,13 +13,13 @@ use Rattle.srm_codec.specs.declared.datagram.Datagram.TheVariants.{Data}
 use Rattle.srm_codec.specs.Spelling.{length_of}
 use Rattle.srm_bucket.specs.declared.class.Class.TheVariants.{New}
 use Rattle.srm_bucket.specs.Law.{level_at}
-use Rattle.srm_timers.specs.Arms.{setting}
+use Rattle.srm_timers.specs.Arms.{setting, arm_of}
 use Rattle.srm_entries.specs.Configs.{Config}
 use Rattle.srm_entries.specs.declared.entry.Entry.{Entry}
 use Rattle.srm_entries.specs.declared.state.AgentState.TheVariants.{Active}
 use Rattle.srm_entries.specs.declared.entry.Verdict.TheVariants.{Done}
 use Rattle.srm_entries.specs.Entries.{done, state, slots, last_moment, known, is_missing, released}
-use Rattle.srm_entries.specs.Timers.{setting_of, ask_due, fix_due, arm_of, low_of, high_of}
+use Rattle.srm_entries.specs.Timers.{setting_of, ask_due, fix_due, low_of, high_of}
 use Rattle.srm_entries.specs.Verdicts.{verdict_of}
 use Rattle.srm_entries.specs.Sessions.{ending, session_due}
 use Rattle.srm_entries.specs.Bucket.{Going, classed, bucket_calls}

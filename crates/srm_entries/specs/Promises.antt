@@ -2,8 +2,7 @@
 use Rattle.std.specs.Prelude.{◌≡◌, ℕ, ◌+◌, ◌≤◌, ◌<◌, ◌==◌, nat_le, true, false, ◌||◌, List, [], ◌∷◌, ◌++◌, length, map, filter, slice_get, Option, Some, None, if◌then◌else◌}
 use Rattle.srm_names.specs.declared.limits.TheConstants.{PAGES}
 use Rattle.srm_names.specs.declared.page.Page.{Page}
-use Rattle.srm_names.specs.declared.drawop.Drawop.{Drawop}
-use Rattle.srm_names.specs.Histories.{greatest}
+use Rattle.srm_names.specs.Histories.{IsPrefix, greatest}
 use Rattle.srm_names.specs.PageFeeds.{drawops_of, is_page_feed}
 use Rattle.srm_entries.specs.Configs.{Config}
 use Rattle.srm_entries.specs.declared.entry.Entry.{Entry}
@@ -43,12 +42,12 @@ IsNextDue c made es None = (is_gone (state es) ≡ true) × ((u : ℕ) → Nothi
 IsNextDue c made es (Some t) = (is_gone (state es) ≡ false) × (last_moment made es ≤ t)
     × ((u : ℕ) → last_moment made es ≤ u → u < t → MayDoNothing c made es u × NothingIsDue c made es u) × (MayDoNothing c made es t → ⊥)
 
--- With no premise on other members: what was given in a slot is a page feed, by source a front of what is released;
+-- With no premise on other members: what was given in a slot is a page feed, by source a prefix of what is released;
 -- a gone member sends nothing.
 pub record GivesReleased (es : List Entry) : Type 0 where
   pub feeds : (j : ℕ) → is_page_feed (given es j) ≡ true
   pub prefix : (j source : ℕ) (page : Page) → slice_get (slots es) j ≡ Some page
-      → (rest : List Drawop) × (drawops_of source (given es j) ++ rest ≡ released es (stream_on source page))
+      → IsPrefix (drawops_of source (given es j)) (released es (stream_on source page))
   pub silent : (before after : List Entry) (e : Entry) → es ≡ before ++ e ∷ after → is_gone (state before) ≡ true → e.effects.outs ≡ []
 
 abbrev pub GivesLaw : Type 0

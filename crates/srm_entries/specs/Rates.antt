@@ -2,14 +2,13 @@
 use Rattle.std.specs.Prelude.{◌≡◌, ℕ, ◌+◌, ◌<◌, ◌≤◌, true, List, [], ◌∷◌, ◌++◌, length, drop, if◌then◌else◌, Some, IfSome}
 use Rattle.std.specs.Bool.{OnTrue}
 use Rattle.std.specs.List.{flat_map, AllByRecursion}
-use Rattle.srm_names.specs.Histories.{steps}
+use Rattle.srm_names.specs.Histories.{steps, IsPrefix}
 use Rattle.srm_codec.specs.declared.datagram.Datagram.{Datagram}
 use Rattle.srm_codec.specs.Spelling.{length_of}
 use Rattle.srm_bucket.specs.declared.class.Class.{Class}
 use Rattle.srm_bucket.specs.declared.item.Item.{Item}
 use Rattle.srm_bucket.specs.Calls.{Classed}
 use Rattle.srm_bucket.specs.Classes.{rank, in_class, first_of_highest}
-use Rattle.srm_bucket.specs.Law.{IsPrefixOf}
 use Rattle.srm_bucket.specs.Ticks.{Tick, charge, allowance, level, cost}
 use Rattle.srm_bucket.specs.Tokens.{cost_of}
 use Rattle.srm_entries.specs.Configs.{Config}
@@ -54,7 +53,7 @@ ticks_of es = flat_map tick_in es
 --     highest_first   when something goes, nothing that was handed in of a higher class is left
 --     all_that_may    at the end of a tick nothing is left, or what would go next costs more than the level
 pub record RightAt (c : Config) (before : List Going) (this : Going) : Type 0 where
-  pub in_order : (class : Class) → IsPrefixOf (of_class class (gone_so_far (before ++ this ∷ []))) (of_class class (handed_so_far c.me (entries_of (before ++ this ∷ []))))
+  pub in_order : (class : Class) → IsPrefix (of_class class (gone_so_far (before ++ this ∷ []))) (of_class class (handed_so_far c.me (entries_of (before ++ this ∷ []))))
   pub highest_first : (first rest : List (Classed Datagram)) (i : Classed Datagram) → this.goes ≡ first ++ i ∷ rest → (class : Class) → rank class < rank i.class
       → of_class class (gone_so_far before ++ first) ≡ of_class class (handed_so_far c.me (entries_of (before ++ this ∷ [])))
   pub all_that_may : OnTrue (lets_go (record { before = before; this = this }))

@@ -4,7 +4,7 @@ use Rattle.std.proofs.Common.{lit<, lit≤, arith}
 use Rattle.srm_names.specs.declared.drawop.Drawop.{Drawop}
 use Rattle.srm_names.specs.declared.page_msg.PageMsg.{PageMsg}
 use Rattle.srm_names.specs.declared.page_msg.PageMsg.TheVariants.{Open, Draw, Close}
-use Rattle.srm_names.specs.Histories.{count_up}
+use Rattle.srm_names.specs.Histories.{count_up, IsPrefix}
 use Rattle.srm_names.specs.Names.{first_page, named, names_up_to}
 use Rattle.srm_codec.specs.declared.datagram.Datagram.{Datagram}
 use Rattle.srm_codec.specs.declared.datagram.Datagram.TheVariants.{Data, Request, Repair, Session}
@@ -14,7 +14,7 @@ use Rattle.srm_bucket.specs.declared.class.Class.TheVariants.{Shown, New, Other}
 use Rattle.srm_bucket.specs.Calls.{Classed, Call, Handed, Popped}
 use Rattle.srm_bucket.specs.Classes.{rank, gone}
 use Rattle.srm_bucket.specs.Classes as bucket
-use Rattle.srm_bucket.specs.Law.{IsPrefixOf, may_go, GoesRight as CallRight}
+use Rattle.srm_bucket.specs.Law.{may_go, GoesRight as CallRight}
 use Rattle.srm_entries.specs.declared.entry.Entry.{Entry}
 use Rattle.srm_entries.specs.declared.state.AgentState.TheVariants.{Active, Leaving, Gone}
 use Rattle.srm_entries.specs.declared.cause.Cause.TheVariants as causes
@@ -222,19 +222,19 @@ bucket_holds = (take 3 two_going, refl, (goes_right, (goes_right, (tick_right, t
     drawn : CallRight 8000 1051 [] handed_one (Handed (data_of 1))
     drawn = record { in_order = prefixes; highest_first = tt; not_too_much = tt; all_that_may = tt }
       where
-        prefixes : (class : Class) → IsPrefixOf (gone class handed_one) (bucket.handed class handed_one)
+        prefixes : (class : Class) → IsPrefix (gone class handed_one) (bucket.handed class handed_one)
         prefixes class = (bucket.handed class handed_one, refl)
 
     drawn_too : CallRight 8000 1051 handed_one handed_two (Handed (data_of 2))
     drawn_too = record { in_order = prefixes; highest_first = tt; not_too_much = tt; all_that_may = tt }
       where
-        prefixes : (class : Class) → IsPrefixOf (gone class handed_two) (bucket.handed class handed_two)
+        prefixes : (class : Class) → IsPrefix (gone class handed_two) (bucket.handed class handed_two)
         prefixes class = (bucket.handed class handed_two, refl)
 
     goes : CallRight 8000 1051 handed_two popped_one (Popped 10 (Some (data_of 1)))
     goes = record { in_order = prefixes; highest_first = higher; not_too_much = (lit≤ tt, lit≤ tt, tt); all_that_may = tt }
       where
-        prefixes : (class : Class) → IsPrefixOf (gone class popped_one) (bucket.handed class popped_one)
+        prefixes : (class : Class) → IsPrefix (gone class popped_one) (bucket.handed class popped_one)
         prefixes Shown = ([], refl)
         prefixes New = ((data_of 2).item ∷ [], refl)
         prefixes Other = ([], refl)
@@ -247,7 +247,7 @@ bucket_holds = (take 3 two_going, refl, (goes_right, (goes_right, (tick_right, t
     ends : CallRight 8000 1051 popped_one popped_two (Popped 10 None)
     ends = record { in_order = prefixes; highest_first = tt; not_too_much = (lit≤ tt, lit≤ tt, tt); all_that_may = lit< tt }
       where
-        prefixes : (class : Class) → IsPrefixOf (gone class popped_two) (bucket.handed class popped_two)
+        prefixes : (class : Class) → IsPrefix (gone class popped_two) (bucket.handed class popped_two)
         prefixes Shown = ([], refl)
         prefixes New = ((data_of 2).item ∷ [], refl)
         prefixes Other = ([], refl)

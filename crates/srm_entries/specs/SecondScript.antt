@@ -10,7 +10,7 @@ use Rattle.srm_codec.specs.declared.datagram.Datagram.{Datagram}
 use Rattle.srm_codec.specs.declared.datagram.Datagram.TheVariants.{Data, Request, Repair, Session}
 use Rattle.srm_codec.specs.Spelling.{bits_set, length_of}
 use Rattle.srm_bucket.specs.declared.class.Class.TheVariants.{Shown, New}
-use Rattle.srm_timers.specs.Arms.{Setting, setting}
+use Rattle.srm_timers.specs.Arms.{Setting, setting, arm_of}
 use Rattle.srm_entries.specs.Configs.{Config}
 use Rattle.srm_entries.specs.declared.entry.Entry.{Entry}
 use Rattle.srm_entries.specs.declared.state.AgentState.TheVariants.{Active, Leaving, Gone}
@@ -18,7 +18,7 @@ use Rattle.srm_entries.specs.declared.entry.Input.TheVariants.{Drew, Ticked, Ask
 use Rattle.srm_entries.specs.declared.fault.AgentFault.TheVariants as faults
 use Rattle.srm_entries.specs.declared.entry.Verdict.TheVariants.{Done, Refused}
 use Rattle.srm_entries.specs.Entries.{done, state, is_missing, released}
-use Rattle.srm_entries.specs.Timers.{setting_of, ask_due, fix_due, arm_of, held_off, first_asker}
+use Rattle.srm_entries.specs.Timers.{setting_of, ask_due, fix_due, held_off, first_asker}
 use Rattle.srm_entries.specs.Verdicts.{verdict_of, final}
 use Rattle.srm_entries.specs.Sessions.{ending, row_due, row_at, echoes_due, is_farewell, members_left}
 use Rattle.srm_entries.specs.Bucket.{classed}

@@ -14,7 +14,7 @@ use Rattle.srm_timers.specs.declared.arm.ArmKind.{ArmKind}
 use Rattle.srm_timers.specs.declared.arm.ArmKind.TheVariants.{Ask, Fix}
 use Rattle.srm_entries.specs.Entries.{heard, ticked, state, is_gone, is_held, is_missing}
 use Rattle.srm_timers.specs.declared.arm.Armed.{Armed}
-use Rattle.srm_timers.specs.Arms.{same_kind, ran_out, Setting, setting, next_exponent, backs_off}
+use Rattle.srm_timers.specs.Arms.{arm_of, same_kind, ran_out, Setting, setting, next_exponent, backs_off}
 use Rattle.srm_entries.specs.Distances.{distance}
 
 abbrev pub arm_in : ArmKind → FullName → Entry → Option Armed
@@ -100,9 +100,6 @@ high_of c a = times a.kind
     times : ArmKind → ℕ
     times Ask = 2 ^ a.exponent * (c.c1 + c.c2) * a.distance
     times Fix = (c.d1 + c.d2) * a.distance
-
-abbrev pub arm_of : FullName → List Arm → Option Arm
-arm_of n arms = find (λ a. same_name n a.name) arms
 
 -- the entry holds these arms and no others, in order of name
 pub record ArmsRight (c : Config) (before : List Entry) (e : Entry) : Type 0 where

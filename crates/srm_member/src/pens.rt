@@ -5,7 +5,7 @@ ghost use Rattle.std.specs.Bool.{OnTrue, OnFalse};
 ghost use Rattle.srm_member.specs.Strokes.{stroke_of, DrewFront};
 
 use bytes::Bytes;
-use srm_names::{Member, Page};
+use srm_names::Page;
 use srm_pages::{Inked, Pen, Stroke};
 use std::alloc::{AllocError, Global};
 use std::collections::VecDeque;
@@ -111,7 +111,7 @@ fn draw<R: time::Clock + Wait>(rt: &R, pen: &mut Pen, body: Bytes, ended: &Atomi
 {
     let mut stroke = Stroke {
         pen: pen.place(),
-        page: first_page(),
+        page: Page::first(),
         body,
     };
     for _ in rt.forever() {
@@ -125,14 +125,4 @@ fn draw<R: time::Clock + Wait>(rt: &R, pen: &mut Pen, body: Bytes, ended: &Atomi
         thread::sleep(rt, Duration::from_micros(WAIT));
     }
     unreachable!()
-}
-
-/// The page that every member has from the start.
-fn first_page() -> Page
-    ensures { result ≡ record { creator = 0; number = 0 } }
-{
-    let Some(creator) = Member::new(0) else {
-        unreachable!()
-    };
-    Page { creator, number: 0 }
 }

@@ -8,10 +8,10 @@ use Rattle.std.proofs.lemmas.List.{append-nil}
 use Rattle.srm_names.specs.declared.drawop.Drawop.{Drawop}
 use Rattle.srm_names.specs.declared.page_msg.PageMsg.{PageMsg}
 use Rattle.srm_names.specs.declared.page_msg.PageMsg.TheVariants.{Open, Draw, Left, Close}
-use Rattle.srm_names.specs.Histories.{Step, steps, steps_after}
+use Rattle.srm_names.specs.Histories.{Step, steps, steps_after, IsPrefix}
 use Rattle.srm_names.specs.PageFeeds.{continues, is_page_feed, drawops_of, drawop_from, leaves, is_open_at, opened, is_close}
 use Rattle.srm_names.proofs.Snoc.{list_all-append, list_any-snoc}
-use Rattle.srm_names.proofs.Lists.{IsFront, steps-append}
+use Rattle.srm_names.proofs.Lists.{steps-append}
 
 abbrev goes_on : Step PageMsg → Bool
 goes_on s = continues s.before s.this
@@ -20,7 +20,7 @@ feed_parts : (xs ys : List PageMsg) → is_page_feed (xs ++ ys) ≡ true → (is
 feed_parts xs ys fed = and_parts _ _ (sym (list_all-append goes_on (steps xs) (steps_after xs ys)) ∙ ap (list_all goes_on) (sym (steps-append xs ys)) ∙ fed)
 
 -- a front of a page feed is one
-pub is_page_feed-front : (xs ys : List PageMsg) → IsFront xs ys → is_page_feed ys ≡ true → is_page_feed xs ≡ true
+pub is_page_feed-front : (xs ys : List PageMsg) → IsPrefix xs ys → is_page_feed ys ≡ true → is_page_feed xs ≡ true
 is_page_feed-front xs ys (rest, e) fed = (feed_parts xs rest (ap is_page_feed e ∙ fed)).0
 
 third : (a b c d : Bool) → (a && b && not c && d) ≡ true → c ≡ false
@@ -47,7 +47,7 @@ stops s before (m ∷ rest) all left =
     ∙ stops s (before ++ m ∷ []) rest k.1 (list_any-snoc (leaves s) before m ∙ or_left _ _ left)
 
 -- after a source left, no drawop of it comes
-pub left_is_last : (s : ℕ) (xs ys : List PageMsg) → IsFront xs ys → is_page_feed ys ≡ true → list_any (leaves s) xs ≡ true → drawops_of s xs ≡ drawops_of s ys
+pub left_is_last : (s : ℕ) (xs ys : List PageMsg) → IsPrefix xs ys → is_page_feed ys ≡ true → list_any (leaves s) xs ≡ true → drawops_of s xs ≡ drawops_of s ys
 left_is_last s xs ys (rest, e) fed left =
     sym (append-nil (drawops_of s xs))
     ∙ ap (λ zs. drawops_of s xs ++ zs) (sym (stops s xs rest (feed_parts xs rest (ap is_page_feed e ∙ fed)).1 left))

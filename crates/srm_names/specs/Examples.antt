@@ -4,8 +4,8 @@ use Rattle.srm_names.specs.declared.page.Page.{Page}
 use Rattle.srm_names.specs.declared.stream.Stream.{Stream}
 use Rattle.srm_names.specs.declared.drawop.Drawop.{Drawop}
 use Rattle.srm_names.specs.declared.page_msg.PageMsg.TheVariants.{Open, Draw, Left, Close}
-use Rattle.srm_names.specs.Histories.{steps, first_of, last_of, since, greatest, first_best, firsts, count_up, until_none}
-use Rattle.srm_names.specs.Names.{first_page, name_below, ascending, named, names_up_to, among}
+use Rattle.srm_names.specs.Histories.{IsPrefix, steps, first_of, last_of, since, greatest, first_best, firsts, count_up, until_none}
+use Rattle.srm_names.specs.Names.{first_page, name_below, echo_below, ascending, named, names_up_to, among}
 use Rattle.srm_names.specs.PageFeeds.{is_page_feed, drawops_of}
 
 abbrev later_page : Page
@@ -45,7 +45,19 @@ three_is_among = refl
 four_is_not : among (names_up_to (stream_of 2 first_page) 3) (named (stream_of 2 first_page) 4) ≡ false
 four_is_not = refl
 
+echoes_go_by_member : echo_below (record { member = 1; t1 = 9; delay = 0 }) (record { member = 2; t1 = 5; delay = 0 }) ≡ true
+echoes_go_by_member = refl
+
 -- histories
+begins_with : IsPrefix {X = ℕ} (5 ∷ 6 ∷ []) (5 ∷ 6 ∷ 7 ∷ [])
+begins_with = (7 ∷ [], refl)
+
+begins_with_nothing : IsPrefix {X = ℕ} [] (5 ∷ [])
+begins_with_nothing = (5 ∷ [], refl)
+
+begins_otherwise : IsPrefix {X = ℕ} (6 ∷ []) (5 ∷ 6 ∷ []) → ⊥
+begins_otherwise (rest, is) = cc
+
 the_steps : steps {X = ℕ} (5 ∷ 6 ∷ []) ≡ record { before = []; this = 5 } ∷ record { before = 5 ∷ []; this = 6 } ∷ []
 the_steps = refl
 

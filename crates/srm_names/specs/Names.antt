@@ -3,6 +3,7 @@ use Rattle.std.specs.Prelude.{◌≡◌, ℕ, ◌==◌, Bool, true, ◌&&◌, �
 use Rattle.std.specs.List.{list_any}
 use Rattle.srm_names.specs.declared.page.Page.{Page}
 use Rattle.srm_names.specs.declared.stream.Stream.{Stream}
+use Rattle.srm_names.specs.declared.echo.Echo.{Echo}
 use Rattle.srm_names.specs.FullName.{FullName}
 use Rattle.srm_names.specs.Histories.{count_up}
 
@@ -28,6 +29,10 @@ stream_below a b = nat_lt a.source b.source || (a.source == b.source) && page_be
 -- the order of names: by source, page creator, page number, number
 abbrev pub name_below : FullName → FullName → Bool
 name_below a b = stream_below a.stream b.stream || same_stream a.stream b.stream && nat_lt a.number b.number
+
+-- the order of echoes: by member
+abbrev pub echo_below : Echo → Echo → Bool
+echo_below a b = nat_lt a.member b.member
 
 -- each is below the next
 abbrev pub ascending : {X : Type 0} → (X → X → Bool) → List X → Bool

@@ -1,5 +1,7 @@
 //! Pages.
 
+ghost use Rattle.std.specs.Prelude.{◌≡◌};
+
 use crate::member::Member;
 
 /// A page, by the member that began it and a number local to that member. The first page is number 0 of member 0.
@@ -7,4 +9,18 @@ use crate::member::Member;
 pub struct Page {
     pub creator: Member,
     pub number: u16,
+}
+
+impl Page {
+    ghost use Rattle.srm_names.specs.Names.{first_page};
+
+    /// The page that each member has from the start.
+    pub fn first() -> Page
+        ensures { result ≡ first_page }
+    {
+        Page {
+            creator: Member::new(0).unwrap(),
+            number: 0,
+        }
+    }
 }

@@ -1,7 +1,6 @@
 //! The rows of all streams.
 
 ghost use Rattle.std.specs.Prelude.{◌≡◌, ◌≢◌, ◌≤◌, ◌<◌, ◌+◌, ◌*◌, ◌↔◌, nat_le, OnOk, IsOk, IfOk, OnErr, IsErr, [], length, map, take, vec_capacity};
-ghost use Rattle.srm_names.specs.Names.{first_page};
 ghost use Rattle.srm_store.specs.Held.{insert_answer, names_after, page_of_name};
 ghost use Rattle.srm_store.specs.Rows.{row_unheld};
 ghost use Rattle.srm_store.specs.declared.fault.StoreFault.TheVariants.{PageLimit, Memory};
@@ -46,7 +45,7 @@ impl Table {
         ensures { IfOk result IsNewTable }
     {
         let mut pages = Vec::with_capacity(alloc, PAGES as usize)?;
-        pages.push(first_page())?;
+        pages.push(Page::first())?;
         let mut rows = Vec::with_capacity(alloc, ROWS)?;
         for _row in 0..ROWS {
             rows.push(Row::new(alloc))?;
@@ -165,16 +164,6 @@ impl Table {
             self.rows[slot * MEMBERS as usize + source].make_place(number)?;
         }
         Ok(())
-    }
-}
-
-/// The page that each table has from the start.
-fn first_page() -> Page
-    ensures { result ≡ first_page }
-{
-    Page {
-        creator: Member::new(0).unwrap(),
-        number: 0,
     }
 }
 

@@ -4,7 +4,7 @@ use Rattle.std.specs.Prelude.{Some, None, option_map, nat_lt, if◌then◌else�
 use Rattle.std.specs.List.{AllByRecursion}
 use Rattle.srm_names.specs.declared.stream.Stream.{Stream}
 use Rattle.srm_names.specs.FullName.{FullName}
-use Rattle.srm_names.specs.Histories.{steps, greatest}
+use Rattle.srm_names.specs.Histories.{steps, greatest, IsPrefix}
 use Rattle.srm_names.specs.Names.{first_page, named, same_page, same_stream}
 use Rattle.srm_names.proofs.Same.{same_stream-is}
 use Rattle.srm_codec.specs.declared.datagram.Datagram.{Datagram}
@@ -14,7 +14,7 @@ use Rattle.srm_bucket.specs.declared.class.Class.{Class}
 use Rattle.srm_bucket.specs.declared.class.Class.TheVariants.{Shown, New, Other}
 use Rattle.srm_bucket.specs.Calls.{Classed, Call, Handed, Popped}
 use Rattle.srm_bucket.specs.Classes.{rank, handed, gone}
-use Rattle.srm_bucket.specs.Law.{IsPrefixOf, BucketLaw, GoesRight as CallRight}
+use Rattle.srm_bucket.specs.Law.{BucketLaw, GoesRight as CallRight}
 use Rattle.srm_entries.specs.Configs.{Config}
 use Rattle.srm_entries.specs.declared.entry.Entry.{Entry}
 use Rattle.srm_entries.specs.declared.state.AgentState.TheVariants.{Active}
@@ -139,7 +139,7 @@ law_0 = (hands, (goes, (ends, tt)))
     hands : CallRight 8000 4204 [] handed_one (Handed one_data)
     hands = record { in_order = λ class. (handed class handed_one, refl); highest_first = tt; not_too_much = tt; all_that_may = tt }
 
-    all_gone : (class : Class) → IsPrefixOf (gone class went_one) (handed class went_one)
+    all_gone : (class : Class) → IsPrefix (gone class went_one) (handed class went_one)
     all_gone Shown = ([], refl)
     all_gone New = ([], refl)
     all_gone Other = ([], refl)

@@ -8,7 +8,7 @@ use Rattle.srm_names.specs.declared.drawop.Drawop.{Drawop}
 use Rattle.srm_names.specs.FullName.{FullName}
 use Rattle.srm_names.specs.Names.{named}
 use Rattle.srm_names.specs.PageFeeds.{drawops_of, drawop_from, leaves, is_page_feed}
-use Rattle.srm_names.proofs.Lists.{Has, IsFront, front_of_front, front_whole, filter_map-front, list_any-front, until_none-front, find-Has}
+use Rattle.srm_names.proofs.Lists.{Has, front_of_front, front_whole, filter_map-front, list_any-front, until_none-front, find-Has}
 use Rattle.srm_names.proofs.Same.{same_name-is}
 use Rattle.srm_names.proofs.Feeds.{is_page_feed-front, left_is_last}
 use Rattle.srm_entries.specs.declared.entry.Entry.{Entry}
@@ -21,7 +21,8 @@ use Rattle.srm_entries.proofs.Drawing.{drawn_at}
 use Rattle.srm_entries.proofs.Feeding.{FeedsRight, FedRight, feeds_right, final_told, slot_part, slot_left}
 use Rattle.srm_world.specs.declared.start.Start.{Start}
 use Rattle.srm_world.specs.Traces.{of_member, drawn_by, taken_by, IsHonest, IsRunOf}
-use Rattle.srm_world.specs.Claims.{IsPrefixOf, TakesAreDrawn, TakesLaw}
+use Rattle.srm_names.specs.Histories.{IsPrefix}
+use Rattle.srm_world.specs.Claims.{TakesAreDrawn, TakesLaw}
 use Rattle.srm_world.proofs.Members.{MemberRun, run_or_none}
 use Rattle.srm_world.proofs.Honesty.{told_is_true, held_was_drawn}
 
@@ -38,7 +39,7 @@ drawn_place starts es run source page k d name h = which (run_or_none starts es 
     which (inr none) = absurd (subst (λ w. Has d (drawn w)) none own)
 
 -- what is released of a source is a front of what it drew
-pub released_was_drawn : (starts : List Start) (es : List Entry) → IsRunOf starts es → IsHonest es → (m source : ℕ) (page : Page) → IsFront (released (of_member m es) (stream_on source page)) (drawn_by es source page)
+pub released_was_drawn : (starts : List Start) (es : List Entry) → IsRunOf starts es → IsHonest es → (m source : ℕ) (page : Page) → IsPrefix (released (of_member m es) (stream_on source page)) (drawn_by es source page)
 released_was_drawn starts es run honest m source page =
     until_none-front (λ k. held_at (of_member m es) (named (stream_on source page) k)) 1 (greatest_in (map (λ (d : Drawop). d.name) (held (of_member m es))) (stream_on source page)) (drawn_by es source page) (λ k d h. at k d h)
   where
@@ -49,7 +50,7 @@ released_was_drawn starts es run honest m source page =
 
 -- what holds in a slot of a member that has a run
 slot_takes : (starts : List Start) (es : List Entry) → IsRunOf starts es → IsHonest es → (m j source : ℕ) (page : Page) → FedRight (of_member m es) (Some page) (given (of_member m es) j)
-    → IsFront (taken (of_member m es) j) (given (of_member m es) j) → IsPrefixOf (drawops_of source (taken_by es m j)) (drawn_by es source page)
+    → IsPrefix (taken (of_member m es) j) (given (of_member m es) j) → IsPrefix (drawops_of source (taken_by es m j)) (drawn_by es source page)
 slot_takes starts es run honest m j source page feeds takes =
     let given_part : List Drawop = drawops_of source (given (of_member m es) j) in
     front_of_front (drawops_of source (taken_by es m j)) given_part (drawn_by es source page)
@@ -58,7 +59,7 @@ slot_takes starts es run honest m j source page feeds takes =
     (slot_part (of_member m es) page (given (of_member m es) j) source feeds) (released_was_drawn starts es run honest m source page))
 
 slot_whole : (starts : List Start) (es : List Entry) → IsRunOf starts es → IsHonest es → (m j source : ℕ) (page : Page) → FedRight (of_member m es) (Some page) (given (of_member m es) j)
-    → IsFront (taken (of_member m es) j) (given (of_member m es) j) → list_any (leaves source) (taken_by es m j) ≡ true → drawops_of source (taken_by es m j) ≡ drawn_by es source page
+    → IsPrefix (taken (of_member m es) j) (given (of_member m es) j) → list_any (leaves source) (taken_by es m j) ≡ true → drawops_of source (taken_by es m j) ≡ drawn_by es source page
 slot_whole starts es run honest m j source page feeds takes left =
     let given_left = list_any-front (leaves source) (taken_by es m j) (given (of_member m es) j) takes left in
     let all_given : length (drawops_of source (taken_by es m j)) ≡ length (drawops_of source (given (of_member m es) j)) =
@@ -81,9 +82,9 @@ takes_are_drawn starts es run honest = record {
     slot_of : (m j : ℕ) (page : Page) → slice_get (slots (of_member m es)) j ≡ Some page → (r : MemberRun m es) → FedRight (of_member m es) (Some page) (given (of_member m es) j)
     slot_of m j page slot r = subst (λ o. FedRight (of_member m es) o (given (of_member m es) j)) slot ((member_feeds es m r).feeds j)
 
-    prefix : (m j source : ℕ) (page : Page) → slice_get (slots (of_member m es)) j ≡ Some page → MemberRun m es ⊎ (of_member m es ≡ []) → IsPrefixOf (drawops_of source (taken_by es m j)) (drawn_by es source page)
+    prefix : (m j source : ℕ) (page : Page) → slice_get (slots (of_member m es)) j ≡ Some page → MemberRun m es ⊎ (of_member m es ≡ []) → IsPrefix (drawops_of source (taken_by es m j)) (drawn_by es source page)
     prefix m j source page slot (inl r) = slot_takes starts es run honest m j source page (slot_of m j page slot r) ((member_feeds es m r).takes j)
-    prefix m j source page slot (inr none) = subst (λ w. IsPrefixOf (drawops_of source (taken w j)) (drawn_by es source page)) (sym none) (drawn_by es source page, refl)
+    prefix m j source page slot (inr none) = subst (λ w. IsPrefix (drawops_of source (taken w j)) (drawn_by es source page)) (sym none) (drawn_by es source page, refl)
 
     whole : (m j source : ℕ) (page : Page) → slice_get (slots (of_member m es)) j ≡ Some page → list_any (leaves source) (taken_by es m j) ≡ true → MemberRun m es ⊎ (of_member m es ≡ [])
         → drawops_of source (taken_by es m j) ≡ drawn_by es source page

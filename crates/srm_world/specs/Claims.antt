@@ -2,8 +2,8 @@
 use Rattle.std.specs.Prelude.{◌≡◌, ◌≢◌, ℕ, true, false, List, [], ◌∷◌, ◌++◌, map, Some, slice_get, Contains}
 use Rattle.std.specs.List.{list_any, AllByRecursion}
 use Rattle.srm_names.specs.declared.page.Page.{Page}
-use Rattle.srm_names.specs.declared.drawop.Drawop.{Drawop}
 use Rattle.srm_names.specs.FullName.{FullName}
+use Rattle.srm_names.specs.Histories.{IsPrefix}
 use Rattle.srm_names.specs.PageFeeds.{drawops_of, leaves, is_page_feed}
 use Rattle.srm_codec.specs.declared.datagram.Datagram.{Datagram}
 use Rattle.srm_codec.specs.declared.datagram.Datagram.TheVariants.{Session}
@@ -18,14 +18,11 @@ use Rattle.srm_entries.specs.Rates.{KeepsRate}
 use Rattle.srm_world.specs.declared.start.Start.{Start}
 use Rattle.srm_world.specs.Traces.{Trace, Journal, of_member, drawn_by, taken_by, IsHonest, IsRun, IsUntaken}
 
-abbrev pub IsPrefixOf : List Drawop → List Drawop → Type 0
-IsPrefixOf xs ys = (rest : List Drawop) × (xs ++ rest ≡ ys)
-
 -- What was taken in a slot is a page feed. In the slot of a page, what was taken of a source is a prefix of what that source
 -- drew on the page, and the whole of it once the source's leaving was taken.
 pub record TakesAreDrawn (es : List Entry) : Type 0 where
   pub prefix : (m j source : ℕ) (page : Page) → slice_get (slots (of_member m es)) j ≡ Some page
-      → IsPrefixOf (drawops_of source (taken_by es m j)) (drawn_by es source page)
+      → IsPrefix (drawops_of source (taken_by es m j)) (drawn_by es source page)
   pub whole : (m j source : ℕ) (page : Page) → slice_get (slots (of_member m es)) j ≡ Some page
       → list_any (leaves source) (taken_by es m j) ≡ true → drawops_of source (taken_by es m j) ≡ drawn_by es source page
   pub feeds : (m j : ℕ) → is_page_feed (taken_by es m j) ≡ true

@@ -15,7 +15,7 @@ ghost use Rattle.srm_entries.specs.Sessions.{members_left, session_pause, if_pos
 ghost use Rattle.srm_entries.specs.Verdicts.{stream_on};
 
 use super::Agent;
-use srm_agent_parts::{Outgoing, first_page, member, page_in_range, stream_in_range};
+use srm_agent_parts::{Outgoing, member, page_in_range, stream_in_range};
 use srm_codec::{Datagram, length};
 use srm_names::{Echo, Items, Member, Name, Page, Stream};
 use srm_timers::Words;
@@ -175,7 +175,7 @@ impl<W: Words + Drop> Agent<W> {
     {
         let stream = Stream {
             source: member,
-            page: first_page(),
+            page: Page::first(),
         };
         self.store.final_of(stream).is_some()
     }

@@ -1,6 +1,6 @@
 use Rattle.std.proofs.Common.{rules}
 use Rattle.std.proofs.lemmas.List.Sorted.{answers_always}
-use Rattle.srm_codec.specs.Spelling.{echo_below}
+use Rattle.srm_names.specs.Names.{echo_below}
 use Rattle.srm_codec.proofs.Rising.{ascending_answer}
 use Rattle.srm_codec.proofs.spellable.echoes_rise.Goals as goal
 
