@@ -7,9 +7,9 @@ ghost use Rattle.srm_world.specs.Events.{IsTimely};
 mod event;
 mod header;
 mod line;
+mod line_reader;
 mod number;
 mod roster;
-mod words;
 
 use crate::fault::Fault;
 use header::Header;

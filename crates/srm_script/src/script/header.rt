@@ -5,9 +5,9 @@ ghost use Rattle.srm_names.specs.declared.limits.TheConstants.{MEMBERS};
 ghost use Rattle.srm_bucket.specs.declared.limits.TheConstants.{LEAST_RATE, GREATEST_RATE, LEAST_DEPTH, GREATEST_DEPTH};
 ghost use Rattle.srm_world.specs.Traces.{IsRoster, started};
 
+use super::line_reader::{LineFault, LineReader};
 use super::number::read_number;
 use super::roster::roster;
-use super::words::{LineFault, Words};
 use srm_agent::Config;
 use srm_bucket::{GREATEST_DEPTH, GREATEST_RATE, LEAST_DEPTH, LEAST_RATE};
 use srm_timers::Listed;
@@ -65,13 +65,13 @@ impl Header {
     }
 
     /// `R D`.
-    pub fn read_bucket(&mut self, mut words: Words<'_>) -> Result<(), LineFault> {
+    pub fn read_bucket(&mut self, mut reader: LineReader<'_>) -> Result<(), LineFault> {
         if !matches!(self.last, Kind::Members) {
             return Err(LineFault::Bad);
         }
-        let rate = words.number_from(LEAST_RATE, GREATEST_RATE)?;
-        let depth = words.number_from(LEAST_DEPTH, GREATEST_DEPTH)?;
-        words.end()?;
+        let rate = reader.number_from(LEAST_RATE, GREATEST_RATE)?;
+        let depth = reader.number_from(LEAST_DEPTH, GREATEST_DEPTH)?;
+        reader.end()?;
         self.rate = rate;
         self.depth = depth;
         self.last = Kind::Bucket;
@@ -79,15 +79,19 @@ impl Header {
     }
 
     /// `M W ..`, where no line spoke of this member or one behind it.
-    pub fn read_words(&mut self, alloc: Global, mut words: Words<'_>) -> Result<(), LineFault> {
+    pub fn read_words(
+        &mut self,
+        alloc: Global,
+        mut reader: LineReader<'_>,
+    ) -> Result<(), LineFault> {
         if matches!(self.last, Kind::Timers | Kind::Event) {
             return Err(LineFault::Bad);
         }
-        let member = words.member()?;
+        let member = reader.member()?;
         if member >= self.members || usize::from(member) < self.words.len() {
             return Err(LineFault::Bad);
         }
-        let listed = read_list(alloc, words)?;
+        let listed = read_list(alloc, reader)?;
         fill(alloc, &mut self.words, member)?;
         self.words
             .push(Listed::new(listed))
@@ -97,11 +101,11 @@ impl Header {
     }
 
     /// Nothing more.
-    pub fn read_timers(&mut self, words: Words<'_>) -> Result<(), LineFault> {
+    pub fn read_timers(&mut self, reader: LineReader<'_>) -> Result<(), LineFault> {
         if matches!(self.last, Kind::Timers | Kind::Event) {
             return Err(LineFault::Bad);
         }
-        words.end()?;
+        reader.end()?;
         self.timers = true;
         self.last = Kind::Timers;
         Ok(())
@@ -148,9 +152,9 @@ fn fill(alloc: Global, words: &mut Vec<Listed>, count: u8) -> Result<(), AllocEr
 }
 
 /// One word or more, separated by one space.
-fn read_list(alloc: Global, words: Words<'_>) -> Result<Vec<u64>, LineFault> {
+fn read_list(alloc: Global, reader: LineReader<'_>) -> Result<Vec<u64>, LineFault> {
     let mut listed = Vec::new(alloc);
-    for word in words.rest().ok_or(LineFault::Bad)?.split(' ') {
+    for word in reader.rest().ok_or(LineFault::Bad)?.split(' ') {
         let number = read_number(word, u64::MAX).ok_or(LineFault::Bad)?;
         listed.push(number).map_err(AllocError::from)?;
     }

@@ -6,7 +6,7 @@ ghost use Rattle.srm_world.specs.Events.{IsTimely};
 
 use super::event::read_event;
 use super::header::Header;
-use super::words::{LineFault, Words};
+use super::line_reader::{LineFault, LineReader};
 use srm_names::MEMBERS;
 use srm_world::Event;
 use std::alloc::{AllocError, Global};
@@ -16,12 +16,12 @@ pub fn read_members(line: &[u8]) -> Result<u8, LineFault>
     ensures some { IfOk result (λ members. 0 < members) }
     ensures few { IfOk result (λ members. members ≤ MEMBERS) }
 {
-    let mut words = Words::new(line)?;
-    if words.next()? != "members" {
+    let mut reader = LineReader::new(line)?;
+    if reader.next()? != "members" {
         return Err(LineFault::Bad);
     }
-    let members = words.number_from(1, u32::from(MEMBERS))?;
-    words.end()?;
+    let members = reader.number_from(1, u32::from(MEMBERS))?;
+    reader.end()?;
     Ok(members as u8)
 }
 
@@ -35,13 +35,13 @@ pub fn read_line(
     requires { All IsTimely events.old.items }
     ensures { All IsTimely events.new.items }
 {
-    let mut words = Words::new(line)?;
-    match words.next()? {
-        "bucket" => header.read_bucket(words),
-        "words" => header.read_words(alloc, words),
-        "timers" => header.read_timers(words),
+    let mut reader = LineReader::new(line)?;
+    match reader.next()? {
+        "bucket" => header.read_bucket(reader),
+        "words" => header.read_words(alloc, reader),
+        "timers" => header.read_timers(reader),
         kind => {
-            let event = read_event(alloc, kind, words)?;
+            let event = read_event(alloc, kind, reader)?;
             header.end();
             events.push(event).map_err(AllocError::from)?;
             Ok(())

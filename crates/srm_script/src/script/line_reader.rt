@@ -1,4 +1,4 @@
-//! The words of a line.
+//! Reading a line, word by word.
 
 ghost use Rattle.std.specs.Prelude.{◌≤◌, IfOk};
 ghost use Rattle.srm_names.specs.declared.limits.TheConstants.{MOMENT};
@@ -33,18 +33,18 @@ impl From<AllocError> for LineFault {
 
 /// What of a line isn't read yet. After the last word nothing is left, which an empty word is not.
 #[derive(Drop)]
-pub struct Words<'a> {
+pub struct LineReader<'a> {
     left: Option<&'a str>,
 }
 
-impl<'a> Words<'a> {
-    /// The words of a line of printable ASCII.
-    pub fn new(line: &'a [u8]) -> Result<Words<'a>, LineFault> {
+impl<'a> LineReader<'a> {
+    /// The whole of a line, which is printable ASCII.
+    pub fn new(line: &'a [u8]) -> Result<LineReader<'a>, LineFault> {
         if !line.iter().all(|byte| (b' '..=b'~').contains(byte)) {
             return Err(LineFault::Bad);
         }
         match str::from_utf8(line) {
-            Ok(text) => Ok(Words { left: Some(text) }),
+            Ok(text) => Ok(LineReader { left: Some(text) }),
             Err(_) => Err(LineFault::Bad),
         }
     }
