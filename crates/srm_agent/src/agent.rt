@@ -31,15 +31,14 @@ use crate::noted::Noted;
 use srm_agent_parts::{Feed, Outgoing, PageTable, Timers};
 use srm_bucket::Bucket;
 use srm_distance::Distances;
-use srm_entries::{AgentFault, AgentState, Config, Effects, Entry, Input, Verdict};
+use srm_entries::{
+    AgentFault, AgentState, Config, Effects, Entry, Input, SHORTEST_PAUSE, Verdict,
+};
 use srm_names::{Items, PAGES, Page, PageMsg};
 use srm_store::Store;
 use srm_timers::Words;
 use std::alloc::{AllocError, Global};
 use std::marker::Model;
-
-/// Microseconds from the making of an agent to its first session message.
-const FIRST_SESSION: u64 = 1_000_000;
 
 /// One member of a session: a state machine without clock, socket or thread. Strokes, datagrams, moments and words go in;
 /// datagrams and page messages come out.
@@ -129,7 +128,7 @@ impl<W: Words + Drop> Agent<W> {
             distances: Distances::new(config.me()),
             timers: Timers::new(alloc, &config),
             bucket: Bucket::new(alloc, config.rate(), config.depth()),
-            due: now + FIRST_SESSION,
+            due: now + SHORTEST_PAUSE,
         })
     }
 

@@ -10,6 +10,7 @@ use Rattle.srm_names.specs.declared.echo.Echo.{Echo}
 use Rattle.srm_names.specs.FullName.{FullName}
 use Rattle.srm_names.specs.Names.{stream_below}
 use Rattle.srm_codec.specs.Spelling.{asked_by}
+use Rattle.srm_codec.specs.declared.format.TheConstants.{MAGIC, PLAIN, PACKED, DATA, REQUEST, REPAIR, SESSION}
 use Rattle.srm_codec.specs.declared.datagram.Datagram.{Datagram}
 use Rattle.srm_codec.specs.declared.datagram.Datagram.TheVariants.{Data, Request, Repair, Session}
 use Rattle.srm_codec.specs.declared.fault.DecodeFault.{DecodeFault}
@@ -45,14 +46,14 @@ judged w good fault bytes = do
   check (good n.0) fault n
 
 unfoldable pub magic_at : List ℕ → Read ℕ
-magic_at bytes = judged w16 (λ n. n == 0x5352) Magic bytes
+magic_at bytes = judged w16 (λ n. n == MAGIC) Magic bytes
 
 unfoldable pub version_at : List ℕ → Read ℕ
-version_at bytes = judged w8 (λ n. (n == 1) || (n == 2)) Version bytes
+version_at bytes = judged w8 (λ n. (n == PLAIN) || (n == PACKED)) Version bytes
 
--- version 2 has requests alone
+-- the packed version has requests alone
 abbrev pub is_kind : ℕ → ℕ → Bool
-is_kind version kind = (kind == 2) || (version == 1) && nat_le 1 kind && nat_le kind 4
+is_kind version kind = (kind == REQUEST) || (version == PLAIN) && nat_le DATA kind && nat_le kind SESSION
 
 unfoldable pub kind_at : ℕ → List ℕ → Read ℕ
 kind_at version bytes = judged w8 (is_kind version) Kind bytes
@@ -205,9 +206,9 @@ session_of sender bytes = do
 -- what stands behind the head
 unfoldable pub contents_of : ℕ → ℕ → ℕ → List ℕ → Result Datagram DecodeFault
 contents_of version kind sender bytes =
-    if kind == 1 then data_of sender bytes
-    else if kind == 2 then (if version == 1 then request_of sender bytes else packed_of sender bytes)
-    else if kind == 3 then repair_of sender bytes
+    if kind == DATA then data_of sender bytes
+    else if kind == REQUEST then (if version == PLAIN then request_of sender bytes else packed_of sender bytes)
+    else if kind == REPAIR then repair_of sender bytes
     else session_of sender bytes
 
 -- the datagram that the bytes spell for a session, or their first fault

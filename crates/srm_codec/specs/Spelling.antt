@@ -8,6 +8,7 @@ use Rattle.srm_names.specs.declared.drawop.Drawop.{Drawop}
 use Rattle.srm_names.specs.declared.echo.Echo.{Echo}
 use Rattle.srm_names.specs.FullName.{FullName}
 use Rattle.srm_names.specs.Names.{named, ascending, stream_below, echo_below}
+use Rattle.srm_codec.specs.declared.format.TheConstants.{PLAIN, PACKED, DATA, REQUEST, REPAIR, SESSION, HEAD_BYTES, NAME_BYTES, MASK_BYTES, DRAWOP_BYTES, REPORT_BYTES, ECHO_BYTES}
 use Rattle.srm_codec.specs.declared.datagram.Datagram.{Datagram}
 use Rattle.srm_codec.specs.declared.datagram.Datagram.TheVariants.{Data, Request, Repair, Session}
 
@@ -85,22 +86,22 @@ drawop_bytes d = name_bytes d.name ++ to_be_bytes w64 d.stamp ++ to_be_bytes w16
 unfoldable pub echo_bytes : Echo → List ℕ
 echo_bytes e = e.member ∷ (to_be_bytes w64 e.t1 ++ to_be_bytes w64 e.delay)
 
--- a request for one name is spelled as in version 1, one for several with its mask as in version 2
+-- a request for one name is spelled plainly, one for several in a version of its own, with its mask
 unfoldable pub request_bytes : ℕ → ℕ → FullName → ℕ → List ℕ
 request_bytes session sender name mask =
-    if mask == 0 then head 1 2 session sender ++ name_bytes name
-    else head 2 2 session sender ++ name_bytes name ++ to_be_bytes w32 mask
+    if mask == 0 then head PLAIN REQUEST session sender ++ name_bytes name
+    else head PACKED REQUEST session sender ++ name_bytes name ++ to_be_bytes w32 mask
 
 abbrev pub flag : Bool → ℕ
 flag true = 1
 flag false = 0
 
 unfoldable pub spelling : ℕ → Datagram → List ℕ
-spelling session (Data drawop) = head 1 1 session drawop.name.stream.source ++ drawop_bytes drawop
+spelling session (Data drawop) = head PLAIN DATA session drawop.name.stream.source ++ drawop_bytes drawop
 spelling session (Request sender name mask) = request_bytes session sender name mask
-spelling session (Repair sender drawop) = head 1 3 session sender ++ drawop_bytes drawop
+spelling session (Repair sender drawop) = head PLAIN REPAIR session sender ++ drawop_bytes drawop
 spelling session (Session sender sent farewell shown rows echoes) =
-    head 1 4 session sender ++ to_be_bytes w64 sent ++ flag farewell ∷ page_bytes shown
+    head PLAIN SESSION session sender ++ to_be_bytes w64 sent ++ flag farewell ∷ page_bytes shown
     ++ length rows ∷ flat_map name_bytes rows ++ length echoes ∷ flat_map echo_bytes echoes
 
 -- each is a byte
@@ -114,7 +115,7 @@ pub record Spells (session : ℕ) (datagram : Datagram) (bytes : List ℕ) : Typ
 
 -- how many bytes the spelling of a datagram has, in any session
 abbrev pub length_of : Datagram → ℕ
-length_of (Data drawop) = 27 + length drawop.body
-length_of (Request sender name mask) = if mask == 0 then 17 else 21
-length_of (Repair sender drawop) = 27 + length drawop.body
-length_of (Session sender sent farewell shown rows echoes) = 23 + 8 * length rows + 17 * length echoes
+length_of (Data drawop) = HEAD_BYTES + DRAWOP_BYTES + length drawop.body
+length_of (Request sender name mask) = if mask == 0 then HEAD_BYTES + NAME_BYTES else HEAD_BYTES + NAME_BYTES + MASK_BYTES
+length_of (Repair sender drawop) = HEAD_BYTES + DRAWOP_BYTES + length drawop.body
+length_of (Session sender sent farewell shown rows echoes) = HEAD_BYTES + REPORT_BYTES + NAME_BYTES * length rows + ECHO_BYTES * length echoes

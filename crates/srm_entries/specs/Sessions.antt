@@ -9,6 +9,7 @@ use Rattle.srm_codec.specs.declared.datagram.Datagram.{Datagram}
 use Rattle.srm_codec.specs.declared.datagram.Datagram.TheVariants.{Data, Session}
 use Rattle.srm_codec.specs.Spelling.{length_of, row_below}
 use Rattle.srm_distance.specs.Echoes as echoes
+use Rattle.srm_entries.specs.declared.limits.TheConstants.{SECOND, SESSION_SHARE, SHORTEST_PAUSE}
 use Rattle.srm_entries.specs.Configs.{Config}
 use Rattle.srm_entries.specs.declared.entry.Entry.{Entry}
 use Rattle.srm_entries.specs.Entries.{ticked, state, is_gone, is_leaving, shown, sent, drawn, known}
@@ -37,14 +38,14 @@ members_left c es = count_by (λ m. not (is_some (told es m))) (count_up 0 c.mem
 
 -- how long after a session message of this length the next one is due
 abbrev pub session_pause : Config → List Entry → Datagram → ℕ
-session_pause c before g = max 1000000 (20 * members_left c before * length_of g * 1000000 / c.rate)
+session_pause c before g = max SHORTEST_PAUSE (SESSION_SHARE * members_left c before * length_of g * SECOND / c.rate)
 
 abbrev pub pause_after : Config → Step Entry → Option ℕ
 pause_after c s = option_map (λ g. s.this.moment + session_pause c s.before g) (find is_session s.this.effects.outs)
 
 -- when the next session message is due
 abbrev pub session_due : Config → ℕ → List Entry → ℕ
-session_due c made es = unwrap_or (last_of (pause_after c) (steps es)) (made + 1000000)
+session_due c made es = unwrap_or (last_of (pause_after c) (steps es)) (made + SHORTEST_PAUSE)
 
 -- each drawop that was drawn has been sent
 abbrev pub all_data_sent : List Entry → Bool

@@ -19,6 +19,7 @@ mod config;
 mod entry;
 mod fault;
 mod laws;
+mod limits;
 mod settings;
 mod state;
 
@@ -27,6 +28,7 @@ pub use config::Config;
 pub use entry::{Effects, Entry, Input, Verdict};
 pub use fault::AgentFault;
 pub use laws::{gives, keeps_rate, responds};
+pub use limits::{SECOND, SESSION_SHARE, SHORTEST_PAUSE};
 pub use settings::Settings;
 pub use srm_timers::{Arm, ArmKind};
 pub use state::AgentState;

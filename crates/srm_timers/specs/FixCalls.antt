@@ -9,7 +9,7 @@ use Rattle.srm_timers.specs.declared.arm.Arm.{Arm}
 use Rattle.srm_timers.specs.declared.arm.Armed.{Armed}
 use Rattle.srm_timers.specs.declared.arm.ArmKind.TheVariants.{Fix}
 use Rattle.srm_deadlines.specs.declared.by_name.Place.{Place}
-use Rattle.srm_timers.specs.declared.limits.TheConstants.{TIMER_SETTING}
+use Rattle.srm_timers.specs.declared.limits.TheConstants.{HOLD_OFF, TIMER_SETTING}
 use Rattle.srm_timers.specs.Arms.{Setting, Plan, RunsOutFirst, plan_of, end_of, ran_out}
 use Rattle.srm_timers.specs.AskCalls.{flat}
 use Rattle.srm_timers.specs.Distances.{distance_to}
@@ -73,7 +73,7 @@ sets_fix now arms = map (SetFix now) arms
 
 -- until when a repair at a moment holds the name off: for three distances to the one who asked for it first
 abbrev pub hold_end : ℕ → List ℕ → List FixCall → FullName → ℕ
-hold_end now dist calls n = now + 3 * distance_to dist (first_asker calls n)
+hold_end now dist calls n = now + HOLD_OFF * distance_to dist (first_asker calls n)
 
 abbrev pub repair_by : ℕ → List ℕ → List FixCall → FullName → FixCall
 repair_by now dist calls n = Repaired n (hold_end now dist calls n)
@@ -96,7 +96,7 @@ abbrev pub is_held_off : List (Place ℕ) → FullName → ℕ → Bool
 is_held_off holds n now = nat_lt now (unwrap_or (value_at holds n) 0)
 
 abbrev pub held_off_until : ℕ → List ℕ → List (Place ℕ) → FullName → ℕ
-held_off_until now dist askers n = now + 3 * distance_to dist (asker_at askers n)
+held_off_until now dist askers n = now + HOLD_OFF * distance_to dist (asker_at askers n)
 
 pub record FixFits (d1 d2 : ℕ) (calls : List FixCall) (a : FixContent) : Type 0 where
   pub d1_is : a.d1 ≡ d1

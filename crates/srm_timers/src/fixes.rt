@@ -14,7 +14,7 @@ use crate::arm::{Arm, ArmKind};
 use crate::distance::distance_in;
 use crate::ends::Ends;
 use crate::fault::TimerFault;
-use crate::limits::{LONGEST_WAIT, TIMER_SETTING};
+use crate::limits::{HOLD_OFF, LONGEST_WAIT, TIMER_SETTING};
 use crate::wait::draw_wait;
 use crate::words::Words;
 use srm_deadlines::{ByName, Deadlines};
@@ -319,7 +319,7 @@ impl<D: Deadlines> Fixes<D> {
         requires place { FixPlace self.old name }
         requires distance { distance ≤ LONGEST_DISTANCE }
         requires now { now ≤ MOMENT }
-        ensures fits { FixAdds (Repaired name (now + 3 * distance) ∷ []) self.old self.new }
+        ensures fits { FixAdds (Repaired name (now + HOLD_OFF * distance) ∷ []) self.old self.new }
         ensures held { FixHolds self.old self.new }
     {
         self.ends.clear(name);
@@ -343,10 +343,10 @@ fn hold_off(holds: &mut ByName<u64>, name: Name, distance: u64, now: u64)
     requires place { has_place holds.old name ≡ true }
     requires distance { distance ≤ LONGEST_DISTANCE }
     requires now { now ≤ MOMENT }
-    ensures off { HoldsOff name (now + 3 * distance) holds.old holds.new }
+    ensures off { HoldsOff name (now + HOLD_OFF * distance) holds.old holds.new }
     ensures held { Holds holds.old holds.new }
 {
-    let until = now + 3 * distance;
+    let until = now + HOLD_OFF * distance;
     if holds.get(name).unwrap_or(0) < until {
         holds.set(name, Some(until));
     }

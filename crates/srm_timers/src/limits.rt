@@ -6,5 +6,8 @@ pub const TIMER_SETTING: u8 = 16;
 /// The greatest exponent: a wait is doubled at most so often.
 pub const EXPONENT: u8 = 8;
 
+/// Distances to the first asker for which a name is held off behind its repair.
+pub const HOLD_OFF: u64 = 3;
+
 /// The longest wait, in microseconds: both settings the largest, the exponent too, over the longest distance.
 pub const LONGEST_WAIT: u64 = 81_920_000_000;

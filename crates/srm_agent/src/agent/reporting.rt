@@ -17,12 +17,10 @@ ghost use Rattle.srm_entries.specs.Verdicts.{stream_on};
 use super::Agent;
 use srm_agent_parts::{Outgoing, member, page_in_range, stream_in_range};
 use srm_codec::{Datagram, length};
+use srm_entries::{SECOND, SESSION_SHARE, SHORTEST_PAUSE};
 use srm_names::{Echo, Items, Member, Name, Page, Stream};
 use srm_timers::Words;
 use std::alloc::{AllocError, Global};
-
-/// The least time from a session message to the next, in microseconds.
-const SHORTEST_PAUSE: u64 = 1_000_000;
 
 /// No datagram has more bytes: 255 rows and 255 echoes.
 const LONGEST_REPORT: usize = 6_398;
@@ -186,11 +184,11 @@ fn pause_after(members: u8, bytes: usize, rate: u32) -> u64
     requires members { members ≤ MEMBERS }
     requires bytes { bytes ≤ LONGEST_REPORT }
     requires rate { LEAST_RATE ≤ rate }
-    ensures value { result ≡ max 1000000 (20 * members * bytes * 1000000 / rate) }
+    ensures value { result ≡ max SHORTEST_PAUSE (SESSION_SHARE * members * bytes * SECOND / rate) }
     ensures longest { result ≤ LONGEST_PAUSE }
 {
-    let bytes = 20 * u64::from(members) * bytes as u64;
-    SHORTEST_PAUSE.max(bytes * 1_000_000 / u64::from(rate))
+    let bytes = SESSION_SHARE * u64::from(members) * bytes as u64;
+    SHORTEST_PAUSE.max(bytes * SECOND / u64::from(rate))
 }
 
 /// The streams of a member on these pages.
