@@ -4,7 +4,7 @@ ghost use Rattle.std.specs.Prelude.{◌≡◌, ◌≤◌, max, if◌then◌else�
 ghost use Rattle.srm_names.specs.declared.limits.TheConstants.{DRAWOPS};
 ghost use Rattle.srm_names.specs.Names.{same_stream};
 ghost use Rattle.srm_store.specs.Held.{greatest_in};
-ghost use Rattle.srm_store.specs.Stores.{AreReady};
+ghost use Rattle.srm_store.specs.Stores.{HavePlaces};
 ghost use Rattle.srm_agent_parts.specs.Growth.{ShowsToo};
 
 use srm_names::{Name, Stream};
@@ -12,11 +12,11 @@ use srm_store::Store;
 
 /// These names, for which there is room, are known to exist from now on. It takes no memory.
 pub fn show_all(store: &mut Store, names: &[Name])
-    requires { AreReady names.now store.old }
+    requires { HavePlaces names.now store.old }
     ensures { ShowsToo names.now store.old store.new }
 {
     for name in names {
-        store.evidence(*name).unwrap();
+        store.learn(*name).unwrap();
     }
 }
 

@@ -1,7 +1,7 @@
 //! Holding a drawop for which there is room.
 
 ghost use Rattle.std.specs.Prelude.{[], ◌∷◌};
-ghost use Rattle.srm_store.specs.Stores.{AreReady};
+ghost use Rattle.srm_store.specs.Stores.{HavePlaces};
 ghost use Rattle.srm_agent_parts.specs.Growth.{HoldsToo};
 
 use srm_names::{Drawop, Name};
@@ -9,10 +9,10 @@ use srm_store::Store;
 
 /// Holds a drawop, unless one of its name is held, and knows of its name. It takes no memory.
 pub fn keep(store: &mut Store, drawop: Drawop)
-    requires { AreReady (drawop.name ∷ []) store.old }
+    requires { HavePlaces (drawop.name ∷ []) store.old }
     ensures { HoldsToo drawop store.old store.new }
 {
     let name = drawop.name;
     store.insert(drawop).unwrap();
-    store.evidence(name).unwrap();
+    store.learn(name).unwrap();
 }

@@ -2,7 +2,7 @@
 
 ghost use Rattle.std.specs.Prelude.{◌≡◌, Some, option_map, length};
 ghost use Rattle.srm_codec.specs.Spelling.{IsSpellable, names_in};
-ghost use Rattle.srm_store.specs.Stores.{AreReady, IsReadyToSettle};
+ghost use Rattle.srm_store.specs.Stores.{HavePlaces, IsReadyToSettle};
 ghost use Rattle.srm_entries.specs.Distances.{echo_for};
 ghost use Rattle.srm_entries.specs.Verdicts.{settling_of};
 ghost use Rattle.srm_agent_parts.specs.Growth.{HearsToo, LearnsToo, SettlesToo};
@@ -52,7 +52,7 @@ fn echo_for(echoes: &[Echo], me: &Member) -> Option<(u64, u64)>
 /// takes no memory.
 pub fn learn(store: &mut Store, datagram: &Datagram, names: &[Name])
     requires names { names.now ≡ names_in datagram.now }
-    requires ready { AreReady names.now store.old }
+    requires ready { HavePlaces names.now store.old }
     ensures { LearnsToo datagram.now store.old store.new }
 {
     show_all(store, names);

@@ -106,16 +106,20 @@ ready_learns old new a learns still others = record {
     go n k j false other d e up true g had = let le : n.number ≤ k = grind (arith, nat_tests) in enough n j (omega (arith, le, rises k j a.number (same_stream n.stream a.stream) up))
     go n k j false other d e up false g had = or_other (nat_le n.number j) _ (has_room-fewer new.rooms n (n.number - k) (n.number - j) (omega (arith, rises k j a.number (same_stream n.stream a.stream) up)) (others.each n (n.number - k) other had))
 
--- one more name is ready
-pub ready_more : (names : List FullName) (i : ℕ) (name : FullName) (old new : StoreContent) → name ≡ get_or names i name → i < length names
-    → ((n : FullName) → among (take i names) n ≡ true → IsReady n old) → StaysReady old new → IsReady name new → (n : FullName) → among (take (i + 1) names) n ≡ true → IsReady n new
-ready_more names i name old new at lt before stays here n there = go (among (take i names) n) refl (sym (list_any_more (same_name n) names i name lt) ∙ there)
+-- one more name has what those before it have
+pub each_more : (names : List FullName) (i : ℕ) (name : FullName) (P Q : FullName → Type 0) → name ≡ get_or names i name → i < length names
+    → ((n : FullName) → among (take i names) n ≡ true → P n) → ((n : FullName) → P n → Q n) → Q name → (n : FullName) → among (take (i + 1) names) n ≡ true → Q n
+each_more names i name P Q at lt before stays here n there = go (among (take i names) n) refl (sym (list_any_more (same_name n) names i name lt) ∙ there)
   where
-    go : (b : Bool) → among (take i names) n ≡ b → (among (take i names) n || same_name n (get_or names i name)) ≡ true → IsReady n new
-    go true e both = stays.each n (before n e)
+    go : (b : Bool) → among (take i names) n ≡ b → (among (take i names) n || same_name n (get_or names i name)) ≡ true → Q n
+    go true e both = stays n (before n e)
     go false e both =
         let is : same_name n (get_or names i name) ≡ true = sym (ap (λ b. b || same_name n (get_or names i name)) e) ∙ both in
-        subst (λ m. IsReady m new) (at ∙ sym (same_name-is n (get_or names i name) is)) here
+        subst Q (at ∙ sym (same_name-is n (get_or names i name) is)) here
+
+pub ready_more : (names : List FullName) (i : ℕ) (name : FullName) (old new : StoreContent) → name ≡ get_or names i name → i < length names
+    → ((n : FullName) → among (take i names) n ≡ true → IsReady n old) → StaysReady old new → IsReady name new → (n : FullName) → among (take (i + 1) names) n ≡ true → IsReady n new
+ready_more names i name old new at lt before stays here = each_more names i name (λ n. IsReady n old) (λ n. IsReady n new) at lt before stays.each here
 
 pub stays_on : (a b c : StoreContent) → StaysReady a b → StaysReady b c → StaysReady a c
 stays_on a b c p q = record { each = λ n ready. q.each n (p.each n ready) }

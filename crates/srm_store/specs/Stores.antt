@@ -39,6 +39,13 @@ pub record AreReady (names : List FullName) (s : StoreContent) : Type 0 where
   pub each : (n : FullName) → among names n ≡ true → IsReady n s
   pub settling : IsReadyToSettle (length names) s
 
+-- One insert and one learn of each of the names, and one settling with all of them, aren't refused: there are slots for all of
+-- their pages, and no memory is needed.
+pub record HavePlaces (names : List FullName) (s : StoreContent) : Type 0 where
+  pub slots : HasSlots (map page_of_name names) s
+  pub each : (n : FullName) → among names n ≡ true → HasPlaceFor n s.table
+  pub settling : IsReadyToSettle (length names) s
+
 -- what needed no memory needs none
 pub record StaysReady (old new : StoreContent) : Type 0 where
   pub each : (n : FullName) → IsReady n old → IsReady n new

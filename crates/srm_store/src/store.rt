@@ -9,8 +9,8 @@ ghost use Rattle.srm_names.specs.Names.{among};
 ghost use Rattle.srm_store.specs.declared.fault.StoreFault.TheVariants.{PageLimit, Memory};
 ghost use Rattle.srm_store.specs.Held.{held_at, is_held, known, missing, newly_missing, released, insert_answer, overflows, outgrow, page_of_name};
 ghost use Rattle.srm_store.specs.Finals.{Settling, final};
-ghost use Rattle.srm_store.specs.Stores.{HasSlots, KeepsSlots, IsReady, IsReadyToSettle, AreReady, StaysReady, KeepsRoom};
-ghost use Rattle.srm_store.specs.Tables.{is_in};
+ghost use Rattle.srm_store.specs.Stores.{HasSlots, KeepsSlots, IsReady, IsReadyToSettle, AreReady, HavePlaces, StaysReady, KeepsRoom};
+ghost use Rattle.srm_store.specs.Tables.{is_in, HasPlaceFor, StillHasPlaces};
 ghost use Rattle.srm_store.specs.Fits.{Fits, StillFits};
 
 use crate::fault::StoreFault;
@@ -79,6 +79,57 @@ impl Store {
         Ok(())
     }
 
+    /// Makes room, so that one insert and one [`learn`](Store::learn) of each of these names, and one settling with all of them, in
+    /// any order, aren't refused at all. It makes less than [`room`](Store::room), since nothing is answered. Nothing that is held or
+    /// known changes, and no room that there was is given up.
+    ///
+    /// [`StoreFault::PageLimit`] where the pages of the names don't all find slots, and then nothing changed;
+    /// [`StoreFault::Memory`].
+    pub fn room_to_learn(&mut self, names: &[Name]) -> Result<(), StoreFault>
+        ensures kept { StillFits self.old self.new }
+        ensures before { StillFits self.new self.old }
+        ensures ready { OnOk result (HavePlaces names.now self.new) }
+        ensures limit { (inserted : List ADrawop) (shown : List FullName) (settled : List Settling) → Fits inserted shown settled self.old
+            → ((result ≡ Err PageLimit) ↔ (outgrow inserted shown (map page_of_name names.now) ≡ true)) }
+        ensures same { result ≡ Err PageLimit → self.new ≡ self.old }
+        ensures earlier { KeepsRoom self.old self.new }
+    {
+        if !self.table.has_slots(names) {
+            return Err(StoreFault::PageLimit);
+        }
+        self.make_places(names)?;
+        Ok(())
+    }
+
+    /// Makes room for one insert and one learn of each of the names, and one settling with all of them.
+    fn make_places(&mut self, names: &[Name]) -> Result<(), AllocError>
+        ensures kept { StillFits self.old self.new }
+        ensures before { StillFits self.new self.old }
+        ensures ready { OnOk result ((n : FullName) → among names.now n ≡ true → HasPlaceFor n self.new.table) }
+        ensures settling { OnOk result (IsReadyToSettle (length names.now) self.new) }
+        ensures pages { self.new.table.pages ≡ self.old.table.pages }
+        ensures earlier { KeepsRoom self.old self.new }
+    {
+        self.finals.room(names.len())?;
+        for name in names {
+            self.make_place(*name)?;
+        }
+        Ok(())
+    }
+
+    /// Makes room for one insert and one learn of a name.
+    fn make_place(&mut self, name: Name) -> Result<(), AllocError>
+        ensures kept { StillFits self.old self.new }
+        ensures before { StillFits self.new self.old }
+        ensures ok { OnOk result (HasPlaceFor name self.new.table) }
+        ensures still { StillHasPlaces self.old.table self.new.table }
+        ensures earlier { StaysReady self.old self.new }
+        ensures settling { self.new.finals ≡ self.old.finals }
+        ensures pages { self.new.table.pages ≡ self.old.table.pages }
+    {
+        self.table.make_places(name)
+    }
+
     /// Makes room for one insert and one evidence of each of the names, and one settling with all of them. The room for
     /// answers is made beside that of the call before, which goes once all is there.
     fn make_room(&mut self, names: &[Name]) -> Result<(), AllocError>
@@ -125,9 +176,11 @@ impl Store {
         ensures limit { (inserted : List ADrawop) (shown : List FullName) (settled : List Settling) → Fits inserted shown settled self.old
             → ((result ≡ Err PageLimit) ↔ (overflows inserted shown drawop.name.stream.page ≡ true)) }
         ensures room { IsReady drawop.name self.old → result ≢ Err Memory }
+        ensures place { HasPlaceFor drawop.name self.old.table → result ≢ Err Memory }
         ensures slot { (pages : List APage) → is_in pages drawop.name.stream.page ≡ true → HasSlots pages self.old → result ≢ Err PageLimit }
         ensures slots { KeepsSlots drawop.name.stream.page self.old self.new }
         ensures ready { StaysReady self.old self.new }
+        ensures places { StillHasPlaces self.old.table self.new.table }
         ensures settling { self.new.finals ≡ self.old.finals }
     {
         self.table.insert(drawop)
@@ -160,6 +213,29 @@ impl Store {
         let names = self.table.unheld(list, &stream, known, count)?;
         self.table.learn(name);
         Ok(names)
+    }
+
+    /// A name is known to exist, and all lower numbers of its stream: [`evidence`](Store::evidence) without its answer. It takes no memory, and
+    /// as many steps for any number.
+    ///
+    /// [`StoreFault::PageLimit`] alone, where its page would be the ninth.
+    pub fn learn(&mut self, name: Name) -> Result<(), StoreFault>
+        ensures fits { OnOk result ((inserted : List ADrawop) (shown : List FullName) (settled : List Settling) → Fits inserted shown settled self.old
+            → Fits inserted (shown ++ name ∷ []) settled self.new) }
+        ensures err { OnErr result (self.new ≡ self.old) }
+        ensures limit { (inserted : List ADrawop) (shown : List FullName) (settled : List Settling) → Fits inserted shown settled self.old
+            → ((result ≡ Err PageLimit) ↔ (overflows inserted shown name.stream.page ≡ true)) }
+        ensures memory { result ≢ Err Memory }
+        ensures slot { (pages : List APage) → is_in pages name.stream.page ≡ true → HasSlots pages self.old → result ≢ Err PageLimit }
+        ensures slots { KeepsSlots name.stream.page self.old self.new }
+        ensures ready { StaysReady self.old self.new }
+        ensures places { StillHasPlaces self.old.table self.new.table }
+        ensures settling { self.new.finals ≡ self.old.finals }
+    {
+        let stream = name.stream();
+        self.table.slot_for(stream.page)?;
+        self.table.learn(name);
+        Ok(())
     }
 
     /// The missing names of a stream, in order: those that are known to exist and aren't held. It takes a step for each

@@ -9,7 +9,7 @@ ghost use Rattle.srm_codec.specs.Spelling.{is_drawop, length_of};
 ghost use Rattle.srm_store.specs.declared.fault.StoreFault.TheVariants.{PageLimit};
 ghost use Rattle.srm_store.specs.Held.{outgrow};
 ghost use Rattle.srm_store.specs.Finals.{Settling};
-ghost use Rattle.srm_store.specs.Stores.{AreReady};
+ghost use Rattle.srm_store.specs.Stores.{HavePlaces};
 ghost use Rattle.srm_store.specs.Fits.{Fits as StoreFits, StillFits};
 ghost use Rattle.srm_bucket.specs.declared.class.Class.TheVariants.{New};
 ghost use Rattle.srm_bucket.specs.declared.limits.TheConstants.{LEAST_LENGTH, GREATEST_LENGTH};
@@ -143,13 +143,13 @@ impl<W: Words + Drop> Agent<W> {
         ensures bucket { BucketStays self.old.bucket self.new.bucket }
         ensures made { IfOk result (IsDraftOf self.old.config.session (record { name = name; stamp = moment; body = body.now })) }
         ensures spellable { OnOk result (is_drawop (record { name = name; stamp = moment; body = body.now })) }
-        ensures ready { OnOk result (AreReady (name ∷ []) self.new.store) }
+        ensures ready { OnOk result (HavePlaces (name ∷ []) self.new.store) }
         ensures room { OnOk result (0 < self.new.bucket.waiting.room) }
         ensures limit { result ≡ Err PageLimit → (inserted : List ADrawop) (shown : List FullName) (settled : List Settling) → StoreFits inserted shown settled self.old.store
             → outgrow inserted shown (name.stream.page ∷ []) ≡ true }
         ensures same { result ≡ Err PageLimit → self.new ≡ self.old }
     {
-        self.store.room(&[name])?;
+        self.store.room_to_learn(&[name])?;
         self.bucket.room(1)?;
         let draft = make_draft(self.alloc, self.config.session(), name, moment, body)?;
         Ok(draft)
@@ -159,7 +159,7 @@ impl<W: Words + Drop> Agent<W> {
     fn take_up(&mut self, page: &Page, moment: u64, drawop: Drawop, going: Item<Outgoing>)
         requires room { lacks_room self.old.pages page.now ≡ false }
         requires moment { moment ≤ MOMENT }
-        requires ready { AreReady (drawop.name ∷ []) self.old.store }
+        requires ready { HavePlaces (drawop.name ∷ []) self.old.store }
         requires waiting { 0 < self.old.bucket.waiting.room }
         requires least { LEAST_LENGTH ≤ going.length }
         requires greatest { going.length ≤ GREATEST_LENGTH }

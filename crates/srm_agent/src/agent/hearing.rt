@@ -6,7 +6,7 @@ ghost use Rattle.srm_codec.specs.declared.fault.DecodeFault.TheVariants.{Memory}
 ghost use Rattle.srm_codec.specs.Judging.{judge};
 ghost use Rattle.srm_codec.specs.Spelling.{IsSpellable, names_in};
 ghost use Rattle.srm_entries.specs.Entries.{is_gone};
-ghost use Rattle.srm_store.specs.Stores.{AreReady};
+ghost use Rattle.srm_store.specs.Stores.{HavePlaces};
 ghost use Rattle.srm_agent_parts.specs.PageTables.{lacks_room_for};
 ghost use Rattle.srm_agent.specs.Heeding.{IsJudgedBy, IsNoiseFor, IsTaken};
 ghost use Rattle.srm_agent.specs.Noting.{Enters, Stays, ReadsAs, AnswersHeard, Hears, still_entry};
@@ -112,7 +112,7 @@ impl<W: Words + Drop> Agent<W> {
         ensures answer { IfOk result (λ noted. AnswersHeard noted.entry noted.answer) }
         ensures err { OnErr result (Stays self.old self.new) }
     {
-        match self.store.room(names) {
+        match self.store.room_to_learn(names) {
             Ok(()) => self.take_ready(datagram, names, moment),
             Err(StoreFault::PageLimit) => {
                 Ok(self.ignore(moment, Input::Heard(datagram), Cause::PageLimit))
@@ -139,7 +139,7 @@ impl<W: Words + Drop> Agent<W> {
         requires taken { IsTaken datagram self.old }
         requires names { names.now ≡ names_in datagram }
         requires pages { lacks_room_for self.old.pages names.now ≡ false }
-        requires ready { AreReady names.now self.old.store }
+        requires ready { HavePlaces names.now self.old.store }
         ensures ok { IfOk result (λ noted. Enters W.draw (Some moment) (Input.Heard datagram) self.old self.new noted.entry) }
         ensures done { IfOk result (λ noted. noted.entry.verdict ≡ Verdict.Done) }
         ensures answer { IfOk result (λ noted. AnswersHeard noted.entry noted.answer) }

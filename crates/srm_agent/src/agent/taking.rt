@@ -5,7 +5,7 @@ ghost use Rattle.srm_names.specs.declared.limits.TheConstants.{MOMENT};
 ghost use Rattle.srm_names.specs.Names.{ascending, name_below};
 ghost use Rattle.srm_codec.specs.declared.datagram.Datagram.TheVariants.{Data, Repair};
 ghost use Rattle.srm_codec.specs.Spelling.{IsSpellable};
-ghost use Rattle.srm_store.specs.Stores.{AreReady};
+ghost use Rattle.srm_store.specs.Stores.{HavePlaces};
 ghost use Rattle.srm_entries.specs.Entries.{is_gone};
 ghost use Rattle.srm_agent_parts.specs.PageTables.{lacks_room_for};
 ghost use Rattle.srm_agent.specs.Heeding.{IsTaken, IsFreshBelow, heard_entry};
@@ -34,7 +34,7 @@ impl<W: Words + Drop> Agent<W> {
         requires moment { moment ≤ MOMENT }
         requires taken { IsTaken (Data drawop) self.old }
         requires pages { lacks_room_for self.old.pages (drawop.name ∷ []) ≡ false }
-        requires ready { AreReady (drawop.name ∷ []) self.old.store }
+        requires ready { HavePlaces (drawop.name ∷ []) self.old.store }
         ensures ok { IfOk result (λ noted. Enters W.draw (Some moment) (Input.Heard (Data drawop)) self.old self.new noted.entry) }
         ensures done { IfOk result (λ noted. noted.entry.verdict ≡ Verdict.Done) }
         ensures answer { IfOk result (λ noted. AnswersHeard noted.entry noted.answer) }
@@ -68,7 +68,7 @@ impl<W: Words + Drop> Agent<W> {
         requires moment { moment ≤ MOMENT }
         requires taken { IsTaken (Repair sender drawop) self.old }
         requires pages { lacks_room_for self.old.pages (drawop.name ∷ []) ≡ false }
-        requires ready { AreReady (drawop.name ∷ []) self.old.store }
+        requires ready { HavePlaces (drawop.name ∷ []) self.old.store }
         ensures ok { IfOk result (λ noted. Enters W.draw (Some moment) (Input.Heard (Repair sender drawop)) self.old self.new noted.entry) }
         ensures done { IfOk result (λ noted. noted.entry.verdict ≡ Verdict.Done) }
         ensures answer { IfOk result (λ noted. AnswersHeard noted.entry noted.answer) }

@@ -5,7 +5,7 @@ ghost use Rattle.srm_names.specs.declared.limits.TheConstants.{MOMENT};
 ghost use Rattle.srm_names.specs.Names.{ascending, name_below};
 ghost use Rattle.srm_codec.specs.declared.datagram.Datagram.TheVariants.{Request};
 ghost use Rattle.srm_codec.specs.Spelling.{IsSpellable, asked_by};
-ghost use Rattle.srm_store.specs.Stores.{AreReady};
+ghost use Rattle.srm_store.specs.Stores.{HavePlaces};
 ghost use Rattle.srm_entries.specs.Entries.{is_gone};
 ghost use Rattle.srm_agent.specs.Growth.{IsFreshUpTo};
 ghost use Rattle.srm_agent_parts.specs.PageTables.{lacks_room_for};
@@ -39,7 +39,7 @@ impl<W: Words + Drop> Agent<W> {
         requires taken { IsTaken (Request sender name mask) self.old }
         requires names { names.now ≡ asked_by name mask }
         requires pages { lacks_room_for self.old.pages names.now ≡ false }
-        requires ready { AreReady names.now self.old.store }
+        requires ready { HavePlaces names.now self.old.store }
         ensures ok { IfOk result (λ noted. Enters W.draw (Some moment) (Input.Heard (Request sender name mask)) self.old self.new noted.entry) }
         ensures done { IfOk result (λ noted. noted.entry.verdict ≡ Verdict.Done) }
         ensures answer { IfOk result (λ noted. AnswersHeard noted.entry noted.answer) }

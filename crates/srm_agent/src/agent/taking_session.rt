@@ -4,7 +4,7 @@ ghost use Rattle.std.specs.Prelude.{◌≡◌, ◌≤◌, Some, Ok, IfOk, OnErr,
 ghost use Rattle.srm_names.specs.declared.limits.TheConstants.{MOMENT};
 ghost use Rattle.srm_names.specs.Names.{ascending, name_below};
 ghost use Rattle.srm_codec.specs.Spelling.{IsSpellable, names_in, row_below};
-ghost use Rattle.srm_store.specs.Stores.{AreReady};
+ghost use Rattle.srm_store.specs.Stores.{HavePlaces};
 ghost use Rattle.srm_entries.specs.Entries.{is_gone};
 ghost use Rattle.srm_agent.specs.Growth.{IsFreshOf};
 ghost use Rattle.srm_agent_parts.specs.PageTables.{lacks_room_for};
@@ -38,7 +38,7 @@ impl<W: Words + Drop> Agent<W> {
         requires taken { IsTaken datagram self.old }
         requires names { names.now ≡ names_in datagram }
         requires pages { lacks_room_for self.old.pages names.now ≡ false }
-        requires ready { AreReady names.now self.old.store }
+        requires ready { HavePlaces names.now self.old.store }
         ensures ok { IfOk result (λ noted. Enters W.draw (Some moment) (Input.Heard datagram) self.old self.new noted.entry) }
         ensures done { IfOk result (λ noted. noted.entry.verdict ≡ Verdict.Done) }
         ensures answer { IfOk result (λ noted. AnswersHeard noted.entry noted.answer) }

@@ -13,29 +13,27 @@ loop-name-init c = record {
   fits = λ inserted shown settled h. subst (λ ns. store.Fits inserted ns settled c.args.store.now) (sym (append-nil shown)) h;
   finals = refl;
   slots = c.requires.slots;
-  ready = c.requires.each;
 }
 
 pub unwrap-requires : goal.unwrap-requires
 unwrap-requires c =
     let at = is_among c.args.names.now c.loop-name.name-index c.name-item.result c.name-item.is c.loop-name-test.true in
-    not_refused c.evidence.result (c.evidence.ensures.slot _ (page_among c.args.names.now c.name-item.result at) c.loop-name.invariant.slots) (c.evidence.ensures.room (c.loop-name.invariant.ready c.name-item.result at))
+    not_refused c.learn.result (c.learn.ensures.slot _ (page_among c.args.names.now c.name-item.result at) c.loop-name.invariant.slots) c.learn.ensures.memory
 
 pub loop-name-preserved : goal.loop-name-preserved
 loop-name-preserved c =
     let at = is_among c.args.names.now c.loop-name.name-index c.name-item.result c.name-item.is c.loop-name-test.true in
     let in_page = page_among c.args.names.now c.name-item.result at in
-    let ok = not_refused c.evidence.result (c.evidence.ensures.slot _ in_page c.loop-name.invariant.slots) (c.evidence.ensures.room (c.loop-name.invariant.ready c.name-item.result at)) in
+    let ok = not_refused c.learn.result (c.learn.ensures.slot _ in_page c.loop-name.invariant.slots) c.learn.ensures.memory in
     record {
       fits = λ inserted shown settled h.
-          subst (λ ns. store.Fits inserted ns settled c.evidence.new.self)
+          subst (λ ns. store.Fits inserted ns settled c.learn.new.self)
           (append_assoc shown (take c.loop-name.name-index c.args.names.now) (c.name-item.result ∷ [])
           ∙ ap (λ (n : FullName). shown ++ (take c.loop-name.name-index c.args.names.now ++ n ∷ [])) c.name-item.is
           ∙ ap (λ ns. shown ++ ns) (sym (take_more c.args.names.now c.loop-name.name-index c.name-item.result c.loop-name-test.true)))
-          (ok_then c.evidence.result ok c.evidence.ensures.fits inserted (shown ++ take c.loop-name.name-index c.args.names.now) settled (c.loop-name.invariant.fits inserted shown settled h));
-      finals = c.evidence.ensures.settling ∙ c.loop-name.invariant.finals;
-      slots = c.evidence.ensures.slots.each _ in_page c.loop-name.invariant.slots;
-      ready = λ n among. c.evidence.ensures.ready.each n (c.loop-name.invariant.ready n among);
+          (ok_then c.learn.result ok c.learn.ensures.fits inserted (shown ++ take c.loop-name.name-index c.args.names.now) settled (c.loop-name.invariant.fits inserted shown settled h));
+      finals = c.learn.ensures.settling ∙ c.loop-name.invariant.finals;
+      slots = c.learn.ensures.slots.each _ in_page c.loop-name.invariant.slots;
     }
 
 pub returns : goal.returns

@@ -1,12 +1,10 @@
 use Rattle.std.proofs.Common.{◌≡◌, ◌++◌, List, map, take}
-use Rattle.std.specs.Prelude.{true}
 use Rattle.srm_names.specs.declared.drawop.Drawop.{Drawop}
 use Rattle.srm_names.specs.FullName.{FullName}
-use Rattle.srm_names.specs.Names.{among}
 use Rattle.srm_store.specs.Finals.{Settling}
 use Rattle.srm_store.specs.Fits as store
 use Rattle.srm_store.specs.Held.{page_of_name}
-use Rattle.srm_store.specs.Stores.{IsReady, HasSlots}
+use Rattle.srm_store.specs.Stores.{HasSlots}
 use Rattle.srm_agent_parts.proofs.evidence.show_all.Given as goal
 
 abbrev pub invariant-loop-name : goal.invariant-loop-name
@@ -14,5 +12,4 @@ invariant-loop-name l = record {
   fits : (inserted : List Drawop) (shown : List FullName) (settled : List Settling) → store.Fits inserted shown settled l.fn.store → store.Fits inserted (shown ++ take l.name-index l.names) settled l.store;
   finals : l.store.finals ≡ l.fn.store.finals;
   slots : HasSlots (map page_of_name l.names) l.store;
-  ready : (n : FullName) → among l.names n ≡ true → IsReady n l.store;
 }
