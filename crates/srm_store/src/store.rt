@@ -110,7 +110,8 @@ impl Store {
         ensures pages { self.new.table.pages ≡ self.old.table.pages }
         ensures earlier { KeepsRoom self.old self.new }
     {
-        self.finals.room(names.len())?;
+        let count = names.len();
+        self.finals.room(count)?;
         for name in names {
             self.make_place(*name)?;
         }
@@ -232,8 +233,7 @@ impl Store {
         ensures places { StillHasPlaces self.old.table self.new.table }
         ensures settling { self.new.finals ≡ self.old.finals }
     {
-        let stream = name.stream();
-        self.table.slot_for(stream.page)?;
+        self.table.slot_for(name.stream().page)?;
         self.table.learn(name);
         Ok(())
     }

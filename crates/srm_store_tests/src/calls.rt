@@ -137,7 +137,9 @@ fn a_settled_member_has_finals(rt: HostRuntime) -> Result<(), Fail> {
 fn assert_no_page(rt: &impl Abort, store: &mut Store, drawop: Drawop) {
     let name = drawop.name;
     assert_eq!(rt; store.room(&[name]), Err(StoreFault::PageLimit));
+    assert_eq!(rt; store.room_to_learn(&[name]), Err(StoreFault::PageLimit));
     assert_eq!(rt; store.evidence(name).err(), Some(StoreFault::PageLimit));
+    assert_eq!(rt; store.learn(name), Err(StoreFault::PageLimit));
     assert_eq!(rt; store.insert(drawop), Err(StoreFault::PageLimit));
     assert!(rt; !store.holds(name));
 }
@@ -185,6 +187,24 @@ fn room_is_made_for_names(rt: HostRuntime) -> Result<(), Fail> {
     store.settle_final(name(&rt, 0, 1, 1).source(), &names)?;
     store.room(&names)?;
     Ok(())
+}
+
+fn learnt(rt: &impl Abort, store: &mut Store, name: Name, known: u32) -> Result<(), Fail> {
+    store.learn(name)?;
+    assert_eq!(rt; store.known(name.stream()), known);
+    Ok(())
+}
+
+#[test]
+fn what_is_learnt_is_known_and_missing(rt: HostRuntime) -> Result<(), Fail> {
+    let mut store = Store::new(rt.alloc())?;
+    let (low, high) = (name(&rt, 2, 3, 2), name(&rt, 2, 3, 4));
+    store.room_to_learn(&[low, high])?;
+    assert_eq!(rt; store.known(low.stream()), 0);
+    learnt(&rt, &mut store, high, 4)?;
+    learnt(&rt, &mut store, low, 4)?;
+    fresh(&rt, rt.alloc(), &mut store, low)?;
+    assert_missing(&rt, &store, low, &[1, 3, 4])
 }
 
 /// Two names on each of eight pages.
