@@ -29,8 +29,8 @@ use Rattle.srm_entries.specs.Verdicts.{settlings, settling_of}
 use Rattle.srm_agent.specs.Growth.{IsFreshOf}
 use Rattle.srm_agent_parts.specs.Growth.{HearsToo, LearnsToo}
 use Rattle.srm_agent_parts.specs.PageTables.{with_pages_of}
-use Rattle.srm_agent_parts.specs.TimersKept.{HaveSettings}
-use Rattle.srm_agent_parts.specs.TimerCalls.{AreDistancesAfter, TimersHear, WaitsAreDrawn, IsSession}
+use Rattle.srm_agent_parts.specs.TimersKept.{HaveSettings, TimersContent}
+use Rattle.srm_agent_parts.specs.TimerCalls.{AreDistancesAfter, TimersHear, TimersStay, WaitsAreDrawn, IsSession}
 use Rattle.srm_agent.specs.Contents.{Content}
 use Rattle.srm_agent.specs.Fits.{Fits}
 use Rattle.srm_agent.specs.Heeding.{IsTaken, heard_entry}
@@ -62,6 +62,10 @@ shows_rows (Repair sender drawop) me moment arms state is = absurd is
 
 at_least : (last moment : ℕ) → last ≤ moment → moment ≡ max moment last
 at_least last moment l = omega (arith, l)
+
+-- room changes nothing of what is heard
+pub hears_roomy : (is : Datagram → Type 0) (fresh : List FullName) (dist : List ℕ) (now : ℕ) (arms : List Arm) (a b d : TimersContent) → TimersStay a b → TimersHear is fresh dist now arms b d → TimersHear is fresh dist now arms a d
+hears_roomy is fresh dist now arms a b d stays hears = record { each = λ c past e g it with_this fits. hears.each c past e g it with_this (stays.each c past fits) }
 
 pub session_enters : {W : Type 0} (draw : W → ℕ × W) (a b : Content W) (moment : ℕ) (g : Datagram) (names fresh : List FullName) (dist : List ℕ) (arms : List Arm) (roomy : StoreContent) (after : DistancesContent) (e : Entry)
     → IsSession g → names ≡ names_in g → is_gone a.state ≡ false → IsSpellable g → a.last ≤ moment → IsTaken g a → IsFreshOf names a fresh → HearsToo a.config.me moment g a.distances after → IsTableOf after dist

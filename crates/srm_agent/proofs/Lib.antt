@@ -22,6 +22,7 @@ pub mod Heeded
 pub mod Fresh
 pub mod Taken
 pub mod Roomy
+pub mod Answered
 pub mod AnswersDue
 pub mod Evident
 pub mod Requested

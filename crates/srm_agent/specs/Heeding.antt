@@ -1,22 +1,28 @@
 -- What hearing one datagram says of its entry.
-use Rattle.std.specs.Prelude.{◌≡◌, ◌≢◌, ℕ, List, [], None}
+use Rattle.std.specs.Prelude.{◌≡◌, ◌≢◌, ℕ, List, [], Some, None, Ok}
 use Rattle.srm_names.specs.FullName.{FullName}
 use Rattle.srm_names.specs.Names.{AreExactly}
 use Rattle.srm_codec.specs.declared.datagram.Datagram.{Datagram}
 use Rattle.srm_codec.specs.declared.fault.DecodeFault.{DecodeFault}
 use Rattle.srm_codec.specs.declared.fault.DecodeFault.TheVariants as decoding
 use Rattle.srm_timers.specs.declared.arm.Arm.{Arm}
+use Rattle.srm_entries.specs.declared.cause.Outcome.{Outcome}
+use Rattle.srm_entries.specs.declared.cause.Outcome.TheVariants as outcomes
 use Rattle.srm_entries.specs.declared.cause.Cause.TheVariants as causes
 use Rattle.srm_entries.specs.declared.state.AgentState.{AgentState}
 use Rattle.srm_entries.specs.declared.entry.Entry.{Entry}
+use Rattle.srm_entries.specs.declared.entry.Input.{Input}
+use Rattle.srm_entries.specs.declared.entry.Verdict.{Verdict}
 use Rattle.srm_entries.specs.declared.entry.Input.TheVariants.{Heard, Noise}
 use Rattle.srm_entries.specs.declared.entry.Verdict.TheVariants.{Done, Ignored}
 use Rattle.srm_entries.specs.Configs.{Config}
+use Rattle.srm_agent.specs.declared.heard.Heard as answers
 use Rattle.srm_agent.specs.Contents.{Content}
 use Rattle.srm_agent.specs.Fits.{Fits}
 use Rattle.srm_entries.specs.Entries.{known}
 use Rattle.srm_agent_parts.specs.Growth.{is_between}
 use Rattle.srm_entries.specs.Verdicts.{verdict_of}
+use Rattle.srm_agent.specs.Noting.{Enters, ReadsAs, AnswersHeard}
 
 -- the verdict is that on the datagram, after whatever run the agent fitted
 pub record IsJudgedBy {W : Type 0} (datagram : Datagram) (old : Content W) (e : Entry) : Type 0 where
@@ -41,6 +47,29 @@ heard_entry me moment datagram arms state = record {
   verdict = Done;
   effects = record { drawn = None; arms = arms; asks = []; fixes = []; outs = []; message = None; state = state };
 }
+
+-- the verdict on what was heard, by what is answered
+abbrev pub verdict_by : Outcome → Verdict
+verdict_by outcomes.Taken = Done
+verdict_by (outcomes.Ignored cause) = Ignored cause
+
+-- the entry of what a member heard, by what is answered: it sets timers, and does nothing else
+abbrev pub entry_with : ℕ → ℕ → Input → AgentState → answers.Heard → Entry
+entry_with me moment input state heard = record {
+  member = me;
+  moment = moment;
+  input = input;
+  verdict = verdict_by heard.outcome;
+  effects = record { drawn = None; arms = heard.arms; asks = []; fixes = []; outs = []; message = None; state = state };
+}
+
+-- and of what an agent heard
+abbrev pub entry_by : {W : Type 0} → Content W → ℕ → Input → answers.Heard → Entry
+entry_by a moment input heard = entry_with a.config.me moment input a.state heard
+
+-- hearing bytes had an entry, and answered as it says
+abbrev pub HeardAs : {W : Type 0} → (W → ℕ × W) → ℕ → List ℕ → Content W → Content W → answers.Heard → Type 0
+HeardAs draw now bytes old new heard = (e : Entry) × Enters draw (Some now) e.input old new e × ReadsAs bytes old e × AnswersHeard e (Ok heard)
 
 -- the names are those below this one that aren't known of, in order, after whatever run the agent fitted
 pub record IsFreshBelow {W : Type 0} (name : FullName) (old : Content W) (names : List FullName) : Type 0 where

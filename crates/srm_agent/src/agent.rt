@@ -19,6 +19,7 @@ mod judging;
 mod leaving;
 mod new_page;
 mod next_due;
+mod noting;
 mod reporting;
 mod sending;
 mod showing;

@@ -34,6 +34,6 @@ pub use keeping::keep;
 pub use mentions::names_in;
 pub use out::{Out, Outgoing};
 pub use page_table::PageTable;
-pub use reports::{distances_after, learn};
+pub use reports::{hear_report, learn};
 pub use roster::{member, page_in_range, stream_in_range};
 pub use timers::{Timers, earlier};

@@ -13,17 +13,11 @@ use srm_distance::Distances;
 use srm_names::{Echo, Member, Name};
 use srm_store::Store;
 
-/// What is known of the others after a datagram was heard at a moment: session messages change it alone. It takes no memory.
-pub fn distances_after(
-    distances: &Distances,
-    me: Member,
-    datagram: &Datagram,
-    now: u64,
-) -> Distances
+/// A datagram was heard at a moment, by which more is known of the others: session messages change it alone. It takes no memory.
+pub fn hear_report(distances: &mut Distances, me: Member, datagram: &Datagram, now: u64)
     requires { IsSpellable datagram.now }
-    ensures { HearsToo me now datagram.now distances.now result }
+    ensures { HearsToo me now datagram.now distances.old distances.new }
 {
-    let mut after = distances.copy();
     if let Datagram::Session {
         sender,
         sent,
@@ -32,12 +26,11 @@ pub fn distances_after(
         ..
     } = datagram
     {
-        after.heard_session(*sender, *sent, echo_for(echoes.as_slice(), &me), now);
+        distances.heard_session(*sender, *sent, echo_for(echoes.as_slice(), &me), now);
         if *farewell {
-            after.forget(*sender);
+            distances.forget(*sender);
         }
     }
-    after
 }
 
 /// The echo for a member: the moment that it answers, and how long it waited.

@@ -1,6 +1,6 @@
 //! Hearing what others sent.
 
-ghost use Rattle.std.specs.Prelude.{◌≡◌, ◌≢◌, ◌≤◌, [], Some, None, Ok, IfOk, IsOk, OnOk, OnErr, false};
+ghost use Rattle.std.specs.Prelude.{◌≡◌, ◌≢◌, ◌≤◌, [], Some, None, Ok, IfOk, IsOk, OnOk, OnErr, true, false};
 ghost use Rattle.srm_names.specs.declared.limits.TheConstants.{MOMENT};
 ghost use Rattle.srm_codec.specs.declared.fault.DecodeFault.TheVariants.{Memory};
 ghost use Rattle.srm_codec.specs.Judging.{judge};
@@ -8,15 +8,17 @@ ghost use Rattle.srm_codec.specs.Spelling.{IsSpellable, names_in};
 ghost use Rattle.srm_entries.specs.Entries.{is_gone};
 ghost use Rattle.srm_store.specs.Stores.{HavePlaces};
 ghost use Rattle.srm_agent_parts.specs.PageTables.{lacks_room_for};
-ghost use Rattle.srm_agent.specs.Heeding.{IsJudgedBy, IsNoiseFor, IsTaken};
-ghost use Rattle.srm_agent.specs.Noting.{Enters, Stays, ReadsAs, AnswersHeard, Hears, still_entry};
+ghost use Rattle.srm_agent.specs.Heeding.{HeardAs, IsJudgedBy, IsNoiseFor, IsTaken, entry_by};
+ghost use Rattle.srm_entries.specs.declared.cause.Outcome.TheVariants.{Taken};
+ghost use Rattle.srm_agent.specs.Noting.{Enters, Stays, ReadsAs, AnswersHeard, Hears};
 
 use super::Agent;
+use super::noting::{Hearing, note, only_name};
 use crate::heard::Heard;
 use crate::noted::Noted;
 use srm_agent_parts::names_in;
 use srm_codec::{Datagram, DecodeFault, decode};
-use srm_entries::{AgentFault, Cause, Input, Outcome, Verdict};
+use srm_entries::{AgentFault, Cause, Input, Outcome};
 use srm_names::{Items, Name};
 use srm_store::StoreFault;
 use srm_timers::Words;
@@ -42,40 +44,87 @@ impl<W: Words + Drop> Agent<W> {
     {
         let moment = self.moment(now);
         if self.is_gone() {
-            return Ok(self.ignore(moment, Input::Noise, Cause::Gone));
+            let heard = self.ignore(moment, Cause::Gone);
+            return Ok(self.note_noise(moment, heard));
         }
         match decode(self.alloc, self.config.session(), bytes) {
-            Ok(datagram) => self.hear_datagram(datagram, moment),
-            Err(fault) => self.hear_noise(fault, moment),
+            Ok(datagram) => self.hear_datagram_noted(datagram, moment),
+            Err(fault) => {
+                let heard = self.hear_noise(fault, moment)?;
+                Ok(self.note_noise(moment, heard))
+            }
         }
     }
 
-    /// [`hear_noted`](Agent::hear_noted) without its entry.
+    /// [`hear_noted`](Agent::hear_noted) without its entry, which isn't made.
     pub fn hear(&mut self, bytes: &[u8], now: u64) -> Result<Heard, AgentFault>
         requires { now ≤ MOMENT }
         ensures { Hears W.draw now bytes.now self.old self.new result }
     {
-        self.hear_noted(bytes, now)?.answer
+        Ok(self.hear_bytes(bytes, now)?)
+    }
+
+    /// The same. Only want of memory refuses it.
+    fn hear_bytes(&mut self, bytes: &[u8], now: u64) -> Result<Heard, AllocError>
+        requires { now ≤ MOMENT }
+        ensures ok { IfOk result (HeardAs W.draw now bytes.now self.old self.new) }
+        ensures err { OnErr result (Stays self.old self.new) }
+        ensures here { OnErr result (is_gone self.old.state ≡ false) }
+        ensures spelled { OnErr result (IsOk (judge self.old.config.session bytes.now)) }
+    {
+        let moment = self.moment(now);
+        if self.is_gone() {
+            return Ok(self.ignore(moment, Cause::Gone));
+        }
+        match decode(self.alloc, self.config.session(), bytes) {
+            Ok(datagram) => Ok(self.hear_datagram(datagram, false, moment)?.heard),
+            Err(fault) => self.hear_noise(fault, moment),
+        }
     }
 
     /// Hears bytes that spell no datagram, at a moment that isn't below the last one. Where memory ran out while they were
     /// read, they aren't noise.
-    fn hear_noise(&mut self, fault: DecodeFault, moment: u64) -> Result<Noted<Heard>, AllocError>
+    fn hear_noise(&mut self, fault: DecodeFault, moment: u64) -> Result<Heard, AllocError>
         requires here { is_gone self.old.state ≡ false }
         requires later { self.old.last ≤ moment }
         requires moment { moment ≤ MOMENT }
-        ensures ok { IfOk result (λ noted. Enters W.draw (Some moment) Input.Noise self.old self.new noted.entry) }
-        ensures noise { IfOk result (λ noted. IsNoiseFor fault noted.entry) }
-        ensures answer { IfOk result (λ noted. AnswersHeard noted.entry noted.answer) }
+        ensures ok { IfOk result (λ heard. Enters W.draw (Some moment) Input.Noise self.old self.new (entry_by self.old moment Input.Noise heard)) }
+        ensures noise { IfOk result (λ heard. IsNoiseFor fault (entry_by self.old moment Input.Noise heard)) }
+        ensures still { IfOk result (λ heard. heard.arms ≡ []) }
+        ensures new { IfOk result (λ _. self.new ≡ record self.old { last = moment }) }
         ensures err { OnErr result (Stays self.old self.new) }
         ensures memory { OnErr result (fault ≡ Memory) }
     {
         let cause = noise_cause(fault)?;
-        Ok(self.ignore(moment, Input::Noise, cause))
+        Ok(self.ignore(moment, cause))
     }
 
-    /// Hears a datagram at a moment that isn't below the last one.
-    fn hear_datagram(&mut self, datagram: Datagram, moment: u64) -> Result<Noted<Heard>, AllocError>
+    /// The entry of bytes that were ignored as noise, with what is answered.
+    fn note_noise(&self, moment: u64, heard: Heard) -> Noted<Heard>
+        requires { heard.arms ≡ [] }
+        ensures entry { result.entry ≡ entry_by self.now moment Input.Noise heard }
+        ensures answer { result.answer ≡ Ok heard }
+    {
+        let hearing = Hearing {
+            heard,
+            noted: Items::new(Vec::new(self.alloc)),
+        };
+        note(
+            self.alloc,
+            self.config.me(),
+            moment,
+            Input::Noise,
+            self.state,
+            hearing,
+        )
+    }
+
+    /// Hears a datagram at a moment that isn't below the last one, and notes the entry.
+    fn hear_datagram_noted(
+        &mut self,
+        datagram: Datagram,
+        moment: u64,
+    ) -> Result<Noted<Heard>, AllocError>
         requires here { is_gone self.old.state ≡ false }
         requires spelled { IsSpellable datagram }
         requires later { self.old.last ≤ moment }
@@ -85,10 +134,60 @@ impl<W: Words + Drop> Agent<W> {
         ensures answer { IfOk result (λ noted. AnswersHeard noted.entry noted.answer) }
         ensures err { OnErr result (Stays self.old self.new) }
     {
+        let (me, state) = (self.config.me(), self.state);
+        let input = Input::Heard(datagram.copy(self.alloc)?);
+        let hearing = self.hear_datagram(datagram, true, moment)?;
+        Ok(note(self.alloc, me, moment, input, state, hearing))
+    }
+
+    /// Hears a datagram at a moment that isn't below the last one.
+    fn hear_datagram(
+        &mut self,
+        datagram: Datagram,
+        notes: bool,
+        moment: u64,
+    ) -> Result<Hearing, AllocError>
+        requires here { is_gone self.old.state ≡ false }
+        requires spelled { IsSpellable datagram }
+        requires later { self.old.last ≤ moment }
+        requires moment { moment ≤ MOMENT }
+        ensures ok { IfOk result (λ hearing. Enters W.draw (Some moment) (Input.Heard datagram) self.old self.new (entry_by self.old moment (Input.Heard datagram) hearing.heard)) }
+        ensures judged { IfOk result (λ hearing. IsJudgedBy datagram self.old (entry_by self.old moment (Input.Heard datagram) hearing.heard)) }
+        ensures noted { IfOk result (λ hearing. notes ≡ true → hearing.noted ≡ hearing.heard.arms) }
+        ensures err { OnErr result (Stays self.old self.new) }
+    {
+        if let Some(name) = only_name(&datagram) {
+            return self.hear_named(datagram, &[name], notes, moment);
+        }
         let names = names_in(self.alloc, &datagram)?;
-        match self.cause_to_ignore(&datagram, &names) {
-            Some(cause) => Ok(self.ignore(moment, Input::Heard(datagram), cause)),
-            None => self.take(datagram, &names, moment),
+        self.hear_named(datagram, &names, notes, moment)
+    }
+
+    /// Hears a datagram with these names.
+    fn hear_named(
+        &mut self,
+        datagram: Datagram,
+        names: &[Name],
+        notes: bool,
+        moment: u64,
+    ) -> Result<Hearing, AllocError>
+        requires here { is_gone self.old.state ≡ false }
+        requires spelled { IsSpellable datagram }
+        requires later { self.old.last ≤ moment }
+        requires moment { moment ≤ MOMENT }
+        requires names { names.now ≡ names_in datagram }
+        ensures ok { IfOk result (λ hearing. Enters W.draw (Some moment) (Input.Heard datagram) self.old self.new (entry_by self.old moment (Input.Heard datagram) hearing.heard)) }
+        ensures judged { IfOk result (λ hearing. IsJudgedBy datagram self.old (entry_by self.old moment (Input.Heard datagram) hearing.heard)) }
+        ensures noted { IfOk result (λ hearing. notes ≡ true → hearing.noted ≡ hearing.heard.arms) }
+        ensures err { OnErr result (Stays self.old self.new) }
+    {
+        match self.cause_to_ignore(&datagram, names) {
+            Some(cause) => {
+                // By a call, so that the proof has no case for each kind of datagram that goes.
+                drop(datagram);
+                Ok(self.ignore_heard(moment, cause))
+            }
+            None => self.take(datagram, names, notes, moment),
         }
     }
 
@@ -98,8 +197,9 @@ impl<W: Words + Drop> Agent<W> {
         &mut self,
         datagram: Datagram,
         names: &[Name],
+        notes: bool,
         moment: u64,
-    ) -> Result<Noted<Heard>, AllocError>
+    ) -> Result<Hearing, AllocError>
         requires here { is_gone self.old.state ≡ false }
         requires spelled { IsSpellable datagram }
         requires later { self.old.last ≤ moment }
@@ -107,18 +207,18 @@ impl<W: Words + Drop> Agent<W> {
         requires taken { IsTaken datagram self.old }
         requires names { names.now ≡ names_in datagram }
         requires pages { lacks_room_for self.old.pages names.now ≡ false }
-        ensures ok { IfOk result (λ noted. Enters W.draw (Some moment) (Input.Heard datagram) self.old self.new noted.entry) }
-        ensures judged { IfOk result (λ noted. IsJudgedBy datagram self.old noted.entry) }
-        ensures answer { IfOk result (λ noted. AnswersHeard noted.entry noted.answer) }
+        ensures ok { IfOk result (λ hearing. Enters W.draw (Some moment) (Input.Heard datagram) self.old self.new (entry_by self.old moment (Input.Heard datagram) hearing.heard)) }
+        ensures judged { IfOk result (λ hearing. IsJudgedBy datagram self.old (entry_by self.old moment (Input.Heard datagram) hearing.heard)) }
+        ensures noted { IfOk result (λ hearing. notes ≡ true → hearing.noted ≡ hearing.heard.arms) }
         ensures err { OnErr result (Stays self.old self.new) }
     {
         match self.store.room_to_learn(names) {
-            Ok(()) => self.take_ready(datagram, names, moment),
+            Ok(()) => self.take_ready(datagram, names, notes, moment),
             Err(StoreFault::PageLimit) => {
-                Ok(self.ignore(moment, Input::Heard(datagram), Cause::PageLimit))
+                drop(datagram);
+                Ok(self.ignore_heard(moment, Cause::PageLimit))
             }
             Err(StoreFault::Memory) => {
-                // By a call, so that the proof has no case for each kind of datagram that goes.
                 drop(datagram);
                 Err(AllocError)
             }
@@ -130,8 +230,9 @@ impl<W: Words + Drop> Agent<W> {
         &mut self,
         datagram: Datagram,
         names: &[Name],
+        notes: bool,
         moment: u64,
-    ) -> Result<Noted<Heard>, AllocError>
+    ) -> Result<Hearing, AllocError>
         requires here { is_gone self.old.state ≡ false }
         requires spelled { IsSpellable datagram }
         requires later { self.old.last ≤ moment }
@@ -140,35 +241,44 @@ impl<W: Words + Drop> Agent<W> {
         requires names { names.now ≡ names_in datagram }
         requires pages { lacks_room_for self.old.pages names.now ≡ false }
         requires ready { HavePlaces names.now self.old.store }
-        ensures ok { IfOk result (λ noted. Enters W.draw (Some moment) (Input.Heard datagram) self.old self.new noted.entry) }
-        ensures done { IfOk result (λ noted. noted.entry.verdict ≡ Verdict.Done) }
-        ensures answer { IfOk result (λ noted. AnswersHeard noted.entry noted.answer) }
+        ensures ok { IfOk result (λ hearing. Enters W.draw (Some moment) (Input.Heard datagram) self.old self.new (entry_by self.old moment (Input.Heard datagram) hearing.heard)) }
+        ensures done { IfOk result (λ hearing. hearing.heard.outcome ≡ Taken) }
+        ensures noted { IfOk result (λ hearing. notes ≡ true → hearing.noted ≡ hearing.heard.arms) }
         ensures err { OnErr result (Stays self.old self.new) }
     {
         match datagram {
-            Datagram::Data(drawop) => self.take_data(drawop, moment),
+            Datagram::Data(drawop) => self.take_data(drawop, notes, moment),
             Datagram::Request { sender, name, mask } => {
-                self.take_request(sender, name, mask, names, moment)
+                self.take_request(sender, name, mask, names, notes, moment)
             }
-            Datagram::Repair { sender, drawop } => self.take_repair(sender, drawop, moment),
-            session @ Datagram::Session { .. } => self.take_session(session, names, moment),
+            Datagram::Repair { sender, drawop } => self.take_repair(sender, drawop, notes, moment),
+            session @ Datagram::Session { .. } => self.take_session(session, names, notes, moment),
+        }
+    }
+
+    /// A datagram is ignored, and no timer is set.
+    fn ignore_heard(&mut self, moment: u64, cause: Cause) -> Hearing
+        requires { moment ≤ MOMENT }
+        ensures new { self.new ≡ record self.old { last = moment } }
+        ensures heard { result.heard ≡ record { arms = []; outcome = Outcome.Ignored cause } }
+        ensures noted { result.noted ≡ [] }
+    {
+        Hearing {
+            heard: self.ignore(moment, cause),
+            noted: Items::new(Vec::new(self.alloc)),
         }
     }
 
     /// From this moment on nothing else is changed: the input is ignored. It takes no memory.
-    fn ignore(&mut self, moment: u64, input: Input, cause: Cause) -> Noted<Heard>
+    fn ignore(&mut self, moment: u64, cause: Cause) -> Heard
         requires { moment ≤ MOMENT }
         ensures new { self.new ≡ record self.old { last = moment } }
-        ensures entry { result.entry ≡ still_entry self.old.config.me moment input (Verdict.Ignored cause) None self.old.state }
-        ensures answer { result.answer ≡ Ok (record { arms = []; outcome = Outcome.Ignored cause }) }
+        ensures heard { result ≡ record { arms = []; outcome = Outcome.Ignored cause } }
     {
         self.last = moment;
-        Noted {
-            answer: Ok(Heard {
-                arms: Items::new(Vec::new(self.alloc)),
-                outcome: Outcome::Ignored(cause),
-            }),
-            entry: self.entry(moment, input, Verdict::Ignored(cause), None),
+        Heard {
+            arms: Items::new(Vec::new(self.alloc)),
+            outcome: Outcome::Ignored(cause),
         }
     }
 }

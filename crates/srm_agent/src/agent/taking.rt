@@ -8,17 +8,16 @@ ghost use Rattle.srm_codec.specs.Spelling.{IsSpellable};
 ghost use Rattle.srm_store.specs.Stores.{HavePlaces};
 ghost use Rattle.srm_entries.specs.Entries.{is_gone};
 ghost use Rattle.srm_agent_parts.specs.PageTables.{lacks_room_for};
-ghost use Rattle.srm_agent.specs.Heeding.{IsTaken, IsFreshBelow, heard_entry};
-ghost use Rattle.srm_agent.specs.Noting.{Enters, Stays, AnswersHeard};
+ghost use Rattle.srm_agent.specs.Heeding.{IsTaken, IsFreshBelow, entry_by};
+ghost use Rattle.srm_entries.specs.declared.cause.Outcome.TheVariants.{Taken};
+ghost use Rattle.srm_agent.specs.Noting.{Enters, Stays};
 
 use super::Agent;
-use crate::heard::Heard;
-use crate::noted::Noted;
+use super::noting::{Hearing, note_arms, room_to_note, took};
 use srm_agent_parts::{distance_table, keep, names_between};
-use srm_codec::Datagram;
-use srm_entries::{Effects, Entry, Input, Outcome, Verdict};
-use srm_names::{Drawop, Items, Member, Name};
-use srm_timers::{Arm, Words};
+use srm_entries::Input;
+use srm_names::{Drawop, Member, Name};
+use srm_timers::Words;
 use std::alloc::AllocError;
 
 impl<W: Words + Drop> Agent<W> {
@@ -26,8 +25,9 @@ impl<W: Words + Drop> Agent<W> {
     pub(super) fn take_data(
         &mut self,
         drawop: Drawop,
+        notes: bool,
         moment: u64,
-    ) -> Result<Noted<Heard>, AllocError>
+    ) -> Result<Hearing, AllocError>
         requires here { is_gone self.old.state ≡ false }
         requires spelled { IsSpellable (Data drawop) }
         requires later { self.old.last ≤ moment }
@@ -35,24 +35,23 @@ impl<W: Words + Drop> Agent<W> {
         requires taken { IsTaken (Data drawop) self.old }
         requires pages { lacks_room_for self.old.pages (drawop.name ∷ []) ≡ false }
         requires ready { HavePlaces (drawop.name ∷ []) self.old.store }
-        ensures ok { IfOk result (λ noted. Enters W.draw (Some moment) (Input.Heard (Data drawop)) self.old self.new noted.entry) }
-        ensures done { IfOk result (λ noted. noted.entry.verdict ≡ Verdict.Done) }
-        ensures answer { IfOk result (λ noted. AnswersHeard noted.entry noted.answer) }
+        ensures ok { IfOk result (λ hearing. Enters W.draw (Some moment) (Input.Heard (Data drawop)) self.old self.new (entry_by self.old moment (Input.Heard (Data drawop)) hearing.heard)) }
+        ensures done { IfOk result (λ hearing. hearing.heard.outcome ≡ Taken) }
+        ensures noted { IfOk result (λ hearing. notes ≡ true → hearing.noted ≡ hearing.heard.arms) }
         ensures err { OnErr result (Stays self.old self.new) }
     {
         let name = drawop.name;
         let fresh = self.fresh_below(name)?;
-        let kept = drawop.copy()?;
-        let mut copies = Vec::with_capacity(self.alloc, fresh.len())?;
+        let mut copies = room_to_note(self.alloc, notes, fresh.len())?;
         let dist = distance_table(&self.distances);
         let arms = self
             .timers
             .hear_data(name, &fresh, dist, moment, &mut self.words)?;
-        copies.extend_from_slice(&arms).unwrap();
-        keep(&mut self.store, kept);
+        note_arms(&mut copies, notes, &arms);
+        keep(&mut self.store, drawop);
         self.pages.add_all(&[name]);
         self.last = moment;
-        Ok(self.took(moment, Datagram::Data(drawop), arms, copies))
+        Ok(took(arms, copies))
     }
 
     /// Takes a repair.
@@ -60,8 +59,9 @@ impl<W: Words + Drop> Agent<W> {
         &mut self,
         sender: Member,
         drawop: Drawop,
+        notes: bool,
         moment: u64,
-    ) -> Result<Noted<Heard>, AllocError>
+    ) -> Result<Hearing, AllocError>
         requires here { is_gone self.old.state ≡ false }
         requires spelled { IsSpellable (Repair sender drawop) }
         requires later { self.old.last ≤ moment }
@@ -69,24 +69,23 @@ impl<W: Words + Drop> Agent<W> {
         requires taken { IsTaken (Repair sender drawop) self.old }
         requires pages { lacks_room_for self.old.pages (drawop.name ∷ []) ≡ false }
         requires ready { HavePlaces (drawop.name ∷ []) self.old.store }
-        ensures ok { IfOk result (λ noted. Enters W.draw (Some moment) (Input.Heard (Repair sender drawop)) self.old self.new noted.entry) }
-        ensures done { IfOk result (λ noted. noted.entry.verdict ≡ Verdict.Done) }
-        ensures answer { IfOk result (λ noted. AnswersHeard noted.entry noted.answer) }
+        ensures ok { IfOk result (λ hearing. Enters W.draw (Some moment) (Input.Heard (Repair sender drawop)) self.old self.new (entry_by self.old moment (Input.Heard (Repair sender drawop)) hearing.heard)) }
+        ensures done { IfOk result (λ hearing. hearing.heard.outcome ≡ Taken) }
+        ensures noted { IfOk result (λ hearing. notes ≡ true → hearing.noted ≡ hearing.heard.arms) }
         ensures err { OnErr result (Stays self.old self.new) }
     {
         let name = drawop.name;
         let fresh = self.fresh_below(name)?;
-        let kept = drawop.copy()?;
-        let mut copies = Vec::with_capacity(self.alloc, fresh.len())?;
+        let mut copies = room_to_note(self.alloc, notes, fresh.len())?;
         let dist = distance_table(&self.distances);
         let arms = self
             .timers
             .hear_repair(name, &fresh, dist, moment, &mut self.words)?;
-        copies.extend_from_slice(&arms).unwrap();
-        keep(&mut self.store, kept);
+        note_arms(&mut copies, notes, &arms);
+        keep(&mut self.store, drawop);
         self.pages.add_all(&[name]);
         self.last = moment;
-        Ok(self.took(moment, Datagram::Repair { sender, drawop }, arms, copies))
+        Ok(took(arms, copies))
     }
 
     /// The names below this one that aren't known of, in order. Only want of memory refuses it.
@@ -96,39 +95,5 @@ impl<W: Words + Drop> Agent<W> {
     {
         let known = self.store.known(name.stream());
         names_between(self.alloc, name.stream(), known, name.number())
-    }
-
-    /// What is answered, and the entry, where a datagram was heard that set these timers. It takes no memory.
-    pub(super) fn took(
-        &self,
-        moment: u64,
-        datagram: Datagram,
-        arms: Vec<Arm>,
-        copies: Vec<Arm>,
-    ) -> Noted<Heard>
-        ensures entry { result.entry ≡ heard_entry self.now.config.me moment datagram arms.items self.now.state }
-        ensures answer { result.answer ≡ Ok (record { arms = copies.items; outcome = Outcome.Taken }) }
-    {
-        Noted {
-            answer: Ok(Heard {
-                arms: Items::new(copies),
-                outcome: Outcome::Taken,
-            }),
-            entry: Entry {
-                member: self.config.me(),
-                moment,
-                input: Input::Heard(datagram),
-                verdict: Verdict::Done,
-                effects: Effects {
-                    drawn: None,
-                    arms: Items::new(arms),
-                    asks: Items::new(Vec::new(self.alloc)),
-                    fixes: Items::new(Vec::new(self.alloc)),
-                    outs: Items::new(Vec::new(self.alloc)),
-                    message: None,
-                    state: self.state,
-                },
-            },
-        }
     }
 }

@@ -9,15 +9,14 @@ ghost use Rattle.srm_store.specs.Stores.{HavePlaces};
 ghost use Rattle.srm_entries.specs.Entries.{is_gone};
 ghost use Rattle.srm_agent.specs.Growth.{IsFreshUpTo};
 ghost use Rattle.srm_agent_parts.specs.PageTables.{lacks_room_for};
-ghost use Rattle.srm_agent.specs.Heeding.{IsTaken};
-ghost use Rattle.srm_agent.specs.Noting.{Enters, Stays, AnswersHeard};
+ghost use Rattle.srm_agent.specs.Heeding.{IsTaken, entry_by};
+ghost use Rattle.srm_entries.specs.declared.cause.Outcome.TheVariants.{Taken};
+ghost use Rattle.srm_agent.specs.Noting.{Enters, Stays};
 
 use super::Agent;
-use crate::heard::Heard;
-use crate::noted::Noted;
+use super::noting::{Hearing, note_arms, room_to_note, took};
 use srm_agent_parts::{distance_table, greatest_in, names_between, show_all};
-use srm_codec::Datagram;
-use srm_entries::{Input, Verdict};
+use srm_entries::Input;
 use srm_names::{Member, Name, Stream};
 use srm_timers::Words;
 use std::alloc::AllocError;
@@ -30,8 +29,9 @@ impl<W: Words + Drop> Agent<W> {
         name: Name,
         mask: u32,
         names: &[Name],
+        notes: bool,
         moment: u64,
-    ) -> Result<Noted<Heard>, AllocError>
+    ) -> Result<Hearing, AllocError>
         requires here { is_gone self.old.state ≡ false }
         requires spelled { IsSpellable (Request sender name mask) }
         requires later { self.old.last ≤ moment }
@@ -40,13 +40,13 @@ impl<W: Words + Drop> Agent<W> {
         requires names { names.now ≡ asked_by name mask }
         requires pages { lacks_room_for self.old.pages names.now ≡ false }
         requires ready { HavePlaces names.now self.old.store }
-        ensures ok { IfOk result (λ noted. Enters W.draw (Some moment) (Input.Heard (Request sender name mask)) self.old self.new noted.entry) }
-        ensures done { IfOk result (λ noted. noted.entry.verdict ≡ Verdict.Done) }
-        ensures answer { IfOk result (λ noted. AnswersHeard noted.entry noted.answer) }
+        ensures ok { IfOk result (λ hearing. Enters W.draw (Some moment) (Input.Heard (Request sender name mask)) self.old self.new (entry_by self.old moment (Input.Heard (Request sender name mask)) hearing.heard)) }
+        ensures done { IfOk result (λ hearing. hearing.heard.outcome ≡ Taken) }
+        ensures noted { IfOk result (λ hearing. notes ≡ true → hearing.noted ≡ hearing.heard.arms) }
         ensures err { OnErr result (Stays self.old self.new) }
     {
         let fresh = self.fresh_up_to(&name.stream(), names)?;
-        let mut copies = Vec::with_capacity(self.alloc, names.len().saturating_add(fresh.len()))?;
+        let mut copies = room_to_note(self.alloc, notes, names.len().saturating_add(fresh.len()))?;
         let dist = distance_table(&self.distances);
         let arms = self.timers.hear_request(
             &self.store,
@@ -57,12 +57,11 @@ impl<W: Words + Drop> Agent<W> {
             moment,
             &mut self.words,
         )?;
-        copies.extend_from_slice(&arms).unwrap();
+        note_arms(&mut copies, notes, &arms);
         show_all(&mut self.store, names);
         self.pages.add_all(names);
         self.last = moment;
-        let request = Datagram::Request { sender, name, mask };
-        Ok(self.took(moment, request, arms, copies))
+        Ok(took(arms, copies))
     }
 
     /// The names of a stream that aren't known of, up to the greatest of these, in order. Only want of memory refuses it.

@@ -9,15 +9,15 @@ ghost use Rattle.srm_entries.specs.Entries.{is_gone};
 ghost use Rattle.srm_agent.specs.Growth.{IsFreshOf};
 ghost use Rattle.srm_agent_parts.specs.PageTables.{lacks_room_for};
 ghost use Rattle.srm_agent_parts.specs.TimerCalls.{IsSession};
-ghost use Rattle.srm_agent.specs.Heeding.{IsTaken};
-ghost use Rattle.srm_agent.specs.Noting.{Enters, Stays, AnswersHeard};
+ghost use Rattle.srm_agent.specs.Heeding.{IsTaken, entry_by};
+ghost use Rattle.srm_entries.specs.declared.cause.Outcome.TheVariants.{Taken};
+ghost use Rattle.srm_agent.specs.Noting.{Enters, Stays};
 
 use super::Agent;
-use crate::heard::Heard;
-use crate::noted::Noted;
-use srm_agent_parts::{distance_table, distances_after, learn, names_between};
+use super::noting::{Hearing, note_arms, room_to_note, took};
+use srm_agent_parts::{distance_table, hear_report, learn, names_between};
 use srm_codec::Datagram;
-use srm_entries::{Input, Verdict};
+use srm_entries::Input;
 use srm_names::Name;
 use srm_timers::Words;
 use std::alloc::AllocError;
@@ -28,8 +28,9 @@ impl<W: Words + Drop> Agent<W> {
         &mut self,
         datagram: Datagram,
         names: &[Name],
+        notes: bool,
         moment: u64,
-    ) -> Result<Noted<Heard>, AllocError>
+    ) -> Result<Hearing, AllocError>
         requires session { IsSession datagram }
         requires here { is_gone self.old.state ≡ false }
         requires spelled { IsSpellable datagram }
@@ -39,24 +40,25 @@ impl<W: Words + Drop> Agent<W> {
         requires names { names.now ≡ names_in datagram }
         requires pages { lacks_room_for self.old.pages names.now ≡ false }
         requires ready { HavePlaces names.now self.old.store }
-        ensures ok { IfOk result (λ noted. Enters W.draw (Some moment) (Input.Heard datagram) self.old self.new noted.entry) }
-        ensures done { IfOk result (λ noted. noted.entry.verdict ≡ Verdict.Done) }
-        ensures answer { IfOk result (λ noted. AnswersHeard noted.entry noted.answer) }
+        ensures ok { IfOk result (λ hearing. Enters W.draw (Some moment) (Input.Heard datagram) self.old self.new (entry_by self.old moment (Input.Heard datagram) hearing.heard)) }
+        ensures done { IfOk result (λ hearing. hearing.heard.outcome ≡ Taken) }
+        ensures noted { IfOk result (λ hearing. notes ≡ true → hearing.noted ≡ hearing.heard.arms) }
         ensures err { OnErr result (Stays self.old self.new) }
     {
         let fresh = self.fresh_of(names)?;
-        let mut copies = Vec::with_capacity(self.alloc, fresh.len())?;
-        let after = distances_after(&self.distances, self.config.me(), &datagram, moment);
-        let dist = distance_table(&after);
+        let mut copies = room_to_note(self.alloc, notes, fresh.len())?;
+        self.timers.rows_room(&fresh)?;
+        hear_report(&mut self.distances, self.config.me(), &datagram, moment);
+        let dist = distance_table(&self.distances);
         let arms = self
             .timers
-            .hear_rows(&fresh, dist, moment, &mut self.words)?;
-        copies.extend_from_slice(&arms).unwrap();
+            .hear_rows(&fresh, dist, moment, &mut self.words)
+            .unwrap();
+        note_arms(&mut copies, notes, &arms);
         learn(&mut self.store, &datagram, names);
-        self.distances = after;
         self.pages.add_all(names);
         self.last = moment;
-        Ok(self.took(moment, datagram, arms, copies))
+        Ok(took(arms, copies))
     }
 
     /// The names of the rows' streams that aren't known of, up to the numbers of the rows, in order. Only want of memory

@@ -1,9 +1,9 @@
 //! What data, repairs and session messages do to the timers.
 
-ghost use Rattle.std.specs.Prelude.{◌≡◌, ◌≤◌, length, true, IfOk, OnErr, [], ◌∷◌, OnOk};
+ghost use Rattle.std.specs.Prelude.{◌≡◌, ◌≤◌, length, true, IfOk, IsOk, OnErr, [], ◌∷◌, OnOk};
 ghost use Rattle.srm_names.specs.declared.limits.TheConstants.{MOMENT};
 ghost use Rattle.srm_names.specs.Names.{ascending, name_below};
-ghost use Rattle.srm_timers.specs.AskCalls.{Gained, AskAdds};
+ghost use Rattle.srm_timers.specs.AskCalls.{AnswerReady, Gained, AskAdds};
 ghost use Rattle.srm_timers.specs.FixCalls.{FixStays, FixPlace, FixPlaces, FixRepairs};
 ghost use Rattle.srm_timers.specs.Distances.{AreDistances};
 ghost use Rattle.srm_agent_parts.specs.TimerCalls.{IsDataOf, IsRepairOf, IsSession, KeepSettings, TimersHear, TimersStay, WaitsAreDrawn};
@@ -14,8 +14,18 @@ use srm_timers::{Arm, Words};
 use std::alloc::AllocError;
 
 impl Timers {
+    /// Makes room for a session message by which these names become missing. No timer changes, and only want of memory refuses it.
+    #[tactic(auto, using(crate::proofs::Midway::asks_stay, crate::proofs::Midway::asks_keep))]
+    pub fn rows_room(&mut self, fresh: &[Name]) -> Result<(), AllocError>
+        ensures kept { TimersStay self.old self.new }
+        ensures settings { KeepSettings self.old self.new }
+        ensures ready { OnOk result (AnswerReady fresh.now self.new.asks) }
+    {
+        self.asks.room(fresh).map_err(|_| AllocError)
+    }
+
     /// A session message was heard, by which these names, which rise, become missing: their request timers are set. Only
-    /// want of memory refuses it.
+    /// want of memory refuses it, and not after [`rows_room`](Timers::rows_room) of them.
     #[tactic(auto, using(crate::proofs::Missing::rows_hear))]
     pub fn hear_rows<W: Words>(
         &mut self,
@@ -33,6 +43,7 @@ impl Timers {
         ensures kept { OnErr result (TimersStay self.old self.new) }
         ensures undrawn { OnErr result (words.new ≡ words.old) }
         ensures settings { KeepSettings self.old self.new }
+        ensures room { AnswerReady fresh.now self.old.asks → IsOk result }
     {
         self.detect(fresh, &[], dist, now, words)
     }

@@ -3,6 +3,8 @@ use Rattle.srm_codec.specs.declared.datagram.Datagram.TheVariants.{Data}
 use Rattle.srm_agent_parts.specs.TimerCalls.{IsDataOf}
 use Rattle.srm_agent.proofs.Taken.{drawop_enters, data_brings, stays, at_err}
 use Rattle.srm_store.proofs.Fitting.{still_fits}
+use Rattle.srm_agent.specs.Contents.{content_of}
+use Rattle.srm_agent.proofs.Answered.{taken_entry}
 use Rattle.srm_agent.proofs.agent.Agent.take_data.Goals as goal
 
 pub hear_data-requires-clause-rising : goal.hear_data-requires-clause-rising
@@ -19,6 +21,6 @@ invariant_of-self-2 g c = record { last = c.requires.moment; feeds = c.self.inva
 
 pub returns-clause-ok : goal.returns-clause-ok
 returns-clause-ok g c = rw (← c.self.view_is) (drawop_enters g.W.Words.draw _ _ c.args.moment (Data c.args.drawop) (IsDataOf c.args.drawop.name) c.args.drawop c.in_ok-fresh.fresh.items c.distance_table-dist.result.now c.in_ok-arms.arms.items
-    _ c.took.result.entry (data_brings c.args.drawop) refl (rw (← c.self.view_is) at c.requires.here) c.requires.spelled (rw (← c.self.view_is) at c.requires.later) (rw (← c.self.view_is) at c.requires.taken)
-    (rw (← c.self.view_is) at c.in_ok-fresh.ensures.value) c.distance_table-dist.ensures.value (rw c.deref.ensures.value at c.in_ok-arms.ensures.hears) (still_fits _) (rw c.in_ok-kept.ensures at c.keep.ensures)
-    c.add_all.ensures refl (record { last = refl; config = refl; state = refl; showing = refl; feeds = refl; bucket = refl; due = refl }) c.self.invariant.settings c.in_ok-arms.ensures.drawn c.took.ensures.entry)
+    _ _ (data_brings c.args.drawop) refl (rw (← c.self.view_is) at c.requires.here) c.requires.spelled (rw (← c.self.view_is) at c.requires.later) (rw (← c.self.view_is) at c.requires.taken)
+    (rw (← c.self.view_is) at c.in_ok-fresh.ensures.value) c.distance_table-dist.ensures.value (rw c.deref.ensures.value at c.in_ok-arms.ensures.hears) (still_fits _) c.keep.ensures
+    c.add_all.ensures refl (record { last = refl; config = refl; state = refl; showing = refl; feeds = refl; bucket = refl; due = refl }) c.self.invariant.settings c.in_ok-arms.ensures.drawn (taken_entry (content_of c.self.inside) _ _ _ _ c.took.ensures.heard))

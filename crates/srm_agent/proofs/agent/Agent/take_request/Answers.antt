@@ -2,6 +2,8 @@ use Rattle.std.proofs.Common.{refl}
 use Rattle.srm_agent.proofs.Requested.{fresh_in, request_enters}
 use Rattle.srm_agent.proofs.Taken.{stays, at_err}
 use Rattle.srm_store.proofs.Fitting.{still_fits}
+use Rattle.srm_agent.specs.Contents.{content_of}
+use Rattle.srm_agent.proofs.Answered.{taken_entry}
 use Rattle.srm_agent.proofs.agent.Agent.take_request.Goals as goal
 
 pub hear_request-requires-clause-rising : goal.hear_request-requires-clause-rising
@@ -18,6 +20,6 @@ invariant_of-self-2 g c = record { last = c.requires.moment; feeds = c.self.inva
 
 pub returns-clause-ok : goal.returns-clause-ok
 returns-clause-ok g c = rw (← c.self.view_is) (request_enters g.W.Words.draw _ _ c.args.moment c.args.sender c.args.name c.args.mask c.args.names.now c.in_ok-fresh.fresh.items c.distance_table-dist.result.now c.in_ok-arms.arms.items
-    _ c.took.result.entry c.requires.names (rw (← c.self.view_is) at c.requires.here) c.requires.spelled (rw (← c.self.view_is) at c.requires.later) (rw (← c.self.view_is) at c.requires.taken)
+    _ _ c.requires.names (rw (← c.self.view_is) at c.requires.here) c.requires.spelled (rw (← c.self.view_is) at c.requires.later) (rw (← c.self.view_is) at c.requires.taken)
     (fresh_in c.stream.ensures (rw (← c.self.view_is) at c.in_ok-fresh.ensures.value)) c.distance_table-dist.ensures.value (rw c.deref.ensures.value at c.in_ok-arms.ensures.hears) (still_fits _) c.show_all.ensures
-    c.add_all.ensures refl (record { last = refl; config = refl; state = refl; showing = refl; feeds = refl; bucket = refl; due = refl }) c.self.invariant.settings c.in_ok-arms.ensures.drawn c.took.ensures.entry)
+    c.add_all.ensures refl (record { last = refl; config = refl; state = refl; showing = refl; feeds = refl; bucket = refl; due = refl }) c.self.invariant.settings c.in_ok-arms.ensures.drawn (taken_entry (content_of c.self.inside) _ _ _ _ c.took.ensures.heard))
