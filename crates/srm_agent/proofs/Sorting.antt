@@ -1,10 +1,8 @@
 -- The pages of a table in order: sorted, each once.
 use Rattle.std.proofs.Common.{◌≡◌, ℕ, suc, ◌+◌, ◌<◌, ◌≤◌, ◌==◌, Bool, true, false, not, ◌&&◌, ◌||◌, List, [], ◌∷◌, length, get_or, refl, ap, sym, ◌∙◌, subst, arith}
-use Rattle.std.specs.Prelude.{filter, cond, nat_lt}
+use Rattle.std.specs.Prelude.{filter, cond}
 use Rattle.std.specs.List.Sorted.{IsPermutation, IsSorted}
-use Rattle.std.specs.Ordering.{ordering_then, nat_cmp, is_lt, is_eq}
-use Rattle.std.specs.declared.cmp.Ordering.{Ordering}
-use Rattle.std.specs.declared.cmp.Ordering.TheVariants.{Less, Equal, Greater}
+use Rattle.std.specs.Ordering.{is_lt}
 use Rattle.std.proofs.lemmas.List.Sorted.{list_any-IsPermutation, length_permutation}
 use Rattle.std.proofs.lemmas.Bool.{and_from}
 use Rattle.std.proofs.lemmas.Bool.Decides.{nat_tests}
@@ -12,37 +10,11 @@ use Rattle.srm_names.specs.declared.page.Page.{Page}
 use Rattle.srm_names.specs.Histories.{firsts}
 use Rattle.srm_names.specs.Names.{same_page, page_below, ascending}
 use Rattle.srm_names.proofs.Same.{same_page-is, same_page-itself}
+use Rattle.srm_deadlines.specs.Agenda.{page_order}
 use Rattle.srm_deadlines.proofs.Agendas.{same_count}
+use Rattle.srm_deadlines.proofs.Orders.{page_lt_is}
 use Rattle.srm_agent_parts.specs.PageTables.{IsTable}
 use Rattle.srm_agent.specs.Reports.{AreInOrder}
-
-abbrev page_order : Page → Page → Ordering
-page_order a b = ordering_then (nat_cmp a.creator b.creator) (nat_cmp a.number b.number)
-
-lt_then : (o p : Ordering) → is_lt (ordering_then o p) ≡ (is_lt o || is_eq o && is_lt p)
-lt_then Less p = refl
-lt_then Equal p = refl
-lt_then Greater p = refl
-
-nat_lt_is : (a b : ℕ) → is_lt (nat_cmp a b) ≡ nat_lt a b
-nat_lt_is a b = go (nat_lt a b) (a == b)
-  where
-    go : (x y : Bool) → is_lt (cond x Less (cond y Equal Greater)) ≡ x
-    go true y = refl
-    go false true = refl
-    go false false = refl
-
-nat_eq_is : (a b : ℕ) → is_eq (nat_cmp a b) ≡ (a == b)
-nat_eq_is a b = go (nat_lt a b) refl (a == b) refl
-  where
-    go : (x : Bool) → nat_lt a b ≡ x → (y : Bool) → (a == b) ≡ y → is_eq (cond x Less (cond y Equal Greater)) ≡ y
-    go true e true f = absurd (let k : a < b = grind (arith, nat_tests, e) in let l : a ≡ b = grind (arith, nat_tests, f) in omega arith)
-    go true e false f = refl
-    go false e true f = refl
-    go false e false f = refl
-
-page_lt_is : (a b : Page) → is_lt (page_order a b) ≡ page_below a b
-page_lt_is a b = rw (lt_then (nat_cmp a.creator b.creator) (nat_cmp a.number b.number), nat_lt_is a.creator b.creator, nat_eq_is a.creator b.creator, nat_lt_is a.number b.number) refl
 
 -- each page stands once
 abbrev EachOnce : List Page → Type 0

@@ -97,7 +97,7 @@ nat_eq_is a b = go (nat_lt a b) refl (a == b) refl
     go false e true f = refl
     go false e false f = refl
 
-page_lt_is : (a b : Page) → is_lt (page_order a b) ≡ page_below a b
+pub page_lt_is : (a b : Page) → is_lt (page_order a b) ≡ page_below a b
 page_lt_is a b = rw (lt_then (nat_cmp a.creator b.creator) (nat_cmp a.number b.number), nat_lt_is a.creator b.creator, nat_eq_is a.creator b.creator, nat_lt_is a.number b.number) refl
 
 page_eq_is : (a b : Page) → is_eq (page_order a b) ≡ same_page a b
