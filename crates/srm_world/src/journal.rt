@@ -3,28 +3,30 @@
 ghost use Rattle.std.specs.Prelude.{◌≡◌};
 ghost use Rattle.srm_world.specs.Claims.{IsLawfulJournal};
 
+use crate::past::Past;
 use crate::start::Start;
 use srm_agent::Entry;
 use std::marker::Model;
 
-/// How a member began, and what it did. A [`Recorder`](crate::Recorder) alone makes it. Contracts see it as a record.
+/// How a member began, and what it did. A [`Recorder`](crate::Recorder) alone makes it. Contracts see it as a record, whose entries are all that
+/// the member did, also where [`Forgotten`](crate::Forgotten) kept none of them.
 #[derive(Debug, Drop)]
-pub struct Journal {
+pub struct Journal<P: Past + Drop = Vec<Entry>> {
     pub(crate) start: Start,
-    pub(crate) entries: Vec<Entry>,
+    pub(crate) past: P,
 }
 
-impl Model for Journal {
+impl<P: Past + Drop> Model for Journal<P> {
     ghost use Rattle.srm_world.specs.Traces.{Journal as Content, IsJournal};
 
     ghost Value = { Content };
 
-    ghost view = { λ j. record { start = j.start; entries = j.entries.items } };
+    ghost view = { λ j. record { start = j.start; entries = P.entries j.past } };
 
-    ghost invariant = { λ j. IsJournal (record { start = j.start; entries = j.entries.items }) };
+    ghost invariant = { λ j. IsJournal (record { start = j.start; entries = P.entries j.past }) };
 }
 
-impl Journal {
+impl<P: Past + Drop> Journal<P> {
     /// How the member began.
     pub fn start(&self) -> Start
         ensures { result ≡ self.now.start }
@@ -32,19 +34,21 @@ impl Journal {
         self.start
     }
 
+    /// How the member began, and its entries as they are kept. It takes no memory.
+    pub fn into_parts(self) -> (Start, P)
+        ensures start { result.0 ≡ self.start }
+        ensures entries { P.entries result.1 ≡ self.entries }
+    {
+        (self.start, self.past)
+    }
+}
+
+impl Journal {
     /// The entries of the member, oldest first: a run of it, whatever came to it, without takes. It takes no memory.
     pub fn entries(&self) -> &[Entry]
         ensures value { result.now ≡ self.now.entries }
         ensures lawful { IsLawfulJournal self.now }
     {
-        self.entries.as_slice()
-    }
-
-    /// How the member began, and its entries. It takes no memory.
-    pub fn into_parts(self) -> (Start, Vec<Entry>)
-        ensures start { result.0 ≡ self.start }
-        ensures entries { result.1.items ≡ self.entries }
-    {
-        (self.start, self.entries)
+        self.past.as_slice()
     }
 }

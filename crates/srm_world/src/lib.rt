@@ -15,7 +15,8 @@
 //! let entries = world.trace().entries();
 //! ```
 //!
-//! A program with one member that is to keep what it did takes a [`Recorder`] in place of an agent: the calls are the same.
+//! A program with one member that is to keep what it did takes a [`Recorder`] in place of an agent: the calls are the same. One that runs for days takes a
+//! [`Recorder::forgetful`], which keeps no entry and never grows for one: contracts see its journal all the same.
 //!
 //! **What is refused.** A world is refused for want of memory alone, and is then as after the events before. What a member
 //! refuses or ignores is an entry that says so; an event of a member, a datagram or a slot that isn't there is skipped.
@@ -24,11 +25,13 @@
 mod appending;
 mod event;
 mod fault;
+mod forgotten;
 mod journal;
 mod lane;
 mod lanes;
 mod laws;
 mod participant;
+mod past;
 mod recorder;
 mod sent;
 mod start;
@@ -37,8 +40,10 @@ mod world;
 
 pub use event::Event;
 pub use fault::WorldFault;
+pub use forgotten::Forgotten;
 pub use journal::Journal;
 pub use laws::{honest_runs_are_lawful, rests, takes};
+pub use past::Past;
 pub use recorder::Recorder;
 pub use start::Start;
 pub use trace::Trace;

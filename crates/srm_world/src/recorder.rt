@@ -9,8 +9,9 @@ ghost use Rattle.srm_world.specs.Claims.{IsLawfulJournal};
 ghost use Rattle.srm_world.specs.Recording.{Records, RecordsHeard, RecordsAll};
 ghost use Rattle.srm_world.specs.Words.{RecordsByWords};
 
-use crate::appending::append;
+use crate::forgotten::Forgotten;
 use crate::journal::Journal;
+use crate::past::Past;
 use crate::start::Start;
 use bytes::Bytes;
 use srm_agent::{Agent, AgentFault, Config, Entry, Heard, Input, Noted, Ticked};
@@ -19,25 +20,25 @@ use srm_timers::Words;
 use std::alloc::{AllocError, Global};
 use std::marker::Model;
 
-/// An agent that keeps its journal: each call answers as the agent's, and appends its entry. Room for the entry is made first, so
-/// here want of memory may come before another refusal; a call that is refused for it has no entry. Contracts see the journal, and the source
-/// of words as it stands.
+/// An agent that keeps its journal: each call answers as the agent's, and appends its entry to its [`Past`]. Room for the entry is made first, so
+/// here want of memory may come before another refusal; a call that is refused for it has no entry. Contracts see the journal, whatever the past
+/// keeps of it, and the source of words as it stands.
 #[derive(Drop)]
-pub struct Recorder<W: Words + Drop> {
+pub struct Recorder<W: Words + Drop, P: Past + Drop = Vec<Entry>> {
     agent: Agent<W>,
     start: Start,
-    entries: Vec<Entry>,
+    past: P,
 }
 
-impl<W: Words + Drop> Model for Recorder<W> {
+impl<W: Words + Drop, P: Past + Drop> Model for Recorder<W, P> {
     ghost use Rattle.srm_world.specs.Words.{Recorded};
-    ghost use Rattle.srm_world.specs.Recorders.{recorded_of, IsRecorder};
+    ghost use Rattle.srm_world.specs.Recorders.{journal_of, recorded_of, IsKept};
 
     ghost Value = { Recorded W };
 
-    ghost view = { recorded_of };
+    ghost view = { λ r. recorded_of r.start (P.entries r.past) r.agent };
 
-    ghost invariant = { IsRecorder };
+    ghost invariant = { λ r. IsKept (journal_of r.start (P.entries r.past)) r.agent };
 }
 
 impl<W: Words + Drop> Recorder<W> {
@@ -46,10 +47,49 @@ impl<W: Words + Drop> Recorder<W> {
         requires { now ≤ MOMENT }
         ensures value { IfOk result (λ recorder. recorder ≡ record { journal = record { start = record { config = config; made = now }; entries = [] }; words = words }) }
     {
+        Recorder::with_past(alloc, config, words, now, Vec::new(alloc))
+    }
+
+    /// The entries so far, oldest first. It takes no memory.
+    pub fn entries(&self) -> &[Entry]
+        ensures { result.now ≡ self.now.journal.entries }
+    {
+        self.past.as_slice()
+    }
+}
+
+impl<W: Words + Drop> Recorder<W, Forgotten> {
+    /// The same that keeps no entry, for a member that runs for days. Its calls have the same contracts.
+    pub fn forgetful(
+        alloc: Global,
+        config: Config,
+        words: W,
+        now: u64,
+    ) -> Result<Recorder<W, Forgotten>, AllocError>
+        requires { now ≤ MOMENT }
+        ensures value { IfOk result (λ recorder. recorder ≡ record { journal = record { start = record { config = config; made = now }; entries = [] }; words = words }) }
+    {
+        Recorder::with_past(alloc, config, words, now, Forgotten::new())
+    }
+}
+
+impl<W: Words + Drop, P: Past + Drop> Recorder<W, P> {
+    /// The same with a past of the caller's, which has no entry yet.
+    pub fn with_past(
+        alloc: Global,
+        config: Config,
+        words: W,
+        now: u64,
+        past: P,
+    ) -> Result<Recorder<W, P>, AllocError>
+        requires moment { now ≤ MOMENT }
+        requires past { P.entries past ≡ [] }
+        ensures value { IfOk result (λ recorder. recorder ≡ record { journal = record { start = record { config = config; made = now }; entries = [] }; words = words }) }
+    {
         Ok(Recorder {
             agent: Agent::new(alloc, config, words, now)?,
             start: Start { config, made: now },
-            entries: Vec::new(alloc),
+            past,
         })
     }
 
@@ -75,9 +115,9 @@ impl<W: Words + Drop> Recorder<W> {
         ensures words { RecordsByWords W.draw self.old self.new }
         ensures lawful { IsLawfulJournal self.new.journal }
     {
-        self.entries.reserve(1)?;
+        self.past.make_room()?;
         let Noted { answer, entry } = self.agent.draw_noted(page, body, now)?;
-        append(&mut self.entries, entry);
+        self.past.append(entry);
         answer
     }
 
@@ -88,9 +128,9 @@ impl<W: Words + Drop> Recorder<W> {
         ensures words { RecordsByWords W.draw self.old self.new }
         ensures lawful { IsLawfulJournal self.new.journal }
     {
-        self.entries.reserve(1)?;
+        self.past.make_room()?;
         let Noted { answer, entry } = self.agent.show_noted(page, now)?;
-        append(&mut self.entries, entry);
+        self.past.append(entry);
         answer
     }
 
@@ -102,9 +142,9 @@ impl<W: Words + Drop> Recorder<W> {
         ensures words { RecordsByWords W.draw self.old self.new }
         ensures lawful { IsLawfulJournal self.new.journal }
     {
-        self.entries.reserve(1)?;
+        self.past.make_room()?;
         let Noted { answer, entry } = self.agent.hear_noted(bytes, now)?;
-        append(&mut self.entries, entry);
+        self.past.append(entry);
         answer
     }
 
@@ -116,7 +156,7 @@ impl<W: Words + Drop> Recorder<W> {
         ensures words { RecordsByWords W.draw self.old self.new }
         ensures lawful { IsLawfulJournal self.new.journal }
     {
-        let _ = &self.entries;
+        let _ = &self.past;
         for bytes in datagrams {
             self.hear(bytes, now)?;
         }
@@ -131,9 +171,9 @@ impl<W: Words + Drop> Recorder<W> {
         ensures words { RecordsByWords W.draw self.old self.new }
         ensures lawful { IsLawfulJournal self.new.journal }
     {
-        self.entries.reserve(1)?;
+        self.past.make_room()?;
         let Noted { answer, entry } = self.agent.tick_noted(now)?;
-        append(&mut self.entries, entry);
+        self.past.append(entry);
         answer
     }
 
@@ -144,9 +184,9 @@ impl<W: Words + Drop> Recorder<W> {
         ensures words { RecordsByWords W.draw self.old self.new }
         ensures lawful { IsLawfulJournal self.new.journal }
     {
-        self.entries.reserve(1)?;
+        self.past.make_room()?;
         let Noted { answer, entry } = self.agent.leave_noted(now)?;
-        append(&mut self.entries, entry);
+        self.past.append(entry);
         answer
     }
 
@@ -157,9 +197,9 @@ impl<W: Words + Drop> Recorder<W> {
         ensures words { RecordsByWords W.draw self.old self.new }
         ensures lawful { IsLawfulJournal self.new.journal }
     {
-        self.entries.reserve(1)?;
+        self.past.make_room()?;
         let Noted { answer, entry } = self.agent.give_noted(slot)?;
-        append(&mut self.entries, entry);
+        self.past.append(entry);
         answer
     }
 
@@ -177,21 +217,21 @@ impl<W: Words + Drop> Recorder<W> {
         self.agent.admits_draw_from(body)
     }
 
-    /// The entries so far, oldest first. It takes no memory.
-    pub fn entries(&self) -> &[Entry]
-        ensures { result.now ≡ self.now.journal.entries }
+    /// What the member did so far, as it is kept. It takes no memory.
+    pub fn past(&self) -> &P
+        ensures { P.entries result.now ≡ self.now.journal.entries }
     {
-        self.entries.as_slice()
+        &self.past
     }
 
     /// Gives the recorder up for its journal. It takes no memory.
-    pub fn finish(self) -> Journal
+    pub fn finish(self) -> Journal<P>
         ensures value { result ≡ self.journal }
         ensures lawful { IsLawfulJournal result }
     {
         Journal {
             start: self.start,
-            entries: self.entries,
+            past: self.past,
         }
     }
 }

@@ -9,6 +9,8 @@ mod admitting;
 #[cfg(test)]
 mod faults;
 #[cfg(test)]
+mod forgetting;
+#[cfg(test)]
 mod hearing_all;
 #[cfg(test)]
 mod lines;

@@ -3,10 +3,10 @@
 use bytes::Bytes;
 use srm_agent::{AgentFault, Cause, Config, Entry, Verdict};
 use srm_codec::DecodeFault;
-use srm_names::{Member, Page};
+use srm_names::{Member, Name, Page};
 use srm_timers::Listed;
-use srm_world::{Journal, Recorder};
-use std::alloc::Global;
+use srm_world::{Journal, Past, Recorder};
+use std::alloc::{AllocError, Global};
 use std::process::Abort;
 use std::test::Fail;
 
@@ -15,7 +15,7 @@ const HI: &[u8] = b"SR\x01\x01\0\0\0\x07\0\0\0\0\0\0\0\0\x01\0\0\0\0\0\0\0\0\0\x
 
 /// A call of a recorder, and where it takes one the moment.
 #[derive(Clone, Copy)]
-enum Call {
+pub(crate) enum Call {
     /// A body of one byte is drawn on the first page.
     Draw(u32),
     /// The second page is shown.
@@ -31,7 +31,7 @@ enum Call {
 }
 
 /// Each call once, and a leaving that is refused: the moment that counts, and how the call was taken.
-const WORKED: [(Call, u64, Verdict); 10] = [
+pub(crate) const WORKED: [(Call, u64, Verdict); 10] = [
     (Call::Draw(5), 5, Verdict::Done),
     (Call::Show(6), 6, Verdict::Done),
     (Call::Hear(7), 7, Verdict::Done),
@@ -48,14 +48,14 @@ const WORKED: [(Call, u64, Verdict); 10] = [
     (Call::Hear(13), 13, Verdict::Ignored(Cause::Gone)),
 ];
 
-fn page(rt: &impl Abort, creator: u8, number: u16) -> Page {
+pub(crate) fn page(rt: &impl Abort, creator: u8, number: u16) -> Page {
     Page {
         creator: Member::new(creator).expect(rt, "a member"),
         number,
     }
 }
 
-fn config(rt: &impl Abort, me: u8, members: u8) -> Config {
+pub(crate) fn config(rt: &impl Abort, me: u8, members: u8) -> Config {
     let me = Member::new(me).expect(rt, "a member");
     Config::new(me, members, 7, 8_000, 4_204, 2, 2, 1, 1).expect(rt, "settings")
 }
@@ -66,38 +66,37 @@ pub(crate) fn fresh(rt: &impl Abort, alloc: Global) -> Result<Recorder<Listed>, 
     Ok(Recorder::new(alloc, config(rt, 1, 3), words, 0)?)
 }
 
-fn draw(rt: &impl Abort, alloc: Global, recorder: &mut Recorder<Listed>, now: u32) {
+fn draw<P: Past + Drop>(
+    rt: &impl Abort,
+    alloc: Global,
+    recorder: &mut Recorder<Listed, P>,
+    now: u32,
+) -> Result<Name, AgentFault> {
     let body = Bytes::copy_from_slice(alloc, b"a").expect(rt, "a body");
-    let _ = recorder.draw(page(rt, 0, 0), body, now.into());
+    recorder.draw(page(rt, 0, 0), body, now.into())
 }
 
-fn make(rt: &impl Abort, alloc: Global, recorder: &mut Recorder<Listed>, call: Call) {
+/// Makes a call. What it answered, as a text.
+pub(crate) fn make<P: Past + Drop>(
+    rt: &impl Abort,
+    alloc: Global,
+    recorder: &mut Recorder<Listed, P>,
+    call: Call,
+) -> Result<String, AllocError> {
     match call {
-        Call::Draw(now) => draw(rt, alloc, recorder, now),
-        Call::Show(now) => {
-            let _ = recorder.show(page(rt, 0, 1), now.into());
-        }
-        Call::Hear(now) => {
-            let _ = recorder.hear(HI, now.into());
-        }
-        Call::HearNothing(now) => {
-            let _ = recorder.hear(b"", now.into());
-        }
-        Call::Tick(now) => {
-            let _ = recorder.tick(now.into());
-        }
-        Call::Give => {
-            let _ = recorder.give(0);
-        }
-        Call::Leave(now) => {
-            let _ = recorder.leave(now.into());
-        }
+        Call::Draw(now) => format!(in alloc; "{:?}", draw(rt, alloc, recorder, now)),
+        Call::Show(now) => format!(in alloc; "{:?}", recorder.show(page(rt, 0, 1), now.into())),
+        Call::Hear(now) => format!(in alloc; "{:?}", recorder.hear(HI, now.into())),
+        Call::HearNothing(now) => format!(in alloc; "{:?}", recorder.hear(b"", now.into())),
+        Call::Tick(now) => format!(in alloc; "{:?}", recorder.tick(now.into())),
+        Call::Give => format!(in alloc; "{:?}", recorder.give(0)),
+        Call::Leave(now) => format!(in alloc; "{:?}", recorder.leave(now.into())),
     }
 }
 
 fn make_all(rt: &impl Abort, alloc: Global, recorder: &mut Recorder<Listed>) {
     for (call, _, _) in WORKED {
-        make(rt, alloc, recorder, call);
+        let _ = make(rt, alloc, recorder, call);
     }
 }
 
@@ -146,7 +145,7 @@ fn a_recorder_goes_on_for_long(rt: HostRuntime) -> Result<(), Fail> {
             Call::Tick(now),
             Call::Give,
         ] {
-            make(&rt, rt.alloc(), &mut recorder, call);
+            let _ = make(&rt, rt.alloc(), &mut recorder, call);
         }
     }
     assert_eq!(rt; recorder.finish().entries().len(), 5_000);

@@ -1,5 +1,0 @@
-use Rattle.srm_world.proofs.Journaling.{kept_at_first}
-use Rattle.srm_world.proofs.recorder.Recorder.new.Goals as goal
-
-pub invariant_of-result : goal.invariant_of-result
-invariant_of-result g c = kept_at_first _ _ c.new-2.ensures.items c.in_ok-new.ensures.fits

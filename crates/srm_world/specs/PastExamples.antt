@@ -1,0 +1,30 @@
+-- A past that nobody keeps, entry by entry.
+use Rattle.std.specs.Prelude.{◌≡◌, List, [], ◌∷◌, refl}
+use Rattle.srm_entries.specs.declared.entry.Entry.{Entry}
+use Rattle.srm_entries.specs.Sample.{a, b, draws}
+use Rattle.srm_world.specs.declared.forgotten.Last.{Last}
+use Rattle.srm_world.specs.declared.forgotten.Last.TheVariants.{Nothing, Appended}
+use Rattle.srm_world.specs.Pasts.{up_to_last}
+
+-- an entry appended to what a past shows
+abbrev behind : List Entry → Entry → Last
+behind before last = Appended (record { marker = record {}; value = before }) (record { marker = record {}; value = last })
+
+abbrev one : Last
+one = behind (up_to_last Nothing) (draws 0 1 a)
+
+abbrev two : Last
+two = behind (up_to_last one) (draws 0 2 b)
+
+none_at_first : up_to_last Nothing ≡ []
+none_at_first = refl
+
+the_first : up_to_last one ≡ draws 0 1 a ∷ []
+the_first = refl
+
+in_order : up_to_last two ≡ draws 0 1 a ∷ draws 0 2 b ∷ []
+in_order = refl
+
+-- what stood before it is part of it
+not_the_last_alone : up_to_last two ≡ draws 0 2 b ∷ [] → ⊥
+not_the_last_alone e = cc
