@@ -10,20 +10,20 @@ use Rattle.srm_entries.specs.declared.state.AgentState.TheVariants.{Active}
 use Rattle.srm_agent_parts.specs.declared.out.Outgoing.{Outgoing}
 use Rattle.srm_entries.specs.Configs.{Config}
 use Rattle.srm_agent.specs.Contents.{Content}
-use Rattle.srm_agent.specs.Fits.{Fits, AreEmptyFeeds}
+use Rattle.srm_agent.specs.Fits.{Fits, AreNewProgress}
 use Rattle.srm_agent_parts.specs.TimersKept.{TimersFit}
 
 pub fits_begins : {W : Type 0} (c : Config) (made : ℕ) (a : Content W) → a.config ≡ c → a.state ≡ Active → a.last ≡ made → a.showing ≡ first_page → a.pages ≡ first_page ∷ []
-    → AreEmptyFeeds a.feeds → store.Fits [] [] [] a.store → distances.Fits c.me [] a.distances → TimersFit c [] a.timers
+    → AreNewProgress a.progress → store.Fits [] [] [] a.store → distances.Fits c.me [] a.distances → TimersFit c [] a.timers
     → (let calls : List (Call Outgoing) = [] in bucket.Fits c.rate c.depth calls a.bucket) → a.due ≡ made + 1000000 → Fits c made [] a
-fits_begins c made a config state last showing pages feeds kept heard timers bucket due = record {
+fits_begins c made a config state last showing pages progress kept heard timers bucket due = record {
   run = tt;
   config = config;
   state = state;
   last = last ∙ least made;
   showing = showing;
   pages = pages;
-  feeds = record { each = feeds.1 };
+  progress = record { each = progress.1 };
   store = kept;
   distances = heard;
   timers = timers;

@@ -52,7 +52,7 @@ use Rattle.srm_entries.specs.Runs.{EntryRight}
 use Rattle.srm_agent_parts.specs.PageTables.{with_page}
 use Rattle.srm_agent_parts.specs.TimersKept.{TimersContent, TimersFit, shown_if}
 use Rattle.srm_agent.specs.Contents.{Content}
-use Rattle.srm_agent.specs.Fits.{Fits, FeedsFit, BucketFits}
+use Rattle.srm_agent.specs.Fits.{Fits, EachProgressFits, BucketFits}
 use Rattle.srm_agent_parts.specs.Outs.{datagram_of, IsOwn}
 use Rattle.srm_agent.specs.Noting.{IsAllowed, Enters, Stays, still_entry}
 use Rattle.srm_agent.specs.declared.agent.drawing.Draft.{Draft}
@@ -63,7 +63,7 @@ use Rattle.srm_entries.proofs.Showing.{kind, shown_drawing, shown_hearing, shown
 use Rattle.srm_agent_parts.proofs.Running.{steps_more, last_moment-snoc, shown-page-snoc, slots-one}
 use Rattle.srm_entries.proofs.Arming.{ask_at}
 use Rattle.srm_entries.proofs.Marking.{bucket_calls-snoc, entries-snoc}
-use Rattle.srm_agent.proofs.Still.{same_feeds}
+use Rattle.srm_agent.proofs.Still.{same_progress}
 use Rattle.srm_agent.proofs.Entering.{later, moves_on, refused_enters}
 
 -- the pages of all that was shown to exist are in the table
@@ -358,7 +358,7 @@ module _ {W : Type 0} (c : Config) (made : ℕ) (past : List Entry) (a n : Conte
     last = ap (λ (x : Content W). x.last) is ∙ at ∙ ap (λ k. max k (max moment 0)) h.last ∙ sym (last_moment-snoc made past entry);
     showing = ap (λ (x : Content W). x.showing) is ∙ h.showing ∙ sym (shown-page-snoc past entry);
     pages = ap (λ (x : Content W). x.pages) is ∙ ap (λ ps. with_page ps page) h.pages ∙ sym (slots-one past entry page refl);
-    feeds = subst (FeedsFit (past ++ entry ∷ [])) (sym (ap (λ (x : Content W). x.feeds) is)) (same_feeds past entry a.feeds (λ j. refl) h.feeds);
+    progress = subst (EachProgressFits (past ++ entry ∷ [])) (sym (ap (λ (x : Content W). x.progress) is)) (same_progress past entry a.progress (λ j. refl) h.progress);
     store = rw (held-snoc past entry, shown-snoc past entry, settlings_kept c.me moment page body moment a.state past) (keeps.each _ _ _ h.store);
     distances = rw (ap (λ (x : Content W). x.distances) is, distances_kept c.me moment page body moment a.state past c.me) h.distances;
     timers = subst (TimersFit c (past ++ entry ∷ [])) (sym (ap (λ (x : Content W). x.timers) is)) (timers_kept c.me moment page body moment a.state past c a.timers h.timers);
@@ -462,7 +462,7 @@ roomy_fits {W} a b is still stays c made past h = subst (Fits c made past) (sym 
   last = h.last;
   showing = h.showing;
   pages = h.pages;
-  feeds = h.feeds;
+  progress = h.progress;
   store = still.each (held past) (shown_to_exist past) (settlings past) h.store;
   distances = h.distances;
   timers = h.timers;

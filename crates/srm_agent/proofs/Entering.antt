@@ -19,7 +19,7 @@ use Rattle.srm_agent.specs.Contents.{Content}
 use Rattle.srm_agent.specs.Fits.{Fits}
 use Rattle.srm_agent.specs.Noting.{Enters, IsAllowed, still_entry}
 use Rattle.srm_agent_parts.proofs.Running.{slots-same, slots-one}
-use Rattle.srm_agent.proofs.Still.{SameParts, still_fits, same_feeds}
+use Rattle.srm_agent.proofs.Still.{SameParts, still_fits, same_progress}
 
 -- an entry of this agent is one of the member whose run it fits
 pub of_member : {W : Type 0} (c : Config) (made : ℕ) (past : List Entry) (a b : Content W) (e : Entry) (make : ℕ → Entry) → Fits c made past a → e ≡ make a.config.me → Fits c made (past ++ make c.me ∷ []) b → Fits c made (past ++ e ∷ []) b
@@ -60,7 +60,7 @@ refused_enters draw a now moment input fault e is at unticked takes ungiven mess
         message_right = message c past;
         state_right = h.state;
       })
-      (same_parts a) refl (stays_at a.last) refl (h.pages ∙ sym (slots-same past _ refl)) (same_feeds past _ a.feeds ungiven h.feeds));
+      (same_parts a) refl (stays_at a.last) refl (h.pages ∙ sym (slots-same past _ refl)) (same_progress past _ a.progress ungiven h.progress));
 }
 
 gone_leaves : (s : AgentState) → s ≡ Gone → (past : List Entry) (c : Config) → s ≡ state past → VerdictRight c past AskedLeave (Refused faults.Gone)
@@ -90,7 +90,7 @@ leave_done draw a now moment e active is at = record {
         state_right = refl;
       })
       (record { config = refl; store = refl; distances = refl; timers = refl; bucket = refl; due = refl }) refl (moves_on now a.last moment at) refl
-      (h.pages ∙ sym (slots-same past _ refl)) (same_feeds past _ a.feeds (λ j. refl) h.feeds));
+      (h.pages ∙ sym (slots-same past _ refl)) (same_progress past _ a.progress (λ j. refl) h.progress));
 }
 
 pub show_gone : {W : Type 0} (draw : W → ℕ × W) (a : Content W) (now moment : ℕ) (page : Page) (e : Entry) → is_gone a.state ≡ true → e ≡ still_entry a.config.me moment (Showed page) (Refused faults.Gone) None a.state → moment ≡ max now a.last
@@ -123,7 +123,7 @@ show_done draw a now moment page pages e here room added is at = record {
         state_right = h.state;
       })
       (record { config = refl; store = refl; distances = refl; timers = refl; bucket = refl; due = refl }) refl (moves_on now a.last moment at) refl
-      (added ∙ ap (λ ps. with_page ps page) h.pages ∙ sym (slots-one past _ page refl)) (same_feeds past _ a.feeds (λ j. refl) h.feeds));
+      (added ∙ ap (λ ps. with_page ps page) h.pages ∙ sym (slots-one past _ page refl)) (same_progress past _ a.progress (λ j. refl) h.progress));
 }
 
 -- the tick of a member that is gone
@@ -145,7 +145,7 @@ rest_gone draw a b now moment e gone new is at = subst (λ x. Enters draw (Some 
         state_right = h.state;
       })
       (record { config = refl; store = refl; distances = refl; timers = refl; bucket = refl; due = refl }) refl (moves_on now a.last moment at) refl
-      (h.pages ∙ sym (slots-same past _ refl)) (same_feeds past _ a.feeds (λ j. refl) h.feeds));
+      (h.pages ∙ sym (slots-same past _ refl)) (same_progress past _ a.progress (λ j. refl) h.progress));
 })
 
 -- what is done whenever it is asked

@@ -15,13 +15,13 @@ use Rattle.srm_entries.specs.declared.entry.Verdict.TheVariants.{Done}
 use Rattle.srm_entries.specs.Configs.{Config}
 use Rattle.srm_entries.specs.Entries.{slots}
 use Rattle.srm_entries.specs.Giving.{given, given_in, GiveRight}
-use Rattle.srm_agent_parts.specs.Feeds.{FeedContent, FeedFits}
+use Rattle.srm_agent_parts.specs.Progress.{ProgressContent, ProgressFits}
 use Rattle.srm_agent.specs.Contents.{Content}
-use Rattle.srm_agent.specs.Fits.{Fits, FeedsFit}
+use Rattle.srm_agent.specs.Fits.{Fits, EachProgressFits}
 use Rattle.srm_agent.specs.Noting.{Enters, still_entry}
 use Rattle.srm_entries.proofs.Feeding.{feeds_right, fed_gives, given-snoc}
 use Rattle.srm_agent_parts.proofs.Running.{slots-same}
-use Rattle.srm_agent.proofs.Still.{MayFollow, still_fits, same_feeds}
+use Rattle.srm_agent.proofs.Still.{MayFollow, still_fits, same_progress}
 use Rattle.srm_agent.proofs.Entering.{of_member, stays_at}
 
 continues_last : (g : List PageMsg) (m : PageMsg) → is_page_feed (g ++ m ∷ []) ≡ true → continues g m ≡ true
@@ -30,7 +30,7 @@ continues_last g m fed =
     let parts = and_parts (list_all (λ (s : Step PageMsg). continues s.before s.this) (steps g)) _ (sym (list_all-append (λ (s : Step PageMsg). continues s.before s.this) (steps g) (record { before = g; this = m } ∷ [])) ∙ all) in
     (and_parts (continues g m) true parts.1).0
 
--- what may be given continues the feed of its slot
+-- what may be given continues the page feed of its slot
 pub give_continues : {W : Type 0} (c : Config) (made : ℕ) (past : List Entry) (a : Content W) (j : ℕ) (m : PageMsg) → Fits c made past a → GiveRight c past j (Some m) → continues (given past j) m ≡ true
 give_continues c made past a j m h right =
     let fed = feeds_right c made past h.run in
@@ -55,7 +55,7 @@ gives_nothing draw a slot e is right = record {
   fits = λ c made past h. of_member c made past a a e (λ me. still_entry me a.last (Gave slot) Done None a.state) h is
       (still_fits c made past a a a.last (Gave slot) Done None a.state h (may_give c made past a slot None h (right c made past h))
       (record { config = refl; store = refl; distances = refl; timers = refl; bucket = refl; due = refl }) refl (stays_at a.last) refl
-      (h.pages ∙ sym (slots-same past _ refl)) (same_feeds past _ a.feeds (λ j. not_given j slot) h.feeds));
+      (h.pages ∙ sym (slots-same past _ refl)) (same_progress past _ a.progress (λ j. not_given j slot) h.progress));
 }
 
 set_there : {X : Type 0} (xs : List X) (i : ℕ) (x y : X) → slice_get (slice_set xs i x) i ≡ Some y → x ≡ y
@@ -70,32 +70,32 @@ set_elsewhere (z ∷ zs) zero x (suc j) other = refl
 set_elsewhere (z ∷ zs) (suc i) x zero other = refl
 set_elsewhere (z ∷ zs) (suc i) x (suc j) other = set_elsewhere zs i x j (λ e. other (ap suc e))
 
--- the feeds with one message more in a slot
-feeds_more : (past : List Entry) (e : Entry) (feeds : List FeedContent) (slot i : ℕ) (f : FeedContent) (m : PageMsg) → e.input ≡ Gave slot → e.effects.message ≡ Some m → i ≡ slot → FeedsFit past feeds
-    → FeedFits (given past slot ++ m ∷ []) f → FeedsFit (past ++ e ∷ []) (slice_set feeds i f)
-feeds_more past e feeds slot i f m input message at h more = record { each = each }
+-- the progress with one message more in a slot
+progress_more : (past : List Entry) (e : Entry) (progress : List ProgressContent) (slot i : ℕ) (f : ProgressContent) (m : PageMsg) → e.input ≡ Gave slot → e.effects.message ≡ Some m → i ≡ slot → EachProgressFits past progress
+    → ProgressFits (given past slot ++ m ∷ []) f → EachProgressFits (past ++ e ∷ []) (slice_set progress i f)
+progress_more past e progress slot i f m input message at h more = record { each = each }
   where
     given_then : (j : ℕ) (b : Bool) → (j == slot) ≡ b → given (past ++ e ∷ []) j ≡ given past j ++ cons_option (if b then Some m else None) []
     given_then j b q = given-snoc past e j ∙ rw (input, message, q) refl
 
-    each : (j : ℕ) (x : FeedContent) → slice_get (slice_set feeds i f) j ≡ Some x → FeedFits (given (past ++ e ∷ []) j) x
+    each : (j : ℕ) (x : ProgressContent) → slice_get (slice_set progress i f) j ≡ Some x → ProgressFits (given (past ++ e ∷ []) j) x
     each j x there = elim (cases_eq j i) [
-      | inl same ↦ subst (λ g. FeedFits g x) (sym (given_then j true (eq-eqb j slot (same ∙ at))))
-          (subst (λ w. FeedFits (given past j ++ m ∷ []) w) (set_there feeds i f x (subst (λ k. slice_get (slice_set feeds i f) k ≡ Some x) same there))
-          (subst (λ k. FeedFits (given past k ++ m ∷ []) f) (sym (same ∙ at)) more))
-      | inr other ↦ subst (λ g. FeedFits g x) (sym (given_then j false (ne_eqb j slot (λ k. other (k ∙ sym at))) ∙ append-nil (given past j))) (h.each j x (sym (set_elsewhere feeds i f j other) ∙ there))
+      | inl same ↦ subst (λ g. ProgressFits g x) (sym (given_then j true (eq-eqb j slot (same ∙ at))))
+          (subst (λ w. ProgressFits (given past j ++ m ∷ []) w) (set_there progress i f x (subst (λ k. slice_get (slice_set progress i f) k ≡ Some x) same there))
+          (subst (λ k. ProgressFits (given past k ++ m ∷ []) f) (sym (same ∙ at)) more))
+      | inr other ↦ subst (λ g. ProgressFits g x) (sym (given_then j false (ne_eqb j slot (λ k. other (k ∙ sym at))) ∙ append-nil (given past j))) (h.each j x (sym (set_elsewhere progress i f j other) ∙ there))
     ]
 
-pub gives_message : {W : Type 0} (draw : W → ℕ × W) (a : Content W) (slot i : ℕ) (m : PageMsg) (f : FeedContent) (e : Entry) → e ≡ still_entry a.config.me a.last (Gave slot) Done (Some m) a.state → i ≡ slot
+pub gives_message : {W : Type 0} (draw : W → ℕ × W) (a : Content W) (slot i : ℕ) (m : PageMsg) (f : ProgressContent) (e : Entry) → e ≡ still_entry a.config.me a.last (Gave slot) Done (Some m) a.state → i ≡ slot
     → ((c : Config) (made : ℕ) (past : List Entry) → Fits c made past a → GiveRight c past slot (Some m))
-    → ((c : Config) (made : ℕ) (past : List Entry) → Fits c made past a → FeedFits (given past slot ++ m ∷ []) f)
-    → Enters draw None (Gave slot) a (record a { feeds = slice_set a.feeds i f }) e
+    → ((c : Config) (made : ℕ) (past : List Entry) → Fits c made past a → ProgressFits (given past slot ++ m ∷ []) f)
+    → Enters draw None (Gave slot) a (record a { progress = slice_set a.progress i f }) e
 gives_message draw a slot i m f e is at right more = record {
   input_is = ap (λ (x : Entry). x.input) is;
   words = rw is refl;
   moment_is = ap (λ (x : Entry). x.moment) is;
-  fits = λ c made past h. of_member c made past a (record a { feeds = slice_set a.feeds i f }) e (λ me. still_entry me a.last (Gave slot) Done (Some m) a.state) h is
-      (still_fits c made past a (record a { feeds = slice_set a.feeds i f }) a.last (Gave slot) Done (Some m) a.state h (may_give c made past a slot (Some m) h (right c made past h))
+  fits = λ c made past h. of_member c made past a (record a { progress = slice_set a.progress i f }) e (λ me. still_entry me a.last (Gave slot) Done (Some m) a.state) h is
+      (still_fits c made past a (record a { progress = slice_set a.progress i f }) a.last (Gave slot) Done (Some m) a.state h (may_give c made past a slot (Some m) h (right c made past h))
       (record { config = refl; store = refl; distances = refl; timers = refl; bucket = refl; due = refl }) refl (stays_at a.last) refl
-      (h.pages ∙ sym (slots-same past _ refl)) (feeds_more past _ a.feeds slot i f m refl refl at h.feeds (more c made past h)));
+      (h.pages ∙ sym (slots-same past _ refl)) (progress_more past _ a.progress slot i f m refl refl at h.progress (more c made past h)));
 }

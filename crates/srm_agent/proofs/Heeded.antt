@@ -44,7 +44,7 @@ use Rattle.srm_entries.proofs.Cutting.{bucket_calls-append}
 use Rattle.srm_agent_parts.proofs.Listing.{firsts_more, firsts_again}
 use Rattle.srm_entries.proofs.Showing.{state-snoc, held-snoc, shown-snoc, drawn-snoc, hearing_fine}
 use Rattle.srm_agent_parts.proofs.Running.{steps_more, last_moment-snoc, shown-page-snoc}
-use Rattle.srm_agent.proofs.Still.{same_feeds}
+use Rattle.srm_agent.proofs.Still.{same_progress}
 
 -- what an agent keeps of a datagram that was heard and taken; its entry is e
 pub record Heeds {W : Type 0} (c : Config) (made : ℕ) (past : List Entry) (a b : Content W) (moment : ℕ) (g : Datagram) (e : Entry) : Type 0 where
@@ -61,7 +61,7 @@ pub record Heeds {W : Type 0} (c : Config) (made : ℕ) (past : List Entry) (a b
   pub config : b.config ≡ a.config
   pub state : b.state ≡ a.state
   pub showing : b.showing ≡ a.showing
-  pub feeds : b.feeds ≡ a.feeds
+  pub progress : b.progress ≡ a.progress
   pub bucket : b.bucket ≡ a.bucket
   pub due : b.due ≡ a.due
 
@@ -174,7 +174,7 @@ heard_fits c made past a b moment g arms h =
       last = h.last ∙ sym (last_moment-snoc made past e ∙ clock (last_moment made past) moment h.later);
       showing = h.showing ∙ h.fits.showing ∙ sym (shown-page-snoc past e);
       pages = h.pages ∙ ap (λ ps. with_pages_of ps (names_in g)) h.fits.pages ∙ sym (slots-all past e);
-      feeds = rw h.feeds (same_feeds past e a.feeds (λ j. refl) h.fits.feeds);
+      progress = rw h.progress (same_progress past e a.progress (λ j. refl) h.fits.progress);
       store = rw (held-snoc past e, shown-snoc past e, filter_map-append (λ (x : Entry). settling_of (heard x)) past (e ∷ [])) h.store;
       distances = rw (flat_map-snoc (calls_in c.me) past e) h.distances;
       timers = h.timers.fits;

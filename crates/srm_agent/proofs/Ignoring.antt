@@ -25,7 +25,7 @@ use Rattle.srm_agent.specs.Contents.{Content}
 use Rattle.srm_agent.specs.Fits.{Fits}
 use Rattle.srm_agent.specs.Noting.{Enters, ReadsAs, still_entry}
 use Rattle.srm_agent_parts.proofs.Running.{slots-same}
-use Rattle.srm_agent.proofs.Still.{still_fits, same_feeds}
+use Rattle.srm_agent.proofs.Still.{still_fits, same_progress}
 use Rattle.srm_agent.proofs.Entering.{of_member, later, moves_on}
 
 ignored_enters : {W : Type 0} (draw : W → ℕ × W) (a : Content W) (now moment : ℕ) (input : Input) (cause : Cause) (e : Entry) → e ≡ still_entry a.config.me moment input (Ignored cause) None a.state → moment ≡ max now a.last
@@ -47,7 +47,7 @@ ignored_enters draw a now moment input cause e is at unticked takes ungiven mess
         state_right = h.state;
       })
       (record { config = refl; store = refl; distances = refl; timers = refl; bucket = refl; due = refl }) refl
-      (subst (λ (b : Bool). moment ≡ max a.last (greatest (if b then moment ∷ [] else []))) (sym takes) (moves_on now a.last moment at)) refl (h.pages ∙ sym (slots-same past _ refl)) (same_feeds past _ a.feeds ungiven h.feeds));
+      (subst (λ (b : Bool). moment ≡ max a.last (greatest (if b then moment ∷ [] else []))) (sym takes) (moves_on now a.last moment at)) refl (h.pages ∙ sym (slots-same past _ refl)) (same_progress past _ a.progress ungiven h.progress));
 }
 
 abbrev pub ignored_entry : {W : Type 0} → Content W → ℕ → Input → Cause → Entry

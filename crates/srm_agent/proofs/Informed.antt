@@ -105,7 +105,7 @@ session_enters draw a b moment g names fresh dist arms roomy after e is named he
       config = goes.config;
       state = goes.state;
       showing = goes.showing;
-      feeds = goes.feeds;
+      progress = goes.progress;
       bucket = goes.bucket;
       due = goes.due;
     }

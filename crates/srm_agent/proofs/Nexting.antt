@@ -22,8 +22,8 @@ use Rattle.srm_entries.specs.Configs.{Config}
 use Rattle.srm_entries.specs.Entries.{held, released, slots, state, is_gone}
 use Rattle.srm_entries.specs.Verdicts.{final}
 use Rattle.srm_entries.specs.Giving.{next_drawop, may_leave, has_more, is_some_of, is_quiet, is_smallest, given, GivesAfter, GiveRight}
-use Rattle.srm_agent_parts.specs.Feeds.{FeedContent, FeedFits}
-use Rattle.srm_agent.specs.Fits.{FeedsFit}
+use Rattle.srm_agent_parts.specs.Progress.{ProgressContent, ProgressFits}
+use Rattle.srm_agent.specs.Fits.{EachProgressFits}
 use Rattle.srm_agent.specs.Nexts.{IsNextOf, IsNextOn, IsSmallest}
 
 -- the released drawop at a place is the one that is held under the number of that place
@@ -57,15 +57,15 @@ pub nothing_is_next : (past : List Entry) (s : Stream) (g : List PageMsg) (k : �
     → (all && not left) ≡ false → has_more past g (Some s.page) s.source ≡ false
 nothing_is_next past s g k all left count none all_is left_is e = rw (sym count, sym none, sym all_is, sym left_is) e
 
--- what a slot may be given, by its feed
+-- what a slot may be given, by its progress
 
-pub feed_at : (past : List Entry) (feeds : List FeedContent) (j i : ℕ) (f : FeedContent) → FeedsFit past feeds → length feeds ≡ PAGES → j < PAGES → i ≡ j → f ≡ get_or feeds i f → FeedFits (given past j) f
-feed_at past feeds j i f h size inside same at = h.each j f (subst (λ k. slice_get feeds k ≡ Some f) same (slice_get_read feeds PAGES i f (sym size) (subst (λ k. k < PAGES) (sym same) inside) at))
+pub progress_at : (past : List Entry) (progress : List ProgressContent) (j i : ℕ) (f : ProgressContent) → EachProgressFits past progress → length progress ≡ PAGES → j < PAGES → i ≡ j → f ≡ get_or progress i f → ProgressFits (given past j) f
+progress_at past progress j i f h size inside same at = h.each j f (subst (λ k. slice_get progress k ≡ Some f) same (slice_get_read progress PAGES i f (sym size) (subst (λ k. k < PAGES) (sym same) inside) at))
 
-pub gives_nothing_closed : (c : Config) (past : List Entry) (j : ℕ) (f : FeedContent) → FeedFits (given past j) f → f.closed ≡ true → GiveRight c past j None
+pub gives_nothing_closed : (c : Config) (past : List Entry) (j : ℕ) (f : ProgressContent) → ProgressFits (given past j) f → f.closed ≡ true → GiveRight c past j None
 gives_nothing_closed c past j f fits closed = let k : list_any is_close (given past j) ≡ true = sym fits.closed ∙ closed in ((λ _. k), ap (λ b. b || is_quiet c past (given past j) (slice_get (slots past) j)) k)
 
-pub gives_open : (c : Config) (past : List Entry) (j : ℕ) (page : Page) (f : FeedContent) → FeedFits (given past j) f → slice_get (slots past) j ≡ Some page → f.opened ≡ false → f.closed ≡ false → GiveRight c past j (Some (Open page))
+pub gives_open : (c : Config) (past : List Entry) (j : ℕ) (page : Page) (f : ProgressContent) → ProgressFits (given past j) f → slice_get (slots past) j ≡ Some page → f.opened ≡ false → f.closed ≡ false → GiveRight c past j (Some (Open page))
 gives_open c past j page f fits at unopened unclosed = subst (λ o. GivesAfter c past (given past j) o (Some (Open page))) (sym at) (refl, fits.begun unopened unclosed)
 
 none_of : (p : ℕ → Bool) (from n : ℕ) → ((k : ℕ) → from ≤ k → k < from + n → p k ≡ false) → list_any p (count_up from n) ≡ false
@@ -82,7 +82,7 @@ next_given_at c past page g source (Draw d) o closed next small = (o, closed, ne
 next_given_at c past page g source (Left s) o closed next small = (o, closed, next.1, smallest_of past page g source s next.0 small)
 next_given_at c past page g source Close o closed next small = absurd next
 
-pub gives_next : (c : Config) (past : List Entry) (j : ℕ) (page : Page) (f : FeedContent) (m : PageMsg) → FeedFits (given past j) f → slice_get (slots past) j ≡ Some page → f.opened ≡ true → f.closed ≡ false
+pub gives_next : (c : Config) (past : List Entry) (j : ℕ) (page : Page) (f : ProgressContent) (m : PageMsg) → ProgressFits (given past j) f → slice_get (slots past) j ≡ Some page → f.opened ≡ true → f.closed ≡ false
     → IsNextOn c past page (given past j) (Some m) → GiveRight c past j (Some m)
 gives_next c past j page f m fits at o closed next =
     subst (λ o. GivesAfter c past (given past j) o (Some m)) (sym at) (next_given_at c past page (given past j) next.0 m (sym fits.opened ∙ o) (sym fits.closed ∙ closed) next.1 next.2)
@@ -94,12 +94,12 @@ close_or_none c past g (Some page) true gone closed quiet = (closed, gone, quiet
 close_or_none c past g None false gone closed quiet = ((λ e. absurd (cc)), ap (λ b. b || true) closed)
 close_or_none c past g (Some page) false gone closed quiet = ((λ e. absurd (cc)), ap (λ b. b || is_quiet c past g (Some page)) closed ∙ quiet)
 
-pub closes_without_page : (c : Config) (past : List Entry) (j : ℕ) (f : FeedContent) (gone : Bool) → FeedFits (given past j) f → slice_get (slots past) j ≡ None → f.closed ≡ false → gone ≡ is_gone (state past)
+pub closes_without_page : (c : Config) (past : List Entry) (j : ℕ) (f : ProgressContent) (gone : Bool) → ProgressFits (given past j) f → slice_get (slots past) j ≡ None → f.closed ≡ false → gone ≡ is_gone (state past)
     → GiveRight c past j (if gone then Some Close else None)
 closes_without_page c past j f gone fits at closed is =
     subst (λ o. GivesAfter c past (given past j) o (if gone then Some Close else None)) (sym at) (close_or_none c past (given past j) None gone (sym is) (sym fits.closed ∙ closed) refl)
 
-pub closes_with_page : (c : Config) (past : List Entry) (j : ℕ) (page : Page) (f : FeedContent) (gone : Bool) → FeedFits (given past j) f → slice_get (slots past) j ≡ Some page → f.opened ≡ true → f.closed ≡ false
+pub closes_with_page : (c : Config) (past : List Entry) (j : ℕ) (page : Page) (f : ProgressContent) (gone : Bool) → ProgressFits (given past j) f → slice_get (slots past) j ≡ Some page → f.opened ≡ true → f.closed ≡ false
     → IsNextOn c past page (given past j) None → gone ≡ is_gone (state past) → GiveRight c past j (if gone then Some Close else None)
 closes_with_page c past j page f gone fits at o closed none is =
     subst (λ o. GivesAfter c past (given past j) o (if gone then Some Close else None)) (sym at)

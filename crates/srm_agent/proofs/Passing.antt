@@ -40,7 +40,7 @@ wait_enters {W = W} draw a b d moment e here later early new passes last is = re
         let since : last_moment made past ≤ moment = subst (λ n. n ≤ moment) h.last later in
         subst (Fits c made (past ++ idle_at c past moment ∷ [])) (sym (last ∙ ap (λ (x : Content W). record x { last = moment }) new))
         (tick_fits c made moment past [] [] [] [] (state past) None [] None a (record a { last = moment; bucket = b.bucket }) h
-        (record { config = refl; showing = refl; pages = refl; feeds = refl; store = refl; distances = refl })
+        (record { config = refl; showing = refl; pages = refl; progress = refl; store = refl; distances = refl })
         (idle_right c made past a moment h idle early since) h.state refl
         (timers_stay c past (idle_at c past moment) a.timers (record { unheard = refl; drawn = refl; arms = refl; asks = refl; fixes = refl }) h.timers)
         (idle_fits c made past a moment h idle early since b.bucket passes) refl)

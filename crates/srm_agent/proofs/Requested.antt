@@ -86,7 +86,7 @@ request_enters draw a b moment sender name mask names fresh dist arms roomy e as
           config = goes.config;
           state = goes.state;
           showing = goes.showing;
-          feeds = goes.feeds;
+          progress = goes.progress;
           bucket = goes.bucket;
           due = goes.due;
         }

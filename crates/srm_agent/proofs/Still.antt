@@ -14,9 +14,9 @@ use Rattle.srm_entries.specs.Entries.{done_input, heard_in, page_shown, is_tick,
 use Rattle.srm_entries.specs.Verdicts.{VerdictRight}
 use Rattle.srm_entries.specs.Giving.{given, given_in, MessageRight}
 use Rattle.srm_entries.specs.Runs.{EntryRight, MomentRight, drawop_due, state_due}
-use Rattle.srm_agent_parts.specs.Feeds.{FeedContent, FeedFits}
+use Rattle.srm_agent_parts.specs.Progress.{ProgressContent, ProgressFits}
 use Rattle.srm_agent.specs.Contents.{Content}
-use Rattle.srm_agent.specs.Fits.{Fits, FeedsFit}
+use Rattle.srm_agent.specs.Fits.{Fits, EachProgressFits}
 use Rattle.srm_agent.specs.Noting.{still_entry}
 use Rattle.srm_entries.proofs.Feeding.{given-snoc}
 use Rattle.srm_entries.proofs.Showing.{state-snoc}
@@ -56,7 +56,7 @@ still_right c made past moment input verdict message after m =
       state = m.state_right;
     }
 
--- all but the state, the last moment, the page shown, the pages and the feeds are as they were
+-- all but the state, the last moment, the page shown, the pages and the progress are as they were
 pub record SameParts {W : Type 0} (a b : Content W) : Type 0 where
   pub config : b.config ≡ a.config
   pub store : b.store ≡ a.store
@@ -70,9 +70,9 @@ pub still_fits : {W : Type 0} (c : Config) (made : ℕ) (past : List Entry) (a b
     → b.last ≡ max a.last (greatest (clock_of verdict (still_entry c.me moment input verdict message after)))
     → b.showing ≡ unwrap_or (page_shown (done_input verdict input)) a.showing
     → b.pages ≡ slots (past ++ still_entry c.me moment input verdict message after ∷ [])
-    → FeedsFit (past ++ still_entry c.me moment input verdict message after ∷ []) b.feeds
+    → EachProgressFits (past ++ still_entry c.me moment input verdict message after ∷ []) b.progress
     → Fits c made (past ++ still_entry c.me moment input verdict message after ∷ []) b
-still_fits c made past a b moment input verdict message after h m same is_state is_last is_showing is_pages feeds =
+still_fits c made past a b moment input verdict message after h m same is_state is_last is_showing is_pages progress =
     let q = quiet c made past moment input verdict message after m in
     record {
       run = steps_more (EntryRight c made) past _ h.run (still_right c made past moment input verdict message after m);
@@ -81,7 +81,7 @@ still_fits c made past a b moment input verdict message after h m same is_state 
       last = is_last ∙ ap (λ n. max n (greatest (clock_of verdict (still_entry c.me moment input verdict message after)))) h.last ∙ sym (last_moment-snoc made past _);
       showing = is_showing ∙ ap (unwrap_or (page_shown (done_input verdict input))) h.showing ∙ sym (shown-page-snoc past _);
       pages = is_pages;
-      feeds = feeds;
+      progress = progress;
       store = rw (same.store, same_held past _ q, same_shown past _ q, same_settlings past _ q) h.store;
       distances = rw (same.distances, same_distances c.me past _ q) h.distances;
       timers = rw same.timers (timers_stay c past _ a.timers q h.timers);
@@ -91,8 +91,8 @@ still_fits c made past a b moment input verdict message after h m same is_state 
       spelled = rw (same_held past _ q) h.spelled;
     }
 
--- where no message is given the feeds stay
-pub same_feeds : (past : List Entry) (e : Entry) (feeds : List FeedContent) → ((j : ℕ) → given_in j e.input e.effects.message ≡ None) → FeedsFit past feeds → FeedsFit (past ++ e ∷ []) feeds
-same_feeds past e feeds none h = record {
-  each = λ j f at. subst (λ g. FeedFits g f) (sym (given-snoc past e j ∙ ap (λ o. given past j ++ cons_option o []) (none j) ∙ append-nil (given past j))) (h.each j f at);
+-- where no message is given the progress stays
+pub same_progress : (past : List Entry) (e : Entry) (progress : List ProgressContent) → ((j : ℕ) → given_in j e.input e.effects.message ≡ None) → EachProgressFits past progress → EachProgressFits (past ++ e ∷ []) progress
+same_progress past e progress none h = record {
+  each = λ j f at. subst (λ g. ProgressFits g f) (sym (given-snoc past e j ∙ ap (λ o. given past j ++ cons_option o []) (none j) ∙ append-nil (given past j))) (h.each j f at);
 }

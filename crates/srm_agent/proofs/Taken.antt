@@ -43,7 +43,7 @@ pub record Goes {W : Type 0} (a b : Content W) (moment : ℕ) : Type 0 where
   pub config : b.config ≡ a.config
   pub state : b.state ≡ a.state
   pub showing : b.showing ≡ a.showing
-  pub feeds : b.feeds ≡ a.feeds
+  pub progress : b.progress ≡ a.progress
   pub bucket : b.bucket ≡ a.bucket
   pub due : b.due ≡ a.due
 
@@ -124,7 +124,7 @@ drawop_enters draw a b moment g is d fresh dist arms roomy e one it here spellab
       config = goes.config;
       state = goes.state;
       showing = goes.showing;
-      feeds = goes.feeds;
+      progress = goes.progress;
       bucket = goes.bucket;
       due = goes.due;
     }
@@ -146,7 +146,7 @@ stays a s t w kept timers words = record {
     last = h.last;
     showing = h.showing;
     pages = h.pages;
-    feeds = h.feeds;
+    progress = h.progress;
     store = kept.each (held past) (shown_to_exist past) (settlings past) h.store;
     distances = h.distances;
     timers = timers.each c past h.timers;

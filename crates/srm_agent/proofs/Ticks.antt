@@ -28,7 +28,7 @@ use Rattle.srm_outbox.proofs.Handing.{all-append}
 use Rattle.srm_agent_parts.proofs.Running.{steps_more, shown-page-snoc, slots-same}
 use Rattle.srm_entries.proofs.Showing.{held-snoc, shown-snoc, drawn-snoc, state-snoc}
 use Rattle.srm_entries.proofs.Spending.{tick_is_last}
-use Rattle.srm_agent.proofs.Still.{same_feeds}
+use Rattle.srm_agent.proofs.Still.{same_progress}
 
 -- a tick hears and draws nothing, so what is held, known and told stays
 
@@ -98,7 +98,7 @@ pub record TickKeeps {W : Type 0} (a b : Content W) : Type 0 where
   pub config : b.config ≡ a.config
   pub showing : b.showing ≡ a.showing
   pub pages : b.pages ≡ a.pages
-  pub feeds : b.feeds ≡ a.feeds
+  pub progress : b.progress ≡ a.progress
   pub store : b.store ≡ a.store
   pub distances : b.distances ≡ a.distances
 
@@ -115,7 +115,7 @@ tick_fits c made moment past asks fixes arms outs after wanted went o a b h keep
       last = is_last ∙ sym (tick_is_last c made past _ right refl);
       showing = keeps.showing ∙ h.showing ∙ sym (shown-page-snoc past _);
       pages = keeps.pages ∙ h.pages ∙ sym (slots-same past _ refl);
-      feeds = rw keeps.feeds (same_feeds past _ a.feeds (λ j. refl) h.feeds);
+      progress = rw keeps.progress (same_progress past _ a.progress (λ j. refl) h.progress);
       store = rw (keeps.store, tick_held c.me moment asks fixes arms outs after past, tick_shown c.me moment asks fixes arms outs after past, tick_settlings c.me moment asks fixes arms outs after past) h.store;
       distances = rw (keeps.distances, tick_distances c.me moment asks fixes arms outs after past) h.distances;
       timers = timers;

@@ -9,7 +9,7 @@ use Rattle.srm_entries.specs.declared.state.AgentState.{AgentState}
 use Rattle.srm_agent_parts.specs.declared.out.Outgoing.{Outgoing}
 use Rattle.srm_agent.specs.declared.agent.Agent.TheInside.{Inside}
 use Rattle.srm_entries.specs.Configs.{Config}
-use Rattle.srm_agent_parts.specs.Feeds.{FeedContent}
+use Rattle.srm_agent_parts.specs.Progress.{ProgressContent}
 use Rattle.srm_agent_parts.specs.Outs.{AreOwn}
 use Rattle.srm_agent_parts.specs.TimersKept.{TimersContent, HaveSettings}
 
@@ -20,7 +20,7 @@ pub record Content (W : Type 0) : Type 0 where
   pub last : ℕ
   pub showing : Page
   pub pages : List Page
-  pub feeds : List FeedContent
+  pub progress : List ProgressContent
   pub store : StoreContent
   pub distances : DistancesContent
   pub timers : TimersContent
@@ -35,7 +35,7 @@ content_of a = record {
   last = a.last;
   showing = a.showing;
   pages = a.pages;
-  feeds = a.feeds.items;
+  progress = a.progress.items;
   store = a.store;
   distances = a.distances;
   timers = a.timers;
@@ -43,10 +43,10 @@ content_of a = record {
   due = a.due;
 }
 
--- a slot has a feed, whether it has a page or not; the timers have the agent's settings; what waits
+-- each slot has its progress, whether it has a page or not; the timers have the agent's settings; what waits
 -- for the bucket is the agent's own, and spelled in its session
 pub record IsWhole {W : Type 0} (a : Inside W) : Type 0 where
   pub last : a.last ≤ MOMENT
-  pub feeds : length a.feeds.items ≡ PAGES
+  pub progress : length a.progress.items ≡ PAGES
   pub settings : HaveSettings a.config a.timers
   pub waiting : AreOwn a.config.me a.config.session a.bucket.waiting

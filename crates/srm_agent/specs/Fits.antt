@@ -22,7 +22,7 @@ use Rattle.srm_entries.specs.Bucket.{Going, GoesRight, entries_of, bucket_calls}
 use Rattle.srm_entries.specs.Giving.{given}
 use Rattle.srm_entries.specs.Runs.{EntryRight}
 use Rattle.srm_agent_parts.specs.Outs.{datagram_of}
-use Rattle.srm_agent_parts.specs.Feeds.{FeedContent, FeedFits}
+use Rattle.srm_agent_parts.specs.Progress.{ProgressContent, ProgressFits}
 use Rattle.srm_agent_parts.specs.TimersKept.{TimersFit}
 use Rattle.srm_agent.specs.Contents.{Content}
 
@@ -35,12 +35,12 @@ pub record BucketFits (c : Config) (past : List Entry) (b : BucketContent Outgoi
   pub read : map (read_call datagram_of) calls ≡ bucket_calls c.me goings
   pub fits : bucket.Fits c.rate c.depth calls b
 
--- each slot has its feed
-pub record FeedsFit (past : List Entry) (feeds : List FeedContent) : Type 0 where
-  pub each : (j : ℕ) (f : FeedContent) → slice_get feeds j ≡ Some f → FeedFits (given past j) f
+-- each slot has its progress
+pub record EachProgressFits (past : List Entry) (progress : List ProgressContent) : Type 0 where
+  pub each : (j : ℕ) (f : ProgressContent) → slice_get progress j ≡ Some f → ProgressFits (given past j) f
 
-abbrev pub AreEmptyFeeds : List FeedContent → Type 0
-AreEmptyFeeds feeds = (length feeds ≡ PAGES) × ((j : ℕ) (f : FeedContent) → slice_get feeds j ≡ Some f → FeedFits [] f)
+abbrev pub AreNewProgress : List ProgressContent → Type 0
+AreNewProgress progress = (length progress ≡ PAGES) × ((j : ℕ) (f : ProgressContent) → slice_get progress j ≡ Some f → ProgressFits [] f)
 
 pub record Fits {W : Type 0} (c : Config) (made : ℕ) (past : List Entry) (a : Content W) : Type 0 where
   pub run : AllByRecursion (EntryRight c made) (steps past)
@@ -49,7 +49,7 @@ pub record Fits {W : Type 0} (c : Config) (made : ℕ) (past : List Entry) (a : 
   pub last : a.last ≡ last_moment made past
   pub showing : a.showing ≡ shown past
   pub pages : a.pages ≡ slots past
-  pub feeds : FeedsFit past a.feeds
+  pub progress : EachProgressFits past a.progress
   pub store : store.Fits (held past) (shown_to_exist past) (settlings past) a.store
   pub distances : distances.Fits c.me (distance_calls c.me past) a.distances
   pub timers : TimersFit c past a.timers

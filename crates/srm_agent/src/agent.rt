@@ -5,7 +5,7 @@ ghost use Rattle.srm_names.specs.declared.limits.TheConstants.{MOMENT};
 ghost use Rattle.srm_entries.specs.Configs.{Config as Settings};
 ghost use Rattle.srm_entries.specs.declared.entry.Entry.{Entry as AnEntry};
 ghost use Rattle.srm_entries.specs.Entries.{is_gone};
-ghost use Rattle.srm_agent.specs.Fits.{Fits, AreEmptyFeeds};
+ghost use Rattle.srm_agent.specs.Fits.{Fits, AreNewProgress};
 ghost use Rattle.srm_entries.specs.Runs.{IsMemberRun};
 ghost use Rattle.srm_agent.specs.Noting.{Does, still_entry};
 
@@ -29,12 +29,10 @@ mod taking_session;
 mod ticking;
 
 use crate::noted::Noted;
-use srm_agent_parts::{Feed, Outgoing, PageTable, Timers};
+use srm_agent_parts::{Outgoing, PageTable, Progress, Timers};
 use srm_bucket::Bucket;
 use srm_distance::Distances;
-use srm_entries::{
-    AgentFault, AgentState, Config, Effects, Entry, Input, SHORTEST_PAUSE, Verdict,
-};
+use srm_entries::{AgentFault, AgentState, Config, Effects, Entry, Input, SHORTEST_PAUSE, Verdict};
 use srm_names::{Items, PAGES, Page, PageMsg};
 use srm_store::Store;
 use srm_timers::Words;
@@ -88,8 +86,8 @@ pub struct Agent<W: Words + Drop> {
     last: u64,
     showing: Page,
     pages: PageTable,
-    /// One for each slot from the start.
-    feeds: Vec<Feed>,
+    /// How far each slot was given things.
+    progress: Vec<Progress>,
     store: Store,
     distances: Distances,
     timers: Timers,
@@ -124,7 +122,7 @@ impl<W: Words + Drop> Agent<W> {
             last: now,
             showing: Page::first(),
             pages: PageTable::new(alloc)?,
-            feeds: empty_feeds(alloc)?,
+            progress: no_progress(alloc)?,
             store: Store::new(alloc)?,
             distances: Distances::new(config.me()),
             timers: Timers::new(alloc, &config),
@@ -198,13 +196,13 @@ impl<W: Words + Drop> Agent<W> {
     }
 }
 
-/// A feed for each slot.
-fn empty_feeds(alloc: Global) -> Result<Vec<Feed>, AllocError>
-    ensures { IfOk result (λ feeds. AreEmptyFeeds feeds.items) }
+/// The progress of each slot, which was given nothing.
+fn no_progress(alloc: Global) -> Result<Vec<Progress>, AllocError>
+    ensures { IfOk result (λ progress. AreNewProgress progress.items) }
 {
-    let mut feeds = Vec::new(alloc);
+    let mut progress = Vec::new(alloc);
     for _ in 0..PAGES {
-        feeds.push(Feed::new())?;
+        progress.push(Progress::new())?;
     }
-    Ok(feeds)
+    Ok(progress)
 }

@@ -1,5 +1,5 @@
 pub mod Listing
-pub mod FeedSteps
+pub mod ProgressSteps
 pub mod Running
 pub mod Roomy
 pub mod Midway

@@ -1,7 +1,7 @@
 pub mod Outs
 pub mod Growth
 pub mod PageTables
-pub mod Feeds
+pub mod Progress
 pub mod TimersKept
 pub mod TimerCalls
 pub mod Examples

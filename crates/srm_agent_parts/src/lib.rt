@@ -1,6 +1,6 @@
 //! The parts of an agent: what it keeps beside its store, its distances and its bucket, and what these become as more is heard.
 //!
-//! Each is said over the entries of its member: the timers are those that the entries set, a slot's feed is what they gave.
+//! Each is said over the entries of its member: the timers are those that the entries set, a slot's progress is what they gave.
 //!
 //! It is for `srm_agent` and its neighbours, and nothing else needs it: who uses an agent finds [`Out`] there.
 //!
@@ -17,11 +17,11 @@
 mod between;
 mod distances;
 mod evidence;
-mod feed;
 mod keeping;
 mod mentions;
 mod out;
 mod page_table;
+mod progress;
 mod reports;
 mod roster;
 mod timers;
@@ -29,11 +29,11 @@ mod timers;
 pub use between::names_between;
 pub use distances::distance_table;
 pub use evidence::{greatest_in, show_all};
-pub use feed::Feed;
 pub use keeping::keep;
 pub use mentions::names_in;
 pub use out::{Out, Outgoing};
 pub use page_table::PageTable;
+pub use progress::Progress;
 pub use reports::{hear_report, learn};
 pub use roster::{member, page_in_range, stream_in_range};
 pub use timers::{Timers, earlier};

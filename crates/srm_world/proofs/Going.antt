@@ -35,7 +35,7 @@ use Rattle.srm_agent.specs.Fits as agents_fit
 use Rattle.srm_agent.specs.Noting as noting
 use Rattle.srm_agent.specs.Noting.{Enters, ReadsAs, AnswersAs, IsTicked, still_entry, moment_that_counts}
 use Rattle.srm_agent_parts.proofs.Running.{last_moment-snoc, slots-same}
-use Rattle.srm_agent.proofs.Still.{still_fits, same_feeds}
+use Rattle.srm_agent.proofs.Still.{still_fits, same_progress}
 use Rattle.srm_entries.proofs.Showing.{state-snoc}
 use Rattle.srm_entries.proofs.Feeding.{given-snoc}
 use Rattle.srm_world.specs.Events.{comes}
@@ -260,7 +260,7 @@ takes_on draw slot p q message e is loses agent config last after = record {
         let fits : agents_fit.Fits c made (past ++ e ∷ []) p.agent = still_fits c made past p.agent p.agent p.last (Took slot) Done message p.state h.agent
         (record { unheard = refl; undrawn = refl; idle = refl; moment_right = h.last; verdict_right = refl; message_right = next; state_right = h.state })
         (record { config = refl; store = refl; distances = refl; timers = refl; bucket = refl; due = refl })
-        (h.agent.state ∙ sym h.state) (omega arith) refl (h.agent.pages ∙ sym (slots-same past e refl)) (same_feeds past e p.agent.feeds (λ j. refl) h.agent.feeds) in
+        (h.agent.state ∙ sym h.state) (omega arith) refl (h.agent.pages ∙ sym (slots-same past e refl)) (same_progress past e p.agent.progress (λ j. refl) h.agent.progress) in
         adds c made past None p q e h (subst (λ a. agents_fit.Fits c made (past ++ e ∷ []) a) (sym agent) fits) config (h.last ∙ sym h.agent.last) last after (taken_lanes past e slot p.lanes q.lanes refl loses h.lanes)
 
 -- a member whose call was refused for memory, with more room in a lane

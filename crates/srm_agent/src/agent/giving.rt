@@ -8,7 +8,7 @@ ghost use Rattle.srm_names.specs.declared.page_msg.PageMsg.{PageMsg as APageMsg}
 ghost use Rattle.srm_names.specs.declared.page_msg.PageMsg.TheVariants.{Close};
 ghost use Rattle.srm_entries.specs.declared.entry.Entry.{Entry as AnEntry};
 ghost use Rattle.srm_entries.specs.Entries.{is_gone, released};
-ghost use Rattle.srm_agent_parts.specs.Feeds.{FeedFits};
+ghost use Rattle.srm_agent_parts.specs.Progress.{ProgressFits};
 ghost use Rattle.srm_entries.specs.Giving.{GiveRight, is_some_of};
 ghost use Rattle.srm_entries.specs.Verdicts.{final};
 ghost use Rattle.srm_agent.specs.Nexts.{IsNextOf, IsNextOn};
@@ -17,7 +17,7 @@ ghost use Rattle.srm_agent.specs.Noting.{Enters, Stays, AnswersAs, Does};
 
 use super::Agent;
 use crate::noted::Noted;
-use srm_agent_parts::{Feed, member};
+use srm_agent_parts::{Progress, member};
 use srm_entries::{AgentFault, Entry, Input, Verdict};
 use srm_names::{Drawop, Member, Name, PAGES, Page, PageMsg, Stream};
 use srm_timers::Words;
@@ -40,7 +40,7 @@ impl<W: Words + Drop> Agent<W> {
             return Ok(gave(None, entry));
         };
         let noted = message.copy()?;
-        self.feeds[usize::from(slot)].give(&message);
+        self.progress[usize::from(slot)].give(&message);
         let entry = self.entry(self.last, Input::Gave(slot), Verdict::Done, Some(noted));
         Ok(gave(Some(message), entry))
     }
@@ -59,17 +59,17 @@ impl<W: Words + Drop> Agent<W> {
         requires { slot < PAGES }
         ensures { IfOk result (λ message. (c : Settings) (made : ℕ) (past : List AnEntry) → Fits c made past self.now → GiveRight c past slot message) }
     {
-        let feed = &self.feeds[usize::from(slot)];
-        if feed.is_closed() {
+        let progress = &self.progress[usize::from(slot)];
+        if progress.is_closed() {
             return Ok(None);
         }
         let Some(page) = self.pages.get(slot) else {
             return Ok(self.close_if_gone());
         };
-        if !feed.is_opened() {
+        if !progress.is_opened() {
             return Ok(Some(PageMsg::Open(page)));
         }
-        if let Some(message) = self.next_on(&page, feed)? {
+        if let Some(message) = self.next_on(&page, progress)? {
             return Ok(Some(message));
         }
         Ok(self.close_if_gone())
@@ -86,8 +86,8 @@ impl<W: Words + Drop> Agent<W> {
     }
 
     /// The next message of the smallest source that has one, on a page that was opened.
-    fn next_on(&self, page: &Page, feed: &Feed) -> Result<Option<PageMsg>, AllocError>
-        ensures { IfOk result (λ message. (c : Settings) (made : ℕ) (past : List AnEntry) (given : List APageMsg) → Fits c made past self.now → FeedFits given feed.now
+    fn next_on(&self, page: &Page, progress: &Progress) -> Result<Option<PageMsg>, AllocError>
+        ensures { IfOk result (λ message. (c : Settings) (made : ℕ) (past : List AnEntry) (given : List APageMsg) → Fits c made past self.now → ProgressFits given progress.now
             → IsNextOn c past page.now given message) }
     {
         for number in 0..self.config.members() {
@@ -96,7 +96,7 @@ impl<W: Words + Drop> Agent<W> {
                 source,
                 page: *page,
             };
-            if let Some(message) = self.next_of(stream, feed)? {
+            if let Some(message) = self.next_of(stream, progress)? {
                 return Ok(Some(message));
             }
         }
@@ -114,15 +114,15 @@ impl<W: Words + Drop> Agent<W> {
     }
 
     /// The next message of one source.
-    fn next_of(&self, stream: Stream, feed: &Feed) -> Result<Option<PageMsg>, AllocError>
-        ensures { IfOk result (λ message. (c : Settings) (made : ℕ) (past : List AnEntry) (given : List APageMsg) → Fits c made past self.now → FeedFits given feed.now
+    fn next_of(&self, stream: Stream, progress: &Progress) -> Result<Option<PageMsg>, AllocError>
+        ensures { IfOk result (λ message. (c : Settings) (made : ℕ) (past : List AnEntry) (given : List APageMsg) → Fits c made past self.now → ProgressFits given progress.now
             → IsNextOf past stream.page given stream.source message) }
     {
-        let given = feed.number(stream.source);
+        let given = progress.number(stream.source);
         if let Some(drawop) = self.released_after(stream, given) {
             return Ok(Some(PageMsg::Draw(drawop.copy()?)));
         }
-        if all_and_new(self.is_all(stream, given), feed.has_left(stream.source)) {
+        if all_and_new(self.is_all(stream, given), progress.has_left(stream.source)) {
             return Ok(Some(PageMsg::Left(stream.source)));
         }
         Ok(None)

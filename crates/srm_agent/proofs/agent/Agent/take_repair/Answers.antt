@@ -11,16 +11,16 @@ pub hear_repair-requires-clause-rising : goal.hear_repair-requires-clause-rising
 hear_repair-requires-clause-rising g c = rw c.deref.ensures.value c.in_ok-fresh.ensures.rising
 
 pub invariant_of-self : goal.invariant_of-self
-invariant_of-self g c = record { last = c.self.invariant.last; feeds = c.self.invariant.feeds; settings = c.hear_repair.ensures.settings.each _ c.self.invariant.settings; waiting = c.self.invariant.waiting }
+invariant_of-self g c = record { last = c.self.invariant.last; progress = c.self.invariant.progress; settings = c.hear_repair.ensures.settings.each _ c.self.invariant.settings; waiting = c.self.invariant.waiting }
 
 pub returns-in_err-arms-clause-err : goal.returns-in_err-arms-clause-err
 returns-in_err-arms-clause-err g c = rw (← c.self.view_is) (at_err c.from_residual-in_err-arms.result (stays _ _ _ _ (still_fits _) c.in_err-arms.ensures.kept c.in_err-arms.ensures.undrawn))
 
 pub invariant_of-self-2 : goal.invariant_of-self-2
-invariant_of-self-2 g c = record { last = c.requires.moment; feeds = c.self.invariant.feeds; settings = c.hear_repair.ensures.settings.each _ c.self.invariant.settings; waiting = c.self.invariant.waiting }
+invariant_of-self-2 g c = record { last = c.requires.moment; progress = c.self.invariant.progress; settings = c.hear_repair.ensures.settings.each _ c.self.invariant.settings; waiting = c.self.invariant.waiting }
 
 pub returns-clause-ok : goal.returns-clause-ok
 returns-clause-ok g c = rw (← c.self.view_is) (drawop_enters g.W.Words.draw _ _ c.args.moment (Repair c.args.sender c.args.drawop) (IsRepairOf c.args.drawop.name) c.args.drawop c.in_ok-fresh.fresh.items c.distance_table-dist.result.now c.in_ok-arms.arms.items
     _ _ (repair_brings c.args.sender c.args.drawop) refl (rw (← c.self.view_is) at c.requires.here) c.requires.spelled (rw (← c.self.view_is) at c.requires.later) (rw (← c.self.view_is) at c.requires.taken)
     (rw (← c.self.view_is) at c.in_ok-fresh.ensures.value) c.distance_table-dist.ensures.value (rw c.deref.ensures.value at c.in_ok-arms.ensures.hears) (still_fits _) c.keep.ensures
-    c.add_all.ensures refl (record { last = refl; config = refl; state = refl; showing = refl; feeds = refl; bucket = refl; due = refl }) c.self.invariant.settings c.in_ok-arms.ensures.drawn (taken_entry (content_of c.self.inside) _ _ _ _ c.took.ensures.heard))
+    c.add_all.ensures refl (record { last = refl; config = refl; state = refl; showing = refl; progress = refl; bucket = refl; due = refl }) c.self.invariant.settings c.in_ok-arms.ensures.drawn (taken_entry (content_of c.self.inside) _ _ _ _ c.took.ensures.heard))

@@ -5,7 +5,7 @@ use Rattle.srm_agent.proofs.agent.Agent.take_up.Goals as goal
 pub invariant_of-self : goal.invariant_of-self
 invariant_of-self g c = record {
   last = c.requires.moment;
-  feeds = c.self.invariant.feeds;
+  progress = c.self.invariant.progress;
   settings = c.self.invariant.settings;
   waiting = own_behind _ _ (record { class = New; item = c.args.going }) _ _ c.self.invariant.waiting c.wait_to_go.ensures.gains (rw (← c.self.view_is) at c.requires.own);
 }

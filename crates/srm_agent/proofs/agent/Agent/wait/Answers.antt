@@ -3,7 +3,7 @@ use Rattle.srm_agent.proofs.Passing.{wait_enters}
 use Rattle.srm_agent.proofs.agent.Agent.wait.Goals as goal
 
 pub invariant_of-self : goal.invariant_of-self
-invariant_of-self g c = record { last = c.self.invariant.last; feeds = c.self.invariant.feeds; settings = c.self.invariant.settings; waiting = c.pass.ensures.left _ _ c.self.invariant.waiting }
+invariant_of-self g c = record { last = c.self.invariant.last; progress = c.self.invariant.progress; settings = c.self.invariant.settings; waiting = c.pass.ensures.left _ _ c.self.invariant.waiting }
 
 pub returns-clause-entry : goal.returns-clause-entry
 returns-clause-entry g c = rw (← c.self.view_is) (wait_enters g.W.Words.draw _ _ _ c.args.moment c.rest.result.entry (rw (← c.self.view_is) at c.requires.here) (rw (← c.self.view_is) at c.requires.later) (rw (← c.self.view_is) at c.requires.early) refl

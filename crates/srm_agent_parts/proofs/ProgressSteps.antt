@@ -1,4 +1,4 @@
--- A feed with one more message.
+-- The progress of a slot with one more message.
 use Rattle.std.proofs.Common.{◌≡◌, ℕ, ◌+◌, ◌<◌, ◌==◌, Bool, true, false, not, ◌&&◌, ◌||◌, List, [], ◌∷◌, ◌++◌, length, ap, sym, ◌∙◌, subst, refl, inl, inr, ◌⊎◌, arith, length-append}
 use Rattle.std.specs.Prelude.{Option, Some, None, is_some, if◌then◌else◌, slice_index, slice_index_or, slice_set}
 use Rattle.std.specs.List.{list_any, cons_option}
@@ -13,7 +13,7 @@ use Rattle.srm_names.specs.declared.page_msg.PageMsg.TheVariants.{Open, Draw, Le
 use Rattle.srm_names.specs.Histories.{or_else}
 use Rattle.srm_names.specs.PageFeeds.{drawops_of, drawop_from, leaves, is_close, opened, page_opened, continues, is_open_at}
 use Rattle.srm_names.proofs.Snoc.{first_of-snoc, list_any-snoc}
-use Rattle.srm_agent_parts.specs.Feeds.{FeedContent, FeedFits}
+use Rattle.srm_agent_parts.specs.Progress.{ProgressContent, ProgressFits}
 
 opened-snoc : (g : List PageMsg) (m : PageMsg) → opened (g ++ m ∷ []) ≡ or_else (opened g) (page_opened m)
 opened-snoc g m = first_of-snoc page_opened g m
@@ -42,7 +42,7 @@ still_open (Some x) = refl
 zero_more : (n : ℕ) → n ≡ n + 0
 zero_more n = omega arith
 
-pub opens : (g : List PageMsg) (p : Page) (f : FeedContent) → FeedFits g f → FeedFits (g ++ Open p ∷ []) (record f { opened = true })
+pub opens : (g : List PageMsg) (p : Page) (f : ProgressContent) → ProgressFits g f → ProgressFits (g ++ Open p ∷ []) (record f { opened = true })
 opens g p f h = record {
   opened = some_else (opened g) p ∙ ap is_some (sym (opened-snoc g (Open p)));
   closed = h.closed ∙ or_false (list_any is_close g) ∙ sym (closed-snoc g (Open p));
@@ -51,7 +51,7 @@ opens g p f h = record {
   left = λ s b. h.left s b ∙ or_false (list_any (leaves s) g) ∙ sym (leaves-snoc s g (Open p));
 }
 
-pub closes : (g : List PageMsg) (f : FeedContent) → FeedFits g f → FeedFits (g ++ Close ∷ []) (record f { closed = true })
+pub closes : (g : List PageMsg) (f : ProgressContent) → ProgressFits g f → ProgressFits (g ++ Close ∷ []) (record f { closed = true })
 closes g f h = record {
   opened = h.opened ∙ still_open (opened g) ∙ ap is_some (sym (opened-snoc g Close));
   closed = either (list_any is_close g) ∙ sym (closed-snoc g Close);
@@ -64,7 +64,7 @@ closes g f h = record {
     either true = refl
     either false = refl
 
--- a drawop and a leaving come in an opened feed alone
+-- a drawop and a leaving come in an opened page feed alone
 open_there : (o : Option Page) (p : Page) → is_open_at o p ≡ true → is_some o ≡ true
 open_there None p e = absurd (cc)
 open_there (Some x) p e = refl
@@ -72,8 +72,8 @@ open_there (Some x) p e = refl
 not_begun : {X : Type 0} (a b : Bool) → a ≡ b → b ≡ true → a ≡ false → X
 not_begun a b e t f = absurd (cc)
 
-pub draws : (g : List PageMsg) (d : Drawop) (f : FeedContent) (source number : ℕ) → FeedFits g f → length f.numbers ≡ MEMBERS → source ≡ d.name.stream.source → number ≡ d.name.number
-    → source < MEMBERS → continues g (Draw d) ≡ true → FeedFits (g ++ Draw d ∷ []) (record f { numbers = slice_set f.numbers source number })
+pub draws : (g : List PageMsg) (d : Drawop) (f : ProgressContent) (source number : ℕ) → ProgressFits g f → length f.numbers ≡ MEMBERS → source ≡ d.name.stream.source → number ≡ d.name.number
+    → source < MEMBERS → continues g (Draw d) ≡ true → ProgressFits (g ++ Draw d ∷ []) (record f { numbers = slice_set f.numbers source number })
 draws g d f source number h size at is below goes = record {
   opened = h.opened ∙ still_open (opened g) ∙ ap is_some (sym (opened-snoc g (Draw d)));
   closed = h.closed ∙ or_false (list_any is_close g) ∙ sym (closed-snoc g (Draw d));
@@ -104,8 +104,8 @@ draws g d f source number h size at is below goes = record {
         get_or-set_other f.numbers source s number 0 other ∙ h.numbers s b ∙ zero_more (length (drawops_of s g))
         ∙ ap (λ (b : Bool). length (drawops_of s g) + length (cons_option (if b then Some d else None) [])) (sym (ne_eqb s d.name.stream.source (λ e. other (e ∙ sym at))))
 
-pub leaving : (g : List PageMsg) (source place : ℕ) (f : FeedContent) → FeedFits g f → length f.left ≡ MEMBERS → place ≡ source → place < MEMBERS → continues g (Left source) ≡ true
-    → FeedFits (g ++ Left source ∷ []) (record f { left = slice_set f.left place true })
+pub leaving : (g : List PageMsg) (source place : ℕ) (f : ProgressContent) → ProgressFits g f → length f.left ≡ MEMBERS → place ≡ source → place < MEMBERS → continues g (Left source) ≡ true
+    → ProgressFits (g ++ Left source ∷ []) (record f { left = slice_set f.left place true })
 leaving g source place f h size at below goes = record {
   opened = h.opened ∙ still_open (opened g) ∙ ap is_some (sym (opened-snoc g (Left source)));
   closed = h.closed ∙ or_false (list_any is_close g) ∙ sym (closed-snoc g (Left source));
@@ -131,6 +131,6 @@ leaving g source place f h size at below goes = record {
         ∙ ap (λ b. list_any (leaves s) g || b) (sym (ne_eqb s source (λ e. other (e ∙ sym at))))
 
 -- a step at the message that was looked at
-pub given_as : (m x : PageMsg) → m ≡ x → (old new : FeedContent) → ((g : List PageMsg) → FeedFits g old → continues g x ≡ true → FeedFits (g ++ x ∷ []) new)
-    → (g : List PageMsg) → FeedFits g old → continues g m ≡ true → FeedFits (g ++ m ∷ []) new
-given_as m x is old new step = subst (λ w. (g : List PageMsg) → FeedFits g old → continues g w ≡ true → FeedFits (g ++ w ∷ []) new) (sym is) step
+pub given_as : (m x : PageMsg) → m ≡ x → (old new : ProgressContent) → ((g : List PageMsg) → ProgressFits g old → continues g x ≡ true → ProgressFits (g ++ x ∷ []) new)
+    → (g : List PageMsg) → ProgressFits g old → continues g m ≡ true → ProgressFits (g ++ m ∷ []) new
+given_as m x is old new step = subst (λ w. (g : List PageMsg) → ProgressFits g old → continues g w ≡ true → ProgressFits (g ++ w ∷ []) new) (sym is) step

@@ -4,23 +4,23 @@ use Rattle.std.specs.List.{list_any}
 use Rattle.srm_names.specs.declared.limits.TheConstants.{MEMBERS}
 use Rattle.srm_names.specs.declared.page_msg.PageMsg.{PageMsg}
 use Rattle.srm_names.specs.PageFeeds.{drawops_of, leaves, is_close, opened}
-use Rattle.srm_agent_parts.specs.declared.feed.Feed.TheInside.{Inside}
+use Rattle.srm_agent_parts.specs.declared.progress.Progress.TheInside.{Inside}
 
-pub record FeedContent : Type 0 where
+pub record ProgressContent : Type 0 where
   pub opened : Bool
   pub closed : Bool
   pub numbers : List ℕ
   pub left : List Bool
 
-abbrev pub feed_of : Inside → FeedContent
-feed_of f = record { opened = f.opened; closed = f.closed; numbers = f.numbers; left = f.left }
+abbrev pub progress_of : Inside → ProgressContent
+progress_of f = record { opened = f.opened; closed = f.closed; numbers = f.numbers; left = f.left }
 
 pub record HasAllMembers (f : Inside) : Type 0 where
   pub numbers : length f.numbers ≡ MEMBERS
   pub left : length f.left ≡ MEMBERS
 
--- the feed is what these messages leave
-pub record FeedFits (given : List PageMsg) (f : FeedContent) : Type 0 where
+-- the progress is what these messages leave
+pub record ProgressFits (given : List PageMsg) (f : ProgressContent) : Type 0 where
   pub opened : f.opened ≡ is_some (opened given)
   pub closed : f.closed ≡ list_any is_close given
   pub begun : f.opened ≡ false → f.closed ≡ false → given ≡ []

@@ -4,14 +4,14 @@ ghost use Rattle.std.specs.Prelude.{◌≡◌, ◌<◌, ◌++◌, List, [], ◌�
 ghost use Rattle.srm_names.specs.declared.limits.TheConstants.{MEMBERS};
 ghost use Rattle.srm_names.specs.declared.page_msg.PageMsg.{PageMsg as APageMsg};
 ghost use Rattle.srm_names.specs.PageFeeds.{continues};
-ghost use Rattle.srm_agent_parts.specs.Feeds.{FeedFits};
+ghost use Rattle.srm_agent_parts.specs.Progress.{ProgressFits};
 
 use srm_names::{MEMBERS, Member, Name, PageMsg};
 use std::marker::Model;
 
 /// What of the messages that a slot was given is needed to know which may come next. The messages themselves aren't kept.
 #[derive(Debug, Drop)]
-pub struct Feed {
+pub struct Progress {
     opened: bool,
     closed: bool,
     /// The number of the last drawop given of each source, and 0 before the first.
@@ -20,22 +20,22 @@ pub struct Feed {
     left: [bool; MEMBERS as usize],
 }
 
-impl Model for Feed {
-    ghost use Rattle.srm_agent_parts.specs.Feeds.{FeedContent, feed_of, HasAllMembers};
+impl Model for Progress {
+    ghost use Rattle.srm_agent_parts.specs.Progress.{ProgressContent, progress_of, HasAllMembers};
 
-    ghost Value = { FeedContent };
+    ghost Value = { ProgressContent };
 
-    ghost view = { feed_of };
+    ghost view = { progress_of };
 
     ghost invariant = { HasAllMembers };
 }
 
-impl Feed {
-    /// The feed of a slot that was given nothing.
-    pub fn new() -> Feed
-        ensures { FeedFits [] result }
+impl Progress {
+    /// The progress of a slot that was given nothing.
+    pub fn new() -> Progress
+        ensures { ProgressFits [] result }
     {
-        Feed {
+        Progress {
             opened: false,
             closed: false,
             numbers: [0; MEMBERS as usize],
@@ -74,7 +74,7 @@ impl Feed {
 
     /// A message was given that may come next.
     pub fn give(&mut self, message: &PageMsg)
-        ensures { (given : List APageMsg) → FeedFits given self.old → continues given message.now ≡ true → FeedFits (given ++ message.now ∷ []) self.new }
+        ensures { (given : List APageMsg) → ProgressFits given self.old → continues given message.now ≡ true → ProgressFits (given ++ message.now ∷ []) self.new }
     {
         match message {
             PageMsg::Open(_) => self.opened = true,

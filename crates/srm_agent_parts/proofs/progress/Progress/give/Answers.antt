@@ -1,7 +1,7 @@
 use Rattle.std.proofs.Common.{refl}
 use Rattle.srm_names.specs.declared.page_msg.PageMsg.TheVariants.{Open, Draw, Left, Close}
-use Rattle.srm_agent_parts.proofs.FeedSteps.{opens, draws, leaving, closes, given_as}
-use Rattle.srm_agent_parts.proofs.feed.Feed.give.Goals as goal
+use Rattle.srm_agent_parts.proofs.ProgressSteps.{opens, draws, leaving, closes, given_as}
+use Rattle.srm_agent_parts.proofs.progress.Progress.give.Goals as goal
 
 pub returns-in-Open : goal.returns-in-Open
 returns-in-Open c = rw (← c.self.view_is) (given_as c.args.message.now (Open c.in-Open.field-0) c.in-Open.is _ _ (λ g fits goes. opens g c.in-Open.field-0 _ fits))
