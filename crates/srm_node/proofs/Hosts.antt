@@ -90,7 +90,7 @@ lanes_of_run : (limit : ℕ) (a b : NodeView) → RunsUpTo limit a b → SameLan
 lanes_of_run limit a b h = lanes_of_turns h.count a b h.runs.turns
 
 -- what is handed out of a node that ran, and of its workers
-pub hosted : (r : Result (Unit {0}) NodeFault) (node last : NodeView) (taps : List TapView) (turns : ℕ) (all : Bool) (h : Hosted) (feeds : List FeedView) (keeps : Bool)
+pub hosted : {P : Type 0} (r : Result (Unit {0}) NodeFault) (node last : NodeView) (taps : List TapView) (turns : ℕ) (all : Bool) (h : Hosted P) (feeds : List FeedView) (keeps : Bool)
     → MatchResult r (λ _. (all ≡ true) × Keeps last × RunsUpTo turns node last) (λ fault. StopsBy all fault turns node last) → Keeps last
     → h.journal ≡ last.journal → feeds ≡ last.feeds → OnTrue keeps (h.feeds.items ≡ feeds) → OnFalse keeps (h.feeds.items ≡ []) → keeps ≡ is_ok r → WorkedEach taps h.worked.items
     → MatchResult r (λ _. (all ≡ true) × Hosts node taps turns h) (λ fault. HostFails all node taps turns fault h)
@@ -137,7 +137,7 @@ none_behind xs [] all split whole = refl
 none_behind xs (y ∷ ys) all split whole = absurd (omega (arith, ap length split, ap length whole, length-append xs (y ∷ ys)))
 
 -- what is handed out of the taps handed in
-pub host_ends : (r : Result (Unit {0}) NodeFault) (node : NodeView) (taps : List TapView) (workers : List Worker) (turns : ℕ) (all : Bool) (h : Hosted) → StartsSome taps workers → OnTrue all (map started workers ≡ taps)
+pub host_ends : {P : Type 0} (r : Result (Unit {0}) NodeFault) (node : NodeView) (taps : List TapView) (workers : List Worker) (turns : ℕ) (all : Bool) (h : Hosted P) → StartsSome taps workers → OnTrue all (map started workers ≡ taps)
     → MatchResult r (λ _. (all ≡ true) × Hosts node (map started workers) turns h) (λ fault. HostFails all node (map started workers) turns fault h) → MatchResult r (λ _. Hosts node taps turns h) (λ fault. (all : Bool) × HostFails all node taps turns fault h)
 host_ends (Ok u) node taps workers turns all h some whole ran = subst (λ ts. Hosts node ts turns h) (let w : map started workers ≡ taps = subst (λ b. OnTrue b (map started workers ≡ taps)) ran.0 whole in w) ran.1
 host_ends (Err fault) node taps workers turns all h some whole f = (
@@ -168,14 +168,14 @@ worked_at (s ∷ ts) (w ∷ ws) zero t h at_t = (s, refl, ap (λ (x : TapView). 
 worked_at (s ∷ ts) (w ∷ ws) (suc k) t h at_t = worked_at ts ws k t h.1 at_t
 
 -- the k-th feed and the k-th tap are still the ends of one lane
-still_ends : (node : NodeView) (taps : List TapView) (turns : ℕ) (h : Hosted) → Hosts node taps turns h → AreEndsOfLanes node.feeds taps → AreEndsOfLanes h.feeds.items (map (λ (w : Worked). w.tap) h.worked.items)
+still_ends : {P : Type 0} (node : NodeView) (taps : List TapView) (turns : ℕ) (h : Hosted P) → Hosts node taps turns h → AreEndsOfLanes node.feeds taps → AreEndsOfLanes h.feeds.items (map (λ (w : Worked). w.tap) h.worked.items)
 still_ends node taps turns h x ends k f t at_f at_t =
     let at_last : slice_get x.last.feeds k ≡ Some f = sym (ap (λ fs. slice_get fs k) x.feeds) ∙ at_f in
     let (g, at_g) = at_place node.feeds k (omega (arith, x.slots, slice_get_within x.last.feeds k f at_last)) in
     let (s, at_s, lane) = worked_at taps h.worked.items k t x.workers at_t in
     ap (λ (y : FeedView). y.lane) (x.lanes k g f at_g at_last) ∙ ends k g s at_g at_s ∙ sym lane
 
-pub host_lanes : (r : Result (Unit {0}) NodeFault) (node : NodeView) (taps : List TapView) (turns : ℕ) (h : Hosted) → MatchResult r (λ _. Hosts node taps turns h) (λ fault. (all : Bool) × HostFails all node taps turns fault h)
+pub host_lanes : {P : Type 0} (r : Result (Unit {0}) NodeFault) (node : NodeView) (taps : List TapView) (turns : ℕ) (h : Hosted P) → MatchResult r (λ _. Hosts node taps turns h) (λ fault. (all : Bool) × HostFails all node taps turns fault h)
     → IfOk r (λ _. AreEndsOfLanes node.feeds taps → AreEndsOfLanes h.feeds.items (map (λ (w : Worked). w.tap) h.worked.items))
 host_lanes (Ok u) node taps turns h x = still_ends node taps turns h x
 host_lanes (Err e) node taps turns h x = tt

@@ -28,7 +28,7 @@ is_node : (lane : LaneId) (well : WellView) → well.received ≡ [] → IsNode 
 is_node lane well none = record { lists = keeps lane well none; settings = refl; room_is = refl }
 
 -- The node did one turn, and its worker of slot 0 took what was put.
-hosted : (lane : LaneId) (well : WellView) (w : Worked) (h : Hosted) → well.received ≡ [] → w.tap ≡ tap 0 put lane → w.list.items ≡ put
+hosted : {P : Type 0} (lane : LaneId) (well : WellView) (w : Worked) (h : Hosted P) → well.received ≡ [] → w.tap ≡ tap 0 put lane → w.list.items ≡ put
     → h.journal ≡ (after lane well).journal → h.feeds.items ≡ (after lane well).feeds → h.worked.items ≡ w ∷ [] → Hosts (before lane well) (tap 0 [] lane ∷ []) 5 h
 hosted lane well w h none is list journal_is feeds_are worked_is = record {
   last = after lane well;
@@ -42,7 +42,7 @@ hosted lane well w h none is list journal_is feeds_are worked_is = record {
 }
 
 -- No worker could be started: the node wasn't turned, and its feeds were let go.
-not_started : (lane : LaneId) (well : WellView) (h : Hosted) → well.received ≡ [] → h.journal ≡ (before lane well).journal → h.feeds.items ≡ [] → h.worked.items ≡ []
+not_started : {P : Type 0} (lane : LaneId) (well : WellView) (h : Hosted P) → well.received ≡ [] → h.journal ≡ (before lane well).journal → h.feeds.items ≡ [] → h.worked.items ≡ []
     → HostFails false (before lane well) (tap 0 [] lane ∷ []) 5 Memory h
 not_started lane well h none journal_is feeds_are worked_are = record {
   last = before lane well;

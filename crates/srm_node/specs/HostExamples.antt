@@ -58,7 +58,7 @@ pub ran_once : (lane : LaneId) (well : WellView) → RunsUpTo 5 (before lane wel
 ran_once lane well = record { count = 1; few = omega arith; runs = record { turns = (before lane well, before lane well, refl, record { failures = omega arith; same = refl }, whole lane well) } }
 
 -- a host without fault hands back a list for each tap
-one_for_each : (lane : LaneId) (well : WellView) (h : Hosted) → h.worked.items ≡ [] → Hosts (before lane well) (tap 0 [] lane ∷ []) 5 h → ⊥
+one_for_each : {P : Type 0} (lane : LaneId) (well : WellView) (h : Hosted P) → h.worked.items ≡ [] → Hosts (before lane well) (tap 0 [] lane ∷ []) 5 h → ⊥
 one_for_each lane well h none x = let workers : WorkedEach (tap 0 [] lane ∷ []) [] = subst (WorkedEach (tap 0 [] lane ∷ [])) none x.workers in workers
 
 nobody : (joined rest : List TapView) (t : TapView) → joined ++ rest ≡ t ∷ [] → rest ≡ [] → WorkedEach joined [] → ⊥
@@ -66,5 +66,5 @@ nobody [] rest t split none each = cc
 nobody (s ∷ joined) rest t split none each = each
 
 -- with all workers started each of them is joined
-all_joined : (lane : LaneId) (well : WellView) (h : Hosted) → h.worked.items ≡ [] → HostFails true (before lane well) (tap 0 [] lane ∷ []) 5 Memory h → ⊥
+all_joined : {P : Type 0} (lane : LaneId) (well : WellView) (h : Hosted P) → h.worked.items ≡ [] → HostFails true (before lane well) (tap 0 [] lane ∷ []) 5 Memory h → ⊥
 all_joined lane well h none x = nobody x.joined x.rest (tap 0 [] lane) x.split x.whole (subst (WorkedEach x.joined) none x.workers)

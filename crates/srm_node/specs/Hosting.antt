@@ -45,7 +45,7 @@ StopsBy all fault turns old new = ((all ≡ true) × RunEnds (Err fault) turns o
 
 -- After a fault: the feeds were let go. The node's journal is handed back, and the tap and list of each worker that was started: of all, or
 -- of some.
-pub record HostFails (all : Bool) (node : NodeView) (taps : List TapView) (turns : ℕ) (fault : NodeFault) (h : Hosted) : Type 0 where
+pub record HostFails {P : Type 0} (all : Bool) (node : NodeView) (taps : List TapView) (turns : ℕ) (fault : NodeFault) (h : Hosted P) : Type 0 where
   pub last : NodeView
   pub runs : StopsBy all fault turns node last
   pub keeps : Keeps last
@@ -62,7 +62,7 @@ abbrev pub AreEndsOfLanes : List FeedView → List TapView → Type 0
 AreEndsOfLanes feeds taps = (k : ℕ) (f : FeedView) (t : TapView) → slice_get feeds k ≡ Some f → slice_get taps k ≡ Some t → f.lane ≡ t.lane
 
 -- Without fault: the node ran, its journal and its feeds are handed back, of the same lanes, and each worker's tap and list.
-pub record Hosts (node : NodeView) (taps : List TapView) (turns : ℕ) (h : Hosted) : Type 0 where
+pub record Hosts {P : Type 0} (node : NodeView) (taps : List TapView) (turns : ℕ) (h : Hosted P) : Type 0 where
   pub last : NodeView
   pub runs : RunsUpTo turns node last
   pub keeps : Keeps last

@@ -43,6 +43,11 @@ pub record AreNewFeeds (feeds : List FeedView) : Type 0 where
   pub slots : length feeds ≡ PAGES
   pub each : (slot : ℕ) (f : FeedView) → slice_get feeds slot ≡ Some f → (f.put ≡ []) × (f.lost ≡ false)
 
+-- a journal with these settings that has no entry yet
+pub record IsNewJournal (config : Config) (j : Journal) : Type 0 where
+  pub made : ℕ
+  pub is : j ≡ record { start = record { config = config; made = made }; entries = [] }
+
 -- a node with these settings that did nothing yet
 pub record IsNewNode (config : Config) (feeds : List FeedView) (well : WellView) (failures : ℕ) (told : Option Told) (n : NodeView) : Type 0 where
   pub made : ℕ

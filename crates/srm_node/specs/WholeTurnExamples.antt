@@ -34,7 +34,7 @@ use Rattle.srm_world.proofs.Lawful.{lawful_journal}
 use Rattle.srm_wire.specs.Wires.{bytes_to}
 use Rattle.srm_node.specs.Carrying.{Carries, CarriesEach, DrawsReceived}
 use Rattle.srm_node.specs.Parts.{IsAdmitted, SameFeed, is_served}
-use Rattle.srm_node.specs.Nodes.{NodeView, AreNewFeeds, IsNewNode}
+use Rattle.srm_node.specs.Nodes.{NodeView, AreNewFeeds, IsNewJournal, IsNewNode}
 use Rattle.srm_node.specs.Turns.{HearsNow, DrawsNow, LeavesNow, TicksNow, GivesNow, DrawsCut, Turned, TurnEnds, IsCut}
 
 -- WHAT HOLDS OF EACH FEED
@@ -76,6 +76,13 @@ not_new lane h = let e : Open first_page ∷ [] ≡ [] = (h.each 0 (feed 0 (Open
 
 new_node : (lane : LaneId) (well : WellView) → IsNewNode (config 0) (feeds [] lane) well 0 (Some (record { came = []; went = [] })) (before lane well)
 new_node lane well = record { made = 0; is = refl }
+
+new_journal : IsNewJournal (config 0) (journal [])
+new_journal = record { made = 0; is = refl }
+
+-- a journal that has an entry isn't new
+not_a_new_journal : (e : Entry) → IsNewJournal (config 0) (journal (e ∷ [])) → ⊥
+not_a_new_journal e h = let none : e ∷ [] ≡ [] = ap (λ (j : Journal). j.entries) h.is in cc
 
 -- WHAT THE TURN WRITES
 

@@ -11,7 +11,7 @@ use crate::limits::DRAWN;
 use srm_pages::Stroke;
 use srm_pages::ends::Well;
 use srm_timers::Words;
-use srm_world::Recorder;
+use srm_world::{Past, Recorder};
 use std::sync::Wait;
 
 /// What a turn drew: how many strokes, and whether none was left, in the well or in hand.
@@ -32,9 +32,9 @@ impl Drawn {
 
 /// Draws up to 64 strokes, the one in hand first, as long as the rate lets their datagrams go at once. Answers the stroke that is then in
 /// hand: one that the rate keeps back, or for which memory was refused. A stroke that is refused for another cause is dropped.
-pub fn draw_strokes<R: Wait, W: Words + Drop>(
+pub fn draw_strokes<R: Wait, W: Words + Drop, P: Past + Drop>(
     rt: &R,
-    recorder: &mut Recorder<W>,
+    recorder: &mut Recorder<W, P>,
     well: &mut Well,
     hand: Option<Stroke>,
     now: u64,
@@ -73,15 +73,19 @@ fn next_stroke<R: Wait>(rt: &R, well: &mut Well, hand: Option<Stroke>) -> Option
 }
 
 // Whether the rate lets a stroke's datagram go at once.
-fn is_admitted<W: Words + Drop>(recorder: &Recorder<W>, stroke: &Stroke, now: u64) -> bool
+fn is_admitted<W: Words + Drop, P: Past + Drop>(
+    recorder: &Recorder<W, P>,
+    stroke: &Stroke,
+    now: u64,
+) -> bool
     ensures { IsAdmitted now recorder.now.journal stroke.now result }
 {
     recorder.admits_draw(stroke.body.len(), now)
 }
 
 // Draws a stroke that is admitted. Only want of memory keeps it back.
-fn draw_stroke<W: Words + Drop>(
-    recorder: &mut Recorder<W>,
+fn draw_stroke<W: Words + Drop, P: Past + Drop>(
+    recorder: &mut Recorder<W, P>,
     stroke: &Stroke,
     now: u64,
 ) -> Result<(), OutOfMemory>

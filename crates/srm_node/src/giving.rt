@@ -13,13 +13,13 @@ use crate::fault::OutOfMemory;
 use srm_names::{PAGES, PageMsg};
 use srm_pages::Feed;
 use srm_timers::Words;
-use srm_world::Recorder;
+use srm_world::{Past, Recorder};
 use std::sync::Wait;
 
 /// Gives each slot while there is credit and something to give, unless its feed is lost. Counts the closes that were put: each lane has one.
-pub fn give_all<R: Wait, W: Words + Drop>(
+pub fn give_all<R: Wait, W: Words + Drop, P: Past + Drop>(
     rt: &R,
-    recorder: &mut Recorder<W>,
+    recorder: &mut Recorder<W, P>,
     feeds: &mut Vec<Feed>,
     closed: &mut u8,
 ) -> Result<(), OutOfMemory>
@@ -40,9 +40,9 @@ pub fn give_all<R: Wait, W: Words + Drop>(
 }
 
 // Gives a slot while there is credit and something to give, unless its feed is lost.
-fn give_slot<R: Wait, W: Words + Drop>(
+fn give_slot<R: Wait, W: Words + Drop, P: Past + Drop>(
     rt: &R,
-    recorder: &mut Recorder<W>,
+    recorder: &mut Recorder<W, P>,
     feed: &mut Feed,
     slot: u8,
     closed: &mut u8,
@@ -72,9 +72,9 @@ fn give_slot<R: Wait, W: Words + Drop>(
 }
 
 // Gives the next message of a slot. Whether there was none, or the feed is lost.
-fn give_next<R: Wait, W: Words + Drop>(
+fn give_next<R: Wait, W: Words + Drop, P: Past + Drop>(
     rt: &R,
-    recorder: &mut Recorder<W>,
+    recorder: &mut Recorder<W, P>,
     feed: &mut Feed,
     slot: u8,
     closed: &mut u8,

@@ -12,11 +12,12 @@ use crate::fault::NodeFault;
 use crate::node::Node;
 use crate::sink::PageSink;
 use crate::working::{Worked, work};
+use srm_agent::Entry;
 use srm_names::PAGES;
 use srm_pages::{Feed, Tap};
 use srm_timers::Words;
 use srm_wire::{Clock, Wire};
-use srm_world::Journal;
+use srm_world::{Journal, Past};
 use std::alloc::{AllocError, Global};
 use std::collections::VecDeque;
 use std::snapshot::Snapshot;
@@ -42,8 +43,8 @@ pub struct Worker {
 
 /// What became of a node and its workers.
 #[derive(Drop)]
-pub struct Hosted {
-    pub journal: Journal,
+pub struct Hosted<P: Past + Drop = Vec<Entry>> {
+    pub journal: Journal<P>,
     /// None after a fault: they were let go, so that the workers end.
     pub feeds: Vec<Feed>,
     pub worked: Vec<Worked>,
@@ -59,15 +60,16 @@ pub fn host<
     W: Words + Drop,
     X: Wire + Drop,
     C: Clock + Drop,
+    P: Past + Drop,
     S: PageSink + Send + Drop + 'static,
 >(
     rt: &R,
     alloc: Global,
-    node: Node<W, X, C>,
+    node: Node<W, X, C, P>,
     taps: Vec<Tap>,
     sinks: Vec<S>,
     turns: u64,
-) -> Result<Hosted, AllocError>
+) -> Result<Hosted<P>, AllocError>
     requires taps { vec_len taps ≡ PAGES }
     requires sinks { vec_len sinks ≡ PAGES }
     ensures hosts { IfOk result (λ h. MatchResult h.end (λ _. Hosts node.view taps.items turns h) (λ fault. (all : Bool) × HostFails all node.view taps.items turns fault h)) }
@@ -90,15 +92,15 @@ fn places(alloc: Global) -> Result<(VecDeque<Worker>, Vec<Worked>), AllocError>
 }
 
 // Runs the node where all workers were started, and waits for them.
-fn go<R: Threads + Wait, W: Words + Drop, X: Wire + Drop, C: Clock + Drop>(
+fn go<R: Threads + Wait, W: Words + Drop, X: Wire + Drop, C: Clock + Drop, P: Past + Drop>(
     rt: &R,
     alloc: Global,
-    node: Node<W, X, C>,
+    node: Node<W, X, C, P>,
     all: bool,
     turns: u64,
     workers: VecDeque<Worker>,
     worked: Vec<Worked>,
-) -> Hosted
+) -> Hosted<P>
     requires room { vec_len worked + length workers.items ≤ vec_capacity worked }
     requires none { worked.items ≡ [] }
     ensures { MatchResult result.end (λ _. (all ≡ true) × Hosts node.view (map started workers.items) turns result) (λ fault. HostFails all node.view (map started workers.items) turns fault result) }
@@ -138,9 +140,9 @@ fn begin<R: Threads + Wait + Copy + Send + 'static, S: PageSink + Send + Drop + 
 }
 
 // Runs the node where all workers were started.
-fn run_if<R: Wait, W: Words + Drop, X: Wire + Drop, C: Clock + Drop>(
+fn run_if<R: Wait, W: Words + Drop, X: Wire + Drop, C: Clock + Drop, P: Past + Drop>(
     rt: &R,
-    node: &mut Node<W, X, C>,
+    node: &mut Node<W, X, C, P>,
     all: bool,
     turns: u64,
 ) -> Result<(), NodeFault>

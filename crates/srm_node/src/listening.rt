@@ -11,7 +11,7 @@ use crate::fault::OutOfMemory;
 use crate::limits::RECEIVED;
 use srm_timers::Words;
 use srm_wire::Wire;
-use srm_world::Recorder;
+use srm_world::{Past, Recorder};
 
 /// What a turn heard: how many datagrams, and whether a receive failed.
 #[derive(Clone, Copy)]
@@ -22,8 +22,8 @@ pub struct Listening {
 
 /// Hears what came: up to 64 datagrams, until none is there or a receive fails. Where memory runs out, a datagram in hand counts as
 /// lost.
-pub fn listen<W: Words + Drop, X: Wire>(
-    recorder: &mut Recorder<W>,
+pub fn listen<W: Words + Drop, P: Past + Drop, X: Wire>(
+    recorder: &mut Recorder<W, P>,
     wire: &mut X,
     buffer: &mut [u8],
     now: u64,

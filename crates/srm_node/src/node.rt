@@ -3,7 +3,7 @@
 ghost use Rattle.std.specs.Prelude.{◌≡◌, ◌≤◌, true, false, [], None, IfOk, MatchResult};
 ghost use Rattle.srm_names.specs.declared.limits.TheConstants.{MOMENT, PAGES};
 ghost use Rattle.srm_node.specs.Counting.{counts_of};
-ghost use Rattle.srm_node.specs.Nodes.{Keeps, AreNewFeeds, IsNewNode, recorded_in};
+ghost use Rattle.srm_node.specs.Nodes.{Keeps, AreNewFeeds, IsNewJournal, IsNewNode, recorded_in};
 ghost use Rattle.srm_node.specs.Waits.{WaitsByWords};
 ghost use Rattle.srm_node.specs.Turns.{HearsNow, DrawsNow, LeavesNow, TicksNow, GivesNow, HearsCut, DrawsCut, GivesCut, TurnEnds, Paused, RunEnds};
 
@@ -16,13 +16,13 @@ use crate::listening::listen;
 use crate::pausing::{earlier, time_to_wait};
 use crate::sending::send_all;
 use crate::ticking::{leave, tick};
-use srm_agent::{AgentState, Config};
+use srm_agent::{AgentState, Config, Entry};
 use srm_names::{MOMENT, PAGES};
 use srm_pages::ends::Well;
 use srm_pages::{Feed, Stroke};
 use srm_timers::Words;
 use srm_wire::{Clock, Wire};
-use srm_world::{Journal, Recorder};
+use srm_world::{Forgotten, Journal, Past, Recorder};
 use std::alloc::{AllocError, Global};
 use std::marker::Model;
 use std::sync::Wait;
@@ -30,9 +30,9 @@ use std::sync::Wait;
 /// A member that takes part in a session: its agent over a wire and a clock, the feeds of its page workers, and the well of its pens.
 /// Contracts see it as a record, and its source of words as it stands.
 #[derive(Drop)]
-pub struct Node<W: Words + Drop, X: Wire + Drop, C: Clock + Drop> {
+pub struct Node<W: Words + Drop, X: Wire + Drop, C: Clock + Drop, P: Past + Drop = Vec<Entry>> {
     config: Config,
-    recorder: Recorder<W>,
+    recorder: Recorder<W, P>,
     feeds: Vec<Feed>,
     well: Well,
     hand: Option<Stroke>,
@@ -48,7 +48,7 @@ pub struct Node<W: Words + Drop, X: Wire + Drop, C: Clock + Drop> {
     drawn: u8,
 }
 
-impl<W: Words + Drop, X: Wire + Drop, C: Clock + Drop> Model for Node<W, X, C> {
+impl<W: Words + Drop, X: Wire + Drop, C: Clock + Drop, P: Past + Drop> Model for Node<W, X, C, P> {
     ghost use Rattle.std.specs.Prelude.{vec_len};
     ghost use Rattle.srm_node.specs.Nodes.{NodeState, IsNode};
 
@@ -94,9 +94,60 @@ impl<W: Words + Drop, X: Wire + Drop, C: Clock + Drop> Node<W, X, C> {
         ensures words { IfOk result (λ node. node.words ≡ words) }
     {
         let now = clock.now().min(MOMENT);
+        let recorder = Recorder::new(alloc, config, words, now)?;
+        Node::over(alloc, config, recorder, wire, clock, feeds, well)
+    }
+
+    /// How much of what the member was given came to nothing so far. It takes no memory, and looks at all entries.
+    pub fn counts(&self) -> Counts
+        ensures { result ≡ counts_of self.now.view.journal.entries }
+    {
+        counts_in(self.recorder.entries())
+    }
+}
+
+impl<W: Words + Drop, X: Wire + Drop, C: Clock + Drop> Node<W, X, C, Forgotten> {
+    /// The same that keeps no entry, for a member that runs for days. Its calls have the same contracts, which speak of the journal that it would keep.
+    pub fn forgetful(
+        alloc: Global,
+        config: Config,
+        words: W,
+        wire: X,
+        clock: C,
+        feeds: Vec<Feed>,
+        well: Well,
+    ) -> Result<Node<W, X, C, Forgotten>, AllocError>
+        requires feeds { AreNewFeeds feeds.items }
+        requires well { well.received ≡ [] }
+        ensures value { IfOk result (λ node. IsNewNode config feeds.items well (X.failed wire) (X.told wire) node.view) }
+        ensures words { IfOk result (λ node. node.words ≡ words) }
+    {
+        let now = clock.now().min(MOMENT);
+        let recorder = Recorder::forgetful(alloc, config, words, now)?;
+        Node::over(alloc, config, recorder, wire, clock, feeds, well)
+    }
+}
+
+impl<W: Words + Drop, X: Wire + Drop, C: Clock + Drop, P: Past + Drop> Node<W, X, C, P> {
+    // A node over a recorder that did nothing yet.
+    fn over(
+        alloc: Global,
+        config: Config,
+        recorder: Recorder<W, P>,
+        wire: X,
+        clock: C,
+        feeds: Vec<Feed>,
+        well: Well,
+    ) -> Result<Node<W, X, C, P>, AllocError>
+        requires recorder { IsNewJournal config recorder.journal }
+        requires feeds { AreNewFeeds feeds.items }
+        requires well { well.received ≡ [] }
+        ensures value { IfOk result (λ node. IsNewNode config feeds.items well (X.failed wire) (X.told wire) node.view) }
+        ensures words { IfOk result (λ node. node.words ≡ recorder.words) }
+    {
         Ok(Node {
             config,
-            recorder: Recorder::new(alloc, config, words, now)?,
+            recorder,
             feeds,
             well,
             hand: None,
@@ -154,15 +205,15 @@ impl<W: Words + Drop, X: Wire + Drop, C: Clock + Drop> Node<W, X, C> {
         Ok(())
     }
 
-    /// How much of what the member was given came to nothing so far. It takes no memory, and looks at all entries.
-    pub fn counts(&self) -> Counts
-        ensures { result ≡ counts_of self.now.view.journal.entries }
+    /// What the member did so far, as it is kept. It takes no memory.
+    pub fn past(&self) -> &P
+        ensures { P.entries result.now ≡ self.now.view.journal.entries }
     {
-        counts_in(self.recorder.entries())
+        self.recorder.past()
     }
 
     /// Gives the node up for its journal and its feeds. It takes no memory.
-    pub fn finish(self) -> (Journal, Vec<Feed>)
+    pub fn finish(self) -> (Journal<P>, Vec<Feed>)
         ensures journal { result.0 ≡ self.view.journal }
         ensures feeds { result.1.items ≡ self.view.feeds }
         ensures keeps { Keeps self.view }

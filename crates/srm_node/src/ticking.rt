@@ -9,10 +9,13 @@ ghost use Rattle.srm_node.specs.Waits.{WaitsByWords};
 use crate::fault::{OutOfMemory, is_memory};
 use srm_agent::Ticked;
 use srm_timers::Words;
-use srm_world::Recorder;
+use srm_world::{Past, Recorder};
 
 /// Ticks once.
-pub fn tick<W: Words + Drop>(recorder: &mut Recorder<W>, now: u64) -> Result<Ticked, OutOfMemory>
+pub fn tick<W: Words + Drop, P: Past + Drop>(
+    recorder: &mut Recorder<W, P>,
+    now: u64,
+) -> Result<Ticked, OutOfMemory>
     requires { now ≤ MOMENT }
     ensures lawful { IsLawfulJournal recorder.new.journal }
     ensures words { WaitsByWords W.draw recorder.old recorder.new }
@@ -25,8 +28,8 @@ pub fn tick<W: Words + Drop>(recorder: &mut Recorder<W>, now: u64) -> Result<Tic
 }
 
 /// Asks to leave where that is due and no stroke is left. A refusal for another cause than memory has its entry.
-pub fn leave<W: Words + Drop>(
-    recorder: &mut Recorder<W>,
+pub fn leave<W: Words + Drop, P: Past + Drop>(
+    recorder: &mut Recorder<W, P>,
     none_left: bool,
     due: bool,
     now: u64,
