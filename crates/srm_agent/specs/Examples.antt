@@ -13,11 +13,13 @@ use Rattle.srm_entries.specs.declared.fault.AgentFault.{AgentFault}
 use Rattle.srm_entries.specs.declared.fault.AgentFault.TheVariants.{Leaving, Gone, Memory}
 use Rattle.srm_entries.specs.declared.state.AgentState.TheVariants.{Active}
 use Rattle.srm_entries.specs.declared.entry.Entry.{Entry}
+use Rattle.srm_entries.specs.declared.entry.Input.TheVariants as inputs
 use Rattle.srm_entries.specs.declared.entry.Input.TheVariants.{Gave}
 use Rattle.srm_entries.specs.declared.entry.Verdict.TheVariants.{Done, Ignored, Refused}
 use Rattle.srm_entries.specs.Sample.{zeros, a, c, draws, hears, gives, ask_arm}
 use Rattle.srm_agent.specs.declared.heard.Heard.{Heard}
 use Rattle.srm_agent.specs.Noting.{still_entry, moment_that_counts, AnswersAs, IsOutcome, AnswersHeard, IsDrawnName}
+use Rattle.srm_agent.specs.Heeding.{verdict_by, entry_with}
 use Rattle.srm_agent.specs.Waking.{sooner_of}
 
 -- ---- moments: a lower one than the last counts as the last, and a call that takes none has the last
@@ -51,6 +53,14 @@ refused_says_its_fault = refl
 
 refused_says_no_other : AnswersAs IsThree (Refused Gone) (refused Leaving) → ⊥
 refused_says_no_other h = absurd (let k : refused Leaving ≡ refused Gone = h in cc)
+
+-- ---- the entry of what was heard, by what is answered
+
+verdicts : map verdict_by (outcomes.Taken ∷ outcomes.Ignored causes.Gone ∷ []) ≡ Done ∷ Ignored causes.Gone ∷ []
+verdicts = refl
+
+taken_so : entry_with 1 10 (inputs.Heard (Data c)) Active (record { arms = ask_arm 1 0 200000 ∷ []; outcome = outcomes.Taken }) ≡ hears 1 10 (Data c) (ask_arm 1 0 200000 ∷ [])
+taken_so = refl
 
 -- ---- what hearing bytes answers
 
