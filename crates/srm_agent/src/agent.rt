@@ -4,7 +4,7 @@ ghost use Rattle.std.specs.Prelude.{◌≡◌, ◌≤◌, ℕ, max, List, [], If
 ghost use Rattle.srm_names.specs.declared.limits.TheConstants.{MOMENT};
 ghost use Rattle.srm_entries.specs.Configs.{Config as Settings};
 ghost use Rattle.srm_entries.specs.declared.entry.Entry.{Entry as AnEntry};
-ghost use Rattle.srm_entries.specs.Entries.{is_gone};
+ghost use Rattle.srm_entries.specs.Entries.{is_gone, state};
 ghost use Rattle.srm_agent.specs.Fits.{Fits, AreNewProgress};
 ghost use Rattle.srm_entries.specs.Runs.{IsMemberRun};
 ghost use Rattle.srm_agent.specs.Noting.{Does, still_entry};
@@ -136,6 +136,13 @@ impl<W: Words + Drop> Agent<W> {
     pub fn fits_runs_alone(&self)
         ensures { (c : Settings) (made : ℕ) (past : List AnEntry) → Fits c made past self.now → IsMemberRun c made past }
     {}
+
+    /// Whether the member takes part, leaves or is gone. It takes no memory and changes nothing.
+    pub fn state(&self) -> AgentState
+        ensures { (c : Settings) (made : ℕ) (past : List AnEntry) → Fits c made past self.now → result ≡ state past }
+    {
+        self.state
+    }
 
     fn is_gone(&self) -> bool
         ensures { result ≡ is_gone self.now.state }
