@@ -13,7 +13,7 @@ use Rattle.srm_node.specs.declared.working.Worked.{Worked}
 use Rattle.srm_node.specs.Working.{Took}
 use Rattle.srm_node.specs.Parts.{SameFeed, SameFeeds}
 use Rattle.srm_node.specs.Nodes.{NodeView, Keeps}
-use Rattle.srm_node.specs.Turns.{Turned, RunsOf, RunsUpTo}
+use Rattle.srm_node.specs.Turns.{Turned, RunsOf, RunsToEnd}
 use Rattle.srm_node.specs.Hosting.{started, Starts, StartsSome, StopsBy, WorkedEach, Joins, Hosts, HostFails, AreEndsOfLanes}
 
 each-snoc : (ts : List TapView) (ws : List Worked) (t : TapView) (w : Worked) → WorkedEach ts ws → Took t w.tap w.list.items → WorkedEach (ts ++ t ∷ []) (ws ++ w ∷ [])
@@ -82,16 +82,16 @@ lanes_of_turn a b t = lanes_on a t.ticked b
 
 lanes_of_turns : (count : ℕ) (a b : NodeView) → RunsOf count a b → SameLanes a b
 lanes_of_turns zero a b h = lanes_kept a b (ap (λ (n : NodeView). n.feeds) h)
-lanes_of_turns (suc n) a b (before, paused, runs, waits, turned) =
+lanes_of_turns (suc n) a b (before, paused, runs, goes_on, waits, turned) =
     lanes_on a before b (lanes_of_turns n a before runs) (lanes_on before paused b (lanes_kept before paused (ap (λ (n : NodeView). n.feeds) waits.same)) (lanes_of_turn paused b turned))
 
 -- a node that ran has the feeds of the same lanes
-lanes_of_run : (limit : ℕ) (a b : NodeView) → RunsUpTo limit a b → SameLanes a b
+lanes_of_run : (limit : ℕ) (a b : NodeView) → RunsToEnd limit a b → SameLanes a b
 lanes_of_run limit a b h = lanes_of_turns h.count a b h.runs.turns
 
 -- what is handed out of a node that ran, and of its workers
 pub hosted : {P : Type 0} (r : Result (Unit {0}) NodeFault) (node last : NodeView) (taps : List TapView) (turns : ℕ) (all : Bool) (h : Hosted P) (feeds : List FeedView) (keeps : Bool)
-    → MatchResult r (λ _. (all ≡ true) × Keeps last × RunsUpTo turns node last) (λ fault. StopsBy all fault turns node last) → Keeps last
+    → MatchResult r (λ _. (all ≡ true) × Keeps last × RunsToEnd turns node last) (λ fault. StopsBy all fault turns node last) → Keeps last
     → h.journal ≡ last.journal → feeds ≡ last.feeds → OnTrue keeps (h.feeds.items ≡ feeds) → OnFalse keeps (h.feeds.items ≡ []) → keeps ≡ is_ok r → WorkedEach taps h.worked.items
     → MatchResult r (λ _. (all ≡ true) × Hosts node taps turns h) (λ fault. HostFails all node taps turns fault h)
 hosted (Ok u) node last taps turns all h feeds keeps ran lists journal same kept none ok workers = (

@@ -34,7 +34,7 @@ use Rattle.srm_node.specs.declared.fault.OutOfMemory.{OutOfMemory}
 use Rattle.srm_wire.specs.Wires.{Told}
 use Rattle.srm_node.specs.Carrying.{Carries, CarriesEach, drew, draws, drawing, DrawsReceived, KeepsLists}
 use Rattle.srm_node.specs.Parts.{Listens, Listened, ListenedCut, Draws, DrewStrokes, DrewStrokesCut, Leaves, Ticks, GivesUpTo, GaveSome, is_give}
-use Rattle.srm_node.specs.Nodes.{NodeView, IsNode, AreNewFeeds}
+use Rattle.srm_node.specs.Nodes.{NodeView, IsNode, AreNewFeeds, has_closed}
 use Rattle.srm_node.specs.declared.listening.Listening.{Listening}
 use Rattle.srm_node.specs.declared.drawing.Drawn.{Drawn}
 use Rattle.srm_node.proofs.Releasing.{puts_released}
@@ -107,18 +107,19 @@ quiet_heard now j [] (e ∷ es) h = absurd h
 quiet_heard now j (b ∷ bs) [] h = absurd h
 quiet_heard now j (b ∷ bs) (e ∷ es) h = (subst Quiet (sym (ap (λ (p : Input × Verdict). p.0) h.0.heard)) (quiet_bytes j.start.config j.entries b), quiet_heard now (with_entry j e) bs es h.1)
 
-node_hears : (now : ℕ) (n : NodeView) (k : Journal) (failures : ℕ) (told : Option Told) (config : Config) (room count : ℕ) (ended : List (Option (List ℕ))) → IsNode n config room → IsLawfulJournal k → Listens now count ended n.journal k n.told told
-    → IsNode (record n { journal = k; failures = failures; told = told }) config room
-node_hears now n k failures told config room count ended h lawful l = record {
+node_hears : (now : ℕ) (n : NodeView) (k : Journal) (failures : ℕ) (told : Option Told) (config : Config) (room : ℕ) (closed : List Bool) (count : ℕ) (ended : List (Option (List ℕ))) → IsNode n config room closed → IsLawfulJournal k → Listens now count ended n.journal k n.told told
+    → IsNode (record n { journal = k; failures = failures; told = told }) config room closed
+node_hears now n k failures told config room closed count ended h lawful l = record {
   lists = keeps_quiet n.journal k l.entries n.feeds n.well.received n.hand h.lists lawful l.grown (quiet_heard now n.journal l.came l.entries l.each);
   settings = settings_of n.journal k l.entries l.grown ∙ h.settings;
   room_is = h.room_is;
+  closed_are = h.closed_are;
 }
 
-pub node_listened : (now : ℕ) (n : NodeView) (k : Journal) (failures : ℕ) (told : Option Told) (config : Config) (room : ℕ) (r : Result Listening OutOfMemory) → IsNode n config room → IsLawfulJournal k
-    → MatchResult r (λ l. Listened now l.failed n.journal k n.told told) (λ _. ListenedCut now n.journal k n.told told) → IsNode (record n { journal = k; failures = failures; told = told }) config room
-node_listened now n k failures told config room (Ok l) h lawful x = node_hears now n k failures told config room x.count x.ended h lawful x.listens
-node_listened now n k failures told config room (Err e) h lawful x = node_hears now n k failures told config room x.count (Some x.lost ∷ []) h lawful x.listens
+pub node_listened : (now : ℕ) (n : NodeView) (k : Journal) (failures : ℕ) (told : Option Told) (config : Config) (room : ℕ) (closed : List Bool) (r : Result Listening OutOfMemory) → IsNode n config room closed → IsLawfulJournal k
+    → MatchResult r (λ l. Listened now l.failed n.journal k n.told told) (λ _. ListenedCut now n.journal k n.told told) → IsNode (record n { journal = k; failures = failures; told = told }) config room closed
+node_listened now n k failures told config room closed (Ok l) h lawful x = node_hears now n k failures told config room closed x.count x.ended h lawful x.listens
+node_listened now n k failures told config room closed (Err e) h lawful x = node_hears now n k failures told config room closed x.count (Some x.lost ∷ []) h lawful x.listens
 
 -- DRAWING
 
@@ -152,9 +153,9 @@ received_more now count j k from to hand kept d h =
     ∙ sym (append_assoc (draws j.entries) (map drawing x.strokes) (map drawing keeps))
     ∙ ap (λ is. is ++ map drawing keeps) (ap (λ is. draws j.entries ++ is) (sym (drawn_draws x.entries x.strokes (inputs_drawn now j x.strokes x.entries x.each))) ∙ sym (draws_grown j k x.entries x.grown))
 
-node_drawn : (now count : ℕ) (n : NodeView) (k : Journal) (well : WellView) (from hand : Option Stroke) (config : Config) (room : ℕ) → IsNode n config room → IsLawfulJournal k → from ≡ n.hand → Draws now count n.journal k n.well well from hand
-    → IsNode (record n { journal = k; well = well; hand = hand }) config room
-node_drawn now count n k well from hand config room h lawful same d =
+node_drawn : (now count : ℕ) (n : NodeView) (k : Journal) (well : WellView) (from hand : Option Stroke) (config : Config) (room : ℕ) (closed : List Bool) → IsNode n config room closed → IsLawfulJournal k → from ≡ n.hand → Draws now count n.journal k n.well well from hand
+    → IsNode (record n { journal = k; well = well; hand = hand }) config room closed
+node_drawn now count n k well from hand config room closed h lawful same d =
     let e : Draws now count n.journal k n.well well n.hand hand = subst (λ x. Draws now count n.journal k n.well well x hand) same d in
     let x = e.draws in
     let still : CarriesEach k n.feeds = carries_more n.journal k x.entries n.feeds x.grown (drawn_none_given x.entries x.strokes (inputs_drawn now n.journal x.strokes x.entries x.each)) h.lists.carries in
@@ -168,12 +169,13 @@ node_drawn now count n k well from hand config room h lawful same d =
       };
       settings = settings_of n.journal k x.entries x.grown ∙ h.settings;
       room_is = h.room_is;
+      closed_are = h.closed_are;
     }
 
-pub node_drew : (now : ℕ) (n : NodeView) (k : Journal) (well : WellView) (from hand : Option Stroke) (config : Config) (room : ℕ) (r : Result Drawn OutOfMemory) → IsNode n config room → IsLawfulJournal k → from ≡ n.hand
-    → MatchResult r (λ drawn. DrewStrokes now drawn.none_left n.journal k n.well well from hand) (λ _. DrewStrokesCut now n.journal k n.well well from hand) → IsNode (record n { journal = k; well = well; hand = hand }) config room
-node_drew now n k well from hand config room (Ok drawn) h lawful same x = node_drawn now x.count n k well from hand config room h lawful same x.draws
-node_drew now n k well from hand config room (Err e) h lawful same x = node_drawn now x.count n k well from hand config room h lawful same x.draws
+pub node_drew : (now : ℕ) (n : NodeView) (k : Journal) (well : WellView) (from hand : Option Stroke) (config : Config) (room : ℕ) (closed : List Bool) (r : Result Drawn OutOfMemory) → IsNode n config room closed → IsLawfulJournal k → from ≡ n.hand
+    → MatchResult r (λ drawn. DrewStrokes now drawn.none_left n.journal k n.well well from hand) (λ _. DrewStrokesCut now n.journal k n.well well from hand) → IsNode (record n { journal = k; well = well; hand = hand }) config room closed
+node_drew now n k well from hand config room closed (Ok drawn) h lawful same x = node_drawn now x.count n k well from hand config room closed h lawful same x.draws
+node_drew now n k well from hand config room closed (Err e) h lawful same x = node_drawn now x.count n k well from hand config room closed h lawful same x.draws
 
 -- LEAVING AND TICKING
 
@@ -181,24 +183,26 @@ quiet_leaves : (es : List Entry) → AllByRecursion (λ (e : Entry). e.input ≡
 quiet_leaves [] h = tt
 quiet_leaves (e ∷ es) h = (subst Quiet (sym h.0) (refl, λ slot m. refl), quiet_leaves es h.1)
 
-node_left : (now : ℕ) (none_left : Bool) (n : NodeView) (k : Journal) (config : Config) (room : ℕ) → IsNode n config room → IsLawfulJournal k → Leaves now none_left n.journal k → IsNode (record n { journal = k }) config room
-node_left now none_left n k config room h lawful l = record {
+node_left : (now : ℕ) (none_left : Bool) (n : NodeView) (k : Journal) (config : Config) (room : ℕ) (closed : List Bool) → IsNode n config room closed → IsLawfulJournal k → Leaves now none_left n.journal k → IsNode (record n { journal = k }) config room closed
+node_left now none_left n k config room closed h lawful l = record {
   lists = keeps_quiet n.journal k l.entries n.feeds n.well.received n.hand h.lists lawful l.grown (quiet_leaves l.entries l.inputs);
   settings = settings_of n.journal k l.entries l.grown ∙ h.settings;
   room_is = h.room_is;
+  closed_are = h.closed_are;
 }
 
-pub node_leaves : (now : ℕ) (none_left : Bool) (n : NodeView) (k : Journal) (config : Config) (room : ℕ) (r : Result (Unit {0}) OutOfMemory) → IsNode n config room → IsLawfulJournal k → MatchResult r (λ _. Leaves now none_left n.journal k) (λ _. k ≡ n.journal)
-    → IsNode (record n { journal = k }) config room
-node_leaves now none_left n k config room (Ok u) h lawful l = node_left now none_left n k config room h lawful l
-node_leaves now none_left n k config room (Err e) h lawful same = subst (λ x. IsNode (record n { journal = x }) config room) (sym same) h
+pub node_leaves : (now : ℕ) (none_left : Bool) (n : NodeView) (k : Journal) (config : Config) (room : ℕ) (closed : List Bool) (r : Result (Unit {0}) OutOfMemory) → IsNode n config room closed → IsLawfulJournal k → MatchResult r (λ _. Leaves now none_left n.journal k) (λ _. k ≡ n.journal)
+    → IsNode (record n { journal = k }) config room closed
+node_leaves now none_left n k config room closed (Ok u) h lawful l = node_left now none_left n k config room closed h lawful l
+node_leaves now none_left n k config room closed (Err e) h lawful same = subst (λ x. IsNode (record n { journal = x }) config room closed) (sym same) h
 
-pub node_ticked : (now : ℕ) (n : NodeView) (k : Journal) (failures : ℕ) (told : Option Told) (config : Config) (room : ℕ) (outs : List Out) → IsNode n config room → IsLawfulJournal k → Ticks now outs n.journal k
-    → IsNode (record n { journal = k; failures = failures; told = told }) config room
-node_ticked now n k failures told config room outs h lawful t = record {
+pub node_ticked : (now : ℕ) (n : NodeView) (k : Journal) (failures : ℕ) (told : Option Told) (config : Config) (room : ℕ) (closed : List Bool) (outs : List Out) → IsNode n config room closed → IsLawfulJournal k → Ticks now outs n.journal k
+    → IsNode (record n { journal = k; failures = failures; told = told }) config room closed
+node_ticked now n k failures told config room closed outs h lawful t = record {
   lists = keeps_quiet n.journal k (t.entry ∷ []) n.feeds n.well.received n.hand h.lists lawful t.grown (subst Quiet (sym t.is_tick.input) (refl, λ slot m. refl), tt);
   settings = settings_of n.journal k (t.entry ∷ []) t.grown ∙ h.settings;
   room_is = h.room_is;
+  closed_are = h.closed_are;
 }
 
 -- GIVING
@@ -217,8 +221,8 @@ gives_draw_nothing : (es : List Entry) → AllByRecursion (λ (e : Entry). is_gi
 gives_draw_nothing [] h = refl
 gives_draw_nothing (e ∷ es) h = ap (λ o. cons_option o (draws es)) (none_drawn e.input h.0) ∙ gives_draw_nothing es h.1
 
-pub node_given : (n : NodeView) (k : Journal) (feeds : List FeedView) (config : Config) (room below : ℕ) → IsNode n config room → GivesUpTo below n.journal k n.feeds feeds → IsNode (record n { journal = k; feeds = feeds }) config room
-node_given n k feeds config room below h g = record {
+pub node_given : (n : NodeView) (k : Journal) (feeds : List FeedView) (config : Config) (room below : ℕ) (closed after : List Bool) → IsNode n config room closed → GivesUpTo below n.journal k n.feeds feeds → after ≡ map has_closed feeds → IsNode (record n { journal = k; feeds = feeds }) config room after
+node_given n k feeds config room below closed after h g closes = record {
   lists = record {
     lawful = g.lawful;
     slots = g.slots ∙ h.lists.slots;
@@ -228,12 +232,13 @@ node_given n k feeds config room below h g = record {
   };
   settings = settings_of n.journal k g.entries g.grown ∙ h.settings;
   room_is = h.room_is;
+  closed_are = closes;
 }
 
-pub node_gave : (n : NodeView) (k : Journal) (feeds : List FeedView) (config : Config) (room : ℕ) (r : Result (Unit {0}) OutOfMemory) → IsNode n config room
-    → MatchResult r (λ _. GivesUpTo PAGES n.journal k n.feeds feeds) (λ _. GaveSome n.journal k n.feeds feeds) → IsNode (record n { journal = k; feeds = feeds }) config room
-node_gave n k feeds config room (Ok u) h g = node_given n k feeds config room PAGES h g
-node_gave n k feeds config room (Err e) h g = node_given n k feeds config room g.slot h g.gives
+pub node_gave : (n : NodeView) (k : Journal) (feeds : List FeedView) (config : Config) (room : ℕ) (closed after : List Bool) (r : Result (Unit {0}) OutOfMemory) → IsNode n config room closed
+    → MatchResult r (λ _. GivesUpTo PAGES n.journal k n.feeds feeds) (λ _. GaveSome n.journal k n.feeds feeds) → after ≡ map has_closed feeds → IsNode (record n { journal = k; feeds = feeds }) config room after
+node_gave n k feeds config room closed after (Ok u) h g closes = node_given n k feeds config room PAGES closed after h g closes
+node_gave n k feeds config room closed after (Err e) h g closes = node_given n k feeds config room g.slot closed after h g.gives closes
 
 -- NEW NODES
 

@@ -1,6 +1,6 @@
 -- What a node keeps after a turn, and what a host hands back, at worked examples.
 use Rattle.std.proofs.Common.{◌≡◌, false, [], ◌∷◌, ◌++◌, refl, sym, subst, inr}
-use Rattle.std.specs.Prelude.{None}
+use Rattle.std.specs.Prelude.{None, replicate}
 use Rattle.srm_pages.specs.Ends.{WellView, LaneId}
 use Rattle.srm_entries.proofs.Plain.{config}
 use Rattle.srm_node.specs.declared.fault.NodeFault.TheVariants.{Memory}
@@ -9,8 +9,9 @@ use Rattle.srm_node.specs.declared.working.Worked.{Worked}
 use Rattle.srm_node.specs.Carrying.{DrawsReceived}
 use Rattle.srm_node.specs.Nodes.{Keeps, IsNode}
 use Rattle.srm_node.specs.Hosting.{WorkedEach, HostFails, Hosts}
-use Rattle.srm_node.specs.WholeTurnExamples.{before, after, put, feeds, journal, entries, stroke, lawful, carries, new_feeds, gives_all}
-use Rattle.srm_node.specs.HostExamples.{tap, worked_so, ran_once}
+use Rattle.srm_node.specs.WholeTurnExamples.{before, after, put, feeds, journal, entries, stroke, lawful, carries, new_feeds}
+use Rattle.srm_node.specs.HostExamples.{tap, worked_so}
+use Rattle.srm_node.specs.PartingExamples as parting
 use Rattle.srm_node.proofs.Keeping.{keeps_new}
 use Rattle.srm_node.proofs.Releasing.{puts_released}
 
@@ -24,21 +25,30 @@ keeps lane well none = record {
   draws_are = subst (λ received. DrawsReceived (journal entries) (received ++ stroke ∷ []) None) (sym none) refl;
 }
 
-is_node : (lane : LaneId) (well : WellView) → well.received ≡ [] → IsNode (after lane well) (config 0) 4096
-is_node lane well none = record { lists = keeps lane well none; settings = refl; room_is = refl }
+is_node : (lane : LaneId) (well : WellView) → well.received ≡ [] → IsNode (after lane well) (config 0) 4096 (replicate 8 false)
+is_node lane well none = record { lists = keeps lane well none; settings = refl; room_is = refl; closed_are = refl }
 
--- The node did one turn, and its worker of slot 0 took what was put.
-hosted : {P : Type 0} (lane : LaneId) (well : WellView) (w : Worked) (h : Hosted P) → well.received ≡ [] → w.tap ≡ tap 0 put lane → w.list.items ≡ put
-    → h.journal ≡ (after lane well).journal → h.feeds.items ≡ (after lane well).feeds → h.worked.items ≡ w ∷ [] → Hosts (before lane well) (tap 0 [] lane ∷ []) 5 h
+keeps_parted : (lane : LaneId) (well : WellView) → well.received ≡ [] → Keeps (parting.ended lane well)
+keeps_parted lane well none = record {
+  lawful = parting.lawful;
+  slots = refl;
+  carries = parting.carries lane;
+  puts = puts_released (journal parting.entries) (parting.ended lane well).feeds parting.lawful (parting.carries lane);
+  draws_are = subst (λ received. DrawsReceived (journal parting.entries) received None) (sym none) refl;
+}
+
+-- The member left in the node's one turn, and the worker of slot 0 took what was put.
+hosted : {P : Type 0} (lane : LaneId) (well : WellView) (w : Worked) (h : Hosted P) → well.received ≡ [] → w.tap ≡ tap 0 parting.put lane → w.list.items ≡ parting.put
+    → h.journal ≡ (parting.ended lane well).journal → h.feeds.items ≡ (parting.ended lane well).feeds → h.worked.items ≡ w ∷ [] → Hosts (before lane well) (tap 0 [] lane ∷ []) 5 h
 hosted lane well w h none is list journal_is feeds_are worked_is = record {
-  last = after lane well;
-  runs = ran_once lane well;
-  keeps = keeps lane well none;
+  last = parting.ended lane well;
+  runs = parting.runs_to_end lane well;
+  keeps = keeps_parted lane well none;
   journal = journal_is;
   feeds = feeds_are;
   slots = refl;
-  lanes = (gives_all lane well).gives.same;
-  workers = subst (WorkedEach (tap 0 [] lane ∷ [])) (sym worked_is) (worked_so w (tap 0 [] lane) (tap 0 put lane) put is list (record { is = refl }), tt);
+  lanes = (parting.gives_all lane well).gives.same;
+  workers = subst (WorkedEach (tap 0 [] lane ∷ [])) (sym worked_is) (worked_so w (tap 0 [] lane) (tap 0 parting.put lane) parting.put is list (record { is = refl }), tt);
 }
 
 -- No worker could be started: the node wasn't turned, and its feeds were let go.

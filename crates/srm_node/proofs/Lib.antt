@@ -6,6 +6,7 @@ pub mod Draws
 pub mod Gives
 pub mod Releasing
 pub mod Ticks
+pub mod Closing
 pub mod Keeping
 pub mod Waiting
 pub mod Turning

@@ -11,8 +11,8 @@ use Rattle.srm_node.specs.declared.fault.NodeFault.TheVariants.{Wire, Memory, Tu
 use Rattle.srm_node.specs.declared.fault.OutOfMemory.{OutOfMemory}
 use Rattle.srm_wire.specs.Wires.{Told, CountsIf, RoseOrFull}
 use Rattle.srm_node.specs.Parts.{Listened, ListenedCut, DrewStrokes, DrewStrokesCut, Leaves, GivesUpTo, GaveSome}
-use Rattle.srm_node.specs.Nodes.{NodeView}
-use Rattle.srm_node.specs.Turns.{HearsNow, DrawsNow, LeavesNow, TicksNow, GivesNow, HearsCut, DrawsCut, GivesCut, IsCut, Turned, TurnedDeaf, TurnEnds, Paused, RunsOf, Runs, RunsUpTo, RunEnds}
+use Rattle.srm_node.specs.Nodes.{NodeView, has_ended}
+use Rattle.srm_node.specs.Turns.{HearsNow, DrawsNow, LeavesNow, TicksNow, GivesNow, HearsCut, DrawsCut, GivesCut, IsCut, Turned, TurnedDeaf, TurnEnds, Paused, RunsOf, Runs, RunsToEnd, RunsOut, RunEnds}
 use Rattle.srm_wire.proofs.Telling.{counts_on}
 
 -- what was heard stays, also where memory ran out
@@ -87,13 +87,16 @@ turned_deaf now u v w a b c d e f h x l t g some = record {
 pub runs_none : (n : NodeView) → Runs 0 n n
 runs_none n = record { turns = refl }
 
-pub runs_more : (count : ℕ) (a b p c : NodeView) → Runs count a b → Paused b p → Turned false false p c → Runs (count + 1) a c
-runs_more count a b p c h paused t = record { turns = subst (λ k. RunsOf k a c) (sym (add-one count)) (b, p, h.turns, paused, t) }
+pub runs_more : (count : ℕ) (a b p c : NodeView) (ended : Bool) → Runs count a b → ended ≡ has_ended b → ended ≡ false → Paused b p → Turned false false p c → Runs (count + 1) a c
+runs_more count a b p c ended h is goes_on paused t = record { turns = subst (λ k. RunsOf k a c) (sym (add-one count)) (b, p, h.turns, sym is ∙ goes_on, paused, t) }
 
-pub runs_into : (fault : NodeFault) (count limit : ℕ) (a b p c : NodeView) → count < limit → Runs count a b → Paused b p → TurnEnds (Err fault) p c → RunEnds (Err fault) limit a c
-runs_into Wire count limit a b p c few h paused t = record { count = count; few = few; before = b; paused = p; runs = h; waits = paused; ends = t }
-runs_into Memory count limit a b p c few h paused t = record { count = count; few = few; before = b; paused = p; runs = h; waits = paused; ends = t }
-runs_into Turns count limit a b p c few h paused t = absurd t
+pub runs_into : (fault : NodeFault) (count limit : ℕ) (a b p c : NodeView) (ended : Bool) → count < limit → Runs count a b → ended ≡ has_ended b → ended ≡ false → Paused b p → TurnEnds (Err fault) p c → RunEnds (Err fault) limit a c
+runs_into Wire count limit a b p c ended few h is goes_on paused t = record { count = count; few = few; before = b; paused = p; runs = h; goes_on = sym is ∙ goes_on; waits = paused; ends = t }
+runs_into Memory count limit a b p c ended few h is goes_on paused t = record { count = count; few = few; before = b; paused = p; runs = h; goes_on = sym is ∙ goes_on; waits = paused; ends = t }
+runs_into Turns count limit a b p c ended few h is goes_on paused t = absurd t
 
-pub runs_up_to : (count limit : ℕ) (a b : NodeView) → count ≤ limit → Runs count a b → RunsUpTo limit a b
-runs_up_to count limit a b few h = record { count = count; few = few; runs = h }
+pub runs_to_end : (count limit : ℕ) (a b : NodeView) (ended : Bool) → count ≤ limit → Runs count a b → ended ≡ has_ended b → ended ≡ true → RunsToEnd limit a b
+runs_to_end count limit a b ended few h is done = record { count = count; few = few; runs = h; ended = sym is ∙ done }
+
+pub runs_out : (limit : ℕ) (a b : NodeView) (ended : Bool) → Runs limit a b → ended ≡ has_ended b → ended ≡ false → RunsOut limit a b
+runs_out limit a b ended h is goes_on = record { runs = h; goes_on = sym is ∙ goes_on }

@@ -1,18 +1,17 @@
 -- Workers that are started and joined, and what a host hands back, at worked examples.
 use Rattle.std.specs.Prelude.{◌≡◌, ◌≢◌, ℕ, zero, suc, true, List, [], ◌∷◌, ◌++◌, refl}
-use Rattle.std.proofs.Common.{arith, ap, sym, ◌∙◌, subst}
+use Rattle.std.proofs.Common.{arith, ap, sym, ◌∙◌, subst, inl}
 use Rattle.std.proofs.lemmas.Option.{same_Some}
 use Rattle.srm_names.specs.Names.{first_page}
 use Rattle.srm_names.specs.declared.page_msg.PageMsg.{PageMsg}
 use Rattle.srm_names.specs.declared.page_msg.PageMsg.TheVariants.{Open}
 use Rattle.srm_pages.specs.Ends.{FeedView, TapView, WellView, LaneId}
-use Rattle.srm_node.specs.declared.fault.NodeFault.TheVariants.{Memory}
+use Rattle.srm_node.specs.declared.fault.NodeFault.TheVariants.{Memory, Turns}
 use Rattle.srm_node.specs.declared.hosting.Worker.{Worker}
 use Rattle.srm_node.specs.declared.hosting.Hosted.{Hosted}
 use Rattle.srm_node.specs.declared.working.Worked.{Worked}
 use Rattle.srm_node.specs.Working.{Took}
-use Rattle.srm_node.specs.Turns.{RunsUpTo}
-use Rattle.srm_node.specs.Hosting.{started, Starts, Joins, WorkedEach, AreEndsOfLanes, HostFails, Hosts}
+use Rattle.srm_node.specs.Hosting.{started, Starts, StopsBy, Joins, WorkedEach, AreEndsOfLanes, HostFails, Hosts}
 use Rattle.srm_node.specs.WholeTurnExamples.{before, after, feed, whole}
 
 abbrev pub tap : ℕ → List PageMsg → LaneId → TapView
@@ -53,9 +52,9 @@ joined_one lane t v w of is list = record {
 
 -- HOSTS
 
--- one whole turn, behind a pause
-pub ran_once : (lane : LaneId) (well : WellView) → RunsUpTo 5 (before lane well) (after lane well)
-ran_once lane well = record { count = 1; few = omega arith; runs = record { turns = (before lane well, before lane well, refl, record { failures = omega arith; same = refl }, whole lane well) } }
+-- all turns were spent, one, behind a pause
+ran_once : (lane : LaneId) (well : WellView) → StopsBy true Turns 1 (before lane well) (after lane well)
+ran_once lane well = inl (refl, record { runs = record { turns = (before lane well, before lane well, refl, refl, record { failures = omega arith; same = refl }, whole lane well) }; goes_on = refl })
 
 -- a host without fault hands back a list for each tap
 one_for_each : {P : Type 0} (lane : LaneId) (well : WellView) (h : Hosted P) → h.worked.items ≡ [] → Hosts (before lane well) (tap 0 [] lane ∷ []) 5 h → ⊥

@@ -10,7 +10,7 @@ use Rattle.srm_node.specs.Parts.{SameFeeds}
 use Rattle.srm_node.specs.Nodes.{NodeView, Keeps}
 use Rattle.srm_node.specs.declared.fault.NodeFault.{NodeFault}
 use Rattle.srm_node.specs.declared.fault.NodeFault.TheVariants.{Memory}
-use Rattle.srm_node.specs.Turns.{RunsUpTo, RunEnds}
+use Rattle.srm_node.specs.Turns.{RunsToEnd, RunEnds}
 
 -- the tap that a worker was started with
 abbrev pub started : Worker → TapView
@@ -61,10 +61,10 @@ pub record HostFails {P : Type 0} (all : Bool) (node : NodeView) (taps : List Ta
 abbrev pub AreEndsOfLanes : List FeedView → List TapView → Type 0
 AreEndsOfLanes feeds taps = (k : ℕ) (f : FeedView) (t : TapView) → slice_get feeds k ≡ Some f → slice_get taps k ≡ Some t → f.lane ≡ t.lane
 
--- Without fault: the node ran, its journal and its feeds are handed back, of the same lanes, and each worker's tap and list.
+-- Without fault: the node ran to its end, its journal and its feeds are handed back, of the same lanes, and each worker's tap and list.
 pub record Hosts {P : Type 0} (node : NodeView) (taps : List TapView) (turns : ℕ) (h : Hosted P) : Type 0 where
   pub last : NodeView
-  pub runs : RunsUpTo turns node last
+  pub runs : RunsToEnd turns node last
   pub keeps : Keeps last
   pub journal : h.journal ≡ last.journal
   pub feeds : h.feeds.items ≡ last.feeds

@@ -9,4 +9,5 @@ pub mod Working
 pub mod Hosting
 pub mod NodeExamples
 pub mod WholeTurnExamples
+pub mod PartingExamples
 pub mod HostExamples

@@ -12,7 +12,7 @@ use Rattle.srm_entries.specs.declared.fault.AgentFault.TheVariants.{BodyLong}
 use Rattle.srm_entries.specs.declared.entry.Entry.{Entry}
 use Rattle.srm_entries.specs.declared.entry.Input.TheVariants.{Drew, Noise, Ticked}
 use Rattle.srm_entries.specs.declared.entry.Verdict.TheVariants.{Ignored, Refused}
-use Rattle.srm_entries.specs.declared.state.AgentState.TheVariants.{Active}
+use Rattle.srm_entries.specs.declared.state.AgentState.TheVariants.{Active, Leaving, Gone}
 use Rattle.srm_entries.specs.Entries.{released}
 use Rattle.srm_entries.specs.Giving.{given}
 use Rattle.srm_entries.specs.Verdicts.{stream_on}
@@ -21,7 +21,7 @@ use Rattle.srm_node.specs.declared.fault.NodeFault.TheVariants.{Memory, Turns}
 use Rattle.srm_node.specs.Counting.{counts_of}
 use Rattle.srm_node.specs.Carrying.{Carries, PutsReleased}
 use Rattle.srm_node.specs.Parts.{HearingEnds}
-use Rattle.srm_node.specs.Nodes.{NodeView}
+use Rattle.srm_node.specs.Nodes.{NodeView, has_ended}
 use Rattle.srm_node.specs.Turns.{Paused, RunEnds, TurnEnds}
 use Rattle.srm_node.specs.Working.{Took, SeesEach, TakesAndShows}
 use Rattle.srm_node.specs.Hosting.{StopsBy, WorkedEach}
@@ -84,12 +84,12 @@ counted = refl
 -- RUNS
 
 -- no turn, no change
-no_turns : (n : NodeView) → RunEnds (Err Turns) 0 n n
-no_turns n = record { turns = refl }
+no_turns : (n : NodeView) → has_ended n ≡ false → RunEnds (Err Turns) 0 n n
+no_turns n goes_on = record { runs = record { turns = refl }; goes_on = goes_on }
 
 -- a run that came to its end needn't have spent its turns
-ends_at_once : (n : NodeView) → RunEnds (Ok tt) 5 n n
-ends_at_once n = record { count = 0; few = omega arith; runs = record { turns = refl } }
+ends_at_once : (n : NodeView) → has_ended n ≡ true → RunEnds (Ok tt) 5 n n
+ends_at_once n ended = record { count = 0; few = omega arith; runs = record { turns = refl }; ended = ended }
 
 -- no turn ends by fault 3
 no_turn_is_spent : (old new : NodeView) → TurnEnds (Err Turns) old new ≡ ⊥
@@ -102,6 +102,26 @@ paused n = record { failures = omega arith; same = refl }
 -- none takes a stroke in hand
 takes_no_stroke : (n : NodeView) (s : Stroke) → Paused n (record n { hand = Some s }) → n.hand ≡ Some s
 takes_no_stroke n s h = sym (ap (λ (x : NodeView). x.hand) h.same)
+
+-- THE END
+
+-- Of two feeds one put its close, and the other one is lost; by its last entry the member is gone.
+abbrev both_done : LaneId → List FeedView
+both_done lane = feed false (Open first_page ∷ Draw a ∷ Close ∷ []) lane ∷ feed true (Open first_page ∷ []) lane ∷ []
+
+abbrev ended : NodeView → LaneId → NodeView
+ended n lane = record n { journal = record n.journal { entries = entry 0 4 Ticked (quiet Leaving) ∷ entry 0 5 Ticked (quiet Gone) ∷ [] }; feeds = both_done lane }
+
+gone_and_done : (n : NodeView) (lane : LaneId) → has_ended (ended n lane) ≡ true
+gone_and_done n lane = refl
+
+-- not while a feed that isn't lost has no close
+not_while_open : (n : NodeView) (lane : LaneId) → has_ended (record (ended n lane) { feeds = feed false (Open first_page ∷ Draw a ∷ []) lane ∷ both_done lane }) ≡ false
+not_while_open n lane = refl
+
+-- nor while the member is leaving
+not_while_leaving : (n : NodeView) (lane : LaneId) → has_ended (record (ended n lane) { journal = record n.journal { entries = entry 0 4 Ticked (quiet Leaving) ∷ [] } }) ≡ false
+not_while_leaving n lane = refl
 
 -- WORKERS
 

@@ -1,9 +1,12 @@
 -- What contracts see of a node.
-use Rattle.std.specs.Prelude.{◌≡◌, ℕ, List, [], false, Option, Some, None, length, slice_get}
+use Rattle.std.specs.Prelude.{◌≡◌, ℕ, List, [], Bool, false, ◌&&◌, ◌||◌, map, Option, Some, None, length, slice_get}
+use Rattle.std.specs.List.{list_any, list_all}
 use Rattle.srm_names.specs.declared.limits.TheConstants.{PAGES}
+use Rattle.srm_names.specs.PageFeeds.{is_close}
 use Rattle.srm_pages.specs.declared.stroke.Stroke.{Stroke}
 use Rattle.srm_pages.specs.Ends.{FeedView, WellView}
 use Rattle.srm_entries.specs.Configs.{Config}
+use Rattle.srm_entries.specs.Entries.{state, is_gone}
 use Rattle.srm_world.specs.Traces.{Journal}
 use Rattle.srm_world.specs.Words.{Recorded}
 use Rattle.srm_node.specs.declared.limits.TheConstants.{BUFFER}
@@ -32,11 +35,25 @@ recorded_in n = record { journal = n.view.journal; words = n.words }
 abbrev pub Keeps : NodeView → Type 0
 Keeps n = KeepsLists n.journal n.feeds n.well.received n.hand
 
--- what a node keeps: its lists hang together, its settings are those of its journal, and its buffer has its length
-pub record IsNode (n : NodeView) (config : Config) (room : ℕ) : Type 0 where
+-- whether a feed put its close, which in a page feed is the last message
+abbrev pub has_closed : FeedView → Bool
+has_closed f = list_any is_close f.put
+
+-- nothing more comes of a feed that is lost, or that put its close
+abbrev pub is_done : FeedView → Bool
+is_done f = f.lost || has_closed f
+
+-- whether the member is gone by its journal, and nothing more comes of any feed
+abbrev pub has_ended : NodeView → Bool
+has_ended n = is_gone (state n.journal.entries) && list_all is_done n.feeds
+
+-- what a node keeps: its lists hang together, its settings are those of its journal, its buffer has its length, and it knows which feeds put
+-- their close
+pub record IsNode (n : NodeView) (config : Config) (room : ℕ) (closed : List Bool) : Type 0 where
   pub lists : Keeps n
   pub settings : n.journal.start.config ≡ config
   pub room_is : room ≡ BUFFER
+  pub closed_are : closed ≡ map has_closed n.feeds
 
 -- a feed for each slot, which put nothing and isn't lost
 pub record AreNewFeeds (feeds : List FeedView) : Type 0 where

@@ -6,7 +6,7 @@ use Rattle.srm_node.specs.declared.fault.NodeFault.{NodeFault}
 use Rattle.srm_node.specs.declared.fault.NodeFault.TheVariants.{Wire, Memory, Turns}
 use Rattle.srm_wire.specs.Wires.{CountsIf, RoseOrFull, Sends, dispatched}
 use Rattle.srm_node.specs.Parts.{Listened, ListenedCut, DrewStrokes, DrewStrokesCut, Leaves, Ticks, GivesUpTo, GaveSome}
-use Rattle.srm_node.specs.Nodes.{NodeView}
+use Rattle.srm_node.specs.Nodes.{NodeView, has_ended}
 
 -- What came was heard, all of it unless a call failed.
 pub record HearsNow (now : ℕ) (unheard : Bool) (old new : NodeView) : Type 0 where
@@ -139,10 +139,10 @@ pub record Paused (old new : NodeView) : Type 0 where
   pub failures : old.failures ≤ new.failures
   pub same : new ≡ record old { failures = new.failures }
 
--- so many whole turns, each after a pause
+-- so many whole turns, each after a pause, of a node that hadn't ended
 abbrev pub RunsOf : ℕ → NodeView → NodeView → Type 0
 RunsOf zero old new = new ≡ old
-RunsOf (suc n) old new = (before : NodeView) × (paused : NodeView) × RunsOf n old before × Paused before paused × Turned false false paused new
+RunsOf (suc n) old new = (before : NodeView) × (paused : NodeView) × RunsOf n old before × (has_ended before ≡ false) × Paused before paused × Turned false false paused new
 
 pub record Runs (count : ℕ) (old new : NodeView) : Type 0 where
   pub turns : RunsOf count old new
@@ -154,16 +154,25 @@ pub record RunsInto (fault : NodeFault) (limit : ℕ) (old new : NodeView) : Typ
   pub before : NodeView
   pub paused : NodeView
   pub runs : Runs count old before
+  pub goes_on : has_ended before ≡ false
   pub waits : Paused before paused
   pub ends : TurnEnds (Err fault) paused new
 
-pub record RunsUpTo (limit : ℕ) (old new : NodeView) : Type 0 where
+-- whole turns, until the node has ended
+pub record RunsToEnd (limit : ℕ) (old new : NodeView) : Type 0 where
   pub count : ℕ
   pub few : count ≤ limit
   pub runs : Runs count old new
+  pub ended : has_ended new ≡ true
 
--- At no fault some turns were whole, at fault 3 all; at another fault the last one ended with it.
+-- whole turns, until all are spent
+pub record RunsOut (limit : ℕ) (old new : NodeView) : Type 0 where
+  pub runs : Runs limit old new
+  pub goes_on : has_ended new ≡ false
+
+-- At no fault some turns were whole, and then the node has ended; at fault 3 all were, and it hasn't; at another fault the last one ended
+-- with it.
 abbrev pub RunEnds : Result (Unit {0}) NodeFault → ℕ → NodeView → NodeView → Type 0
-RunEnds (Ok _) turns old new = RunsUpTo turns old new
-RunEnds (Err Turns) turns old new = Runs turns old new
+RunEnds (Ok _) turns old new = RunsToEnd turns old new
+RunEnds (Err Turns) turns old new = RunsOut turns old new
 RunEnds (Err fault) turns old new = RunsInto fault turns old new

@@ -39,11 +39,11 @@ use Rattle.srm_node.specs.Turns.{HearsNow, DrawsNow, LeavesNow, TicksNow, GivesN
 
 -- WHAT HOLDS OF EACH FEED
 
-abbrev AllAt : (ℕ → FeedView → Type 0) → List FeedView → Type 0
+abbrev pub AllAt : (ℕ → FeedView → Type 0) → List FeedView → Type 0
 AllAt P [] = Unit {0}
 AllAt P (f ∷ fs) = P zero f × AllAt (λ k g. P (suc k) g) fs
 
-at_each : (P : ℕ → FeedView → Type 0) (fs : List FeedView) → AllAt P fs → (slot : ℕ) (f : FeedView) → slice_get fs slot ≡ Some f → P slot f
+pub at_each : (P : ℕ → FeedView → Type 0) (fs : List FeedView) → AllAt P fs → (slot : ℕ) (f : FeedView) → slice_get fs slot ≡ Some f → P slot f
 at_each P [] h slot f at_f = cc
 at_each P (x ∷ xs) h zero f at_f = subst (P zero) (same_Some x f at_f) h.0
 at_each P (x ∷ xs) h (suc k) f at_f = at_each (λ i g. P (suc i) g) xs h.1 k f at_f

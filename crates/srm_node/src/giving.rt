@@ -1,12 +1,14 @@
 //! Giving to the page workers.
 
-ghost use Rattle.std.specs.Prelude.{◌≡◌, ◌<◌, true, false, length, MatchResult};
+ghost use Rattle.std.specs.Prelude.{◌≡◌, ◌<◌, true, false, map, length, MatchResult};
 ghost use Rattle.srm_names.specs.declared.limits.TheConstants.{PAGES};
+ghost use Rattle.srm_names.specs.PageFeeds.{is_close};
 ghost use Rattle.srm_pages.specs.Ends.{credit_of};
 ghost use Rattle.srm_entries.specs.Giving.{given};
 ghost use Rattle.srm_world.specs.Claims.{IsLawfulJournal};
 ghost use Rattle.srm_node.specs.Carrying.{Carries, CarriesEach};
 ghost use Rattle.srm_node.specs.Parts.{Gives, GivesUpTo, GaveSome};
+ghost use Rattle.srm_node.specs.Nodes.{has_closed};
 ghost use Rattle.srm_node.specs.Waits.{WaitsByWords};
 
 use crate::fault::OutOfMemory;
@@ -16,23 +18,27 @@ use srm_timers::Words;
 use srm_world::{Past, Recorder};
 use std::sync::Wait;
 
-/// Gives each slot while there is credit and something to give, unless its feed is lost. Counts the closes that were put: each lane has one.
+/// Gives each slot while there is credit and something to give, unless its feed is lost. Keeps for each feed whether it put its close.
 pub fn give_all<R: Wait, W: Words + Drop, P: Past + Drop>(
     rt: &R,
     recorder: &mut Recorder<W, P>,
     feeds: &mut Vec<Feed>,
-    closed: &mut u8,
+    closed: &mut Vec<bool>,
 ) -> Result<(), OutOfMemory>
     requires lawful { IsLawfulJournal recorder.old.journal }
     requires slots { length feeds.old.items ≡ PAGES }
     requires carries { CarriesEach recorder.old.journal feeds.old.items }
+    requires closed { closed.old.items ≡ map has_closed feeds.old.items }
+    ensures closed { closed.new.items ≡ map has_closed feeds.new.items }
     ensures words { WaitsByWords W.draw recorder.old recorder.new }
     ensures gives { MatchResult result (λ _. GivesUpTo PAGES recorder.old.journal recorder.new.journal feeds.old.items feeds.new.items)
         (λ _. GaveSome recorder.old.journal recorder.new.journal feeds.old.items feeds.new.items) }
 {
     for slot in 0..PAGES {
-        let feed = &mut feeds[usize::from(slot)];
-        let Ok(()) = give_slot(rt, recorder, feed, slot, closed) else {
+        let place = usize::from(slot);
+        let feed = &mut feeds[place];
+        let last = &mut closed[place];
+        let Ok(()) = give_slot(rt, recorder, feed, slot, last) else {
             return Err(OutOfMemory);
         };
     }
@@ -45,11 +51,13 @@ fn give_slot<R: Wait, W: Words + Drop, P: Past + Drop>(
     recorder: &mut Recorder<W, P>,
     feed: &mut Feed,
     slot: u8,
-    closed: &mut u8,
+    closed: &mut bool,
 ) -> Result<(), OutOfMemory>
     requires lawful { IsLawfulJournal recorder.old.journal }
     requires slot { slot < PAGES }
     requires carries { Carries (given recorder.old.journal.entries slot) feed.old }
+    requires closed { closed.old ≡ has_closed feed.old }
+    ensures closed { closed.new ≡ has_closed feed.new }
     ensures words { WaitsByWords W.draw recorder.old recorder.new }
     ensures gives { MatchResult result (λ _. Gives slot true recorder.old.journal recorder.new.journal feed.old feed.new)
         (λ _. Gives slot false recorder.old.journal recorder.new.journal feed.old feed.new) }
@@ -77,13 +85,15 @@ fn give_next<R: Wait, W: Words + Drop, P: Past + Drop>(
     recorder: &mut Recorder<W, P>,
     feed: &mut Feed,
     slot: u8,
-    closed: &mut u8,
+    closed: &mut bool,
 ) -> Result<bool, OutOfMemory>
     requires lawful { IsLawfulJournal recorder.old.journal }
     requires slot { slot < PAGES }
     requires stands { feed.old.lost ≡ false }
     requires credit { 0 < credit_of feed.old }
     requires carries { Carries (given recorder.old.journal.entries slot) feed.old }
+    requires closed { closed.old ≡ has_closed feed.old }
+    ensures closed { closed.new ≡ has_closed feed.new }
     ensures words { WaitsByWords W.draw recorder.old recorder.new }
     ensures gives { MatchResult result (λ ended. Gives slot ended recorder.old.journal recorder.new.journal feed.old feed.new)
         (λ _. Gives slot false recorder.old.journal recorder.new.journal feed.old feed.new) }
@@ -94,18 +104,16 @@ fn give_next<R: Wait, W: Words + Drop, P: Past + Drop>(
     let Some(message) = given else {
         return Ok(true);
     };
-    let closes = closes(&message);
+    let closing = closes(&message);
     let Ok(()) = feed.put(rt, message) else {
         return Ok(true);
     };
-    *closed = closed.saturating_add(closes);
+    *closed |= closing;
     Ok(false)
 }
 
-// One for a close.
-fn closes(message: &PageMsg) -> u8 {
-    match message {
-        PageMsg::Close => 1,
-        _ => 0,
-    }
+fn closes(message: &PageMsg) -> bool
+    ensures { result ≡ is_close message.now }
+{
+    matches!(message, PageMsg::Close)
 }

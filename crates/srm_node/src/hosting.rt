@@ -4,7 +4,7 @@ ghost use Rattle.std.specs.Prelude.{◌≡◌, ◌+◌, ◌<◌, ◌≤◌, Bool
 ghost use Rattle.std.specs.Bool.{OnTrue, OnFalse};
 ghost use Rattle.srm_names.specs.declared.limits.TheConstants.{PAGES};
 ghost use Rattle.srm_node.specs.Nodes.{Keeps};
-ghost use Rattle.srm_node.specs.Turns.{RunsUpTo};
+ghost use Rattle.srm_node.specs.Turns.{RunsToEnd};
 ghost use Rattle.srm_node.specs.Working.{Took};
 ghost use Rattle.srm_node.specs.Hosting.{started, Starts, StartsSome, StopsBy, WorkedEach, Hosts, HostFails, AreEndsOfLanes};
 
@@ -146,7 +146,7 @@ fn run_if<R: Wait, W: Words + Drop, X: Wire + Drop, C: Clock + Drop, P: Past + D
     all: bool,
     turns: u64,
 ) -> Result<(), NodeFault>
-    ensures { MatchResult result (λ _. (all ≡ true) × Keeps node.new.view × RunsUpTo turns node.old.view node.new.view) (λ fault. StopsBy all fault turns node.old.view node.new.view) }
+    ensures { MatchResult result (λ _. (all ≡ true) × Keeps node.new.view × RunsToEnd turns node.old.view node.new.view) (λ fault. StopsBy all fault turns node.old.view node.new.view) }
 {
     if !all {
         return Err(NodeFault::Memory);

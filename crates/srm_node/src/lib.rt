@@ -3,6 +3,7 @@
 
 mod counting;
 mod drawing;
+mod ending;
 mod fault;
 mod giving;
 mod hosting;

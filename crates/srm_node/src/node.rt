@@ -3,12 +3,13 @@
 ghost use Rattle.std.specs.Prelude.{◌≡◌, ◌≤◌, true, false, [], None, IfOk, MatchResult};
 ghost use Rattle.srm_names.specs.declared.limits.TheConstants.{MOMENT, PAGES};
 ghost use Rattle.srm_node.specs.Counting.{counts_of};
-ghost use Rattle.srm_node.specs.Nodes.{Keeps, AreNewFeeds, IsNewJournal, IsNewNode, recorded_in};
+ghost use Rattle.srm_node.specs.Nodes.{Keeps, AreNewFeeds, IsNewJournal, IsNewNode, has_ended, recorded_in};
 ghost use Rattle.srm_node.specs.Waits.{WaitsByWords};
 ghost use Rattle.srm_node.specs.Turns.{HearsNow, DrawsNow, LeavesNow, TicksNow, GivesNow, HearsCut, DrawsCut, GivesCut, TurnEnds, Paused, RunEnds};
 
 use crate::counting::{Counts, counts_in};
 use crate::drawing::draw_strokes;
+use crate::ending::{is_ended, none_closed};
 use crate::fault::{NodeFault, OutOfMemory};
 use crate::giving::give_all;
 use crate::limits::{BUFFER, DRAWN, RECEIVED};
@@ -16,8 +17,8 @@ use crate::listening::listen;
 use crate::pausing::{earlier, time_to_wait};
 use crate::sending::send_all;
 use crate::ticking::{leave, tick};
-use srm_agent::{AgentState, Config, Entry};
-use srm_names::{MOMENT, PAGES};
+use srm_agent::{Config, Entry};
+use srm_names::MOMENT;
 use srm_pages::ends::Well;
 use srm_pages::{Feed, Stroke};
 use srm_timers::Words;
@@ -40,9 +41,8 @@ pub struct Node<W: Words + Drop, X: Wire + Drop, C: Clock + Drop, P: Past + Drop
     clock: C,
     buffer: Vec<u8>,
     leave_at: Option<u64>,
-    // Whether the member is gone, and how many lanes had their close.
-    gone: bool,
-    closed: u8,
+    // For each feed, whether it put its close.
+    closed: Vec<bool>,
     // How many datagrams the last turn heard, and how many strokes it drew.
     heard: u8,
     drawn: u8,
@@ -73,7 +73,7 @@ impl<W: Words + Drop, X: Wire + Drop, C: Clock + Drop, P: Past + Drop> Model for
       hand = n.hand;
       failures = X.failed n.wire;
       told = X.told n.wire;
-    }) n.config (vec_len n.buffer) };
+    }) n.config (vec_len n.buffer) n.closed.items };
 }
 
 impl<W: Words + Drop, X: Wire + Drop, C: Clock + Drop> Node<W, X, C> {
@@ -155,8 +155,7 @@ impl<W: Words + Drop, X: Wire + Drop, C: Clock + Drop, P: Past + Drop> Node<W, X
             clock,
             buffer: vec![in alloc; 0; BUFFER]?,
             leave_at: None,
-            gone: false,
-            closed: 0,
+            closed: none_closed(alloc)?,
             // As after a full turn: the first one comes at once.
             heard: RECEIVED,
             drawn: DRAWN,
@@ -246,9 +245,14 @@ impl<W: Words + Drop, X: Wire + Drop, C: Clock + Drop, P: Past + Drop> Node<W, X
     }
 
     // Whether the member is gone and each lane had its close or lost its tap.
-    fn is_ended(&self) -> bool {
-        let lost = self.feeds.iter().filter(|feed| feed.is_lost()).count();
-        self.gone && lost.saturating_add(usize::from(self.closed)) >= usize::from(PAGES)
+    fn is_ended(&self) -> bool
+        ensures { result ≡ has_ended self.now.view }
+    {
+        is_ended(
+            self.recorder.state(),
+            self.feeds.as_slice(),
+            self.closed.as_slice(),
+        )
     }
 
     // Waits until something is due or the stroke in hand may go, but not long.
@@ -332,7 +336,6 @@ impl<W: Words + Drop, X: Wire + Drop, C: Clock + Drop, P: Past + Drop> Node<W, X
         let Ok(ticked) = tick(&mut self.recorder, now) else {
             return Err(OutOfMemory);
         };
-        self.gone = is_gone(ticked.state);
         Ok(send_all(
             &mut self.wire,
             self.config.me(),
@@ -360,8 +363,4 @@ fn is_due(asked: Option<u64>, now: u64) -> bool {
 
 fn still_asked(asked: Option<u64>, left: bool) -> Option<u64> {
     if left { None } else { asked }
-}
-
-fn is_gone(state: AgentState) -> bool {
-    matches!(state, AgentState::Gone)
 }

@@ -4,6 +4,7 @@ ghost use Rattle.std.specs.Prelude.{◌≡◌, ◌≤◌, ◌<◌, [], map, Some
 ghost use Rattle.srm_names.specs.declared.limits.TheConstants.{MOMENT, PAGES};
 ghost use Rattle.srm_agent.specs.Noting.{IsDrawnName, IsTicked};
 ghost use Rattle.srm_entries.specs.Promises.{page_to_come, IsNextDue};
+ghost use Rattle.srm_entries.specs.Entries.{state};
 ghost use Rattle.srm_entries.specs.Admitting.{AdmitsDraw, AdmitsDrawFrom};
 ghost use Rattle.srm_world.specs.Claims.{IsLawfulJournal};
 ghost use Rattle.srm_world.specs.Recording.{Records, RecordsHeard, RecordsAll};
@@ -14,7 +15,7 @@ use crate::journal::Journal;
 use crate::past::Past;
 use crate::start::Start;
 use bytes::Bytes;
-use srm_agent::{Agent, AgentFault, Config, Entry, Heard, Input, Noted, Ticked};
+use srm_agent::{Agent, AgentFault, AgentState, Config, Entry, Heard, Input, Noted, Ticked};
 use srm_names::{Name, Page, PageMsg};
 use srm_timers::Words;
 use std::alloc::{AllocError, Global};
@@ -105,6 +106,13 @@ impl<W: Words + Drop, P: Past + Drop> Recorder<W, P> {
         ensures { IsNextDue self.now.journal.start.config self.now.journal.start.made self.now.journal.entries result }
     {
         self.agent.next_due()
+    }
+
+    /// [`Agent::state`]. It has no entry.
+    pub fn state(&self) -> AgentState
+        ensures { result ≡ state self.now.journal.entries }
+    {
+        self.agent.state()
     }
 
     /// [`Agent::draw`].

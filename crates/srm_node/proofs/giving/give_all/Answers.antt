@@ -1,16 +1,29 @@
-use Rattle.std.proofs.Common.{arith}
-use Rattle.srm_node.proofs.Gives.{up_stop, up_step}
-use Rattle.srm_node.proofs.Waiting.{waits_on}
+use Rattle.std.proofs.Common.{arith, ◌∙◌}
+use Rattle.std.proofs.lemmas.List.{length-set}
+use Rattle.srm_node.proofs.Closing.{closed_at, closed_set, as_many}
+use Rattle.srm_node.proofs.Gives.{up_none, up_stop, up_step}
+use Rattle.srm_node.proofs.Waiting.{waits_none, waits_on}
 use Rattle.srm_node.proofs.giving.give_all.Goals as goal
+
+pub loop-slot-init : goal.loop-slot-init
+loop-slot-init g c = record { words = waits_none g.W.Words.draw _; gives = up_none _ _ c.requires.lawful c.requires.carries; closed = c.requires.closed; many = as_many _ _ c.requires.closed ∙ c.requires.slots }
+
+pub give_slot-requires-clause-closed : goal.give_slot-requires-clause-closed
+give_slot-requires-clause-closed g c = closed_at c.from-place.result c.loop-slot.slot c.loop-slot.feeds.items c.loop-slot.closed.items c.index_mut-last.result.now c.index_mut-feed.result.now c.from-place.ensures (omega (arith, c.requires.slots, c.loop-slot.invariant.gives.slots, c.loop-slot-test.true)) c.loop-slot.invariant.closed c.index_mut-last.ensures.value c.index_mut-feed.ensures.value
 
 pub loop-slot-preserved : goal.loop-slot-preserved
 loop-slot-preserved g c = record {
   words = waits_on g.W.Words.draw _ c.loop-slot.recorder _ c.loop-slot.invariant.words c.in-Ok.ensures.words;
-  gives = up_step c.loop-slot.slot c.from.result _ c.loop-slot.recorder.journal _ _ c.loop-slot.feeds.items c.index_mut-feed.result.now c.give_slot.new.feed c.loop-slot.invariant.gives c.from.ensures (omega (arith, c.requires.slots, c.loop-slot-test.true)) c.index_mut-feed.ensures.value c.in-Ok.ensures.gives;
+  gives = up_step c.loop-slot.slot c.from-place.result _ c.loop-slot.recorder.journal _ _ c.loop-slot.feeds.items c.index_mut-feed.result.now c.give_slot.new.feed c.loop-slot.invariant.gives c.from-place.ensures (omega (arith, c.requires.slots, c.loop-slot-test.true)) c.index_mut-feed.ensures.value c.in-Ok.ensures.gives;
+  closed = closed_set c.from-place.result c.loop-slot.feeds.items c.loop-slot.closed.items c.give_slot.new.closed c.give_slot.new.feed c.loop-slot.invariant.closed c.in-Ok.ensures.closed;
+  many = length-set c.loop-slot.closed.items c.from-place.result c.give_slot.new.closed ∙ c.loop-slot.invariant.many;
 }
 
+pub returns-in_default-clause-closed : goal.returns-in_default-clause-closed
+returns-in_default-clause-closed g c = closed_set c.from-place.result c.loop-slot.feeds.items c.loop-slot.closed.items c.give_slot.new.closed c.give_slot.new.feed c.loop-slot.invariant.closed c.in_default.ensures.closed
+
 pub returns-in_default-clause-gives : goal.returns-in_default-clause-gives
-returns-in_default-clause-gives g c = up_stop c.loop-slot.slot c.from.result _ c.loop-slot.recorder.journal _ _ c.loop-slot.feeds.items c.index_mut-feed.result.now c.give_slot.new.feed c.loop-slot.invariant.gives c.from.ensures (omega (arith, c.requires.slots, c.loop-slot-test.true)) c.loop-slot-test.true c.index_mut-feed.ensures.value c.in_default.ensures.gives
+returns-in_default-clause-gives g c = up_stop c.loop-slot.slot c.from-place.result _ c.loop-slot.recorder.journal _ _ c.loop-slot.feeds.items c.index_mut-feed.result.now c.give_slot.new.feed c.loop-slot.invariant.gives c.from-place.ensures (omega (arith, c.requires.slots, c.loop-slot-test.true)) c.loop-slot-test.true c.index_mut-feed.ensures.value c.in_default.ensures.gives
 
 pub returns-in_default-clause-words : goal.returns-in_default-clause-words
 returns-in_default-clause-words g c = waits_on g.W.Words.draw _ c.loop-slot.recorder _ c.loop-slot.invariant.words c.in_default.ensures.words

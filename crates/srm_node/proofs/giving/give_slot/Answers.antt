@@ -1,4 +1,6 @@
-use Rattle.std.proofs.Common.{true, false}
+use Rattle.std.proofs.Common.{true, false, ap}
+use Rattle.srm_pages.specs.Ends.{FeedView}
+use Rattle.srm_node.proofs.Closing.{closed_kept}
 use Rattle.srm_node.proofs.Gives.{gives_on, gives_looked}
 use Rattle.srm_node.proofs.Waiting.{waits_on}
 use Rattle.srm_node.proofs.giving.give_slot.Goals as goal
@@ -19,4 +21,8 @@ pub loop-preserved : goal.loop-preserved
 loop-preserved g c = record {
   words = waits_on g.W.Words.draw _ c.loop.recorder _ c.loop.invariant.words c.in-Ok.ensures.words;
   gives = gives_on c.args.slot false _ c.loop.recorder.journal _ _ c.credit.new.self _ (gives_looked c.args.slot _ c.loop.recorder.journal _ c.loop.feed c.credit.new.self c.loop.invariant.gives c.credit.ensures.same) (rw c.if-ended.false at c.in-Ok.ensures.gives);
+  closed = c.in-Ok.ensures.closed;
 }
+
+pub give_next-requires-clause-closed : goal.give_next-requires-clause-closed
+give_next-requires-clause-closed g c = closed_kept _ c.loop.feed c.credit.new.self c.loop.invariant.closed (ap (λ (f : FeedView). f.put) c.credit.ensures.same)

@@ -10,5 +10,5 @@ pub loop-done-preserved : goal.loop-done-preserved
 loop-done-preserved g c = record {
   keeps = c.in_ok-turn.ensures.keeps;
   words = waits_on g.W.Words.draw _ _ _ (waits_on g.W.Words.draw _ _ _ c.loop-done.invariant.words (waits_paused g.W.Words.draw c.loop-done.self c.pause.new.self c.pause.ensures.paused c.pause.ensures.words)) c.in_ok-turn.ensures.words;
-  runs = runs_more c.loop-done.done _ c.loop-done.self.view c.pause.new.self.view _ c.loop-done.invariant.runs c.pause.ensures.paused c.in_ok-turn.ensures.turns;
+  runs = runs_more c.loop-done.done _ c.loop-done.self.view c.pause.new.self.view _ _ c.loop-done.invariant.runs c.is_ended.ensures c.if-is_ended.false c.pause.ensures.paused c.in_ok-turn.ensures.turns;
 }

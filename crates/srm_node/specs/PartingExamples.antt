@@ -1,0 +1,285 @@
+-- A node's turn in which its member leaves and each lane has its close, and the run that ends by it, at worked examples.
+use Rattle.std.specs.Prelude.{◌≡◌, ℕ, ◌==◌, true, false, List, [], ◌∷◌, ◌++◌, map, take, Option, Some, None, Ok, Err, slice_get, refl}
+use Rattle.std.specs.List.{AllByRecursion}
+use Rattle.std.proofs.Common.{arith, inr, subst, sym, ◌∙◌, ap, lit≤, lit<}
+use Rattle.std.proofs.lemmas.List.{append-nil}
+use Rattle.std.proofs.lemmas.Option.{same_Some}
+use Rattle.srm_names.specs.FullName.{FullName}
+use Rattle.srm_names.specs.Histories.{steps}
+use Rattle.srm_names.specs.Names.{first_page}
+use Rattle.srm_names.specs.declared.stream.Stream.{Stream}
+use Rattle.srm_names.specs.declared.page_msg.PageMsg.{PageMsg}
+use Rattle.srm_names.specs.declared.page_msg.PageMsg.TheVariants.{Open, Close}
+use Rattle.srm_codec.specs.declared.datagram.Datagram.{Datagram}
+use Rattle.srm_codec.specs.declared.datagram.Datagram.TheVariants.{Session}
+use Rattle.srm_codec.specs.Spelling.{IsSpellable, head, page_bytes, name_bytes, echo_bytes, spelling}
+use Rattle.srm_bucket.specs.Law.{BucketLaw}
+use Rattle.srm_pages.specs.Ends.{FeedView, WellView, LaneId}
+use Rattle.srm_entries.specs.declared.entry.Entry.{Entry}
+use Rattle.srm_entries.specs.declared.entry.Input.TheVariants.{AskedLeave, Ticked, Gave}
+use Rattle.srm_entries.specs.declared.state.AgentState.TheVariants.{Leaving, Gone}
+use Rattle.srm_entries.specs.Entries.{state, known}
+use Rattle.srm_entries.specs.Timers.{fix_running}
+use Rattle.srm_entries.specs.Giving.{given, MessageRight}
+use Rattle.srm_entries.specs.Bucket.{GoesRight, bucket_calls}
+use Rattle.srm_entries.specs.Runs.{EntryRight, MomentRight, state_due}
+use Rattle.srm_entries.specs.Sessions.{ReportRight}
+use Rattle.srm_entries.proofs.Plain.{config, plain, idle, idle_right, right, missing_none, unknown_unmissed, neither}
+use Rattle.srm_agent_parts.specs.declared.out.Out.{Out}
+use Rattle.srm_world.specs.Claims.{IsLawfulJournal}
+use Rattle.srm_world.proofs.Lawful.{lawful_journal}
+use Rattle.srm_wire.specs.Wires.{bytes_to}
+use Rattle.srm_node.specs.declared.fault.NodeFault.TheVariants.{Turns}
+use Rattle.srm_node.specs.Carrying.{Carries, CarriesEach}
+use Rattle.srm_node.specs.Parts.{SameFeed, is_served}
+use Rattle.srm_node.specs.Nodes.{NodeView, has_ended}
+use Rattle.srm_node.specs.Turns.{HearsNow, DrawsNow, LeavesNow, TicksNow, GivesNow, Turned, RunEnds}
+use Rattle.srm_node.specs.WholeTurnExamples.{at_each, feed, feeds, journal, before}
+
+-- WHAT THE TURN WRITES
+
+-- Nothing was drawn and nothing came, and the member asks to leave at moment 1. The tick sends its farewell; slot 0 is given its page and its close, and
+-- the others their close, and then there is nothing more.
+abbrev asks : Entry
+asks = plain 0 1 AskedLeave None [] None Leaving
+
+abbrev farewell : Datagram
+farewell = Session 0 1 true first_page [] []
+
+abbrev parts : Entry
+parts = plain 0 1 Ticked None (farewell ∷ []) None Gone
+
+abbrev gives : ℕ → Option PageMsg → Entry
+gives slot message = plain 0 1 (Gave slot) None [] message Gone
+
+abbrev opens : Entry
+opens = gives 0 (Some (Open first_page))
+
+abbrev closes : ℕ → Entry
+closes slot = gives slot (Some Close)
+
+abbrev nothing : ℕ → Entry
+nothing slot = gives slot None
+
+abbrev all_gives : List Entry
+all_gives = opens ∷ closes 0 ∷ nothing 0 ∷ closes 1 ∷ nothing 1 ∷ closes 2 ∷ nothing 2 ∷ closes 3 ∷ nothing 3 ∷ closes 4 ∷ nothing 4 ∷ closes 5 ∷ nothing 5 ∷ closes 6 ∷ nothing 6 ∷ closes 7 ∷ nothing 7 ∷ []
+
+abbrev pub entries : List Entry
+entries = asks ∷ parts ∷ all_gives
+
+-- the first entries
+abbrev first : ℕ → List Entry
+first count = take count entries
+
+abbrev farewell_bytes : List ℕ
+farewell_bytes = 0x53 ∷ 0x52 ∷ 1 ∷ 4 ∷ 0 ∷ 0 ∷ 0 ∷ 1 ∷ 0 ∷ 0 ∷ 0 ∷ 0 ∷ 0 ∷ 0 ∷ 0 ∷ 0 ∷ 1 ∷ 1 ∷ 0 ∷ 0 ∷ 0 ∷ 0 ∷ 0 ∷ []
+
+abbrev out : Out
+out = record { datagram = farewell; bytes = farewell_bytes }
+
+farewell_spelled : IsSpellable farewell
+farewell_spelled = (lit< tt, lit≤ tt, (lit< tt, lit< tt), record { few = lit< tt; names = tt; rising = refl; sources = tt }, record { few = lit< tt; each = tt; rising = refl })
+
+spelled_so : farewell_bytes ≡ spelling 1 farewell
+unfolding head page_bytes name_bytes echo_bytes spelling
+spelled_so = refl
+
+-- THE JOURNAL IS LAWFUL
+
+report_right : ReportRight (config 0) (asks ∷ []) 1 true []
+report_right = record { in_order = refl; exact = λ (s : Stream). neither (s.source == 0) }
+
+-- a give that the entries before it allow
+gives_right : (past : List Entry) (slot : ℕ) (message : Option PageMsg) → ((n : FullName) → known past n.stream ≡ 0) → ((n : FullName) → known (past ++ gives slot message ∷ []) n.stream ≡ 0)
+    → ((n : FullName) → fix_running past n ≡ None) → MomentRight (config 0) 0 past (gives slot message) → MessageRight (config 0) past (Gave slot) message → Gone ≡ state_due (state past) false (Some (Gave slot))
+    → EntryRight (config 0) 0 (record { before = past; this = gives slot message })
+gives_right past slot message here next fix moment given after =
+    right (config 0) 0 past 0 1 (Gave slot) None [] message Gone (λ n. unknown_unmissed past n (here n)) (λ n. unknown_unmissed (past ++ gives slot message ∷ []) n (next n)) (λ n. refl) fix refl moment refl refl tt tt tt refl given after
+
+each_right : AllByRecursion (EntryRight (config 0) 0) (steps entries)
+each_right = (
+  right (config 0) 0 [] 0 1 AskedLeave None [] None Leaving missing_none (λ n. unknown_unmissed (first 1) n refl) (λ n. refl) (λ n. refl) refl (lit≤ tt) refl refl tt tt tt refl refl refl,
+  (
+    right (config 0) 0 (first 1) 0 1 Ticked None (farewell ∷ []) None Gone (λ n. unknown_unmissed (first 1) n refl) (λ n. unknown_unmissed (first 2) n refl) (λ n. refl) (λ n. refl) refl (lit≤ tt) refl refl (refl, tt) (farewell_spelled, tt) tt (farewell, refl, (refl, refl, refl, refl, refl, report_right)) refl refl,
+    (
+      gives_right (first 2) 0 (Some (Open first_page)) (λ n. refl) (λ n. refl) (λ n. refl) refl (refl, refl) refl,
+      (
+        gives_right (first 3) 0 (Some Close) (λ n. refl) (λ n. refl) (λ n. refl) refl (refl, refl, refl) refl,
+        (
+          gives_right (first 4) 0 None (λ n. refl) (λ n. refl) (λ n. refl) refl ((λ h. refl), refl) refl,
+          (
+            gives_right (first 5) 1 (Some Close) (λ n. refl) (λ n. refl) (λ n. refl) refl (refl, refl, refl) refl,
+            (
+              gives_right (first 6) 1 None (λ n. refl) (λ n. refl) (λ n. refl) refl ((λ h. refl), refl) refl,
+              (
+                gives_right (first 7) 2 (Some Close) (λ n. refl) (λ n. refl) (λ n. refl) refl (refl, refl, refl) refl,
+                (
+                  gives_right (first 8) 2 None (λ n. refl) (λ n. refl) (λ n. refl) refl ((λ h. refl), refl) refl,
+                  (
+                    gives_right (first 9) 3 (Some Close) (λ n. refl) (λ n. refl) (λ n. refl) refl (refl, refl, refl) refl,
+                    (
+                      gives_right (first 10) 3 None (λ n. refl) (λ n. refl) (λ n. refl) refl ((λ h. refl), refl) refl,
+                      (
+                        gives_right (first 11) 4 (Some Close) (λ n. refl) (λ n. refl) (λ n. refl) refl (refl, refl, refl) refl,
+                        (
+                          gives_right (first 12) 4 None (λ n. refl) (λ n. refl) (λ n. refl) refl ((λ h. refl), refl) refl,
+                          (
+                            gives_right (first 13) 5 (Some Close) (λ n. refl) (λ n. refl) (λ n. refl) refl (refl, refl, refl) refl,
+                            (
+                              gives_right (first 14) 5 None (λ n. refl) (λ n. refl) (λ n. refl) refl ((λ h. refl), refl) refl,
+                              (
+                                gives_right (first 15) 6 (Some Close) (λ n. refl) (λ n. refl) (λ n. refl) refl (refl, refl, refl) refl,
+                                (
+                                  gives_right (first 16) 6 None (λ n. refl) (λ n. refl) (λ n. refl) refl ((λ h. refl), refl) refl,
+                                  (
+                                    gives_right (first 17) 7 (Some Close) (λ n. refl) (λ n. refl) (λ n. refl) refl (refl, refl, refl) refl,
+                                    (
+                                      gives_right (first 18) 7 None (λ n. refl) (λ n. refl) (λ n. refl) refl ((λ h. refl), refl) refl,
+                                      tt,
+                                    ),
+                                  ),
+                                ),
+                              ),
+                            ),
+                          ),
+                        ),
+                      ),
+                    ),
+                  ),
+                ),
+              ),
+            ),
+          ),
+        ),
+      ),
+    ),
+  ),
+)
+
+law : BucketLaw 8000 4204 (bucket_calls 0 (map idle entries))
+law = (record { in_order = λ class. ([], refl); highest_first = tt; not_too_much = (lit≤ tt, lit≤ tt, tt); all_that_may = tt }, tt)
+
+goings_right : AllByRecursion GoesRight (steps (map idle entries))
+goings_right = (idle_right refl, (idle_right refl, (idle_right refl, (idle_right refl, (idle_right refl, (idle_right refl, (idle_right refl, (idle_right refl, (idle_right refl, (idle_right refl, (idle_right refl, (idle_right refl, (idle_right refl, (idle_right refl, (idle_right refl, (idle_right refl, (idle_right refl, (idle_right refl, (idle_right refl, tt)))))))))))))))))))
+
+pub lawful : IsLawfulJournal (journal entries)
+lawful = lawful_journal (journal entries) (record {
+  run = record { each = each_right; bucket = (map idle entries, refl, goings_right, law) };
+  untaken = (refl, (refl, (refl, (refl, (refl, (refl, (refl, (refl, (refl, (refl, (refl, (refl, (refl, (refl, (refl, (refl, (refl, (refl, (refl, tt)))))))))))))))))));
+})
+
+-- THE TURN
+
+abbrev heard : LaneId → WellView → NodeView
+heard lane well = record (before lane well) { told = Some (record { came = None ∷ []; went = [] }) }
+
+abbrev left : LaneId → WellView → NodeView
+left lane well = record (heard lane well) { journal = journal (first 1) }
+
+abbrev ticked : LaneId → WellView → NodeView
+ticked lane well = record (left lane well) { journal = journal (first 2); told = Some (record { came = None ∷ []; went = bytes_to 1 farewell_bytes ∷ [] }) }
+
+abbrev pub put : List PageMsg
+put = Open first_page ∷ Close ∷ []
+
+-- the first feed put its page and its close, and the others their close
+abbrev closed : LaneId → List FeedView
+closed lane = feed 0 put lane ∷ feed 1 (Close ∷ []) lane ∷ feed 2 (Close ∷ []) lane ∷ feed 3 (Close ∷ []) lane ∷ feed 4 (Close ∷ []) lane ∷ feed 5 (Close ∷ []) lane ∷ feed 6 (Close ∷ []) lane ∷ feed 7 (Close ∷ []) lane ∷ []
+
+-- the node after its turn
+abbrev pub ended : LaneId → WellView → NodeView
+ended lane well = record (ticked lane well) { journal = journal entries; feeds = closed lane }
+
+hears : (lane : LaneId) (well : WellView) → HearsNow 1 false (before lane well) (heard lane well)
+hears lane well = record {
+  listened = record {
+    count = 0;
+    ended = None ∷ [];
+    listens = record { came = []; entries = []; counted = refl; grown = refl; each = tt; told = record { told = refl } };
+    ends = inr (omega arith, refl);
+  };
+  failures = (omega arith, tt);
+  same = refl;
+}
+
+-- no stroke is there
+draws_none : (lane : LaneId) (well : WellView) → DrawsNow 1 true (heard lane well) (heard lane well)
+draws_none lane well = record {
+  drew = record {
+    count = 0;
+    few = omega arith;
+    draws = record {
+      all = [];
+      pops = record { popped = []; received = ap (λ ss. record well { received = ss }) (sym (append-nil well.received)); all_is = refl };
+      draws = record { strokes = []; entries = []; counted = refl; grown = refl; each = tt; all_is = refl };
+    };
+    ends = omega arith;
+  };
+  same = refl;
+}
+
+leaves : (lane : LaneId) (well : WellView) → LeavesNow 1 true (heard lane well) (left lane well)
+leaves lane well = record { leaves = record { entries = asks ∷ []; grown = refl; moments = (refl, tt); once = omega arith; inputs = (refl, tt); waits = tt }; same = refl }
+
+ticks_once : (lane : LaneId) (well : WellView) → TicksNow 1 false (left lane well) (ticked lane well)
+ticks_once lane well = record {
+  outs = out ∷ [];
+  ticks = record { entry = parts; grown = refl; moment = refl; is_tick = record { input = refl; outs_are = refl; spelled = (record { spelled = record { fits = farewell_spelled; text = spelled_so } }, tt) } };
+  sends = record { failures = (omega arith, tt); tells = record { told = refl } };
+  same = refl;
+}
+
+pub carries : (lane : LaneId) → CarriesEach (journal entries) (closed lane)
+carries lane = at_each (λ slot f. Carries (given entries slot) f) (closed lane) (refl, (refl, (refl, (refl, (refl, (refl, (refl, (refl, tt))))))))
+
+pub gives_all : (lane : LaneId) (well : WellView) → GivesNow 8 (ticked lane well) (ended lane well)
+gives_all lane well = record {
+  gives = record {
+    entries = all_gives;
+    grown = refl;
+    inputs = (refl, (refl, (refl, (refl, (refl, (refl, (refl, (refl, (refl, (refl, (refl, (refl, (refl, (refl, (refl, (refl, (refl, tt)))))))))))))))));
+    lawful = lawful;
+    carries = carries lane;
+    slots = refl;
+    same = λ slot f g at_f at_g. at_each (λ k y. (x : FeedView) → slice_get (feeds [] lane) k ≡ Some x → SameFeed x y) (closed lane)
+        (is 0 put, (is 1 (Close ∷ []), (is 2 (Close ∷ []), (is 3 (Close ∷ []), (is 4 (Close ∷ []), (is 5 (Close ∷ []), (is 6 (Close ∷ []), (is 7 (Close ∷ []), tt)))))))) slot g at_g f at_f;
+    served = λ slot f below at_f. at_each (λ k y. is_served k all_gives y ≡ true) (closed lane) (refl, (refl, (refl, (refl, (refl, (refl, (refl, (refl, tt)))))))) slot f at_f;
+  };
+  same = refl;
+}
+  where
+    is : (slot : ℕ) (more : List PageMsg) (x : FeedView) → Some (feed slot [] lane) ≡ Some x → SameFeed x (feed slot more lane)
+    is slot more x at_x = subst (λ (y : FeedView). SameFeed y (feed slot more lane)) (same_Some (feed slot [] lane) x at_x) refl
+
+pub turned : (lane : LaneId) (well : WellView) → Turned false false (before lane well) (ended lane well)
+turned lane well = record {
+  now = 1;
+  none_left = true;
+  heard = heard lane well;
+  drawn = heard lane well;
+  left = left lane well;
+  ticked = ticked lane well;
+  hears = hears lane well;
+  draws = draws_none lane well;
+  leaves = leaves lane well;
+  ticks = ticks_once lane well;
+  gives = gives_all lane well;
+}
+
+-- THE RUN
+
+has_ended_so : (lane : LaneId) (well : WellView) → has_ended (ended lane well) ≡ true
+has_ended_so lane well = refl
+
+-- behind a pause it did this turn, and then it has ended, though five were asked for
+pub runs_to_end : (lane : LaneId) (well : WellView) → RunEnds (Ok tt) 5 (before lane well) (ended lane well)
+runs_to_end lane well = record {
+  count = 1;
+  few = omega arith;
+  runs = record { turns = (before lane well, before lane well, refl, refl, record { failures = omega arith; same = refl }, turned lane well) };
+  ended = refl;
+}
+
+-- a node that has ended does no turn more
+no_turn_more : (lane : LaneId) (well : WellView) (n : NodeView) → RunEnds (Err Turns) 1 (ended lane well) n → ⊥
+no_turn_more lane well n h = let (node, paused, same, goes_on, waits, turn) = h.runs.turns in let open_yet : true ≡ false = sym (ap has_ended same) ∙ goes_on in cc

@@ -1,0 +1,54 @@
+//! Whether a node has ended.
+
+ghost use Rattle.std.specs.Prelude.{◌≡◌, ◌&&◌, false, map, replicate, IfOk};
+ghost use Rattle.std.specs.List.{list_all};
+ghost use Rattle.srm_names.specs.declared.limits.TheConstants.{PAGES};
+ghost use Rattle.srm_entries.specs.Entries.{is_gone};
+ghost use Rattle.srm_node.specs.Nodes.{has_closed, is_done};
+
+use srm_agent::AgentState;
+use srm_names::PAGES;
+use srm_pages::Feed;
+use std::alloc::{AllocError, Global};
+
+/// That no feed put its close yet.
+pub fn none_closed(alloc: Global) -> Result<Vec<bool>, AllocError>
+    ensures { IfOk result (λ closed. closed.items ≡ replicate PAGES false) }
+{
+    vec![in alloc; false; usize::from(PAGES)]
+}
+
+/// Whether a member in this state is gone, and nothing more comes of any of these feeds.
+pub fn is_ended(after: AgentState, feeds: &[Feed], closed: &[bool]) -> bool
+    requires { closed.now ≡ map has_closed feeds.now }
+    ensures { result ≡ (is_gone after && list_all is_done feeds.now) }
+{
+    let gone = is_gone(after);
+    gone & are_done(feeds, closed)
+}
+
+fn is_gone(after: AgentState) -> bool
+    ensures { result ≡ is_gone after }
+{
+    matches!(after, AgentState::Gone)
+}
+
+// Whether each feed is lost, or put its close.
+fn are_done(feeds: &[Feed], closed: &[bool]) -> bool
+    requires { closed.now ≡ map has_closed feeds.now }
+    ensures { result ≡ list_all is_done feeds.now }
+{
+    for slot in 0..feeds.len() {
+        if !is_done(&feeds[slot], closed[slot]) {
+            return false;
+        }
+    }
+    true
+}
+
+fn is_done(feed: &Feed, closed: bool) -> bool
+    requires { closed ≡ has_closed feed.now }
+    ensures { result ≡ is_done feed.now }
+{
+    feed.is_lost() | closed
+}
