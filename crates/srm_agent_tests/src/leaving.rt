@@ -3,7 +3,7 @@
 use crate::datagrams::Sent;
 use crate::steps::{Step, play, play_with};
 use crate::told::Told;
-use srm_agent::{AgentFault, Cause};
+use srm_agent::{AgentFault, AgentState, Cause};
 
 #[test]
 fn who_leaves_cannot_leave_again(rt: HostRuntime) {
@@ -56,10 +56,16 @@ fn a_farewell_waits_for_new_data(rt: HostRuntime) {
 #[test]
 fn who_is_gone_does_nothing(rt: HostRuntime) {
     let steps = [
+        Step::State,
+        Step::Tells(Told::Is(AgentState::Active)),
         Step::Leave(9),
         Step::Tells(Told::Done),
+        Step::State,
+        Step::Tells(Told::Is(AgentState::Leaving)),
         Step::Tick(10),
         Step::Tells(Told::Sent(23)),
+        Step::State,
+        Step::Tells(Told::Is(AgentState::Gone)),
         Step::Tick(5_000_000),
         Step::Draw(0, 1_025, 11),
         Step::Tells(Told::Refused(AgentFault::Gone)),

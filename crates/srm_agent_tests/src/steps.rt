@@ -31,6 +31,8 @@ pub(crate) enum Step {
     ShowPages(u16),
     /// The member's next page is asked for.
     NewPage,
+    /// What the member does now.
+    State,
     /// A call is made whose entry tells.
     Note(NotedCall, u64),
     Leave(u64),
@@ -200,6 +202,7 @@ fn call(rt: &impl Abort, alloc: Global, agent: &mut Agent<Listed>, tales: &mut T
             );
         }
         Step::ShowPages(count) => show_pages(rt, agent, count),
+        Step::State => tell(rt, tales, Told::Is(agent.state())),
         Step::NewPage => tell(rt, tales, of_page(agent.new_page())),
         Step::Note(noted, now) => note_and_tell(rt, alloc, agent, tales, noted, now),
         Step::Leave(now) => tell(rt, tales, of_result(leave(rt, agent, now))),

@@ -43,6 +43,8 @@ pub(crate) enum Told {
     NewPage(Option<(u8, u16)>),
     /// The moment of an entry, its verdict, and the state that it leaves.
     Noted(u64, Verdict, AgentState),
+    /// What the member does now.
+    Is(AgentState),
     /// The stamp of the drawop of an entry.
     Stamped(u64),
 }

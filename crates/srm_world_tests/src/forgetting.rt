@@ -34,6 +34,7 @@ fn check_next(
 ) {
     assert_eq!(rt; forgetful.next_due(), keeping.next_due());
     assert_eq!(rt; forgetful.new_page(), keeping.new_page());
+    assert_eq!(rt; forgetful.state(), keeping.state());
     assert_eq!(rt;
         forgetful.admits_draw(1_024, 13),
         keeping.admits_draw(1_024, 13)
