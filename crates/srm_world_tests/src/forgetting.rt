@@ -1,16 +1,21 @@
 //! A recorder that keeps no entry, beside one that does.
 
-use crate::recording::{Call, WORKED, config, fresh, make, page};
+use crate::recording::{Call, WORKED, config, make, page};
 use srm_timers::Listed;
 use srm_world::{Forgotten, Recorder};
 use std::alloc::Global;
 use std::process::Abort;
-use std::test::Fail;
 
-/// A recorder of member 1 of three that keeps no entry, and did nothing yet.
-fn forgetful(rt: &impl Abort, alloc: Global) -> Result<Recorder<Listed, Forgotten>, Fail> {
+/// A recorder of member 1 of three, which did nothing yet.
+fn keeping(rt: &impl Abort, alloc: Global) -> Recorder<Listed> {
     let words = Listed::new(Vec::new(alloc));
-    Ok(Recorder::forgetful(alloc, config(rt, 1, 3), words, 0)?)
+    Recorder::new(alloc, config(rt, 1, 3), words, 0).expect(rt, "memory")
+}
+
+/// The same that keeps no entry.
+fn forgetful(rt: &impl Abort, alloc: Global) -> Recorder<Listed, Forgotten> {
+    let words = Listed::new(Vec::new(alloc));
+    Recorder::forgetful(alloc, config(rt, 1, 3), words, 0).expect(rt, "memory")
 }
 
 /// Both answer this call alike.
@@ -24,6 +29,17 @@ fn check_call(
     let wanted = make(rt, alloc, keeping, call).expect(rt, "memory");
     let answer = make(rt, alloc, forgetful, call).expect(rt, "memory");
     assert_eq!(rt; answer, wanted);
+}
+
+/// This call is done.
+fn check_done(
+    rt: &impl Abort,
+    alloc: Global,
+    forgetful: &mut Recorder<Listed, Forgotten>,
+    call: Call,
+) {
+    let answer = make(rt, alloc, forgetful, call).expect(rt, "memory");
+    assert!(rt; answer.as_str().starts_with("Ok("));
 }
 
 /// Both tell the same of what comes next.
@@ -46,29 +62,24 @@ fn check_next(
 }
 
 #[test]
-fn a_forgetful_recorder_answers_as_one_that_keeps_its_entries(rt: HostRuntime) -> Result<(), Fail> {
-    let mut keeping = fresh(&rt, rt.alloc())?;
-    let mut forgetful = forgetful(&rt, rt.alloc())?;
+fn a_forgetful_recorder_answers_as_one_that_keeps_its_entries(rt: HostRuntime) {
+    let mut keeping = keeping(&rt, rt.alloc());
+    let mut forgetful = forgetful(&rt, rt.alloc());
     for (call, _, _) in WORKED {
         check_call(&rt, rt.alloc(), &mut keeping, &mut forgetful, call);
         check_next(&rt, &keeping, &forgetful);
     }
-    Ok(())
 }
 
 /// What it draws, it gives: the page, its drawop and nothing more.
 #[test]
-fn a_forgetful_recorder_gives_what_it_drew(rt: HostRuntime) -> Result<(), Fail> {
-    let mut forgetful = forgetful(&rt, rt.alloc())?;
+fn a_forgetful_recorder_gives_what_it_drew(rt: HostRuntime) {
+    let mut forgetful = forgetful(&rt, rt.alloc());
     assert_eq!(rt; forgetful.new_page(), Some(page(&rt, 1, 0)));
     for call in [Call::Draw(5), Call::Tick(6), Call::Give, Call::Give] {
-        let answer = make(&rt, rt.alloc(), &mut forgetful, call)?;
-        assert!(&rt; answer.as_str().starts_with("Ok("));
+        check_done(&rt, rt.alloc(), &mut forgetful, call);
     }
-    assert_eq!(rt;
-        make(&rt, rt.alloc(), &mut forgetful, Call::Give)?.as_str(),
-        "Ok(None)"
-    );
+    let last = make(&rt, rt.alloc(), &mut forgetful, Call::Give).expect(&rt, "memory");
+    assert_eq!(rt; last.as_str(), "Ok(None)");
     assert_eq!(rt; forgetful.finish().start().made, 0);
-    Ok(())
 }
