@@ -7,6 +7,7 @@ use crate::station::Station;
 use srm_agent::{Entry, Input};
 use srm_names::PageMsg;
 use srm_node::{Hosted, NodeFault, PageSink, WorkEnd, Worked, host};
+use srm_world::Past;
 use std::alloc::Global;
 use std::process::Abort;
 use std::sync::Wait;
@@ -15,8 +16,9 @@ use std::thread::Threads;
 /// Hosts the node for so many turns.
 pub(crate) fn host_station<
     R: Threads + Wait + Abort + Copy + Send + Drop + 'static,
+    P: Past + Drop,
     S: PageSink + Send + Drop + 'static,
->(rt: &R, alloc: Global, station: Station<R>, sinks: Vec<S>, turns: u64) -> Hosted
+>(rt: &R, alloc: Global, station: Station<R, P>, sinks: Vec<S>, turns: u64) -> Hosted<P>
     requires taps { vec_len station.taps ≡ PAGES }
     requires sinks { vec_len sinks ≡ PAGES }
 {
@@ -70,7 +72,20 @@ fn assert_workers(rt: &impl Abort, all: &[Worked], wanted: &[(usize, WorkEnd)]) 
     }
 }
 
-/// The node ended so, handed back so many feeds, and its workers took so many messages each and ended so. What it gave in slot 0.
+/// The node ended so, handed back so many feeds, and its workers took so many messages each and ended so.
+pub(crate) fn assert_ended<P: Past + Drop>(
+    rt: &impl Abort,
+    hosted: &Hosted<P>,
+    end: Result<(), NodeFault>,
+    feeds: usize,
+    wanted: &[(usize, WorkEnd)],
+) {
+    assert_eq!(rt; hosted.end, end);
+    assert_eq!(rt; hosted.feeds.len(), feeds);
+    assert_workers(rt, hosted.worked.as_slice(), wanted);
+}
+
+/// The same of a node that keeps its journal. What it gave in slot 0.
 pub(crate) fn assert_hosted(
     rt: &impl Abort,
     hosted: Hosted,
@@ -78,8 +93,6 @@ pub(crate) fn assert_hosted(
     feeds: usize,
     wanted: &[(usize, WorkEnd)],
 ) -> Gave {
-    assert_eq!(rt; hosted.end, end);
-    assert_eq!(rt; hosted.feeds.len(), feeds);
-    assert_workers(rt, hosted.worked.as_slice(), wanted);
+    assert_ended(rt, &hosted, end, feeds, wanted);
     gave_in_first(hosted.journal.entries())
 }

@@ -1,8 +1,8 @@
 //! A node and its workers in threads.
 
-use crate::hosted::{assert_hosted, host_station};
+use crate::hosted::{assert_ended, assert_hosted, host_station};
 use crate::sinks::{held_sinks, own_sinks, plain_sinks};
-use crate::station::{SteppedNode, alone, alone_in_steps, end_all, ink, ink_text};
+use crate::station::{SteppedNode, alone, alone_in_steps, end_all, forgetful_alone, ink, ink_text};
 use srm_node::{Hosted, NodeFault, WorkEnd};
 use srm_pages::Pen;
 use std::alloc::Global;
@@ -48,6 +48,20 @@ fn workers_take_all_and_the_node_ends(rt: HostRuntime) {
     wanted[0] = (66, WorkEnd::Closed);
     let gave = assert_hosted(&rt, hosted, Ok(()), 8, &wanted);
     assert_eq!(rt; gave.count, 66);
+}
+
+#[test]
+fn workers_of_a_node_that_keeps_no_entry_take_all(rt: HostRuntime) {
+    let alloc = rt.alloc();
+    let mut station = forgetful_alone(rt, alloc);
+    ink_text(&rt, alloc, &mut station.pens, &[b'x'; 64]);
+    end_all(&mut station.pens);
+    station.node.ask_leave(0);
+    let sinks = plain_sinks(&rt, alloc, false);
+    let hosted = host_station(&rt, alloc, station, sinks, MANY);
+    let mut wanted = [(1, WorkEnd::Closed); 8];
+    wanted[0] = (66, WorkEnd::Closed);
+    assert_ended(&rt, &hosted, Ok(()), 8, &wanted);
 }
 
 /// Hosts the only member of a roster, with a stroke on each of two pages, where the worker of slot 0 is held until that of slot 1 got

@@ -5,11 +5,12 @@ ghost use Rattle.srm_names.specs.declared.limits.TheConstants.{PAGES};
 ghost use Rattle.srm_node.specs.Nodes.{AreNewFeeds};
 
 use bytes::Bytes;
-use srm_agent::Config;
+use srm_agent::{Config, Entry};
 use srm_names::{Member, Page};
 use srm_node::{Clock, Fate, MemWire, Node, hub};
 use srm_pages::{Feed, Pen, Stroke, Tap, ends, lanes, well};
 use srm_timers::Listed;
+use srm_world::{Forgotten, Past};
 use std::alloc::{AllocError, Global};
 use std::process::Abort;
 use std::sync::Wait;
@@ -29,12 +30,12 @@ impl Clock for StepClock {
 }
 
 /// A node over a network in memory whose waits come from a list.
-pub(crate) type SteppedNode<R> = Node<Listed, MemWire<R>, StepClock>;
+pub(crate) type SteppedNode<R, P = Vec<Entry>> = Node<Listed, MemWire<R>, StepClock, P>;
 
 /// A node over a network in memory, with its taps and pens.
 #[derive(Drop)]
-pub(crate) struct Station<R: Wait + Drop> {
-    pub node: SteppedNode<R>,
+pub(crate) struct Station<R: Wait + Drop, P: Past + Drop = Vec<Entry>> {
+    pub node: SteppedNode<R, P>,
     pub taps: Vec<Tap>,
     pub pens: Vec<Pen>,
 }
@@ -105,6 +106,28 @@ fn new_node<R: Wait + Abort + Drop>(
     }
 }
 
+fn forgetful_node<R: Wait + Abort + Drop>(
+    rt: &R,
+    alloc: Global,
+    config: Config,
+    wire: MemWire<R>,
+    feeds: Vec<Feed>,
+    well: ends::Well,
+) -> SteppedNode<R, Forgotten>
+    requires feeds { AreNewFeeds feeds.items }
+    requires well { well.received ≡ [] }
+{
+    let words = Listed::new(Vec::new(alloc));
+    let clock = StepClock {
+        now: AtomicU64::new(0),
+        step: 0,
+    };
+    match Node::forgetful(alloc, config, words, wire, clock, feeds, well) {
+        Ok(node) => node,
+        Err(_) => panic!(rt; "memory"),
+    }
+}
+
 /// A new node of one of so many members, whose clock goes on by so many microseconds whenever it is read.
 pub(crate) fn make_station<R: Wait + Abort + Drop>(
     rt: &R,
@@ -144,6 +167,25 @@ pub(crate) fn alone<R: Wait + Abort + Copy + Drop>(rt: R, alloc: Global) -> Stat
     ensures { vec_len result.taps ≡ PAGES }
 {
     alone_in_steps(rt, alloc, 0)
+}
+
+/// The same that keeps no entry.
+pub(crate) fn forgetful_alone<R: Wait + Abort + Copy + Drop>(
+    rt: R,
+    alloc: Global,
+) -> Station<R, Forgotten>
+    ensures { vec_len result.taps ≡ PAGES }
+{
+    let mut wires = wires(rt, alloc, 1, Vec::new(alloc));
+    let wire = last(&rt, &mut wires);
+    let (feeds, taps) = new_lanes(&rt, alloc);
+    let (well, pens) = new_well(&rt, alloc);
+    let config = config(&rt, 0, 1);
+    Station {
+        node: forgetful_node(&rt, alloc, config, wire, feeds, well),
+        taps,
+        pens,
+    }
 }
 
 fn body_of(alloc: Global, byte: u8) -> Result<Bytes, AllocError> {

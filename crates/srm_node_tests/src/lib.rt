@@ -16,6 +16,8 @@ mod faults;
 #[cfg(test)]
 mod filling;
 #[cfg(test)]
+mod forgetting;
+#[cfg(test)]
 mod giving;
 #[cfg(test)]
 mod noting;

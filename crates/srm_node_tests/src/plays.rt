@@ -1,10 +1,11 @@
 //! Worked runs: nodes take steps, and then their journals tell.
 
-use crate::rig::{Rig, TestWire, config, first, last, make_rig, wires};
+use crate::rig::{Rig, TestWire, config, first, last, make_forgetful_rig, make_rig, wires};
 use crate::steps::{Step, play};
 use crate::tales::{Tale, end};
 use srm_agent::Config;
 use srm_node::{Fate, Flaky, Wire};
+use srm_world::Forgotten;
 use std::alloc::Global;
 use std::process::Abort;
 use std::sync::Wait;
@@ -36,12 +37,29 @@ pub(crate) fn play_alone<R: Wait + Abort + Copy + Drop>(
     play_over(&rt, alloc, config(&rt, 0, 1), wire, 0, steps, tales);
 }
 
-/// The node of member 1 of three, with the wire of member 0 beside it.
-fn beside_one<R: Wait + Abort + Copy + Drop>(rt: R, alloc: Global) -> Rig<TestWire<R>> {
+/// The wires of members 0 and 1 of three.
+fn first_wires<R: Wait + Abort + Copy + Drop>(rt: R, alloc: Global) -> (TestWire<R>, TestWire<R>) {
     let mut wires = wires(rt, alloc, 3, &[]);
     let other = Flaky::new(first(&rt, &mut wires), 0);
     let own = Flaky::new(first(&rt, &mut wires), 0);
+    (other, own)
+}
+
+/// The node of member 1 of three, with the wire of member 0 beside it.
+pub(crate) fn beside_one<R: Wait + Abort + Copy + Drop>(rt: R, alloc: Global) -> Rig<TestWire<R>> {
+    let (other, own) = first_wires(rt, alloc);
     let mut rig = make_rig(&rt, alloc, config(&rt, 1, 3), own, 0);
+    rig.beside.push(other).expect(&rt, "memory");
+    rig
+}
+
+/// The same with a node that keeps no entry.
+pub(crate) fn forgetful_beside_one<R: Wait + Abort + Copy + Drop>(
+    rt: R,
+    alloc: Global,
+) -> Rig<TestWire<R>, Forgotten> {
+    let (other, own) = first_wires(rt, alloc);
+    let mut rig = make_forgetful_rig(&rt, alloc, config(&rt, 1, 3), own);
     rig.beside.push(other).expect(&rt, "memory");
     rig
 }

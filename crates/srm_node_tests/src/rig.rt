@@ -3,11 +3,12 @@
 ghost use Rattle.std.specs.Prelude.{◌≡◌, []};
 ghost use Rattle.srm_node.specs.Nodes.{AreNewFeeds};
 
-use srm_agent::Config;
+use srm_agent::{Config, Entry};
 use srm_names::Member;
 use srm_node::{Clock, Fate, Flaky, MemWire, Node, Wire, hub};
 use srm_pages::{Feed, Pen, Tap, ends, lanes, well};
 use srm_timers::Listed;
+use srm_world::{Forgotten, Past};
 use std::alloc::{AllocError, Global};
 use std::process::Abort;
 use std::sync::atomic::{AtomicU64, Ordering};
@@ -28,8 +29,8 @@ impl Clock for TestClock {
 
 /// A node with what is outside it.
 #[derive(Drop)]
-pub(crate) struct Rig<X: Wire + Drop> {
-    pub node: Node<Listed, X, TestClock>,
+pub(crate) struct Rig<X: Wire + Drop, P: Past + Drop = Vec<Entry>> {
+    pub node: Node<Listed, X, TestClock, P>,
     pub now: Arc<AtomicU64, Global>,
     pub taps: Vec<Tap>,
     pub pens: Vec<Pen>,
@@ -155,6 +156,48 @@ pub(crate) fn make_rig_at<X: Wire + Drop>(
     let (well, pens) = new_well(rt, alloc);
     Rig {
         node: new_node(rt, alloc, config, wire, clock, feeds, well),
+        now,
+        taps,
+        pens,
+        beside: Vec::new(alloc),
+    }
+}
+
+fn forgetful_node<X: Wire + Drop>(
+    rt: &impl Abort,
+    alloc: Global,
+    config: Config,
+    wire: X,
+    clock: TestClock,
+    feeds: Vec<Feed>,
+    well: ends::Well,
+) -> Node<Listed, X, TestClock, Forgotten>
+    requires feeds { AreNewFeeds feeds.items }
+    requires well { well.received ≡ [] }
+{
+    let words = Listed::new(Vec::new(alloc));
+    match Node::forgetful(alloc, config, words, wire, clock, feeds, well) {
+        Ok(node) => node,
+        Err(_) => panic!(rt; "memory"),
+    }
+}
+
+/// A new node that keeps no entry, whose clock stands at 5.
+pub(crate) fn make_forgetful_rig<X: Wire + Drop>(
+    rt: &impl Abort,
+    alloc: Global,
+    config: Config,
+    wire: X,
+) -> Rig<X, Forgotten> {
+    let now = new_now(rt, alloc);
+    let clock = TestClock {
+        now: Arc::try_clone(&now).expect(rt, "memory"),
+        step: 0,
+    };
+    let (feeds, taps) = new_lanes(rt, alloc);
+    let (well, pens) = new_well(rt, alloc);
+    Rig {
+        node: forgetful_node(rt, alloc, config, wire, clock, feeds, well),
         now,
         taps,
         pens,

@@ -5,6 +5,7 @@ use crate::rig::Rig;
 use crate::seen::{Seen, assert_taken};
 use crate::strokes::{end_all, ink_by, ink_many, ink_until_full};
 use srm_node::{Counts, NodeFault, Wire};
+use srm_world::Past;
 use std::alloc::Global;
 use std::process::Abort;
 use std::sync::Wait;
@@ -48,31 +49,41 @@ pub(crate) enum Step {
 }
 
 /// The node turns once, which ends so.
-pub(crate) fn turn<R: Wait + Abort, X: Wire + Drop>(
+pub(crate) fn turn<R: Wait + Abort, X: Wire + Drop, P: Past + Drop>(
     rt: &R,
-    rig: &mut Rig<X>,
+    rig: &mut Rig<X, P>,
     end: Result<(), NodeFault>,
 ) {
     assert_eq!(rt; rig.node.turn(rt), end);
 }
 
-fn run<R: Wait + Abort, X: Wire + Drop>(
+fn run<R: Wait + Abort, X: Wire + Drop, P: Past + Drop>(
     rt: &R,
-    rig: &mut Rig<X>,
+    rig: &mut Rig<X, P>,
     turns: u64,
     end: Result<(), NodeFault>,
 ) {
     assert_eq!(rt; rig.node.run(rt, turns), end);
 }
 
-fn fill<R: Wait + Abort, X: Wire + Drop>(rt: &R, alloc: Global, rig: &mut Rig<X>, turns: u16) {
+fn fill<R: Wait + Abort, X: Wire + Drop, P: Past + Drop>(
+    rt: &R,
+    alloc: Global,
+    rig: &mut Rig<X, P>,
+    turns: u16,
+) {
     for _ in 0..turns {
         ink_many(rt, alloc, &mut rig.pens, 64);
         turn(rt, rig, Ok(()));
     }
 }
 
-fn flow<R: Wait + Abort, X: Wire + Drop>(rt: &R, alloc: Global, rig: &mut Rig<X>, turns: u16) {
+fn flow<R: Wait + Abort, X: Wire + Drop, P: Past + Drop>(
+    rt: &R,
+    alloc: Global,
+    rig: &mut Rig<X, P>,
+    turns: u16,
+) {
     for _ in 0..turns {
         ink_until_full(rt, alloc, &mut rig.pens);
         run(rt, rig, 1, Err(NodeFault::Turns));
@@ -83,18 +94,27 @@ fn counts<X: Wire + Drop>(rt: &impl Abort, rig: &Rig<X>, wanted: Counts) {
     assert_eq!(rt; rig.node.counts(), wanted);
 }
 
-fn take_many<R: Wait + Abort, X: Wire + Drop>(rt: &R, rig: &mut Rig<X>, count: u32) {
+fn take_many<R: Wait + Abort, X: Wire + Drop, P: Past + Drop>(
+    rt: &R,
+    rig: &mut Rig<X, P>,
+    count: u32,
+) {
     for before in 0..count {
         assert_taken(rt, &mut rig.taps, 0, Seen::Draw(0, before + 1, 1, b'x'));
     }
 }
 
-fn drop_tap<X: Wire + Drop>(rt: &impl Abort, rig: &mut Rig<X>) {
+fn drop_tap<X: Wire + Drop, P: Past + Drop>(rt: &impl Abort, rig: &mut Rig<X, P>) {
     assert!(rt; !rig.taps.is_empty());
     drop(rig.taps.remove(0));
 }
 
-fn take<R: Wait + Abort, X: Wire + Drop>(rt: &R, alloc: Global, rig: &mut Rig<X>, step: Step) {
+fn take<R: Wait + Abort, X: Wire + Drop, P: Past + Drop>(
+    rt: &R,
+    alloc: Global,
+    rig: &mut Rig<X, P>,
+    step: Step,
+) {
     match step {
         Step::At(moment) => rig.now.store(moment, Ordering::SeqCst),
         Step::Ink(byte) => ink_by(rt, alloc, &mut rig.pens, 0, 0, byte, 1),
@@ -113,23 +133,39 @@ fn take<R: Wait + Abort, X: Wire + Drop>(rt: &R, alloc: Global, rig: &mut Rig<X>
         Step::DropTap => drop_tap(rt, rig),
         Step::Takes(place, wanted) => assert_taken(rt, &mut rig.taps, place, wanted),
         Step::TakesMany(count) => take_many(rt, rig, count),
-        Step::Counts(noise, ignored, dropped) => counts(
-            rt,
-            rig,
-            Counts {
-                noise,
-                ignored,
-                dropped,
-            },
-        ),
+        // A node that keeps no entry has no counts.
+        Step::Counts(_, _, _) => {}
     }
 }
 
-/// Takes these steps.
+/// A node that keeps its journal takes these steps.
 pub(crate) fn play<R: Wait + Abort, X: Wire + Drop>(
     rt: &R,
     alloc: Global,
     rig: &mut Rig<X>,
+    steps: &[Step],
+) {
+    for step in steps {
+        match *step {
+            Step::Counts(noise, ignored, dropped) => counts(
+                rt,
+                rig,
+                Counts {
+                    noise,
+                    ignored,
+                    dropped,
+                },
+            ),
+            step => take(rt, alloc, rig, step),
+        }
+    }
+}
+
+/// A node takes these steps, whatever it keeps. Nothing is counted.
+pub(crate) fn play_uncounted<R: Wait + Abort, X: Wire + Drop, P: Past + Drop>(
+    rt: &R,
+    alloc: Global,
+    rig: &mut Rig<X, P>,
     steps: &[Step],
 ) {
     for step in steps {
