@@ -7,6 +7,7 @@ use crate::steps::{Step, play, play_uncounted};
 use srm_node::Wire;
 use std::alloc::{AllocError, Global};
 use std::process::Abort;
+use std::sync::Wait;
 
 /// Member 1 draws two strokes and hears the second drawop of member 0, whose first it misses. It asks for that two distances of 100,000
 /// microseconds later, is asked for its own first and hears what it missed, and repairs one distance later. A second after it was made it reports, and
@@ -67,15 +68,25 @@ fn assert_kinds(rt: &impl Abort, datagrams: &[Vec<u8>]) {
     }
 }
 
+/// What a node that keeps its journal sends in these steps.
+fn sent_keeping<R: Wait + Abort + Copy + Drop>(rt: R, alloc: Global) -> Vec<Vec<u8>> {
+    let mut rig = beside_one(rt, alloc);
+    play(&rt, alloc, &mut rig, &STEPS);
+    received(&rt, alloc, &mut rig.beside)
+}
+
+/// What a node that keeps no entry sends in them.
+fn sent_forgetful<R: Wait + Abort + Copy + Drop>(rt: R, alloc: Global) -> Vec<Vec<u8>> {
+    let mut rig = forgetful_beside_one(rt, alloc);
+    play_uncounted(&rt, alloc, &mut rig, &STEPS);
+    received(&rt, alloc, &mut rig.beside)
+}
+
 #[test]
 fn a_forgetful_node_sends_and_gives_as_one_that_keeps_its_journal(rt: HostRuntime) {
     let alloc = rt.alloc();
-    let mut keeping = beside_one(rt, alloc);
-    let mut forgetful = forgetful_beside_one(rt, alloc);
-    play(&rt, alloc, &mut keeping, &STEPS);
-    play_uncounted(&rt, alloc, &mut forgetful, &STEPS);
-    let wanted = received(&rt, alloc, &mut keeping.beside);
-    let sent = received(&rt, alloc, &mut forgetful.beside);
+    let wanted = sent_keeping(rt, alloc);
+    let sent = sent_forgetful(rt, alloc);
     assert_kinds(&rt, &sent);
     assert!(&rt; sent == wanted);
 }
