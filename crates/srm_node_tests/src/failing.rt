@@ -199,3 +199,19 @@ fn a_receive_that_fails_loses_nothing_that_is_there(rt: HostRuntime) {
     end(&rt, first, &[Tale::Given(0, 2, Seen::Draw(1, 1, 1, b'a'))]);
     end(&rt, second, &[]);
 }
+
+// The first turn's first call, a receive, fails, before the moment to leave has come.
+#[test]
+fn a_turn_that_fails_keeps_the_moment_to_leave(rt: HostRuntime) {
+    let (mut first, second) = pair(rt, rt.alloc(), two(&rt), 1, &[]);
+    let steps = [
+        Step::Done,
+        Step::Leave(1_000),
+        Step::Turn(Err(NodeFault::Wire)),
+        Step::At(1_000),
+        Step::Run(1, Ok(())),
+    ];
+    play(&rt, rt.alloc(), &mut first, &steps);
+    end(&rt, first, &[]);
+    end(&rt, second, &[]);
+}

@@ -10,9 +10,9 @@ use std::process::Abort;
 use std::sync::Wait;
 
 /// Member 1 draws two strokes and hears the second drawop of member 0, whose first it misses. It asks for that two distances of 100,000
-/// microseconds later, is asked for its own first and hears what it missed, and repairs one distance later. A second after it was made it reports, and
-/// then it leaves.
-const STEPS: [Step; 23] = [
+/// microseconds later, is asked for its own first and hears what it missed, and repairs one distance later. A second after it was made, and no microsecond
+/// sooner, it reports, and then it leaves.
+const STEPS: [Step; 25] = [
     Step::Ink(b'a'),
     Step::Ink(b'b'),
     Step::Send(Sent::Data(0, 0, 2), 1),
@@ -28,6 +28,8 @@ const STEPS: [Step; 23] = [
     Step::Takes(0, Seen::Draw(0, 1, 2, b'h')),
     Step::Takes(0, Seen::Draw(0, 2, 2, b'h')),
     Step::At(300_005),
+    Step::Turn(Ok(())),
+    Step::At(1_000_004),
     Step::Turn(Ok(())),
     Step::At(1_000_005),
     Step::Turn(Ok(())),

@@ -14,6 +14,10 @@ use std::sync::atomic::{AtomicU64, Ordering};
 pub(crate) struct Notes {
     /// For how long it paused last, in microseconds.
     pub paused: AtomicU64,
+    /// How often it paused.
+    pub pauses: AtomicU64,
+    /// For how long it paused in all, in microseconds.
+    pub paused_in_all: AtomicU64,
     /// Into how many bytes it received last.
     pub room: AtomicU64,
     pub noise: AtomicU64,
@@ -23,6 +27,8 @@ pub(crate) struct Notes {
 pub(crate) fn new_notes(rt: &impl Abort, alloc: Global) -> Arc<Notes, Global> {
     let notes = Notes {
         paused: AtomicU64::new(77),
+        pauses: AtomicU64::new(0),
+        paused_in_all: AtomicU64::new(0),
         room: AtomicU64::new(0),
         noise: AtomicU64::new(0),
     };
@@ -62,6 +68,8 @@ impl Wire for Noting {
 
     fn pause(&mut self, micros: u64) {
         self.notes.paused.store(micros, Ordering::SeqCst);
+        self.notes.pauses.fetch_add(1, Ordering::SeqCst);
+        self.notes.paused_in_all.fetch_add(micros, Ordering::SeqCst);
     }
 
     fn failures(&self) -> u64 {

@@ -55,6 +55,8 @@ fn a_node_pauses_until_something_is_due(rt: HostRuntime) {
     let pauses = [
         Pause(5, 0, 0),
         Pause(5, 0, 10_000),
+        Pause(5, 1, 10_000),
+        Pause(5, 0, 10_000),
         Pause(990_004, 0, 10_000),
         Pause(990_006, 0, 9_999),
         Pause(999_005, 0, 1_000),
@@ -103,4 +105,46 @@ fn a_node_does_not_pause_after_64_strokes(rt: HostRuntime) {
         &[Step::InkMany(64)],
         &pauses,
     );
+}
+
+// Nothing is due any more of a member that is gone, but its lane is full and has no close yet.
+#[test]
+fn a_node_that_is_gone_pauses_no_longer(rt: HostRuntime) {
+    let steps = [
+        Step::InkMany(64),
+        Step::Done,
+        Step::Leave(0),
+        Step::Turn(Ok(())),
+        Step::Turn(Ok(())),
+    ];
+    play_pauses(
+        &rt,
+        rt.alloc(),
+        settings(&rt, 100_000_000, 1_000_000),
+        &steps,
+        &[Pause(5, 0, 10_000)],
+    );
+}
+
+/// So often the wire has paused, and for so long in all.
+fn assert_pauses(rt: &impl Abort, notes: &Notes, count: u64, micros: u64) {
+    assert_eq!(rt; notes.pauses.load(Ordering::SeqCst), count);
+    assert_eq!(rt; notes.paused_in_all.load(Ordering::SeqCst), micros);
+}
+
+// A run pauses once before each turn, a node's first for no time; a turn by hand doesn't pause.
+#[test]
+fn each_turn_of_a_run_has_its_pause(rt: HostRuntime) {
+    let notes = new_notes(&rt, rt.alloc());
+    let wire = make_noting(&rt, &notes);
+    let mut rig = make_rig(&rt, rt.alloc(), config(&rt, 0, 2), wire, 0);
+    play(
+        &rt,
+        rt.alloc(),
+        &mut rig,
+        &[Step::Run(5, Err(NodeFault::Turns))],
+    );
+    assert_pauses(&rt, &notes, 5, 40_000);
+    play(&rt, rt.alloc(), &mut rig, &[Step::Turn(Ok(()))]);
+    assert_pauses(&rt, &notes, 5, 40_000);
 }

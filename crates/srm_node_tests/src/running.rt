@@ -1,6 +1,7 @@
 //! Runs of one node, and how it leaves.
 
-use crate::plays::play_alone;
+use crate::datagrams::Sent;
+use crate::plays::{play_alone, play_beside};
 use crate::seen::Seen;
 use crate::steps::Step;
 use crate::tales::Tale;
@@ -100,6 +101,51 @@ fn a_node_leaves_at_the_moment_it_was_asked_for_last(rt: HostRuntime) {
         Step::Run(1, Ok(())),
     ];
     play_alone(rt, rt.alloc(), &steps, &[]);
+}
+
+// Beyond what 32 bits hold, too.
+#[test]
+fn a_leaving_can_be_put_off(rt: HostRuntime) {
+    let steps = [
+        Step::Done,
+        Step::Leave(1_000),
+        Step::Leave(5_000_000_000),
+        Step::At(1_000),
+        Step::Run(1, Err(NodeFault::Turns)),
+        Step::At(4_999_999_999),
+        Step::Run(1, Err(NodeFault::Turns)),
+        Step::At(5_000_000_000),
+        Step::Run(1, Ok(())),
+    ];
+    play_alone(rt, rt.alloc(), &steps, &[]);
+}
+
+// A session in which each turn hears something holds nobody back.
+#[test]
+fn a_node_leaves_in_a_turn_that_hears(rt: HostRuntime) {
+    let steps = [
+        Step::Done,
+        Step::Leave(0),
+        Step::Send(Sent::Noise, 1),
+        Step::Run(1, Ok(())),
+    ];
+    play_beside(rt, rt.alloc(), &steps, &[]);
+}
+
+// Who is flooded draws all the same, and leaves behind what was drawn.
+#[test]
+fn a_turn_that_hears_64_datagrams_draws_and_leaves(rt: HostRuntime) {
+    let steps = [
+        Step::Send(Sent::Noise, 64),
+        Step::Ink(b'a'),
+        Step::Done,
+        Step::Leave(0),
+        Step::Turn(Ok(())),
+        Step::Takes(0, Seen::Open(0, 0)),
+        Step::Takes(0, Seen::Draw(1, 1, 1, b'a')),
+        Step::Takes(0, Seen::Close),
+    ];
+    play_beside(rt, rt.alloc(), &steps, &[]);
 }
 
 // A stroke in hand and 64 in the well are one more than a turn draws: the last one goes in the next turn, and only then the member leaves.
