@@ -1,6 +1,6 @@
 -- A turn of its parts.
 use Rattle.std.proofs.Common.{◌≡◌, ℕ, ◌+◌, ◌<◌, ◌≤◌, ◌||◌, Bool, true, false, refl, ap, sym, ◌∙◌, subst, inl, inr, add-one}
-use Rattle.std.specs.Prelude.{List, Option, Result, Ok, Err, MatchResult}
+use Rattle.std.specs.Prelude.{List, Option, Result, Ok, Err, MatchResult, IsErrAnd}
 use Rattle.std.specs.Bool.{OnTrue}
 use Rattle.srm_names.specs.declared.limits.TheConstants.{PAGES}
 use Rattle.srm_pages.specs.declared.stroke.Stroke.{Stroke}
@@ -40,21 +40,25 @@ pub gives_now : (n : NodeView) (k : Journal) (feeds : List FeedView) (r : Result
 gives_now n k feeds (Ok u) gives = record { gives = gives; same = refl }
 gives_now n k feeds (Err e) gives = record { gives = gives; same = refl }
 
--- the turn was cut in one of its parts
-pub cut_hearing : (now : ℕ) (a b : NodeView) → HearsCut now a b → IsCut a b
-cut_hearing now a b h = inl (record { now = now; hears = h })
+ends_cut : (r : Result (Unit {0}) NodeFault) (a b : NodeView) → IsErrAnd r (λ fault. fault ≡ Memory) → IsCut a b → TurnEnds r a b
+ends_cut (Ok _) a b is cut = absurd is
+ends_cut (Err fault) a b is cut = subst (λ f. TurnEnds (Err f) a b) (sym is) cut
 
-pub cut_drawing : (now : ℕ) (u : Bool) (a b c : NodeView) → HearsNow now u a b → DrawsCut now b c → IsCut a c
-cut_drawing now u a b c h d = inr (inl (record { now = now; unheard = u; heard = b; hears = h; draws = d }))
+-- The turn was cut in one of its parts. The fault is what the code made of want of memory.
+pub cut_hearing : (now : ℕ) (a b : NodeView) (r : Result (Unit {0}) NodeFault) → IsErrAnd r (λ fault. fault ≡ Memory) → HearsCut now a b → TurnEnds r a b
+cut_hearing now a b r is h = ends_cut r a b is (inl (record { now = now; hears = h }))
 
-pub cut_leaving : (now : ℕ) (u w : Bool) (a b c d : NodeView) → HearsNow now u a b → DrawsNow now w b c → d ≡ c → IsCut a d
-cut_leaving now u w a b c d h x same = inr (inr (inl (record { now = now; none_left = w; unheard = u; heard = b; hears = h; draws = subst (λ n. DrawsNow now w b n) (sym same) x })))
+pub cut_drawing : (now : ℕ) (u : Bool) (a b c : NodeView) (r : Result (Unit {0}) NodeFault) → IsErrAnd r (λ fault. fault ≡ Memory) → HearsNow now u a b → DrawsCut now b c → TurnEnds r a c
+cut_drawing now u a b c r is h d = ends_cut r a c is (inr (inl (record { now = now; unheard = u; heard = b; hears = h; draws = d })))
 
-pub cut_ticking : (now : ℕ) (u w : Bool) (a b c d e : NodeView) → HearsNow now u a b → DrawsNow now w b c → LeavesNow now w c d → e ≡ d → IsCut a e
-cut_ticking now u w a b c d e h x l same = inr (inr (inr (inl (record { now = now; none_left = w; unheard = u; heard = b; drawn = c; hears = h; draws = x; leaves = subst (λ n. LeavesNow now w c n) (sym same) l }))))
+pub cut_leaving : (now : ℕ) (u w : Bool) (a b c d : NodeView) (r : Result (Unit {0}) NodeFault) → IsErrAnd r (λ fault. fault ≡ Memory) → HearsNow now u a b → DrawsNow now w b c → d ≡ c → TurnEnds r a d
+cut_leaving now u w a b c d r is h x same = ends_cut r a d is (inr (inr (inl (record { now = now; none_left = w; unheard = u; heard = b; hears = h; draws = subst (λ n. DrawsNow now w b n) (sym same) x }))))
 
-pub cut_giving : (now : ℕ) (u v w : Bool) (a b c d e f : NodeView) → HearsNow now u a b → DrawsNow now w b c → LeavesNow now w c d → TicksNow now v d e → GivesCut e f → IsCut a f
-cut_giving now u v w a b c d e f h x l t g = inr (inr (inr (inr (record { now = now; none_left = w; unheard = u; unsent = v; heard = b; drawn = c; left = d; ticked = e; hears = h; draws = x; leaves = l; ticks = t; gives = g }))))
+pub cut_ticking : (now : ℕ) (u w : Bool) (a b c d e : NodeView) (r : Result (Unit {0}) NodeFault) → IsErrAnd r (λ fault. fault ≡ Memory) → HearsNow now u a b → DrawsNow now w b c → LeavesNow now w c d → e ≡ d → TurnEnds r a e
+cut_ticking now u w a b c d e r is h x l same = ends_cut r a e is (inr (inr (inr (inl (record { now = now; none_left = w; unheard = u; heard = b; drawn = c; hears = h; draws = x; leaves = subst (λ n. LeavesNow now w c n) (sym same) l })))))
+
+pub cut_giving : (now : ℕ) (u v w : Bool) (a b c d e f : NodeView) (r : Result (Unit {0}) NodeFault) → IsErrAnd r (λ fault. fault ≡ Memory) → HearsNow now u a b → DrawsNow now w b c → LeavesNow now w c d → TicksNow now v d e → GivesCut e f → TurnEnds r a f
+cut_giving now u v w a b c d e f r is h x l t g = ends_cut r a f is (inr (inr (inr (inr (record { now = now; none_left = w; unheard = u; unsent = v; heard = b; drawn = c; left = d; ticked = e; hears = h; draws = x; leaves = l; ticks = t; gives = g })))))
 
 pub turned : (now : ℕ) (u v w : Bool) (a b c d e f : NodeView) → HearsNow now u a b → DrawsNow now w b c → LeavesNow now w c d → TicksNow now v d e → GivesNow PAGES e f → Turned u v a f
 turned now u v w a b c d e f h x l t g = record { now = now; none_left = w; heard = b; drawn = c; left = d; ticked = e; hears = h; draws = x; leaves = l; ticks = t; gives = g }

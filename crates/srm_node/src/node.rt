@@ -182,22 +182,12 @@ impl<W: Words + Drop, X: Wire + Drop, C: Clock + Drop, P: Past + Drop> Node<W, X
         ensures words { WaitsByWords W.draw (recorded_in self.old) (recorded_in self.new) }
     {
         let now = self.clock.now().min(MOMENT);
-        let Ok(unheard) = self.listen_now(now) else {
-            return Err(NodeFault::Memory);
-        };
+        let unheard = self.listen_now(now)?;
         let done = self.well.is_done();
-        let Ok(none_left) = self.draw_now(rt, now) else {
-            return Err(NodeFault::Memory);
-        };
-        let Ok(()) = self.leave_now(done, none_left, now) else {
-            return Err(NodeFault::Memory);
-        };
-        let Ok(unsent) = self.tick_now(now) else {
-            return Err(NodeFault::Memory);
-        };
-        let Ok(()) = self.give_now(rt) else {
-            return Err(NodeFault::Memory);
-        };
+        let none_left = self.draw_now(rt, now)?;
+        self.leave_now(done, none_left, now)?;
+        let unsent = self.tick_now(now)?;
+        self.give_now(rt)?;
         if unheard | unsent {
             return Err(NodeFault::Wire);
         }
