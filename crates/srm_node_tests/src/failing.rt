@@ -3,12 +3,12 @@
 ghost use Rattle.std.specs.Prelude.{None};
 
 use crate::plays::{pair, play_over, two};
-use crate::rig::config;
+use crate::rig::{config, last, wires};
 use crate::seen::Seen;
 use crate::steps::{Step, play};
 use crate::tales::{Tale, end};
 use srm_names::Member;
-use srm_node::{NodeFault, Wire, WireFault};
+use srm_node::{Flaky, NodeFault, Wire, WireFault};
 use std::alloc::Global;
 use std::process::Abort;
 use std::sync::Wait;
@@ -200,10 +200,21 @@ fn a_receive_that_fails_loses_nothing_that_is_there(rt: HostRuntime) {
     end(&rt, second, &[]);
 }
 
+/// The node of the only member, over a wire whose k-th call fails, takes these steps.
+fn play_alone_over_flaky<R: Wait + Abort + Copy + Drop>(
+    rt: R,
+    alloc: Global,
+    k: u64,
+    steps: &[Step],
+) {
+    let mut wires = wires(rt, alloc, 1, &[]);
+    let wire = Flaky::new(last(&rt, &mut wires), k);
+    play_over(&rt, alloc, config(&rt, 0, 1), wire, 0, steps, &[]);
+}
+
 // The first turn's first call, a receive, fails, before the moment to leave has come.
 #[test]
 fn a_turn_that_fails_keeps_the_moment_to_leave(rt: HostRuntime) {
-    let (mut first, second) = pair(rt, rt.alloc(), two(&rt), 1, &[]);
     let steps = [
         Step::Done,
         Step::Leave(1_000),
@@ -211,7 +222,5 @@ fn a_turn_that_fails_keeps_the_moment_to_leave(rt: HostRuntime) {
         Step::At(1_000),
         Step::Run(1, Ok(())),
     ];
-    play(&rt, rt.alloc(), &mut first, &steps);
-    end(&rt, first, &[]);
-    end(&rt, second, &[]);
+    play_alone_over_flaky(rt, rt.alloc(), 1, &steps);
 }

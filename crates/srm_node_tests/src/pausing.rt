@@ -126,8 +126,18 @@ fn a_node_that_is_gone_pauses_no_longer(rt: HostRuntime) {
     );
 }
 
-/// So often the wire has paused, and for so long in all.
-fn assert_pauses(rt: &impl Abort, notes: &Notes, count: u64, micros: u64) {
+/// In these steps the wire of the first of two members pauses so often, and for so long in all.
+fn assert_pauses<R: Wait + Abort>(
+    rt: &R,
+    alloc: Global,
+    config: Config,
+    steps: &[Step],
+    count: u64,
+    micros: u64,
+) {
+    let notes = new_notes(rt, alloc);
+    let mut rig = make_rig(rt, alloc, config, make_noting(rt, &notes), 0);
+    play(rt, alloc, &mut rig, steps);
     assert_eq!(rt; notes.pauses.load(Ordering::SeqCst), count);
     assert_eq!(rt; notes.paused_in_all.load(Ordering::SeqCst), micros);
 }
@@ -135,16 +145,6 @@ fn assert_pauses(rt: &impl Abort, notes: &Notes, count: u64, micros: u64) {
 // A run pauses once before each turn, a node's first for no time; a turn by hand doesn't pause.
 #[test]
 fn each_turn_of_a_run_has_its_pause(rt: HostRuntime) {
-    let notes = new_notes(&rt, rt.alloc());
-    let wire = make_noting(&rt, &notes);
-    let mut rig = make_rig(&rt, rt.alloc(), config(&rt, 0, 2), wire, 0);
-    play(
-        &rt,
-        rt.alloc(),
-        &mut rig,
-        &[Step::Run(5, Err(NodeFault::Turns))],
-    );
-    assert_pauses(&rt, &notes, 5, 40_000);
-    play(&rt, rt.alloc(), &mut rig, &[Step::Turn(Ok(()))]);
-    assert_pauses(&rt, &notes, 5, 40_000);
+    let steps = [Step::Run(5, Err(NodeFault::Turns)), Step::Turn(Ok(()))];
+    assert_pauses(&rt, rt.alloc(), config(&rt, 0, 2), &steps, 5, 40_000);
 }
