@@ -16,9 +16,10 @@ use std::thread::Threads;
 /// Hosts the node for so many turns.
 pub(crate) fn host_station<
     R: Threads + Wait + Abort + Copy + Send + Drop + 'static,
-    P: Past + Drop,
+    P: Past<Entry> + Drop,
     S: PageSink + Send + Drop + 'static,
->(rt: &R, alloc: Global, station: Station<R, P>, sinks: Vec<S>, turns: u64) -> Hosted<P>
+    L: Past<PageMsg> + Send + Drop + 'static,
+>(rt: &R, alloc: Global, station: Station<R, P>, sinks: Vec<S>, turns: u64) -> Hosted<P, L>
     requires taps { vec_len station.taps ≡ PAGES }
     requires sinks { vec_len sinks ≡ PAGES }
 {
@@ -73,7 +74,7 @@ fn assert_workers(rt: &impl Abort, all: &[Worked], wanted: &[(usize, WorkEnd)]) 
 }
 
 /// The node ended so, handed back so many feeds, and its workers took so many messages each and ended so.
-pub(crate) fn assert_ended<P: Past + Drop>(
+pub(crate) fn assert_ended<P: Past<Entry> + Drop>(
     rt: &impl Abort,
     hosted: &Hosted<P>,
     end: Result<(), NodeFault>,

@@ -3,14 +3,20 @@
 use crate::hosted::{assert_ended, assert_hosted, host_station};
 use crate::sinks::{held_sinks, own_sinks, plain_sinks};
 use crate::station::{SteppedNode, alone, alone_in_steps, end_all, forgetful_alone, ink, ink_text};
+use srm_agent::Entry;
+use srm_names::PageMsg;
 use srm_node::{Hosted, NodeFault, WorkEnd};
 use srm_pages::Pen;
+use srm_world::Forgotten;
 use std::alloc::Global;
 use std::process::Abort;
 use std::sync::atomic::{AtomicU64, Ordering};
 use std::sync::{Arc, Wait};
 use std::thread::Threads;
 use std::time::Clock;
+
+/// A node that kept no entry, with workers that kept nothing.
+type ForgetfulHosted = Hosted<Forgotten<Entry>, Forgotten<PageMsg>>;
 
 /// Turns enough: a network in memory doesn't pause, and workers need not get a processor soon where others are at work too.
 const MANY: u64 = 100_000;
@@ -103,6 +109,29 @@ fn each_worker_shows_its_own_sink_what_it_takes(rt: HostRuntime) {
     wanted[0] = (4, WorkEnd::Closed);
     assert_hosted(&rt, hosted, Ok(()), 8, &wanted);
     assert_eq!(rt; seen.load(Ordering::SeqCst), 11);
+}
+
+// The same where the workers keep nothing of it: their sinks saw all, and each took a close.
+#[test]
+fn workers_that_forget_show_their_sinks_the_same(rt: HostRuntime) {
+    let alloc = rt.alloc();
+    let mut station = forgetful_alone(rt, alloc);
+    ink_text(&rt, alloc, &mut station.pens, b"ab");
+    end_all(&mut station.pens);
+    station.node.ask_leave(0);
+    let seen = Arc::new(alloc, AtomicU64::new(0)).expect(&rt, "memory");
+    let sinks = own_sinks(&rt, alloc, &seen);
+    let hosted: ForgetfulHosted = host_station(&rt, alloc, station, sinks, MANY);
+    assert_eq!(rt; (hosted.end, hosted.feeds.len()), (Ok(()), 8));
+    assert_closed(&rt, &hosted);
+    assert_eq!(rt; seen.load(Ordering::SeqCst), 11);
+}
+
+fn assert_closed(rt: &impl Abort, hosted: &ForgetfulHosted) {
+    assert_eq!(rt; hosted.worked.len(), 8);
+    for worked in hosted.worked.as_slice() {
+        assert_eq!(rt; worked.end, WorkEnd::Closed);
+    }
 }
 
 // The lanes of a member that stays have no close: the workers end since the feeds are let go, before they are waited for.

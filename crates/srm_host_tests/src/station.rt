@@ -34,7 +34,7 @@ pub(crate) type SteppedNode<R, P = Vec<Entry>> = Node<Listed, MemWire<R>, StepCl
 
 /// A node over a network in memory, with its taps and pens.
 #[derive(Drop)]
-pub(crate) struct Station<R: Wait + Drop, P: Past + Drop = Vec<Entry>> {
+pub(crate) struct Station<R: Wait + Drop, P: Past<Entry> + Drop = Vec<Entry>> {
     pub node: SteppedNode<R, P>,
     pub taps: Vec<Tap>,
     pub pens: Vec<Pen>,
@@ -113,7 +113,7 @@ fn forgetful_node<R: Wait + Abort + Drop>(
     wire: MemWire<R>,
     feeds: Vec<Feed>,
     well: ends::Well,
-) -> SteppedNode<R, Forgotten>
+) -> SteppedNode<R, Forgotten<Entry>>
     requires feeds { AreNewFeeds feeds.items }
     requires well { well.received ≡ [] }
 {
@@ -173,7 +173,7 @@ pub(crate) fn alone<R: Wait + Abort + Copy + Drop>(rt: R, alloc: Global) -> Stat
 pub(crate) fn forgetful_alone<R: Wait + Abort + Copy + Drop>(
     rt: R,
     alloc: Global,
-) -> Station<R, Forgotten>
+) -> Station<R, Forgotten<Entry>>
     ensures { vec_len result.taps ≡ PAGES }
 {
     let mut wires = wires(rt, alloc, 1, Vec::new(alloc));

@@ -3,8 +3,10 @@
 use crate::seen::{Seen, look_at};
 use crate::sinks::Few;
 use crate::station::{Station, alone, end_all, ink_text};
+use srm_names::PageMsg;
 use srm_node::{WorkEnd, Worked, work};
 use srm_pages::Tap;
+use srm_world::Forgotten;
 use std::alloc::Global;
 use std::process::Abort;
 use std::sync::Wait;
@@ -92,6 +94,19 @@ fn a_worker_ends_where_its_feed_is_gone(rt: HostRuntime) {
         Seen::Draw(0, 2, b'b'),
     ];
     let _tap = assert_worked(&rt, worked, &wanted, WorkEnd::Closed);
+}
+
+// One that keeps nothing shows its sink the same, and hands back a tap that took the same: nothing is left in it.
+#[test]
+fn a_worker_that_forgets_shows_its_sink_the_same(rt: HostRuntime) {
+    let mut sink = few(9);
+    let tap = tap_of_two(rt, rt.alloc(), true);
+    let worked: Worked<Forgotten<PageMsg>> = work(&rt, rt.alloc(), tap, &mut sink);
+    assert_eq!(rt; worked.end, WorkEnd::Closed);
+    assert_eq!(rt; sink.last, Some((0, Seen::Close)));
+    assert_eq!(rt; sink.left, 5);
+    let again = work(&rt, rt.alloc(), worked.tap, &mut few(9));
+    let _tap = assert_worked(&rt, again, &[], WorkEnd::Closed);
 }
 
 #[test]

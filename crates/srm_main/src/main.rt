@@ -1,15 +1,20 @@
 //! The program: a world of scripts, pictures of it, and a member over UDP.
 #![tactic(auto)]
 
+use srm_live::{PolledInput, run_live};
 use srm_member::{print_reply, run_node};
-use srm_options::{read_picture, read_world};
+use srm_options::{read_node, read_picture, read_world};
 use srm_played::run_picture;
 use srm_script::{Fault, run_script};
 use std::alloc::{AllocError, Global};
 use std::io::{ErrorKind, Write, writer};
+use std::os::fd::RawFd;
 use std::process::ExitCode;
 use std::rt::Env;
 use std::{env, io};
+
+/// The descriptor of standard input.
+const STDIN: RawFd = 0;
 
 /// The status of a command line that isn't text.
 const WRONG_USAGE: u8 = 2;
@@ -25,7 +30,14 @@ fn main(rt: HostRuntime) -> ExitCode {
         return ExitCode::from(Fault::Memory.tell(&mut err));
     };
     let status = match texts.as_slice() {
-        ["node", words @ ..] => run_node(&rt, words, &mut rt.stdin(), &mut writer(&rt), &mut err),
+        ["node", words @ ..] => match read_node(alloc, words) {
+            Ok(options) if options.live => {
+                let input = PolledInput::new(&rt, alloc, rt.stdin(), STDIN);
+                run_live(&rt, options, input, rt.stdout(), rt.stderr())
+            }
+            Ok(options) => run_node(&rt, options, &mut rt.stdin(), &mut writer(&rt), &mut err),
+            Err(reply) => print_reply(&reply, &mut writer(&rt), &mut err),
+        },
         ["picture", words @ ..] => match read_picture(alloc, words) {
             Ok(()) => run_picture(alloc, &mut rt.stdin(), &mut writer(&rt), &mut err),
             Err(reply) => print_reply(&reply, &mut writer(&rt), &mut err),

@@ -4,7 +4,8 @@ use Rattle.std.specs.Prelude.{take, drop, slice_index, if◌then◌else◌}
 use Rattle.std.proofs.lemmas.List.{take_rest, length-drop}
 use Rattle.srm_member.specs.Lines.{lines_of, before_first, IsLineEnd, Leaves}
 
-other : (c : ℕ) (ls : List (List ℕ)) → c ≢ 10 → (if c == 10 then [] ∷ ls else before_first c ls) ≡ before_first c ls
+-- a byte that is no line end stands in the first line
+pub other : (c : ℕ) (ls : List (List ℕ)) → c ≢ 10 → (if c == 10 then [] ∷ ls else before_first c ls) ≡ before_first c ls
 other c ls h = grind (rules, h)
 
 -- behind the first byte

@@ -1,18 +1,21 @@
--- A new station.
-use Rattle.std.proofs.Common.{◌≡◌, ℕ, List, length, refl, sym}
-use Rattle.std.specs.Prelude.{None}
+-- A new station, whose node was asked to leave.
+use Rattle.std.proofs.Common.{◌≡◌, ℕ, List, length, refl, sym, subst}
+use Rattle.std.specs.Prelude.{Option, Some}
 use Rattle.srm_names.specs.declared.limits.TheConstants.{PAGES}
 use Rattle.srm_pages.specs.Ends.{FeedView, WellView, TapView, PenView, AreNewPens}
 use Rattle.srm_entries.specs.Configs.{Config}
-use Rattle.srm_node.specs.Nodes.{NodeView, IsNewNode}
+use Rattle.srm_wire.specs.Wires.{Told}
+use Rattle.srm_node.specs.Nodes.{NodeState, IsNewNode}
 use Rattle.srm_node.specs.Hosting.{AreEndsOfLanes}
 use Rattle.srm_member.specs.Stations.{IsNewStation}
 
-pub new_station : (config : Config) (feeds : List FeedView) (well : WellView) (failures : ℕ) (n : NodeView) (taps : List TapView) (pens : List PenView)
-    → IsNewNode config feeds well failures None n → failures ≡ 0 → length taps ≡ PAGES → AreEndsOfLanes feeds taps → AreNewPens well.well pens → IsNewStation config n taps pens
-new_station config feeds well failures n taps pens new none slots lanes pens_are = rw new.is (record {
-  new = record { made = new.made; is = rw none refl };
-  slots = slots;
-  lanes = lanes;
-  well = pens_are;
-})
+pub new_station : {W : Type 0} (config : Config) (stay : ℕ) (feeds : List FeedView) (well : WellView) (failures : ℕ) (told : Option Told) (old new : NodeState W) (taps : List TapView) (pens : List PenView)
+    → IsNewNode config feeds well failures told old.view → failures ≡ 0 → new ≡ record old { view = record old.view { asked = Some stay } } → length taps ≡ PAGES → AreEndsOfLanes feeds taps → AreNewPens well.well pens → IsNewStation config stay told new.view taps pens
+new_station {W} config stay feeds well failures told old new taps pens made none asked slots lanes pens_are =
+    subst (λ (s : NodeState W). IsNewStation config stay told s.view taps pens) (sym asked) (rw made.is (record {
+      new = record { made = made.made; is = rw none refl };
+      asked = refl;
+      slots = slots;
+      lanes = lanes;
+      well = pens_are;
+    }))

@@ -2,6 +2,7 @@
 use Rattle.std.specs.Prelude.{◌≡◌, ◌⊎◌, ℕ, Bool, true, false, Option, Some, None, Result, Ok, Err}
 use Rattle.std.specs.declared.io.ErrorKind.{ErrorKind}
 use Rattle.std.specs.declared.io.ErrorKind.TheVariants as kind
+use Rattle.srm_script.specs.declared.fault.Fault.{Fault}
 use Rattle.srm_script.specs.declared.fault.Fault.TheVariants.{Memory as OutOfMemory}
 use Rattle.srm_script.specs.Statuses.{status_of}
 use Rattle.srm_node.specs.declared.fault.NodeFault.{NodeFault}
@@ -19,7 +20,7 @@ is_memory end.Memory = true
 is_memory _ = false
 
 -- the worker ended for want of memory
-abbrev pub lacks_memory : Worked → Bool
+abbrev pub lacks_memory : {L : Type 0} → Worked L → Bool
 lacks_memory w = is_memory w.end
 
 -- Why a run was no whole one, by its end and whether a worker lacked memory: want of memory comes before all else.
@@ -29,6 +30,13 @@ fault_of (Ok _) false = None
 fault_of (Err Memory) false = Some (fault.Script OutOfMemory)
 fault_of (Err Wire) false = Some fault.Wire
 fault_of (Err Turns) false = Some fault.Turns
+
+-- Why a live run was no whole one, by why the run wasn't and what befell its streams: want of memory comes before all else, and then the run.
+abbrev pub fault_of_live : Option MemberFault → Option Fault → Option MemberFault
+fault_of_live run (Some OutOfMemory) = Some (fault.Script OutOfMemory)
+fault_of_live (Some f) _ = Some f
+fault_of_live None (Some f) = Some (fault.Script f)
+fault_of_live None None = None
 
 -- Why a socket or a clock can't be had, by what the system says: it lacks memory, or it refuses for another cause.
 abbrev pub fault_of_binding : ErrorKind → MemberFault
@@ -40,6 +48,10 @@ abbrev pub status_of_member : MemberFault → ℕ
 status_of_member (fault.Script f) = status_of f
 status_of_member fault.Wire = 3
 status_of_member fault.Turns = 4
+
+-- a whole run has status 0, and any other that of its fault
+abbrev pub EndsWith : ℕ → Type 0
+EndsWith status = (status ≡ 0) ⊎ ((f : MemberFault) × (status ≡ status_of_member f))
 
 -- What was asked for is shown, unless the output fails; a wrong line is status 2, want of memory 4.
 abbrev pub StatusOf : Reply → ℕ → Type 0

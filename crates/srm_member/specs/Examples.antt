@@ -5,7 +5,7 @@ use Rattle.srm_script.specs.declared.fault.Fault.TheVariants.{Input, Memory}
 use Rattle.srm_node.specs.declared.fault.NodeFault.TheVariants as node
 use Rattle.srm_member.specs.declared.fault.MemberFault.TheVariants.{Script, Wire, Turns}
 use Rattle.srm_member.specs.Lines.{lines_of, each_fourth, bad_line}
-use Rattle.srm_member.specs.Ends.{fault_of, fault_of_binding, status_of_member}
+use Rattle.srm_member.specs.Ends.{fault_of, fault_of_live, fault_of_binding, status_of_member}
 
 no_lines : lines_of [] ≡ []
 no_lines = refl
@@ -33,6 +33,9 @@ a_worker_without_memory = refl
 
 the_node_s_own_end : fault_of (Ok tt) false ∷ fault_of (Err node.Memory) false ∷ fault_of (Err node.Wire) false ∷ fault_of (Err node.Turns) false ∷ [] ≡ None ∷ Some (Script Memory) ∷ Some Wire ∷ Some Turns ∷ []
 the_node_s_own_end = refl
+
+a_live_run : fault_of_live (Some Wire) (Some Memory) ∷ fault_of_live (Some Turns) (Some Input) ∷ fault_of_live None (Some Input) ∷ fault_of_live None None ∷ [] ≡ Some (Script Memory) ∷ Some Turns ∷ Some (Script Input) ∷ None ∷ []
+a_live_run = refl
 
 an_address_in_use : fault_of_binding kind.AddrInUse ≡ Wire
 an_address_in_use = refl

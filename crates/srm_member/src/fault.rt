@@ -3,10 +3,12 @@
 ghost use Rattle.std.specs.Prelude.{◌≡◌, ◌≤◌};
 ghost use Rattle.std.specs.List.{list_any};
 ghost use Rattle.std.specs.IoError.{error_kind};
-ghost use Rattle.srm_member.specs.Ends.{fault_of, fault_of_binding, lacks_memory, status_of_member};
+ghost use Rattle.srm_member.specs.Ends.{fault_of, fault_of_live, fault_of_binding, lacks_memory, status_of_member};
 
+use srm_names::PageMsg;
 use srm_node::{NodeFault, WorkEnd, Worked};
 use srm_script::Fault;
+use srm_world::Past;
 use std::alloc::AllocError;
 use std::io;
 use std::io::{ErrorKind, Write};
@@ -28,7 +30,10 @@ pub enum MemberFault {
 
 impl MemberFault {
     /// Why a run was no whole one, by its end and its workers. Want of memory, a worker's too, comes before all else.
-    pub fn of_run(end: Result<(), NodeFault>, worked: &[Worked]) -> Option<MemberFault>
+    pub fn of_run<L: Past<PageMsg> + Drop>(
+        end: Result<(), NodeFault>,
+        worked: &[Worked<L>],
+    ) -> Option<MemberFault>
         ensures { result ≡ fault_of end (list_any lacks_memory worked.now) }
     {
         if any_lacks_memory(worked) {
@@ -39,6 +44,22 @@ impl MemberFault {
             Err(NodeFault::Memory) => Some(MemberFault::Script(Fault::Memory)),
             Err(NodeFault::Wire) => Some(MemberFault::Wire),
             Err(NodeFault::Turns) => Some(MemberFault::Turns),
+        }
+    }
+
+    /// Why a live run was no whole one, by why the run wasn't, and by what befell its streams. Want of memory comes first, and then the run.
+    pub fn of_live(run: Option<MemberFault>, noted: Option<Fault>) -> Option<MemberFault>
+        ensures { result ≡ fault_of_live run noted }
+    {
+        if matches!(noted, Some(Fault::Memory)) {
+            return Some(MemberFault::Script(Fault::Memory));
+        }
+        if let Some(fault) = run {
+            return Some(fault);
+        }
+        match noted {
+            Some(fault) => Some(MemberFault::Script(fault)),
+            None => None,
         }
     }
 
@@ -55,7 +76,7 @@ impl MemberFault {
     }
 
     /// The fault of making a socket or a clock.
-    pub(crate) fn of_binding(error: io::Error) -> MemberFault
+    pub fn of_binding(error: io::Error) -> MemberFault
         ensures { result ≡ fault_of_binding (error_kind error) }
     {
         match error.kind() {
@@ -87,13 +108,13 @@ fn told<E: Write>(fault: &MemberFault, err: &mut E, status: u8) -> u8
 }
 
 // Whether one of these workers ended for want of memory.
-fn any_lacks_memory(worked: &[Worked]) -> bool
+fn any_lacks_memory<L: Past<PageMsg> + Drop>(worked: &[Worked<L>]) -> bool
     ensures { result ≡ list_any lacks_memory worked.now }
 {
     worked.iter().any(ended_for_memory)
 }
 
-fn ended_for_memory(worked: &Worked) -> bool
+fn ended_for_memory<L: Past<PageMsg> + Drop>(worked: &Worked<L>) -> bool
     ensures { result ≡ lacks_memory worked.now }
 {
     matches!(worked.end, WorkEnd::Memory)

@@ -1,12 +1,15 @@
 //! A member of a session over UDP, as `srm node` runs it.
 //!
 //! ```
-//! let status = run_node(&rt, words, &mut stdin, &mut stdout, &mut stderr); // the words behind `srm node`
+//! let status = match read_node(alloc, words) { // the words behind `srm node`
+//!     Ok(options) => run_node(&rt, options, &mut stdin, &mut stdout, &mut stderr),
+//!     Err(reply) => print_reply(&reply, &mut stdout, &mut stderr),
+//! };
 //! ```
 //!
 //! The member's node runs in the calling thread, its four pens and eight page workers in threads of their own. [`run_node`] reads all of the
-//! input before it binds the socket, and prints once all of them have ended. [`deal`] and [`Station`] are its parts, for a program that binds
-//! its sockets itself.
+//! input before it binds the socket, and prints once all of them have ended. [`deal`], [`draw`] and [`Station`] are its parts, for a program that binds
+//! its sockets itself, or that draws strokes as they come.
 //!
 //! **What is refused**, in this order: a wrong command line; an input that fails, is too long or has a line that is; an address that can't be
 //! bound; and what ends a run. [`MemberFault`] has the text and the status of each.
@@ -23,6 +26,7 @@ mod station;
 
 pub use dealing::deal;
 pub use fault::MemberFault;
+pub use pens::draw;
 pub use replying::print_reply;
 pub use running::run_node;
 pub use station::Station;

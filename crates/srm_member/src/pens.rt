@@ -104,8 +104,9 @@ fn draw_all<R: time::Clock + Wait>(
     pen.done()
 }
 
-/// Sends a stroke, and again while it comes back from a full well, until the node has ended. Whether it was sent.
-fn draw<R: time::Clock + Wait>(rt: &R, pen: &mut Pen, body: Bytes, ended: &AtomicBool) -> bool
+/// Sends a stroke with this body on the first page, and each millisecond again while it comes back from a full well, until the flag says that the node
+/// has ended. Whether it was sent.
+pub fn draw<R: time::Clock + Wait>(rt: &R, pen: &mut Pen, body: Bytes, ended: &AtomicBool) -> bool
     ensures sent { OnTrue result (pen.new ≡ record pen.old { sent = pen.old.sent ++ stroke_of pen.old.place body ∷ [] }) }
     ensures ended { OnFalse result (pen.new ≡ pen.old) }
 {

@@ -1,13 +1,14 @@
-//! A member from its command line to its end.
+//! A member from its options to its end.
 
 ghost use Rattle.std.specs.Prelude.{◌≤◌};
+ghost use Rattle.srm_member.specs.Ends.{EndsWith};
 
 use crate::dealing::deal;
 use crate::fault::MemberFault;
 use crate::printing::print_taken;
-use crate::replying::print_reply;
 use crate::station::Station;
-use srm_options::{NodeOptions, read_node};
+use srm_node::Hosted;
+use srm_options::NodeOptions;
 use srm_script::read_input;
 use std::alloc::Global;
 use std::io::{Read, Write};
@@ -16,29 +17,27 @@ use std::sync::Wait;
 use std::thread::Threads;
 use std::time;
 
-/// Runs a member as the words behind `srm node` say, draws the lines of the input, and prints what its page workers took. A fault goes to
+/// Runs a member with these options, draws the lines of the input, and prints what its page workers took. A fault goes to
 /// `err`, and then nothing else is printed, but where the output fails.
 ///
-/// Answers the program's status: 0; 1 for an input that is refused or a stream that fails; 2 for a wrong command line; 3 where the socket
+/// Answers the program's status: 0; 1 for an input that is refused or a stream that fails; 3 where the socket
 /// fails; 4 for want of memory, a worker's too, or where all turns were spent.
 pub fn run_node<R, I: Read, O: Write, E: Write>(
     rt: &R,
-    words: &[&str],
+    options: NodeOptions,
     reader: &mut I,
     out: &mut O,
     err: &mut E,
 ) -> u8
 where
     R: Net + time::Clock + Threads + Wait + AllocGlobal + Copy + Send + Drop + 'static,
-    ensures { result ≤ 4 }
+    ensures ends { EndsWith result }
+    ensures greatest { result ≤ 4 }
 {
     let alloc = rt.alloc();
-    match read_node(alloc, words) {
-        Ok(options) => match run(rt, alloc, options, reader, out) {
-            Ok(()) => 0,
-            Err(fault) => fault.tell(err),
-        },
-        Err(reply) => print_reply(&reply, out, err),
+    match run(rt, alloc, options, reader, out) {
+        Ok(()) => 0,
+        Err(fault) => fault.tell(err),
     }
 }
 
@@ -58,7 +57,7 @@ where
     let me = options.config.me();
     let turns = options.turns;
     let station = Station::bind(rt, alloc, options)?;
-    let hosted = station.run(rt, alloc, dealt, turns)?;
+    let hosted: Hosted = station.run(rt, alloc, dealt, turns)?;
     if let Some(fault) = MemberFault::of_run(hosted.end, hosted.worked.as_slice()) {
         return Err(fault);
     }

@@ -1,7 +1,8 @@
 //! A member's station: its node, the taps for its page workers, and its pens.
 
-ghost use Rattle.std.specs.Prelude.{◌≡◌, Bool, vec_len, map, IfOk, IfSome, MatchResult};
+ghost use Rattle.std.specs.Prelude.{◌≡◌, Bool, None, [], length, vec_len, map, IfOk, IfSome, MatchResult};
 ghost use Rattle.srm_names.specs.declared.limits.TheConstants.{PAGES};
+ghost use Rattle.srm_pages.specs.Ends.{AreNewPens};
 ghost use Rattle.srm_node.specs.Nodes.{AreNewFeeds};
 ghost use Rattle.srm_node.specs.Hosting.{Hosts, HostFails, AreEndsOfLanes};
 ghost use Rattle.srm_member.specs.Stations.{IsNewStation};
@@ -10,23 +11,32 @@ use crate::fault::MemberFault;
 use crate::pens::PenThreads;
 use crate::sink::{Unseen, sinks};
 use bytes::Bytes;
-use srm_agent::Config;
+use srm_agent::{Config, Entry};
+use srm_names::PageMsg;
 use srm_node::{Hosted, Node, host};
 use srm_options::NodeOptions;
+use srm_pages::ends::Well;
 use srm_pages::{Feed, Pen, Tap, lanes, well};
 use srm_script::Fault;
 use srm_timers::Pcg;
 use srm_udp::{SystemClock, UdpWire};
+use srm_wire::Wire;
+use srm_world::{Forgotten, Past};
 use std::alloc::{AllocError, Global};
 use std::net::Net;
 use std::sync::Wait;
 use std::thread::Threads;
 use std::time;
 
-/// A member's station: its node over UDP and the system's clock, the taps for its page workers, and its pens.
+/// A member's station: its node over a wire, UDP if none is named, and the system's clock, the taps for its page workers, and its pens. The node keeps
+/// its entries unless another past is named.
 #[derive(Drop)]
-pub struct Station<R: time::Clock + Drop> {
-    pub node: Node<Pcg, UdpWire, SystemClock<R>>,
+pub struct Station<
+    R: time::Clock + Drop,
+    X: Wire + Drop = UdpWire,
+    P: Past<Entry> + Drop = Vec<Entry>,
+> {
+    pub node: Node<Pcg, X, SystemClock<R>, P>,
     pub taps: Vec<Tap>,
     pub pens: Vec<Pen>,
 }
@@ -37,7 +47,7 @@ impl<R: time::Clock + Copy + Drop> Station<R> {
     pub fn bind(rt: &R, alloc: Global, options: NodeOptions) -> Result<Station<R>, MemberFault>
     where
         R: Net,
-        ensures { IfOk result (λ s. IsNewStation options.config s.node.view s.taps.items s.pens.items) }
+        ensures { IfOk result (λ s. IsNewStation options.config options.stay None s.node.view s.taps.items s.pens.items) }
     {
         let NodeOptions {
             config,
@@ -51,16 +61,19 @@ impl<R: time::Clock + Copy + Drop> Station<R> {
             Err(error) => Err(MemberFault::of_binding(error)),
         }
     }
+}
 
-    /// The station of a member over a wire that was made before and that no call failed of. Refused is what the clock refuses, and want of memory.
+impl<R: time::Clock + Copy + Drop, X: Wire + Drop> Station<R, X> {
+    /// The station of a member over a wire that was made before and that no call failed of: one of the member that the options say, in their roster. The options' addresses and
+    /// turns aren't asked for. Refused is what the clock refuses, and want of memory.
     pub fn over(
         rt: &R,
         alloc: Global,
         options: &NodeOptions,
-        wire: UdpWire,
-    ) -> Result<Station<R>, MemberFault>
-        requires { wire.failures ≡ 0 }
-        ensures { IfOk result (λ s. IsNewStation options.now.config s.node.view s.taps.items s.pens.items) }
+        wire: X,
+    ) -> Result<Station<R, X>, MemberFault>
+        requires { X.failed wire ≡ 0 }
+        ensures { IfOk result (λ s. IsNewStation options.now.config options.now.stay (X.told wire) s.node.view s.taps.items s.pens.items) }
     {
         Station::new(rt, alloc, options.config, options.start, options.stay, wire)
     }
@@ -71,36 +84,37 @@ impl<R: time::Clock + Copy + Drop> Station<R> {
         config: Config,
         start: u64,
         stay: u64,
-        wire: UdpWire,
-    ) -> Result<Station<R>, MemberFault>
-        requires { wire.failures ≡ 0 }
-        ensures { IfOk result (λ s. IsNewStation config s.node.view s.taps.items s.pens.items) }
+        wire: X,
+    ) -> Result<Station<R, X>, MemberFault>
+        requires { X.failed wire ≡ 0 }
+        ensures { IfOk result (λ s. IsNewStation config stay (X.told wire) s.node.view s.taps.items s.pens.items) }
     {
-        let clock = match SystemClock::new(*rt) {
-            Ok(clock) => clock,
-            Err(error) => return Err(MemberFault::of_binding(error)),
-        };
-        let (feeds, taps) = slots(alloc)?;
-        let (well, pens) = well(alloc)?;
-        let words = Pcg::new(start);
-        let mut node = Node::new(alloc, config, words, wire, clock, feeds, well)?;
+        let Parts {
+            clock,
+            feeds,
+            taps,
+            well,
+            pens,
+        } = make_parts(rt, alloc)?;
+        let mut node = Node::new(alloc, config, Pcg::new(start), wire, clock, feeds, well)?;
         node.ask_leave(stay);
         Ok(Station { node, taps, pens })
     }
 
-    /// Runs the node in this thread, and its page workers and its pens, which draw these bodies, in threads of their own, until all have
-    /// ended. Only want of memory refuses it, or of a thread for a pen.
-    pub fn run(
+    /// Runs the node in this thread, and its page workers and its pens, in threads of their own, until all have ended. The k-th pen draws the k-th list of bodies; more lists than
+    /// pens are left out. Want of memory is answered for fewer lists than pens too, and where there is no thread for a pen; nothing else refuses it. The type that the caller names for the workers' lists says how they are kept,
+    /// as with [`host`].
+    pub fn run<L: Past<PageMsg> + Send + Drop + 'static>(
         self,
         rt: &R,
         alloc: Global,
         dealt: Vec<Vec<Bytes>>,
         turns: u64,
-    ) -> Result<Hosted, MemberFault>
+    ) -> Result<Hosted<Vec<Entry>, L>, MemberFault>
     where
         R: Threads + Wait + Send + 'static,
         requires { vec_len self.taps ≡ PAGES }
-        ensures hosts { IfOk result (λ h. MatchResult h.end (λ _. Hosts self.node.view self.taps.items turns h) (λ fault. (all : Bool) × HostFails all self.node.view self.taps.items turns fault h)) }
+        ensures hosts { IfOk result (λ h. MatchResult h.end (λ _. Hosts L.entries self.node.view self.taps.items turns h) (λ fault. (all : Bool) × HostFails L.entries all self.node.view self.taps.items turns fault h)) }
         ensures lanes { IfOk result (λ h. IfOk h.end (λ _. AreEndsOfLanes self.node.view.feeds self.taps.items → AreEndsOfLanes h.feeds.items (map (λ w. w.tap) h.worked.items))) }
     {
         let Station { node, taps, pens } = self;
@@ -116,21 +130,86 @@ impl<R: time::Clock + Copy + Drop> Station<R> {
     }
 }
 
+impl<R: time::Clock + Copy + Drop, X: Wire + Drop> Station<R, X, Forgotten<Entry>> {
+    /// The same as [`over`](Station::over), of a node that keeps no entry, for a member that runs for days.
+    pub fn forgetful(
+        rt: &R,
+        alloc: Global,
+        options: &NodeOptions,
+        wire: X,
+    ) -> Result<Station<R, X, Forgotten<Entry>>, MemberFault>
+        requires { X.failed wire ≡ 0 }
+        ensures { IfOk result (λ s. IsNewStation options.now.config options.now.stay (X.told wire) s.node.view s.taps.items s.pens.items) }
+    {
+        let Parts {
+            clock,
+            feeds,
+            taps,
+            well,
+            pens,
+        } = make_parts(rt, alloc)?;
+        let mut node = Node::forgetful(
+            alloc,
+            options.config,
+            Pcg::new(options.start),
+            wire,
+            clock,
+            feeds,
+            well,
+        )?;
+        node.ask_leave(options.stay);
+        Ok(Station { node, taps, pens })
+    }
+}
+
+/// The clock of a station's node, what its workers have of it and it of them, and the same of its pens.
+#[derive(Drop)]
+struct Parts<R: time::Clock + Drop> {
+    clock: SystemClock<R>,
+    feeds: Vec<Feed>,
+    taps: Vec<Tap>,
+    well: Well,
+    pens: Vec<Pen>,
+}
+
+/// The clock and the ends of a station that did nothing yet. Refused is what the clock refuses, and want of memory.
+fn make_parts<R: time::Clock + Copy + Drop>(rt: &R, alloc: Global) -> Result<Parts<R>, MemberFault>
+    ensures feeds { IfOk result (λ e. AreNewFeeds e.feeds.items) }
+    ensures taps { IfOk result (λ e. length e.taps.items ≡ PAGES) }
+    ensures lanes { IfOk result (λ e. AreEndsOfLanes e.feeds.items e.taps.items) }
+    ensures well { IfOk result (λ e. e.well.received ≡ []) }
+    ensures pens { IfOk result (λ e. AreNewPens e.well.well e.pens.items) }
+{
+    let clock = match SystemClock::new(*rt) {
+        Ok(clock) => clock,
+        Err(error) => return Err(MemberFault::of_binding(error)),
+    };
+    let (feeds, taps) = slots(alloc)?;
+    let (well, pens) = well(alloc)?;
+    Ok(Parts {
+        clock,
+        feeds,
+        taps,
+        well,
+        pens,
+    })
+}
+
 /// Runs the node with its workers where all pens were started.
-fn host_if<R>(
+fn host_if<R, X: Wire + Drop, L: Past<PageMsg> + Send + Drop + 'static>(
     rt: &R,
     alloc: Global,
     all: bool,
-    node: Node<Pcg, UdpWire, SystemClock<R>>,
+    node: Node<Pcg, X, SystemClock<R>>,
     taps: Vec<Tap>,
     sinks: Vec<Unseen>,
     turns: u64,
-) -> Option<Hosted>
+) -> Option<Hosted<Vec<Entry>, L>>
 where
     R: time::Clock + Threads + Wait + Copy + Send + Drop + 'static,
     requires taps { vec_len taps ≡ PAGES }
     requires sinks { vec_len sinks ≡ PAGES }
-    ensures hosts { IfSome result (λ h. MatchResult h.end (λ _. Hosts node.view taps.items turns h) (λ fault. (all : Bool) × HostFails all node.view taps.items turns fault h)) }
+    ensures hosts { IfSome result (λ h. MatchResult h.end (λ _. Hosts L.entries node.view taps.items turns h) (λ fault. (all : Bool) × HostFails L.entries all node.view taps.items turns fault h)) }
     ensures lanes { IfSome result (λ h. IfOk h.end (λ _. AreEndsOfLanes node.view.feeds taps.items → AreEndsOfLanes h.feeds.items (map (λ w. w.tap) h.worked.items))) }
 {
     if !all {

@@ -16,9 +16,9 @@ dispatched_more me members n outs o below =
     ∙ flat_map-append (sends_to (others me members)) (map (λ (x : Out). x.bytes) (take n outs)) ((get_or outs n o).bytes ∷ [])
     ∙ ap (λ xs. dispatched me members (map (λ (x : Out). x.bytes) (take n outs)) ++ xs) (append-nil (sends_to (others me members) (get_or outs n o).bytes))
 
-pub sends_all_more : (a b : Bool) (me members n : ℕ) (outs : List Out) (o : Out) (x y z : ℕ) (s t u : Option Told) → n < length outs → o ≡ get_or outs n o
-    → Sends a (dispatched me members (map (λ (w : Out). w.bytes) (take n outs))) x y s t → Sends b (sends_to (others me members) o.bytes) y z t u
+pub sends_all_more : (a b : Bool) (me members n : ℕ) (outs : List Out) (o : Out) (bytes : List ℕ) (x y z : ℕ) (s t u : Option Told) → n < length outs → o ≡ get_or outs n o → bytes ≡ o.bytes
+    → Sends a (dispatched me members (map (λ (w : Out). w.bytes) (take n outs))) x y s t → Sends b (sends_to (others me members) bytes) y z t u
     → Sends (a || b) (dispatched me members (map (λ (w : Out). w.bytes) (take (n + 1) outs))) x z s u
-sends_all_more a b me members n outs o x y z s t u below is h k =
+sends_all_more a b me members n outs o bytes x y z s t u below is spelled h k =
     subst (λ went. Sends (a || b) went x z s u) (sym (dispatched_more me members n outs o below ∙ ap (λ (w : Out). dispatched me members (map (λ (v : Out). v.bytes) (take n outs)) ++ sends_to (others me members) w.bytes) (sym is)))
-    (sends_on a b (dispatched me members (map (λ (w : Out). w.bytes) (take n outs))) (sends_to (others me members) o.bytes) x y z s t u h k)
+    (sends_on a b (dispatched me members (map (λ (w : Out). w.bytes) (take n outs))) (sends_to (others me members) o.bytes) x y z s t u h (subst (λ bs. Sends b (sends_to (others me members) bs) y z t u) spelled k))

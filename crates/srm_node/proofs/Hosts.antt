@@ -6,50 +6,51 @@ use Rattle.srm_node.specs.declared.fault.NodeFault.{NodeFault}
 use Rattle.srm_node.specs.declared.hosting.Hosted.{Hosted}
 use Rattle.std.proofs.lemmas.List.{append-nil, length-append}
 use Rattle.std.proofs.lemmas.Option.{same_Some, slice_get_within}
+use Rattle.srm_names.specs.declared.page_msg.PageMsg.{PageMsg}
 use Rattle.srm_pages.specs.Ends.{FeedView, TapView}
 use Rattle.srm_world.proofs.Laning.{at_place}
 use Rattle.srm_node.specs.declared.hosting.Worker.{Worker}
 use Rattle.srm_node.specs.declared.working.Worked.{Worked}
-use Rattle.srm_node.specs.Working.{Took}
+use Rattle.srm_node.specs.Working.{WorkedFrom}
 use Rattle.srm_node.specs.Parts.{SameFeed, SameFeeds}
 use Rattle.srm_node.specs.Nodes.{NodeView, Keeps}
 use Rattle.srm_node.specs.Turns.{Turned, RunsOf, RunsToEnd}
 use Rattle.srm_node.specs.Hosting.{started, Starts, StartsSome, StopsBy, WorkedEach, Joins, Hosts, HostFails, AreEndsOfLanes}
 
-each-snoc : (ts : List TapView) (ws : List Worked) (t : TapView) (w : Worked) → WorkedEach ts ws → Took t w.tap w.list.items → WorkedEach (ts ++ t ∷ []) (ws ++ w ∷ [])
-each-snoc [] [] t w h k = (k, tt)
-each-snoc [] (v ∷ ws) t w h k = absurd h
-each-snoc (s ∷ ts) [] t w h k = absurd h
-each-snoc (s ∷ ts) (v ∷ ws) t w h k = (h.0, each-snoc ts ws t w h.1 k)
+each-snoc : {L : Type 0} (entries : L → List PageMsg) (ts : List TapView) (ws : List (Worked L)) (t : TapView) (w : Worked L) → WorkedEach entries ts ws → WorkedFrom entries t w → WorkedEach entries (ts ++ t ∷ []) (ws ++ w ∷ [])
+each-snoc entries [] [] t w h k = (k, tt)
+each-snoc entries [] (v ∷ ws) t w h k = absurd h
+each-snoc entries (s ∷ ts) [] t w h k = absurd h
+each-snoc entries (s ∷ ts) (v ∷ ws) t w h k = (h.0, each-snoc entries ts ws t w h.1 k)
 
-pub joins_none : (ws : List Worker) (done : List Worked) → done ≡ [] → Joins (map started ws) ws done
-joins_none ws done none = record { joined = []; split = refl; each = subst (λ (ds : List Worked). WorkedEach [] ds) (sym none) tt }
+pub joins_none : {L : Type 0} (entries : L → List PageMsg) (ws : List (Worker L)) (done : List (Worked L)) → done ≡ [] → Joins entries (map started ws) ws done
+joins_none {L} entries ws done none = record { joined = []; split = refl; each = subst (λ (ds : List (Worked L)). WorkedEach entries [] ds) (sym none) tt }
 
-pub joins_more : (all : List TapView) (w : Worker) (left rest : List Worker) (worked grown : List Worked) (one : Worked) → Joins all left worked → left ≡ w ∷ rest → Took (started w) one.tap one.list.items → grown ≡ worked ++ one ∷ [] → Joins all rest grown
-joins_more all w left rest worked grown one h is took grew = record {
+pub joins_more : {L : Type 0} (entries : L → List PageMsg) (all : List TapView) (w : Worker L) (left rest : List (Worker L)) (worked grown : List (Worked L)) (one : Worked L) → Joins entries all left worked → left ≡ w ∷ rest → WorkedFrom entries (started w) one → grown ≡ worked ++ one ∷ [] → Joins entries all rest grown
+joins_more entries all w left rest worked grown one h is took grew = record {
   joined = h.joined ++ started w ∷ [];
   split = h.split ∙ ap (λ ws. h.joined ++ map started ws) is ∙ sym (append_assoc h.joined (started w ∷ []) (map started rest));
-  each = subst (WorkedEach (h.joined ++ started w ∷ [])) (sym grew) (each-snoc h.joined worked (started w) one h.each took);
+  each = subst (WorkedEach entries (h.joined ++ started w ∷ [])) (sym grew) (each-snoc entries h.joined worked (started w) one h.each took);
 }
 
-pub joins_all : (all : List TapView) (left : List Worker) (worked : List Worked) → Joins all left worked → left ≡ [] → WorkedEach all worked
-joins_all all left worked h none = subst (λ ts. WorkedEach ts worked) (sym (h.split ∙ ap (λ ws. h.joined ++ map started ws) none ∙ append-nil h.joined)) h.each
+pub joins_all : {L : Type 0} (entries : L → List PageMsg) (all : List TapView) (left : List (Worker L)) (worked : List (Worked L)) → Joins entries all left worked → left ≡ [] → WorkedEach entries all worked
+joins_all entries all left worked h none = subst (λ ts. WorkedEach entries ts worked) (sym (h.split ∙ ap (λ ws. h.joined ++ map started ws) none ∙ append-nil h.joined)) h.each
 
-pub nothing_left : (left : List Worker) → length left ≡ 0 → left ≡ []
+pub nothing_left : {L : Type 0} (left : List (Worker L)) → length left ≡ 0 → left ≡ []
 nothing_left [] e = refl
 nothing_left (w ∷ ws) e = absurd (omega arith)
 
-pub starts_more : (all taps left : List TapView) (workers more : List Worker) → map started workers ++ taps ≡ all → Starts taps left workers more → map started more ++ left ≡ all
+pub starts_more : {L : Type 0} (all taps left : List TapView) (workers more : List (Worker L)) → map started workers ++ taps ≡ all → Starts taps left workers more → map started more ++ left ≡ all
 starts_more all taps left workers more h s =
     ap (λ ts. ts ++ left) s.started_are ∙ append_assoc (map started workers) (s.tap ∷ []) left ∙ ap (λ ts. map started workers ++ ts) (sym s.taps_are) ∙ h
 
-one_less : (left rest : List Worker) (w : Worker) → left ≡ w ∷ rest → length left ≡ length rest + 1
+one_less : {L : Type 0} (left rest : List (Worker L)) (w : Worker L) → left ≡ w ∷ rest → length left ≡ length rest + 1
 one_less left rest w is = ap length is ∙ sym (add-one (length rest))
 
-pub count_less : (left rest : List Worker) (w : Worker) (n m : ℕ) → left ≡ w ∷ rest → length left + n ≡ m → length rest + (n + 1) ≡ m
+pub count_less : {L : Type 0} (left rest : List (Worker L)) (w : Worker L) (n m : ℕ) → left ≡ w ∷ rest → length left + n ≡ m → length rest + (n + 1) ≡ m
 count_less left rest w n m is h = omega (arith, one_less left rest w is)
 
-pub room_less : (left rest : List Worker) (w : Worker) (len new room more : ℕ) → left ≡ w ∷ rest → len + length left ≤ room → (new ≡ len + 1) × (room ≤ more) → new + length rest ≤ more
+pub room_less : {L : Type 0} (left rest : List (Worker L)) (w : Worker L) (len new room more : ℕ) → left ≡ w ∷ rest → len + length left ≤ room → (new ≡ len + 1) × (room ≤ more) → new + length rest ≤ more
 room_less left rest w len new room more is h grew = omega (arith, one_less left rest w is, grew.0, grew.1)
 
 -- THE LANES OF A NODE THAT RAN
@@ -90,11 +91,11 @@ lanes_of_run : (limit : ℕ) (a b : NodeView) → RunsToEnd limit a b → SameLa
 lanes_of_run limit a b h = lanes_of_turns h.count a b h.runs.turns
 
 -- what is handed out of a node that ran, and of its workers
-pub hosted : {P : Type 0} (r : Result (Unit {0}) NodeFault) (node last : NodeView) (taps : List TapView) (turns : ℕ) (all : Bool) (h : Hosted P) (feeds : List FeedView) (keeps : Bool)
+pub hosted : {P L : Type 0} (entries : L → List PageMsg) (r : Result (Unit {0}) NodeFault) (node last : NodeView) (taps : List TapView) (turns : ℕ) (all : Bool) (h : Hosted P L) (feeds : List FeedView) (keeps : Bool)
     → MatchResult r (λ _. (all ≡ true) × Keeps last × RunsToEnd turns node last) (λ fault. StopsBy all fault turns node last) → Keeps last
-    → h.journal ≡ last.journal → feeds ≡ last.feeds → OnTrue keeps (h.feeds.items ≡ feeds) → OnFalse keeps (h.feeds.items ≡ []) → keeps ≡ is_ok r → WorkedEach taps h.worked.items
-    → MatchResult r (λ _. (all ≡ true) × Hosts node taps turns h) (λ fault. HostFails all node taps turns fault h)
-hosted (Ok u) node last taps turns all h feeds keeps ran lists journal same kept none ok workers = (
+    → h.journal ≡ last.journal → feeds ≡ last.feeds → OnTrue keeps (h.feeds.items ≡ feeds) → OnFalse keeps (h.feeds.items ≡ []) → keeps ≡ is_ok r → WorkedEach entries taps h.worked.items
+    → MatchResult r (λ _. (all ≡ true) × Hosts entries node taps turns h) (λ fault. HostFails entries all node taps turns fault h)
+hosted entries (Ok u) node last taps turns all h feeds keeps ran lists journal same kept none ok workers = (
   ran.0,
   record {
     last = last;
@@ -107,7 +108,7 @@ hosted (Ok u) node last taps turns all h feeds keeps ran lists journal same kept
     workers = workers;
   },
 )
-hosted (Err e) node last taps turns all h feeds keeps ran lists journal same kept none ok workers = record {
+hosted entries (Err e) node last taps turns all h feeds keeps ran lists journal same kept none ok workers = record {
   last = last;
   runs = ran;
   keeps = lists;
@@ -125,10 +126,10 @@ hosted (Err e) node last taps turns all h feeds keeps ran lists journal same kep
     no_more false ts = tt
 
 -- of the taps handed in the workers were started with the first
-pub starts_some : (all left : List TapView) (workers more : List Worker) → map started workers ++ left ≡ all → map started more ≡ map started workers → StartsSome all more
+pub starts_some : {L : Type 0} (all left : List TapView) (workers more : List (Worker L)) → map started workers ++ left ≡ all → map started more ≡ map started workers → StartsSome all more
 starts_some all left workers more starts same = record { rest = left; split = ap (λ ts. ts ++ left) same ∙ starts }
 
-pub starts_whole : (all : List TapView) (workers : List Worker) → map started workers ≡ all → StartsSome all workers
+pub starts_whole : {L : Type 0} (all : List TapView) (workers : List (Worker L)) → map started workers ≡ all → StartsSome all workers
 starts_whole all workers is = record { rest = []; split = append-nil (map started workers) ∙ is }
 
 -- nothing stands behind what is the whole already
@@ -137,10 +138,10 @@ none_behind xs [] all split whole = refl
 none_behind xs (y ∷ ys) all split whole = absurd (omega (arith, ap length split, ap length whole, length-append xs (y ∷ ys)))
 
 -- what is handed out of the taps handed in
-pub host_ends : {P : Type 0} (r : Result (Unit {0}) NodeFault) (node : NodeView) (taps : List TapView) (workers : List Worker) (turns : ℕ) (all : Bool) (h : Hosted P) → StartsSome taps workers → OnTrue all (map started workers ≡ taps)
-    → MatchResult r (λ _. (all ≡ true) × Hosts node (map started workers) turns h) (λ fault. HostFails all node (map started workers) turns fault h) → MatchResult r (λ _. Hosts node taps turns h) (λ fault. (all : Bool) × HostFails all node taps turns fault h)
-host_ends (Ok u) node taps workers turns all h some whole ran = subst (λ ts. Hosts node ts turns h) (let w : map started workers ≡ taps = subst (λ b. OnTrue b (map started workers ≡ taps)) ran.0 whole in w) ran.1
-host_ends (Err fault) node taps workers turns all h some whole f = (
+pub host_ends : {P L : Type 0} (entries : L → List PageMsg) (r : Result (Unit {0}) NodeFault) (node : NodeView) (taps : List TapView) (workers : List (Worker L)) (turns : ℕ) (all : Bool) (h : Hosted P L) → StartsSome taps workers → OnTrue all (map started workers ≡ taps)
+    → MatchResult r (λ _. (all ≡ true) × Hosts entries node (map started workers) turns h) (λ fault. HostFails entries all node (map started workers) turns fault h) → MatchResult r (λ _. Hosts entries node taps turns h) (λ fault. (all : Bool) × HostFails entries all node taps turns fault h)
+host_ends entries (Ok u) node taps workers turns all h some whole ran = subst (λ ts. Hosts entries node ts turns h) (let w : map started workers ≡ taps = subst (λ b. OnTrue b (map started workers ≡ taps)) ran.0 whole in w) ran.1
+host_ends entries (Err fault) node taps workers turns all h some whole f = (
   all,
   record {
     last = f.last;
@@ -160,22 +161,22 @@ host_ends (Err fault) node taps workers turns all h some whole f = (
     no_rest true same none = ap (λ ts. ts ++ some.rest) none ∙ none_behind (map started workers) some.rest taps some.split same
     no_rest false same none = tt
 
-worked_at : (ts : List TapView) (ws : List Worked) (k : ℕ) (t : TapView) → WorkedEach ts ws → slice_get (map (λ (w : Worked). w.tap) ws) k ≡ Some t → (s : TapView) × (slice_get ts k ≡ Some s) × (t.lane ≡ s.lane)
-worked_at [] [] k t h at_t = cc
-worked_at [] (w ∷ ws) k t h at_t = absurd h
-worked_at (s ∷ ts) [] k t h at_t = absurd h
-worked_at (s ∷ ts) (w ∷ ws) zero t h at_t = (s, refl, ap (λ (x : TapView). x.lane) (sym (same_Some w.tap t at_t)) ∙ ap (λ (x : TapView). x.lane) h.0.is)
-worked_at (s ∷ ts) (w ∷ ws) (suc k) t h at_t = worked_at ts ws k t h.1 at_t
+worked_at : {L : Type 0} (entries : L → List PageMsg) (ts : List TapView) (ws : List (Worked L)) (k : ℕ) (t : TapView) → WorkedEach entries ts ws → slice_get (map (λ (w : Worked L). w.tap) ws) k ≡ Some t → (s : TapView) × (slice_get ts k ≡ Some s) × (t.lane ≡ s.lane)
+worked_at entries [] [] k t h at_t = cc
+worked_at entries [] (w ∷ ws) k t h at_t = absurd h
+worked_at entries (s ∷ ts) [] k t h at_t = absurd h
+worked_at entries (s ∷ ts) (w ∷ ws) zero t h at_t = (s, refl, ap (λ (x : TapView). x.lane) (sym (same_Some w.tap t at_t)) ∙ ap (λ (x : TapView). x.lane) h.0.took.is)
+worked_at entries (s ∷ ts) (w ∷ ws) (suc k) t h at_t = worked_at entries ts ws k t h.1 at_t
 
 -- the k-th feed and the k-th tap are still the ends of one lane
-still_ends : {P : Type 0} (node : NodeView) (taps : List TapView) (turns : ℕ) (h : Hosted P) → Hosts node taps turns h → AreEndsOfLanes node.feeds taps → AreEndsOfLanes h.feeds.items (map (λ (w : Worked). w.tap) h.worked.items)
-still_ends node taps turns h x ends k f t at_f at_t =
+still_ends : {P L : Type 0} (entries : L → List PageMsg) (node : NodeView) (taps : List TapView) (turns : ℕ) (h : Hosted P L) → Hosts entries node taps turns h → AreEndsOfLanes node.feeds taps → AreEndsOfLanes h.feeds.items (map (λ (w : Worked L). w.tap) h.worked.items)
+still_ends entries node taps turns h x ends k f t at_f at_t =
     let at_last : slice_get x.last.feeds k ≡ Some f = sym (ap (λ fs. slice_get fs k) x.feeds) ∙ at_f in
     let (g, at_g) = at_place node.feeds k (omega (arith, x.slots, slice_get_within x.last.feeds k f at_last)) in
-    let (s, at_s, lane) = worked_at taps h.worked.items k t x.workers at_t in
+    let (s, at_s, lane) = worked_at entries taps h.worked.items k t x.workers at_t in
     ap (λ (y : FeedView). y.lane) (x.lanes k g f at_g at_last) ∙ ends k g s at_g at_s ∙ sym lane
 
-pub host_lanes : {P : Type 0} (r : Result (Unit {0}) NodeFault) (node : NodeView) (taps : List TapView) (turns : ℕ) (h : Hosted P) → MatchResult r (λ _. Hosts node taps turns h) (λ fault. (all : Bool) × HostFails all node taps turns fault h)
-    → IfOk r (λ _. AreEndsOfLanes node.feeds taps → AreEndsOfLanes h.feeds.items (map (λ (w : Worked). w.tap) h.worked.items))
-host_lanes (Ok u) node taps turns h x = still_ends node taps turns h x
-host_lanes (Err e) node taps turns h x = tt
+pub host_lanes : {P L : Type 0} (entries : L → List PageMsg) (r : Result (Unit {0}) NodeFault) (node : NodeView) (taps : List TapView) (turns : ℕ) (h : Hosted P L) → MatchResult r (λ _. Hosts entries node taps turns h) (λ fault. (all : Bool) × HostFails entries all node taps turns fault h)
+    → IfOk r (λ _. AreEndsOfLanes node.feeds taps → AreEndsOfLanes h.feeds.items (map (λ (w : Worked L). w.tap) h.worked.items))
+host_lanes entries (Ok u) node taps turns h x = still_ends entries node taps turns h x
+host_lanes entries (Err e) node taps turns h x = tt

@@ -179,22 +179,24 @@ node_drew now n k well from hand config room closed (Err e) h lawful same x = no
 
 -- LEAVING AND TICKING
 
-quiet_leaves : (es : List Entry) → AllByRecursion (λ (e : Entry). e.input ≡ AskedLeave) es → AreQuiet es
-quiet_leaves [] h = tt
-quiet_leaves (e ∷ es) h = (subst Quiet (sym h.0) (refl, λ slot m. refl), quiet_leaves es h.1)
+quiet_leaves : (leaves : Bool) (es : List Entry) → map (λ (e : Entry). e.input) es ≡ (if leaves then AskedLeave ∷ [] else []) → AreQuiet es
+quiet_leaves leaves [] h = tt
+quiet_leaves true (e ∷ []) h = let is : e.input ≡ AskedLeave = cc in (subst Quiet (sym is) (refl, λ slot m. refl), tt)
+quiet_leaves true (e ∷ f ∷ es) h = absurd (cc)
+quiet_leaves false (e ∷ es) h = absurd (cc)
 
-node_left : (now : ℕ) (none_left : Bool) (n : NodeView) (k : Journal) (config : Config) (room : ℕ) (closed : List Bool) → IsNode n config room closed → IsLawfulJournal k → Leaves now none_left n.journal k → IsNode (record n { journal = k }) config room closed
-node_left now none_left n k config room closed h lawful l = record {
-  lists = keeps_quiet n.journal k l.entries n.feeds n.well.received n.hand h.lists lawful l.grown (quiet_leaves l.entries l.inputs);
+node_left : (now : ℕ) (leaves : Bool) (n : NodeView) (k : Journal) (asked : Option ℕ) (config : Config) (room : ℕ) (closed : List Bool) → IsNode n config room closed → IsLawfulJournal k → Leaves now leaves n.journal k → IsNode (record n { journal = k; asked = asked }) config room closed
+node_left now leaves n k asked config room closed h lawful l = record {
+  lists = keeps_quiet n.journal k l.entries n.feeds n.well.received n.hand h.lists lawful l.grown (quiet_leaves leaves l.entries l.inputs);
   settings = settings_of n.journal k l.entries l.grown ∙ h.settings;
   room_is = h.room_is;
   closed_are = h.closed_are;
 }
 
-pub node_leaves : (now : ℕ) (none_left : Bool) (n : NodeView) (k : Journal) (config : Config) (room : ℕ) (closed : List Bool) (r : Result (Unit {0}) OutOfMemory) → IsNode n config room closed → IsLawfulJournal k → MatchResult r (λ _. Leaves now none_left n.journal k) (λ _. k ≡ n.journal)
-    → IsNode (record n { journal = k }) config room closed
-node_leaves now none_left n k config room closed (Ok u) h lawful l = node_left now none_left n k config room closed h lawful l
-node_leaves now none_left n k config room closed (Err e) h lawful same = subst (λ x. IsNode (record n { journal = x }) config room closed) (sym same) h
+pub node_leaves : (now : ℕ) (leaves : Bool) (n : NodeView) (k : Journal) (asked : Option ℕ) (config : Config) (room : ℕ) (closed : List Bool) (r : Result (Unit {0}) OutOfMemory) → IsNode n config room closed → IsLawfulJournal k → MatchResult r (λ _. Leaves now leaves n.journal k) (λ _. k ≡ n.journal)
+    → IsNode (record n { journal = k; asked = asked }) config room closed
+node_leaves now leaves n k asked config room closed (Ok u) h lawful l = node_left now leaves n k asked config room closed h lawful l
+node_leaves now leaves n k asked config room closed (Err e) h lawful same = subst (λ x. IsNode (record n { journal = x; asked = asked }) config room closed) (sym same) (record { lists = h.lists; settings = h.settings; room_is = h.room_is; closed_are = h.closed_are })
 
 pub node_ticked : (now : ℕ) (n : NodeView) (k : Journal) (failures : ℕ) (told : Option Told) (config : Config) (room : ℕ) (closed : List Bool) (outs : List Out) → IsNode n config room closed → IsLawfulJournal k → Ticks now outs n.journal k
     → IsNode (record n { journal = k; failures = failures; told = told }) config room closed

@@ -1,11 +1,13 @@
 -- What a node keeps after a turn, and what a host hands back, at worked examples.
-use Rattle.std.proofs.Common.{◌≡◌, false, [], ◌∷◌, ◌++◌, refl, sym, subst, inr}
+use Rattle.std.proofs.Common.{◌≡◌, List, false, [], ◌∷◌, ◌++◌, refl, sym, subst, inr}
 use Rattle.std.specs.Prelude.{None, replicate}
+use Rattle.srm_names.specs.declared.page_msg.PageMsg.{PageMsg}
 use Rattle.srm_pages.specs.Ends.{WellView, LaneId}
 use Rattle.srm_entries.proofs.Plain.{config}
 use Rattle.srm_node.specs.declared.fault.NodeFault.TheVariants.{Memory}
 use Rattle.srm_node.specs.declared.hosting.Hosted.{Hosted}
 use Rattle.srm_node.specs.declared.working.Worked.{Worked}
+use Rattle.srm_node.specs.declared.working.WorkEnd.TheVariants.{Closed}
 use Rattle.srm_node.specs.Carrying.{DrawsReceived}
 use Rattle.srm_node.specs.Nodes.{Keeps, IsNode}
 use Rattle.srm_node.specs.Hosting.{WorkedEach, HostFails, Hosts}
@@ -38,9 +40,9 @@ keeps_parted lane well none = record {
 }
 
 -- The member left in the node's one turn, and the worker of slot 0 took what was put.
-hosted : {P : Type 0} (lane : LaneId) (well : WellView) (w : Worked) (h : Hosted P) → well.received ≡ [] → w.tap ≡ tap 0 parting.put lane → w.list.items ≡ parting.put
-    → h.journal ≡ (parting.ended lane well).journal → h.feeds.items ≡ (parting.ended lane well).feeds → h.worked.items ≡ w ∷ [] → Hosts (before lane well) (tap 0 [] lane ∷ []) 5 h
-hosted lane well w h none is list journal_is feeds_are worked_is = record {
+hosted : {P L : Type 0} (entries_of : L → List PageMsg) (lane : LaneId) (well : WellView) (w : Worked L) (h : Hosted P L) → well.received ≡ [] → w.tap ≡ tap 0 parting.put lane → entries_of w.list ≡ parting.put → w.end ≡ Closed
+    → h.journal ≡ (parting.ended lane well).journal → h.feeds.items ≡ (parting.ended lane well).feeds → h.worked.items ≡ w ∷ [] → Hosts entries_of (parting.asked_before lane well) (tap 0 [] lane ∷ []) 5 h
+hosted entries_of lane well w h none is list end journal_is feeds_are worked_is = record {
   last = parting.ended lane well;
   runs = parting.runs_to_end lane well;
   keeps = keeps_parted lane well none;
@@ -48,13 +50,13 @@ hosted lane well w h none is list journal_is feeds_are worked_is = record {
   feeds = feeds_are;
   slots = refl;
   lanes = (parting.gives_all lane well).gives.same;
-  workers = subst (WorkedEach (tap 0 [] lane ∷ [])) (sym worked_is) (worked_so w (tap 0 [] lane) (tap 0 parting.put lane) parting.put is list (record { is = refl }), tt);
+  workers = subst (WorkedEach entries_of (tap 0 [] lane ∷ [])) (sym worked_is) (worked_so entries_of w (tap 0 [] lane) (tap 0 parting.put lane) parting.put is list end (record { is = refl }), tt);
 }
 
 -- No worker could be started: the node wasn't turned, and its feeds were let go.
-not_started : {P : Type 0} (lane : LaneId) (well : WellView) (h : Hosted P) → well.received ≡ [] → h.journal ≡ (before lane well).journal → h.feeds.items ≡ [] → h.worked.items ≡ []
-    → HostFails false (before lane well) (tap 0 [] lane ∷ []) 5 Memory h
-not_started lane well h none journal_is feeds_are worked_are = record {
+not_started : {P L : Type 0} (entries_of : L → List PageMsg) (lane : LaneId) (well : WellView) (h : Hosted P L) → well.received ≡ [] → h.journal ≡ (before lane well).journal → h.feeds.items ≡ [] → h.worked.items ≡ []
+    → HostFails entries_of false (before lane well) (tap 0 [] lane ∷ []) 5 Memory h
+not_started entries_of lane well h none journal_is feeds_are worked_are = record {
   last = before lane well;
   runs = inr (refl, refl, refl);
   keeps = keeps_new (journal []) (feeds [] lane) well.received refl (new_feeds lane) none;
@@ -64,5 +66,5 @@ not_started lane well h none journal_is feeds_are worked_are = record {
   rest = tap 0 [] lane ∷ [];
   split = refl;
   whole = tt;
-  workers = subst (WorkedEach []) (sym worked_are) tt;
+  workers = subst (WorkedEach entries_of []) (sym worked_are) tt;
 }

@@ -1,5 +1,5 @@
 -- A tick, and a leaving that is due.
-use Rattle.std.proofs.Common.{◌≡◌, ℕ, Bool, true, false, List, [], ◌∷◌, refl, ap, sym, ◌∙◌, subst, inl, inr, arith}
+use Rattle.std.proofs.Common.{◌≡◌, ◌≢◌, ℕ, Bool, true, false, List, [], ◌∷◌, refl, ap, sym, ◌∙◌, subst, inl, inr, arith}
 use Rattle.std.specs.Prelude.{Some, Result, Ok, Err}
 use Rattle.std.proofs.lemmas.List.{append-nil}
 use Rattle.srm_entries.specs.declared.entry.Entry.{Entry}
@@ -12,7 +12,7 @@ use Rattle.srm_agent.specs.declared.ticked.Ticked.{Ticked as TickedAnswer}
 use Rattle.srm_agent.specs.Noting.{AnswersAs, IsTicked}
 use Rattle.srm_world.specs.Traces.{Journal}
 use Rattle.srm_world.specs.Claims.{IsLawfulJournal}
-use Rattle.srm_world.specs.Recording.{Records}
+use Rattle.srm_world.specs.Recording.{Grows, Records}
 use Rattle.srm_node.specs.Parts.{Ticks, Leaves}
 use Rattle.srm_node.proofs.Rightly.{tick_done, leave_not_memory}
 
@@ -33,13 +33,26 @@ ticks_not now j k fault lawful (inr (is, same)) = same
 ticks_not now j k fault lawful (inl (e, grows, input, answers)) =
     absurd (let a : AnswersAs (IsTicked j.start.config.session e) Done (Err fault) = subst (λ v. AnswersAs (IsTicked j.start.config.session e) v (Err fault)) (tick_done j k e grows.grown lawful input) answers in a)
 
-pub leaves_not : (now : ℕ) (none_left : Bool) (j : Journal) → Leaves now none_left j j
-leaves_not now true j = record { entries = []; grown = ap (at j) (sym (append-nil j.entries)); moments = tt; once = omega arith; inputs = tt; waits = tt }
-leaves_not now false j = record { entries = []; grown = ap (at j) (sym (append-nil j.entries)); moments = tt; once = omega arith; inputs = tt; waits = refl }
+pub leaves_not : (now : ℕ) (j : Journal) → Leaves now false j j
+leaves_not now j = record { entries = []; grown = ap (at j) (sym (append-nil j.entries)); moments = tt; inputs = refl }
 
-pub leaves_so : {A : Type 0} (now : ℕ) (is : Entry → A → Type 0) (j k : Journal) (answer : Result A AgentFault) → Records (Some now) AskedLeave is j k answer → Leaves now true j k
-leaves_so now is j k answer (inl (e, grows, input, answers)) = record { entries = e ∷ []; grown = grows.grown; moments = (grows.moment, tt); once = omega arith; inputs = (input, tt); waits = tt }
-leaves_so now is j k answer (inr (wrong, same)) = subst (λ x. Leaves now true j x) (sym same) (leaves_not now true j)
+leaves_once : (now : ℕ) (j k : Journal) (e : Entry) → Grows (Some now) j k e → e.input ≡ AskedLeave → Leaves now true j k
+leaves_once now j k e grows input = record { entries = e ∷ []; grown = grows.grown; moments = (grows.moment, tt); inputs = ap (λ i. i ∷ []) input }
+
+-- it left, or was refused for another cause than memory
+pub leaves_so : {A : Type 0} (now : ℕ) (is : Entry → A → Type 0) (j k : Journal) (a : A) → Records (Some now) AskedLeave is j k (Ok a) → Leaves now true j k
+leaves_so now is j k a (inl (e, grows, input, answers)) = leaves_once now j k e grows input
+leaves_so {A} now is j k a (inr (wrong, same)) = absurd (differ (Ok a) refl wrong)
+  where
+    differ : (r : Result A AgentFault) → r ≡ Ok a → r ≡ Err faults.Memory → ⊥
+    differ r p q = cc
+
+pub leaves_refused : {A : Type 0} (now : ℕ) (is : Entry → A → Type 0) (j k : Journal) (fault : AgentFault) → fault ≢ faults.Memory → Records (Some now) AskedLeave is j k (Err fault) → Leaves now true j k
+leaves_refused now is j k fault other (inl (e, grows, input, answers)) = leaves_once now j k e grows input
+leaves_refused {A} now is j k fault other (inr (wrong, same)) = absurd (other (differ (Err fault) refl wrong))
+  where
+    differ : (r : Result A AgentFault) → r ≡ Err fault → r ≡ Err faults.Memory → fault ≡ faults.Memory
+    differ r p q = cc
 
 -- memory ran out, and nothing was asked
 pub leaves_cut : {A : Type 0} (now : ℕ) (is : Entry → A → Type 0) (j k : Journal) (fault : AgentFault) → IsLawfulJournal k → fault ≡ faults.Memory → Records (Some now) AskedLeave is j k (Err fault) → k ≡ j

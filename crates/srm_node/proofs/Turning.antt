@@ -1,6 +1,6 @@
 -- A turn of its parts.
 use Rattle.std.proofs.Common.{◌≡◌, ℕ, ◌+◌, ◌<◌, ◌≤◌, ◌||◌, Bool, true, false, refl, ap, sym, ◌∙◌, subst, inl, inr, add-one}
-use Rattle.std.specs.Prelude.{List, Option, Result, Ok, Err, MatchResult, IsErrAnd}
+use Rattle.std.specs.Prelude.{List, Option, Result, Ok, Err, MatchResult, IsErrAnd, ◌&&◌, is_ok}
 use Rattle.std.specs.Bool.{OnTrue}
 use Rattle.srm_names.specs.declared.limits.TheConstants.{PAGES}
 use Rattle.srm_pages.specs.declared.stroke.Stroke.{Stroke}
@@ -10,7 +10,7 @@ use Rattle.srm_node.specs.declared.fault.NodeFault.{NodeFault}
 use Rattle.srm_node.specs.declared.fault.NodeFault.TheVariants.{Wire, Memory, Turns}
 use Rattle.srm_node.specs.declared.fault.OutOfMemory.{OutOfMemory}
 use Rattle.srm_wire.specs.Wires.{Told, CountsIf, RoseOrFull}
-use Rattle.srm_node.specs.Parts.{Listened, ListenedCut, DrewStrokes, DrewStrokesCut, Leaves, GivesUpTo, GaveSome}
+use Rattle.srm_node.specs.Parts.{Listened, ListenedCut, DrewStrokes, DrewStrokesCut, is_due, is_to_leave, still_asked, Leaves, GivesUpTo, GaveSome}
 use Rattle.srm_node.specs.Nodes.{NodeView, has_ended}
 use Rattle.srm_node.specs.Turns.{HearsNow, DrawsNow, LeavesNow, TicksNow, GivesNow, HearsCut, DrawsCut, GivesCut, IsCut, Turned, TurnedDeaf, TurnEnds, Paused, RunsOf, Runs, RunsToEnd, RunsOut, RunEnds}
 use Rattle.srm_wire.proofs.Telling.{counts_on}
@@ -30,10 +30,28 @@ draws_now now none_left n k well from hand same drew = record { drew = subst (λ
 pub draws_cut : (now : ℕ) (n : NodeView) (k : Journal) (well : WellView) (from hand : Option Stroke) → from ≡ n.hand → DrewStrokesCut now n.journal k n.well well from hand → DrawsCut now n (record n { journal = k; well = well; hand = hand })
 draws_cut now n k well from hand same drew = record { drew = subst (λ x. DrewStrokesCut now n.journal k n.well well x hand) same drew; same = refl }
 
-pub leaves_now : (now : ℕ) (none_left : Bool) (n : NodeView) (k : Journal) (r : Result (Unit {0}) OutOfMemory) → MatchResult r (λ _. Leaves now none_left n.journal k) (λ _. k ≡ n.journal)
-    → MatchResult r (λ _. LeavesNow now none_left n (record n { journal = k })) (λ _. record n { journal = k } ≡ n)
-leaves_now now none_left n k (Ok u) leaves = record { leaves = leaves; same = refl }
-leaves_now now none_left n k (Err e) same = ap (λ j. record n { journal = j }) same
+-- a node that leaves isn't to leave again, unless memory ran out
+pub leaves_now : (now : ℕ) (none_left pens_done is_due_now leaves ok : Bool) (n : NodeView) (k : Journal) (asked : Option ℕ) (r : Result (Unit {0}) OutOfMemory)
+    → is_due_now ≡ is_due n.asked now → leaves ≡ (none_left && (pens_done && is_due_now)) → ok ≡ is_ok r → asked ≡ still_asked (leaves && ok) n.asked → MatchResult r (λ _. Leaves now leaves n.journal k) (λ _. k ≡ n.journal)
+    → MatchResult r (λ _. LeavesNow now none_left n (record n { journal = k; asked = asked })) (λ _. record n { journal = k; asked = asked } ≡ n)
+leaves_now now none_left pens_done is_due_now leaves ok n k asked (Ok u) due is left still leave = record {
+  pens_done = pens_done;
+  leaves = subst (λ b. Leaves now b n.journal k) to_leave leave;
+  same = ap (λ a. record n { journal = k; asked = a }) (still ∙ ap (λ b. still_asked (leaves && b) n.asked) left ∙ ap (λ b. still_asked b n.asked) (whole leaves ∙ to_leave));
+}
+  where
+    to_leave : leaves ≡ is_to_leave none_left pens_done n.asked now
+    to_leave = is ∙ ap (λ b. none_left && (pens_done && b)) due
+
+    whole : (b : Bool) → (b && true) ≡ b
+    whole true = refl
+    whole false = refl
+leaves_now now none_left pens_done is_due_now leaves ok n k asked (Err e) due is left still same =
+    ap (λ a. record n { journal = k; asked = a }) (still ∙ ap (λ b. still_asked (leaves && b) n.asked) left ∙ ap (λ b. still_asked b n.asked) (none leaves)) ∙ ap (λ j. record n { journal = j }) same
+  where
+    none : (b : Bool) → (b && false) ≡ false
+    none true = refl
+    none false = refl
 
 pub gives_now : (n : NodeView) (k : Journal) (feeds : List FeedView) (r : Result (Unit {0}) OutOfMemory) → MatchResult r (λ _. GivesUpTo PAGES n.journal k n.feeds feeds) (λ _. GaveSome n.journal k n.feeds feeds)
     → MatchResult r (λ _. GivesNow PAGES n (record n { journal = k; feeds = feeds })) (λ _. GivesCut n (record n { journal = k; feeds = feeds }))
@@ -98,6 +116,11 @@ pub runs_into : (fault : NodeFault) (count limit : ℕ) (a b p c : NodeView) (en
 runs_into Wire count limit a b p c ended few h is goes_on paused t = record { count = count; few = few; before = b; paused = p; runs = h; goes_on = sym is ∙ goes_on; waits = paused; ends = t }
 runs_into Memory count limit a b p c ended few h is goes_on paused t = record { count = count; few = few; before = b; paused = p; runs = h; goes_on = sym is ∙ goes_on; waits = paused; ends = t }
 runs_into Turns count limit a b p c ended few h is goes_on paused t = absurd t
+
+-- the same by what the run answered
+pub runs_ended : (r : Result (Unit {0}) NodeFault) (fault : NodeFault) (count limit : ℕ) (a b p c : NodeView) (ended : Bool) → IsErrAnd r (λ e. e ≡ fault) → count < limit → Runs count a b → ended ≡ has_ended b → ended ≡ false → Paused b p → TurnEnds (Err fault) p c → RunEnds r limit a c
+runs_ended (Ok u) fault count limit a b p c ended is few h at goes_on paused t = absurd is
+runs_ended (Err e) fault count limit a b p c ended is few h at goes_on paused t = subst (λ f. RunEnds (Err f) limit a c) (sym is) (runs_into fault count limit a b p c ended few h at goes_on paused t)
 
 pub runs_to_end : (count limit : ℕ) (a b : NodeView) (ended : Bool) → count ≤ limit → Runs count a b → ended ≡ has_ended b → ended ≡ true → RunsToEnd limit a b
 runs_to_end count limit a b ended few h is done = record { count = count; few = few; runs = h; ended = sym is ∙ done }

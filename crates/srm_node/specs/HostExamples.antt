@@ -10,7 +10,8 @@ use Rattle.srm_node.specs.declared.fault.NodeFault.TheVariants.{Memory, Turns}
 use Rattle.srm_node.specs.declared.hosting.Worker.{Worker}
 use Rattle.srm_node.specs.declared.hosting.Hosted.{Hosted}
 use Rattle.srm_node.specs.declared.working.Worked.{Worked}
-use Rattle.srm_node.specs.Working.{Took}
+use Rattle.srm_node.specs.declared.working.WorkEnd.TheVariants.{Closed, Broken}
+use Rattle.srm_node.specs.Working.{Took, WorkedFrom}
 use Rattle.srm_node.specs.Hosting.{started, Starts, StopsBy, Joins, WorkedEach, AreEndsOfLanes, HostFails, Hosts}
 use Rattle.srm_node.specs.WholeTurnExamples.{before, after, feed, whole}
 
@@ -32,22 +33,29 @@ not_swapped one other differ h = differ (h 0 (feed 0 [] one) (tap 1 [] other) re
 -- STARTING AND JOINING
 
 -- of two taps the first one's worker was started
-started_first : (s t : TapView) (w : Worker) → started w ≡ s → Starts (s ∷ t ∷ []) (t ∷ []) [] (w ∷ [])
+started_first : {L : Type 0} (s t : TapView) (w : Worker L) → started w ≡ s → Starts (s ∷ t ∷ []) (t ∷ []) [] (w ∷ [])
 started_first s t w is = record { tap = s; taps_are = refl; started_are = ap (λ x. x ∷ []) is }
 
 -- it is the first's, and no other
-no_other_started : (s t : TapView) (w : Worker) → Starts (s ∷ t ∷ []) (t ∷ []) [] (w ∷ []) → started w ≡ s
+no_other_started : {L : Type 0} (s t : TapView) (w : Worker L) → Starts (s ∷ t ∷ []) (t ∷ []) [] (w ∷ []) → started w ≡ s
 no_other_started s t w h = let taps = h.taps_are in let starts = h.started_are in cc
 
-pub worked_so : (w : Worked) (from to : TapView) (more : List PageMsg) → w.tap ≡ to → w.list.items ≡ more → Took from to more → Took from w.tap w.list.items
-worked_so w from to more is list took = subst (λ t. Took from t w.list.items) (sym is) (subst (λ ms. Took from to ms) (sym list) took)
+pub worked_so : {L : Type 0} (entries : L → List PageMsg) (w : Worked L) (from to : TapView) (more : List PageMsg) → w.tap ≡ to → entries w.list ≡ more → w.end ≡ Closed → Took from to more → WorkedFrom entries from w
+worked_so entries w from to more is list end took = record {
+  took = subst (λ t. Took from t (entries w.list)) (sym is) (subst (λ ms. Took from to ms) (sym list) took);
+  end = λ broken. let f : Closed ≡ Broken = sym end ∙ broken in cc;
+}
+
+-- no worker hands back that its lane is broken
+never_broken : {L : Type 0} (entries : L → List PageMsg) (t : TapView) (w : Worked L) → w.end ≡ Broken → WorkedFrom entries t w → ⊥
+never_broken entries t w broken h = h.end broken
 
 -- one that took its page was joined, and another not yet
-joined_one : (lane : LaneId) (t : TapView) (v : Worker) (w : Worked) → started v ≡ t → w.tap ≡ tap 0 (Open first_page ∷ []) lane → w.list.items ≡ Open first_page ∷ [] → Joins (tap 0 [] lane ∷ t ∷ []) (v ∷ []) (w ∷ [])
-joined_one lane t v w of is list = record {
+joined_one : {L : Type 0} (entries : L → List PageMsg) (lane : LaneId) (t : TapView) (v : Worker L) (w : Worked L) → started v ≡ t → w.tap ≡ tap 0 (Open first_page ∷ []) lane → entries w.list ≡ Open first_page ∷ [] → w.end ≡ Closed → Joins entries (tap 0 [] lane ∷ t ∷ []) (v ∷ []) (w ∷ [])
+joined_one entries lane t v w of is list end = record {
   joined = tap 0 [] lane ∷ [];
   split = ap (λ x. tap 0 [] lane ∷ x ∷ []) (sym of);
-  each = (worked_so w (tap 0 [] lane) (tap 0 (Open first_page ∷ []) lane) (Open first_page ∷ []) is list (record { is = refl }), tt);
+  each = (worked_so entries w (tap 0 [] lane) (tap 0 (Open first_page ∷ []) lane) (Open first_page ∷ []) is list end (record { is = refl }), tt);
 }
 
 -- HOSTS
@@ -57,13 +65,13 @@ ran_once : (lane : LaneId) (well : WellView) → StopsBy true Turns 1 (before la
 ran_once lane well = inl (refl, record { runs = record { turns = (before lane well, before lane well, refl, refl, record { failures = omega arith; same = refl }, whole lane well) }; goes_on = refl })
 
 -- a host without fault hands back a list for each tap
-one_for_each : {P : Type 0} (lane : LaneId) (well : WellView) (h : Hosted P) → h.worked.items ≡ [] → Hosts (before lane well) (tap 0 [] lane ∷ []) 5 h → ⊥
-one_for_each lane well h none x = let workers : WorkedEach (tap 0 [] lane ∷ []) [] = subst (WorkedEach (tap 0 [] lane ∷ [])) none x.workers in workers
+one_for_each : {P L : Type 0} (entries : L → List PageMsg) (lane : LaneId) (well : WellView) (h : Hosted P L) → h.worked.items ≡ [] → Hosts entries (before lane well) (tap 0 [] lane ∷ []) 5 h → ⊥
+one_for_each entries lane well h none x = let workers : WorkedEach entries (tap 0 [] lane ∷ []) [] = subst (WorkedEach entries (tap 0 [] lane ∷ [])) none x.workers in workers
 
-nobody : (joined rest : List TapView) (t : TapView) → joined ++ rest ≡ t ∷ [] → rest ≡ [] → WorkedEach joined [] → ⊥
-nobody [] rest t split none each = cc
-nobody (s ∷ joined) rest t split none each = each
+nobody : {L : Type 0} (entries : L → List PageMsg) (joined rest : List TapView) (t : TapView) → joined ++ rest ≡ t ∷ [] → rest ≡ [] → WorkedEach entries joined [] → ⊥
+nobody entries [] rest t split none each = cc
+nobody entries (s ∷ joined) rest t split none each = each
 
 -- with all workers started each of them is joined
-all_joined : {P : Type 0} (lane : LaneId) (well : WellView) (h : Hosted P) → h.worked.items ≡ [] → HostFails true (before lane well) (tap 0 [] lane ∷ []) 5 Memory h → ⊥
-all_joined lane well h none x = nobody x.joined x.rest (tap 0 [] lane) x.split x.whole (subst (WorkedEach x.joined) none x.workers)
+all_joined : {P L : Type 0} (entries : L → List PageMsg) (lane : LaneId) (well : WellView) (h : Hosted P L) → h.worked.items ≡ [] → HostFails entries true (before lane well) (tap 0 [] lane ∷ []) 5 Memory h → ⊥
+all_joined entries lane well h none x = nobody entries x.joined x.rest (tap 0 [] lane) x.split x.whole (subst (WorkedEach entries x.joined) none x.workers)

@@ -157,5 +157,5 @@ not_turned : (n : NodeView) → StopsBy false Memory 5 n n
 not_turned n = inr (refl, refl, refl)
 
 -- a worker that is left out, or one too many, is no host's end
-one_left_out : (t : TapView) → WorkedEach (t ∷ []) [] ≡ ⊥
-one_left_out t = refl
+one_left_out : {L : Type 0} (entries : L → List PageMsg) (t : TapView) → WorkedEach entries (t ∷ []) [] ≡ ⊥
+one_left_out entries t = refl

@@ -13,12 +13,14 @@ use Rattle.srm_node.specs.declared.limits.TheConstants.{BUFFER}
 use Rattle.srm_wire.specs.Wires.{Told}
 use Rattle.srm_node.specs.Carrying.{KeepsLists}
 
--- the journal, the feeds by slot, the well, the stroke in hand, how many calls of the wire failed, and what the wire told if it tells
+-- the journal, the feeds by slot, the well, the stroke in hand, the moment from which it is to leave if it was asked to, how many calls of the wire
+-- failed, and what the wire told if it tells
 pub record NodeView : Type 0 where
   pub journal : Journal
   pub feeds : List FeedView
   pub well : WellView
   pub hand : Option Stroke
+  pub asked : Option ℕ
   pub failures : ℕ
   pub told : Option Told
 
@@ -68,4 +70,4 @@ pub record IsNewJournal (config : Config) (j : Journal) : Type 0 where
 -- a node with these settings that did nothing yet
 pub record IsNewNode (config : Config) (feeds : List FeedView) (well : WellView) (failures : ℕ) (told : Option Told) (n : NodeView) : Type 0 where
   pub made : ℕ
-  pub is : n ≡ record { journal = record { start = record { config = config; made = made }; entries = [] }; feeds = feeds; well = well; hand = None; failures = failures; told = told }
+  pub is : n ≡ record { journal = record { start = record { config = config; made = made }; entries = [] }; feeds = feeds; well = well; hand = None; asked = None; failures = failures; told = told }

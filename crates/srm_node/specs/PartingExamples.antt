@@ -1,7 +1,7 @@
 -- A node's turn in which its member leaves and each lane has its close, and the run that ends by it, at worked examples.
 use Rattle.std.specs.Prelude.{◌≡◌, ℕ, ◌==◌, true, false, List, [], ◌∷◌, ◌++◌, map, take, Option, Some, None, Ok, Err, slice_get, refl}
 use Rattle.std.specs.List.{AllByRecursion}
-use Rattle.std.proofs.Common.{arith, inr, subst, sym, ◌∙◌, ap, lit≤, lit<}
+use Rattle.std.proofs.Common.{arith, inl, inr, subst, sym, ◌∙◌, ap, lit≤, lit<}
 use Rattle.std.proofs.lemmas.List.{append-nil}
 use Rattle.std.proofs.lemmas.Option.{same_Some}
 use Rattle.srm_names.specs.FullName.{FullName}
@@ -170,11 +170,15 @@ lawful = lawful_journal (journal entries) (record {
 
 -- THE TURN
 
+-- the node was asked to leave at once
+abbrev pub asked_before : LaneId → WellView → NodeView
+asked_before lane well = record (before lane well) { asked = Some 0 }
+
 abbrev heard : LaneId → WellView → NodeView
-heard lane well = record (before lane well) { told = Some (record { came = None ∷ []; went = [] }) }
+heard lane well = record (asked_before lane well) { told = Some (record { came = None ∷ []; went = [] }) }
 
 abbrev left : LaneId → WellView → NodeView
-left lane well = record (heard lane well) { journal = journal (first 1) }
+left lane well = record (heard lane well) { journal = journal (first 1); asked = None }
 
 abbrev ticked : LaneId → WellView → NodeView
 ticked lane well = record (left lane well) { journal = journal (first 2); told = Some (record { came = None ∷ []; went = bytes_to 1 farewell_bytes ∷ [] }) }
@@ -190,7 +194,7 @@ closed lane = feed 0 put lane ∷ feed 1 (Close ∷ []) lane ∷ feed 2 (Close �
 abbrev pub ended : LaneId → WellView → NodeView
 ended lane well = record (ticked lane well) { journal = journal entries; feeds = closed lane }
 
-hears : (lane : LaneId) (well : WellView) → HearsNow 1 false (before lane well) (heard lane well)
+hears : (lane : LaneId) (well : WellView) → HearsNow 1 false (asked_before lane well) (heard lane well)
 hears lane well = record {
   listened = record {
     count = 0;
@@ -219,13 +223,13 @@ draws_none lane well = record {
 }
 
 leaves : (lane : LaneId) (well : WellView) → LeavesNow 1 true (heard lane well) (left lane well)
-leaves lane well = record { leaves = record { entries = asks ∷ []; grown = refl; moments = (refl, tt); once = omega arith; inputs = (refl, tt); waits = tt }; same = refl }
+leaves lane well = record { pens_done = true; leaves = record { entries = asks ∷ []; grown = refl; moments = (refl, tt); inputs = refl }; same = refl }
 
 ticks_once : (lane : LaneId) (well : WellView) → TicksNow 1 false (left lane well) (ticked lane well)
 ticks_once lane well = record {
   outs = out ∷ [];
   ticks = record { entry = parts; grown = refl; moment = refl; is_tick = record { input = refl; outs_are = refl; spelled = (record { spelled = record { fits = farewell_spelled; text = spelled_so } }, tt) } };
-  sends = record { failures = (omega arith, tt); tells = record { told = refl } };
+  sends = record { failures = (omega arith, tt); went = bytes_to 1 farewell_bytes ∷ []; some = inl (refl, tt); whole = refl; tells = record { told = refl } };
   same = refl;
 }
 
@@ -251,7 +255,7 @@ gives_all lane well = record {
     is : (slot : ℕ) (more : List PageMsg) (x : FeedView) → Some (feed slot [] lane) ≡ Some x → SameFeed x (feed slot more lane)
     is slot more x at_x = subst (λ (y : FeedView). SameFeed y (feed slot more lane)) (same_Some (feed slot [] lane) x at_x) refl
 
-pub turned : (lane : LaneId) (well : WellView) → Turned false false (before lane well) (ended lane well)
+pub turned : (lane : LaneId) (well : WellView) → Turned false false (asked_before lane well) (ended lane well)
 turned lane well = record {
   now = 1;
   none_left = true;
@@ -272,11 +276,11 @@ has_ended_so : (lane : LaneId) (well : WellView) → has_ended (ended lane well)
 has_ended_so lane well = refl
 
 -- behind a pause it did this turn, and then it has ended, though five were asked for
-pub runs_to_end : (lane : LaneId) (well : WellView) → RunEnds (Ok tt) 5 (before lane well) (ended lane well)
+pub runs_to_end : (lane : LaneId) (well : WellView) → RunEnds (Ok tt) 5 (asked_before lane well) (ended lane well)
 runs_to_end lane well = record {
   count = 1;
   few = omega arith;
-  runs = record { turns = (before lane well, before lane well, refl, refl, record { failures = omega arith; same = refl }, turned lane well) };
+  runs = record { turns = (asked_before lane well, asked_before lane well, refl, refl, record { failures = omega arith; same = refl }, turned lane well) };
   ended = refl;
 }
 

@@ -1,5 +1,5 @@
 -- The parts of a turn.
-use Rattle.std.specs.Prelude.{◌≡◌, ◌⊎◌, ℕ, ◌<◌, ◌≤◌, ◌==◌, Bool, true, false, ◌&&◌, ◌||◌, List, [], ◌∷◌, ◌++◌, map, length, slice_get, Option, Some, None, is_none, option_to_list, is_some, MatchBool}
+use Rattle.std.specs.Prelude.{◌≡◌, ◌⊎◌, ℕ, ◌<◌, ◌≤◌, ◌==◌, nat_le, Bool, true, false, ◌&&◌, ◌||◌, List, [], ◌∷◌, ◌++◌, map, length, slice_get, Option, Some, None, is_none, option_to_list, is_some, MatchBool, if◌then◌else◌}
 use Rattle.std.specs.Bool.{OnTrue, OnFalse}
 use Rattle.std.specs.List.{AllByRecursion, list_any}
 use Rattle.srm_names.specs.declared.limits.TheConstants.{PAGES}
@@ -120,14 +120,26 @@ pub record DrewStrokesCut (now : ℕ) (old new : Journal) (from to : WellView) (
 
 -- LEAVING
 
--- the member asked to leave, or not; not while strokes are left
-pub record Leaves (now : ℕ) (none_left : Bool) (old new : Journal) : Type 0 where
+-- whether a node that may have been asked to leave is to do so by now
+abbrev pub is_due : Option ℕ → ℕ → Bool
+is_due None now = false
+is_due (Some at) now = nat_le at now
+
+-- it leaves where no stroke is left, its pens are done, and it is to by now
+abbrev pub is_to_leave : (none_left pens_done : Bool) → Option ℕ → ℕ → Bool
+is_to_leave none_left pens_done asked now = none_left && (pens_done && is_due asked now)
+
+-- one that left isn't to leave again
+abbrev pub still_asked : Bool → Option ℕ → Option ℕ
+still_asked true asked = None
+still_asked false asked = asked
+
+-- Where it leaves, the journal has one more entry, of that; else none.
+pub record Leaves (now : ℕ) (leaves : Bool) (old new : Journal) : Type 0 where
   pub entries : List Entry
   pub grown : new ≡ with_entries old entries
   pub moments : AllByRecursion (IsAt now old) entries
-  pub once : length entries ≤ 1
-  pub inputs : AllByRecursion (λ (e : Entry). e.input ≡ AskedLeave) entries
-  pub waits : OnFalse none_left (entries ≡ [])
+  pub inputs : map (λ (e : Entry). e.input) entries ≡ (if leaves then AskedLeave ∷ [] else [])
 
 -- TICKING
 

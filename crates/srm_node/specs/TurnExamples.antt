@@ -1,6 +1,6 @@
 -- The drawing, the leaving and the waits of a turn, at worked examples.
-use Rattle.std.specs.Prelude.{◌≡◌, ◌<◌, ℕ, true, false, List, [], ◌∷◌, ◌++◌, Some, None, replicate, refl}
-use Rattle.std.proofs.Common.{arith}
+use Rattle.std.specs.Prelude.{◌≡◌, ◌<◌, ℕ, true, false, List, [], ◌∷◌, ◌++◌, map, Some, None, replicate, refl}
+use Rattle.std.proofs.Common.{arith, ap}
 use Rattle.srm_names.specs.Names.{first_page}
 use Rattle.srm_codec.specs.declared.datagram.Datagram.TheVariants.{Data}
 use Rattle.srm_timers.specs.Draws.{draw_listed}
@@ -14,7 +14,7 @@ use Rattle.srm_entries.specs.Sample.{in_roster, drawop_of, draws, hears, ask_arm
 use Rattle.srm_world.specs.Traces.{Journal}
 use Rattle.srm_world.specs.Recording.{IsAt}
 use Rattle.srm_world.specs.Words.{Recorded}
-use Rattle.srm_node.specs.Parts.{IsAdmitted, Draws, DrawingEnds, Leaves}
+use Rattle.srm_node.specs.Parts.{IsAdmitted, Draws, DrawingEnds, is_to_leave, Leaves}
 use Rattle.srm_node.specs.Waits.{WaitsByWords}
 
 -- a member with a bucket of 1,051 bytes, which is one full datagram
@@ -69,7 +69,19 @@ known_after_63 = omega arith
 
 -- a member leaves where none is left
 leaves_then : Leaves 2 true (journal (first_drawn ∷ [])) (journal (first_drawn ∷ asked ∷ []))
-leaves_then = record { entries = asked ∷ []; grown = refl; moments = (refl, tt); once = omega arith; inputs = (refl, tt); waits = tt }
+leaves_then = record { entries = asked ∷ []; grown = refl; moments = (refl, tt); inputs = refl }
+
+-- one that leaves has an entry of it
+leaves_with_its_entry : Leaves 2 true (journal []) (journal []) → ⊥
+leaves_with_its_entry h = without h.entries h.grown h.inputs
+  where
+    without : (es : List Entry) → journal [] ≡ journal es → map (λ (e : Entry). e.input) es ≡ AskedLeave ∷ [] → ⊥
+    without [] same h = cc
+    without (e ∷ es) same h = let none : [] ≡ e ∷ es = ap (λ (j : Journal). j.entries) same in cc
+
+-- at its moment, with its pens done and no stroke left; not a microsecond earlier, and not unless it was asked to
+to_leave : is_to_leave true true (Some 5) 5 ∷ is_to_leave true true (Some 5) 4 ∷ is_to_leave true false (Some 5) 5 ∷ is_to_leave false true (Some 5) 5 ∷ is_to_leave true true None 5 ∷ [] ≡ true ∷ false ∷ false ∷ false ∷ false ∷ []
+to_leave = refl
 
 -- Behind a draw, which sets no timer, number 2 is heard and number 1 is missing: its wait is by the next word, and the other stays.
 abbrev one_missing : (wait : ℕ) → Entry

@@ -5,7 +5,7 @@ use Rattle.srm_agent_parts.specs.declared.out.Out.{Out}
 use Rattle.srm_node.specs.declared.fault.NodeFault.{NodeFault}
 use Rattle.srm_node.specs.declared.fault.NodeFault.TheVariants.{Wire, Memory, Turns}
 use Rattle.srm_wire.specs.Wires.{CountsIf, RoseOrFull, Sends, dispatched}
-use Rattle.srm_node.specs.Parts.{Listened, ListenedCut, DrewStrokes, DrewStrokesCut, Leaves, Ticks, GivesUpTo, GaveSome}
+use Rattle.srm_node.specs.Parts.{Listened, ListenedCut, DrewStrokes, DrewStrokesCut, is_to_leave, still_asked, Leaves, Ticks, GivesUpTo, GaveSome}
 use Rattle.srm_node.specs.Nodes.{NodeView, has_ended}
 
 -- What came was heard, all of it unless a call failed.
@@ -19,10 +19,11 @@ pub record DrawsNow (now : ℕ) (none_left : Bool) (old new : NodeView) : Type 0
   pub drew : DrewStrokes now none_left old.journal new.journal old.well new.well old.hand new.hand
   pub same : new ≡ record old { journal = new.journal; well = new.well; hand = new.hand }
 
--- The member asked to leave, or not; not while strokes are left.
+-- The member leaves where it is to by now, no stroke is left, and its pens said that they are done; else it stays, and is still to leave if it was.
 pub record LeavesNow (now : ℕ) (none_left : Bool) (old new : NodeView) : Type 0 where
-  pub leaves : Leaves now none_left old.journal new.journal
-  pub same : new ≡ record old { journal = new.journal }
+  pub pens_done : Bool
+  pub leaves : Leaves now (is_to_leave none_left pens_done old.asked now) old.journal new.journal
+  pub same : new ≡ record old { journal = new.journal; asked = still_asked (is_to_leave none_left pens_done old.asked now) old.asked }
 
 -- The member ticked once. What the tick sends went to all other members, unless a call failed.
 pub record TicksNow (now : ℕ) (unsent : Bool) (old new : NodeView) : Type 0 where

@@ -62,7 +62,7 @@ journal es = record { start = record { config = config 0; made = 0 }; entries = 
 
 -- member 0 of two over a wire that tells, which did nothing yet
 abbrev pub before : LaneId → WellView → NodeView
-before lane well = record { journal = journal []; feeds = feeds [] lane; well = well; hand = None; failures = 0; told = Some (record { came = []; went = [] }) }
+before lane well = record { journal = journal []; feeds = feeds [] lane; well = well; hand = None; asked = None; failures = 0; told = Some (record { came = []; went = [] }) }
 
 pub new_feeds : (lane : LaneId) → AreNewFeeds (feeds [] lane)
 new_feeds lane = record {
@@ -281,13 +281,13 @@ draws_it lane well = record {
 
 -- nobody asked to leave
 stays : (lane : LaneId) (well : WellView) → LeavesNow 1 true (drawn lane well) (drawn lane well)
-stays lane well = record { leaves = record { entries = []; grown = refl; moments = tt; once = omega arith; inputs = tt; waits = tt }; same = refl }
+stays lane well = record { pens_done = true; leaves = record { entries = []; grown = refl; moments = tt; inputs = refl }; same = refl }
 
 ticks_once : (lane : LaneId) (well : WellView) → TicksNow 1 false (drawn lane well) (ticked lane well)
 ticks_once lane well = record {
   outs = out ∷ [];
   ticks = record { entry = sends; grown = refl; moment = refl; is_tick = record { input = refl; outs_are = refl; spelled = (record { spelled = record { fits = one_spelled; text = spelled_so } }, tt) } };
-  sends = record { failures = (omega arith, tt); tells = record { told = refl } };
+  sends = record { failures = (omega arith, tt); went = bytes_to 1 one_bytes ∷ []; some = inl (refl, tt); whole = refl; tells = record { told = refl } };
   same = refl;
 }
 

@@ -8,6 +8,7 @@ ghost use Rattle.srm_node.specs.Waits.{WaitsByWords};
 
 use crate::fault::{OutOfMemory, is_memory};
 use crate::limits::DRAWN;
+use srm_agent::Entry;
 use srm_pages::Stroke;
 use srm_pages::ends::Well;
 use srm_timers::Words;
@@ -32,7 +33,7 @@ impl Drawn {
 
 /// Draws up to 64 strokes, the one in hand first, as long as the rate lets their datagrams go at once. Answers the stroke that is then in
 /// hand: one that the rate keeps back, or for which memory was refused. A stroke that is refused for another cause is dropped.
-pub fn draw_strokes<R: Wait, W: Words + Drop, P: Past + Drop>(
+pub fn draw_strokes<R: Wait, W: Words + Drop, P: Past<Entry> + Drop>(
     rt: &R,
     recorder: &mut Recorder<W, P>,
     well: &mut Well,
@@ -73,7 +74,7 @@ fn next_stroke<R: Wait>(rt: &R, well: &mut Well, hand: Option<Stroke>) -> Option
 }
 
 // Whether the rate lets a stroke's datagram go at once.
-fn is_admitted<W: Words + Drop, P: Past + Drop>(
+fn is_admitted<W: Words + Drop, P: Past<Entry> + Drop>(
     recorder: &Recorder<W, P>,
     stroke: &Stroke,
     now: u64,
@@ -84,7 +85,7 @@ fn is_admitted<W: Words + Drop, P: Past + Drop>(
 }
 
 // Draws a stroke that is admitted. Only want of memory keeps it back.
-fn draw_stroke<W: Words + Drop, P: Past + Drop>(
+fn draw_stroke<W: Words + Drop, P: Past<Entry> + Drop>(
     recorder: &mut Recorder<W, P>,
     stroke: &Stroke,
     now: u64,

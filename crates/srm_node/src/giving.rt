@@ -12,6 +12,7 @@ ghost use Rattle.srm_node.specs.Nodes.{has_closed};
 ghost use Rattle.srm_node.specs.Waits.{WaitsByWords};
 
 use crate::fault::OutOfMemory;
+use srm_agent::Entry;
 use srm_names::{PAGES, PageMsg};
 use srm_pages::Feed;
 use srm_timers::Words;
@@ -19,7 +20,7 @@ use srm_world::{Past, Recorder};
 use std::sync::Wait;
 
 /// Gives each slot while there is credit and something to give, unless its feed is lost. Keeps for each feed whether it put its close.
-pub fn give_all<R: Wait, W: Words + Drop, P: Past + Drop>(
+pub fn give_all<R: Wait, W: Words + Drop, P: Past<Entry> + Drop>(
     rt: &R,
     recorder: &mut Recorder<W, P>,
     feeds: &mut Vec<Feed>,
@@ -46,7 +47,7 @@ pub fn give_all<R: Wait, W: Words + Drop, P: Past + Drop>(
 }
 
 // Gives a slot while there is credit and something to give, unless its feed is lost.
-fn give_slot<R: Wait, W: Words + Drop, P: Past + Drop>(
+fn give_slot<R: Wait, W: Words + Drop, P: Past<Entry> + Drop>(
     rt: &R,
     recorder: &mut Recorder<W, P>,
     feed: &mut Feed,
@@ -80,7 +81,7 @@ fn give_slot<R: Wait, W: Words + Drop, P: Past + Drop>(
 }
 
 // Gives the next message of a slot. Whether there was none, or the feed is lost.
-fn give_next<R: Wait, W: Words + Drop, P: Past + Drop>(
+fn give_next<R: Wait, W: Words + Drop, P: Past<Entry> + Drop>(
     rt: &R,
     recorder: &mut Recorder<W, P>,
     feed: &mut Feed,

@@ -5,7 +5,7 @@ ghost use Rattle.std.specs.Bool.{OnTrue, OnFalse};
 ghost use Rattle.srm_names.specs.declared.limits.TheConstants.{PAGES};
 ghost use Rattle.srm_node.specs.Nodes.{Keeps};
 ghost use Rattle.srm_node.specs.Turns.{RunsToEnd};
-ghost use Rattle.srm_node.specs.Working.{Took};
+ghost use Rattle.srm_node.specs.Working.{WorkedFrom};
 ghost use Rattle.srm_node.specs.Hosting.{started, Starts, StartsSome, StopsBy, WorkedEach, Hosts, HostFails, AreEndsOfLanes};
 
 use crate::fault::NodeFault;
@@ -13,7 +13,7 @@ use crate::node::Node;
 use crate::sink::PageSink;
 use crate::working::{Worked, work};
 use srm_agent::Entry;
-use srm_names::PAGES;
+use srm_names::{PAGES, PageMsg};
 use srm_pages::{Feed, Tap};
 use srm_timers::Words;
 use srm_wire::{Clock, Wire};
@@ -25,43 +25,45 @@ use std::sync::Wait;
 use std::thread;
 use std::thread::{Promise, PromisedHandle, Threads};
 
-/// A worker's promise: its tap is of the lane of this one, and took what its list has.
+/// A worker's promise: its tap is of the lane of this one, it took what its list has, and its end is no broken lane.
 #[derive(Drop)]
 pub struct WorksOn(Snapshot<Tap>);
 
-impl Promise<Worked> for WorksOn {
-    ghost use Rattle.srm_node.specs.Working.{Took};
+impl<L: Past<PageMsg> + Drop> Promise<Worked<L>> for WorksOn {
+    ghost use Rattle.srm_node.specs.Working.{WorkedFrom};
 
-    ghost kept_by = { λ p w. Took p.0.value w.tap w.list.items };
+    ghost kept_by = { λ p w. WorkedFrom L.entries p.0.value w };
 }
 
 /// A worker in its thread.
 #[derive(Drop)]
-pub struct Worker {
-    handle: PromisedHandle<Worked, WorksOn>,
+pub struct Worker<L: Past<PageMsg> + Drop = Vec<PageMsg>> {
+    handle: PromisedHandle<Worked<L>, WorksOn>,
 }
 
-/// What became of a node and its workers.
+/// What became of a node and its workers. The node keeps its entries, and each worker what it took, unless other pasts are named.
 #[derive(Drop)]
-pub struct Hosted<P: Past + Drop = Vec<Entry>> {
+pub struct Hosted<P: Past<Entry> + Drop = Vec<Entry>, L: Past<PageMsg> + Drop = Vec<PageMsg>> {
     pub journal: Journal<P>,
     /// None after a fault: they were let go, so that the workers end.
     pub feeds: Vec<Feed>,
-    pub worked: Vec<Worked>,
+    pub worked: Vec<Worked<L>>,
     pub end: Result<(), NodeFault>,
 }
 
 #[tactic(auto, using(crate::proofs::Hosts::host_ends, crate::proofs::Hosts::host_lanes))]
 /// Runs a node in this thread, and in threads of their own eight page workers, one for each tap and its sink. After a fault the feeds are
 /// let go, so that the workers end. Where a worker can't be started, the end is fault 2, the node isn't turned, and those that were started
-/// are handed back. Only want of memory before any worker is started refuses it.
+/// are handed back. Only want of memory before any worker is started refuses it. The type that the caller names for the workers' lists says how they
+/// are kept, as with [`work`].
 pub fn host<
     R: Threads + Wait + Copy + Send + 'static,
     W: Words + Drop,
     X: Wire + Drop,
     C: Clock + Drop,
-    P: Past + Drop,
+    P: Past<Entry> + Drop,
     S: PageSink + Send + Drop + 'static,
+    L: Past<PageMsg> + Send + Drop + 'static,
 >(
     rt: &R,
     alloc: Global,
@@ -69,10 +71,10 @@ pub fn host<
     taps: Vec<Tap>,
     sinks: Vec<S>,
     turns: u64,
-) -> Result<Hosted<P>, AllocError>
+) -> Result<Hosted<P, L>, AllocError>
     requires taps { vec_len taps ≡ PAGES }
     requires sinks { vec_len sinks ≡ PAGES }
-    ensures hosts { IfOk result (λ h. MatchResult h.end (λ _. Hosts node.view taps.items turns h) (λ fault. (all : Bool) × HostFails all node.view taps.items turns fault h)) }
+    ensures hosts { IfOk result (λ h. MatchResult h.end (λ _. Hosts L.entries node.view taps.items turns h) (λ fault. (all : Bool) × HostFails L.entries all node.view taps.items turns fault h)) }
     ensures lanes { IfOk result (λ h. IfOk h.end (λ _. AreEndsOfLanes node.view.feeds taps.items → AreEndsOfLanes h.feeds.items (map (λ w. w.tap) h.worked.items))) }
 {
     let (mut workers, mut worked) = places(alloc)?;
@@ -81,7 +83,9 @@ pub fn host<
 }
 
 // No workers yet, and nothing that they handed back.
-fn places(alloc: Global) -> Result<(VecDeque<Worker>, Vec<Worked>), AllocError>
+fn places<L: Past<PageMsg> + Drop>(
+    alloc: Global,
+) -> Result<(VecDeque<Worker<L>>, Vec<Worked<L>>), AllocError>
     ensures { IfOk result (λ p. (p.0.items ≡ []) × (p.1.items ≡ [])) }
 {
     let mut workers = VecDeque::new(alloc);
@@ -92,18 +96,25 @@ fn places(alloc: Global) -> Result<(VecDeque<Worker>, Vec<Worked>), AllocError>
 }
 
 // Runs the node where all workers were started, and waits for them.
-fn go<R: Threads + Wait, W: Words + Drop, X: Wire + Drop, C: Clock + Drop, P: Past + Drop>(
+fn go<
+    R: Threads + Wait,
+    W: Words + Drop,
+    X: Wire + Drop,
+    C: Clock + Drop,
+    P: Past<Entry> + Drop,
+    L: Past<PageMsg> + Drop,
+>(
     rt: &R,
     alloc: Global,
     node: Node<W, X, C, P>,
     all: bool,
     turns: u64,
-    workers: VecDeque<Worker>,
-    worked: Vec<Worked>,
-) -> Hosted<P>
+    workers: VecDeque<Worker<L>>,
+    worked: Vec<Worked<L>>,
+) -> Hosted<P, L>
     requires room { vec_len worked + length workers.items ≤ vec_capacity worked }
     requires none { worked.items ≡ [] }
-    ensures { MatchResult result.end (λ _. (all ≡ true) × Hosts node.view (map started workers.items) turns result) (λ fault. HostFails all node.view (map started workers.items) turns fault result) }
+    ensures { MatchResult result.end (λ _. (all ≡ true) × Hosts L.entries node.view (map started workers.items) turns result) (λ fault. HostFails L.entries all node.view (map started workers.items) turns fault result) }
 {
     let mut node = node;
     let end = run_if(rt, &mut node, all, turns);
@@ -119,13 +130,17 @@ fn go<R: Threads + Wait, W: Words + Drop, X: Wire + Drop, C: Clock + Drop, P: Pa
 }
 
 // Starts the workers. Whether all were started.
-fn begin<R: Threads + Wait + Copy + Send + 'static, S: PageSink + Send + Drop + 'static>(
+fn begin<
+    R: Threads + Wait + Copy + Send + 'static,
+    S: PageSink + Send + Drop + 'static,
+    L: Past<PageMsg> + Send + Drop + 'static,
+>(
     rt: &R,
     alloc: Global,
     taps: Vec<Tap>,
     sinks: Vec<S>,
-    workers: &mut VecDeque<Worker>,
-    worked: &mut Vec<Worked>,
+    workers: &mut VecDeque<Worker<L>>,
+    worked: &mut Vec<Worked<L>>,
 ) -> bool
     requires taps { vec_len taps ≡ PAGES }
     requires none { (workers.old.items ≡ []) × (worked.old.items ≡ []) }
@@ -140,7 +155,7 @@ fn begin<R: Threads + Wait + Copy + Send + 'static, S: PageSink + Send + Drop + 
 }
 
 // Runs the node where all workers were started.
-fn run_if<R: Wait, W: Words + Drop, X: Wire + Drop, C: Clock + Drop, P: Past + Drop>(
+fn run_if<R: Wait, W: Words + Drop, X: Wire + Drop, C: Clock + Drop, P: Past<Entry> + Drop>(
     rt: &R,
     node: &mut Node<W, X, C, P>,
     all: bool,
@@ -163,13 +178,17 @@ fn kept(alloc: Global, feeds: Vec<Feed>, keeps: bool) -> Vec<Feed>
 }
 
 // Starts a worker for each tap, with the sink at its place, until one can't be started. Whether all were.
-fn start_all<R: Threads + Wait + Copy + Send + 'static, S: PageSink + Send + Drop + 'static>(
+fn start_all<
+    R: Threads + Wait + Copy + Send + 'static,
+    S: PageSink + Send + Drop + 'static,
+    L: Past<PageMsg> + Send + Drop + 'static,
+>(
     rt: &R,
     alloc: Global,
     taps: &mut VecDeque<Tap>,
     sinks: &mut VecDeque<S>,
-    workers: &mut VecDeque<Worker>,
-    worked: &mut Vec<Worked>,
+    workers: &mut VecDeque<Worker<L>>,
+    worked: &mut Vec<Worked<L>>,
 ) -> bool
     requires taps { length taps.old.items ≡ PAGES }
     requires none { (workers.old.items ≡ []) × (worked.old.items ≡ []) }
@@ -187,13 +206,17 @@ fn start_all<R: Threads + Wait + Copy + Send + 'static, S: PageSink + Send + Dro
 }
 
 // Starts a worker for the first tap that is left. Whether it was started.
-fn start_next<R: Threads + Wait + Copy + Send + 'static, S: PageSink + Send + Drop + 'static>(
+fn start_next<
+    R: Threads + Wait + Copy + Send + 'static,
+    S: PageSink + Send + Drop + 'static,
+    L: Past<PageMsg> + Send + Drop + 'static,
+>(
     rt: &R,
     alloc: Global,
     taps: &mut VecDeque<Tap>,
     sinks: &mut VecDeque<S>,
-    workers: &mut VecDeque<Worker>,
-    worked: &mut Vec<Worked>,
+    workers: &mut VecDeque<Worker<L>>,
+    worked: &mut Vec<Worked<L>>,
 ) -> bool
     requires room { vec_len worked.old + length workers.old.items ≤ vec_capacity worked.old }
     ensures room { vec_len worked.new + length workers.new.items ≤ vec_capacity worked.new }
@@ -211,13 +234,17 @@ fn start_next<R: Threads + Wait + Copy + Send + 'static, S: PageSink + Send + Dr
 }
 
 // Starts a worker once there is a place for what it hands back. Whether it was started.
-fn start_one<R: Threads + Wait + Copy + Send + 'static, S: PageSink + Send + Drop + 'static>(
+fn start_one<
+    R: Threads + Wait + Copy + Send + 'static,
+    S: PageSink + Send + Drop + 'static,
+    L: Past<PageMsg> + Send + Drop + 'static,
+>(
     rt: &R,
     alloc: Global,
     tap: Tap,
     sink: S,
-    workers: &mut VecDeque<Worker>,
-    worked: &mut Vec<Worked>,
+    workers: &mut VecDeque<Worker<L>>,
+    worked: &mut Vec<Worked<L>>,
 ) -> bool
     requires room { vec_len worked.old + length workers.old.items ≤ vec_capacity worked.old }
     ensures room { vec_len worked.new + length workers.new.items ≤ vec_capacity worked.new }
@@ -238,12 +265,11 @@ fn start_one<R: Threads + Wait + Copy + Send + 'static, S: PageSink + Send + Dro
 }
 
 // Starts a worker. None where there is no thread for it.
-fn start<R: Threads + Wait + Copy + Send + 'static, S: PageSink + Send + Drop + 'static>(
-    rt: &R,
-    alloc: Global,
-    tap: Tap,
-    sink: S,
-) -> Option<Worker>
+fn start<
+    R: Threads + Wait + Copy + Send + 'static,
+    S: PageSink + Send + Drop + 'static,
+    L: Past<PageMsg> + Send + Drop + 'static,
+>(rt: &R, alloc: Global, tap: Tap, sink: S) -> Option<Worker<L>>
     ensures { IfSome result (λ w. started w ≡ tap) }
 {
     let own = *rt;
@@ -259,10 +285,14 @@ fn start<R: Threads + Wait + Copy + Send + 'static, S: PageSink + Send + Drop + 
 }
 
 // Waits for all workers.
-fn join_all<R: Threads>(rt: &R, workers: VecDeque<Worker>, worked: Vec<Worked>) -> Vec<Worked>
+fn join_all<R: Threads, L: Past<PageMsg> + Drop>(
+    rt: &R,
+    workers: VecDeque<Worker<L>>,
+    worked: Vec<Worked<L>>,
+) -> Vec<Worked<L>>
     requires room { vec_len worked + length workers.items ≤ vec_capacity worked }
     requires none { worked.items ≡ [] }
-    ensures { WorkedEach (map started workers.items) result.items }
+    ensures { WorkedEach L.entries (map started workers.items) result.items }
 {
     let mut left = workers;
     let mut worked = worked;
@@ -276,15 +306,15 @@ fn join_all<R: Threads>(rt: &R, workers: VecDeque<Worker>, worked: Vec<Worked>) 
     worked
 }
 
-fn join_one<R: Threads>(rt: &R, worker: Worker) -> Worked
-    ensures { Took (started worker) result.tap result.list.items }
+fn join_one<R: Threads, L: Past<PageMsg> + Drop>(rt: &R, worker: Worker<L>) -> Worked<L>
+    ensures { WorkedFrom L.entries (started worker) result }
 {
     let Worker { handle } = worker;
     handle.join(rt)
 }
 
 // Puts one where there is a place for it.
-fn put(worked: &mut Vec<Worked>, one: Worked)
+fn put<L: Past<PageMsg> + Drop>(worked: &mut Vec<Worked<L>>, one: Worked<L>)
     requires { vec_len worked.old < vec_capacity worked.old }
     ensures items { worked.new.items ≡ worked.old.items ++ one ∷ [] }
     ensures room { (vec_len worked.new ≡ vec_len worked.old + 1) × (vec_capacity worked.old ≤ vec_capacity worked.new) }

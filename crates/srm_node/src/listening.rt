@@ -9,6 +9,7 @@ ghost use Rattle.srm_node.specs.Waits.{WaitsByWords};
 
 use crate::fault::OutOfMemory;
 use crate::limits::RECEIVED;
+use srm_agent::Entry;
 use srm_timers::Words;
 use srm_wire::Wire;
 use srm_world::{Past, Recorder};
@@ -22,7 +23,7 @@ pub struct Listening {
 
 /// Hears what came: up to 64 datagrams, until none is there or a receive fails. Where memory runs out, a datagram in hand counts as
 /// lost.
-pub fn listen<W: Words + Drop, P: Past + Drop, X: Wire>(
+pub fn listen<W: Words + Drop, P: Past<Entry> + Drop, X: Wire>(
     recorder: &mut Recorder<W, P>,
     wire: &mut X,
     buffer: &mut [u8],

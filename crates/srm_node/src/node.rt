@@ -1,9 +1,10 @@
 //! A member that takes part in a session.
 
-ghost use Rattle.std.specs.Prelude.{◌≡◌, ◌≤◌, true, false, [], None, IfOk, MatchResult};
+ghost use Rattle.std.specs.Prelude.{◌≡◌, ◌≤◌, true, false, [], Some, None, IfOk, MatchResult};
 ghost use Rattle.srm_names.specs.declared.limits.TheConstants.{MOMENT, PAGES};
 ghost use Rattle.srm_node.specs.Counting.{counts_of};
 ghost use Rattle.srm_node.specs.Nodes.{Keeps, AreNewFeeds, IsNewJournal, IsNewNode, has_ended, recorded_in};
+ghost use Rattle.srm_node.specs.Parts.{is_due, still_asked};
 ghost use Rattle.srm_node.specs.Waits.{WaitsByWords};
 ghost use Rattle.srm_node.specs.Turns.{HearsNow, DrawsNow, LeavesNow, TicksNow, GivesNow, HearsCut, DrawsCut, GivesCut, TurnEnds, Paused, RunEnds};
 
@@ -31,7 +32,12 @@ use std::sync::Wait;
 /// A member that takes part in a session: its agent over a wire and a clock, the feeds of its page workers, and the well of its pens.
 /// Contracts see it as a record, and its source of words as it stands.
 #[derive(Drop)]
-pub struct Node<W: Words + Drop, X: Wire + Drop, C: Clock + Drop, P: Past + Drop = Vec<Entry>> {
+pub struct Node<
+    W: Words + Drop,
+    X: Wire + Drop,
+    C: Clock + Drop,
+    P: Past<Entry> + Drop = Vec<Entry>,
+> {
     config: Config,
     recorder: Recorder<W, P>,
     feeds: Vec<Feed>,
@@ -40,7 +46,8 @@ pub struct Node<W: Words + Drop, X: Wire + Drop, C: Clock + Drop, P: Past + Drop
     wire: X,
     clock: C,
     buffer: Vec<u8>,
-    leave_at: Option<u64>,
+    // The moment from which it is to leave, if it was asked to and hasn't.
+    asked: Option<u64>,
     // For each feed, whether it put its close.
     closed: Vec<bool>,
     // How many datagrams the last turn heard, and how many strokes it drew.
@@ -48,7 +55,8 @@ pub struct Node<W: Words + Drop, X: Wire + Drop, C: Clock + Drop, P: Past + Drop
     drawn: u8,
 }
 
-impl<W: Words + Drop, X: Wire + Drop, C: Clock + Drop, P: Past + Drop> Model for Node<W, X, C, P> {
+impl<W: Words + Drop, X: Wire + Drop, C: Clock + Drop, P: Past<Entry> + Drop> Model
+    for Node<W, X, C, P> {
     ghost use Rattle.std.specs.Prelude.{vec_len};
     ghost use Rattle.srm_node.specs.Nodes.{NodeState, IsNode};
 
@@ -60,6 +68,7 @@ impl<W: Words + Drop, X: Wire + Drop, C: Clock + Drop, P: Past + Drop> Model for
         feeds = n.feeds.items;
         well = n.well;
         hand = n.hand;
+        asked = n.asked;
         failures = X.failed n.wire;
         told = X.told n.wire;
       };
@@ -71,6 +80,7 @@ impl<W: Words + Drop, X: Wire + Drop, C: Clock + Drop, P: Past + Drop> Model for
       feeds = n.feeds.items;
       well = n.well;
       hand = n.hand;
+      asked = n.asked;
       failures = X.failed n.wire;
       told = X.told n.wire;
     }) n.config (vec_len n.buffer) n.closed.items };
@@ -106,7 +116,7 @@ impl<W: Words + Drop, X: Wire + Drop, C: Clock + Drop> Node<W, X, C> {
     }
 }
 
-impl<W: Words + Drop, X: Wire + Drop, C: Clock + Drop> Node<W, X, C, Forgotten> {
+impl<W: Words + Drop, X: Wire + Drop, C: Clock + Drop> Node<W, X, C, Forgotten<Entry>> {
     /// The same that keeps no entry, for a member that runs for days. Its calls have the same contracts, which speak of the journal that it would keep.
     pub fn forgetful(
         alloc: Global,
@@ -116,7 +126,7 @@ impl<W: Words + Drop, X: Wire + Drop, C: Clock + Drop> Node<W, X, C, Forgotten> 
         clock: C,
         feeds: Vec<Feed>,
         well: Well,
-    ) -> Result<Node<W, X, C, Forgotten>, AllocError>
+    ) -> Result<Node<W, X, C, Forgotten<Entry>>, AllocError>
         requires feeds { AreNewFeeds feeds.items }
         requires well { well.received ≡ [] }
         ensures value { IfOk result (λ node. IsNewNode config feeds.items well (X.failed wire) (X.told wire) node.view) }
@@ -128,7 +138,7 @@ impl<W: Words + Drop, X: Wire + Drop, C: Clock + Drop> Node<W, X, C, Forgotten> 
     }
 }
 
-impl<W: Words + Drop, X: Wire + Drop, C: Clock + Drop, P: Past + Drop> Node<W, X, C, P> {
+impl<W: Words + Drop, X: Wire + Drop, C: Clock + Drop, P: Past<Entry> + Drop> Node<W, X, C, P> {
     // A node over a recorder that did nothing yet.
     fn over(
         alloc: Global,
@@ -154,7 +164,7 @@ impl<W: Words + Drop, X: Wire + Drop, C: Clock + Drop, P: Past + Drop> Node<W, X
             wire,
             clock,
             buffer: vec![in alloc; 0; BUFFER]?,
-            leave_at: None,
+            asked: None,
             closed: none_closed(alloc)?,
             // As after a full turn: the first one comes at once.
             heard: RECEIVED,
@@ -162,11 +172,12 @@ impl<W: Words + Drop, X: Wire + Drop, C: Clock + Drop, P: Past + Drop> Node<W, X
         })
     }
 
-    /// The node leaves at the first turn at or after this moment that leaves no stroke in the well or in hand, and whose pens are done.
+    /// The node leaves at the first turn at or after this moment, in microseconds, that leaves no stroke in the well or in hand, and whose pens are done.
+    /// One that was asked before is asked for this moment instead. A clock that is past 2^48 counts as 2^48, so a later moment never comes.
     pub fn ask_leave(&mut self, at: u64)
-        ensures { self.new ≡ self.old }
+        ensures { self.new ≡ record self.old { view = record self.old.view { asked = Some at } } }
     {
-        self.leave_at = Some(at);
+        self.asked = Some(at);
     }
 
     /// One turn: the clock is read; what came is heard, up to 64 datagrams; up to 64 strokes are drawn, as long as the rate lets their datagrams
@@ -309,10 +320,10 @@ impl<W: Words + Drop, X: Wire + Drop, C: Clock + Drop, P: Past + Drop> Node<W, X
         ensures leaves { MatchResult result (λ _. LeavesNow now none_left self.old.view self.new.view) (λ _. self.new.view ≡ self.old.view) }
         ensures words { WaitsByWords W.draw (recorded_in self.old) (recorded_in self.new) }
     {
-        let asked = self.leave_at;
-        let due = done && is_due(asked, now);
-        let left = leave(&mut self.recorder, none_left, due, now);
-        self.leave_at = still_asked(asked, none_left && due && left.is_ok());
+        let due = done & is_due(self.asked, now);
+        let leaves = none_left & due;
+        let left = leave(&mut self.recorder, leaves, now);
+        self.asked = still_asked(leaves & left.is_ok(), self.asked);
         left
     }
 
@@ -344,13 +355,17 @@ impl<W: Words + Drop, X: Wire + Drop, C: Clock + Drop, P: Past + Drop> Node<W, X
     }
 }
 
-fn is_due(asked: Option<u64>, now: u64) -> bool {
+fn is_due(asked: Option<u64>, now: u64) -> bool
+    ensures { result ≡ is_due asked now }
+{
     match asked {
         Some(at) => at <= now,
         None => false,
     }
 }
 
-fn still_asked(asked: Option<u64>, left: bool) -> Option<u64> {
+fn still_asked(left: bool, asked: Option<u64>) -> Option<u64>
+    ensures { result ≡ still_asked left asked }
+{
     if left { None } else { asked }
 }

@@ -7,12 +7,12 @@ ghost use Rattle.srm_node.specs.Parts.{Leaves, Ticks};
 ghost use Rattle.srm_node.specs.Waits.{WaitsByWords};
 
 use crate::fault::{OutOfMemory, is_memory};
-use srm_agent::Ticked;
+use srm_agent::{Entry, Ticked};
 use srm_timers::Words;
 use srm_world::{Past, Recorder};
 
 /// Ticks once.
-pub fn tick<W: Words + Drop, P: Past + Drop>(
+pub fn tick<W: Words + Drop, P: Past<Entry> + Drop>(
     recorder: &mut Recorder<W, P>,
     now: u64,
 ) -> Result<Ticked, OutOfMemory>
@@ -27,23 +27,19 @@ pub fn tick<W: Words + Drop, P: Past + Drop>(
     }
 }
 
-/// Asks to leave where that is due and no stroke is left. A refusal for another cause than memory has its entry.
-pub fn leave<W: Words + Drop, P: Past + Drop>(
+/// Leaves, or does nothing. A refusal for another cause than memory has its entry.
+pub fn leave<W: Words + Drop, P: Past<Entry> + Drop>(
     recorder: &mut Recorder<W, P>,
-    none_left: bool,
-    due: bool,
+    leaves: bool,
     now: u64,
 ) -> Result<(), OutOfMemory>
     requires moment { now ≤ MOMENT }
     requires lawful { IsLawfulJournal recorder.old.journal }
     ensures lawful { IsLawfulJournal recorder.new.journal }
     ensures words { WaitsByWords W.draw recorder.old recorder.new }
-    ensures leaves { MatchResult result (λ _. Leaves now none_left recorder.old.journal recorder.new.journal) (λ _. recorder.new.journal ≡ recorder.old.journal) }
+    ensures leaves { MatchResult result (λ _. Leaves now leaves recorder.old.journal recorder.new.journal) (λ _. recorder.new.journal ≡ recorder.old.journal) }
 {
-    if !none_left {
-        return Ok(());
-    }
-    if !due {
+    if !leaves {
         return Ok(());
     }
     let Err(fault) = recorder.leave(now) else {

@@ -224,3 +224,15 @@ fn a_turn_that_fails_keeps_the_moment_to_leave(rt: HostRuntime) {
     ];
     play_alone_over_flaky(rt, rt.alloc(), 1, &steps);
 }
+
+// The first call of its turn, a receive, fails; the turn is done to its end all the same.
+#[test]
+fn a_node_leaves_in_a_turn_that_fails(rt: HostRuntime) {
+    let steps = [
+        Step::Done,
+        Step::Leave(0),
+        Step::Turn(Err(NodeFault::Wire)),
+        Step::Takes(7, Seen::Close),
+    ];
+    play_alone_over_flaky(rt, rt.alloc(), 1, &steps);
+}

@@ -3,7 +3,7 @@
 use crate::rig::{Rig, TestWire, config, first, last, make_forgetful_rig, make_rig, wires};
 use crate::steps::{Step, play};
 use crate::tales::{Tale, end};
-use srm_agent::Config;
+use srm_agent::{Config, Entry};
 use srm_node::{Fate, Flaky, Wire};
 use srm_world::Forgotten;
 use std::alloc::Global;
@@ -57,7 +57,7 @@ pub(crate) fn beside_one<R: Wait + Abort + Copy + Drop>(rt: R, alloc: Global) ->
 pub(crate) fn forgetful_beside_one<R: Wait + Abort + Copy + Drop>(
     rt: R,
     alloc: Global,
-) -> Rig<TestWire<R>, Forgotten> {
+) -> Rig<TestWire<R>, Forgotten<Entry>> {
     let (other, own) = first_wires(rt, alloc);
     let mut rig = make_forgetful_rig(&rt, alloc, config(&rt, 1, 3), own);
     rig.beside.push(other).expect(&rt, "memory");

@@ -29,7 +29,7 @@ impl Clock for TestClock {
 
 /// A node with what is outside it.
 #[derive(Drop)]
-pub(crate) struct Rig<X: Wire + Drop, P: Past + Drop = Vec<Entry>> {
+pub(crate) struct Rig<X: Wire + Drop, P: Past<Entry> + Drop = Vec<Entry>> {
     pub node: Node<Listed, X, TestClock, P>,
     pub now: Arc<AtomicU64, Global>,
     pub taps: Vec<Tap>,
@@ -171,7 +171,7 @@ fn forgetful_node<X: Wire + Drop>(
     clock: TestClock,
     feeds: Vec<Feed>,
     well: ends::Well,
-) -> Node<Listed, X, TestClock, Forgotten>
+) -> Node<Listed, X, TestClock, Forgotten<Entry>>
     requires feeds { AreNewFeeds feeds.items }
     requires well { well.received ≡ [] }
 {
@@ -188,7 +188,7 @@ pub(crate) fn make_forgetful_rig<X: Wire + Drop>(
     alloc: Global,
     config: Config,
     wire: X,
-) -> Rig<X, Forgotten> {
+) -> Rig<X, Forgotten<Entry>> {
     let now = new_now(rt, alloc);
     let clock = TestClock {
         now: Arc::try_clone(&now).expect(rt, "memory"),

@@ -4,6 +4,7 @@ use crate::datagrams::{Sent, send_by};
 use crate::rig::Rig;
 use crate::seen::{Seen, assert_taken};
 use crate::strokes::{end_all, ink_by, ink_many, ink_until_full};
+use srm_agent::Entry;
 use srm_node::{Counts, NodeFault, Wire};
 use srm_world::Past;
 use std::alloc::Global;
@@ -49,7 +50,7 @@ pub(crate) enum Step {
 }
 
 /// The node turns once, which ends so.
-pub(crate) fn turn<R: Wait + Abort, X: Wire + Drop, P: Past + Drop>(
+pub(crate) fn turn<R: Wait + Abort, X: Wire + Drop, P: Past<Entry> + Drop>(
     rt: &R,
     rig: &mut Rig<X, P>,
     end: Result<(), NodeFault>,
@@ -57,7 +58,7 @@ pub(crate) fn turn<R: Wait + Abort, X: Wire + Drop, P: Past + Drop>(
     assert_eq!(rt; rig.node.turn(rt), end);
 }
 
-fn run<R: Wait + Abort, X: Wire + Drop, P: Past + Drop>(
+fn run<R: Wait + Abort, X: Wire + Drop, P: Past<Entry> + Drop>(
     rt: &R,
     rig: &mut Rig<X, P>,
     turns: u64,
@@ -66,7 +67,7 @@ fn run<R: Wait + Abort, X: Wire + Drop, P: Past + Drop>(
     assert_eq!(rt; rig.node.run(rt, turns), end);
 }
 
-fn fill<R: Wait + Abort, X: Wire + Drop, P: Past + Drop>(
+fn fill<R: Wait + Abort, X: Wire + Drop, P: Past<Entry> + Drop>(
     rt: &R,
     alloc: Global,
     rig: &mut Rig<X, P>,
@@ -78,7 +79,7 @@ fn fill<R: Wait + Abort, X: Wire + Drop, P: Past + Drop>(
     }
 }
 
-fn flow<R: Wait + Abort, X: Wire + Drop, P: Past + Drop>(
+fn flow<R: Wait + Abort, X: Wire + Drop, P: Past<Entry> + Drop>(
     rt: &R,
     alloc: Global,
     rig: &mut Rig<X, P>,
@@ -94,7 +95,7 @@ fn counts<X: Wire + Drop>(rt: &impl Abort, rig: &Rig<X>, wanted: Counts) {
     assert_eq!(rt; rig.node.counts(), wanted);
 }
 
-fn take_many<R: Wait + Abort, X: Wire + Drop, P: Past + Drop>(
+fn take_many<R: Wait + Abort, X: Wire + Drop, P: Past<Entry> + Drop>(
     rt: &R,
     rig: &mut Rig<X, P>,
     count: u32,
@@ -104,12 +105,12 @@ fn take_many<R: Wait + Abort, X: Wire + Drop, P: Past + Drop>(
     }
 }
 
-fn drop_tap<X: Wire + Drop, P: Past + Drop>(rt: &impl Abort, rig: &mut Rig<X, P>) {
+fn drop_tap<X: Wire + Drop, P: Past<Entry> + Drop>(rt: &impl Abort, rig: &mut Rig<X, P>) {
     assert!(rt; !rig.taps.is_empty());
     drop(rig.taps.remove(0));
 }
 
-fn take<R: Wait + Abort, X: Wire + Drop, P: Past + Drop>(
+fn take<R: Wait + Abort, X: Wire + Drop, P: Past<Entry> + Drop>(
     rt: &R,
     alloc: Global,
     rig: &mut Rig<X, P>,
@@ -162,7 +163,7 @@ pub(crate) fn play<R: Wait + Abort, X: Wire + Drop>(
 }
 
 /// A node takes these steps, whatever it keeps. Nothing is counted.
-pub(crate) fn play_uncounted<R: Wait + Abort, X: Wire + Drop, P: Past + Drop>(
+pub(crate) fn play_uncounted<R: Wait + Abort, X: Wire + Drop, P: Past<Entry> + Drop>(
     rt: &R,
     alloc: Global,
     rig: &mut Rig<X, P>,

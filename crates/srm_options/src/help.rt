@@ -36,9 +36,17 @@ The member leaves once its time is up and all strokes are drawn. Then it prints
   took M J open C.P|draw S N TEXT|left S|close      what slot J took, in order
   gone M
 
-Status: 0; 1 for a line that is too long, an input of more than 1000000 bytes or
-a stream that fails; 2 for a wrong command line; 3 where the socket fails; 4 for
-want of memory, or where all turns were spent.";
+With --live each line is drawn as it is typed, by one pen and however many there
+are, and each line above is printed as it is taken. A line that is too long is
+told on standard error and not drawn. The member stays on at the end of input, and
+then leaves; so it does where its output is closed. On a terminal, standard error
+shows each second how many of the others were heard, how many datagrams were sent
+and came, how many of those sent were requests and repairs, and how much came that
+is no datagram of another member.
+
+Status: 0; 1 for a line that is too long or an input of more than 1000000 bytes,
+but not with --live, or for a stream that fails; 2 for a wrong command line; 3
+where the socket fails; 4 for want of memory, or where all turns were spent.";
 
 /// What `srm world --help` prints.
 pub const WORLD_HELP: &str = "usage: srm world < SCRIPT

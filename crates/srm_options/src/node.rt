@@ -89,14 +89,14 @@ fn with_limits<'a>(alloc: Global, command: Command<'a>) -> Result<Command<'a>, A
         alloc,
         "stay",
         "U",
-        "leaves after so many microseconds, at most 2^48; else 5000000",
+        "leaves after so many microseconds, at most 2^48; else 5000000; with --live, so long after the end of input",
     )
     .value_parser(value_parser!(u64).range(..=MOMENT as i64));
     let turns = option(
         alloc,
         "turns",
         "T",
-        "turns so often, at most, below 2^64; else 1000000",
+        "turns so often, at most, below 2^64; else 1000000, or with --live as often as it takes",
     )
     .value_parser(value_parser!(u64));
     let rate = option(
@@ -119,12 +119,17 @@ fn with_limits<'a>(alloc: Global, command: Command<'a>) -> Result<Command<'a>, A
         "c1,c2,d1,d2",
         "a request waits c1 to c1+c2 distances, a repair d1 to d1+d2; each 0 to 16; else 2,2,1,1",
     );
+    let live = Arg::new(alloc, "live")
+        .long("live")
+        .help("draws each line as it is typed, and prints what is taken as it is")
+        .action(ArgAction::SetTrue);
     command
         .arg(stay)?
         .arg(turns)?
         .arg(rate)?
         .arg(depth)?
-        .arg(waits)
+        .arg(waits)?
+        .arg(live)
 }
 
 fn with_addresses<'a>(alloc: Global, command: Command<'a>) -> Result<Command<'a>, AllocError> {
@@ -158,11 +163,15 @@ fn options_in<'a>(alloc: Global, matches: &ArgMatches<'a>) -> Result<NodeOptions
     let Some(config) = Config::with(me, members, session, settings) else {
         return Err(Mistake::Range);
     };
+    let live = matches.get_flag("live");
+    // How long a live member runs is for who types to say.
+    let turns = if live { u64::MAX } else { TURNS };
     Ok(NodeOptions {
         config,
         start: matches.get_one::<u64>("start").unwrap_or(0),
         stay: matches.get_one::<u64>("stay").unwrap_or(STAY),
-        turns: matches.get_one::<u64>("turns").unwrap_or(TURNS),
+        turns: matches.get_one::<u64>("turns").unwrap_or(turns),
+        live,
         addresses,
     })
 }

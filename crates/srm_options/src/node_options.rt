@@ -14,10 +14,12 @@ pub struct NodeOptions {
     pub config: Config,
     /// Where the words start that its waits are drawn by.
     pub start: u64,
-    /// After so many microseconds it leaves, up to 2^48.
+    /// After so many microseconds it leaves, up to 2^48; where strokes are drawn as they are typed, so long after the end of input.
     pub stay: u64,
     /// It turns so often, at most.
     pub turns: u64,
+    /// Whether strokes are drawn as they are typed, and what is taken is printed as it is.
+    pub live: bool,
     /// The members' addresses by number, one a member.
     pub addresses: Vec<SocketAddr>,
 }

@@ -3,6 +3,7 @@
 use srm_member::MemberFault;
 use srm_node::{NodeFault, WorkEnd, Worked};
 use srm_pages::lanes;
+use srm_script::Fault;
 use std::alloc::{AllocError, Global};
 use std::process::Abort;
 use std::test::Fail;
@@ -50,4 +51,31 @@ fn want_of_memory_comes_before_all_else(rt: HostRuntime) -> Result<(), Fail> {
         assert_ends(&rt, end, of_worker, text, status)?;
     }
     Ok(())
+}
+
+fn of_streams(fault: Fault) -> Option<MemberFault> {
+    Some(MemberFault::Script(fault))
+}
+
+// Of a live member, by why its run was no whole one, and what befell its streams.
+#[test]
+fn what_befell_the_streams_comes_last(rt: HostRuntime) {
+    for (run, noted, wanted) in [
+        (None, None, None),
+        (None, Some(Fault::Input), of_streams(Fault::Input)),
+        (None, Some(Fault::Memory), of_streams(Fault::Memory)),
+        (Some(MemberFault::Turns), None, Some(MemberFault::Turns)),
+        (
+            Some(MemberFault::Turns),
+            Some(Fault::Output),
+            Some(MemberFault::Turns),
+        ),
+        (
+            Some(MemberFault::Wire),
+            Some(Fault::Memory),
+            of_streams(Fault::Memory),
+        ),
+    ] {
+        assert_eq!(rt; MemberFault::of_live(run, noted), wanted);
+    }
 }

@@ -14,9 +14,15 @@ mod inputs;
 #[cfg(test)]
 mod judging;
 #[cfg(test)]
+mod live;
+#[cfg(test)]
+mod lives;
+#[cfg(test)]
 mod lossy;
 #[cfg(test)]
 mod options;
+#[cfg(test)]
+mod polling;
 #[cfg(test)]
 mod reading;
 #[cfg(test)]
@@ -25,6 +31,8 @@ mod relay;
 mod rig;
 #[cfg(test)]
 mod rows;
+#[cfg(test)]
+mod status_line;
 #[cfg(test)]
 mod staying;
 #[cfg(test)]

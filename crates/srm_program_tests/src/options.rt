@@ -71,6 +71,7 @@ fn options_that_are_wrong(rt: HostRuntime) -> Result<(), Fail> {
         ("--depth x", "--depth"),
         ("--depth 1050", "--depth"),
         ("--depth 1000001", "--depth"),
+        ("--live=yes", "--live"),
         ("--colour red", "--colour"),
     ] {
         let line = line_with(&rt, words, "127.0.0.1:1")?;
@@ -90,6 +91,7 @@ fn options_that_come_twice(rt: HostRuntime) -> Result<(), Fail> {
         ("--rate 1 --rate 1", "--rate"),
         ("--depth 1051 --depth 1051", "--depth"),
         ("--waits 2,2,1,1 --waits 2,2,1,1", "--waits"),
+        ("--live --live", "--live"),
     ] {
         let line = line_with(&rt, words, "127.0.0.1:1")?;
         assert_wrong(&rt, line.as_str(), named)?;
@@ -172,6 +174,7 @@ fn the_ends_of_the_ranges(rt: HostRuntime) -> Result<(), Fail> {
         "--start 0 --stay 0 --turns 0 --rate 1 --depth 1051",
         "--start 18446744073709551615 --stay 281474976710656",
         "--turns 18446744073709551615 --rate 100000000 --depth 1000000",
+        "--live",
         "--waits 0,0,0,0",
         "--waits 16,16,16,16",
     ] {

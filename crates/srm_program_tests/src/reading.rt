@@ -99,6 +99,38 @@ fn a_member_is_one_of_as_many_as_have_an_address(rt: HostRuntime) -> Result<(), 
     Ok(())
 }
 
+fn is_live(alloc: Global, line: &str) -> Option<bool> {
+    Some(read(alloc, line)?.live)
+}
+
+#[test]
+fn a_line_is_live_where_it_says_so(rt: HostRuntime) {
+    let still = "--session 7 --me 0 127.0.0.1:1";
+    let live = "--session 7 --live --me 0 127.0.0.1:1";
+    assert_eq!(rt; is_live(rt.alloc(), still), Some(false));
+    assert_eq!(rt; is_live(rt.alloc(), live), Some(true));
+}
+
+fn turns_of(alloc: Global, line: &str) -> Option<u64> {
+    Some(read(alloc, line)?.turns)
+}
+
+// An idle member turns a hundred times a second, and a million times in three hours.
+#[test]
+fn a_live_member_turns_as_often_as_it_takes(rt: HostRuntime) {
+    for (words, turns) in [
+        ("--session 7", 1_000_000),
+        ("--session 7 --live", u64::MAX),
+        ("--session 7 --live --turns 3", 3),
+    ] {
+        let told = match format!(in rt.alloc(); "{words} --me 0 127.0.0.1:1") {
+            Ok(line) => turns_of(rt.alloc(), line.as_str()),
+            Err(_) => None,
+        };
+        assert_eq!(rt; told, Some(turns), "{words}");
+    }
+}
+
 fn address_at(alloc: Global, line: &str, place: usize) -> Option<SocketAddr> {
     let options = read(alloc, line)?;
     options.addresses.get(place).copied()

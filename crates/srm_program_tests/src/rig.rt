@@ -3,7 +3,8 @@
 ghost use Rattle.std.specs.Prelude.{◌≤◌, IfOk};
 
 use mio::net::UdpSocket;
-use srm_member::run_node;
+use srm_member::{print_reply, run_node};
+use srm_options::read_node;
 use std::alloc::AllocError;
 use std::io;
 use std::io::{ErrorKind, Read, Write};
@@ -124,7 +125,10 @@ where
     let alloc = rt.alloc();
     let words: Vec<&str> = line.split(' ').collect(alloc)?;
     let mut err = Vec::new(alloc);
-    let status = run_node(rt, words.as_slice(), reader, out, &mut err);
+    let status = match read_node(alloc, words.as_slice()) {
+        Ok(options) => run_node(rt, options, reader, out, &mut err),
+        Err(reply) => print_reply(&reply, out, &mut err),
+    };
     Ok((status, err))
 }
 

@@ -72,6 +72,7 @@ fn wait_with<R: Net + Clock + Wait + Copy + Drop>(
     Ok(wait_over(rt, alloc, &options, wire).ok_or("a wait")?)
 }
 
+// The first word that number 1 starts is 15,492,934,433,077,865,799, as the tests of timers have it: 21,834 over a multiple of 200,001.
 #[test]
 fn a_member_waits_as_its_line_says(rt: HostRuntime) -> Result<(), Fail> {
     for (words, least, greatest) in [
@@ -80,6 +81,7 @@ fn a_member_waits_as_its_line_says(rt: HostRuntime) -> Result<(), Fail> {
         ("--waits 3,0,1,1", 300_000, 300_000),
         ("--waits 16,0,0,0", 1_600_000, 1_600_000),
         ("--waits 5,1,16,16", 500_000, 600_000),
+        ("--start 1", 221_834, 221_834),
     ] {
         let wait = wait_with(&rt, rt.alloc(), words)?;
         assert!(rt; least <= wait && wait <= greatest, "{words}: {wait}");

@@ -1,7 +1,8 @@
 //! A member over UDP whose input and output stand in memory.
 
 use crate::again::buffer;
-use srm_member::run_node;
+use srm_member::{print_reply, run_node};
+use srm_options::read_node;
 use std::process::Abort;
 
 /// A member that is the only one of its session, at a port that nobody has, and leaves at once.
@@ -28,6 +29,9 @@ fn a_member_prints_all_or_lacks_memory(rt: HostRuntime) {
     let mut input: &[u8] = b"hi\n";
     let mut out = buffer(&rt, rt.alloc());
     let mut err = buffer(&rt, rt.alloc());
-    let status = run_node(&rt, &WORDS, &mut input, &mut out, &mut err);
+    let status = match read_node(rt.alloc(), &WORDS) {
+        Ok(options) => run_node(&rt, options, &mut input, &mut out, &mut err),
+        Err(reply) => print_reply(&reply, &mut out, &mut err),
+    };
     check_end(&rt, status, out.as_slice(), err.as_slice());
 }

@@ -1,13 +1,13 @@
 -- Late copies that come, one number after another.
-use Rattle.std.proofs.Common.{◌≡◌, ℕ, zero, suc, ◌+◌, ◌-◌, ◌≤◌, ◌<◌, min, Bool, true, false, List, [], ◌∷◌, ◌++◌, length, refl, ap, sym, ◌∙◌, subst, arith, append_assoc, add-one, inl, inr}
-use Rattle.std.specs.Prelude.{◌⊎◌, filter, slice_get, unwrap_or, if◌then◌else◌}
+use Rattle.std.proofs.Common.{◌≡◌, ℕ, zero, suc, ◌+◌, ◌-◌, ◌≤◌, ◌<◌, min, Bool, false, List, [], ◌∷◌, ◌++◌, length, ap, sym, ◌∙◌, subst, arith, append_assoc, add-one, inl, inr}
+use Rattle.std.specs.Prelude.{◌⊎◌, filter, unwrap_or, if◌then◌else◌}
 use Rattle.std.proofs.lemmas.Bool.{cases_lt}
 use Rattle.std.proofs.lemmas.List.{append-nil, length-append}
 use Rattle.std.proofs.lemmas.List.Elements.{filter-append}
 use Rattle.std.proofs.lemmas.Option.{slice_get_past}
 use Rattle.srm_names.specs.Histories.{count_up}
 use Rattle.srm_wire.specs.declared.fates.Fate.{Fate}
-use Rattle.srm_wire.specs.declared.fates.Fate.TheVariants.{Pass, Drop, Twice, Late}
+use Rattle.srm_wire.specs.declared.fates.Fate.TheVariants.{Pass}
 use Rattle.srm_wire.specs.declared.sent.Sent.{Sent}
 use Rattle.srm_wire.specs.Fates.{fate_of, is_behind, comes, coming}
 use Rattle.srm_wire.proofs.Telling.{up_to_more}

@@ -1,13 +1,13 @@
 -- What wires tell, one call after another.
 use Rattle.std.proofs.Common.{◌≡◌, ℕ, zero, suc, ◌+◌, ◌-◌, ◌^◌, min, ◌<◌, ◌≤◌, ◌||◌, Bool, true, false, List, [], ◌∷◌, ◌++◌, refl, ap, sym, ◌∙◌, subst, inl, inr, arith, append_assoc, add-one}
-use Rattle.std.specs.Prelude.{◌⊎◌, Result, Ok, Err, Option, Some, None, option_map, not, ◌==◌}
+use Rattle.std.specs.Prelude.{◌⊎◌, Result, Ok, Err, is_err, Option, Some, None, option_map, not, ◌==◌}
 use Rattle.std.specs.Bool.{OnFalse}
 use Rattle.std.proofs.lemmas.Bool.{cases_lt}
 use Rattle.std.proofs.lemmas.List.{append-nil, map-append}
 use Rattle.std.proofs.lemmas.List.Elements.{filter-append}
 use Rattle.srm_names.specs.Histories.{count_up}
 use Rattle.srm_wire.specs.declared.sent.Sent.{Sent}
-use Rattle.srm_wire.specs.Wires.{Told, TellsMore, told_more, CountsIf, RoseOrFull, CountsFailure, counted_with, Sends, but, others, sends_to}
+use Rattle.srm_wire.specs.Wires.{Told, TellsMore, told_more, CountsIf, RoseOrFull, CountsFailure, counted_with, AreSomeOf, Sends, bytes_to, took, but, others, sends_to}
 
 told_same : (o : Option Told) → o ≡ option_map (told_more [] []) o
 told_same None = refl
@@ -51,17 +51,40 @@ counts_on false true x y z h k = (omega arith, rose_before x y z h.0 k.1)
     rose_before x y z le (inr full) = inr full
 counts_on false false x y z h k = (omega arith, tt)
 
+-- some of all these, where some of the first and some of the others are
+some_on : {A : Type 0} (xs all ys more : List A) → AreSomeOf xs all → AreSomeOf ys more → AreSomeOf (xs ++ ys) (all ++ more)
+some_on [] [] ys more h k = k
+some_on {A} [] (a ∷ all) ys more h k = skip ys (all ++ more) (some_on [] all ys more tt k)
+  where
+    skip : (ys rest : List A) → AreSomeOf ys rest → AreSomeOf ys (a ∷ rest)
+    skip [] rest h = tt
+    skip (y ∷ ys) rest h = inr h
+some_on (x ∷ xs) [] ys more h k = absurd h
+some_on (x ∷ xs) (a ∷ all) ys more (inl (is, h)) k = inl (is, some_on xs all ys more h k)
+some_on (x ∷ xs) (a ∷ all) ys more (inr h) k = inr (some_on (x ∷ xs) all ys more h k)
+
 -- some sends, and then more
 pub sends_on : (a b : Bool) (went more : List Sent) (x y z : ℕ) (s t u : Option Told) → Sends a went x y s t → Sends b more y z t u → Sends (a || b) (went ++ more) x z s u
-sends_on a b went more x y z s t u h k = record { failures = counts_on a b x y z h.failures k.failures; tells = both a b h.tells k.tells }
+sends_on a b went more x y z s t u h k = record {
+  failures = counts_on a b x y z h.failures k.failures;
+  went = h.went ++ k.went;
+  some = some_on h.went went k.went more h.some k.some;
+  whole = both a b h.whole k.whole;
+  tells = tells_on [] [] h.went k.went s t u h.tells k.tells;
+}
   where
-    both : (a b : Bool) → OnFalse a (TellsMore [] went s t) → OnFalse b (TellsMore [] more t u) → OnFalse (a || b) (TellsMore [] (went ++ more) s u)
-    both true b h k = tt
-    both false true h k = tt
-    both false false h k = tells_on [] [] went more s t u h k
+    both : (a b : Bool) → OnFalse a (h.went ≡ went) → OnFalse b (k.went ≡ more) → OnFalse (a || b) (h.went ++ k.went ≡ went ++ more)
+    both true b p q = tt
+    both false true p q = tt
+    both false false p q = ap (λ ss. ss ++ k.went) p ∙ ap (λ ss. went ++ ss) q
 
 pub sends_none : (x : ℕ) (t : Option Told) → Sends false [] x x t t
-sends_none x t = record { failures = (omega arith, tt); tells = tells_nothing t }
+sends_none x t = record { failures = (omega arith, tt); went = []; some = tt; whole = refl; tells = tells_nothing t }
+
+-- one was sent, or the send failed
+pub sends_one : {T E : Type 0} (r : Result T E) (to : ℕ) (bytes : List ℕ) (all : List Sent) (x y : ℕ) (s t : Option Told) → all ≡ bytes_to to bytes ∷ [] → CountsFailure r x y → TellsMore [] (took to bytes r) s t → Sends (is_err r) all x y s t
+sends_one (Ok a) to bytes all x y s t is counts tells = record { failures = (counts, tt); went = bytes_to to bytes ∷ []; some = rw is (inl (refl, tt)); whole = sym is; tells = tells }
+sends_one (Err e) to bytes all x y s t is counts tells = record { failures = (counts.0, counts.1); went = []; some = tt; whole = tt; tells = tells }
 
 -- one member more
 pub sends_to_more : (a b : Bool) (me n : ℕ) (bytes : List ℕ) (x y z : ℕ) (s t u : Option Told) → Sends a (sends_to (others me n) bytes) x y s t → Sends b (sends_to (but me (n ∷ [])) bytes) y z t u → Sends (a || b) (sends_to (others me (n + 1)) bytes) x z s u

@@ -1,6 +1,6 @@
 -- New wires, one after another.
-use Rattle.std.proofs.Common.{◌≡◌, ℕ, zero, suc, ◌+◌, List, [], ◌∷◌, ◌++◌, length, refl, ap, sym, ◌∙◌, subst, inl, inr, add-one}
-use Rattle.std.specs.Prelude.{Option, Some, None, slice_get, unwrap_or, drop}
+use Rattle.std.proofs.Common.{◌≡◌, ℕ, zero, suc, ◌+◌, List, [], ◌∷◌, ◌++◌, refl, ap, sym, ◌∙◌, inl, inr, add-one}
+use Rattle.std.specs.Prelude.{Some, slice_get, drop}
 use Rattle.std.proofs.lemmas.List.{length-append}
 use Rattle.srm_names.proofs.Lists.{slice_get-snoc}
 use Rattle.srm_wire.specs.declared.fates.Fate.{Fate}

@@ -1,10 +1,11 @@
 -- The definitions at worked examples.
-use Rattle.std.specs.Prelude.{◌≡◌, ℕ, true, false, List, [], ◌∷◌, refl}
+use Rattle.std.specs.Prelude.{◌≡◌, ℕ, true, false, List, [], ◌∷◌, Some, refl}
+use Rattle.std.proofs.Common.{inl, inr, arith}
 use Rattle.srm_wire.specs.declared.fates.Fate.{Fate}
 use Rattle.srm_wire.specs.declared.fates.Fate.TheVariants.{Pass, Drop, Twice, Late}
 use Rattle.srm_wire.specs.Fates.{fate_of, comes, coming}
-use Rattle.srm_wire.specs.Flakiness.{FlakyView, fails_next}
-use Rattle.srm_wire.specs.Wires.{one_more, others}
+use Rattle.srm_wire.specs.Flakiness.{fails_next}
+use Rattle.srm_wire.specs.Wires.{Told, one_more, others, bytes_to, AreSomeOf, Sends}
 
 -- one passes, one is dropped, one comes twice, and of three late ones one comes behind two, one behind one, and one never
 abbrev six : List Fate
@@ -40,3 +41,23 @@ counts_to_the_greatest = refl
 
 pub rising_but_one : others 1 4 ≡ 0 ∷ 2 ∷ 3 ∷ []
 rising_but_one = refl
+
+-- the first and the last of three, in their order; not turned round, and none twice
+pub some_in_order : AreSomeOf {A = ℕ} (1 ∷ 3 ∷ []) (1 ∷ 2 ∷ 3 ∷ [])
+some_in_order = inl (refl, inr (inl (refl, tt)))
+
+pub not_turned_round : AreSomeOf {A = ℕ} (3 ∷ 1 ∷ []) (1 ∷ 3 ∷ []) → ⊥
+not_turned_round (inl (is, rest)) = cc
+not_turned_round (inr (inl (is, rest))) = rest
+not_turned_round (inr (inr rest)) = rest
+
+pub none_twice : AreSomeOf {A = ℕ} (1 ∷ 1 ∷ []) (1 ∷ []) → ⊥
+none_twice (inl (is, rest)) = rest
+none_twice (inr rest) = rest
+
+abbrev told : List ℕ → Told
+told bytes = record { came = []; went = bytes_to 1 bytes ∷ [] }
+
+-- of two that were to go the second was lost, by one failure
+pub one_of_two_went : Sends true (bytes_to 1 (7 ∷ []) ∷ bytes_to 2 (7 ∷ []) ∷ []) 0 1 (Some (record { came = []; went = [] })) (Some (told (7 ∷ [])))
+one_of_two_went = record { failures = (omega arith, inl (omega arith)); went = bytes_to 1 (7 ∷ []) ∷ []; some = inl (refl, tt); whole = tt; tells = record { told = refl } }

@@ -71,10 +71,19 @@ sends_to members bytes = map (λ to. record { to = to; bytes = bytes }) members
 abbrev pub dispatched : ℕ → ℕ → List (List ℕ) → List Sent
 dispatched me members datagrams = flat_map (sends_to (others me members)) datagrams
 
--- These were sent in order, and failures were counted. If a send failed, some of them may be lost.
-pub record Sends (failed : Bool) (went : List Sent) (count counted : ℕ) (old new : Option Told) : Type 0 where
+-- some of these, in their order
+abbrev pub AreSomeOf : {A : Type 0} → List A → List A → Type 0
+AreSomeOf [] all = Unit {0}
+AreSomeOf (x ∷ xs) [] = ⊥
+AreSomeOf (x ∷ xs) (y ∷ ys) = ((x ≡ y) × AreSomeOf xs ys) ⊎ AreSomeOf (x ∷ xs) ys
+
+-- These were sent in order, and failures were counted. All of them went, or some in their order if a send failed; and nothing came meanwhile.
+pub record Sends (failed : Bool) (all : List Sent) (count counted : ℕ) (old new : Option Told) : Type 0 where
   pub failures : CountsIf failed count counted
-  pub tells : OnFalse failed (TellsMore [] went old new)
+  pub went : List Sent
+  pub some : AreSomeOf went all
+  pub whole : OnFalse failed (went ≡ all)
+  pub tells : TellsMore [] went old new
 
 -- Each of these was sent, one after another, whatever failed, each as the wire's own relation has it; and whether one failed.
 abbrev pub SendsEach : {W : Type 0} → (W → Sent → Bool → W → Type 0) → Bool → List Sent → W → W → Type 0

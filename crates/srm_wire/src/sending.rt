@@ -22,7 +22,7 @@ pub fn send_to_others<X: Wire>(wire: &mut X, me: Member, members: u8, bytes: &[u
     failed
 }
 
-#[tactic(auto, using(crate::proofs::Dispatching::each_none, crate::proofs::Dispatching::each_one))]
+#[tactic(auto, using(crate::proofs::Telling::sends_none, crate::proofs::Telling::sends_one, crate::proofs::Dispatching::each_none, crate::proofs::Dispatching::each_one))]
 // Sends bytes to a member unless it is this one. Whether the send failed.
 fn send_to_other<X: Wire>(wire: &mut X, me: Member, number: u8, bytes: &[u8]) -> bool
     requires { number < MEMBERS }

@@ -7,16 +7,16 @@ use Rattle.srm_world.specs.declared.forgotten.Last.TheVariants.{Nothing, Appende
 use Rattle.srm_world.specs.Pasts.{up_to_last}
 
 -- an entry appended to what a past shows
-abbrev behind : List Entry → Entry → Last
+abbrev behind : List Entry → Entry → Last Entry
 behind before last = Appended (record { marker = record {}; value = before }) (record { marker = record {}; value = last })
 
-abbrev one : Last
-one = behind (up_to_last Nothing) (draws 0 1 a)
+abbrev one : Last Entry
+one = behind (up_to_last {T = Entry} Nothing) (draws 0 1 a)
 
-abbrev two : Last
+abbrev two : Last Entry
 two = behind (up_to_last one) (draws 0 2 b)
 
-none_at_first : up_to_last Nothing ≡ []
+none_at_first : up_to_last {T = Entry} Nothing ≡ []
 none_at_first = refl
 
 the_first : up_to_last one ≡ draws 0 1 a ∷ []

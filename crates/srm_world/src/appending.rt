@@ -1,13 +1,11 @@
-//! Entries in order.
+//! What is kept in order.
 
 ghost use Rattle.std.specs.Prelude.{◌≡◌, ◌<◌, ◌++◌, [], ◌∷◌, vec_len, vec_capacity};
 
-use srm_agent::Entry;
-
-/// Appends an entry where there is room. It takes no memory.
-pub fn append(entries: &mut Vec<Entry>, entry: Entry)
-    requires { vec_len entries.old < vec_capacity entries.old }
-    ensures { entries.new.items ≡ entries.old.items ++ entry ∷ [] }
+/// Appends one where there is room. It takes no memory.
+pub fn append<T: Drop>(kept: &mut Vec<T>, one: T)
+    requires { vec_len kept.old < vec_capacity kept.old }
+    ensures { kept.new.items ≡ kept.old.items ++ one ∷ [] }
 {
-    let _ = entries.push(entry);
+    let _ = kept.push(one);
 }

@@ -3,32 +3,30 @@
 ghost use Rattle.std.specs.Prelude.{◌≡◌, []};
 
 use crate::past::Past;
-use srm_agent::Entry;
-use std::alloc::AllocError;
+use std::alloc::{AllocError, Global};
 use std::marker::Model;
 use std::snapshot::Snapshot;
 
-/// A past that nobody keeps. Contracts see its entries, and each is given back as soon as it was appended: what is left of it has no bytes. So it
-/// never grows, and nothing reads an entry from it.
+/// A past that nobody keeps. Contracts see what was appended, and each is given back at once: what is left of it has no bytes. So it
+/// never grows, and nothing is read from it.
 #[cycle(forgotten)]
 #[derive(Drop)]
-pub struct Forgotten {
-    last: Last,
+pub struct Forgotten<T> {
+    last: Last<T>,
 }
 
-// The last entry behind what was before it, as contracts saw them.
+// The last behind what was before it, as contracts saw them.
 #[cycle(forgotten)]
 #[derive(Drop)]
-enum Last {
+enum Last<T> {
     Nothing,
-    Appended(Snapshot<Forgotten>, Snapshot<Entry>),
+    Appended(Snapshot<Forgotten<T>>, Snapshot<T>),
 }
 
-impl Model for Forgotten {
+impl<T> Model for Forgotten<T> {
     ghost use Rattle.std.specs.Prelude.{List, length};
-    ghost use Rattle.srm_entries.specs.declared.entry.Entry.{Entry};
 
-    ghost Value = { List Entry };
+    ghost Value = { List T };
 
     ghost use Rattle.srm_world.specs.Pasts.{up_to_last};
 
@@ -41,9 +39,9 @@ impl Model for Forgotten {
     ghost size_decreases = { λ a h. Prim.grind (arith, length-append) };
 }
 
-impl Forgotten {
-    /// A past without entries.
-    pub fn new() -> Forgotten
+impl<T> Forgotten<T> {
+    /// A past to which nothing was appended.
+    pub fn new() -> Forgotten<T>
         ensures { result ≡ [] }
     {
         Forgotten {
@@ -52,18 +50,22 @@ impl Forgotten {
     }
 }
 
-impl Past for Forgotten {
+impl<T: Drop> Past<T> for Forgotten<T> {
     ghost entries = { λ past. past };
 
     ghost has_room = { λ _. Unit {0} };
+
+    fn empty(_alloc: Global) -> Forgotten<T> {
+        Forgotten::new()
+    }
 
     fn make_room(&mut self) -> Result<(), AllocError> {
         Ok(())
     }
 
-    fn append(&mut self, entry: Entry) {
+    fn append(&mut self, one: T) {
         let before = Snapshot::of(self);
-        let last = Snapshot::of(&entry);
+        let last = Snapshot::of(&one);
         *self = Forgotten {
             last: Last::Appended(before, last),
         };

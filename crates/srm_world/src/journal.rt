@@ -11,12 +11,12 @@ use std::marker::Model;
 /// How a member began, and what it did. A [`Recorder`](crate::Recorder) alone makes it. Contracts see it as a record, whose entries are all that
 /// the member did, also where [`Forgotten`](crate::Forgotten) kept none of them.
 #[derive(Debug, Drop)]
-pub struct Journal<P: Past + Drop = Vec<Entry>> {
+pub struct Journal<P: Past<Entry> + Drop = Vec<Entry>> {
     pub(crate) start: Start,
     pub(crate) past: P,
 }
 
-impl<P: Past + Drop> Model for Journal<P> {
+impl<P: Past<Entry> + Drop> Model for Journal<P> {
     ghost use Rattle.srm_world.specs.Traces.{Journal as Content, IsJournal};
 
     ghost Value = { Content };
@@ -26,7 +26,7 @@ impl<P: Past + Drop> Model for Journal<P> {
     ghost invariant = { λ j. IsJournal (record { start = j.start; entries = P.entries j.past }) };
 }
 
-impl<P: Past + Drop> Journal<P> {
+impl<P: Past<Entry> + Drop> Journal<P> {
     /// How the member began.
     pub fn start(&self) -> Start
         ensures { result ≡ self.now.start }

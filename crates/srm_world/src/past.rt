@@ -1,42 +1,48 @@
-//! What a member did so far, as its recorder keeps it.
+//! What went by so far.
 
 ghost use Rattle.std.specs.Prelude.{◌≡◌, ◌<◌, ◌++◌, List, [], ◌∷◌, IfOk, vec_len, vec_capacity};
-ghost use Rattle.srm_entries.specs.declared.entry.Entry.{Entry as AnEntry};
 
 use crate::appending;
-use srm_agent::Entry;
-use std::alloc::AllocError;
+use std::alloc::{AllocError, Global};
 
-/// What a member did so far, oldest first, as its recorder keeps it: a `Vec` keeps every entry, and
+/// What went by so far, oldest first: a recorder's entries, or what a page worker took. A `Vec` keeps each, and
 /// [`Forgotten`](crate::Forgotten) none. Contracts see them all in any case. A program may keep them in a way of its own.
-pub trait Past {
+pub trait Past<T> {
     // What was appended, in order.
-    ghost entries: { Self → List AnEntry };
+    ghost entries: { Self → List T };
 
-    // Whether an entry may be appended.
+    // Whether one may be appended.
     ghost has_room: { Self → Type 0 };
 
-    /// Makes room for one entry. Only want of memory refuses it.
+    /// One to which nothing was appended. It takes no memory.
+    fn empty(alloc: Global) -> Self
+        ensures { entries result ≡ [] };
+
+    /// Makes room for one. Only want of memory refuses it.
     fn make_room(&mut self) -> Result<(), AllocError>
         ensures same { entries self.new ≡ entries self.old }
         ensures room { IfOk result (λ _. has_room self.new) };
 
-    /// Appends an entry where there is room.
-    fn append(&mut self, entry: Entry)
+    /// Appends one where there is room.
+    fn append(&mut self, one: T)
         requires { has_room self.old }
-        ensures { entries self.new ≡ entries self.old ++ entry ∷ [] };
+        ensures { entries self.new ≡ entries self.old ++ one ∷ [] };
 }
 
-impl Past for Vec<Entry> {
+impl<T: Drop> Past<T> for Vec<T> {
     ghost entries = { λ all. all.items };
 
     ghost has_room = { λ all. vec_len all < vec_capacity all };
+
+    fn empty(alloc: Global) -> Vec<T> {
+        Vec::new(alloc)
+    }
 
     fn make_room(&mut self) -> Result<(), AllocError> {
         self.reserve(1)
     }
 
-    fn append(&mut self, entry: Entry) {
-        appending::append(self, entry);
+    fn append(&mut self, one: T) {
+        appending::append(self, one);
     }
 }

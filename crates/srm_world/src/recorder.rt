@@ -25,13 +25,13 @@ use std::marker::Model;
 /// here want of memory may come before another refusal; a call that is refused for it has no entry. Contracts see the journal, whatever the past
 /// keeps of it, and the source of words as it stands.
 #[derive(Drop)]
-pub struct Recorder<W: Words + Drop, P: Past + Drop = Vec<Entry>> {
+pub struct Recorder<W: Words + Drop, P: Past<Entry> + Drop = Vec<Entry>> {
     agent: Agent<W>,
     start: Start,
     past: P,
 }
 
-impl<W: Words + Drop, P: Past + Drop> Model for Recorder<W, P> {
+impl<W: Words + Drop, P: Past<Entry> + Drop> Model for Recorder<W, P> {
     ghost use Rattle.srm_world.specs.Words.{Recorded};
     ghost use Rattle.srm_world.specs.Recorders.{journal_of, recorded_of, IsKept};
 
@@ -59,14 +59,14 @@ impl<W: Words + Drop> Recorder<W> {
     }
 }
 
-impl<W: Words + Drop> Recorder<W, Forgotten> {
+impl<W: Words + Drop> Recorder<W, Forgotten<Entry>> {
     /// The same that keeps no entry, for a member that runs for days. Its calls have the same contracts.
     pub fn forgetful(
         alloc: Global,
         config: Config,
         words: W,
         now: u64,
-    ) -> Result<Recorder<W, Forgotten>, AllocError>
+    ) -> Result<Recorder<W, Forgotten<Entry>>, AllocError>
         requires { now ≤ MOMENT }
         ensures value { IfOk result (λ recorder. recorder ≡ record { journal = record { start = record { config = config; made = now }; entries = [] }; words = words }) }
     {
@@ -74,7 +74,7 @@ impl<W: Words + Drop> Recorder<W, Forgotten> {
     }
 }
 
-impl<W: Words + Drop, P: Past + Drop> Recorder<W, P> {
+impl<W: Words + Drop, P: Past<Entry> + Drop> Recorder<W, P> {
     /// The same with a past of the caller's, which has no entry yet.
     pub fn with_past(
         alloc: Global,

@@ -1,6 +1,7 @@
 //! A recorder that keeps no entry, beside one that does.
 
 use crate::recording::{Call, WORKED, config, make, page};
+use srm_agent::Entry;
 use srm_timers::Listed;
 use srm_world::{Forgotten, Recorder};
 use std::alloc::Global;
@@ -13,7 +14,7 @@ fn keeping(rt: &impl Abort, alloc: Global) -> Recorder<Listed> {
 }
 
 /// The same that keeps no entry.
-fn forgetful(rt: &impl Abort, alloc: Global) -> Recorder<Listed, Forgotten> {
+fn forgetful(rt: &impl Abort, alloc: Global) -> Recorder<Listed, Forgotten<Entry>> {
     let words = Listed::new(Vec::new(alloc));
     Recorder::forgetful(alloc, config(rt, 1, 3), words, 0).expect(rt, "memory")
 }
@@ -23,7 +24,7 @@ fn check_call(
     rt: &impl Abort,
     alloc: Global,
     keeping: &mut Recorder<Listed>,
-    forgetful: &mut Recorder<Listed, Forgotten>,
+    forgetful: &mut Recorder<Listed, Forgotten<Entry>>,
     call: Call,
 ) {
     let wanted = make(rt, alloc, keeping, call).expect(rt, "memory");
@@ -35,7 +36,7 @@ fn check_call(
 fn check_done(
     rt: &impl Abort,
     alloc: Global,
-    forgetful: &mut Recorder<Listed, Forgotten>,
+    forgetful: &mut Recorder<Listed, Forgotten<Entry>>,
     call: Call,
 ) {
     let answer = make(rt, alloc, forgetful, call).expect(rt, "memory");
@@ -46,7 +47,7 @@ fn check_done(
 fn check_next(
     rt: &impl Abort,
     keeping: &Recorder<Listed>,
-    forgetful: &Recorder<Listed, Forgotten>,
+    forgetful: &Recorder<Listed, Forgotten<Entry>>,
 ) {
     assert_eq!(rt; forgetful.next_due(), keeping.next_due());
     assert_eq!(rt; forgetful.new_page(), keeping.new_page());

@@ -66,7 +66,7 @@ pub(crate) fn fresh(rt: &impl Abort, alloc: Global) -> Result<Recorder<Listed>, 
     Ok(Recorder::new(alloc, config(rt, 1, 3), words, 0)?)
 }
 
-fn draw<P: Past + Drop>(
+fn draw<P: Past<Entry> + Drop>(
     rt: &impl Abort,
     alloc: Global,
     recorder: &mut Recorder<Listed, P>,
@@ -77,7 +77,7 @@ fn draw<P: Past + Drop>(
 }
 
 /// Makes a call. What it answered, as a text.
-pub(crate) fn make<P: Past + Drop>(
+pub(crate) fn make<P: Past<Entry> + Drop>(
     rt: &impl Abort,
     alloc: Global,
     recorder: &mut Recorder<Listed, P>,

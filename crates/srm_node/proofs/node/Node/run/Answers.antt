@@ -1,4 +1,4 @@
-use Rattle.srm_node.proofs.Turning.{runs_more}
+use Rattle.srm_node.proofs.Turning.{runs_more, runs_ended}
 use Rattle.srm_node.proofs.Waiting.{waits_on, waits_paused}
 use Rattle.srm_node.proofs.node.Node.run.Goals as goal
 
@@ -12,3 +12,6 @@ loop-done-preserved g c = record {
   words = waits_on g.W.Words.draw _ _ _ (waits_on g.W.Words.draw _ _ _ c.loop-done.invariant.words (waits_paused g.W.Words.draw c.loop-done.self c.pause.new.self c.pause.ensures.paused c.pause.ensures.words)) c.in_ok-turn.ensures.words;
   runs = runs_more c.loop-done.done _ c.loop-done.self.view c.pause.new.self.view _ _ c.loop-done.invariant.runs c.is_ended.ensures c.if-is_ended.false c.pause.ensures.paused c.in_ok-turn.ensures.turns;
 }
+
+pub returns-in_err-turn-clause-runs : goal.returns-in_err-turn-clause-runs
+returns-in_err-turn-clause-runs g c = runs_ended c.from_residual.result c.in_err-turn.field-0.0 c.loop-done.done c.args.turns _ c.loop-done.self.view c.pause.new.self.view _ c.is_ended.result c.from_residual.ensures.1 c.loop-done-test.true c.loop-done.invariant.runs c.is_ended.ensures c.if-is_ended.false c.pause.ensures.paused c.in_err-turn.ensures.turns

@@ -1,0 +1,287 @@
+-- What is typed byte by byte is drawn line by line.
+use Rattle.std.proofs.Common.{◌≡◌, ◌≢◌, ℕ, ◌+◌, ◌<◌, ◌≤◌, Bool, true, false, List, [], ◌∷◌, ◌++◌, length, take, drop, get_or, refl, ap, sym, ◌∙◌, subst, arith}
+use Rattle.std.specs.Prelude.{map, nat_lt, if◌then◌else◌, Option, Some, None, Result, Ok, Err, OnOk, OnErr, IfSome, MatchOption}
+use Rattle.std.specs.Io.KnownBytes.{Consumes, Keeps, IsAtEnd}
+use Rattle.std.proofs.lemmas.Bool.{ltb-true, lt-ltb}
+use Rattle.std.proofs.lemmas.List.{append-nil, append_assoc, map-append, length-append, take_more, take-append-drop, take_all}
+use Rattle.srm_names.specs.declared.limits.TheConstants.{BODY}
+use Rattle.srm_pages.specs.Ends.{PenView}
+use Rattle.srm_live.specs.declared.typed.Typed.{Typed}
+use Rattle.srm_live.specs.declared.typed.Typed.TheVariants.{Stroke, TooLong}
+use Rattle.srm_member.specs.Lines.{lines_of, before_first}
+use Rattle.srm_member.specs.Strokes.{stroke_of}
+use Rattle.srm_member.proofs.Splitting.{other}
+use Rattle.srm_live.specs.Typing.{short_lines, strokes_in, LineView, with_byte, typed_of, bodies_in, Sent, HasNoEnd, Draws, DrawsSome, DrawsLast, ReadsOf, DrewAllOf, DrewFrontOf}
+
+-- THE LINES OF A FRONT AND WHAT IS BEHIND IT
+
+-- these lines, with a front before the first
+abbrev before_lines : List ℕ → List (List ℕ) → List (List ℕ)
+before_lines front [] = front ∷ []
+before_lines front (l ∷ ls) = (front ++ l) ∷ ls
+
+before_first_lines : (c d : ℕ) (ds : List ℕ) (ls : List (List ℕ)) → before_first c (before_lines (d ∷ ds) ls) ≡ before_lines (c ∷ d ∷ ds) ls
+before_first_lines c d ds [] = refl
+before_first_lines c d ds (l ∷ ls) = refl
+
+one_before : (c : ℕ) (ls : List (List ℕ)) → before_first c ls ≡ before_lines (c ∷ []) ls
+one_before c [] = refl
+one_before c (l ∷ ls) = refl
+
+-- a front that has no line end stands before the first line behind it
+lines_behind : (c : ℕ) (cs more : List ℕ) → HasNoEnd (c ∷ cs) → lines_of ((c ∷ cs) ++ more) ≡ before_lines (c ∷ cs) (lines_of more)
+lines_behind c [] more h = other c (lines_of more) h.0 ∙ one_before c (lines_of more)
+lines_behind c (d ∷ ds) more h = other c (lines_of ((d ∷ ds) ++ more)) h.0 ∙ ap (before_first c) (lines_behind d ds more h.1) ∙ before_first_lines c d ds (lines_of more)
+
+line_ends : (front more : List ℕ) → HasNoEnd front → lines_of (front ++ 10 ∷ more) ≡ front ∷ lines_of more
+line_ends [] more h = refl
+line_ends (c ∷ cs) more h = other c (lines_of (cs ++ 10 ∷ more)) h.0 ∙ ap (before_first c) (line_ends cs more h.1)
+
+abbrev behind_first : List (List ℕ) → List (List ℕ)
+behind_first [] = []
+behind_first (l ∷ ls) = ls
+
+behind_before : (c : ℕ) (ls : List (List ℕ)) → behind_first (before_first c ls) ≡ behind_first ls
+behind_before c [] = refl
+behind_before c (l ∷ ls) = refl
+
+long_line : (l : List ℕ) (ls : List (List ℕ)) → nat_lt BODY (length l) ≡ true → short_lines (l ∷ ls) ≡ short_lines ls
+long_line l ls long = rw long refl
+
+-- a front that is too long is drawn with nothing behind it
+long_front : (front : List ℕ) (ls : List (List ℕ)) → nat_lt BODY (length front) ≡ true → short_lines (before_lines front ls) ≡ short_lines (behind_first ls)
+long_front front [] long = long_line front [] long
+long_front front (l ∷ ls) long = long_line (front ++ l) ls (lt-ltb BODY (length (front ++ l)) (omega (arith, ltb-true BODY (length front) long, length-append front l)))
+
+-- so one byte more of it changes nothing
+no_room : (front more : List ℕ) (byte : ℕ) → HasNoEnd front → byte ≢ 10 → nat_lt BODY (length front) ≡ true → strokes_in (front ++ byte ∷ more) ≡ strokes_in (front ++ more)
+no_room [] more byte h not_end long = absurd (omega (arith, ltb-true BODY 0 long))
+no_room (c ∷ cs) more byte h not_end long =
+    ap short_lines (lines_behind c cs (byte ∷ more) h)
+    ∙ long_front (c ∷ cs) (lines_of (byte ∷ more)) long
+    ∙ ap (λ ls. short_lines (behind_first ls)) (other byte (lines_of more) not_end)
+    ∙ ap short_lines (behind_before byte (lines_of more))
+    ∙ sym (long_front (c ∷ cs) (lines_of more) long)
+    ∙ sym (ap short_lines (lines_behind c cs more h))
+
+-- ONE BYTE
+
+no_end_more : (front : List ℕ) (byte : ℕ) → HasNoEnd front → byte ≢ 10 → HasNoEnd (front ++ byte ∷ [])
+no_end_more [] byte h not_end = (not_end, tt)
+no_end_more (c ∷ cs) byte h not_end = (h.0, no_end_more cs byte h.1 not_end)
+
+sent_none : (pen : PenView) → Sent [] pen pen
+sent_none pen = ap (λ sent. record pen { sent = sent }) (sym (append-nil pen.sent))
+
+pub draws_none : (front : List ℕ) (pen : PenView) → Draws [] front pen front pen
+draws_none front pen = record { drawn = []; strokes = λ h more. refl; one = λ h. h; sent = sent_none pen }
+
+-- a byte that is no line end
+pub draws_byte : (byte : ℕ) (l new : LineView) (pen : PenView) → byte ≢ 10 → new ≡ with_byte byte l → Draws (byte ∷ []) l.kept pen new.kept pen
+draws_byte byte l new pen not_end is = subst (λ n. Draws (byte ∷ []) l.kept pen n.kept pen) (sym is) (go (nat_lt BODY (length l.kept)) refl)
+  where
+    go : (b : Bool) → nat_lt BODY (length l.kept) ≡ b → Draws (byte ∷ []) l.kept pen (if b then l else record l { kept = l.kept ++ byte ∷ [] }).kept pen
+    go true long = record { drawn = []; strokes = λ h more. no_room l.kept more byte h not_end long; one = λ h. h; sent = sent_none pen }
+    go false short = record { drawn = []; strokes = λ h more. ap strokes_in (sym (append_assoc l.kept (byte ∷ []) more)); one = λ h. no_end_more l.kept byte h not_end; sent = sent_none pen }
+
+-- the strokes of a text that begins with a line
+first_strokes : (l : LineView) (ls : List (List ℕ)) → short_lines (l.kept ∷ ls) ≡ bodies_in (typed_of l) ++ short_lines ls
+first_strokes l ls = go (nat_lt BODY (length l.kept))
+  where
+    go : (b : Bool) → (if b then short_lines ls else l.kept ∷ short_lines ls) ≡ bodies_in (if b then TooLong l.number else Stroke l.kept) ++ short_lines ls
+    go true = refl
+    go false = refl
+
+-- a line end
+pub draws_end : (l : LineView) (typed : Typed) (old new : PenView) → typed ≡ typed_of l → Sent (bodies_in typed) old new → Draws (10 ∷ []) l.kept old [] new
+draws_end l typed old new is sent = record {
+  drawn = bodies_in (typed_of l);
+  strokes = λ h more. ap short_lines (line_ends l.kept more h) ∙ first_strokes l (lines_of more);
+  one = λ h. tt;
+  sent = subst (λ t. Sent (bodies_in t) old new) is sent;
+}
+
+-- MANY BYTES
+
+sent_more : (a b : List (List ℕ)) (old mid new : PenView) → Sent a old mid → Sent b mid new → Sent (a ++ b) old new
+sent_more a b old mid new one two =
+    let joined : (old.sent ++ map (stroke_of old.place) a) ++ map (stroke_of old.place) b ≡ old.sent ++ map (stroke_of old.place) (a ++ b) =
+    append_assoc old.sent (map (stroke_of old.place) a) (map (stroke_of old.place) b) ∙ ap (λ more. old.sent ++ more) (sym (map-append (stroke_of old.place) a b)) in
+    let over_old : record mid { sent = mid.sent ++ map (stroke_of mid.place) b } ≡ record old { sent = (old.sent ++ map (stroke_of old.place) a) ++ map (stroke_of old.place) b } =
+    ap (λ (p : PenView). record p { sent = p.sent ++ map (stroke_of p.place) b }) one in
+    two ∙ over_old ∙ ap (λ sent. record old { sent = sent }) joined
+
+draws_on : (a b front : List ℕ) (old : PenView) (begun : List ℕ) (mid : PenView) (left : List ℕ) (new : PenView) → Draws a front old begun mid → Draws b begun mid left new → Draws (a ++ b) front old left new
+draws_on a b front old begun mid left new one two = record {
+  drawn = one.drawn ++ two.drawn;
+  strokes = λ h more.
+      ap (λ t. strokes_in (front ++ t)) (append_assoc a b more)
+      ∙ one.strokes h (b ++ more)
+      ∙ ap (λ t. one.drawn ++ t) (two.strokes (one.one h) more)
+      ∙ sym (append_assoc one.drawn two.drawn (strokes_in (left ++ more)));
+  one = λ h. two.one (one.one h);
+  sent = sent_more one.drawn two.drawn old mid new one.sent two.sent;
+}
+
+pub draws_more : (bytes : List ℕ) (i byte : ℕ) (front : List ℕ) (old : PenView) (begun : List ℕ) (mid : PenView) (left : List ℕ) (new : PenView) → i < length bytes → byte ≡ get_or bytes i 0
+    → Draws (take i bytes) front old begun mid → Draws (byte ∷ []) begun mid left new → Draws (take (i + 1) bytes) front old left new
+draws_more bytes i byte front old begun mid left new few is one two =
+    subst (λ done. Draws done front old left new) (ap (λ b. take i bytes ++ b ∷ []) is ∙ sym (take_more bytes i 0 few)) (draws_on (take i bytes) (byte ∷ []) front old begun mid left new one two)
+
+-- some of these bytes, where the pen stays as it is then
+pub draws_some : (bytes : List ℕ) (i : ℕ) (front : List ℕ) (old : PenView) (begun : List ℕ) (mid new : PenView) → Draws (take i bytes) front old begun mid → new ≡ mid → DrawsSome bytes front old new
+draws_some bytes i front old begun mid new h is = record {
+  done = take i bytes;
+  rest = drop i bytes;
+  split = sym (take-append-drop i bytes);
+  begun = begun;
+  draws = subst (λ p. Draws (take i bytes) front old begun p) (sym is) h;
+}
+
+pub draws_all : (bytes : List ℕ) (i : ℕ) (front : List ℕ) (old : PenView) (begun : List ℕ) (new : PenView) → length bytes ≤ i → Draws (take i bytes) front old begun new → Draws bytes front old begun new
+draws_all bytes i front old begun new all h = subst (λ done. Draws done front old begun new) (take_all i bytes all) h
+
+-- A TEXT THAT IS READ
+
+-- the last line, which lacks its end
+pub draws_last : (l : LineView) (typed : Typed) (old new : PenView) → l.kept ≢ [] → typed ≡ typed_of l → Sent (bodies_in typed) old new → DrawsLast l.kept old new
+draws_last l typed old new some is sent = record {
+  drawn = bodies_in (typed_of l);
+  strokes = λ h. last l.kept refl h;
+  sent = subst (λ t. Sent (bodies_in t) old new) is sent;
+}
+  where
+    last : (front : List ℕ) → l.kept ≡ front → HasNoEnd l.kept → strokes_in (l.kept ++ []) ≡ bodies_in (typed_of l)
+    last [] none h = absurd (some none)
+    last (c ∷ cs) is h =
+        let here : lines_of (l.kept ++ []) ≡ l.kept ∷ [] = rw is (lines_behind c cs [] (subst HasNoEnd is h)) in
+        ap short_lines here ∙ first_strokes l [] ∙ append-nil (bodies_in (typed_of l))
+
+pub draws_no_last : (front : List ℕ) (pen : PenView) → front ≡ [] → DrawsLast front pen pen
+draws_no_last front pen none = record { drawn = []; strokes = λ h. ap (λ f. strokes_in (f ++ [])) none; sent = sent_none pen }
+
+pub reads_none : (known : Option (List ℕ)) (pen : PenView) → ReadsOf known known [] pen pen
+reads_none None pen = tt
+reads_none (Some text) pen = record { rest = text; left_is = refl; drawn = []; strokes = refl; one = tt; sent = sent_none pen }
+
+-- nothing is drawn yet
+pub front_none : (known : Option (List ℕ)) (pen : PenView) → DrewFrontOf known pen pen
+front_none None pen = tt
+front_none (Some text) pen = (strokes_in text, record { sent = []; split = refl; is = sent_none pen })
+
+-- nothing was there
+reads_same : (known left after : Option (List ℕ)) (begun : List ℕ) (old new : PenView) → ReadsOf known left begun old new → Keeps left after → ReadsOf known after begun old new
+reads_same None left after begun old new h same = tt
+reads_same (Some text) left after begun old new h same =
+    record { rest = h.rest; left_is = kept left after h.left_is same; drawn = h.drawn; strokes = h.strokes; one = h.one; sent = h.sent }
+  where
+    kept : (left after : Option (List ℕ)) → left ≡ Some h.rest → Keeps left after → after ≡ Some h.rest
+    kept None after is same = cc
+    kept (Some xs) None is same = absurd same
+    kept (Some xs) (Some ys) is same = ap Some same ∙ is
+
+rest_is : (left after : Option (List ℕ)) (bytes rest : List ℕ) → left ≡ Some rest → Consumes left after bytes → (ys : List ℕ) × (after ≡ Some ys) × (rest ≡ bytes ++ ys)
+rest_is None after bytes rest is took = absurd cc
+rest_is (Some xs) None bytes rest is took = absurd took
+rest_is (Some xs) (Some ys) bytes rest is took =
+    let same : xs ≡ rest = cc in
+    (ys, refl, sym same ∙ took)
+
+reads_more : (known left after : Option (List ℕ)) (bytes begun : List ℕ) (old mid : PenView) (next : List ℕ) (new : PenView) → ReadsOf known left begun old mid → Consumes left after bytes → Draws bytes begun mid next new
+    → ReadsOf known after next old new
+reads_more None left after bytes begun old mid next new h took draws = tt
+reads_more (Some text) left after bytes begun old mid next new h took draws =
+    let r = rest_is left after bytes h.rest h.left_is took in
+    record {
+      rest = r.0;
+      left_is = r.1;
+      drawn = h.drawn ++ draws.drawn;
+      strokes = h.strokes ∙ ap (λ t. h.drawn ++ strokes_in (begun ++ t)) r.2 ∙ ap (λ t. h.drawn ++ t) (draws.strokes h.one r.0) ∙ sym (append_assoc h.drawn draws.drawn (strokes_in (next ++ r.0)));
+      one = draws.one h.one;
+      sent = sent_more h.drawn draws.drawn old mid new h.sent draws.sent;
+    }
+
+-- reading ended, and the pen stays as it is
+pub reads_cut : (known left : Option (List ℕ)) (begun : List ℕ) (old mid new : PenView) → ReadsOf known left begun old mid → new ≡ mid → DrewFrontOf known old new
+reads_cut None left begun old mid new h is = tt
+reads_cut (Some text) left begun old mid new h is = (strokes_in (begun ++ h.rest), record { sent = h.drawn; split = h.strokes; is = is ∙ h.sent })
+
+-- it ended within these bytes
+reads_some : (known left after : Option (List ℕ)) (bytes begun : List ℕ) (old mid new : PenView) → ReadsOf known left begun old mid → Consumes left after bytes → DrawsSome bytes begun mid new → DrewFrontOf known old new
+reads_some None left after bytes begun old mid new h took draws = tt
+reads_some (Some text) left after bytes begun old mid new h took some =
+    let r = rest_is left after bytes h.rest h.left_is took in
+    let draws = some.draws in
+    let all : h.rest ≡ some.done ++ (some.rest ++ r.0) = r.2 ∙ ap (λ t. t ++ r.0) some.split ∙ append_assoc some.done some.rest r.0 in
+    let behind : List (List ℕ) = strokes_in (some.begun ++ (some.rest ++ r.0)) in (
+      behind,
+      record {
+        sent = h.drawn ++ draws.drawn;
+        split = h.strokes ∙ ap (λ t. h.drawn ++ strokes_in (begun ++ t)) all ∙ ap (λ t. h.drawn ++ t) (draws.strokes h.one (some.rest ++ r.0)) ∙ sym (append_assoc h.drawn draws.drawn behind);
+        is = sent_more h.drawn draws.drawn old mid new h.sent draws.sent;
+      },
+    )
+
+at_end : (left : Option (List ℕ)) (rest : List ℕ) → left ≡ Some rest → IsAtEnd left → rest ≡ []
+at_end None rest is end = absurd cc
+at_end (Some xs) rest is end =
+    let same : xs ≡ rest = cc in
+    sym same ∙ end
+
+-- the input ended, and the last line was drawn
+reads_all : (known left : Option (List ℕ)) (begun : List ℕ) (old mid new : PenView) → ReadsOf known left begun old mid → IsAtEnd left → DrawsLast begun mid new → DrewAllOf known old new
+reads_all None left begun old mid new h end last = tt
+reads_all (Some text) left begun old mid new h end last =
+    let none : h.rest ≡ [] = at_end left h.rest h.left_is end in
+    record {
+      sent = h.drawn ++ last.drawn;
+      split = h.strokes ∙ ap (λ t. h.drawn ++ strokes_in (begun ++ t)) none ∙ ap (λ t. h.drawn ++ t) (last.strokes h.one) ∙ sym (append-nil (h.drawn ++ last.drawn));
+      is = sent_more h.drawn last.drawn old mid new h.sent last.sent;
+    }
+
+front_of_all : (known : Option (List ℕ)) (old new : PenView) → DrewAllOf known old new → DrewFrontOf known old new
+front_of_all None old new h = tt
+front_of_all (Some text) old new h = ([], h)
+
+-- A READ
+
+-- what a read that answered so did to the known bytes that are left
+abbrev pub Took : Option ℕ → List ℕ → (left after : Option (List ℕ)) → Type 0
+Took some buffer left after = MatchOption some (Keeps left after) (λ n. Consumes left after (take n buffer))
+
+took_bytes : (some : Option ℕ) (n : ℕ) (buffer : List ℕ) (left after : Option (List ℕ)) → Took some buffer left after → some ≡ Some n → Consumes left after (take n buffer)
+took_bytes some n buffer left after took is = subst (λ o. Took o buffer left after) is took
+
+-- so many bytes were read, and drawn
+pub read_drawn : (known left after : Option (List ℕ)) (some : Option ℕ) (n : ℕ) (buffer begun : List ℕ) (old mid : PenView) (next : List ℕ) (new : PenView) → ReadsOf known left begun old mid → Took some buffer left after → some ≡ Some n
+    → Draws (take n buffer) begun mid next new → ReadsOf known after next old new
+read_drawn known left after some n buffer begun old mid next new h took is draws = reads_more known left after (take n buffer) begun old mid next new h (took_bytes some n buffer left after took is) draws
+
+-- so many were read, and some of them drawn
+pub read_cut : (known left after : Option (List ℕ)) (some : Option ℕ) (n : ℕ) (buffer begun : List ℕ) (old mid new : PenView) → ReadsOf known left begun old mid → Took some buffer left after → some ≡ Some n
+    → DrawsSome (take n buffer) begun mid new → DrewFrontOf known old new
+read_cut known left after some n buffer begun old mid new h took is draws = reads_some known left after (take n buffer) begun old mid new h (took_bytes some n buffer left after took is) draws
+
+-- nothing was read
+pub read_none : (known left after : Option (List ℕ)) (some : Option ℕ) (buffer begun : List ℕ) (old new : PenView) → ReadsOf known left begun old new → Took some buffer left after → some ≡ None → ReadsOf known after begun old new
+read_none known left after some buffer begun old new h took is = reads_same known left after begun old new h (subst (λ o. Took o buffer left after) is took)
+
+ended_known : (known left after : Option (List ℕ)) (some : Option ℕ) (buffer begun : List ℕ) (old mid : PenView) → ReadsOf known left begun old mid → Took some buffer left after → some ≡ Some 0 → ReadsOf known after begun old mid
+ended_known known left after some buffer begun old mid h took is = reads_more known left after [] begun old mid begun mid h (took_bytes some 0 buffer left after took is) (draws_none begun mid)
+
+-- the input ended, and the last line was drawn or not
+pub read_last : {T E : Type 0} (r : Result T E) (known left after : Option (List ℕ)) (some : Option ℕ) (buffer begun : List ℕ) (old mid new : PenView) → ReadsOf known left begun old mid → Took some buffer left after → some ≡ Some 0
+    → IfSome some (λ n. n ≡ 0 → IsAtEnd after) → OnOk r (DrawsLast begun mid new) → OnErr r (new ≡ mid) → OnOk r (DrewAllOf known old new) × DrewFrontOf known old new
+read_last r known left after some buffer begun old mid new h took is end last cut = go r last cut
+  where
+    here : ReadsOf known after begun old mid
+    here = ended_known known left after some buffer begun old mid h took is
+
+    none : IsAtEnd after
+    none = (subst (λ o. IfSome o (λ n. n ≡ 0 → IsAtEnd after)) is end) refl
+
+    go : {X Y : Type 0} (r : Result X Y) → OnOk r (DrawsLast begun mid new) → OnErr r (new ≡ mid) → OnOk r (DrewAllOf known old new) × DrewFrontOf known old new
+    go (Ok _) last cut =
+        let all = reads_all known after begun old mid new here none last in
+        (all, front_of_all known old new all)
+    go (Err _) last cut = (tt, reads_cut known after begun old mid new here cut)

@@ -1,0 +1,23 @@
+use Rattle.std.proofs.Common.{◌≡◌, arith}
+use Rattle.std.specs.Prelude.{Some}
+use Rattle.srm_live.proofs.TypedLines.{read_drawn, read_cut, read_last}
+use Rattle.srm_live.proofs.typing.draw_read.Goals as goal
+
+pub returns-in-Some-eq0-clause-all : goal.returns-in-Some-eq0-clause-all
+returns-in-Some-eq0-clause-all g c =
+    let none : c.in_ok-read_next.field-0 ≡ Some 0 = cc in
+    (read_last c.draw_last.result _ _ _ _ _ _ _ _ _ c.loop.invariant.reads c.in_ok-read_next.ensures.reads none c.in_ok-read_next.ensures.end c.draw_last.ensures.drawn c.draw_last.ensures.none).0
+
+pub returns-in-Some-eq0-clause-front : goal.returns-in-Some-eq0-clause-front
+returns-in-Some-eq0-clause-front g c =
+    let none : c.in_ok-read_next.field-0 ≡ Some 0 = cc in
+    (read_last c.draw_last.result _ _ _ _ _ _ _ _ _ c.loop.invariant.reads c.in_ok-read_next.ensures.reads none c.in_ok-read_next.ensures.end c.draw_last.ensures.drawn c.draw_last.ensures.none).1
+
+pub loop-preserved : goal.loop-preserved
+loop-preserved g c = record {
+  room = omega arith;
+  reads = read_drawn _ _ _ _ _ _ _ _ _ _ _ c.loop.invariant.reads c.in_ok-read_next.ensures.reads c.in-Some-2.is c.in_ok-draw_bytes-in-Some-2.ensures.all;
+}
+
+pub returns-in_err-draw_bytes-in-Some-2-clause-front : goal.returns-in_err-draw_bytes-in-Some-2-clause-front
+returns-in_err-draw_bytes-in-Some-2-clause-front g c = read_cut _ _ _ _ _ _ _ _ _ _ c.loop.invariant.reads c.in_ok-read_next.ensures.reads c.in-Some-2.is c.in_err-draw_bytes-in-Some-2.ensures.some

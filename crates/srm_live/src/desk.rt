@@ -1,0 +1,162 @@
+//! What the threads of a live member share: where it prints, and what befell it.
+
+ghost use Rattle.std.specs.Prelude.{◌≡◌, ◌≤◌};
+ghost use Rattle.srm_member.specs.Ends.{status_of_member};
+
+use crate::error_stream::ErrorStream;
+use srm_member::MemberFault;
+use srm_names::{Member, PageMsg};
+use srm_script::{Fault, ShownMessage};
+use std::alloc::Global;
+use std::io;
+use std::io::{IsTerminal, Write};
+use std::sync::atomic::{AtomicBool, Ordering};
+use std::sync::{Mutex, Wait};
+
+/// The streams that a live member prints to, and what befell it so far.
+#[derive(Drop)]
+pub struct Desk<O, E> {
+    me: Member,
+    out: Mutex<O>,
+    err: Mutex<ErrorStream<E>>,
+    // Whether standard error is a terminal.
+    has_terminal: bool,
+    ended: AtomicBool,
+    lacks_memory: AtomicBool,
+    output_failed: AtomicBool,
+    input_failed: AtomicBool,
+}
+
+impl<O: Write, E: Write> Desk<O, E> {
+    /// The desk of a member that did nothing yet.
+    pub fn new(me: Member, out: O, err: E) -> Desk<O, E>
+    where
+        E: IsTerminal,
+    {
+        let has_terminal = err.is_terminal();
+        Desk {
+            me,
+            out: Mutex::new(out),
+            err: Mutex::new(ErrorStream::new(err)),
+            has_terminal,
+            ended: AtomicBool::new(false),
+            lacks_memory: AtomicBool::new(false),
+            output_failed: AtomicBool::new(false),
+            input_failed: AtomicBool::new(false),
+        }
+    }
+
+    /// Prints at once what the worker of a slot took, unless an earlier line couldn't be printed.
+    pub fn print_taken<R: Wait>(&self, rt: &R, alloc: Global, slot: u8, message: &PageMsg) {
+        let me = self.me.number();
+        match format!(in alloc; "took {me} {slot} {}\n", ShownMessage(message)) {
+            Ok(line) => self.print(rt, line.as_str()),
+            Err(_) => self.note(&Fault::Memory),
+        }
+    }
+
+    /// Prints that the member is gone, unless an earlier line couldn't be printed.
+    pub fn print_gone<R: Wait>(&self, rt: &R, alloc: Global) {
+        let me = self.me.number();
+        match format!(in alloc; "gone {me}\n") {
+            Ok(line) => self.print(rt, line.as_str()),
+            Err(_) => self.note(&Fault::Memory),
+        }
+    }
+
+    fn print<R: Wait>(&self, rt: &R, line: &str) {
+        if self.is_closed() {
+            return;
+        }
+        if !self.has_terminal {
+            self.write(rt, line);
+            return;
+        }
+        // Both may be one terminal: no status is shown until the line stands there.
+        let mut err = self.err.lock(rt);
+        err.wipe();
+        self.write(rt, line);
+    }
+
+    fn write<R: Wait>(&self, rt: &R, line: &str) {
+        let mut out = self.out.lock(rt);
+        if put(&mut *out, line).is_err() {
+            self.note(&Fault::Output);
+        }
+    }
+
+    /// Shows what goes on, where standard error is a terminal.
+    pub fn show<R: Wait>(&self, rt: &R, status: &str) {
+        if self.has_terminal {
+            self.err.lock(rt).show(status);
+        }
+    }
+
+    /// Tells that a line isn't drawn. The member goes on.
+    pub fn refuse<R: Wait>(&self, rt: &R, number: u64) {
+        let _ = self.tell(rt, &MemberFault::Script(Fault::BadLine(number)));
+    }
+
+    /// Tells a fault, and answers its status.
+    pub fn tell<R: Wait>(&self, rt: &R, fault: &MemberFault) -> u8
+        ensures status { result ≡ status_of_member fault.now }
+        ensures greatest { result ≤ 4 }
+    {
+        let mut err = self.err.lock(rt);
+        err.tell(fault)
+    }
+
+    /// Notes what befell the member's streams, or that memory ran out.
+    pub fn note(&self, fault: &Fault) {
+        match fault {
+            Fault::Memory => self.lacks_memory.store(true, Ordering::SeqCst),
+            Fault::Output => self.output_failed.store(true, Ordering::SeqCst),
+            Fault::Input | Fault::TooLong | Fault::BadLine(_) => {
+                self.input_failed.store(true, Ordering::SeqCst);
+            }
+        }
+    }
+
+    /// The first that was noted: want of memory, an output that failed, an input that did.
+    pub fn noted(&self) -> Option<Fault> {
+        if self.lacks_memory.load(Ordering::SeqCst) {
+            Some(Fault::Memory)
+        } else if self.output_failed.load(Ordering::SeqCst) {
+            Some(Fault::Output)
+        } else if self.input_failed.load(Ordering::SeqCst) {
+            Some(Fault::Input)
+        } else {
+            None
+        }
+    }
+
+    /// Whether standard error is a terminal, on which a status is shown.
+    pub fn has_terminal(&self) -> bool {
+        self.has_terminal
+    }
+
+    /// Whether nothing more is drawn: nothing more is printed, or the node has ended.
+    pub fn is_over(&self) -> bool {
+        self.is_closed() || self.ended.load(Ordering::SeqCst)
+    }
+
+    // Whether nothing more is printed.
+    fn is_closed(&self) -> bool {
+        self.lacks_memory.load(Ordering::SeqCst) || self.output_failed.load(Ordering::SeqCst)
+    }
+
+    /// Says that the node has ended.
+    pub fn end(&self) {
+        self.ended.store(true, Ordering::SeqCst);
+    }
+
+    /// The flag that says whether the node has ended.
+    pub fn ended(&self) -> &AtomicBool {
+        &self.ended
+    }
+}
+
+fn put<O: Write>(out: &mut O, line: &str) -> io::Result<()> {
+    out.write_all(line.as_bytes())?;
+    out.flush()
+}

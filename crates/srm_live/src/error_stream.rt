@@ -1,0 +1,57 @@
+//! Standard error of a live member: what is told, and on a terminal the status line, which is written over in place.
+
+ghost use Rattle.std.specs.Prelude.{◌≡◌, ◌≤◌};
+ghost use Rattle.srm_member.specs.Ends.{status_of_member};
+
+use srm_member::MemberFault;
+use std::io::Write;
+
+/// To the front of the line, and then the line is empty, as terminals understand it.
+const WIPE: &str = "\r\x1b[K";
+
+/// Standard error of a live member.
+#[derive(Drop)]
+pub struct ErrorStream<E> {
+    stream: E,
+    // Whether the status stands in the terminal's last line.
+    has_status: bool,
+}
+
+impl<E: Write> ErrorStream<E> {
+    /// A stream with no status.
+    pub fn new(stream: E) -> ErrorStream<E> {
+        ErrorStream {
+            stream,
+            has_status: false,
+        }
+    }
+
+    /// Takes the status off its line, so that another line can stand there.
+    pub fn wipe(&mut self) {
+        if self.has_status {
+            self.write(WIPE);
+            self.has_status = false;
+        }
+    }
+
+    /// Shows a status in place of the one before.
+    pub fn show(&mut self, status: &str) {
+        self.write(WIPE);
+        self.write(status);
+        self.has_status = true;
+    }
+
+    /// Tells a fault on a line of its own, and answers its status.
+    pub fn tell(&mut self, fault: &MemberFault) -> u8
+        ensures status { result ≡ status_of_member fault.now }
+        ensures greatest { result ≤ 4 }
+    {
+        self.wipe();
+        fault.tell(&mut self.stream)
+    }
+
+    fn write(&mut self, text: &str) {
+        // Where this can't be written there is nobody left to tell.
+        let _ = self.stream.write_all(text.as_bytes());
+    }
+}

@@ -1,0 +1,31 @@
+//! A live member of a session over UDP, as `srm node --live` runs it.
+//!
+//! ```
+//! let status = run_live(&rt, options, PolledInput::new(&rt, alloc, rt.stdin(), STDIN), rt.stdout(), rt.stderr());
+//! ```
+//!
+//! The member's node runs in the calling thread; its one pen, its eight page workers and, on a terminal, the line that says what goes on in threads of their own. [`run_live`] draws each line as it
+//! comes, and prints each message as it is taken. It owns its streams, since threads of its own read and write them, and wants
+//! of its input that it says where nothing is there yet, as [`PolledInput`] does.
+//!
+//! **What is refused**, in this order: an address that can't be bound, and what ends a run. It reads last, and goes on behind a line that is too long. Where several things
+//! befell a run, want of memory is told before all else, then what ended the node's run, an output that failed, and an input that did.
+//! [`MemberFault`](srm_member::MemberFault) has the text and the status of each.
+#![tactic(auto)]
+
+mod counted_wire;
+mod cut;
+mod desk;
+mod error_stream;
+mod hosting;
+mod live_sink;
+mod living;
+mod polled_input;
+mod remaining;
+mod tally;
+mod telling;
+mod typed;
+mod typing;
+
+pub use living::run_live;
+pub use polled_input::PolledInput;

@@ -1,0 +1,78 @@
+//! An input that is waited for only so long.
+
+ghost use Rattle.std.specs.Prelude.{◌≡◌};
+
+use mio::unix::SourceFd;
+use mio::{Events, Interest, Poll, Token};
+use std::alloc::Global;
+use std::io;
+use std::io::{ErrorKind, Read};
+use std::marker::Model;
+use std::net::Net;
+use std::os::fd::RawFd;
+use std::time::Duration;
+
+/// How long a read waits for the first byte, at most, in microseconds.
+const WAIT: u64 = 10_000;
+
+/// An input of the system that is waited for only so long: a read that finds nothing answers `WouldBlock` after 10,000 microseconds. So
+/// whoever reads sees that nothing more is wanted, while nobody types. Where the system can't tell whether something is there, as of a file, which
+/// always has it, a read waits as long as it takes. Contracts see it as its reader.
+#[derive(Drop)]
+pub struct PolledInput<I> {
+    reader: I,
+    descriptor: RawFd,
+    poll: Option<(Poll, Events<Global>)>,
+}
+
+impl<I> Model for PolledInput<I> {
+    ghost Value = { I };
+
+    ghost view = { λ p. p.reader };
+}
+
+impl<I: Read> PolledInput<I> {
+    /// What a reader reads, waited for at its own descriptor. It may keep no bytes in a buffer, as those wouldn't be seen there.
+    pub fn new(net: &impl Net, alloc: Global, reader: I, descriptor: RawFd) -> PolledInput<I>
+        ensures { result ≡ reader }
+    {
+        PolledInput {
+            reader,
+            descriptor,
+            poll: poll_of(net, alloc, descriptor).ok(),
+        }
+    }
+}
+
+impl<I: Read> Read for PolledInput<I> {
+    ghost remaining = { λ p. I.remaining p };
+
+    fn read(&mut self, buffer: &mut [u8]) -> io::Result<usize> {
+        let descriptor = self.descriptor;
+        if finds_nothing(&mut self.poll, descriptor) {
+            return Err(io::Error::from(ErrorKind::WouldBlock));
+        }
+        self.reader.read(buffer)
+    }
+}
+
+fn poll_of(net: &impl Net, alloc: Global, descriptor: RawFd) -> io::Result<(Poll, Events<Global>)> {
+    let poll = Poll::new(net)?;
+    let events = Events::with_capacity(alloc, 1)?;
+    poll.registry()
+        .register(&mut SourceFd(&descriptor), Token(0), Interest::READABLE)?;
+    Ok((poll, events))
+}
+
+// Waits until something is there, or the time is up. Whether nothing is. Where the system refuses to wait, the next read does.
+fn finds_nothing(poll: &mut Option<(Poll, Events<Global>)>, descriptor: RawFd) -> bool {
+    let Some((poll, events)) = poll else {
+        return false;
+    };
+    // The poll reports once what comes: asked anew, it reports what is there too.
+    let asked = poll
+        .registry()
+        .reregister(&mut SourceFd(&descriptor), Token(0), Interest::READABLE);
+    let waited = poll.poll(events, Some(Duration::from_micros(WAIT)));
+    asked.is_ok() && waited.is_ok() && events.is_empty()
+}

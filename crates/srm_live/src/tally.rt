@@ -1,0 +1,98 @@
+//! What passed a member's wire, counted.
+
+use srm_codec::Datagram;
+use srm_names::Member;
+use std::fmt;
+use std::sync::atomic::{AtomicU32, AtomicU64, Ordering};
+
+/// What passed a member's wire so far. One thread counts, and any reads. Counts wrap at 2^64.
+#[derive(Drop)]
+pub struct Tally {
+    // A bit for each member that was heard.
+    heard: AtomicU32,
+    sent: AtomicU64,
+    came: AtomicU64,
+    requests: AtomicU64,
+    repairs: AtomicU64,
+    noise: AtomicU64,
+}
+
+impl Tally {
+    /// Nothing passed yet.
+    pub fn new() -> Tally {
+        Tally {
+            heard: AtomicU32::new(0),
+            sent: AtomicU64::new(0),
+            came: AtomicU64::new(0),
+            requests: AtomicU64::new(0),
+            repairs: AtomicU64::new(0),
+            noise: AtomicU64::new(0),
+        }
+    }
+
+    /// Counts a datagram that was sent.
+    pub fn count_sent(&self, datagram: &Datagram) {
+        add_one(&self.sent);
+        match datagram {
+            Datagram::Request { .. } => add_one(&self.requests),
+            Datagram::Repair { .. } => add_one(&self.repairs),
+            Datagram::Data(_) | Datagram::Session { .. } => {}
+        }
+    }
+
+    /// Counts a datagram that came from another member.
+    pub fn count_came(&self, sender: Member) {
+        add_one(&self.came);
+        self.heard.fetch_or(
+            1_u32.wrapping_shl(u32::from(sender.number())),
+            Ordering::SeqCst,
+        );
+    }
+
+    /// Counts what came and is no datagram of another member of the session.
+    pub fn count_noise(&self) {
+        add_one(&self.noise);
+    }
+
+    /// What passed so far, in a session of so many others.
+    pub fn status(&self, others: u8) -> Status {
+        Status {
+            others,
+            heard: self.heard.load(Ordering::SeqCst).count_ones(),
+            sent: self.sent.load(Ordering::SeqCst),
+            came: self.came.load(Ordering::SeqCst),
+            requests: self.requests.load(Ordering::SeqCst),
+            repairs: self.repairs.load(Ordering::SeqCst),
+            noise: self.noise.load(Ordering::SeqCst),
+        }
+    }
+}
+
+fn add_one(count: &AtomicU64) {
+    count.fetch_add(1, Ordering::SeqCst);
+}
+
+/// What passed a member's wire. Its text is the line for what goes on.
+#[derive(Clone, Copy, Debug, PartialEq, Eq)]
+pub struct Status {
+    /// How many other members the session has, and of how many a datagram came.
+    pub others: u8,
+    pub heard: u32,
+    /// The datagrams that were sent, and those that came from others.
+    pub sent: u64,
+    pub came: u64,
+    /// The requests and the repairs among those that were sent.
+    pub requests: u64,
+    pub repairs: u64,
+    /// What came and is no datagram of another member of the session.
+    pub noise: u64,
+}
+
+impl fmt::Display for Status {
+    fn fmt<W: fmt::Write>(&self, f: &mut fmt::Formatter<W>) -> fmt::Result {
+        write!(f, "srm: heard {} of {}, ", self.heard, self.others)?;
+        write!(f, "sent {}, came {}, ", self.sent, self.came)?;
+        write!(f, "asked {}, repaired {}, ", self.requests, self.repairs)?;
+        write!(f, "noise {}", self.noise)
+    }
+}

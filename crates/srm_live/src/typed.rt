@@ -1,0 +1,81 @@
+//! The line that is being typed.
+
+ghost use Rattle.std.specs.Prelude.{◌≡◌, ◌↔◌, ◌≢◌, IsTrue, OnOk, OnErr, IfOk, []};
+ghost use Rattle.srm_live.specs.Typing.{with_byte, typed_of, next_of};
+
+use bytes::Bytes;
+use srm_names::BODY;
+use std::alloc::{AllocError, Global};
+use std::marker::Model;
+
+/// A line that ended.
+#[derive(Debug, Drop)]
+pub enum Typed {
+    /// It is a stroke, with this body.
+    Stroke(Bytes),
+    /// It is too long for a stroke. Its number, from 1.
+    TooLong(u64),
+}
+
+/// The line that is being typed. Of one that is too long a byte more is kept than a stroke holds.
+#[derive(Drop)]
+pub struct Line {
+    alloc: Global,
+    number: u64,
+    kept: Vec<u8>,
+}
+
+impl Model for Line {
+    ghost use Rattle.srm_live.specs.Typing.{LineView};
+
+    ghost Value = { LineView };
+
+    ghost view = { λ l. record { number = l.number; kept = l.kept.items } };
+}
+
+impl Line {
+    /// The first line, of which nothing is typed.
+    pub fn new(alloc: Global) -> Line
+        ensures { result ≡ record { number = 1; kept = [] } }
+    {
+        Line {
+            alloc,
+            number: 1,
+            kept: Vec::new(alloc),
+        }
+    }
+
+    /// Takes a byte that is no line end. Only want of memory refuses it.
+    pub fn push(&mut self, byte: u8) -> Result<(), AllocError>
+        ensures ok { OnOk result (self.new ≡ with_byte byte self.old) }
+        ensures err { OnErr result (self.new ≡ self.old) }
+    {
+        if self.kept.len() <= usize::from(BODY) {
+            self.kept.push(byte)?;
+        }
+        Ok(())
+    }
+
+    /// Ends the line, and begins the next. Only want of memory refuses it, and then it didn't end.
+    pub fn end(&mut self) -> Result<Typed, AllocError>
+        ensures ok { IfOk result (λ typed. typed ≡ typed_of self.old) }
+        ensures next { OnOk result (self.new ≡ next_of self.old) }
+        ensures err { OnErr result (self.new ≡ self.old) }
+    {
+        let typed = if self.kept.len() > usize::from(BODY) {
+            Typed::TooLong(self.number)
+        } else {
+            Typed::Stroke(Bytes::copy_from_slice(self.alloc, self.kept.as_slice())?)
+        };
+        self.kept.clear();
+        self.number = self.number.saturating_add(1);
+        Ok(typed)
+    }
+
+    /// Whether nothing of the line is typed.
+    pub fn is_empty(&self) -> bool
+        ensures { IsTrue result ↔ (self.now.kept ≡ []) }
+    {
+        self.kept.is_empty()
+    }
+}

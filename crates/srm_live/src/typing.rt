@@ -1,0 +1,197 @@
+//! Strokes that are drawn as they are typed.
+
+ghost use Rattle.std.specs.Prelude.{◌≡◌, ◌<◌, ◌≤◌, ◌∷◌, [], length, take, IfOk, IfSome, OnOk, OnErr, MatchResult, MatchOption};
+ghost use Rattle.std.specs.Io.KnownBytes.{Consumes, Keeps, IsAtEnd};
+ghost use Rattle.srm_live.specs.Typing.{bodies_in, Sent, Draws, DrawsSome, DrawsLast, DrewAllOf, DrewFrontOf};
+
+use crate::cut::Cut;
+use crate::desk::Desk;
+use crate::remaining::remain;
+use crate::typed::{Line, Typed};
+use srm_member::draw;
+use srm_pages::{Inked, Pen};
+use srm_script::Fault;
+use std::alloc::Global;
+use std::io::{ErrorKind, Read, Write};
+use std::sync::Wait;
+use std::thread;
+use std::time::{Clock, Duration};
+
+/// Bytes that are read at once, at most.
+const READ: usize = 1_024;
+
+/// How long to wait before a reader that has nothing yet is asked again, in microseconds.
+const WAIT: u64 = 1_000;
+
+/// Draws each line of a reader with one pen, stays for so many microseconds once it ended, and then is done. Nothing more is drawn once the output
+/// is closed or the node has ended; then it is done after as long, or at once.
+pub fn draw_typed<R: Clock + Wait, I: Read + Drop, O: Write, E: Write>(
+    rt: &R,
+    alloc: Global,
+    reader: I,
+    pen: Pen,
+    stay: u64,
+    desk: &Desk<O, E>,
+) -> Inked
+    ensures { DrewFrontOf (I.remaining reader) pen result }
+{
+    let mut reader = reader;
+    let mut pen = pen;
+    if let Err(Cut::Fault(fault)) = draw_lines(rt, alloc, &mut reader, &mut pen, desk) {
+        desk.note(&fault);
+    }
+    remain(rt, Duration::from_micros(stay), desk.ended());
+    pen.done()
+}
+
+// Draws each line of a reader, until it ends.
+#[tactic(auto, using(crate::proofs::TypedLines::front_none))]
+fn draw_lines<R: Clock + Wait, I: Read, O: Write, E: Write>(
+    rt: &R,
+    alloc: Global,
+    reader: &mut I,
+    pen: &mut Pen,
+    desk: &Desk<O, E>,
+) -> Result<(), Cut>
+    ensures all { OnOk result (DrewAllOf (I.remaining reader.old) pen.old pen.new) }
+    ensures front { DrewFrontOf (I.remaining reader.old) pen.old pen.new }
+{
+    let mut line = Line::new(alloc);
+    let mut buffer = vec![in alloc; 0; READ]?;
+    draw_read(rt, reader, buffer.as_mut_slice(), &mut line, pen, desk)
+}
+
+// Draws each line of a reader that is read by this buffer.
+#[tactic(auto, using(crate::proofs::TypedLines::reads_none, crate::proofs::TypedLines::reads_cut))]
+fn draw_read<R: Clock + Wait, I: Read, O: Write, E: Write>(
+    rt: &R,
+    reader: &mut I,
+    buffer: &mut [u8],
+    line: &mut Line,
+    pen: &mut Pen,
+    desk: &Desk<O, E>,
+) -> Result<(), Cut>
+    requires room { 0 < length buffer.old }
+    requires none { line.old.kept ≡ [] }
+    ensures all { OnOk result (DrewAllOf (I.remaining reader.old) pen.old pen.new) }
+    ensures front { DrewFrontOf (I.remaining reader.old) pen.old pen.new }
+{
+    for _ in rt.forever() {
+        if desk.is_over() {
+            return Err(Cut::Closed);
+        }
+        match read_next(rt, reader, buffer)? {
+            None => {}
+            Some(0) => return draw_last(rt, pen, line, desk),
+            Some(count) => draw_bytes(rt, pen, line, &buffer[..count], desk)?,
+        }
+    }
+    unreachable!()
+}
+
+// Reads what is there. None where nothing is yet, and 0 bytes at the end of the input.
+fn read_next<R: Clock, I: Read>(
+    rt: &R,
+    reader: &mut I,
+    buffer: &mut [u8],
+) -> Result<Option<usize>, Cut>
+    requires { 0 < length buffer.old }
+    ensures within { IfOk result (λ some. IfSome some (λ count. count ≤ length buffer.new)) }
+    ensures reads { MatchResult result
+        (λ some. MatchOption some (Keeps (I.remaining reader.old) (I.remaining reader.new)) (λ count. Consumes (I.remaining reader.old) (I.remaining reader.new) (take count buffer.new)))
+        (λ _. Keeps (I.remaining reader.old) (I.remaining reader.new)) }
+    ensures end { IfOk result (λ some. IfSome some (λ count. count ≡ 0 → IsAtEnd (I.remaining reader.new))) }
+{
+    match reader.read(buffer) {
+        Ok(count) => Ok(Some(count)),
+        Err(error) => match error.kind() {
+            ErrorKind::Interrupted => Ok(None),
+            ErrorKind::WouldBlock => {
+                thread::sleep(rt, Duration::from_micros(WAIT));
+                Ok(None)
+            }
+            ErrorKind::OutOfMemory => Err(Cut::Fault(Fault::Memory)),
+            _ => Err(Cut::Fault(Fault::Input)),
+        },
+    }
+}
+
+// Draws these bytes, line by line.
+#[tactic(auto, using(crate::proofs::TypedLines::draws_none, crate::proofs::TypedLines::draws_more, crate::proofs::TypedLines::draws_some, crate::proofs::TypedLines::draws_all))]
+fn draw_bytes<R: Clock + Wait, O: Write, E: Write>(
+    rt: &R,
+    pen: &mut Pen,
+    line: &mut Line,
+    bytes: &[u8],
+    desk: &Desk<O, E>,
+) -> Result<(), Cut>
+    ensures all { OnOk result (Draws bytes.now line.old.kept pen.old line.new.kept pen.new) }
+    ensures some { DrawsSome bytes.now line.old.kept pen.old pen.new }
+{
+    for byte in bytes {
+        draw_byte(rt, pen, line, *byte, desk)?;
+    }
+    Ok(())
+}
+
+// Takes the next byte of a line, which is drawn where it ends.
+#[tactic(auto, using(crate::proofs::TypedLines::draws_byte, crate::proofs::TypedLines::draws_end))]
+fn draw_byte<R: Clock + Wait, O: Write, E: Write>(
+    rt: &R,
+    pen: &mut Pen,
+    line: &mut Line,
+    byte: u8,
+    desk: &Desk<O, E>,
+) -> Result<(), Cut>
+    ensures drawn { OnOk result (Draws (byte ∷ []) line.old.kept pen.old line.new.kept pen.new) }
+    ensures none { OnErr result (pen.new ≡ pen.old) }
+{
+    if byte != b'\n' {
+        line.push(byte)?;
+        return Ok(());
+    }
+    let typed = line.end()?;
+    draw_line(rt, pen, typed, desk)
+}
+
+// Draws the last line, which lacks its end, unless it is empty.
+#[tactic(auto, using(crate::proofs::TypedLines::draws_last, crate::proofs::TypedLines::draws_no_last))]
+fn draw_last<R: Clock + Wait, O: Write, E: Write>(
+    rt: &R,
+    pen: &mut Pen,
+    line: &mut Line,
+    desk: &Desk<O, E>,
+) -> Result<(), Cut>
+    ensures drawn { OnOk result (DrawsLast line.old.kept pen.old pen.new) }
+    ensures none { OnErr result (pen.new ≡ pen.old) }
+{
+    if line.is_empty() {
+        return Ok(());
+    }
+    let typed = line.end()?;
+    draw_line(rt, pen, typed, desk)
+}
+
+// Draws a line that ended, or tells of one that is too long.
+fn draw_line<R: Clock + Wait, O: Write, E: Write>(
+    rt: &R,
+    pen: &mut Pen,
+    typed: Typed,
+    desk: &Desk<O, E>,
+) -> Result<(), Cut>
+    ensures drawn { OnOk result (Sent (bodies_in typed) pen.old pen.new) }
+    ensures none { OnErr result (pen.new ≡ pen.old) }
+{
+    if desk.is_over() {
+        return Err(Cut::Closed);
+    }
+    match typed {
+        Typed::Stroke(body) => {
+            if !draw(rt, pen, body, desk.ended()) {
+                return Err(Cut::Closed);
+            }
+        }
+        Typed::TooLong(number) => desk.refuse(rt, number),
+    }
+    Ok(())
+}

@@ -1,0 +1,194 @@
+//! The line for what goes on, on a terminal.
+
+use crate::lives::*;
+use crate::rig::bound;
+use mio::net::UdpSocket;
+use srm_live::run_live;
+use std::alloc::Global;
+use std::io;
+use std::io::{ErrorKind, Read};
+use std::net::{Net, SocketAddr};
+use std::process::Abort;
+use std::sync::{Arc, Wait};
+use std::test::Fail;
+use std::thread::Threads;
+use std::time::{Clock, Duration, Instant};
+
+/// Lines that are typed on a terminal as soon as the line for what goes on was shown, and was shown again.
+const TYPED: Given = Given {
+    words: "--me 0 --stay 300000",
+    lines: [LONGEST, b"a\ntwo\n", b"three\n"],
+    awaited: "noise 0",
+    is_terminal: true,
+    ..GIVEN
+};
+
+/// What stands on the terminal of a member by itself. The line for what goes on was shown once a second, at most.
+fn typed_on_terminal<R>(rt: &R) -> Result<Written, Fail>
+where
+    R: Net + Clock + Threads + Wait + AllocGlobal + Abort + Copy + Send + Drop + 'static,
+{
+    let start = Instant::now(rt)?;
+    let (status, terminal, _) = run(rt, TYPED)?;
+    let passed = start.elapsed(rt)?;
+    assert_eq!(rt; status, 0);
+    // It stays from the last line on, which came behind the second of these.
+    assert!(rt; passed >= Duration::from_micros(2_300_000));
+    let shown = u64::try_from(count_of(rt, &terminal, "srm: heard"))?;
+    assert!(rt; shown <= passed.as_secs(), "{shown}");
+    Ok(terminal)
+}
+
+// Each time it is wiped before another line stands there, which is told or printed.
+#[test]
+fn a_line_on_a_terminal_stands_where_nothing_else_does(rt: HostRuntime) -> Result<(), Fail> {
+    let terminal = typed_on_terminal(&rt)?;
+    for text in [
+        "\r\u{1b}[Ksrm: heard 0 of 0, sent 0, came 0, asked 0, repaired 0, noise 0\r\u{1b}[Kline 1: bad\n",
+        "took 0 0 draw 0 1 two\n",
+        "noise 0\r\u{1b}[Ktook 0 0 draw 0 2 three\n",
+    ] {
+        assert!(rt; has(&rt, &terminal, text), "{text}");
+    }
+    assert!(rt; ends_with(&rt, &terminal, "gone 0\n"));
+    Ok(())
+}
+
+/// Data in a session of a source on page 0.0: this number, drawn at 0, with the body `hi`.
+fn data(session: u8, source: u8, number: u8) -> [u8; 29] {
+    [
+        0x53, 0x52, 0x01, 0x01, 0, 0, 0, session, source, // head
+        source, 0, 0, 0, 0, 0, 0, number, // name
+        0, 0, 0, 0, 0, 0, 0, 0, 0, 2, 0x68, 0x69,
+    ]
+}
+
+/// Member 0 asks for numbers 1 and 2 of member 1 on page 0.0.
+const ASKS: [u8; 21] = [
+    0x53, 0x52, 0x02, 0x02, 0, 0, 0, 7, 0, // head
+    1, 0, 0, 0, 0, 0, 0, 1, // name
+    0, 0, 0, 1,
+];
+
+/// Member 0 of three, which is the input of member 1 too. It types two lines. Once it has them it asks for them again and sends its second drawop, beside noise;
+/// and its first once that is asked for. The input ends once the terminal shows all that came of it, or fails after 10,000 looks.
+#[derive(Drop)]
+struct Peer<R: Wait + Drop> {
+    rt: R,
+    alloc: Global,
+    terminal: Written,
+    socket: UdpSocket,
+    to: SocketAddr,
+    looks: u32,
+    strokes: u32,
+    came: u64,
+}
+
+impl<R: Wait + Drop> Peer<R> {
+    /// Sends the second drawop and the requests, and four that count as noise: no datagram, of another session, of member 1 itself and of nobody.
+    fn send_all(&self) -> io::Result<()> {
+        self.socket.send_to(&data(7, 0, 2), self.to)?;
+        self.socket.send_to(&ASKS, self.to)?;
+        self.socket.send_to(b"noise", self.to)?;
+        self.send_strange()
+    }
+
+    fn send_strange(&self) -> io::Result<()> {
+        self.socket.send_to(&data(8, 0, 3), self.to)?;
+        self.socket.send_to(&data(7, 1, 3), self.to)?;
+        self.socket.send_to(&data(7, 3, 3), self.to)?;
+        Ok(())
+    }
+
+    /// Answers a datagram of this kind.
+    fn answer(&mut self, kind: u8) -> io::Result<()> {
+        self.came = self.came.saturating_add(1);
+        if kind == 2 {
+            self.socket.send_to(&data(7, 0, 1), self.to)?;
+        }
+        if kind == 1 {
+            self.strokes = self.strokes.saturating_add(1);
+            if self.strokes == 2 {
+                return self.send_all();
+            }
+        }
+        Ok(())
+    }
+
+    /// Hears what came.
+    fn hear(&mut self) -> io::Result<()> {
+        let mut buffer = [0; 4_096];
+        for _ in 0..100 {
+            if self.socket.recv_from(&mut buffer).is_err() {
+                return Ok(());
+            }
+            self.answer(buffer[3])?;
+        }
+        Ok(())
+    }
+
+    /// Whether the terminal shows what came so far: of this member alone, and three datagrams of it; one request and two repairs.
+    fn is_shown(&self) -> io::Result<bool> {
+        let came = self.came;
+        let line = format!(in self.alloc;
+            "srm: heard 1 of 2, sent {came}, came 3, asked 1, repaired 2, noise 4"
+        )?;
+        Ok(ends_with(&self.rt, &self.terminal, line.as_str()))
+    }
+}
+
+impl<R: Wait + Drop> Read for Peer<R> {
+    fn read(&mut self, buffer: &mut [u8]) -> io::Result<usize> {
+        self.looks = self.looks.saturating_add(1);
+        if self.looks == 1 {
+            let mut lines: &[u8] = b"one\ntwo\n";
+            return lines.read(buffer);
+        }
+        self.hear()?;
+        if self.is_shown()? {
+            return Ok(0);
+        }
+        if self.looks > 10_000 {
+            return Err(io::Error::from(ErrorKind::BrokenPipe));
+        }
+        Err(io::Error::from(ErrorKind::WouldBlock))
+    }
+}
+
+/// Runs member 1 of three on a terminal, beside member 0 and one that is silent. Its status, and what stands on the terminal.
+fn run_beside<R>(rt: &R) -> Result<(u8, Written), Fail>
+where
+    R: Net + Clock + Threads + Wait + AllocGlobal + Copy + Send + Drop + 'static,
+{
+    let alloc = rt.alloc();
+    let (socket, first) = bound(rt)?;
+    let (own, to) = bound(rt)?;
+    let (_silent, third) = bound(rt)?;
+    drop(own);
+    let line = format!(in alloc; "--session 7 --me 1 --live --stay 0 {first} {to} {third}")?;
+    let options = options_of(alloc, line.as_str()).ok_or("options")?;
+    let (out, err) = streams(alloc, true)?;
+    let input = Peer {
+        rt: *rt,
+        alloc,
+        terminal: Arc::try_clone(&out)?,
+        socket,
+        to,
+        looks: 0,
+        strokes: 0,
+        came: 0,
+    };
+    let to_out = output_in(rt, alloc, &out, GIVEN)?;
+    let to_err = keep_in(rt, &err, true)?;
+    let status = run_live(rt, options, input, to_out, to_err);
+    Ok((status, out))
+}
+
+#[test]
+fn a_terminal_is_shown_what_passes_the_wire(rt: HostRuntime) -> Result<(), Fail> {
+    let (status, terminal) = run_beside(&rt)?;
+    assert_eq!(rt; status, 0);
+    assert!(rt; has(&rt, &terminal, "took 1 0 draw 1 1 one\n"));
+    assert!(rt; ends_with(&rt, &terminal, "gone 1\n"));
+    Ok(())
+}
