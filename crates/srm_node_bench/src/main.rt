@@ -20,8 +20,12 @@ use std::time::{Clock, Duration};
 /// How often each is timed.
 const ROUNDS: u32 = 7;
 
-/// How many turns are timed.
-const TURNS: u32 = 1_000;
+/// How many turns with nothing to do are timed.
+const IDLE_TURNS: u32 = 1_000;
+
+/// How many turns that hear are timed: so many that the journal of the node, with its ticks and gives, is moved to a larger place as often as the
+/// recorder's.
+const HEARING_TURNS: u32 = 600;
 
 fn main(rt: HostRuntime) -> anyhow::Result<()> {
     let words: Vec<String> = env::args(&rt)?.skip(1).collect(rt.alloc())?;
@@ -64,9 +68,9 @@ fn measure<R: Wait + Clock>(rt: &R, alloc: Global) -> Option<Least> {
         calls: Duration::MAX,
     };
     for _ in 0..ROUNDS {
-        least.idle = least.idle.min(time_idle(rt, alloc, TURNS)?);
-        least.hearing = least.hearing.min(time_hearing(rt, alloc, TURNS)?);
-        least.calls = least.calls.min(time_calls(rt, alloc, TURNS)?);
+        least.idle = least.idle.min(time_idle(rt, alloc, IDLE_TURNS)?);
+        least.hearing = least.hearing.min(time_hearing(rt, alloc, HEARING_TURNS)?);
+        least.calls = least.calls.min(time_calls(rt, alloc, HEARING_TURNS)?);
     }
     Some(least)
 }
@@ -78,9 +82,9 @@ fn print_times<R: Wait + Clock, O: Write>(
     out: &mut O,
 ) -> anyhow::Result<()> {
     let least = measure(rt, alloc).context("memory or the clock")?;
-    let idle = least.idle.as_nanos() / u128::from(TURNS);
-    let hearing = least.hearing.as_nanos() / u128::from(TURNS);
-    let calls = least.calls.as_nanos() / u128::from(TURNS);
+    let idle = least.idle.as_nanos() / u128::from(IDLE_TURNS);
+    let hearing = least.hearing.as_nanos() / u128::from(HEARING_TURNS);
+    let calls = least.calls.as_nanos() / u128::from(HEARING_TURNS);
     let ratio = hearing.saturating_mul(100).checked_div(calls).unwrap_or(0);
     writeln!(out, "a turn with nothing to do: {idle} ns")?;
     writeln!(out, "hearing 64 datagrams in one turn: {hearing} ns")?;

@@ -1,0 +1,28 @@
+#!/bin/sh
+# How much memory a live member holds that has nothing to do, in KiB: once it has begun, and each minute since. It turns a hundred times a
+# second at least, so 100,000 turns take 17 minutes. Usage: ./idle.sh [MINUTES], 17 if left out.
+set -u
+here=$(CDPATH='' cd -- "$(dirname -- "$0")" && pwd) || exit 1
+srm=${SRM:-"$here/../crates/srm_main/out/srm_main"}
+minutes=${1:-17}
+folder=$(mktemp -d) || exit 1
+mkfifo "$folder/input" || exit 1
+
+"$srm" node --session 7 --me 0 --live 127.0.0.1:47110 127.0.0.1:47111 <"$folder/input" >/dev/null 2>&1 &
+member=$!
+# The input stays open for as long as this runs.
+exec 3>"$folder/input"
+trap 'kill "$member" 2>/dev/null; rm -rf "$folder"' EXIT
+
+held() {
+    sed -n 's/^VmRSS:[^0-9]*\([0-9]*\) kB$/\1/p' "/proc/$member/status"
+}
+
+sleep 2
+echo "at first: $(held) KiB"
+minute=1
+while [ "$minute" -le "$minutes" ]; do
+    sleep 60
+    echo "minute $minute: $(held) KiB"
+    minute=$((minute + 1))
+done
