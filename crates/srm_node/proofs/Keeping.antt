@@ -139,8 +139,8 @@ drawn_draws (e ∷ es) (s ∷ ss) h =
     let tail : map (λ (x : Entry). x.input) es ≡ map drawing ss = cc in
     ap (λ i. cons_option (drew i) (draws es)) head ∙ ap (λ xs. drawing s ∷ xs) (drawn_draws es ss tail)
 
-received_more : (now count : ℕ) (j k : Journal) (from to : WellView) (hand kept : Option Stroke) (d : Draws now count j k from to hand kept) → DrawsReceived j from.received hand → DrawsReceived k to.received kept
-received_more now count j k from to hand kept d h =
+received_more : (now count : ℕ) (none_found : Bool) (j k : Journal) (from to : WellView) (hand kept : Option Stroke) (d : Draws now count none_found j k from to hand kept) → DrawsReceived j from.received hand → DrawsReceived k to.received kept
+received_more now count none_found j k from to hand kept d h =
     let p = d.pops in
     let x = d.draws in
     let hands : List Stroke = option_to_list hand in
@@ -153,10 +153,10 @@ received_more now count j k from to hand kept d h =
     ∙ sym (append_assoc (draws j.entries) (map drawing x.strokes) (map drawing keeps))
     ∙ ap (λ is. is ++ map drawing keeps) (ap (λ is. draws j.entries ++ is) (sym (drawn_draws x.entries x.strokes (inputs_drawn now j x.strokes x.entries x.each))) ∙ sym (draws_grown j k x.entries x.grown))
 
-node_drawn : (now count : ℕ) (n : NodeView) (k : Journal) (well : WellView) (from hand : Option Stroke) (config : Config) (room : ℕ) (closed : List Bool) → IsNode n config room closed → IsLawfulJournal k → from ≡ n.hand → Draws now count n.journal k n.well well from hand
+node_drawn : (now count : ℕ) (none_found : Bool) (n : NodeView) (k : Journal) (well : WellView) (from hand : Option Stroke) (config : Config) (room : ℕ) (closed : List Bool) → IsNode n config room closed → IsLawfulJournal k → from ≡ n.hand → Draws now count none_found n.journal k n.well well from hand
     → IsNode (record n { journal = k; well = well; hand = hand }) config room closed
-node_drawn now count n k well from hand config room closed h lawful same d =
-    let e : Draws now count n.journal k n.well well n.hand hand = subst (λ x. Draws now count n.journal k n.well well x hand) same d in
+node_drawn now count none_found n k well from hand config room closed h lawful same d =
+    let e : Draws now count none_found n.journal k n.well well n.hand hand = subst (λ x. Draws now count none_found n.journal k n.well well x hand) same d in
     let x = e.draws in
     let still : CarriesEach k n.feeds = carries_more n.journal k x.entries n.feeds x.grown (drawn_none_given x.entries x.strokes (inputs_drawn now n.journal x.strokes x.entries x.each)) h.lists.carries in
     record {
@@ -165,7 +165,7 @@ node_drawn now count n k well from hand config room closed h lawful same d =
         slots = h.lists.slots;
         carries = still;
         puts = puts_released k n.feeds lawful still;
-        draws_are = received_more now count n.journal k n.well well n.hand hand e h.lists.draws_are;
+        draws_are = received_more now count none_found n.journal k n.well well n.hand hand e h.lists.draws_are;
       };
       settings = settings_of n.journal k x.entries x.grown ∙ h.settings;
       room_is = h.room_is;
@@ -174,8 +174,8 @@ node_drawn now count n k well from hand config room closed h lawful same d =
 
 pub node_drew : (now : ℕ) (n : NodeView) (k : Journal) (well : WellView) (from hand : Option Stroke) (config : Config) (room : ℕ) (closed : List Bool) (r : Result Drawn OutOfMemory) → IsNode n config room closed → IsLawfulJournal k → from ≡ n.hand
     → MatchResult r (λ drawn. DrewStrokes now drawn.none_left n.journal k n.well well from hand) (λ _. DrewStrokesCut now n.journal k n.well well from hand) → IsNode (record n { journal = k; well = well; hand = hand }) config room closed
-node_drew now n k well from hand config room closed (Ok drawn) h lawful same x = node_drawn now x.count n k well from hand config room closed h lawful same x.draws
-node_drew now n k well from hand config room closed (Err e) h lawful same x = node_drawn now x.count n k well from hand config room closed h lawful same x.draws
+node_drew now n k well from hand config room closed (Ok drawn) h lawful same x = node_drawn now x.count drawn.none_left n k well from hand config room closed h lawful same x.draws
+node_drew now n k well from hand config room closed (Err e) h lawful same x = node_drawn now x.count false n k well from hand config room closed h lawful same x.draws
 
 -- LEAVING AND TICKING
 

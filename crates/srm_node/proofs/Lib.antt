@@ -10,6 +10,7 @@ pub mod Closing
 pub mod Keeping
 pub mod Waiting
 pub mod Turning
+pub mod Timing
 pub mod Works
 pub mod Hosts
 mod KeepingExample

@@ -38,7 +38,7 @@ waits_heard draw now bytes a b answer (inl (e, grows, hearing, answers)) words =
 waits_heard draw now bytes a b answer (inr (wrong, same)) words = record { start = ap (λ (j : Journal). j.start) same; words = words }
 
 -- a pause draws none
-pub waits_paused : {W : Type 0} (draw : W → ℕ × W) (a b : NodeState W) → Paused a.view b.view → b.words ≡ a.words → WaitsByWords draw (recorded_in a) (recorded_in b)
+pub waits_paused : {W C : Type 0} (draw : W → ℕ × W) (a b : NodeState W C) → Paused a.view b.view → b.words ≡ a.words → WaitsByWords draw (recorded_in a) (recorded_in b)
 waits_paused draw a b paused words = record {
   start = ap (λ (j : Journal). j.start) journal;
   words = no_words_recorded draw (recorded_in a) (recorded_in b) (ap (λ (j : Journal). record { journal = j; words = b.words }) journal ∙ ap (λ w. record { journal = a.view.journal; words = w }) words);

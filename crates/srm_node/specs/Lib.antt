@@ -3,6 +3,7 @@ pub mod Counting
 pub mod Parts
 pub mod Nodes
 pub mod Waits
+pub mod Moments
 pub mod Turns
 pub mod TurnExamples
 pub mod Working

@@ -24,13 +24,14 @@ pub record NodeView : Type 0 where
   pub failures : ℕ
   pub told : Option Told
 
--- what contracts see of a node: this, and its source of words as it stands
-pub record NodeState (W : Type 0) : Type 0 where
+-- what contracts see of a node: this, and its source of words and its clock as they stand
+pub record NodeState (W C : Type 0) : Type 0 where
   pub view : NodeView
   pub words : W
+  pub clock : C
 
 -- what they see of the recorder in it
-abbrev pub recorded_in : {W : Type 0} → NodeState W → Recorded W
+abbrev pub recorded_in : {W C : Type 0} → NodeState W C → Recorded W
 recorded_in n = record { journal = n.view.journal; words = n.words }
 
 -- what always holds of a node

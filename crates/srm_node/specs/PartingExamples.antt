@@ -1,5 +1,5 @@
 -- A node's turn in which its member leaves and each lane has its close, and the run that ends by it, at worked examples.
-use Rattle.std.specs.Prelude.{◌≡◌, ℕ, ◌==◌, true, false, List, [], ◌∷◌, ◌++◌, map, take, Option, Some, None, Ok, Err, slice_get, refl}
+use Rattle.std.specs.Prelude.{◌≡◌, ◌+◌, ℕ, ◌==◌, true, false, List, [], ◌∷◌, ◌++◌, map, take, Option, Some, None, Ok, Err, slice_get, refl}
 use Rattle.std.specs.List.{AllByRecursion}
 use Rattle.std.proofs.Common.{arith, inl, inr, subst, sym, ◌∙◌, ap, lit≤, lit<}
 use Rattle.std.proofs.lemmas.List.{append-nil}
@@ -177,8 +177,12 @@ asked_before lane well = record (before lane well) { asked = Some 0 }
 abbrev heard : LaneId → WellView → NodeView
 heard lane well = record (asked_before lane well) { told = Some (record { came = None ∷ []; went = [] }) }
 
+-- the well has no stroke
+abbrev drawn : LaneId → WellView → NodeView
+drawn lane well = record (heard lane well) { well = record well { nones = well.nones + 1 } }
+
 abbrev left : LaneId → WellView → NodeView
-left lane well = record (heard lane well) { journal = journal (first 1); asked = None }
+left lane well = record (drawn lane well) { journal = journal (first 1); asked = None }
 
 abbrev ticked : LaneId → WellView → NodeView
 ticked lane well = record (left lane well) { journal = journal (first 2); told = Some (record { came = None ∷ []; went = bytes_to 1 farewell_bytes ∷ [] }) }
@@ -207,14 +211,14 @@ hears lane well = record {
 }
 
 -- no stroke is there
-draws_none : (lane : LaneId) (well : WellView) → DrawsNow 1 true (heard lane well) (heard lane well)
+draws_none : (lane : LaneId) (well : WellView) → DrawsNow 1 true (heard lane well) (drawn lane well)
 draws_none lane well = record {
   drew = record {
     count = 0;
     few = omega arith;
     draws = record {
       all = [];
-      pops = record { popped = []; received = ap (λ ss. record well { received = ss }) (sym (append-nil well.received)); all_is = refl };
+      pops = record { popped = []; received = ap (λ ss. record well { received = ss; nones = well.nones + 1 }) (sym (append-nil well.received)); all_is = refl };
       draws = record { strokes = []; entries = []; counted = refl; grown = refl; each = tt; all_is = refl };
     };
     ends = omega arith;
@@ -222,7 +226,7 @@ draws_none lane well = record {
   same = refl;
 }
 
-leaves : (lane : LaneId) (well : WellView) → LeavesNow 1 true (heard lane well) (left lane well)
+leaves : (lane : LaneId) (well : WellView) → LeavesNow 1 true (drawn lane well) (left lane well)
 leaves lane well = record { pens_done = true; leaves = record { entries = asks ∷ []; grown = refl; moments = (refl, tt); inputs = refl }; same = refl }
 
 ticks_once : (lane : LaneId) (well : WellView) → TicksNow 1 false (left lane well) (ticked lane well)
@@ -260,7 +264,7 @@ turned lane well = record {
   now = 1;
   none_left = true;
   heard = heard lane well;
-  drawn = heard lane well;
+  drawn = drawn lane well;
   left = left lane well;
   ticked = ticked lane well;
   hears = hears lane well;

@@ -1,5 +1,5 @@
 -- The parts of a turn.
-use Rattle.std.specs.Prelude.{◌≡◌, ◌⊎◌, ℕ, ◌<◌, ◌≤◌, ◌==◌, nat_le, Bool, true, false, ◌&&◌, ◌||◌, List, [], ◌∷◌, ◌++◌, map, length, slice_get, Option, Some, None, is_none, option_to_list, is_some, MatchBool, if◌then◌else◌}
+use Rattle.std.specs.Prelude.{◌≡◌, ◌⊎◌, ℕ, ◌<◌, ◌≤◌, ◌==◌, ◌+◌, nat_le, Bool, true, false, ◌&&◌, ◌||◌, List, [], ◌∷◌, ◌++◌, map, length, slice_get, Option, Some, None, is_none, option_to_list, is_some, MatchBool, if◌then◌else◌}
 use Rattle.std.specs.Bool.{OnTrue, OnFalse}
 use Rattle.std.specs.List.{AllByRecursion, list_any}
 use Rattle.srm_names.specs.declared.limits.TheConstants.{PAGES}
@@ -55,10 +55,10 @@ pub record ListenedCut (now : ℕ) (old new : Journal) (was is : Option Told) : 
 
 -- DRAWING
 
--- strokes that were popped stand behind the one in hand
-pub record Pops (from to : WellView) (hand all : List Stroke) : Type 0 where
+-- strokes that were popped stand behind the one in hand, and so often none was found
+pub record Pops (nones : ℕ) (from to : WellView) (hand all : List Stroke) : Type 0 where
   pub popped : List Stroke
-  pub received : to ≡ record from { received = from.received ++ popped }
+  pub received : to ≡ record from { received = from.received ++ popped; nones = from.nones + nones }
   pub all_is : all ≡ hand ++ popped
 
 -- whether the rate lets this stroke's datagram go at once, at this moment: a body that is too long counts as the longest
@@ -92,30 +92,35 @@ pub record DrawsOf (now count : ℕ) (all kept : List Stroke) (old new : Journal
   pub each : DrawsEach now old strokes entries
   pub all_is : all ≡ strokes ++ kept
 
--- Strokes were popped, and all but the one in hand drawn in order, so many.
-pub record Draws (now count : ℕ) (old new : Journal) (from to : WellView) (hand kept : Option Stroke) : Type 0 where
+-- once where it is so, else never
+abbrev pub once : Bool → ℕ
+once true = 1
+once false = 0
+
+-- Strokes were popped until none was found, or for another cause before, and all but the one in hand drawn in order, so many.
+pub record Draws (now count : ℕ) (none_found : Bool) (old new : Journal) (from to : WellView) (hand kept : Option Stroke) : Type 0 where
   pub all : List Stroke
-  pub pops : Pops from to (option_to_list hand) all
+  pub pops : Pops (once none_found) from to (option_to_list hand) all
   pub draws : DrawsOf now count all (option_to_list kept) old new
 
--- As many were drawn as a turn draws, by which it isn't known whether more are left; or fewer, and none was left; or the one in hand isn't
+-- As many were drawn as a turn draws, by which it isn't known whether more are left; or fewer, and the well had none; or the one in hand isn't
 -- admitted.
 abbrev pub DrawingEnds : (now count : ℕ) → Bool → Journal → Option Stroke → Type 0
 DrawingEnds now count none_left j (Some s) = (none_left ≡ false) × IsAdmitted now j s false
 DrawingEnds now count none_left j None = MatchBool none_left (count < DRAWN) (count ≡ DRAWN)
 
--- strokes were drawn, until there was cause to end
+-- Strokes were drawn, until there was cause to end. None is left exactly where the well was found to have none.
 pub record DrewStrokes (now : ℕ) (none_left : Bool) (old new : Journal) (from to : WellView) (hand kept : Option Stroke) : Type 0 where
   pub count : ℕ
   pub few : count ≤ DRAWN
-  pub draws : Draws now count old new from to hand kept
+  pub draws : Draws now count none_left old new from to hand kept
   pub ends : DrawingEnds now count none_left new kept
 
 -- Memory ran out: the stroke for which it did is in hand.
 pub record DrewStrokesCut (now : ℕ) (old new : Journal) (from to : WellView) (hand kept : Option Stroke) : Type 0 where
   pub count : ℕ
   pub few : count < DRAWN
-  pub draws : Draws now count old new from to hand kept
+  pub draws : Draws now count false old new from to hand kept
   pub in_hand : is_some kept ≡ true
 
 -- LEAVING

@@ -1,6 +1,7 @@
 -- The drawing, the leaving and the waits of a turn, at worked examples.
-use Rattle.std.specs.Prelude.{◌≡◌, ◌<◌, ℕ, true, false, List, [], ◌∷◌, ◌++◌, map, Some, None, replicate, refl}
-use Rattle.std.proofs.Common.{arith, ap}
+use Rattle.std.specs.Prelude.{◌≡◌, ◌+◌, ◌<◌, ℕ, true, false, List, [], ◌∷◌, ◌++◌, map, min, Some, None, replicate, refl}
+use Rattle.std.proofs.Common.{arith, ap, inl, inr, ◌∙◌}
+use Rattle.srm_names.specs.declared.limits.TheConstants.{MOMENT}
 use Rattle.srm_names.specs.Names.{first_page}
 use Rattle.srm_codec.specs.declared.datagram.Datagram.TheVariants.{Data}
 use Rattle.srm_timers.specs.Draws.{draw_listed}
@@ -11,11 +12,13 @@ use Rattle.srm_entries.specs.declared.entry.Input.TheVariants.{AskedLeave}
 use Rattle.srm_entries.specs.declared.state.AgentState.TheVariants.{Active}
 use Rattle.srm_entries.specs.declared.state.AgentState.TheVariants as states
 use Rattle.srm_entries.specs.Sample.{in_roster, drawop_of, draws, hears, ask_arm, entry, quiet}
+use Rattle.srm_agent.specs.Noting.{moment_that_counts}
 use Rattle.srm_world.specs.Traces.{Journal}
 use Rattle.srm_world.specs.Recording.{IsAt}
 use Rattle.srm_world.specs.Words.{Recorded}
 use Rattle.srm_node.specs.Parts.{IsAdmitted, Draws, DrawingEnds, is_to_leave, Leaves}
 use Rattle.srm_node.specs.Waits.{WaitsByWords}
+use Rattle.srm_node.specs.Moments.{IsTold, IsMadeAt, GrowsAt}
 
 -- a member with a bucket of 1,051 bytes, which is one full datagram
 abbrev journal : List Entry → Journal
@@ -47,9 +50,9 @@ first_admitted = record { marked = ([], refl, tt, tt); is = refl }
 
 -- a turn that takes both out of the well has drawn the first, and the second is in hand
 abbrev after : WellView → WellView
-after w = record w { received = w.received ++ full ∷ short ∷ [] }
+after w = record w { received = w.received ++ full ∷ short ∷ []; nones = w.nones + 0 }
 
-draws_one : (w : WellView) → Draws 5 1 (journal []) (journal (first_drawn ∷ [])) w (after w) None (Some short)
+draws_one : (w : WellView) → Draws 5 1 false (journal []) (journal (first_drawn ∷ [])) w (after w) None (Some short)
 draws_one w = record {
   all = full ∷ short ∷ [];
   pops = record { popped = full ∷ short ∷ []; received = refl; all_is = refl };
@@ -95,3 +98,24 @@ behind_it wait words = record { journal = journal (first_drawn ∷ one_missing w
 
 waits_by_one_word : WaitsByWords draw_listed before_it (behind_it 200005 (9 ∷ []))
 waits_by_one_word = record { start = refl; words = record { added = first_drawn ∷ one_missing 200005 ∷ []; grown = refl; words = (refl, refl) } }
+
+-- THE CLOCK
+
+abbrev stands_at : ℕ → ℕ → Type 0
+stands_at n told = told ≡ n
+
+-- a clock that stands at 5 told the moment of the draw
+told_5 : GrowsAt (IsTold (stands_at 5)) (journal []) (journal (first_drawn ∷ []))
+told_5 = record { entries = first_drawn ∷ []; grown = refl; made = (inr (5, record { told = 5; tells = refl; counts = refl }, refl), tt) }
+
+-- one that stands at 2 told it of what comes behind the draw, where 2 counts as 5
+told_2 : GrowsAt (IsTold (stands_at 2)) (journal (first_drawn ∷ [])) (journal (first_drawn ∷ asked ∷ []))
+told_2 = record { entries = asked ∷ []; grown = refl; made = (inr (2, record { told = 2; tells = refl; counts = refl }, refl), tt) }
+
+-- and not of the draw
+not_told_2 : IsMadeAt (IsTold (stands_at 2)) (journal []) first_drawn → ⊥
+not_told_2 (inl is) = cc
+not_told_2 (inr (now, told, at)) =
+    let is : now ≡ 2 = told.counts ∙ ap (λ n. min n MOMENT) told.tells in
+    let same : 5 ≡ moment_that_counts (Some 2) 3 = at ∙ ap (λ n. moment_that_counts (Some n) 3) is in
+    cc

@@ -1,5 +1,5 @@
 -- A node's first turn, in which it draws a stroke and gives it, whole and cut, at worked examples.
-use Rattle.std.specs.Prelude.{◌≡◌, ◌<◌, ℕ, zero, suc, true, false, List, [], ◌∷◌, ◌++◌, map, take, Option, Some, None, Ok, slice_get, refl}
+use Rattle.std.specs.Prelude.{◌≡◌, ◌+◌, ◌<◌, ℕ, zero, suc, true, false, List, [], ◌∷◌, ◌++◌, map, take, Option, Some, None, Ok, slice_get, refl}
 use Rattle.std.specs.List.{AllByRecursion}
 use Rattle.std.proofs.Common.{arith, inl, inr, subst, ap, lit≤}
 use Rattle.std.proofs.lemmas.Option.{same_Some}
@@ -233,11 +233,12 @@ lawful = lawful_journal (journal entries) (record {
 abbrev heard : LaneId → WellView → NodeView
 heard lane well = record (before lane well) { told = Some (record { came = None ∷ []; went = [] }) }
 
-abbrev popped : WellView → WellView
-popped well = record well { received = well.received ++ stroke ∷ [] }
+-- the stroke was received, and then none was there so often
+abbrev popped : ℕ → WellView → WellView
+popped nones well = record well { received = well.received ++ stroke ∷ []; nones = well.nones + nones }
 
 abbrev drawn : LaneId → WellView → NodeView
-drawn lane well = record (heard lane well) { journal = journal (draws ∷ []); well = popped well }
+drawn lane well = record (heard lane well) { journal = journal (draws ∷ []); well = popped 1 well }
 
 abbrev ticked : LaneId → WellView → NodeView
 ticked lane well = record (drawn lane well) { journal = journal (draws ∷ sends ∷ []); told = Some (record { came = None ∷ []; went = bytes_to 1 one_bytes ∷ [] }) }
@@ -349,7 +350,7 @@ keeps_it = refl
 
 -- Memory ran out for the stroke, which is in hand then.
 abbrev cut : LaneId → WellView → NodeView
-cut lane well = record (heard lane well) { well = popped well; hand = Some stroke }
+cut lane well = record (heard lane well) { well = popped 0 well; hand = Some stroke }
 
 draws_none : (lane : LaneId) (well : WellView) → DrawsCut 1 (heard lane well) (cut lane well)
 draws_none lane well = record {

@@ -1,9 +1,9 @@
 //! Drawing what the pens sent.
 
-ghost use Rattle.std.specs.Prelude.{◌≡◌, ◌≤◌, true, option_to_list, MatchResult};
+ghost use Rattle.std.specs.Prelude.{◌≡◌, ◌≤◌, true, is_none, option_to_list, MatchResult};
 ghost use Rattle.srm_names.specs.declared.limits.TheConstants.{MOMENT};
 ghost use Rattle.srm_world.specs.Claims.{IsLawfulJournal};
-ghost use Rattle.srm_node.specs.Parts.{Pops, IsAdmitted, DrawsOne, DrewStrokes, DrewStrokesCut};
+ghost use Rattle.srm_node.specs.Parts.{Pops, once, IsAdmitted, DrawsOne, DrewStrokes, DrewStrokesCut};
 ghost use Rattle.srm_node.specs.Waits.{WaitsByWords};
 
 use crate::fault::{OutOfMemory, is_memory};
@@ -63,9 +63,9 @@ pub fn draw_strokes<R: Wait, W: Words + Drop, P: Past<Entry> + Drop>(
     (None, Ok(Drawn::new(DRAWN, false)))
 }
 
-// The stroke in hand, if there is one, else the front one of the well.
+// The stroke in hand, if there is one, else the front one of the well. None where the well had none.
 fn next_stroke<R: Wait>(rt: &R, well: &mut Well, hand: Option<Stroke>) -> Option<Stroke>
-    ensures { Pops well.old well.new (option_to_list hand) (option_to_list result) }
+    ensures { Pops (once (is_none result)) well.old well.new (option_to_list hand) (option_to_list result) }
 {
     match hand {
         Some(stroke) => Some(stroke),

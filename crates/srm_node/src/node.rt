@@ -6,6 +6,7 @@ ghost use Rattle.srm_node.specs.Counting.{counts_of};
 ghost use Rattle.srm_node.specs.Nodes.{Keeps, AreNewFeeds, IsNewJournal, IsNewNode, has_ended, recorded_in};
 ghost use Rattle.srm_node.specs.Parts.{is_due, still_asked};
 ghost use Rattle.srm_node.specs.Waits.{WaitsByWords};
+ghost use Rattle.srm_node.specs.Moments.{IsTold, GrowsAtTold};
 ghost use Rattle.srm_node.specs.Turns.{HearsNow, DrawsNow, LeavesNow, TicksNow, GivesNow, HearsCut, DrawsCut, GivesCut, TurnEnds, Paused, RunEnds};
 
 use crate::counting::{Counts, counts_in};
@@ -30,7 +31,7 @@ use std::marker::Model;
 use std::sync::Wait;
 
 /// A member that takes part in a session: its agent over a wire and a clock, the feeds of its page workers, and the well of its pens.
-/// Contracts see it as a record, and its source of words as it stands.
+/// Contracts see it as a record, and its source of words and its clock as they stand.
 #[derive(Drop)]
 pub struct Node<
     W: Words + Drop,
@@ -60,7 +61,7 @@ impl<W: Words + Drop, X: Wire + Drop, C: Clock + Drop, P: Past<Entry> + Drop> Mo
     ghost use Rattle.std.specs.Prelude.{vec_len};
     ghost use Rattle.srm_node.specs.Nodes.{NodeState, IsNode};
 
-    ghost Value = { NodeState W };
+    ghost Value = { NodeState W C };
 
     ghost view = { λ n. record {
       view = record {
@@ -73,6 +74,7 @@ impl<W: Words + Drop, X: Wire + Drop, C: Clock + Drop, P: Past<Entry> + Drop> Mo
         told = X.told n.wire;
       };
       words = n.recorder.words;
+      clock = n.clock;
     } };
 
     ghost invariant = { λ n. IsNode (record {
@@ -102,10 +104,11 @@ impl<W: Words + Drop, X: Wire + Drop, C: Clock + Drop> Node<W, X, C> {
         requires well { well.received ≡ [] }
         ensures value { IfOk result (λ node. IsNewNode config feeds.items well (X.failed wire) (X.told wire) node.view) }
         ensures words { IfOk result (λ node. node.words ≡ words) }
+        ensures clock { IfOk result (λ node. node.clock ≡ clock) }
+        ensures made { IfOk result (λ node. IsTold (C.tells clock) node.view.journal.start.made) }
     {
-        let now = clock.now().min(MOMENT);
-        let recorder = Recorder::new(alloc, config, words, now)?;
-        Node::over(alloc, config, recorder, wire, clock, feeds, well)
+        let past = Vec::new(alloc);
+        Node::with_past(alloc, config, words, wire, clock, feeds, well, past)
     }
 
     /// How much of what the member was given came to nothing so far. It takes no memory, and looks at all entries.
@@ -131,14 +134,39 @@ impl<W: Words + Drop, X: Wire + Drop, C: Clock + Drop> Node<W, X, C, Forgotten<E
         requires well { well.received ≡ [] }
         ensures value { IfOk result (λ node. IsNewNode config feeds.items well (X.failed wire) (X.told wire) node.view) }
         ensures words { IfOk result (λ node. node.words ≡ words) }
+        ensures clock { IfOk result (λ node. node.clock ≡ clock) }
+        ensures made { IfOk result (λ node. IsTold (C.tells clock) node.view.journal.start.made) }
     {
-        let now = clock.now().min(MOMENT);
-        let recorder = Recorder::forgetful(alloc, config, words, now)?;
-        Node::over(alloc, config, recorder, wire, clock, feeds, well)
+        let past = Forgotten::new();
+        Node::with_past(alloc, config, words, wire, clock, feeds, well, past)
     }
 }
 
 impl<W: Words + Drop, X: Wire + Drop, C: Clock + Drop, P: Past<Entry> + Drop> Node<W, X, C, P> {
+    /// As [`new`](Node::new), with a past of the caller's, which has no entry yet.
+    pub fn with_past(
+        alloc: Global,
+        config: Config,
+        words: W,
+        wire: X,
+        clock: C,
+        feeds: Vec<Feed>,
+        well: Well,
+        past: P,
+    ) -> Result<Node<W, X, C, P>, AllocError>
+        requires feeds { AreNewFeeds feeds.items }
+        requires well { well.received ≡ [] }
+        requires past { P.entries past ≡ [] }
+        ensures value { IfOk result (λ node. IsNewNode config feeds.items well (X.failed wire) (X.told wire) node.view) }
+        ensures words { IfOk result (λ node. node.words ≡ words) }
+        ensures clock { IfOk result (λ node. node.clock ≡ clock) }
+        ensures made { IfOk result (λ node. IsTold (C.tells clock) node.view.journal.start.made) }
+    {
+        let now = clock.now().min(MOMENT);
+        let recorder = Recorder::with_past(alloc, config, words, now, past)?;
+        Node::over(alloc, config, recorder, wire, clock, feeds, well)
+    }
+
     // A node over a recorder that did nothing yet.
     fn over(
         alloc: Global,
@@ -154,6 +182,8 @@ impl<W: Words + Drop, X: Wire + Drop, C: Clock + Drop, P: Past<Entry> + Drop> No
         requires well { well.received ≡ [] }
         ensures value { IfOk result (λ node. IsNewNode config feeds.items well (X.failed wire) (X.told wire) node.view) }
         ensures words { IfOk result (λ node. node.words ≡ recorder.words) }
+        ensures clock { IfOk result (λ node. node.clock ≡ clock) }
+        ensures journal { IfOk result (λ node. node.view.journal ≡ recorder.journal) }
     {
         Ok(Node {
             config,
@@ -190,7 +220,9 @@ impl<W: Words + Drop, X: Wire + Drop, C: Clock + Drop, P: Past<Entry> + Drop> No
     pub fn turn<R: Wait>(&mut self, rt: &R) -> Result<(), NodeFault>
         ensures keeps { Keeps self.new.view }
         ensures turns { TurnEnds result self.old.view self.new.view }
+        ensures moments { GrowsAtTold (C.tells self.old.clock) self.old.view self.new.view }
         ensures words { WaitsByWords W.draw (recorded_in self.old) (recorded_in self.new) }
+        ensures clock { self.new.clock ≡ self.old.clock }
     {
         let now = self.clock.now().min(MOMENT);
         let unheard = self.listen_now(now)?;
@@ -228,7 +260,9 @@ impl<W: Words + Drop, X: Wire + Drop, C: Clock + Drop, P: Past<Entry> + Drop> No
     pub fn run<R: Wait>(&mut self, rt: &R, turns: u64) -> Result<(), NodeFault>
         ensures keeps { Keeps self.new.view }
         ensures runs { RunEnds result turns self.old.view self.new.view }
+        ensures moments { GrowsAtTold (C.tells self.old.clock) self.old.view self.new.view }
         ensures words { WaitsByWords W.draw (recorded_in self.old) (recorded_in self.new) }
+        ensures clock { self.new.clock ≡ self.old.clock }
     {
         let _ = &self.feeds;
         for done in 0..turns {
@@ -261,6 +295,7 @@ impl<W: Words + Drop, X: Wire + Drop, C: Clock + Drop, P: Past<Entry> + Drop> No
         ensures keeps { Keeps self.new.view }
         ensures paused { Paused self.old.view self.new.view }
         ensures words { self.new.words ≡ self.old.words }
+        ensures clock { self.new.clock ≡ self.old.clock }
     {
         let now = self.clock.now().min(MOMENT);
         let due = earlier(self.recorder.next_due(), self.hand_due());
@@ -282,6 +317,7 @@ impl<W: Words + Drop, X: Wire + Drop, C: Clock + Drop, P: Past<Entry> + Drop> No
         ensures keeps { Keeps self.new.view }
         ensures hears { MatchResult result (λ unheard. HearsNow now unheard self.old.view self.new.view) (λ _. HearsCut now self.old.view self.new.view) }
         ensures words { WaitsByWords W.draw (recorded_in self.old) (recorded_in self.new) }
+        ensures clock { self.new.clock ≡ self.old.clock }
     {
         let listened = listen(
             &mut self.recorder,
@@ -302,6 +338,7 @@ impl<W: Words + Drop, X: Wire + Drop, C: Clock + Drop, P: Past<Entry> + Drop> No
         ensures keeps { Keeps self.new.view }
         ensures draws { MatchResult result (λ none_left. DrawsNow now none_left self.old.view self.new.view) (λ _. DrawsCut now self.old.view self.new.view) }
         ensures words { WaitsByWords W.draw (recorded_in self.old) (recorded_in self.new) }
+        ensures clock { self.new.clock ≡ self.old.clock }
     {
         let hand = self.hand.take();
         let (kept, drew) = draw_strokes(rt, &mut self.recorder, &mut self.well, hand, now);
@@ -319,6 +356,7 @@ impl<W: Words + Drop, X: Wire + Drop, C: Clock + Drop, P: Past<Entry> + Drop> No
         ensures keeps { Keeps self.new.view }
         ensures leaves { MatchResult result (λ _. LeavesNow now none_left self.old.view self.new.view) (λ _. self.new.view ≡ self.old.view) }
         ensures words { WaitsByWords W.draw (recorded_in self.old) (recorded_in self.new) }
+        ensures clock { self.new.clock ≡ self.old.clock }
     {
         let due = done & is_due(self.asked, now);
         let leaves = none_left & due;
@@ -333,6 +371,7 @@ impl<W: Words + Drop, X: Wire + Drop, C: Clock + Drop, P: Past<Entry> + Drop> No
         ensures keeps { Keeps self.new.view }
         ensures ticks { MatchResult result (λ unsent. TicksNow now unsent self.old.view self.new.view) (λ _. self.new.view ≡ self.old.view) }
         ensures words { WaitsByWords W.draw (recorded_in self.old) (recorded_in self.new) }
+        ensures clock { self.new.clock ≡ self.old.clock }
     {
         let Ok(ticked) = tick(&mut self.recorder, now) else {
             return Err(OutOfMemory);
@@ -350,6 +389,7 @@ impl<W: Words + Drop, X: Wire + Drop, C: Clock + Drop, P: Past<Entry> + Drop> No
         ensures keeps { Keeps self.new.view }
         ensures gives { MatchResult result (λ _. GivesNow PAGES self.old.view self.new.view) (λ _. GivesCut self.old.view self.new.view) }
         ensures words { WaitsByWords W.draw (recorded_in self.old) (recorded_in self.new) }
+        ensures clock { self.new.clock ≡ self.old.clock }
     {
         give_all(rt, &mut self.recorder, &mut self.feeds, &mut self.closed)
     }

@@ -73,15 +73,16 @@ abbrev pub TookOrEnded : Result PageMsg Ended → TapView → TapView → Type 0
 TookOrEnded (Ok x) old new = new ≡ record old { taken = old.taken ++ x ∷ []; seat = new.seat }
 TookOrEnded (Err e) old new = (e ≡ Closed) × (new ≡ old)
 
--- what the well's reader received, which well it is, and how many strokes it holds at most
+-- what the well's reader received, how often it found none, which well it is, and how many strokes it holds at most
 pub record WellView : Type 0 where
   pub received : List Stroke
+  pub nones : ℕ
   pub well : TableId
   pub capacity : ℕ
 
 -- the well with nothing received
 abbrev pub new_well : TableId → WellView
-new_well well = record { received = []; well = well; capacity = WELL_STROKES }
+new_well well = record { received = []; nones = 0; well = well; capacity = WELL_STROKES }
 
 -- the pen's place among all, what it sent, and into which well
 pub record PenView : Type 0 where

@@ -90,7 +90,7 @@ impl Feed {
     }
 }
 
-// The count after the next message. It waits for ever where there is none, since no lane carries so many.
+// The count after one more. It waits for ever where there is none: nothing happens so often.
 pub(crate) fn next_count<R: Wait>(rt: &R, count: u64) -> u64
     ensures { result ≡ count + 1 }
 {

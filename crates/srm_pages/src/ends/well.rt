@@ -1,10 +1,11 @@
 //! The reader's end of the well.
 
-ghost use Rattle.std.specs.Prelude.{◌≡◌, [], ◌∷◌, ◌++◌, true, List, MatchOption};
+ghost use Rattle.std.specs.Prelude.{◌≡◌, ◌+◌, [], ◌∷◌, ◌++◌, true, List, MatchOption};
 ghost use Rattle.srm_pages.specs.declared.stroke.Stroke.{Stroke};
 ghost use Rattle.srm_pages.specs.Ink.{KnowsPart, SentIs};
 ghost use Rattle.crossbeam_queue.specs.Passes.{view as knows, IsPassOf};
 
+use crate::feed::next_count;
 use crate::ink::{Beside, Ink, InkPass, PartOfPen, Reading, StrokeQueue};
 use crate::pen::Inked;
 use crate::stroke::Stroke;
@@ -13,11 +14,12 @@ use std::marker::Model;
 use std::sync::atomic::Ordering;
 use std::sync::{Arc, Wait};
 
-/// The reader's end of the well, with the token that has what was received. Contracts see that list.
+/// The reader's end of the well, with the token that has what was received. Contracts see that list, and how often it found none.
 #[derive(Drop)]
 pub struct Well {
     pub(crate) ink: Arc<Ink, Global>,
     pub(crate) pass: InkPass,
+    pub(crate) nones: u64,
 }
 
 impl Model for Well {
@@ -29,18 +31,22 @@ impl Model for Well {
     ghost use Rattle.std.specs.Arc.{arc_value};
     ghost use Rattle.crossbeam_queue.specs.Passes.{view as knows, ruled_capacity, IsPassOf};
 
-    ghost view = { λ w. record { received = (knows w.pass).received; well = w.pass.table_id; capacity = ruled_capacity (arc_value w.ink).queue } };
+    ghost view = { λ w. record { received = (knows w.pass).received; nones = w.nones; well = w.pass.table_id; capacity = ruled_capacity (arc_value w.ink).queue } };
 
     ghost invariant = { λ w. IsPassOf (arc_value w.ink).queue w.pass × ((knows w.pass).reads ≡ true) };
 }
 
 impl Well {
-    /// Receives the front stroke. None comes only if the well was empty, and then nothing changed.
+    /// Receives the front stroke. None comes only if the well was empty, and is counted; nothing else changed then.
     #[tactic(auto, using(crate::proofs::InkSteps::reads))]
     pub fn next<R: Wait>(&mut self, rt: &R) -> Option<Stroke>
-        ensures { MatchOption result (self.new ≡ self.old) (λ x. self.new ≡ record self.old { received = self.old.received ++ x ∷ [] }) }
+        ensures { MatchOption result (self.new ≡ record self.old { nones = self.old.nones + 1 }) (λ x. self.new ≡ record self.old { received = self.old.received ++ x ∷ [] }) }
     {
-        self.ink.queue.pop_as::<Reading, R>(rt, &mut self.pass)
+        let front = self.ink.queue.pop_as::<Reading, R>(rt, &mut self.pass);
+        if front.is_none() {
+            self.nones = next_count(rt, self.nones);
+        }
+        front
     }
 
     /// Puts a pen that is done beside the reader, and gives it back. What it sent is its part of what was received and then its part of

@@ -29,7 +29,14 @@ pub fn well(alloc: Global) -> Result<(ends::Well, Vec<Pen>), AllocError>
         },
     )?;
     let pens = all_pens(alloc, &ink, &mut pass)?;
-    Ok((ends::Well { ink, pass }, pens))
+    Ok((
+        ends::Well {
+            ink,
+            pass,
+            nones: 0,
+        },
+        pens,
+    ))
 }
 
 // Cuts the pens off the reader's pass.
