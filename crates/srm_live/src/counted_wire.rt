@@ -93,11 +93,13 @@ fn count_sent(
     }
 }
 
-// Counts what came, by whom it was sent.
+// Counts what came from another member of the session.
 fn count_came(tally: &Tally, alloc: Global, config: Config, bytes: &[u8]) {
-    match decode(alloc, config.session(), bytes) {
-        Ok(datagram) if is_of_other(config, &datagram) => tally.count_came(datagram.sender()),
-        _ => tally.count_noise(),
+    // As with what is sent, where memory is refused it isn't counted.
+    if let Ok(datagram) = decode(alloc, config.session(), bytes) {
+        if is_of_other(config, &datagram) {
+            tally.count_came(datagram.sender());
+        }
     }
 }
 

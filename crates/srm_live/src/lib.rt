@@ -26,6 +26,7 @@ mod tally;
 mod telling;
 mod typed;
 mod typing;
+mod watched;
 
 pub use living::run_live;
 pub use polled_input::PolledInput;

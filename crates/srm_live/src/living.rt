@@ -10,12 +10,11 @@ use crate::hosting::host_live;
 use crate::live_sink::{Printing, printing_sinks};
 use crate::tally::Tally;
 use crate::telling::{end_telling, start_telling};
-use srm_agent::Entry;
+use crate::watched::Watched;
 use srm_member::{MemberFault, Station};
 use srm_options::NodeOptions;
 use srm_script::Fault;
 use srm_udp::UdpWire;
-use srm_world::Forgotten;
 use std::alloc::Global;
 use std::io::{IsTerminal, Read, Write};
 use std::net::Net;
@@ -104,7 +103,7 @@ where
     let stay = options.stay;
     let turns = options.turns;
     let tally = tally_for(alloc, desk);
-    match bind(rt, alloc, options, share(&tally)) {
+    match bind(rt, alloc, options, &tally) {
         Ok(station) => {
             let telling = start_telling(rt, alloc, tally, others, desk);
             let run = host_live(rt, alloc, station, sinks, reader, stay, turns, desk);
@@ -136,8 +135,8 @@ fn bind<R>(
     rt: &R,
     alloc: Global,
     options: NodeOptions,
-    tally: Option<Arc<Tally, Global>>,
-) -> Result<Station<R, CountedWire<UdpWire>, Forgotten<Entry>>, MemberFault>
+    tally: &Option<Arc<Tally, Global>>,
+) -> Result<Station<R, CountedWire<UdpWire>, Watched>, MemberFault>
 where
     R: Net + time::Clock + Copy + Drop,
     ensures { IfOk result (λ s. vec_len s.taps ≡ PAGES) }
@@ -147,8 +146,9 @@ where
     let addresses = mem::replace(&mut options.addresses, Vec::new(alloc));
     match UdpWire::bind(rt, alloc, options.config.me(), addresses) {
         Ok(wire) => {
-            let wire = CountedWire::new(wire, alloc, options.config, tally);
-            Station::forgetful(rt, alloc, &options, wire)
+            let wire = CountedWire::new(wire, alloc, options.config, share(tally));
+            let past = Watched::new(alloc, share(tally));
+            Station::with_past(rt, alloc, &options, wire, past)
         }
         Err(error) => Err(MemberFault::of_binding(error)),
     }

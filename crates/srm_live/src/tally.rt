@@ -1,19 +1,21 @@
-//! What passed a member's wire, counted.
+//! What a member goes through, counted.
 
 use srm_codec::Datagram;
 use srm_names::Member;
 use std::fmt;
-use std::sync::atomic::{AtomicU32, AtomicU64, Ordering};
+use std::sync::atomic::{AtomicU32, AtomicU64, AtomicUsize, Ordering};
 
-/// What passed a member's wire so far. One thread counts, and any reads. Counts wrap at 2^64.
+/// What passed a member's wire so far, and what its agent made of it. One thread counts, and any reads. Counts wrap at 2^64.
 #[derive(Drop)]
 pub struct Tally {
     // A bit for each member that was heard.
     heard: AtomicU32,
+    missing: AtomicUsize,
     sent: AtomicU64,
     came: AtomicU64,
     requests: AtomicU64,
     repairs: AtomicU64,
+    ignored: AtomicU64,
     noise: AtomicU64,
 }
 
@@ -22,10 +24,12 @@ impl Tally {
     pub fn new() -> Tally {
         Tally {
             heard: AtomicU32::new(0),
+            missing: AtomicUsize::new(0),
             sent: AtomicU64::new(0),
             came: AtomicU64::new(0),
             requests: AtomicU64::new(0),
             repairs: AtomicU64::new(0),
+            ignored: AtomicU64::new(0),
             noise: AtomicU64::new(0),
         }
     }
@@ -49,20 +53,32 @@ impl Tally {
         );
     }
 
-    /// Counts what came and is no datagram of another member of the session.
+    /// So many drawops are missing now.
+    pub fn show_missing(&self, count: usize) {
+        self.missing.store(count, Ordering::SeqCst);
+    }
+
+    /// Counts a datagram that the agent ignored.
+    pub fn count_ignored(&self) {
+        add_one(&self.ignored);
+    }
+
+    /// Counts what came and is noise to the agent.
     pub fn count_noise(&self) {
         add_one(&self.noise);
     }
 
-    /// What passed so far, in a session of so many others.
+    /// What goes on by now, in a session of so many others.
     pub fn status(&self, others: u8) -> Status {
         Status {
             others,
             heard: self.heard.load(Ordering::SeqCst).count_ones(),
+            missing: self.missing.load(Ordering::SeqCst),
             sent: self.sent.load(Ordering::SeqCst),
             came: self.came.load(Ordering::SeqCst),
             requests: self.requests.load(Ordering::SeqCst),
             repairs: self.repairs.load(Ordering::SeqCst),
+            ignored: self.ignored.load(Ordering::SeqCst),
             noise: self.noise.load(Ordering::SeqCst),
         }
     }
@@ -72,27 +88,32 @@ fn add_one(count: &AtomicU64) {
     count.fetch_add(1, Ordering::SeqCst);
 }
 
-/// What passed a member's wire. Its text is the line for what goes on.
+/// What passed a member's wire, and what its agent made of it. Its text is the line for what goes on.
 #[derive(Clone, Copy, Debug, PartialEq, Eq)]
 pub struct Status {
     /// How many other members the session has, and of how many a datagram came.
     pub others: u8,
     pub heard: u32,
+    /// The drawops that the member misses now.
+    pub missing: usize,
     /// The datagrams that were sent, and those that came from others.
     pub sent: u64,
     pub came: u64,
     /// The requests and the repairs among those that were sent.
     pub requests: u64,
     pub repairs: u64,
-    /// What came and is no datagram of another member of the session.
+    /// The datagrams that the agent ignored.
+    pub ignored: u64,
+    /// What came and is no datagram of the session, or came to a member that is gone.
     pub noise: u64,
 }
 
 impl fmt::Display for Status {
     fn fmt<W: fmt::Write>(&self, f: &mut fmt::Formatter<W>) -> fmt::Result {
         write!(f, "srm: heard {} of {}, ", self.heard, self.others)?;
+        write!(f, "missing {}, ", self.missing)?;
         write!(f, "sent {}, came {}, ", self.sent, self.came)?;
         write!(f, "asked {}, repaired {}, ", self.requests, self.repairs)?;
-        write!(f, "noise {}", self.noise)
+        write!(f, "ignored {}, noise {}", self.ignored, self.noise)
     }
 }

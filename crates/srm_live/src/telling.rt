@@ -58,7 +58,7 @@ pub fn end_telling<R: Threads>(rt: &R, telling: Option<JoinHandle<()>>) {
     }
 }
 
-// Shows each second what passed the member's wire, in a session of so many others, until the node has ended. A line for which memory is refused
+// Shows each second what goes on, in a session of so many others, until the node has ended. A line for which memory is refused
 // is left out.
 fn tell_status<R: Clock + Wait, O: Write, E: Write>(
     rt: &R,

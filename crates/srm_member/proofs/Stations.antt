@@ -9,10 +9,10 @@ use Rattle.srm_node.specs.Nodes.{NodeState, IsNewNode}
 use Rattle.srm_node.specs.Hosting.{AreEndsOfLanes}
 use Rattle.srm_member.specs.Stations.{IsNewStation}
 
-pub new_station : {W : Type 0} (config : Config) (stay : ℕ) (feeds : List FeedView) (well : WellView) (failures : ℕ) (told : Option Told) (old new : NodeState W) (taps : List TapView) (pens : List PenView)
+pub new_station : {W C : Type 0} (config : Config) (stay : ℕ) (feeds : List FeedView) (well : WellView) (failures : ℕ) (told : Option Told) (old new : NodeState W C) (taps : List TapView) (pens : List PenView)
     → IsNewNode config feeds well failures told old.view → failures ≡ 0 → new ≡ record old { view = record old.view { asked = Some stay } } → length taps ≡ PAGES → AreEndsOfLanes feeds taps → AreNewPens well.well pens → IsNewStation config stay told new.view taps pens
-new_station {W} config stay feeds well failures told old new taps pens made none asked slots lanes pens_are =
-    subst (λ (s : NodeState W). IsNewStation config stay told s.view taps pens) (sym asked) (rw made.is (record {
+new_station {W} {C} config stay feeds well failures told old new taps pens made none asked slots lanes pens_are =
+    subst (λ (s : NodeState W C). IsNewStation config stay told s.view taps pens) (sym asked) (rw made.is (record {
       new = record { made = made.made; is = rw none refl };
       asked = refl;
       slots = slots;

@@ -21,7 +21,7 @@ use srm_script::Fault;
 use srm_timers::Pcg;
 use srm_udp::{SystemClock, UdpWire};
 use srm_wire::Wire;
-use srm_world::{Forgotten, Past};
+use srm_world::Past;
 use std::alloc::{AllocError, Global};
 use std::net::Net;
 use std::sync::Wait;
@@ -57,7 +57,7 @@ impl<R: time::Clock + Copy + Drop> Station<R> {
             ..
         } = options;
         match UdpWire::bind(rt, alloc, config.me(), addresses) {
-            Ok(wire) => Station::new(rt, alloc, config, start, stay, wire),
+            Ok(wire) => Station::new(rt, alloc, config, start, stay, wire, Vec::new(alloc)),
             Err(error) => Err(MemberFault::of_binding(error)),
         }
     }
@@ -75,30 +75,7 @@ impl<R: time::Clock + Copy + Drop, X: Wire + Drop> Station<R, X> {
         requires { X.failed wire ≡ 0 }
         ensures { IfOk result (λ s. IsNewStation options.now.config options.now.stay (X.told wire) s.node.view s.taps.items s.pens.items) }
     {
-        Station::new(rt, alloc, options.config, options.start, options.stay, wire)
-    }
-
-    fn new(
-        rt: &R,
-        alloc: Global,
-        config: Config,
-        start: u64,
-        stay: u64,
-        wire: X,
-    ) -> Result<Station<R, X>, MemberFault>
-        requires { X.failed wire ≡ 0 }
-        ensures { IfOk result (λ s. IsNewStation config stay (X.told wire) s.node.view s.taps.items s.pens.items) }
-    {
-        let Parts {
-            clock,
-            feeds,
-            taps,
-            well,
-            pens,
-        } = make_parts(rt, alloc)?;
-        let mut node = Node::new(alloc, config, Pcg::new(start), wire, clock, feeds, well)?;
-        node.ask_leave(stay);
-        Ok(Station { node, taps, pens })
+        Station::with_past(rt, alloc, options, wire, Vec::new(alloc))
     }
 
     /// Runs the node in this thread, and its page workers and its pens, in threads of their own, until all have ended. The k-th pen draws the k-th list of bodies; more lists than
@@ -130,16 +107,42 @@ impl<R: time::Clock + Copy + Drop, X: Wire + Drop> Station<R, X> {
     }
 }
 
-impl<R: time::Clock + Copy + Drop, X: Wire + Drop> Station<R, X, Forgotten<Entry>> {
-    /// The same as [`over`](Station::over), of a node that keeps no entry, for a member that runs for days.
-    pub fn forgetful(
+impl<R: time::Clock + Copy + Drop, X: Wire + Drop, P: Past<Entry> + Drop> Station<R, X, P> {
+    /// The same as [`over`](Station::over), of a node with a past of the caller's, which has no entry yet.
+    pub fn with_past(
         rt: &R,
         alloc: Global,
         options: &NodeOptions,
         wire: X,
-    ) -> Result<Station<R, X, Forgotten<Entry>>, MemberFault>
-        requires { X.failed wire ≡ 0 }
+        past: P,
+    ) -> Result<Station<R, X, P>, MemberFault>
+        requires wire { X.failed wire ≡ 0 }
+        requires past { P.entries past ≡ [] }
         ensures { IfOk result (λ s. IsNewStation options.now.config options.now.stay (X.told wire) s.node.view s.taps.items s.pens.items) }
+    {
+        Station::new(
+            rt,
+            alloc,
+            options.config,
+            options.start,
+            options.stay,
+            wire,
+            past,
+        )
+    }
+
+    fn new(
+        rt: &R,
+        alloc: Global,
+        config: Config,
+        start: u64,
+        stay: u64,
+        wire: X,
+        past: P,
+    ) -> Result<Station<R, X, P>, MemberFault>
+        requires wire { X.failed wire ≡ 0 }
+        requires past { P.entries past ≡ [] }
+        ensures { IfOk result (λ s. IsNewStation config stay (X.told wire) s.node.view s.taps.items s.pens.items) }
     {
         let Parts {
             clock,
@@ -148,16 +151,9 @@ impl<R: time::Clock + Copy + Drop, X: Wire + Drop> Station<R, X, Forgotten<Entry
             well,
             pens,
         } = make_parts(rt, alloc)?;
-        let mut node = Node::forgetful(
-            alloc,
-            options.config,
-            Pcg::new(options.start),
-            wire,
-            clock,
-            feeds,
-            well,
-        )?;
-        node.ask_leave(options.stay);
+        let words = Pcg::new(start);
+        let mut node = Node::with_past(alloc, config, words, wire, clock, feeds, well, past)?;
+        node.ask_leave(stay);
         Ok(Station { node, taps, pens })
     }
 }

@@ -40,9 +40,9 @@ With --live each line is drawn as it is typed, by one pen and however many there
 are, and each line above is printed as it is taken. A line that is too long is
 told on standard error and not drawn. The member stays on at the end of input, and
 then leaves; so it does where its output is closed. On a terminal, standard error
-shows each second how many of the others were heard, how many datagrams were sent
-and came, how many of those sent were requests and repairs, and how much came that
-is no datagram of another member.
+shows each second how many of the others were heard, how many drawops are missing,
+how many datagrams were sent and came, how many of those sent were requests and
+repairs, and how many of those that came were ignored or noise.
 
 Status: 0; 1 for a line that is too long or an input of more than 1000000 bytes,
 but not with --live, or for a stream that fails; 2 for a wrong command line; 3

@@ -44,7 +44,7 @@ where
 fn a_line_on_a_terminal_stands_where_nothing_else_does(rt: HostRuntime) -> Result<(), Fail> {
     let terminal = typed_on_terminal(&rt)?;
     for text in [
-        "\r\u{1b}[Ksrm: heard 0 of 0, sent 0, came 0, asked 0, repaired 0, noise 0\r\u{1b}[Kline 1: bad\n",
+        "\r\u{1b}[Ksrm: heard 0 of 0, missing 0, sent 0, came 0, asked 0, repaired 0, ignored 0, noise 0\r\u{1b}[Kline 1: bad\n",
         "took 0 0 draw 0 1 two\n",
         "noise 0\r\u{1b}[Ktook 0 0 draw 0 2 three\n",
     ] {
@@ -70,8 +70,8 @@ const ASKS: [u8; 21] = [
     0, 0, 0, 1,
 ];
 
-/// Member 0 of three, which is the input of member 1 too. It types two lines. Once it has them it asks for them again and sends its second drawop, beside noise;
-/// and its first once that is asked for. The input ends once the terminal shows all that came of it, or fails after 10,000 looks.
+/// Member 0 of three, which is the input of member 1 too. It types two lines. Once it has them it asks for them again and sends its second drawop, beside noise and what is ignored;
+/// and its first once that was asked for and the terminal shows that it is missing. The input ends once the terminal shows all that came of it, or fails after 10,000 looks.
 #[derive(Drop)]
 struct Peer<R: Wait + Drop> {
     rt: R,
@@ -82,12 +82,18 @@ struct Peer<R: Wait + Drop> {
     looks: u32,
     strokes: u32,
     came: u64,
+    requests: u64,
+    is_repaired: bool,
 }
 
 impl<R: Wait + Drop> Peer<R> {
-    /// Sends the second drawop and the requests, and four that count as noise: no datagram, of another session, of member 1 itself and of nobody.
+    /// Sends the second drawop and the requests, two that are noise, no datagram and one of another session, and three that are ignored: the second drawop with another body,
+    /// and data of member 1 itself and of nobody.
     fn send_all(&self) -> io::Result<()> {
-        self.socket.send_to(&data(7, 0, 2), self.to)?;
+        let mut second = data(7, 0, 2);
+        self.socket.send_to(&second, self.to)?;
+        second[28] = b'o';
+        self.socket.send_to(&second, self.to)?;
         self.socket.send_to(&ASKS, self.to)?;
         self.socket.send_to(b"noise", self.to)?;
         self.send_strange()
@@ -104,13 +110,23 @@ impl<R: Wait + Drop> Peer<R> {
     fn answer(&mut self, kind: u8) -> io::Result<()> {
         self.came = self.came.saturating_add(1);
         if kind == 2 {
-            self.socket.send_to(&data(7, 0, 1), self.to)?;
+            self.requests = self.requests.saturating_add(1);
         }
         if kind == 1 {
             self.strokes = self.strokes.saturating_add(1);
             if self.strokes == 2 {
                 return self.send_all();
             }
+        }
+        Ok(())
+    }
+
+    /// Sends the first drawop, if it was asked for and is shown as missing.
+    fn repair(&mut self) -> io::Result<()> {
+        let is_missed = self.requests > 0 && has(&self.rt, &self.terminal, "missing 1, ");
+        if is_missed && !self.is_repaired {
+            self.is_repaired = true;
+            self.socket.send_to(&data(7, 0, 1), self.to)?;
         }
         Ok(())
     }
@@ -127,11 +143,12 @@ impl<R: Wait + Drop> Peer<R> {
         Ok(())
     }
 
-    /// Whether the terminal shows what came so far: of this member alone, and three datagrams of it; one request and two repairs.
+    /// Whether the terminal shows what came so far: of this member alone, and four datagrams of it; as many requests as it heard, and two repairs.
     fn is_shown(&self) -> io::Result<bool> {
         let came = self.came;
+        let asked = self.requests;
         let line = format!(in self.alloc;
-            "srm: heard 1 of 2, sent {came}, came 3, asked 1, repaired 2, noise 4"
+            "srm: heard 1 of 2, missing 0, sent {came}, came 4, asked {asked}, repaired 2, ignored 3, noise 2"
         )?;
         Ok(ends_with(&self.rt, &self.terminal, line.as_str()))
     }
@@ -145,6 +162,7 @@ impl<R: Wait + Drop> Read for Peer<R> {
             return lines.read(buffer);
         }
         self.hear()?;
+        self.repair()?;
         if self.is_shown()? {
             return Ok(0);
         }
@@ -177,6 +195,8 @@ where
         looks: 0,
         strokes: 0,
         came: 0,
+        requests: 0,
+        is_repaired: false,
     };
     let to_out = output_in(rt, alloc, &out, GIVEN)?;
     let to_err = keep_in(rt, &err, true)?;
