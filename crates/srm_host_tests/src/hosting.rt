@@ -43,6 +43,7 @@ fn a_worker_that_stops_holds_its_lane(rt: HostRuntime) {
     let mut wanted = [(1, WorkEnd::Closed); 8];
     wanted[0] = (1, WorkEnd::Stopped);
     let gave = assert_hosted(&rt, hosted, Err(NodeFault::Turns), 0, &wanted);
+    assert!(rt; gave.count >= 64);
     assert!(rt; gave.count <= 65);
     assert!(rt; !gave.closed);
 }

@@ -40,26 +40,28 @@ impl PageSink for Plain {
     }
 }
 
-/// A sink of slot 0 that waits until the one of slot 1 got a drawop, for at most 10,000 pauses of 1,000 microseconds.
+/// A sink of slot 0 that waits until the one of slot 1 got a drawop, for at most 10,000 pauses of 1,000 microseconds. It stops where it waited in vain.
 #[derive(Drop)]
 pub(crate) struct Held<R: Clock + Drop> {
     rt: R,
     drawn: Arc<AtomicU64, Global>,
 }
 
-fn hold<R: Clock>(rt: &R, drawn: &AtomicU64) {
+// Whether the sink of slot 1 got a drawop meanwhile.
+fn hold<R: Clock>(rt: &R, drawn: &AtomicU64) -> bool {
     for _ in 0..10_000 {
         if drawn.load(Ordering::SeqCst) > 0 {
-            return;
+            return true;
         }
         thread::sleep(rt, Duration::from_micros(1_000));
     }
+    false
 }
 
 impl<R: Clock + Drop> PageSink for Held<R> {
     fn message(&mut self, slot: u8, message: &PageMsg) -> bool {
-        if slot == 0 {
-            hold(&self.rt, &self.drawn);
+        if slot == 0 && !hold(&self.rt, &self.drawn) {
+            return false;
         }
         if slot == 1 && matches!(message, PageMsg::Draw(_)) {
             self.drawn.fetch_add(1, Ordering::SeqCst);
