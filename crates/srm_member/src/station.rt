@@ -57,7 +57,7 @@ impl<R: time::Clock + Copy + Drop> Station<R> {
             ..
         } = options;
         match UdpWire::bind(rt, alloc, config.me(), addresses) {
-            Ok(wire) => Station::new(rt, alloc, config, start, stay, wire, Vec::new(alloc)),
+            Ok(wire) => Station::new(rt, alloc, config, start, stay, wire),
             Err(error) => Err(MemberFault::of_binding(error)),
         }
     }
@@ -75,7 +75,30 @@ impl<R: time::Clock + Copy + Drop, X: Wire + Drop> Station<R, X> {
         requires { X.failed wire ≡ 0 }
         ensures { IfOk result (λ s. IsNewStation options.now.config options.now.stay (X.told wire) s.node.view s.taps.items s.pens.items) }
     {
-        Station::with_past(rt, alloc, options, wire, Vec::new(alloc))
+        Station::new(rt, alloc, options.config, options.start, options.stay, wire)
+    }
+
+    fn new(
+        rt: &R,
+        alloc: Global,
+        config: Config,
+        start: u64,
+        stay: u64,
+        wire: X,
+    ) -> Result<Station<R, X>, MemberFault>
+        requires { X.failed wire ≡ 0 }
+        ensures { IfOk result (λ s. IsNewStation config stay (X.told wire) s.node.view s.taps.items s.pens.items) }
+    {
+        let Parts {
+            clock,
+            feeds,
+            taps,
+            well,
+            pens,
+        } = make_parts(rt, alloc)?;
+        let mut node = Node::new(alloc, config, Pcg::new(start), wire, clock, feeds, well)?;
+        node.ask_leave(stay);
+        Ok(Station { node, taps, pens })
     }
 
     /// Runs the node in this thread, and its page workers and its pens, in threads of their own, until all have ended. The k-th pen draws the k-th list of bodies; more lists than
@@ -120,30 +143,6 @@ impl<R: time::Clock + Copy + Drop, X: Wire + Drop, P: Past<Entry> + Drop> Statio
         requires past { P.entries past ≡ [] }
         ensures { IfOk result (λ s. IsNewStation options.now.config options.now.stay (X.told wire) s.node.view s.taps.items s.pens.items) }
     {
-        Station::new(
-            rt,
-            alloc,
-            options.config,
-            options.start,
-            options.stay,
-            wire,
-            past,
-        )
-    }
-
-    fn new(
-        rt: &R,
-        alloc: Global,
-        config: Config,
-        start: u64,
-        stay: u64,
-        wire: X,
-        past: P,
-    ) -> Result<Station<R, X, P>, MemberFault>
-        requires wire { X.failed wire ≡ 0 }
-        requires past { P.entries past ≡ [] }
-        ensures { IfOk result (λ s. IsNewStation config stay (X.told wire) s.node.view s.taps.items s.pens.items) }
-    {
         let Parts {
             clock,
             feeds,
@@ -151,9 +150,17 @@ impl<R: time::Clock + Copy + Drop, X: Wire + Drop, P: Past<Entry> + Drop> Statio
             well,
             pens,
         } = make_parts(rt, alloc)?;
-        let words = Pcg::new(start);
-        let mut node = Node::with_past(alloc, config, words, wire, clock, feeds, well, past)?;
-        node.ask_leave(stay);
+        let mut node = Node::with_past(
+            alloc,
+            options.config,
+            Pcg::new(options.start),
+            wire,
+            clock,
+            feeds,
+            well,
+            past,
+        )?;
+        node.ask_leave(options.stay);
         Ok(Station { node, taps, pens })
     }
 }
