@@ -1,6 +1,6 @@
 #!/bin/sh
-# How much memory a member holds that has nothing to do, in KiB: once it has begun, and each minute since. It turns a hundred times a
-# second at least, so 100,000 turns take 17 minutes. Usage: ./idle.sh [MINUTES [FORM]]: 17 minutes if left out; the form is live, or kept for
+# How much memory a member holds that has nothing to do, in KiB: once it has begun, and each minute since. It turns nearly a hundred
+# times a second, so 100,000 turns take 17 to 18 minutes. Usage: ./idle.sh [MINUTES [FORM]]: 17 minutes if left out; the form is live, or kept for
 # a member that keeps its journal.
 set -u
 here=$(CDPATH='' cd -- "$(dirname -- "$0")" && pwd) || exit 1
