@@ -1,6 +1,6 @@
 -- A tick of a member that isn't gone, from what is due to its entry.
 use Rattle.std.proofs.Common.{◌≡◌, ℕ, ◌+◌, ◌==◌, ◌<◌, ◌≤◌, max, Bool, true, false, not, ◌||◌, List, [], ◌∷◌, ◌++◌, map, length, refl, ap, sym, ◌∙◌, subst, arith}
-use Rattle.std.specs.Prelude.{Option, Some, None, option_map, option_to_list, nat_le, IfSome, Ok, if◌then◌else◌}
+use Rattle.std.specs.Prelude.{Option, Some, None, option_map, option_to_list, nat_le, IfSome, if◌then◌else◌}
 use Rattle.std.specs.List.{list_any, AllByRecursion}
 use Rattle.std.proofs.lemmas.List.{map-append}
 use Rattle.srm_codec.specs.declared.datagram.Datagram.{Datagram}
@@ -32,8 +32,8 @@ use Rattle.srm_agent_parts.specs.Outs.{IsOut, IsOutgoing, IsOwn, AreOwn}
 use Rattle.srm_agent_parts.specs.TimerCalls.{TicksWith, TimersAdd, TimersStay}
 use Rattle.srm_outbox.specs.Answering.{AreAnswers}
 use Rattle.srm_outbox.specs.Outbox.{WentContent}
-use Rattle.srm_agent.specs.Noting.{Enters, Stays, AnswersAs, IsTicked}
-use Rattle.srm_agent.specs.Ticking.{tick_entry, IsReportAt, IsReportIf, IsDue, HandsOut, SendsAll, data_waits, last_report, state_after, due_then}
+use Rattle.srm_agent.specs.Noting.{Stays}
+use Rattle.srm_agent.specs.Ticking.{TicksAs, datagrams_of, tick_entry, IsReportAt, IsReportIf, IsDue, HandsOut, SendsAll, data_waits, last_report, state_after, due_then}
 use Rattle.srm_outbox.proofs.Handing.{all-append}
 use Rattle.srm_entries.proofs.Ending.{ending_of, ending_is, EndsIn, NoSessions, charged_is, due_by}
 use Rattle.srm_agent.proofs.Sent.{bucket_ticks}
@@ -319,27 +319,6 @@ acts_fits draw a b d f z moment due arms went last outs c made past s h =
       state = state_right;
     }
 
--- the entry of the tick
-pub acts_enters : {W : Type 0} (draw : W → ℕ × W) (a b d f z : Content W) (moment : ℕ) (due : Due) (arms arms' : List Arm) (went : WentContent) (last : Option Report) (outs : List Datagram) (e : Entry)
-    → Acts draw a b d f z moment due arms went last outs → arms' ≡ arms → e ≡ tick_entry z.config.me moment due.noted.asks due.noted.fixes arms' outs z.state → Enters draw (Some moment) Ticked a z e
-acts_enters draw a b d f z moment due arms arms' went last outs e s same is = record {
-  input_is = ap (λ x. x.input) is;
-  moment_is = ap (λ x. x.moment) is ∙ at_last a.last moment s.later;
-  fits = λ c made past h. subst (λ x. Fits c made (past ++ x ∷ []) z) (sym (is ∙ entry_is ∙ ap (λ k. tick_entry k.me moment due.handed.asks due.handed.fixes arms outs z.state) (z_config ∙ h.config))) (acts_fits draw a b d f z moment due arms went last outs c made past s h);
-  words = subst (λ as_. AreDrawn draw (low_of a.config) (high_of a.config) a.words as_ z.words) (sym (ap (λ x. x.effects.arms) is ∙ same))
-      (subst (λ w. AreDrawn draw (low_of a.config) (high_of a.config) a.words arms w) (sym (ap (λ x. x.words) s.ended ∙ ap (λ x. x.words) s.sent_rest))
-      (subst (λ k. AreDrawn draw (low_of k) (high_of k) a.words arms d.words) (ap (λ x. x.config) s.room) (subst (λ w. AreDrawn draw (low_of b.config) (high_of b.config) w arms d.words) (ap (λ x. x.words) s.room) s.handed.drawn)));
-}
-  where
-    at_last : (last moment : ℕ) → last ≤ moment → moment ≡ max moment last
-    at_last last moment late = omega (arith, late)
-
-    z_config : z.config ≡ a.config
-    z_config = ap (λ x. x.config) s.ended ∙ ap (λ x. x.config) s.sent_rest ∙ ap (λ x. x.config) s.handed_rest ∙ ap (λ x. x.config) s.room
-
-    entry_is : tick_entry z.config.me moment due.noted.asks due.noted.fixes arms' outs z.state ≡ tick_entry z.config.me moment due.handed.asks due.handed.fixes arms outs z.state
-    entry_is = ap (λ n. tick_entry z.config.me moment n.asks n.fixes arms' outs z.state) s.due_is.noted ∙ ap (λ as_. tick_entry z.config.me moment due.handed.asks due.handed.fixes as_ outs z.state) same
-
 -- what is answered
 
 sent_outs : (me session : ℕ) (items : List Outgoing) → AllByRecursion (IsOwn me session) items → map (λ (x : Out). x.datagram) (map (λ (o : Outgoing). o.out) items) ≡ map (λ (o : Outgoing). o.noted) items
@@ -358,24 +337,18 @@ last_spelled : (session : ℕ) (last : Option Report) → IfSome last (λ r. IsO
 last_spelled session None h = tt
 last_spelled session (Some r) h = (h.out, tt)
 
-pub acts_answer : {W : Type 0} (draw : W → ℕ × W) (a b d f z : Content W) (moment : ℕ) (due : Due) (arms arms' : List Arm) (went : WentContent) (last : Option Report) (outs : List Datagram) (answered : List Out) (e : Entry)
-    → Acts draw a b d f z moment due arms went last outs → arms' ≡ arms → answered ≡ went.outs ++ option_to_list (option_map out_of last)
-    → e ≡ tick_entry z.config.me moment due.noted.asks due.noted.fixes arms' outs z.state
-    → AnswersAs (IsTicked a.config.session e) e.verdict (Ok (record { asks = due.handed.asks; fixes = due.handed.fixes; arms = arms; outs = answered; state = z.state }))
-acts_answer draw a b d f z moment due arms arms' went last outs answered e s same is_answered is =
-    subst (λ (x : Entry). AnswersAs (IsTicked a.config.session x) x.verdict (Ok (record { asks = due.handed.asks; fixes = due.handed.fixes; arms = arms; outs = answered; state = z.state }))) (sym is) (record {
-      asks = ap (λ n. n.asks) (sym s.due_is.noted);
-      fixes = ap (λ n. n.fixes) (sym s.due_is.noted);
-      arms = sym same;
-      outs = ap (map (λ (x : Out). x.datagram)) is_answered ∙ map-append (λ (x : Out). x.datagram) went.outs (option_to_list (option_map out_of last))
-          ∙ ap (λ xs. map (λ (x : Out). x.datagram) xs ++ map (λ (x : Out). x.datagram) (option_to_list (option_map out_of last))) s.sent.lets.outs
-          ∙ ap (λ gs. gs ++ map (λ (x : Out). x.datagram) (option_to_list (option_map out_of last))) (sent_outs d.config.me d.config.session s.sent.lets.items own ∙ sym s.sent.lets.noted)
-          ∙ ap (λ gs. went.noted ++ gs) (last_out a.config.session last ending) ∙ sym s.outs_are;
-      spelled = subst (AllByRecursion (IsOut a.config.session)) (sym is_answered) (all-append (IsOut a.config.session) went.outs (option_to_list (option_map out_of last))
-          (subst (AllByRecursion (IsOut a.config.session)) (sym s.sent.lets.outs) (subst (λ n. AllByRecursion (IsOut n) (map (λ (o : Outgoing). o.out) s.sent.lets.items)) (ap (λ k. k.session) d_config) (sent_spelled d.config.me d.config.session s.sent.lets.items own)))
-          (last_spelled a.config.session last ending));
-      state = refl;
-    })
+-- what is answered is spelled, and its datagrams are those that are noted
+pub acts_outs : {W : Type 0} (draw : W → ℕ × W) (a b d f z : Content W) (moment : ℕ) (due : Due) (arms : List Arm) (went : WentContent) (last : Option Report) (outs : List Datagram) (answered : List Out)
+    → Acts draw a b d f z moment due arms went last outs → answered ≡ went.outs ++ option_to_list (option_map out_of last) → (outs ≡ datagrams_of answered) × AllByRecursion (IsOut a.config.session) answered
+acts_outs draw a b d f z moment due arms went last outs answered s is = (
+  sym (ap datagrams_of is ∙ map-append (λ (x : Out). x.datagram) went.outs (option_to_list (option_map out_of last))
+      ∙ ap (λ xs. datagrams_of xs ++ datagrams_of (option_to_list (option_map out_of last))) s.sent.lets.outs
+      ∙ ap (λ gs. gs ++ datagrams_of (option_to_list (option_map out_of last))) (sent_outs d.config.me d.config.session s.sent.lets.items own ∙ sym s.sent.lets.noted)
+      ∙ ap (λ gs. went.noted ++ gs) (last_out a.config.session last ending) ∙ sym s.outs_are),
+  subst (AllByRecursion (IsOut a.config.session)) (sym is) (all-append (IsOut a.config.session) went.outs (option_to_list (option_map out_of last))
+      (subst (AllByRecursion (IsOut a.config.session)) (sym s.sent.lets.outs) (subst (λ n. AllByRecursion (IsOut n) (map (λ (o : Outgoing). o.out) s.sent.lets.items)) (ap (λ k. k.session) d_config) (sent_spelled d.config.me d.config.session s.sent.lets.items own)))
+      (last_spelled a.config.session last ending)),
+)
   where
     d_config : d.config ≡ a.config
     d_config = ap (λ x. x.config) s.handed_rest ∙ ap (λ x. x.config) s.room
@@ -388,6 +361,29 @@ acts_answer draw a b d f z moment due arms arms' went last outs answered e s sam
     ending = subst (λ l. IfSome l (λ r. IsOutgoing a.config.session r.outgoing)) (sym s.last_is) (each_last (λ r. IsOutgoing a.config.session r.outgoing) (data_waits f.bucket) due.farewell due.report
         (if_some a moment true (λ r. IsOutgoing a.config.session r.outgoing) (λ r k. k.report.outgoing) (is_leaving a.state) due.farewell s.due_is.farewell)
         (if_some a moment false (λ r. IsOutgoing a.config.session r.outgoing) (λ r k. k.report.outgoing) (nat_le a.due moment) due.report s.due_is.report))
+
+-- the entry of what is answered
+pub acts_ticks : {W : Type 0} (draw : W → ℕ × W) (a b d f z : Content W) (moment : ℕ) (due : Due) (arms : List Arm) (went : WentContent) (last : Option Report) (outs : List Datagram) (answered : List Out)
+    → Acts draw a b d f z moment due arms went last outs → answered ≡ went.outs ++ option_to_list (option_map out_of last)
+    → TicksAs draw moment moment a z (record { asks = due.handed.asks; fixes = due.handed.fixes; arms = arms; outs = answered; state = z.state })
+acts_ticks draw a b d f z moment due arms went last outs answered s is = record {
+  enters = record {
+    input_is = refl;
+    moment_is = at_last a.last moment s.later;
+    fits = λ c made past h. subst (λ x. Fits c made (past ++ x ∷ []) z)
+        (ap (λ gs. tick_entry c.me moment due.handed.asks due.handed.fixes arms gs z.state) same.0 ∙ ap (λ k. tick_entry k.me moment due.handed.asks due.handed.fixes arms (datagrams_of answered) z.state) (sym h.config))
+        (acts_fits draw a b d f z moment due arms went last outs c made past s h);
+    words = subst (λ w. AreDrawn draw (low_of a.config) (high_of a.config) a.words arms w) (sym (ap (λ x. x.words) s.ended ∙ ap (λ x. x.words) s.sent_rest))
+        (subst (λ k. AreDrawn draw (low_of k) (high_of k) a.words arms d.words) (ap (λ x. x.config) s.room) (subst (λ w. AreDrawn draw (low_of b.config) (high_of b.config) w arms d.words) (ap (λ x. x.words) s.room) s.handed.drawn));
+  };
+  spelled = same.1;
+}
+  where
+    at_last : (last moment : ℕ) → last ≤ moment → moment ≡ max moment last
+    at_last last moment late = omega (arith, late)
+
+    same : (outs ≡ datagrams_of answered) × AllByRecursion (IsOut a.config.session) answered
+    same = acts_outs draw a b d f z moment due arms went last outs answered s is
 
 -- there is room for the answers, which are own
 pub room_to_send : {W : Type 0} (a b d : Content W) (answers count room : ℕ) → b ≡ record a { bucket = b.bucket } → SameQueues a.bucket.waiting b.bucket.waiting → d ≡ record b { timers = d.timers; words = d.words }

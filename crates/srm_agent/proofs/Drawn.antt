@@ -54,7 +54,7 @@ use Rattle.srm_agent_parts.specs.TimersKept.{TimersContent, TimersFit, shown_if}
 use Rattle.srm_agent.specs.Contents.{Content}
 use Rattle.srm_agent.specs.Fits.{Fits, EachProgressFits, BucketFits}
 use Rattle.srm_agent_parts.specs.Outs.{datagram_of, IsOwn}
-use Rattle.srm_agent.specs.Noting.{IsAllowed, Enters, Stays, still_entry}
+use Rattle.srm_agent.specs.Noting.{HasEntry, IsAllowed, IsDrawnName, Enters, Stays, still_entry}
 use Rattle.srm_agent.specs.declared.agent.drawing.Draft.{Draft}
 use Rattle.srm_agent.specs.Drawing.{refusals, name_after, drawn_entry, IsDraftOf}
 use Rattle.srm_agent_parts.specs.Growth.{HoldsToo}
@@ -500,7 +500,7 @@ pub draw_done : {W : Type 0} (draw : W → ℕ × W) (a b n : Content W) (now mo
     → IsDraftOf a.config.session (record { name = name; stamp = moment; body = body }) draft → is_drawop (record { name = name; stamp = moment; body = body })
     → n ≡ record b { last = moment; pages = with_page b.pages page; store = n.store; bucket = n.bucket } → HoldsToo draft.held b.store n.store
     → bucket.Adds (Handed (record { class = New; item = draft.going })) b.bucket n.bucket
-    → x ≡ drawn_entry b.config.me moment page body draft.noted b.state → Enters draw (Some now) (Drew page body) a n x
+    → x ≡ drawn_entry b.config.me moment page body draft.held b.state → Enters draw (Some now) (Drew page body) a n x
 draw_done {W} draw a b n now moment page body name draft x fine some at roomy still stays drafted spellable is keeps adds entry_is = record {
   input_is = ap (λ (y : Entry). y.input) entry_is;
   moment_is = ap (λ (y : Entry). y.moment) entry_is ∙ at;
@@ -517,8 +517,17 @@ draw_done {W} draw a b n now moment page body name draft x fine some at roomy st
         let right : Done ≡ verdict_of c past (Drew page body) = judged_done c made past a page body name fine some h in
         let last_is : b.last ≡ a.last = ap (λ (y : Content W). y.last) roomy in
         let same : x ≡ entry c made past b n moment page body k =
-        entry_is ∙ ap (λ (s : Config). drawn_entry s.me moment page body draft.noted b.state) k.config
-        ∙ ap (λ y. drawn_entry c.me moment page body y b.state) (drafted.noted ∙ drawop_is) in
+        entry_is ∙ ap (λ (s : Config). drawn_entry s.me moment page body draft.held b.state) k.config
+        ∙ ap (λ y. drawn_entry c.me moment page body y b.state) (drafted.held ∙ drawop_is) in
         subst (λ y. Fits c made (past ++ y ∷ []) n) (sym same)
         (drawn_fits c made past b n moment page body k draft.going (later c made past a now moment h at) (moves_on now b.last moment (at ∙ ap (max now) (sym last_is))) right is
         (subst (λ y. HoldsToo y b.store n.store) (drafted.held ∙ drawop_is) keeps) (subst is_drawop drawop_is spellable) (drafted.going.of ∙ ap Data drawop_is) (drafted.length ∙ ap (λ y. length_of (Data y)) drawop_is) adds)
+
+-- what a draw answers that is refused, and one that is done
+pub draw_refuses : {W : Type 0} (draw : W → ℕ × W) (a b : Content W) (now moment : ℕ) (page : Page) (body : List ℕ) (fault : AgentFault) → Enters draw (Some now) (Drew page body) a b (still_entry a.config.me moment (Drew page body) (Refused fault) None a.state)
+    → HasEntry draw (Some now) (Drew page body) IsDrawnName a b (Err fault)
+draw_refuses draw a b now moment page body fault enters = (still_entry a.config.me moment (Drew page body) (Refused fault) None a.state, enters, refl)
+
+pub draw_names : {W : Type 0} (draw : W → ℕ × W) (a b n : Content W) (now moment : ℕ) (page : Page) (body : List ℕ) (name : FullName) (draft : Draft) → IsDraftOf a.config.session (record { name = name; stamp = moment; body = body }) draft
+    → Enters draw (Some now) (Drew page body) a n (drawn_entry b.config.me moment page body draft.held b.state) → HasEntry draw (Some now) (Drew page body) IsDrawnName a n (Ok name)
+draw_names draw a b n now moment page body name draft drafted enters = (drawn_entry b.config.me moment page body draft.held b.state, enters, ap (λ (d : Drawop). Some d.name) drafted.held)

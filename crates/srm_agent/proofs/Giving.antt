@@ -1,6 +1,6 @@
 -- The entry of a give.
 use Rattle.std.proofs.Common.{◌≡◌, ℕ, zero, suc, ◌==◌, Bool, true, false, List, [], ◌∷◌, ◌++◌, refl, ap, sym, ◌∙◌, subst, inl, inr}
-use Rattle.std.specs.Prelude.{Option, Some, None, slice_get, slice_set, if◌then◌else◌}
+use Rattle.std.specs.Prelude.{Option, Some, None, Ok, slice_get, slice_set, if◌then◌else◌}
 use Rattle.std.specs.List.{list_all, cons_option}
 use Rattle.std.proofs.lemmas.Bool.{and_parts, cases_eq, eq-eqb, ne_eqb}
 use Rattle.std.proofs.lemmas.List.{append-nil}
@@ -18,7 +18,7 @@ use Rattle.srm_entries.specs.Giving.{given, given_in, GiveRight}
 use Rattle.srm_agent_parts.specs.Progress.{ProgressContent, ProgressFits}
 use Rattle.srm_agent.specs.Contents.{Content}
 use Rattle.srm_agent.specs.Fits.{Fits, EachProgressFits}
-use Rattle.srm_agent.specs.Noting.{Enters, still_entry}
+use Rattle.srm_agent.specs.Noting.{Enters, HasEntry, gave_by, still_entry}
 use Rattle.srm_entries.proofs.Feeding.{feeds_right, fed_gives, given-snoc}
 use Rattle.srm_agent_parts.proofs.Running.{slots-same}
 use Rattle.srm_agent.proofs.Still.{MayFollow, still_fits, same_progress}
@@ -99,3 +99,12 @@ gives_message draw a slot i m f e is at right more = record {
       (record { config = refl; store = refl; distances = refl; timers = refl; bucket = refl; due = refl }) refl (stays_at a.last) refl
       (h.pages ∙ sym (slots-same past _ refl)) (progress_more past _ a.progress slot i f m refl refl at h.progress (more c made past h)));
 }
+
+-- a give that isn't refused
+pub give_enters : {W : Type 0} (draw : W → ℕ × W) (a b : Content W) (slot : ℕ) (m : Option PageMsg) → Enters draw None (Gave slot) a b (gave_by a slot m) → HasEntry draw None (Gave slot) (λ e message. message ≡ e.effects.message) a b (Ok m)
+give_enters draw a b slot m enters = (gave_by a slot m, enters, refl)
+
+-- and its entry, where it is noted
+pub give_notes : {W : Type 0} (draw : W → ℕ × W) (a b : Content W) (slot : ℕ) (m n : Option PageMsg) (e : Entry) → Enters draw None (Gave slot) a b (gave_by a slot m) → b ≡ record a { progress = b.progress } → n ≡ m → e ≡ gave_by b slot n
+    → Enters draw None (Gave slot) a b e
+give_notes draw a b slot m n e enters rest same is = subst (Enters draw None (Gave slot) a b) (sym (is ∙ ap (gave_by b slot) same ∙ ap (λ x. gave_by x slot m) rest)) enters

@@ -1,24 +1,22 @@
 -- A tick at which nothing is due: time passes, and that is all.
-use Rattle.std.proofs.Common.{◌≡◌, ℕ, ◌≤◌, max, false, List, [], ◌∷◌, ◌++◌, refl, ap, sym, ◌∙◌, subst, arith}
-use Rattle.std.specs.Prelude.{Some, None, Result, Ok, Err, OnErr}
-use Rattle.srm_names.proofs.Lists.{at_parts}
+use Rattle.std.proofs.Common.{◌≡◌, ℕ, ◌≤◌, max, true, false, List, [], ◌∷◌, ◌++◌, refl, ap, sym, ◌∙◌, subst, arith}
+use Rattle.std.specs.Prelude.{Some, None, Result, Ok}
+use Rattle.std.specs.List.{AllByRecursion}
 use Rattle.srm_entries.specs.declared.fault.AgentFault.{AgentFault}
 use Rattle.srm_entries.specs.declared.entry.Entry.{Entry}
 use Rattle.srm_entries.specs.declared.entry.Input.TheVariants.{Ticked}
-use Rattle.srm_entries.specs.declared.entry.Verdict.{Verdict}
-use Rattle.srm_entries.specs.declared.entry.Verdict.TheVariants.{Done}
+use Rattle.srm_entries.specs.declared.state.AgentState.{AgentState}
 use Rattle.srm_entries.specs.Configs.{Config}
 use Rattle.srm_entries.specs.Entries.{state, is_gone, last_moment}
-use Rattle.srm_entries.specs.Verdicts.{VerdictRight}
-use Rattle.srm_entries.specs.Runs.{EntryRight}
 use Rattle.srm_agent.specs.declared.ticked.Ticked as answers
 use Rattle.srm_agent.specs.Contents.{Content}
 use Rattle.srm_agent.specs.Fits.{Fits}
-use Rattle.srm_agent.specs.Noting.{Enters, AnswersAs, IsTicked}
+use Rattle.srm_agent.specs.Noting.{Enters, AnswersAs, HasEntry, IsTicked}
 use Rattle.srm_outbox.specs.Outbox.{Passes}
-use Rattle.srm_agent.specs.Ticking.{tick_entry}
-use Rattle.srm_agent.specs.Waking.{IsEarly, Stirs}
-use Rattle.srm_agent.proofs.Entering.{of_member}
+use Rattle.srm_agent_parts.specs.Outs.{IsOut}
+use Rattle.srm_agent.specs.Ticking.{IsIdle, TicksAs, tick_entry, ticked_by, ticked_with}
+use Rattle.srm_agent.specs.Waking.{IsEarly}
+use Rattle.srm_agent.proofs.Entering.{of_member, rest_gone}
 use Rattle.srm_agent.proofs.NextDueIdle.{idle_at, idle_right, idle_fits}
 use Rattle.srm_agent.proofs.Quiet.{timers_stay}
 use Rattle.srm_agent.proofs.Ticks.{tick_fits}
@@ -45,15 +43,50 @@ wait_enters {W = W} draw a b d moment e here later early new passes last is = re
         (timers_stay c past (idle_at c past moment) a.timers (record { unheard = refl; drawn = refl; arms = refl; asks = refl; fixes = refl }) h.timers)
         (idle_fits c made past a moment h idle early since b.bucket passes) refl)
 
--- a tick that has an entry is done
-pub tick_done : {W : Type 0} (draw : W → ℕ × W) (a b : Content W) (now : ℕ) (e : Entry) (answer : Result answers.Ticked AgentFault) → Enters draw (Some now) Ticked a b e → AnswersAs (IsTicked a.config.session e) e.verdict answer → OnErr answer (Stirs now a)
-tick_done draw a b now e (Ok x) enters answers = tt
-tick_done draw a b now e (Err fault) enters answers = record { each = λ c made past h idle. refused e.verdict (verdict c made past h) answers }
-  where
-    verdict : (c : Config) (made : ℕ) (past : List Entry) → Fits c made past a → e.verdict ≡ Done
-    verdict c made past h =
-        let right : EntryRight c made (record { before = past; this = e }) = (at_parts (EntryRight c made) past (e ∷ []) (enters.fits c made past h).run).1.0 in
-        subst (λ i. VerdictRight c past i e.verdict) enters.input_is right.verdict
+-- the entry of a tick that does nothing, by what is answered
+idle_entry : (me moment : ℕ) (t : answers.Ticked) (after : AgentState) → IsIdle t → t.state ≡ after → ticked_with me moment t ≡ tick_entry me moment [] [] [] [] after
+idle_entry me moment t after idle is = rw (idle.asks, idle.fixes, idle.arms, idle.outs, is) refl
 
-    refused : (v : Verdict) → v ≡ Done → AnswersAs (IsTicked a.config.session e) v (Err fault) → ⊥
-    refused v is h = absurd (subst (λ w. AnswersAs (IsTicked a.config.session e) w (Err fault)) is h)
+unsent : (session : ℕ) (t : answers.Ticked) → IsIdle t → AllByRecursion (IsOut session) t.outs
+unsent session t idle = rw idle.outs tt
+
+pub wait_ticks : {W : Type 0} (draw : W → ℕ × W) (a b d : Content W) (moment : ℕ) (t : answers.Ticked) → is_gone a.state ≡ false → a.last ≤ moment → IsEarly a moment → b ≡ record a { bucket = b.bucket } → Passes moment a.bucket b.bucket
+    → d ≡ record b { last = moment } → IsIdle t → t.state ≡ b.state → TicksAs draw moment moment a d t
+wait_ticks draw a b d moment t here later early new passes last idle is = record {
+  enters = wait_enters draw a b d moment (ticked_by a moment t) here later early new passes last
+      (idle_entry a.config.me moment t b.state idle is ∙ ap (λ (x : Content _). tick_entry x.config.me moment [] [] [] [] b.state) (sym new));
+  spelled = unsent a.config.session t idle;
+}
+
+-- the tick of a member that is gone
+pub ticks_gone : {W : Type 0} (draw : W → ℕ × W) (a b : Content W) (now moment : ℕ) (t : answers.Ticked) → is_gone a.state ≡ true → b ≡ record a { last = moment } → IsIdle t → t.state ≡ a.state
+    → moment ≡ max now a.last → TicksAs draw now (max now a.last) a b t
+ticks_gone draw a b now moment t gone new idle is at = subst (λ m. TicksAs draw now m a b t) at (record {
+  enters = rest_gone draw a b now moment (ticked_by a moment t) gone new (idle_entry a.config.me moment t a.state idle is) at;
+  spelled = unsent a.config.session t idle;
+})
+
+-- a tick at the moment that counts
+pub ticks_at : {W : Type 0} (draw : W → ℕ × W) (a b : Content W) (now moment : ℕ) (t : answers.Ticked) → moment ≡ max now a.last → TicksAs draw moment moment a b t → TicksAs draw now (max now a.last) a b t
+ticks_at draw a b now moment t at h = subst (λ m. TicksAs draw now m a b t) at (record {
+  enters = record { input_is = h.enters.input_is; moment_is = at; fits = h.enters.fits; words = h.enters.words };
+  spelled = h.spelled;
+})
+
+-- what is answered is what its entry says
+answers_so : (me session moment : ℕ) (t : answers.Ticked) → AllByRecursion (IsOut session) t.outs → IsTicked session (ticked_with me moment t) t
+answers_so me session moment t spelled = record { asks = refl; fixes = refl; arms = refl; outs = refl; spelled = spelled; state = refl }
+
+-- a tick that isn't refused
+pub tick_enters : {W : Type 0} (draw : W → ℕ × W) (a b : Content W) (now : ℕ) (t : answers.Ticked) → TicksAs draw now (max now a.last) a b t → HasEntry draw (Some now) Ticked (IsTicked a.config.session) a b (Ok t)
+tick_enters draw a b now t h = (ticked_by a (max now a.last) t, h.enters, answers_so a.config.me a.config.session (max now a.last) t h.spelled)
+
+-- and its entry, where it is noted
+pub note_enters : {W : Type 0} (draw : W → ℕ × W) (a b : Content W) (now moment me : ℕ) (t : answers.Ticked) (e : Entry) → me ≡ a.config.me → moment ≡ max now a.last → e ≡ ticked_with me moment t
+    → TicksAs draw now (max now a.last) a b t → Enters draw (Some now) Ticked a b e
+note_enters draw a b now moment me t e own at is h = subst (Enters draw (Some now) Ticked a b) (sym (is ∙ ap (λ m. ticked_with m moment t) own ∙ ap (λ m. ticked_by a m t) at)) h.enters
+
+pub note_answers : {W : Type 0} (draw : W → ℕ × W) (a b : Content W) (now moment me : ℕ) (t : answers.Ticked) (e : Entry) (answer : Result answers.Ticked AgentFault) → e ≡ ticked_with me moment t → answer ≡ Ok t
+    → TicksAs draw now (max now a.last) a b t → AnswersAs (IsTicked a.config.session e) e.verdict answer
+note_answers draw a b now moment me t e answer is answered h = subst (λ r. AnswersAs (IsTicked a.config.session e) e.verdict r) (sym answered)
+    (subst (λ (x : Entry). AnswersAs (IsTicked a.config.session x) x.verdict (Ok t)) (sym is) (answers_so me a.config.session moment t h.spelled))

@@ -49,6 +49,5 @@ drawn_entry me moment page body drawop after = record {
 -- the drawop in each form in which the draw needs it
 pub record IsDraftOf (session : ℕ) (drawop : Drawop) (draft : Draft) : Type 0 where
   pub held : draft.held ≡ drawop
-  pub noted : draft.noted ≡ drawop
   pub going : IsOutgoingOf session (Data drawop) draft.going.value
   pub length : draft.going.length ≡ length_of (Data drawop)

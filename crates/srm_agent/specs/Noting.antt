@@ -17,6 +17,7 @@ use Rattle.srm_entries.specs.declared.fault.AgentFault.TheVariants.{Memory}
 use Rattle.srm_entries.specs.declared.state.AgentState.{AgentState}
 use Rattle.srm_entries.specs.declared.entry.Entry.{Entry}
 use Rattle.srm_entries.specs.declared.entry.Input.{Input}
+use Rattle.srm_entries.specs.declared.entry.Input.TheVariants.{Gave}
 use Rattle.srm_entries.specs.declared.entry.Verdict.{Verdict}
 use Rattle.srm_entries.specs.declared.entry.Verdict.TheVariants.{Done, Ignored, Refused}
 use Rattle.srm_entries.specs.Configs.{Config}
@@ -37,6 +38,10 @@ still_entry me moment input verdict message after = record {
   verdict = verdict;
   effects = record { drawn = None; arms = []; asks = []; fixes = []; outs = []; message = message; state = after };
 }
+
+-- the entry of a give, by what is answered
+abbrev pub gave_by : {W : Type 0} → Content W → ℕ → Option PageMsg → Entry
+gave_by a slot message = still_entry a.config.me a.last (Gave slot) Done message a.state
 
 -- the moment that counts: a lower one than the last counts as the last, and a call that takes none has the last
 abbrev pub moment_that_counts : Option ℕ → ℕ → ℕ

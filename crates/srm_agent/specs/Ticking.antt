@@ -1,5 +1,6 @@
 -- What a tick makes before anything changes, and what each of its steps does.
-use Rattle.std.specs.Prelude.{◌≡◌, ℕ, ◌+◌, ◌==◌, Bool, true, false, not, ◌&&◌, List, [], length, if◌then◌else◌, Option, Some, None, is_some, nat_le}
+use Rattle.std.specs.Prelude.{◌≡◌, ℕ, ◌+◌, ◌==◌, Bool, true, false, not, ◌&&◌, List, [], length, map, if◌then◌else◌, Option, Some, None, is_some, nat_le}
+use Rattle.std.specs.List.{AllByRecursion}
 use Rattle.srm_names.specs.FullName.{FullName}
 use Rattle.srm_names.specs.Names.{ascending, name_below}
 use Rattle.srm_codec.specs.declared.datagram.Datagram.{Datagram}
@@ -16,7 +17,10 @@ use Rattle.srm_outbox.specs.declared.answers.Answer.{Answer}
 use Rattle.srm_entries.specs.declared.entry.Entry.{Entry}
 use Rattle.srm_entries.specs.declared.entry.Input.TheVariants.{Ticked}
 use Rattle.srm_entries.specs.declared.entry.Verdict.TheVariants.{Done}
+use Rattle.srm_agent_parts.specs.declared.out.Out.{Out}
 use Rattle.srm_agent_parts.specs.declared.out.Outgoing.{Outgoing}
+use Rattle.srm_agent_parts.specs.Outs.{IsOut}
+use Rattle.srm_agent.specs.declared.ticked.Ticked as answers
 use Rattle.srm_entries.specs.declared.state.AgentState.{AgentState}
 use Rattle.srm_entries.specs.declared.state.AgentState.TheVariants.{Gone}
 use Rattle.srm_entries.specs.Configs.{Config}
@@ -27,6 +31,7 @@ use Rattle.srm_entries.specs.Sessions.{session_pause}
 use Rattle.srm_agent.specs.Fits.{Fits}
 use Rattle.srm_agent_parts.specs.TimersKept.{TimersContent}
 use Rattle.srm_agent_parts.specs.TimerCalls.{AsksPending, FixesPending, AreToAsk, AreToFix, TicksWith, TimersAdd}
+use Rattle.srm_agent.specs.Noting.{Enters}
 use Rattle.srm_agent.specs.Reports.{IsReportSpelled}
 use Rattle.srm_agent.specs.Answering.{AnswersDue}
 use Rattle.srm_outbox.specs.Outbox.{WentContent, HandsIn, LetsGo}
@@ -40,6 +45,30 @@ tick_entry me moment asks fixes arms outs after = record {
   verdict = Done;
   effects = record { drawn = None; arms = arms; asks = asks; fixes = fixes; outs = outs; message = None; state = after };
 }
+
+-- the datagrams of what is sent
+abbrev pub datagrams_of : List Out → List Datagram
+datagrams_of outs = map (λ (o : Out). o.datagram) outs
+
+-- the entry of a member's tick, by what is answered
+abbrev pub ticked_with : ℕ → ℕ → answers.Ticked → Entry
+ticked_with me moment ticked = tick_entry me moment ticked.asks ticked.fixes ticked.arms (datagrams_of ticked.outs) ticked.state
+
+-- and of an agent's
+abbrev pub ticked_by : {W : Type 0} → Content W → ℕ → answers.Ticked → Entry
+ticked_by a moment ticked = ticked_with a.config.me moment ticked
+
+-- a tick had the entry of what is answered, and the bytes of each out spell its datagram in the session
+pub record TicksAs {W : Type 0} (draw : W → ℕ × W) (now moment : ℕ) (old new : Content W) (ticked : answers.Ticked) : Type 0 where
+  pub enters : Enters draw (Some now) Ticked old new (ticked_by old moment ticked)
+  pub spelled : AllByRecursion (IsOut old.config.session) ticked.outs
+
+-- nothing was handed out or sent
+pub record IsIdle (ticked : answers.Ticked) : Type 0 where
+  pub asks : ticked.asks ≡ []
+  pub fixes : ticked.fixes ≡ []
+  pub arms : ticked.arms ≡ []
+  pub outs : ticked.outs ≡ []
 
 -- a session message or a farewell of an agent at a moment, and when the next one is due after it
 pub record IsReportAt {W : Type 0} (a : Content W) (moment : ℕ) (farewell : Bool) (r : Report) : Type 0 where
@@ -68,7 +97,6 @@ pub record IsToHandOut {W : Type 0} (a : Content W) (moment : ℕ) (h : HandedOu
 -- member that is leaving, and the session message that is due.
 pub record IsDue {W : Type 0} (a : Content W) (moment : ℕ) (d : Due) : Type 0 where
   pub handed : IsToHandOut a moment d.handed
-  pub noted : d.noted ≡ d.handed
   pub answers : AnswersDue a d.handed.asks d.handed.fixes d.answers.items
   pub farewell : IsReportIf (is_leaving a.state) a moment true d.farewell
   pub report : IsReportIf (nat_le a.due moment) a moment false d.report

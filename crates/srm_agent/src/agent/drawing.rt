@@ -39,11 +39,10 @@ use srm_store::StoreFault;
 use srm_timers::Words;
 use std::alloc::{AllocError, Global};
 
-/// A drawop that is about to be drawn: one to hold, one for the entry, and one to send.
+/// A drawop that is about to be drawn: one to hold, and one to send.
 #[derive(Debug, Drop)]
 struct Draft {
     held: Drawop,
-    noted: Drawop,
     going: Item<Outgoing>,
 }
 
@@ -73,14 +72,15 @@ impl<W: Words + Drop> Agent<W> {
         let Some(name) = self.next_name(&page) else {
             return Ok(self.refused(moment, Input::Drew(page, body), AgentFault::StreamFull));
         };
-        let draft = match self.draft(name, moment, &body) {
+        let draft = match self.draft(name, moment, body.clone()?) {
             Ok(draft) => draft,
             Err(StoreFault::PageLimit) => {
                 return Ok(self.refused(moment, Input::Drew(page, body), AgentFault::PageLimit));
             }
             Err(StoreFault::Memory) => return Err(AllocError),
         };
-        let entry = self.drew(moment, page, body, draft.noted);
+        let noted = draft.held.copy()?;
+        let entry = self.drew(moment, page, body, noted);
         self.take_up(&page, moment, draft.held, draft.going);
         Ok(Noted {
             answer: Ok(name),
@@ -88,12 +88,25 @@ impl<W: Words + Drop> Agent<W> {
         })
     }
 
-    /// [`draw_noted`](Agent::draw_noted) without its entry.
+    /// [`draw_noted`](Agent::draw_noted) without its entry, which isn't made.
     pub fn draw(&mut self, page: Page, body: Bytes, now: u64) -> Result<Name, AgentFault>
         requires { now ≤ MOMENT }
         ensures { Does W.draw (Some now) (Input.Drew page body) IsDrawnName self.old self.new result }
     {
-        self.draw_noted(page, body, now)?.answer
+        let moment = self.moment(now);
+        if let Some(fault) = self.refusal(&page, body.len()) {
+            return Err(fault);
+        }
+        let Some(name) = self.next_name(&page) else {
+            return Err(AgentFault::StreamFull);
+        };
+        let draft = match self.draft(name, moment, body) {
+            Ok(draft) => draft,
+            Err(StoreFault::PageLimit) => return Err(AgentFault::PageLimit),
+            Err(StoreFault::Memory) => return Err(AgentFault::Memory),
+        };
+        self.take_up(&page, moment, draft.held, draft.going);
+        Ok(name)
     }
 
     /// What a draw is refused for, but that the stream is full: the first that holds.
@@ -135,14 +148,14 @@ impl<W: Words + Drop> Agent<W> {
     }
 
     /// Makes a drawop in each form in which it is needed, and room for it, so that drawing it takes no memory.
-    fn draft(&mut self, name: Name, moment: u64, body: &Bytes) -> Result<Draft, StoreFault>
+    fn draft(&mut self, name: Name, moment: u64, body: Bytes) -> Result<Draft, StoreFault>
         requires moment { moment ≤ MOMENT }
-        requires short { length body.now ≤ BODY }
+        requires short { length body ≤ BODY }
         ensures rest { self.new ≡ record self.old { store = self.new.store; bucket = self.new.bucket } }
         ensures store { StillFits self.old.store self.new.store }
         ensures bucket { BucketStays self.old.bucket self.new.bucket }
-        ensures made { IfOk result (IsDraftOf self.old.config.session (record { name = name; stamp = moment; body = body.now })) }
-        ensures spellable { OnOk result (is_drawop (record { name = name; stamp = moment; body = body.now })) }
+        ensures made { IfOk result (IsDraftOf self.old.config.session (record { name = name; stamp = moment; body = body })) }
+        ensures spellable { OnOk result (is_drawop (record { name = name; stamp = moment; body = body })) }
         ensures ready { OnOk result (HavePlaces (name ∷ []) self.new.store) }
         ensures room { OnOk result (0 < self.new.bucket.waiting.room) }
         ensures limit { result ≡ Err PageLimit → (inserted : List ADrawop) (shown : List FullName) (settled : List Settling) → StoreFits inserted shown settled self.old.store
@@ -216,39 +229,38 @@ fn name_after(stream: &Stream, count: u32) -> Option<Name>
     Name::new(stream.source, stream.page, count + 1)
 }
 
-/// A drawop to hold, to note and to send.
+/// A drawop to hold and to send.
 fn make_draft(
     alloc: Global,
     session: u32,
     name: Name,
     moment: u64,
-    body: &Bytes,
+    body: Bytes,
 ) -> Result<Draft, AllocError>
     requires moment { moment ≤ MOMENT }
-    requires short { length body.now ≤ BODY }
-    ensures made { IfOk result (IsDraftOf session (record { name = name; stamp = moment; body = body.now })) }
-    ensures spellable { OnOk result (is_drawop (record { name = name; stamp = moment; body = body.now })) }
+    requires short { length body ≤ BODY }
+    ensures made { IfOk result (IsDraftOf session (record { name = name; stamp = moment; body = body })) }
+    ensures spellable { OnOk result (is_drawop (record { name = name; stamp = moment; body = body })) }
 {
-    let held = stamped(name, moment, body)?;
-    let noted = held.copy()?;
+    let held = stamped(name, moment, body);
     let going = going(alloc, session, held.copy()?)?;
-    Ok(Draft { held, noted, going })
+    Ok(Draft { held, going })
 }
 
 /// A drawop with its own moment as stamp.
-fn stamped(name: Name, moment: u64, body: &Bytes) -> Result<Drawop, AllocError>
+fn stamped(name: Name, moment: u64, body: Bytes) -> Drawop
     requires moment { moment ≤ MOMENT }
-    requires short { length body.now ≤ BODY }
-    ensures value { IfOk result (λ drawop. drawop ≡ record { name = name; stamp = moment; body = body.now }) }
-    ensures spellable { IfOk result is_drawop }
+    requires short { length body ≤ BODY }
+    ensures value { result ≡ record { name = name; stamp = moment; body = body } }
+    ensures spellable { is_drawop result }
 {
     prove!(name.source().number() < MEMBERS);
     prove!(name.stream().page.creator.number() < MEMBERS);
-    Ok(Drawop {
+    Drawop {
         name,
         stamp: moment,
-        body: body.clone()?,
-    })
+        body,
+    }
 }
 
 /// A drawop to send, which is charged the bytes of its datagram.

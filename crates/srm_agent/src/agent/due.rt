@@ -24,8 +24,6 @@ use std::collections::VecDeque;
 #[derive(Drop)]
 pub(super) struct Due {
     pub handed: HandedOut,
-    /// The same, for the entry.
-    pub noted: HandedOut,
     /// The requests and the repairs for them.
     pub answers: VecDeque<Answer>,
     /// What a member that is leaving ends with, once no data of its own waits.
@@ -49,6 +47,16 @@ impl HandedOut {
     {
         self.asks.as_slice().is_empty() && self.fixes.as_slice().is_empty()
     }
+
+    /// The same once more. Only want of memory refuses it.
+    pub(super) fn copy(&self, alloc: Global) -> Result<HandedOut, AllocError>
+        ensures { IfOk result (λ copy. copy ≡ self.now) }
+    {
+        Ok(HandedOut {
+            asks: Items::new(Vec::from_slice(alloc, self.asks.as_slice())?),
+            fixes: Items::new(Vec::from_slice(alloc, self.fixes.as_slice())?),
+        })
+    }
 }
 
 /// A session message or a farewell.
@@ -66,13 +74,11 @@ impl<W: Words + Drop> Agent<W> {
         ensures { IfOk result (IsDue self.now moment) }
     {
         let handed = self.to_hand_out(moment)?;
-        let noted = copy_of(self.alloc, &handed)?;
         let answers = self.answers_due(handed.asks.as_slice(), handed.fixes.as_slice())?;
         let farewell = self.report_if(self.is_leaving(), true, moment)?;
         let report = self.report_if(self.due <= moment, false, moment)?;
         Ok(Due {
             handed,
-            noted,
             answers,
             farewell,
             report,
@@ -148,13 +154,4 @@ impl<W: Words + Drop> Agent<W> {
             answers,
         )
     }
-}
-
-fn copy_of(alloc: Global, handed: &HandedOut) -> Result<HandedOut, AllocError>
-    ensures { IfOk result (λ copy. copy ≡ handed.now) }
-{
-    Ok(HandedOut {
-        asks: Items::new(Vec::from_slice(alloc, handed.asks.as_slice())?),
-        fixes: Items::new(Vec::from_slice(alloc, handed.fixes.as_slice())?),
-    })
 }

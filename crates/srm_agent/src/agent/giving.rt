@@ -13,7 +13,7 @@ ghost use Rattle.srm_entries.specs.Giving.{GiveRight, is_some_of};
 ghost use Rattle.srm_entries.specs.Verdicts.{final};
 ghost use Rattle.srm_agent.specs.Nexts.{IsNextOf, IsNextOn};
 ghost use Rattle.srm_agent.specs.Fits.{Fits};
-ghost use Rattle.srm_agent.specs.Noting.{Enters, Stays, AnswersAs, Does};
+ghost use Rattle.srm_agent.specs.Noting.{Enters, Stays, AnswersAs, Does, gave_by};
 
 use super::Agent;
 use crate::noted::Noted;
@@ -35,23 +35,35 @@ impl<W: Words + Drop> Agent<W> {
         ensures answer { IfOk result (λ noted. AnswersAs (λ message. message ≡ noted.entry.effects.message) noted.entry.verdict noted.answer) }
         ensures err { OnErr result (Stays self.old self.new) }
     {
-        let Some(message) = self.next_message(slot)? else {
-            let entry = self.entry(self.last, Input::Gave(slot), Verdict::Done, None);
-            return Ok(gave(None, entry));
-        };
-        let noted = message.copy()?;
-        self.progress[usize::from(slot)].give(&message);
-        let entry = self.entry(self.last, Input::Gave(slot), Verdict::Done, Some(noted));
-        Ok(gave(Some(message), entry))
+        let message = self.next_message(slot)?;
+        let noted = copy_of(&message)?;
+        self.hand_over(slot, &message);
+        let entry = self.entry(self.last, Input::Gave(slot), Verdict::Done, noted);
+        Ok(gave(message, entry))
     }
 
-    /// [`give_noted`](Agent::give_noted) without its entry.
-    #[tactic(auto, using(crate::proofs::Entering::give_allowed))]
+    /// [`give_noted`](Agent::give_noted) without its entry, which isn't made.
+    #[tactic(auto, using(crate::proofs::Entering::give_allowed, crate::proofs::Giving::give_enters))]
     pub fn give(&mut self, slot: u8) -> Result<Option<PageMsg>, AgentFault>
         requires { slot < PAGES }
         ensures { Does W.draw None (Input.Gave slot) (λ e message. message ≡ e.effects.message) self.old self.new result }
     {
-        self.give_noted(slot)?.answer
+        let message = self.next_message(slot)?;
+        self.hand_over(slot, &message);
+        Ok(message)
+    }
+
+    /// A slot is given the message that it may be given next, if there is one. It takes no memory.
+    fn hand_over(&mut self, slot: u8, message: &Option<PageMsg>)
+        requires slot { slot < PAGES }
+        requires right { (c : Settings) (made : ℕ) (past : List AnEntry) → Fits c made past self.old → GiveRight c past slot message.now }
+        ensures enters { Enters W.draw None (Input.Gave slot) self.old self.new (gave_by self.old slot message.now) }
+        ensures rest { self.new ≡ record self.old { progress = self.new.progress } }
+    {
+        let Some(message) = message else {
+            return;
+        };
+        self.progress[usize::from(slot)].give(message);
     }
 
     /// The message that a slot may be given next.
@@ -162,6 +174,16 @@ fn all_and_new(all: bool, left: bool) -> bool
     ensures { result ≡ all && not left }
 {
     all && !left
+}
+
+/// What a slot is given, once more. Only want of memory refuses it.
+fn copy_of(message: &Option<PageMsg>) -> Result<Option<PageMsg>, AllocError>
+    ensures { IfOk result (λ copy. copy ≡ message.now) }
+{
+    match message {
+        Some(message) => Ok(Some(message.copy()?)),
+        None => Ok(None),
+    }
 }
 
 /// What a give answered, and its entry.

@@ -1,6 +1,6 @@
 //! Handing out the requests and repairs that are due.
 
-ghost use Rattle.std.specs.Prelude.{◌≡◌, ◌≤◌, length, IfOk, OnErr};
+ghost use Rattle.std.specs.Prelude.{◌≡◌, ◌≤◌, length, true, IfOk, OnErr};
 ghost use Rattle.srm_names.specs.declared.limits.TheConstants.{MOMENT};
 ghost use Rattle.srm_deadlines.specs.Deadlines.{DueAmong};
 ghost use Rattle.srm_agent_parts.specs.TimerCalls.{TimersStay};
@@ -8,24 +8,26 @@ ghost use Rattle.srm_agent.specs.Ticking.{HandsOut};
 
 use super::Agent;
 use super::due::HandedOut;
+use super::noting::{note_arms, room_to_note};
 use srm_agent_parts::distance_table;
 use srm_names::Items;
 use srm_timers::{Arm, Words};
 use std::alloc::AllocError;
 
 impl<W: Words + Drop> Agent<W> {
-    /// Hands out what is due: its timers are set again, or gone. Answers the timers that were set, once for the answer and once for
-    /// the entry. Only want of memory refuses it, and then no timer has changed and no word was drawn.
+    /// Hands out what is due: its timers are set again, or gone. Answers the timers that were set, and once more for the entry, where
+    /// that is noted. Only want of memory refuses it, and then no timer has changed and no word was drawn.
     pub(super) fn hand_out(
         &mut self,
         due: &HandedOut,
+        notes: bool,
         moment: u64,
     ) -> Result<(Items<Arm>, Items<Arm>), AllocError>
         requires asks { DueAmong moment self.old.timers.asks.ends.places due.now.asks }
         requires fixes { DueAmong moment self.old.timers.fixes.ends.places due.now.fixes }
         requires moment { moment ≤ MOMENT }
         ensures ok { IfOk result (λ arms. HandsOut W.draw self.old due.now moment arms.0 self.new) }
-        ensures noted { IfOk result (λ arms. arms.1 ≡ arms.0) }
+        ensures noted { IfOk result (λ arms. notes ≡ true → arms.1 ≡ arms.0) }
         ensures rest { self.new ≡ record self.old { timers = self.new.timers; words = self.new.words } }
         ensures timers { OnErr result (TimersStay self.old.timers self.new.timers) }
         ensures words { OnErr result (self.new.words ≡ self.old.words) }
@@ -36,32 +38,33 @@ impl<W: Words + Drop> Agent<W> {
                 Items::new(Vec::new(self.alloc)),
             ));
         }
-        self.hand_out_some(due, moment)
+        self.hand_out_some(due, notes, moment)
     }
 
     /// The same, whether anything is due or not.
     fn hand_out_some(
         &mut self,
         due: &HandedOut,
+        notes: bool,
         moment: u64,
     ) -> Result<(Items<Arm>, Items<Arm>), AllocError>
         requires asks { DueAmong moment self.old.timers.asks.ends.places due.now.asks }
         requires fixes { DueAmong moment self.old.timers.fixes.ends.places due.now.fixes }
         requires moment { moment ≤ MOMENT }
         ensures ok { IfOk result (λ arms. HandsOut W.draw self.old due.now moment arms.0 self.new) }
-        ensures noted { IfOk result (λ arms. arms.1 ≡ arms.0) }
+        ensures noted { IfOk result (λ arms. notes ≡ true → arms.1 ≡ arms.0) }
         ensures rest { self.new ≡ record self.old { timers = self.new.timers; words = self.new.words } }
         ensures timers { OnErr result (TimersStay self.old.timers self.new.timers) }
         ensures words { OnErr result (self.new.words ≡ self.old.words) }
     {
         let asks = due.asks.as_slice();
         let fixes = due.fixes.as_slice();
-        let mut noted = Vec::with_capacity(self.alloc, asks.len())?;
+        let mut noted = room_to_note(self.alloc, notes, asks.len())?;
         let dist = distance_table(&self.distances);
         let arms = self
             .timers
             .tick(asks, fixes, dist, moment, &mut self.words)?;
-        noted.extend_from_slice(&arms).unwrap();
+        note_arms(&mut noted, notes, &arms);
         Ok((Items::new(arms), Items::new(noted)))
     }
 }

@@ -23,30 +23,29 @@ impl<W: Words + Drop> Agent<W> {
         ensures err { OnErr result (Stays self.old self.new) }
         ensures allowed { OnErr result (IsAllowed Input.AskedLeave self.old) }
     {
-        Ok(self.leave_now(now))
+        let moment = self.moment(now);
+        match self.state {
+            AgentState::Gone => Ok(self.refused(moment, Input::AskedLeave, AgentFault::Gone)),
+            AgentState::Leaving => Ok(self.refused(moment, Input::AskedLeave, AgentFault::Leaving)),
+            AgentState::Active => {
+                self.begin_to_leave(moment);
+                Ok(self.done(moment, Input::AskedLeave))
+            }
+        }
     }
 
-    /// [`leave_noted`](Agent::leave_noted) without its entry. It takes no memory.
+    /// [`leave_noted`](Agent::leave_noted) without its entry, which isn't made. It takes no memory.
     pub fn leave(&mut self, now: u64) -> Result<(), AgentFault>
         requires { now ≤ MOMENT }
         ensures { HasEntry W.draw (Some now) Input.AskedLeave (λ _ _. Unit {0}) self.old self.new result }
     {
-        self.leave_now(now).answer
-    }
-
-    /// The same, with its entry. It takes no memory.
-    fn leave_now(&mut self, now: u64) -> Noted<()>
-        requires { now ≤ MOMENT }
-        ensures enters { Enters W.draw (Some now) Input.AskedLeave self.old self.new result.entry }
-        ensures answer { AnswersAs (λ _. Unit {0}) result.entry.verdict result.answer }
-    {
         let moment = self.moment(now);
         match self.state {
-            AgentState::Gone => self.refused(moment, Input::AskedLeave, AgentFault::Gone),
-            AgentState::Leaving => self.refused(moment, Input::AskedLeave, AgentFault::Leaving),
+            AgentState::Gone => Err(AgentFault::Gone),
+            AgentState::Leaving => Err(AgentFault::Leaving),
             AgentState::Active => {
                 self.begin_to_leave(moment);
-                self.done(moment, Input::AskedLeave)
+                Ok(())
             }
         }
     }

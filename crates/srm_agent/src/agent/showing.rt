@@ -35,12 +35,20 @@ impl<W: Words + Drop> Agent<W> {
         Ok(self.done(moment, Input::Showed(page)))
     }
 
-    /// [`show_noted`](Agent::show_noted) without its entry.
+    /// [`show_noted`](Agent::show_noted) without its entry, which isn't made.
     pub fn show(&mut self, page: Page, now: u64) -> Result<(), AgentFault>
         requires { now ≤ MOMENT }
         ensures { Does W.draw (Some now) (Input.Showed page) (λ _ _. Unit {0}) self.old self.new result }
     {
-        self.show_noted(page, now)?.answer
+        let moment = self.moment(now);
+        if self.is_gone() {
+            return Err(AgentFault::Gone);
+        }
+        if !self.pages.has_room(&page) {
+            return Err(AgentFault::PageLimit);
+        }
+        self.turn_to(&page, moment);
+        Ok(())
     }
 
     /// From this moment on a page is in the table, and shown.

@@ -1,10 +1,10 @@
 //! What a member does when a moment has come.
 
-ghost use Rattle.std.specs.Prelude.{◌≡◌, ◌≤◌, Some, None, Ok, [], IfOk, OnErr, false};
+ghost use Rattle.std.specs.Prelude.{◌≡◌, ◌≤◌, Some, Ok, IfOk, OnErr, true, false, max};
 ghost use Rattle.srm_names.specs.declared.limits.TheConstants.{MOMENT};
 ghost use Rattle.srm_entries.specs.Entries.{is_gone};
-ghost use Rattle.srm_agent.specs.Noting.{Enters, Stays, AnswersAs, Does, IsTicked, still_entry};
-ghost use Rattle.srm_agent.specs.Ticking.{IsDue, tick_entry};
+ghost use Rattle.srm_agent.specs.Noting.{Enters, Stays, AnswersAs, Does, IsTicked};
+ghost use Rattle.srm_agent.specs.Ticking.{IsDue, IsIdle, TicksAs, datagrams_of, ticked_with};
 ghost use Rattle.srm_agent.specs.Waking.{IsEarly, Stirs};
 
 use super::Agent;
@@ -14,10 +14,19 @@ use crate::noted::Noted;
 use crate::ticked::Ticked;
 use srm_codec::Datagram;
 use srm_entries::{AgentFault, Effects, Entry, Input, Verdict};
-use srm_names::Items;
+use srm_names::{Items, Member};
 use srm_outbox::pass;
 use srm_timers::{Arm, Words};
-use std::alloc::AllocError;
+use std::alloc::{AllocError, Global};
+
+/// What a tick answers, with the timers that it set and the datagrams that it sent once more, for the entry. The timers are there
+/// where it is noted.
+#[derive(Drop)]
+struct Acted {
+    ticked: Ticked,
+    arms: Items<Arm>,
+    outs: Items<Datagram>,
+}
 
 impl<W: Words + Drop> Agent<W> {
     /// A moment has come: what is due is asked for and repaired, what the rate lets go is sent, and at the end a session message
@@ -32,6 +41,38 @@ impl<W: Words + Drop> Agent<W> {
         ensures err { OnErr result (Stays self.old self.new) }
         ensures due { OnErr result (Stirs now self.old) }
     {
+        let me = self.config.me();
+        let moment = self.moment(now);
+        if self.is_gone() {
+            return Ok(note_idle(self.alloc, me, moment, self.rest(moment)));
+        }
+        if self.is_early(moment) {
+            return Ok(note_idle(self.alloc, me, moment, self.wait(moment)));
+        }
+        let due = self.due_at(moment)?;
+        let handed = due.handed.copy(self.alloc)?;
+        let acted = self.act(due, true, moment)?;
+        Ok(note(me, moment, handed, acted))
+    }
+
+    /// [`tick_noted`](Agent::tick_noted) without its entry, which isn't made.
+    #[tactic(auto, using(crate::proofs::Entering::tick_allowed, crate::proofs::Passing::tick_enters))]
+    pub fn tick(&mut self, now: u64) -> Result<Ticked, AgentFault>
+        requires { now ≤ MOMENT }
+        ensures does { Does W.draw (Some now) Input.Ticked (IsTicked self.old.config.session) self.old self.new result }
+        ensures due { OnErr result (Stirs now self.old) }
+    {
+        Ok(self.tick_alone(now)?)
+    }
+
+    /// The same. Only want of memory refuses it.
+    #[tactic(auto, using(crate::proofs::NextDue::stirs, crate::proofs::NextDue::stirs_at, crate::proofs::Passing::ticks_at))]
+    fn tick_alone(&mut self, now: u64) -> Result<Ticked, AllocError>
+        requires { now ≤ MOMENT }
+        ensures ok { IfOk result (TicksAs W.draw now (max now self.old.last) self.old self.new) }
+        ensures err { OnErr result (Stays self.old self.new) }
+        ensures due { OnErr result (Stirs now self.old) }
+    {
         let moment = self.moment(now);
         if self.is_gone() {
             return Ok(self.rest(moment));
@@ -40,67 +81,56 @@ impl<W: Words + Drop> Agent<W> {
             return Ok(self.wait(moment));
         }
         let due = self.due_at(moment)?;
-        self.act(moment, due)
-    }
-
-    /// [`tick_noted`](Agent::tick_noted) without its entry.
-    #[tactic(auto, using(crate::proofs::Entering::tick_allowed, crate::proofs::Passing::tick_done))]
-    pub fn tick(&mut self, now: u64) -> Result<Ticked, AgentFault>
-        requires { now ≤ MOMENT }
-        ensures does { Does W.draw (Some now) Input.Ticked (IsTicked self.old.config.session) self.old self.new result }
-        ensures due { OnErr result (Stirs now self.old) }
-    {
-        self.tick_noted(now)?.answer
+        Ok(self.act(due, false, moment)?.ticked)
     }
 
     /// The tick of a member for which nothing is due: only time has passed, also for the rate. It takes no memory.
-    fn wait(&mut self, moment: u64) -> Noted<Ticked>
+    fn wait(&mut self, moment: u64) -> Ticked
         requires here { is_gone self.old.state ≡ false }
         requires later { self.old.last ≤ moment }
         requires moment { moment ≤ MOMENT }
         requires early { IsEarly self.old moment }
-        ensures entry { Enters W.draw (Some moment) Input.Ticked self.old self.new result.entry }
-        ensures answer { AnswersAs (IsTicked self.old.config.session result.entry) result.entry.verdict result.answer }
+        ensures ticks { TicksAs W.draw moment moment self.old self.new result }
+        ensures idle { IsIdle result }
     {
         pass(&mut self.bucket, moment);
         self.rest(moment)
     }
 
     /// A tick that does nothing: nothing but the last moment changes. It takes no memory.
-    fn rest(&mut self, moment: u64) -> Noted<Ticked>
+    fn rest(&mut self, moment: u64) -> Ticked
         requires { moment ≤ MOMENT }
         ensures new { self.new ≡ record self.old { last = moment } }
-        ensures entry { result.entry ≡ still_entry self.old.config.me moment Input.Ticked Verdict.Done None self.old.state }
-        ensures answer { result.answer ≡ Ok (record { asks = []; fixes = []; arms = []; outs = []; state = self.old.state }) }
+        ensures idle { IsIdle result }
+        ensures state { result.state ≡ self.old.state }
     {
         self.last = moment;
-        Noted {
-            answer: Ok(Ticked {
-                asks: Items::new(Vec::new(self.alloc)),
-                fixes: Items::new(Vec::new(self.alloc)),
-                arms: Items::new(Vec::new(self.alloc)),
-                outs: Items::new(Vec::new(self.alloc)),
-                state: self.state,
-            }),
-            entry: self.entry(moment, Input::Ticked, Verdict::Done, None),
+        Ticked {
+            asks: Items::new(Vec::new(self.alloc)),
+            fixes: Items::new(Vec::new(self.alloc)),
+            arms: Items::new(Vec::new(self.alloc)),
+            outs: Items::new(Vec::new(self.alloc)),
+            state: self.state,
         }
     }
 
     /// Does what is due. Only want of memory refuses it.
-    fn act(&mut self, moment: u64, due: Due) -> Result<Noted<Ticked>, AllocError>
+    fn act(&mut self, due: Due, notes: bool, moment: u64) -> Result<Acted, AllocError>
         requires here { is_gone self.old.state ≡ false }
         requires later { self.old.last ≤ moment }
         requires moment { moment ≤ MOMENT }
         requires due { IsDue self.old moment due }
-        ensures ok { IfOk result (λ noted. Enters W.draw (Some moment) Input.Ticked self.old self.new noted.entry) }
-        ensures answer { IfOk result (λ noted. AnswersAs (IsTicked self.old.config.session noted.entry) noted.entry.verdict noted.answer) }
+        ensures ok { IfOk result (λ acted. TicksAs W.draw moment moment self.old self.new acted.ticked) }
+        ensures asks { IfOk result (λ acted. acted.ticked.asks ≡ due.handed.asks) }
+        ensures fixes { IfOk result (λ acted. acted.ticked.fixes ≡ due.handed.fixes) }
+        ensures arms { IfOk result (λ acted. notes ≡ true → acted.arms ≡ acted.ticked.arms) }
+        ensures outs { IfOk result (λ acted. acted.outs ≡ datagrams_of acted.ticked.outs) }
         ensures err { OnErr result (Stays self.old self.new) }
     {
         let went = self.room_to_go(due.answers.len())?;
-        let (arms, noted_arms) = self.hand_out(&due.handed, moment)?;
+        let (arms, noted) = self.hand_out(&due.handed, notes, moment)?;
         let Due {
             handed,
-            noted,
             answers,
             farewell,
             report,
@@ -108,30 +138,53 @@ impl<W: Words + Drop> Agent<W> {
         let went = self.send(answers, went, moment);
         let last = self.end(farewell, report, moment);
         let (outs, sent) = with_last(went, last).into_items();
-        Ok(Noted {
-            answer: Ok(Ticked {
+        Ok(Acted {
+            ticked: Ticked {
                 asks: handed.asks,
                 fixes: handed.fixes,
                 arms,
                 outs,
                 state: self.state,
-            }),
-            entry: self.ticked(moment, noted, noted_arms, sent),
+            },
+            arms: noted,
+            outs: sent,
         })
     }
+}
 
-    /// The entry of a tick in which this was handed out and sent. It takes no memory.
-    fn ticked(
-        &self,
-        moment: u64,
-        handed: HandedOut,
-        arms: Items<Arm>,
-        outs: Items<Datagram>,
-    ) -> Entry
-        ensures { result ≡ tick_entry self.now.config.me moment handed.asks handed.fixes arms outs self.now.state }
-    {
-        Entry {
-            member: self.config.me(),
+/// What is answered, and the entry of it, where nothing was handed out or sent. It takes no memory.
+fn note_idle(alloc: Global, me: Member, moment: u64, ticked: Ticked) -> Noted<Ticked>
+    requires { IsIdle ticked }
+    ensures entry { result.entry ≡ ticked_with me moment ticked }
+    ensures answer { result.answer ≡ Ok ticked }
+{
+    let handed = HandedOut {
+        asks: Items::new(Vec::new(alloc)),
+        fixes: Items::new(Vec::new(alloc)),
+    };
+    let acted = Acted {
+        ticked,
+        arms: Items::new(Vec::new(alloc)),
+        outs: Items::new(Vec::new(alloc)),
+    };
+    note(me, moment, handed, acted)
+}
+
+/// What is answered, and the entry of it, with what was handed out once more. It takes no memory.
+fn note(me: Member, moment: u64, handed: HandedOut, acted: Acted) -> Noted<Ticked>
+    requires asks { handed.asks ≡ acted.ticked.asks }
+    requires fixes { handed.fixes ≡ acted.ticked.fixes }
+    requires arms { acted.arms ≡ acted.ticked.arms }
+    requires outs { acted.outs ≡ datagrams_of acted.ticked.outs }
+    ensures entry { result.entry ≡ ticked_with me moment acted.ticked }
+    ensures answer { result.answer ≡ Ok acted.ticked }
+{
+    let Acted { ticked, arms, outs } = acted;
+    let state = ticked.state;
+    Noted {
+        answer: Ok(ticked),
+        entry: Entry {
+            member: me,
             moment,
             input: Input::Ticked,
             verdict: Verdict::Done,
@@ -142,8 +195,8 @@ impl<W: Words + Drop> Agent<W> {
                 fixes: handed.fixes,
                 outs,
                 message: None,
-                state: self.state,
+                state,
             },
-        }
+        },
     }
 }
