@@ -6,7 +6,6 @@ use Rattle.srm_names.specs.Names.{ascending, name_below}
 use Rattle.srm_codec.specs.declared.datagram.Datagram.{Datagram}
 use Rattle.srm_timers.specs.declared.arm.Arm.{Arm}
 use Rattle.srm_timers.specs.Arms.{AreDrawn}
-use Rattle.srm_deadlines.specs.Deadlines.{DueAmong}
 use Rattle.srm_bucket.specs.declared.class.Class.TheVariants.{New}
 use Rattle.srm_bucket.specs.Content.{Content as BucketContent}
 use Rattle.srm_bucket.specs.Waiting.{queue}
@@ -30,7 +29,7 @@ use Rattle.srm_entries.specs.Timers.{low_of, high_of, TimersRight}
 use Rattle.srm_entries.specs.Sessions.{session_pause}
 use Rattle.srm_agent.specs.Fits.{Fits}
 use Rattle.srm_agent_parts.specs.TimersKept.{TimersContent}
-use Rattle.srm_agent_parts.specs.TimerCalls.{AsksPending, FixesPending, AreToAsk, AreToFix, TicksWith, TimersAdd}
+use Rattle.srm_agent_parts.specs.TimerCalls.{AreDueAsks, AreDueFixes, AsksPending, FixesPending, AreToAsk, AreToFix, TicksWith, TimersAdd}
 use Rattle.srm_agent.specs.Noting.{Enters}
 use Rattle.srm_agent.specs.Reports.{IsReportSpelled}
 use Rattle.srm_agent.specs.Answering.{AnswersDue}
@@ -89,9 +88,9 @@ pub record HandsOutNothing (h : HandedOut) : Type 0 where
 pub record IsToHandOut {W : Type 0} (a : Content W) (moment : ℕ) (h : HandedOut) : Type 0 where
   pub asks : AsksPending moment a.timers h.asks
   pub rising : ascending name_below h.asks ≡ true
-  pub all_asks : DueAmong moment a.timers.asks.ends.places h.asks
+  pub due_asks : AreDueAsks moment a.timers h.asks
   pub fixes : FixesPending moment a.timers h.fixes
-  pub all_fixes : DueAmong moment a.timers.fixes.ends.places h.fixes
+  pub due_fixes : AreDueFixes moment a.timers h.fixes
 
 -- All that a tick hands out, sends and answers: the names whose timers ran out, the requests and repairs for them, the farewell of a
 -- member that is leaving, and the session message that is due.

@@ -15,16 +15,13 @@ use Rattle.srm_store.specs.Held.{number_in, has_name}
 use Rattle.srm_timers.specs.declared.arm.Arm.{Arm}
 use Rattle.srm_timers.specs.declared.arm.Armed.{Armed}
 use Rattle.srm_timers.specs.declared.arm.ArmKind.TheVariants.{Ask}
-use Rattle.srm_deadlines.specs.declared.by_name.Place.{Place}
 use Rattle.srm_timers.specs.Arms as timers
 use Rattle.srm_timers.specs.Arms.{Setting, setting, arm_names, ran_out, next_exponent, ArmsAre, IsAsk, AreAsks, AreOfMembers, AreDrawn, arm_of}
 use Rattle.srm_timers.specs.AskCalls.{AskContent, AskStays, AskAdds, AskedAgain, ask_timer, sets, due_setting, again_setting, again_exponent}
 use Rattle.srm_timers.specs.AskCalls as asks
 use Rattle.srm_timers.specs.FixCalls.{FixStays, FixDue, FixRepairs, repairs, hold_end}
-use Rattle.srm_deadlines.specs.Deadlines.{has_come, DueAmong}
 use Rattle.srm_timers.specs.Timers.{armed_at}
 use Rattle.srm_timers.specs.Distances.{distance_to}
-use Rattle.srm_deadlines.specs.Places.{Keeps}
 use Rattle.srm_timers.proofs.AskSteps.{ask_timer-sets}
 use Rattle.srm_timers.proofs.FixSteps.{asked_first-repairs, fix_timer-repairs, is_off-repairs}
 use Rattle.srm_entries.specs.declared.entry.Entry.{Entry}
@@ -38,10 +35,6 @@ use Rattle.srm_entries.proofs.Arming.{find-holds, find-passed, ask_at}
 use Rattle.srm_entries.proofs.Setting.{is_ask, of_kind, ask_if, asks_of, fixes_of, is_armed, drawn_asks, drawn_waits}
 use Rattle.srm_agent_parts.proofs.Midway.{midway_fits}
 use Rattle.srm_agent_parts.proofs.Missing.{held_not_missing, settings_fit, holds_until}
-
--- what is due is so where no moment changed
-pub due_still : (now : ℕ) (old new : List (Place ℕ)) (names : List FullName) → Keeps old new → DueAmong now old names → DueAmong now new names
-due_still now old new names same due = record { each = λ n come. due.each n (ap (has_come now) (sym (same.each n)) ∙ come) }
 
 -- the entry of a tick shows and gains nothing
 
@@ -145,14 +138,14 @@ due_drawn draw t from to arms all drawn = record { each = λ c s. drawn_asks dra
     kinds (a ∷ as_) each = (each.0.kind, kinds as_ each.1)
 
 pub tick_ticks : {W : Type 0} (draw : W → ℕ × W) (from to : W) (asked fixed names : List FullName) (dist : List ℕ) (now : ℕ) (arms : List Arm) (old mid new : TimersContent)
-    → AskStays old.asks mid.asks → FixStays old.fixes mid.fixes → AskAdds (sets now arms) mid.asks new.asks → AskedAgain now dist mid.asks arms → AreOfMembers arms → WaitsAreDrawn draw old from arms to
-    → FixRepairs now dist names mid.fixes new.fixes → FixDue now mid.fixes names → TimersTick asked fixed dist now arms old new
+    → AskStays old.asks mid.asks → FixStays old.fixes mid.fixes → AskAdds (sets now arms) mid.asks new.asks → AskedAgain now dist old.asks arms → AreOfMembers arms → WaitsAreDrawn draw old from arms to
+    → FixRepairs now dist names mid.fixes new.fixes → FixDue now old.fixes names → TimersTick asked fixed dist now arms old new
 tick_ticks draw from to asked fixed names dist now arms old mid new ask_stays fix_stays adds again members drawn repaired_ due = record {
   each = λ c past e t h active toask tofix d.
       let kept = ask_stays.each c.c1 c.c2 h.ask_calls h.asks in
       let held = fix_stays.each c.d1 c.d2 h.fix_calls h.fixes in
-      let are = again.each c.c1 c.c2 h.ask_calls kept in
-      let fixed_are = due.each c.d1 c.d2 h.fix_calls held in
+      let are = again.each c.c1 c.c2 h.ask_calls h.asks in
+      let fixed_are = due.each c.d1 c.d2 h.fix_calls h.fixes in
       let same : (n : FullName) → is_missing (past ++ e ∷ []) n ≡ is_missing past n = λ n. unheard_missing past e n t.heard t.drawn in
       let none : (n : FullName) → asker n e ≡ None = λ n. ap (asker_in n) t.heard in
       let due_at : (n : FullName) → Option Setting = λ n. if ran_out now (ask_running past n) then option_map (again_setting (distance_to dist n.stream.source)) (ask_running past n) else None in

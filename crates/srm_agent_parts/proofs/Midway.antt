@@ -14,17 +14,16 @@ use Rattle.srm_timers.specs.Arms as timers
 use Rattle.srm_timers.specs.Arms.{setting, arm_names, AreDrawn, end_of, ran_out, RunsOutFirst, ArmsAre, arm_of}
 use Rattle.srm_timers.specs.Timers.{armed_at}
 use Rattle.srm_deadlines.specs.Least.{lesser}
-use Rattle.srm_timers.specs.AskCalls.{AskCall, AskContent, AskFits, AskStays, AskDue, AskNext, AskedFirst, AskHolds, ask_timer, first_exponent}
-use Rattle.srm_timers.specs.FixCalls.{FixCall, FixContent, FixFits, FixStays, FixDue, FixNext, FixHolds, FixPlace, FixPlaces, fix_timer, asked_first, is_off}
+use Rattle.srm_timers.specs.AskCalls.{AskCall, AskContent, AskFits, AskStays, AskDue, AskTimersRun, AskNext, AskedFirst, AskHolds, ask_timer, first_exponent}
+use Rattle.srm_timers.specs.FixCalls.{FixCall, FixContent, FixFits, FixStays, FixDue, FixNext, FixHolds, FixPlace, fix_timer, asked_first, is_off}
 use Rattle.srm_timers.specs.Distances.{distance_to}
-use Rattle.srm_timers.proofs.Arming.{same_itself}
 use Rattle.srm_entries.specs.declared.entry.Entry.{Entry}
 use Rattle.srm_entries.specs.Configs.{Config}
 use Rattle.srm_entries.specs.Entries.{is_missing}
 use Rattle.srm_entries.specs.Distances.{distance}
 use Rattle.srm_entries.specs.Timers.{arm_in, last_ask, asker, repaired, first_asker, fix_running, held_off}
 use Rattle.srm_agent_parts.specs.TimersKept.{TimersContent, TimersFit, shown_if}
-use Rattle.srm_agent_parts.specs.TimerCalls.{KeepSettings, WaitsAreDrawn, TimersStay, AsksPending, FixesPending, IsBefore, TimersNext, ask_running}
+use Rattle.srm_agent_parts.specs.TimerCalls.{KeepSettings, WaitsAreDrawn, TimersStay, AreDueAsks, AreDueFixes, AsksPending, FixesPending, IsBefore, TimersNext, ask_running}
 use Rattle.srm_entries.proofs.Adding.{last_ask-snoc, fix_running-snoc, held_off-snoc}
 use Rattle.srm_entries.proofs.Setting.{of_kind, find_kind, all_asks, drawn_asks}
 
@@ -163,8 +162,8 @@ pub waits_before : {W : Type 0} (draw : W → ℕ × W) (a b : TimersContent) (f
 waits_before draw a b from to arms k h = record { each = λ c s. h.each c (k.each c s) }
 
 -- room for one name
-pub first_placed : (name : FullName) (a b : FixContent) → FixPlaces (name ∷ []) a → b ≡ a → FixPlace b name
-first_placed name a b places same = subst (λ (x : FixContent). FixPlace x name) (sym same) (places.each name (ap (λ t. t || false) (same_itself name)))
+pub first_placed : (name : FullName) (a b : FixContent) → FixPlace a name → b ≡ a → FixPlace b name
+first_placed name a b place same = subst (λ (x : FixContent). FixPlace x name) (sym same) place
 
 -- the waits of arms of requests
 pub waits_drawn : {W : Type 0} (draw : W → ℕ × W) (asks : AskContent) (fixes : FixContent) (names asked : List FullName) (dist : List ℕ) (from to : W) (arms : List Arm) → AskedFirst names asked dist arms
@@ -195,6 +194,12 @@ fixes_pending now t names due = record {
     exact = λ n. (due.each c.d1 c.d2 h.fix_calls h.fixes).exact n ∙ ap (ran_out now) (h.fix_timers n);
   };
 }
+
+pub asks_due : (now : ℕ) (t : TimersContent) (names : List FullName) → AskDue now t.asks names → ascending name_below names ≡ true → AskTimersRun names t.asks → AreDueAsks now t names
+asks_due now t names due rising run = record { due = due; rising = rising; run = run }
+
+pub fixes_due : (now : ℕ) (t : TimersContent) (names : List FullName) → FixDue now t.fixes names → ascending name_below names ≡ true → AreDueFixes now t names
+fixes_due now t names due rising = record { due = due; rising = rising }
 
 -- the first of the timers of one kind
 

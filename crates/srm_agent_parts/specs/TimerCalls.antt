@@ -2,7 +2,7 @@
 use Rattle.std.specs.Prelude.{◌≡◌, ◌⊎◌, ℕ, ◌<◌, Bool, true, false, not, ◌&&◌, List, [], ◌∷◌, ◌++◌, if◌then◌else◌, Option, Some, None, option_map, option_to_list, IfSome}
 use Rattle.srm_names.specs.declared.limits.TheConstants.{MEMBERS}
 use Rattle.srm_names.specs.FullName.{FullName}
-use Rattle.srm_names.specs.Names.{AreExactly}
+use Rattle.srm_names.specs.Names.{AreExactly, ascending, name_below}
 use Rattle.srm_codec.specs.declared.datagram.Datagram.{Datagram}
 use Rattle.srm_codec.specs.declared.datagram.Datagram.TheVariants.{Data, Request, Repair, Session}
 use Rattle.srm_codec.specs.Spelling.{asked_by, IsSpellable}
@@ -12,8 +12,8 @@ use Rattle.srm_timers.specs.declared.arm.Arm.{Arm}
 use Rattle.srm_timers.specs.declared.arm.Armed.{Armed}
 use Rattle.srm_timers.specs.declared.arm.ArmKind.TheVariants.{Ask, Fix}
 use Rattle.srm_timers.specs.Arms.{AreDrawn, ran_out, plan_of, backs_off}
-use Rattle.srm_timers.specs.AskCalls.{AskCall, AskFits, AskAdds, ask_timer, ask_plan, sets}
-use Rattle.srm_timers.specs.FixCalls.{Asked, FixAdds, FixAnswers, sets_fix}
+use Rattle.srm_timers.specs.AskCalls.{AskCall, AskFits, AskAdds, AskDue, AskTimersRun, ask_timer, ask_plan, sets}
+use Rattle.srm_timers.specs.FixCalls.{Asked, FixAdds, FixAnswers, FixDue, sets_fix}
 use Rattle.srm_timers.specs.Distances.{distance_to}
 use Rattle.srm_entries.specs.declared.entry.Entry.{Entry}
 use Rattle.srm_entries.specs.Configs.{Config}
@@ -116,6 +116,17 @@ pub record AsksPending (now : ℕ) (t : TimersContent) (names : List FullName) :
 
 pub record FixesPending (now : ℕ) (t : TimersContent) (names : List FullName) : Type 0 where
   pub each : (c : Config) (past : List Entry) → TimersFit c past t → AreToFix now past names
+
+-- these are the names whose request timers ran out, in order, and each has one
+pub record AreDueAsks (now : ℕ) (t : TimersContent) (names : List FullName) : Type 0 where
+  pub due : AskDue now t.asks names
+  pub rising : ascending name_below names ≡ true
+  pub run : AskTimersRun names t.asks
+
+-- and those whose repair timers ran out
+pub record AreDueFixes (now : ℕ) (t : TimersContent) (names : List FullName) : Type 0 where
+  pub due : FixDue now t.fixes names
+  pub rising : ascending name_below names ≡ true
 
 -- One name of a request: who asked is noted. Where the name is held a repair timer is set, where none runs and it isn't held
 -- off; where it isn't held its request timer is set again, where one runs and the request isn't ignored.

@@ -8,7 +8,7 @@ ghost use Rattle.srm_deadlines.specs.Deadlines.{DueAmong};
 ghost use Rattle.srm_timers.specs.Distances.{AreDistances};
 ghost use Rattle.srm_deadlines.specs.Least.{lesser};
 ghost use Rattle.srm_agent_parts.specs.TimersKept.{TimersFit, HaveSettings};
-ghost use Rattle.srm_agent_parts.specs.TimerCalls.{AsksPending, FixesPending, KeepSettings, TimersNext, TimersStay, WaitsAreDrawn};
+ghost use Rattle.srm_agent_parts.specs.TimerCalls.{AreDueAsks, AreDueFixes, AsksPending, FixesPending, KeepSettings, TimersNext, TimersStay, WaitsAreDrawn};
 
 mod hearing;
 mod requests;
@@ -53,11 +53,12 @@ impl Timers {
 
     /// The missing names whose request timers have run out, in order of name: those that a tick asks for. Only want of
     /// memory refuses it.
-    #[tactic(auto, using(crate::proofs::Midway::asks_pending))]
+    #[tactic(auto, using(crate::proofs::Midway::asks_pending, crate::proofs::Midway::asks_due))]
     pub fn pending_asks(&self, now: u64) -> Result<Vec<Name>, AllocError>
         ensures pending { IfOk result (λ names. AsksPending now self.now names.items) }
         ensures rising { IfOk result (λ names. ascending name_below names.items ≡ true) }
-        ensures due { IfOk result (λ names. DueAmong now self.now.asks.ends.places names.items) }
+        ensures among { IfOk result (λ names. DueAmong now self.now.asks.ends.places names.items) }
+        ensures due { IfOk result (λ names. AreDueAsks now self.now names.items) }
     {
         let names = Vec::new(self.alloc);
         self.asks.pending(now, names).map_err(|_| AllocError)
@@ -65,10 +66,11 @@ impl Timers {
 
     /// The names whose repair timers have run out, in order of name: those that a tick repairs. Only want of memory
     /// refuses it.
-    #[tactic(auto, using(crate::proofs::Midway::fixes_pending))]
+    #[tactic(auto, using(crate::proofs::Midway::fixes_pending, crate::proofs::Midway::fixes_due))]
     pub fn pending_fixes(&self, now: u64) -> Result<Vec<Name>, AllocError>
         ensures pending { IfOk result (λ names. FixesPending now self.now names.items) }
-        ensures due { IfOk result (λ names. DueAmong now self.now.fixes.ends.places names.items) }
+        ensures among { IfOk result (λ names. DueAmong now self.now.fixes.ends.places names.items) }
+        ensures due { IfOk result (λ names. AreDueFixes now self.now names.items) }
     {
         let names = Vec::new(self.alloc);
         self.fixes.pending(now, names).map_err(|_| AllocError)

@@ -20,6 +20,7 @@ use Rattle.srm_timers.specs.Ends.{EndContent, arm_end, SetsEnds}
 use Rattle.srm_timers.specs.Timers.{armed_at}
 use Rattle.srm_deadlines.specs.Places.{value_at, Keeps, Sets, ClearsAll, IsLeast}
 use Rattle.srm_timers.specs.AskCalls.{flat}
+use Rattle.srm_timers.specs.Marks.{NotesAsker, OffAsBefore}
 use Rattle.srm_timers.specs.FixCalls.{FixCall, Asked, SetFix, Repaired, asker_by, asked_first, first_asker, ran_by, fix_timer, is_off_by, is_off, is_free, sets_fix, hold_end, repair_by, repairs, FixFits, FixContent, FixStays, FixAdds, FixRepairs, FixDue, FixNext, FixIsFree, FixFirstAsker, FixAnswers, fix_plan, FixHolds, FixPlace, FixPlaces, HoldsOff, HoldAllOff, asker_at, is_held_off, held_off_until}
 use Rattle.srm_deadlines.proofs.Order.{map_take}
 use Rattle.srm_timers.proofs.Arming.{same_itself, last_arms}
@@ -85,22 +86,22 @@ is_off-repaired calls name until n now = list_any-snoc (is_off_by n now) calls (
 
 -- who asked is noted, with the askers as they are then
 fits_asked : (d1 d2 : ℕ) (calls : List FixCall) (name : FullName) (from : ℕ) (a b : FixContent) → FixFits d1 d2 calls a → b.d1 ≡ a.d1 → b.d2 ≡ a.d2
-    → b.ends ≡ a.ends → b.holds ≡ a.holds → ((n : FullName) → value_at b.askers n ≡ or_else (value_at a.askers n) (if same_name n name then Some from else None))
+    → b.ends ≡ a.ends → OffAsBefore a.holds b.holds → NotesAsker name from a.askers b.askers
     → FixFits d1 d2 (calls ++ Asked name from ∷ []) b
 fits_asked d1 d2 calls name from a b h p q ends holds askers = record {
   d1_is = p ∙ h.d1_is;
   d2_is = q ∙ h.d2_is;
-  askers = λ n. askers n ∙ ap (λ o. or_else o (if same_name n name then Some from else None)) (h.askers n) ∙ sym (asked_first-snoc calls (Asked name from) n);
+  askers = λ n. askers.each n ∙ ap (λ o. or_else o (if same_name n name then Some from else None)) (h.askers n) ∙ sym (asked_first-snoc calls (Asked name from) n);
   ends = λ n. ap (λ (e : EndContent). value_at e.places n) ends ∙ h.ends n ∙ sym (ap (option_map end_of) (fix_timer-asked calls name from n));
-  holds = λ n now. ap (λ e. nat_lt now (unwrap_or (value_at e n) 0)) holds ∙ h.holds n now ∙ sym (is_off-asked calls name from n now);
+  holds = λ n now. holds.each n now ∙ h.holds n now ∙ sym (is_off-asked calls name from n now);
 }
 
-new_asker : (name : FullName) (from : ℕ) (n : FullName) (f : FullName → Option ℕ) → f name ≡ None → (b : Bool) → same_name n name ≡ b
+pub new_asker : (name : FullName) (from : ℕ) (n : FullName) (f : FullName → Option ℕ) → f name ≡ None → (b : Bool) → same_name n name ≡ b
     → (if b then Some from else f n) ≡ or_else (f n) (if b then Some from else None)
 new_asker name from n f none true same = sym (ap (λ o. or_else o (Some from)) (ap f (same_name-is n name same) ∙ none))
 new_asker name from n f none false other = sym (or_none (f n))
 
-old_asker : (name : FullName) (from : ℕ) (n : FullName) (f : FullName → Option ℕ) → is_some (f name) ≡ true → (b : Bool) → same_name n name ≡ b
+pub old_asker : (name : FullName) (from : ℕ) (n : FullName) (f : FullName → Option ℕ) → is_some (f name) ≡ true → (b : Bool) → same_name n name ≡ b
     → f n ≡ or_else (f n) (if b then Some from else None)
 old_asker name from n f some true same = go (f n) (ap (λ m. is_some (f m)) (same_name-is n name same) ∙ some)
   where
@@ -108,17 +109,6 @@ old_asker name from n f some true same = go (f n) (ap (λ m. is_some (f m)) (sam
     go (Some x) e = refl
     go None e = cc
 old_asker name from n f some false other = sym (or_none (f n))
-
-pub fits_first : (d1 d2 : ℕ) (calls : List FixCall) (name : FullName) (from : ℕ) (a b : FixContent) → FixFits d1 d2 calls a → b.d1 ≡ a.d1 → b.d2 ≡ a.d2
-    → b.ends ≡ a.ends → b.holds ≡ a.holds → value_at a.askers name ≡ None → Sets name (Some from) a.askers b.askers
-    → FixFits d1 d2 (calls ++ Asked name from ∷ []) b
-fits_first d1 d2 calls name from a b h p q ends holds none sets =
-    fits_asked d1 d2 calls name from a b h p q ends holds (λ n. sets.each n ∙ new_asker name from n (value_at a.askers) none (same_name n name) refl)
-
-pub fits_later : (d1 d2 : ℕ) (calls : List FixCall) (name : FullName) (from : ℕ) (a : FixContent) → FixFits d1 d2 calls a
-    → is_some (value_at a.askers name) ≡ true → FixFits d1 d2 (calls ++ Asked name from ∷ []) a
-fits_later d1 d2 calls name from a h some =
-    fits_asked d1 d2 calls name from a a h refl refl refl refl (λ n. old_asker name from n (value_at a.askers) some (same_name n name) refl)
 
 -- timers are set
 pub fits_sets_fix : (d1 d2 : ℕ) (calls : List FixCall) (now : ℕ) (arms : List Arm) (a b : FixContent) → FixFits d1 d2 calls a → b.d1 ≡ a.d1 → b.d2 ≡ a.d2
@@ -147,13 +137,13 @@ map_if f false o p = refl
 
 -- a repair was heard or handed out
 fits_ended : (d1 d2 : ℕ) (calls : List FixCall) (name : FullName) (until : ℕ) (a b : FixContent) → FixFits d1 d2 calls a → b.d1 ≡ a.d1 → b.d2 ≡ a.d2
-    → b.askers ≡ a.askers → Sets name None a.ends.places b.ends.places
+    → Keeps a.askers b.askers → Sets name None a.ends.places b.ends.places
     → ((n : FullName) (now : ℕ) → nat_lt now (unwrap_or (value_at b.holds n) 0) ≡ nat_lt now (unwrap_or (value_at a.holds n) 0) || same_name n name && nat_lt now until)
     → FixFits d1 d2 (calls ++ Repaired name until ∷ []) b
 fits_ended d1 d2 calls name until a b h p q askers ends holds = record {
   d1_is = p ∙ h.d1_is;
   d2_is = q ∙ h.d2_is;
-  askers = λ n. ap (λ e. value_at e n) askers ∙ h.askers n ∙ sym (asked_first-append calls (Repaired name until ∷ []) n refl);
+  askers = λ n. askers.each n ∙ h.askers n ∙ sym (asked_first-append calls (Repaired name until ∷ []) n refl);
   ends = λ n. ends.each n ∙ if_same (same_name n name) _ _ _ (h.ends n)
       ∙ sym (ap (option_map end_of) (fix_timer-repaired calls name until n) ∙ map_if end_of (same_name n name) _ _);
   holds = λ n t. holds n t ∙ ap (λ b. b || same_name n name && nat_lt t until) (h.holds n t) ∙ sym (is_off-repaired calls name until n t);
@@ -270,14 +260,14 @@ pub is_off-repairs : (now : ℕ) (dist : List ℕ) (calls : List FixCall) (names
     → is_off (calls ++ repairs now dist calls names) n t ≡ (is_off calls n t || among names n && nat_lt t (hold_end now dist calls n))
 is_off-repairs now dist calls names n t = any_append calls (repairs now dist calls names) n t ∙ ap (λ b. is_off calls n t || b) (repairs_hold now dist calls names n t)
 
-pub repairs_all : (now : ℕ) (dist : List ℕ) (names : List FullName) (a b : FixContent) → b.d1 ≡ a.d1 → b.d2 ≡ a.d2 → b.askers ≡ a.askers → ClearsAll names a.ends.places b.ends.places
+pub repairs_all : (now : ℕ) (dist : List ℕ) (names : List FullName) (a b : FixContent) → b.d1 ≡ a.d1 → b.d2 ≡ a.d2 → Keeps a.askers b.askers → ClearsAll names a.ends.places b.ends.places
     → HoldAllOff now dist names a.askers a.holds b.holds → FixRepairs now dist names a b
 repairs_all now dist names a b p q askers ends off = record {
   near = λ d1 d2 calls h n at. subst (λ o. unwrap_or o n.stream.source < MEMBERS) (h.askers n) (off.near n at);
   each = λ d1 d2 calls h. record {
     d1_is = p ∙ h.d1_is;
     d2_is = q ∙ h.d2_is;
-    askers = λ n. ap (λ e. value_at e n) askers ∙ h.askers n ∙ sym (asked_first-append calls (repairs now dist calls names) n (no_asker-repairs now dist calls names n));
+    askers = λ n. askers.each n ∙ h.askers n ∙ sym (asked_first-append calls (repairs now dist calls names) n (no_asker-repairs now dist calls names n));
     ends = λ n. ends.each n ∙ ap (λ o. if among names n then None else o) (h.ends n)
         ∙ sym (ap (λ o. option_map end_of (flat o)) (last_of-append (ran_by n) calls (repairs now dist calls names) ∙ ap (λ o. or_else o (last_of (ran_by n) calls)) (repairs_cancel now dist calls names n))
         ∙ cancels (among names n) (fix_timer calls n) (last_of (ran_by n) calls) refl);
@@ -342,12 +332,8 @@ pub unanswered : (b told : Bool) (q : Plan) → b ≡ false → b ≡ told → N
 unanswered b told q none is = ap (λ t. if t then Some q else None) (sym none ∙ is)
 
 -- the same, for every list of calls
-pub note_first : (name : FullName) (from : ℕ) (a b : FixContent) → b.d1 ≡ a.d1 → b.d2 ≡ a.d2 → b.ends ≡ a.ends → b.holds ≡ a.holds → value_at a.askers name ≡ None
-    → Sets name (Some from) a.askers b.askers → FixAdds (Asked name from ∷ []) a b
-note_first name from a b p q ends holds none sets = record { each = λ d1 d2 calls h. fits_first d1 d2 calls name from a b h p q ends holds none sets }
-
-pub note_later : (name : FullName) (from : ℕ) (a : FixContent) → is_some (value_at a.askers name) ≡ true → FixAdds (Asked name from ∷ []) a a
-note_later name from a some = record { each = λ d1 d2 calls h. fits_later d1 d2 calls name from a h some }
+pub note_adds : (name : FullName) (from : ℕ) (a b : FixContent) → b.d1 ≡ a.d1 → b.d2 ≡ a.d2 → b.ends ≡ a.ends → OffAsBefore a.holds b.holds → NotesAsker name from a.askers b.askers → FixAdds (Asked name from ∷ []) a b
+note_adds name from a b p q ends holds noted = record { each = λ d1 d2 calls h. fits_asked d1 d2 calls name from a b h p q ends holds noted }
 
 pub set_adds_fix : (now : ℕ) (arm : Arm) (a b : FixContent) → b.d1 ≡ a.d1 → b.d2 ≡ a.d2 → b.askers ≡ a.askers → b.holds ≡ a.holds
     → Sets arm.name (Some (now + arm.wait)) a.ends.places b.ends.places → FixAdds (SetFix now arm ∷ []) a b
@@ -357,7 +343,7 @@ pub sets_adds_fix : (now : ℕ) (arms : List Arm) (a b : FixContent) → b.d1 �
     → ascending name_below (arm_names arms) ≡ true → SetsEnds now arms a.ends.places b.ends.places → FixAdds (sets_fix now arms) a b
 sets_adds_fix now arms a b p q askers holds rising ends = record { each = λ d1 d2 calls h. fits_sets_fix d1 d2 calls now arms a b h p q askers holds rising ends }
 
-pub repaired_adds : (name : FullName) (until : ℕ) (a b : FixContent) → b.d1 ≡ a.d1 → b.d2 ≡ a.d2 → b.askers ≡ a.askers → Sets name None a.ends.places b.ends.places
+pub repaired_adds : (name : FullName) (until : ℕ) (a b : FixContent) → b.d1 ≡ a.d1 → b.d2 ≡ a.d2 → Keeps a.askers b.askers → Sets name None a.ends.places b.ends.places
     → HoldsOff name until a.holds b.holds → FixAdds (Repaired name until ∷ []) a b
 repaired_adds name until a b p q askers ends off = record { each = λ d1 d2 calls h. fits_ended d1 d2 calls name until a b h p q askers ends off.each }
 
@@ -373,40 +359,33 @@ first_is name a member is = record { each = λ d1 d2 calls h. is ∙ ap (λ o. u
 pub fix_due_is : (now : ℕ) (a : FixContent) (names : List FullName) → AreExactly (λ n. has_come now (value_at a.ends.places n)) names → FixDue now a names
 fix_due_is now a names due = record { each = λ d1 d2 calls h. due_ran_out now a.ends.places (fix_timer calls) names h.ends due }
 
--- a repair, by the distance to the one who asked first
-pub repairs_one : (now : ℕ) (dist : List ℕ) (name : FullName) (distance member : ℕ) (a b : FixContent) → FixFirstAsker name a member → distance ≡ distance_to dist member → member < MEMBERS
-    → FixAdds (Repaired name (now + 3 * distance) ∷ []) a b → FixRepairs now dist (name ∷ []) a b
-repairs_one now dist name distance member a b first is below adds = record {
-  near = λ d1 d2 calls h n at. subst (λ m. first_asker calls m < MEMBERS) (sym (same_name-is n name (sym (or_false (same_name n name)) ∙ at))) (subst (λ k. k < MEMBERS) (first.each d1 d2 calls h) below);
-  each = λ d1 d2 calls h.
-      subst (λ d. FixFits d1 d2 (calls ++ Repaired name (now + 3 * d) ∷ []) b) (is ∙ ap (distance_to dist) (first.each d1 d2 calls h)) (adds.each d1 d2 calls h);
-}
-
 pub repairs_after : (now : ℕ) (dist : List ℕ) (names names' : List FullName) (a b c : FixContent) → FixStays a b → names ≡ names' → FixRepairs now dist names b c → FixRepairs now dist names' a c
 repairs_after now dist names names' a b c stays is repairs =
     subst (λ names. FixRepairs now dist names a c) is (record { each = λ d1 d2 calls h. repairs.each d1 d2 calls (stays.each d1 d2 calls h); near = λ d1 d2 calls h. repairs.near d1 d2 calls (stays.each d1 d2 calls h) })
 
 -- a request: who asked, and its arm
-pub asked_sets : (name : FullName) (from now : ℕ) (arm : Arm) (a b c d : FixContent) → FixStays a b → FixAdds (Asked name from ∷ []) b c → FixAdds (SetFix now arm ∷ []) c d
-    → FixAdds (Asked name from ∷ SetFix now arm ∷ []) a d
-asked_sets name from now arm a b c d stays asked set = record {
-  each = λ d1 d2 calls h. subst (λ cs. FixFits d1 d2 cs d) (append_assoc calls (Asked name from ∷ []) (SetFix now arm ∷ [])) (set.each d1 d2 _ (asked.each d1 d2 calls (stays.each d1 d2 calls h)));
+pub asks_then_sets : (name : FullName) (from now : ℕ) (arm : Arm) (a b c : FixContent) → FixAdds (Asked name from ∷ []) a b → FixAdds (SetFix now arm ∷ []) b c → FixAdds (Asked name from ∷ SetFix now arm ∷ []) a c
+asks_then_sets name from now arm a b c asked set = record {
+  each = λ d1 d2 calls h. subst (λ cs. FixFits d1 d2 cs c) (append_assoc calls (Asked name from ∷ []) (SetFix now arm ∷ [])) (set.each d1 d2 _ (asked.each d1 d2 calls h));
 }
 
-pub asked_alone : (name : FullName) (from : ℕ) (a b c : FixContent) → FixStays a b → FixAdds (Asked name from ∷ []) b c → FixAdds (Asked name from ∷ []) a c
-asked_alone name from a b c stays asked = record { each = λ d1 d2 calls h. asked.each d1 d2 calls (stays.each d1 d2 calls h) }
-
-pub answers_with : (name : FullName) (distance now : ℕ) (held free : Bool) (arm : Arm) (a b : FixContent) → FixStays a b → FixIsFree name now b free → (held && free) ≡ true
+pub answers_with : (name : FullName) (distance now : ℕ) (held free : Bool) (arm : Arm) (a : FixContent) → FixIsFree name now a free → (held && free) ≡ true
     → plan_of arm ≡ fix_plan name distance → FixAnswers name distance held now a (Some arm)
-answers_with name distance now held free arm a b stays is sets plan = record {
-  each = λ d1 d2 calls h. answered (held && free) _ _ _ sets (ap (λ f. held && f) (is.each d1 d2 calls (stays.each d1 d2 calls h))) plan;
+answers_with name distance now held free arm a is sets plan = record {
+  each = λ d1 d2 calls h. answered (held && free) _ _ _ sets (ap (λ f. held && f) (is.each d1 d2 calls h)) plan;
 }
 
-pub answers_not : (name : FullName) (distance now : ℕ) (held free : Bool) (a b : FixContent) → FixStays a b → FixIsFree name now b free → (held && free) ≡ false
-    → FixAnswers name distance held now a None
-answers_not name distance now held free a b stays is sets = record {
-  each = λ d1 d2 calls h. unanswered (held && free) _ _ sets (ap (λ f. held && f) (is.each d1 d2 calls (stays.each d1 d2 calls h)));
+pub answers_not : (name : FullName) (distance now : ℕ) (held free : Bool) (a : FixContent) → FixIsFree name now a free → (held && free) ≡ false → FixAnswers name distance held now a None
+answers_not name distance now held free a is sets = record {
+  each = λ d1 d2 calls h. unanswered (held && free) _ _ sets (ap (λ f. held && f) (is.each d1 d2 calls h));
 }
+
+-- where room was made before
+pub adds_after : (more : List FixCall) (a b c : FixContent) → FixStays a b → FixAdds more b c → FixAdds more a c
+adds_after more a b c stays adds = record { each = λ d1 d2 calls h. adds.each d1 d2 calls (stays.each d1 d2 calls h) }
+
+pub answers_after : (name : FullName) (distance now : ℕ) (held : Bool) (arm : Option Arm) (a b : FixContent) → FixStays a b → FixAnswers name distance held now b arm → FixAnswers name distance held now a arm
+answers_after name distance now held arm a b stays answers = record { each = λ d1 d2 calls h. answers.each d1 d2 calls (stays.each d1 d2 calls h) }
 
 pub fix_next_is : (a : FixContent) (moment : Option ℕ) → IsLeast a.ends.places moment → FixNext a moment
 fix_next_is a moment least = record { each = λ d1 d2 calls h. first_end a.ends.places (fix_timer calls) moment h.ends least }

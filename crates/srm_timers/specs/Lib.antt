@@ -5,4 +5,5 @@ pub mod Ends
 pub mod Timers
 pub mod AskCalls
 pub mod FixCalls
+pub mod Marks
 pub mod TimerExamples

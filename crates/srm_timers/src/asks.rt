@@ -223,11 +223,12 @@ impl<D: Deadlines> Asks<D> {
     /// They are answered in the list that is handed in, in place of what it holds. Only want of memory refuses it,
     /// where that list has too little room for them: no [`room`](Asks::room) is needed, since a caller that makes room
     /// for what is due asks here which names these are.
-    #[tactic(auto, using(crate::proofs::AskSteps::due_is))]
+    #[tactic(auto, using(crate::proofs::AskSteps::due_is, crate::proofs::AskSteps::timers_run))]
     pub fn pending(&self, now: u64, names: Vec<Name>) -> Result<Vec<Name>, TimerFault>
         ensures due { IfOk result (λ names. AskDue now self.now names.items) }
         ensures among { IfOk result (λ names. DueAmong now self.now.ends.places names.items) }
         ensures rising { IfOk result (λ names. ascending name_below names.items ≡ true) }
+        ensures timers { IfOk result (λ names. AskTimersRun names.items self.now) }
         ensures room { DueFit now self.now.ends.places (vec_capacity names) → IsOk result }
     {
         let mut names = names;
@@ -281,9 +282,10 @@ impl<D: Deadlines> Asks<D> {
         Ok(mem::replace(&mut self.names, Vec::new(self.alloc)))
     }
 
-    /// The timers of these names, which rise and have timers, are set again, each one exponent higher.
+    /// The timers of these names, which rise and have timers, are set again, each one exponent higher: what `due` does with the
+    /// names that [`pending`](Asks::pending) answers, where these are at hand. Only want of memory refuses it.
     #[tactic(auto, using(crate::proofs::AskSteps::sets_then, crate::proofs::AskSteps::again_rise, crate::proofs::AskSteps::stays_kept, crate::proofs::AskSteps::keeps_self, crate::proofs::Fitting::as_many))]
-    fn set_again<W: Words>(
+    pub fn set_again<W: Words>(
         &mut self,
         names: &[Name],
         now: u64,

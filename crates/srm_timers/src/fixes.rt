@@ -4,20 +4,21 @@ ghost use Rattle.std.specs.Prelude.{◌≡◌, ◌≤◌, ◌+◌, ◌*◌, List
 ghost use Rattle.srm_names.specs.FullName.{FullName};
 ghost use Rattle.srm_names.specs.Names.{ascending, name_below};
 ghost use Rattle.srm_timers.specs.Arms.{plan_of, arm_names, low_of, high_of, AreDrawn, IsFix, AreFixes, setting};
-ghost use Rattle.srm_timers.specs.FixCalls.{Asked, Repaired, sets_fix, fix_plan, FixFits, FixAdds, FixRepairs, FixDue, FixNext, FixIsFree, FixFirstAsker, FixAnswers, FixStays, FixPlace, FixPlaces, FixReady, FixHolds, HoldsOff, HoldAllOff, asker_at, fix_setting};
+ghost use Rattle.srm_timers.specs.FixCalls.{Asked, Repaired, sets_fix, fix_plan, FixFits, FixAdds, FixRepairs, FixDue, FixNext, FixIsFree, FixFirstAsker, FixAnswers, FixStays, FixPlace, FixPlaces, FixReady, FixHolds, fix_setting};
 ghost use Rattle.srm_deadlines.specs.Deadlines.{DueAmong, DueFit};
 ghost use Rattle.srm_timers.specs.Distances.{distance_to, AreDistances};
 ghost use Rattle.srm_timers.specs.Ends.{HaveRoom, AreShort};
-ghost use Rattle.srm_deadlines.specs.Places.{has_place, HasPlaces, Holds, Keeps};
+ghost use Rattle.srm_deadlines.specs.Places.{HasPlaces, Keeps};
 
 use crate::arm::{Arm, ArmKind};
 use crate::distance::distance_in;
 use crate::ends::Ends;
 use crate::fault::TimerFault;
 use crate::limits::{HOLD_OFF, LONGEST_WAIT, TIMER_SETTING};
+use crate::marks::Marks;
 use crate::wait::draw_wait;
 use crate::words::Words;
-use srm_deadlines::{ByName, Deadlines};
+use srm_deadlines::Deadlines;
 use srm_names::{LONGEST_DISTANCE, MOMENT, Member, Name};
 use std::alloc::{AllocError, Global};
 use std::marker::Model;
@@ -33,8 +34,7 @@ pub struct Fixes<D: Deadlines> {
     d1: u8,
     d2: u8,
     ends: Ends<D>,
-    askers: ByName<Member>,
-    holds: ByName<u64>,
+    marks: Marks,
     /// Room for what `due` answers next.
     list: Vec<Name>,
 }
@@ -45,9 +45,9 @@ impl<D: Deadlines> Model for Fixes<D> {
 
     ghost Value = { FixContent };
 
-    ghost view = { λ a. record { d1 = a.d1; d2 = a.d2; ends = a.ends; askers = a.askers; holds = a.holds; list = vec_capacity a.list } };
+    ghost view = { λ a. record { d1 = a.d1; d2 = a.d2; ends = a.ends; askers = a.marks.askers; holds = a.marks.holds; list = vec_capacity a.list } };
 
-    ghost invariant = { λ a. FixIsRight (record { d1 = a.d1; d2 = a.d2; ends = a.ends; askers = a.askers; holds = a.holds; list = vec_capacity a.list }) };
+    ghost invariant = { λ a. FixIsRight (record { d1 = a.d1; d2 = a.d2; ends = a.ends; askers = a.marks.askers; holds = a.marks.holds; list = vec_capacity a.list }) };
 }
 
 impl<D: Deadlines> Fixes<D> {
@@ -63,8 +63,7 @@ impl<D: Deadlines> Fixes<D> {
             d1,
             d2,
             ends: Ends::new(alloc, deadlines),
-            askers: ByName::new(alloc),
-            holds: ByName::new(alloc),
+            marks: Marks::new(alloc),
             list: Vec::new(alloc),
         }
     }
@@ -83,9 +82,9 @@ impl<D: Deadlines> Fixes<D> {
         Ok(())
     }
 
-    /// Makes room for calls on a name.
+    /// Makes room, so that no call on this name alone is refused. Nothing else changes. Only want of memory refuses it.
     #[tactic(auto, using(crate::proofs::FixSteps::one_place, crate::proofs::FixSteps::one_placed))]
-    fn make_place(&mut self, name: Name) -> Result<(), AllocError>
+    pub fn make_place(&mut self, name: Name) -> Result<(), AllocError>
         ensures kept { FixStays self.old self.new }
         ensures held { FixHolds self.old self.new }
         ensures d1 { self.new.d1 ≡ self.old.d1 }
@@ -96,9 +95,9 @@ impl<D: Deadlines> Fixes<D> {
         self.make_places(&[name])
     }
 
-    /// Makes room for calls on one name each.
+    /// Makes room, so that no call on one of these names alone is refused. Nothing else changes. Only want of memory refuses it.
     #[tactic(auto, using(crate::proofs::FixSteps::fix_stays, crate::proofs::AskSteps::keeps_self))]
-    fn make_places(&mut self, names: &[Name]) -> Result<(), AllocError>
+    pub fn make_places(&mut self, names: &[Name]) -> Result<(), AllocError>
         ensures kept { FixStays self.old self.new }
         ensures ends { Keeps self.old.ends.places self.new.ends.places }
         ensures held { FixHolds self.old self.new }
@@ -108,13 +107,12 @@ impl<D: Deadlines> Fixes<D> {
         ensures again { FixPlaces names.now self.old → IsOk result }
     {
         self.ends.make_places(names)?;
-        self.askers.room(names)?;
-        self.holds.room(names)
+        self.marks.room(names)
     }
 
     /// A request for a name was heard. The first member that asks for a name is noted, whether the name is held or not.
     /// A timer is set where the name is held, no timer of it runs and it isn't held off. Only want of memory refuses it.
-    #[tactic(auto, using(crate::proofs::FixSteps::asked_sets, crate::proofs::FixSteps::asked_alone, crate::proofs::FixSteps::answers_with, crate::proofs::FixSteps::answers_not))]
+    #[tactic(auto, using(crate::proofs::FixSteps::adds_after, crate::proofs::FixSteps::answers_after))]
     pub fn heard_request<W: Words>(
         &mut self,
         name: Name,
@@ -136,14 +134,37 @@ impl<D: Deadlines> Fixes<D> {
         ensures room { FixPlace self.old name → IsOk result }
     {
         self.make_place(name)?;
+        Ok(self.answer(name, from, held, dist, now, words))
+    }
+
+    /// The same for a name that has room. Takes no memory.
+    #[tactic(auto, using(crate::proofs::FixSteps::asks_then_sets, crate::proofs::FixSteps::answers_with, crate::proofs::FixSteps::answers_not))]
+    pub fn answer<W: Words>(
+        &mut self,
+        name: Name,
+        from: Member,
+        held: bool,
+        dist: &[u64],
+        now: u64,
+        words: &mut W,
+    ) -> Option<Arm>
+        requires place { FixPlace self.old name }
+        requires distances { AreDistances dist.now }
+        requires now { now ≤ MOMENT }
+        ensures fits { FixAdds (Asked name from ∷ sets_fix now (option_to_list result)) self.old self.new }
+        ensures arm { FixAnswers name (distance_to dist.now from) held now self.old result }
+        ensures setting { IfSome result (λ arm. setting arm ≡ fix_setting (distance_to dist.now from)) }
+        ensures drawn { AreDrawn W.draw (low_of self.old.d1) (high_of self.old.d1 self.old.d2) words.old (option_to_list result) words.new }
+        ensures held { FixHolds self.old self.new }
+    {
         let answers = both(held, self.is_free(name, now));
         self.note(name, from);
         if answers {
             let arm = self.arm(name, distance_in(dist, from), words);
             self.set(now, &arm);
-            Ok(Some(arm))
+            Some(arm)
         } else {
-            Ok(None)
+            None
         }
     }
 
@@ -194,15 +215,26 @@ impl<D: Deadlines> Fixes<D> {
         ensures room { (names : List FullName) → FixReady names self.old → DueAmong now self.old.ends.places names → IsOk result }
     {
         self.ends.due(now, &mut self.list)?;
-        self.holds.room(&self.list)?;
+        self.marks.room(&self.list)?;
         let names = mem::replace(&mut self.list, Vec::new(self.alloc));
         self.repair_all(&names, dist, now);
         Ok(names)
     }
 
-    /// Names, which rise, are repaired now.
+    /// Makes room to hold these names off. Nothing else changes. Only want of memory refuses it.
+    #[tactic(auto, using(crate::proofs::FixSteps::fix_stays, crate::proofs::AskSteps::keeps_self))]
+    pub fn room_to_hold(&mut self, names: &[Name]) -> Result<(), AllocError>
+        ensures kept { FixStays self.old self.new }
+        ensures held { FixHolds self.old self.new }
+        ensures places { OnOk result (HasPlaces names.now self.new.holds) }
+    {
+        self.marks.room(names)
+    }
+
+    /// Names, which rise, are repaired now: what `due` does with the names that [`pending`](Fixes::pending) answers, where these are
+    /// at hand and have [room](Fixes::room_to_hold). Takes no memory.
     #[tactic(auto, using(crate::proofs::FixSteps::repairs_all))]
-    fn repair_all(&mut self, names: &[Name], dist: &[u64], now: u64)
+    pub fn repair_all(&mut self, names: &[Name], dist: &[u64], now: u64)
         requires rising { ascending name_below names.now ≡ true }
         requires places { HasPlaces names.now self.old.holds }
         requires distances { AreDistances dist.now }
@@ -211,20 +243,18 @@ impl<D: Deadlines> Fixes<D> {
         ensures held { FixHolds self.old self.new }
     {
         self.ends.clear_all(names);
-        hold_all_off(&mut self.holds, &self.askers, names, dist, now);
+        self.marks.hold_all_off(names, dist, now);
     }
 
-    /// A name is repaired now.
-    #[tactic(auto, using(crate::proofs::FixSteps::repairs_one))]
-    fn repair(&mut self, name: Name, dist: &[u64], now: u64)
+    /// A repair of a name that has room was heard, as in [`heard_repair`](Fixes::heard_repair). Takes no memory.
+    pub fn repair(&mut self, name: Name, dist: &[u64], now: u64)
         requires place { FixPlace self.old name }
         requires distances { AreDistances dist.now }
         requires now { now ≤ MOMENT }
         ensures fits { FixRepairs now dist.now (name ∷ []) self.old self.new }
         ensures held { FixHolds self.old self.new }
     {
-        let distance = distance_in(dist, self.first_asker(name));
-        self.repaired(name, distance, now);
+        self.repair_all(&[name], dist, now);
     }
 
     /// The least moment at which a timer runs out. Takes no memory.
@@ -242,7 +272,7 @@ impl<D: Deadlines> Fixes<D> {
         ensures { FixIsFree name now self.now result }
     {
         let runs = self.ends.get(name).is_some();
-        let off = now < self.holds.get(name).unwrap_or(0);
+        let off = now < self.marks.until(name);
         neither(runs, off)
     }
 
@@ -251,11 +281,11 @@ impl<D: Deadlines> Fixes<D> {
     pub fn first_asker(&self, name: Name) -> Member
         ensures { FixFirstAsker name self.now result }
     {
-        asker_in(&self.askers, name)
+        self.marks.asker(name)
     }
 
     /// Notes who asked for a name, unless one asked before. Takes no memory.
-    #[tactic(auto, using(crate::proofs::FixSteps::note_first, crate::proofs::FixSteps::note_later))]
+    #[tactic(auto, using(crate::proofs::FixSteps::note_adds))]
     pub fn note(&mut self, name: Name, from: Member)
         requires { FixPlace self.old name }
         ensures fits { FixAdds (Asked name from ∷ []) self.old self.new }
@@ -263,9 +293,7 @@ impl<D: Deadlines> Fixes<D> {
         ensures d1 { self.new.d1 ≡ self.old.d1 }
         ensures d2 { self.new.d2 ≡ self.old.d2 }
     {
-        if self.askers.get(name).is_none() {
-            self.askers.set(name, Some(from));
-        }
+        self.marks.note(name, from);
     }
 
     /// Draws the wait of an arm, by one word. No timer is set.
@@ -323,53 +351,7 @@ impl<D: Deadlines> Fixes<D> {
         ensures held { FixHolds self.old self.new }
     {
         self.ends.clear(name);
-        hold_off(&mut self.holds, name, distance, now);
-    }
-}
-
-/// Who asked for a name first, else its source.
-fn asker_in(askers: &ByName<Member>, name: Name) -> Member
-    ensures { result ≡ asker_at askers.now name }
-{
-    match askers.get(name) {
-        Some(member) => member,
-        None => name.source(),
-    }
-}
-
-/// Holds a name off for three of these distances, unless it is held off for longer.
-#[tactic(auto, using(crate::proofs::FixSteps::held_longer, crate::proofs::FixSteps::held_as_long))]
-fn hold_off(holds: &mut ByName<u64>, name: Name, distance: u64, now: u64)
-    requires place { has_place holds.old name ≡ true }
-    requires distance { distance ≤ LONGEST_DISTANCE }
-    requires now { now ≤ MOMENT }
-    ensures off { HoldsOff name (now + HOLD_OFF * distance) holds.old holds.new }
-    ensures held { Holds holds.old holds.new }
-{
-    let until = now + HOLD_OFF * distance;
-    if holds.get(name).unwrap_or(0) < until {
-        holds.set(name, Some(until));
-    }
-}
-
-/// Holds names off for three distances to those who asked for them first.
-#[tactic(auto, using(crate::proofs::FixSteps::held_none, crate::proofs::FixSteps::held_more, crate::proofs::FixSteps::holds_on))]
-fn hold_all_off(
-    holds: &mut ByName<u64>,
-    askers: &ByName<Member>,
-    names: &[Name],
-    dist: &[u64],
-    now: u64,
-)
-    requires places { HasPlaces names.now holds.old }
-    requires distances { AreDistances dist.now }
-    requires now { now ≤ MOMENT }
-    ensures off { HoldAllOff now dist.now names.now askers.now holds.old holds.new }
-    ensures held { Holds holds.old holds.new }
-{
-    for name in names {
-        let distance = distance_in(dist, asker_in(askers, *name));
-        hold_off(holds, *name, distance, now);
+        self.marks.hold_off(name, distance, now);
     }
 }
 

@@ -25,6 +25,7 @@ mod fault;
 mod fixes;
 mod limits;
 mod listed;
+mod marks;
 mod pcg;
 mod timers;
 mod wait;

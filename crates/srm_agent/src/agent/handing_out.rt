@@ -2,8 +2,7 @@
 
 ghost use Rattle.std.specs.Prelude.{◌≡◌, ◌≤◌, length, true, IfOk, OnErr};
 ghost use Rattle.srm_names.specs.declared.limits.TheConstants.{MOMENT};
-ghost use Rattle.srm_deadlines.specs.Deadlines.{DueAmong};
-ghost use Rattle.srm_agent_parts.specs.TimerCalls.{TimersStay};
+ghost use Rattle.srm_agent_parts.specs.TimerCalls.{AreDueAsks, AreDueFixes, TimersStay};
 ghost use Rattle.srm_agent.specs.Ticking.{HandsOut};
 
 use super::Agent;
@@ -23,8 +22,8 @@ impl<W: Words + Drop> Agent<W> {
         notes: bool,
         moment: u64,
     ) -> Result<(Items<Arm>, Items<Arm>), AllocError>
-        requires asks { DueAmong moment self.old.timers.asks.ends.places due.now.asks }
-        requires fixes { DueAmong moment self.old.timers.fixes.ends.places due.now.fixes }
+        requires asks { AreDueAsks moment self.old.timers due.now.asks }
+        requires fixes { AreDueFixes moment self.old.timers due.now.fixes }
         requires moment { moment ≤ MOMENT }
         ensures ok { IfOk result (λ arms. HandsOut W.draw self.old due.now moment arms.0 self.new) }
         ensures noted { IfOk result (λ arms. notes ≡ true → arms.1 ≡ arms.0) }
@@ -48,8 +47,8 @@ impl<W: Words + Drop> Agent<W> {
         notes: bool,
         moment: u64,
     ) -> Result<(Items<Arm>, Items<Arm>), AllocError>
-        requires asks { DueAmong moment self.old.timers.asks.ends.places due.now.asks }
-        requires fixes { DueAmong moment self.old.timers.fixes.ends.places due.now.fixes }
+        requires asks { AreDueAsks moment self.old.timers due.now.asks }
+        requires fixes { AreDueFixes moment self.old.timers due.now.fixes }
         requires moment { moment ≤ MOMENT }
         ensures ok { IfOk result (λ arms. HandsOut W.draw self.old due.now moment arms.0 self.new) }
         ensures noted { IfOk result (λ arms. notes ≡ true → arms.1 ≡ arms.0) }

@@ -4,7 +4,7 @@ ghost use Rattle.std.specs.Prelude.{◌≡◌, ◌≤◌, length, true, IfOk, Is
 ghost use Rattle.srm_names.specs.declared.limits.TheConstants.{MOMENT};
 ghost use Rattle.srm_names.specs.Names.{ascending, name_below};
 ghost use Rattle.srm_timers.specs.AskCalls.{AnswerReady, Gained, AskAdds};
-ghost use Rattle.srm_timers.specs.FixCalls.{FixStays, FixPlace, FixPlaces, FixRepairs};
+ghost use Rattle.srm_timers.specs.FixCalls.{FixStays, FixPlace, FixRepairs};
 ghost use Rattle.srm_timers.specs.Distances.{AreDistances};
 ghost use Rattle.srm_agent_parts.specs.TimerCalls.{IsDataOf, IsRepairOf, IsSession, KeepSettings, TimersHear, TimersStay, WaitsAreDrawn};
 
@@ -118,9 +118,9 @@ impl Timers {
         ensures asks { self.new.asks ≡ self.old.asks }
         ensures fixes { FixStays self.old.fixes self.new.fixes }
         ensures settings { KeepSettings self.old self.new }
-        ensures places { OnOk result (FixPlaces (name ∷ []) self.new.fixes) }
+        ensures place { OnOk result (FixPlace self.new.fixes name) }
     {
-        self.fixes.room(&[name]).map_err(|_| AllocError)
+        self.fixes.make_place(name)
     }
 
     /// A repair of a name was heard: its repair timer is gone, and it is held off. Takes no memory.
@@ -133,6 +133,6 @@ impl Timers {
         ensures asks { self.new.asks ≡ self.old.asks }
         ensures settings { KeepSettings self.old self.new }
     {
-        self.fixes.heard_repair(name, dist, now).unwrap();
+        self.fixes.repair(name, dist, now);
     }
 }

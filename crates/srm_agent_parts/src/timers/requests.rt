@@ -59,7 +59,7 @@ impl Timers {
         ensures places { OnOk result (FixPlaces asked.now self.new.fixes) }
         ensures ready { OnOk result (AnswerReady fresh.now self.new.asks) }
     {
-        self.fixes.room(asked).map_err(|_| AllocError)?;
+        self.fixes.make_places(asked)?;
         self.asks.room(fresh).map_err(|_| AllocError)?;
         Vec::with_capacity(self.alloc, asked.len() + fresh.len())
     }
@@ -95,9 +95,7 @@ impl Timers {
         ensures room { AskHolds self.old.asks self.new.asks }
     {
         if is_held {
-            self.fixes
-                .heard_request(name, from, true, dist, now, words)
-                .unwrap()
+            self.fixes.answer(name, from, true, dist, now, words)
         } else {
             self.note(name, from);
             self.asks.heard_request(name, dist, now, words)

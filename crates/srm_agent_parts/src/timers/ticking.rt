@@ -2,12 +2,10 @@
 
 ghost use Rattle.std.specs.Prelude.{◌≡◌, ◌≤◌, length, IfOk, OnOk, OnErr};
 ghost use Rattle.srm_names.specs.declared.limits.TheConstants.{MOMENT};
-ghost use Rattle.srm_timers.specs.AskCalls.{AskStays, AnswerReady};
-ghost use Rattle.srm_timers.specs.FixCalls.{FixStays, FixReady};
-ghost use Rattle.srm_deadlines.specs.Places.{Keeps};
-ghost use Rattle.srm_deadlines.specs.Deadlines.{DueAmong};
+ghost use Rattle.srm_timers.specs.FixCalls.{FixStays};
+ghost use Rattle.srm_deadlines.specs.Places.{HasPlaces};
 ghost use Rattle.srm_timers.specs.Distances.{AreDistances};
-ghost use Rattle.srm_agent_parts.specs.TimerCalls.{KeepSettings, TimersTick, TimersStay, WaitsAreDrawn};
+ghost use Rattle.srm_agent_parts.specs.TimerCalls.{AreDueAsks, AreDueFixes, KeepSettings, TimersTick, TimersStay, WaitsAreDrawn};
 
 use super::Timers;
 use srm_names::Name;
@@ -15,25 +13,22 @@ use srm_timers::{Arm, Words};
 use std::alloc::AllocError;
 
 impl Timers {
-    /// Makes room for a tick at which these names are due. No timer changes.
-    #[tactic(auto, using(crate::proofs::Midway::asks_stay, crate::proofs::Midway::asks_keep))]
-    fn make_room(&mut self, asks: &[Name], fixes: &[Name]) -> Result<(), AllocError>
+    /// Makes room for repairs of these names. No timer changes.
+    #[tactic(auto, using(crate::proofs::Midway::fixes_stay, crate::proofs::Midway::fixes_keep))]
+    fn room_to_repair(&mut self, names: &[Name]) -> Result<(), AllocError>
         ensures kept { TimersStay self.old self.new }
-        ensures settings { KeepSettings self.old self.new }
-        ensures asks { AskStays self.old.asks self.new.asks }
+        ensures asks { self.new.asks ≡ self.old.asks }
         ensures fixes { FixStays self.old.fixes self.new.fixes }
-        ensures ask_ends { Keeps self.old.asks.ends.places self.new.asks.ends.places }
-        ensures fix_ends { Keeps self.old.fixes.ends.places self.new.fixes.ends.places }
-        ensures ask_room { OnOk result (AnswerReady asks.now self.new.asks) }
-        ensures fix_room { OnOk result (FixReady fixes.now self.new.fixes) }
+        ensures settings { KeepSettings self.old self.new }
+        ensures places { OnOk result (HasPlaces names.now self.new.fixes.holds) }
     {
-        self.asks.room(asks).map_err(|_| AllocError)?;
-        self.fixes.room(fixes).map_err(|_| AllocError)
+        self.fixes.room_to_hold(names)
     }
 
     /// The names whose request timers have run out are asked for now, and those whose repair timers have run out are repaired:
     /// the request timers are set again, one exponent higher, and the repair timers are gone. These are their names, as
-    /// `pending_asks` and `pending_fixes` say. Only want of memory refuses it.
+    /// `pending_asks` and `pending_fixes` say, which aren't looked for again. Only want of memory refuses it.
+    #[tactic(auto, using(crate::proofs::Midway::asks_stay, crate::proofs::Midway::stay_on))]
     pub fn tick<W: Words>(
         &mut self,
         asks: &[Name],
@@ -42,8 +37,8 @@ impl Timers {
         now: u64,
         words: &mut W,
     ) -> Result<Vec<Arm>, AllocError>
-        requires asks { DueAmong now self.old.asks.ends.places asks.now }
-        requires fixes { DueAmong now self.old.fixes.ends.places fixes.now }
+        requires asks { AreDueAsks now self.old asks.now }
+        requires fixes { AreDueFixes now self.old fixes.now }
         requires distances { AreDistances dist.now }
         requires now { now ≤ MOMENT }
         ensures ticks { IfOk result (λ arms. TimersTick asks.now fixes.now dist.now now arms.items self.old self.new) }
@@ -53,9 +48,9 @@ impl Timers {
         ensures undrawn { OnErr result (words.new ≡ words.old) }
         ensures settings { KeepSettings self.old self.new }
     {
-        self.make_room(asks, fixes)?;
-        let arms = self.asks.due(now, dist, words).unwrap();
-        self.fixes.due(now, dist).unwrap();
+        self.room_to_repair(fixes)?;
+        let arms = self.asks.set_again(asks, now, dist, words)?;
+        self.fixes.repair_all(fixes, dist, now);
         Ok(arms)
     }
 }

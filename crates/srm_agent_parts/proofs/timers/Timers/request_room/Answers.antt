@@ -1,11 +1,11 @@
 use Rattle.srm_agent_parts.proofs.Midway.{fixes_stay, both_stay}
 use Rattle.srm_agent_parts.proofs.timers.Timers.request_room.Goals as goal
 
-pub returns-in_err-map_err-clause-kept : goal.returns-in_err-map_err-clause-kept
-returns-in_err-map_err-clause-kept c = rw (← c.self.view_is) (fixes_stay _ _ _ c.room.ensures.kept)
+pub returns-in_err-make_places-clause-kept : goal.returns-in_err-make_places-clause-kept
+returns-in_err-make_places-clause-kept c = rw (← c.self.view_is) (fixes_stay _ _ _ c.make_places.ensures.kept)
 
-pub returns-in_err-map_err-2-clause-kept : goal.returns-in_err-map_err-2-clause-kept
-returns-in_err-map_err-2-clause-kept c = rw (← c.self.view_is) (both_stay _ _ _ _ c.room-2.ensures.kept c.room.ensures.kept)
+pub returns-in_err-map_err-clause-kept : goal.returns-in_err-map_err-clause-kept
+returns-in_err-map_err-clause-kept c = rw (← c.self.view_is) (both_stay _ _ _ _ c.room.ensures.kept c.make_places.ensures.kept)
 
 pub returns-clause-kept : goal.returns-clause-kept
-returns-clause-kept c = rw (← c.self.view_is) (both_stay _ _ _ _ c.room-2.ensures.kept c.room.ensures.kept)
+returns-clause-kept c = rw (← c.self.view_is) (both_stay _ _ _ _ c.room.ensures.kept c.make_places.ensures.kept)
