@@ -28,7 +28,7 @@ use Rattle.srm_entries.specs.Verdicts.{verdict_of, settlings}
 use Rattle.srm_agent_parts.specs.PageTables.{lacks_room_for, pages_of}
 use Rattle.srm_agent.specs.Contents.{Content}
 use Rattle.srm_agent.specs.Fits.{Fits}
-use Rattle.srm_agent.specs.Heeding.{IsJudgedBy, IsTaken}
+use Rattle.srm_agent.specs.Heeding.{IsJudgedBy, IsTaken, MayTake}
 use Rattle.srm_agent.specs.Noting.{Enters, Stays}
 use Rattle.srm_agent.proofs.Drawn.{slots_suffice}
 use Rattle.srm_agent.proofs.Ignoring.{ignored_datagram, ignored_judged, ignored_entry}
@@ -43,6 +43,17 @@ stays_roomy a s kept = stays a s a.timers a.words kept (same_timers a.timers) re
 
 pub taken_roomy : {W : Type 0} (g : Datagram) (a : Content W) (s : StoreContent) → StillFits s a.store → IsTaken g a → IsTaken g (with_store a s)
 taken_roomy g a s before taken = record { each = λ c made past h. taken.each c made past ((stays_roomy (with_store a s) a.store before).fits c made past h) }
+
+pub may_roomy : {W : Type 0} (g : Datagram) (names : List FullName) (moment : ℕ) (a : Content W) (s : StoreContent) → StillFits s a.store → MayTake g names moment a → MayTake g names moment (with_store a s)
+may_roomy g names moment a s before may = record {
+  here = may.here;
+  spelled = may.spelled;
+  later = may.later;
+  in_range = may.in_range;
+  taken = taken_roomy g a s before may.taken;
+  named = may.named;
+  pages = may.pages;
+}
 
 -- what is done once there is room is done
 pub enters_roomy : {W : Type 0} (draw : W → ℕ × W) (a b : Content W) (s : StoreContent) (moment : ℕ) (input : Input) (e : Entry) → StillFits a.store s → Enters draw (Some moment) input (with_store a s) b e → Enters draw (Some moment) input a b e

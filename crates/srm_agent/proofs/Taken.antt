@@ -1,6 +1,6 @@
 -- The entry in which data or a repair was heard and taken.
 use Rattle.std.proofs.Common.{◌≡◌, ℕ, ◌≤◌, max, Bool, true, false, ◌||◌, List, [], ◌∷◌, ◌++◌, refl, ap, sym, ◌∙◌, subst, arith}
-use Rattle.std.specs.Prelude.{Some, None, if◌then◌else◌, Result, Ok, Err, OnErr}
+use Rattle.std.specs.Prelude.{Option, Some, None, is_some, if◌then◌else◌, Result, Ok, Err, OnErr}
 use Rattle.std.proofs.lemmas.List.{append-nil}
 use Rattle.srm_names.specs.declared.stream.Stream.{Stream}
 use Rattle.srm_names.specs.declared.drawop.Drawop.{Drawop}
@@ -27,10 +27,10 @@ use Rattle.srm_agent_parts.specs.Growth.{is_between, HoldsToo}
 use Rattle.srm_agent_parts.specs.PageTables.{with_pages_of}
 use Rattle.srm_agent_parts.specs.TimersKept.{HaveSettings, TimersContent}
 use Rattle.srm_distance.specs.Fits.{IsTableOf}
-use Rattle.srm_agent_parts.specs.TimerCalls.{AreDistancesAfter, TimersHear, TimersStay, WaitsAreDrawn}
+use Rattle.srm_agent_parts.specs.TimerCalls.{AreDistancesAfter, IsDrawopOf, TimersHear, TimersStay, WaitsAreDrawn}
 use Rattle.srm_agent.specs.Contents.{Content}
 use Rattle.srm_agent.specs.Fits.{Fits}
-use Rattle.srm_agent.specs.Heeding.{IsTaken, IsFreshBelow, heard_entry}
+use Rattle.srm_agent.specs.Heeding.{IsTaken, IsFreshBelow, MayTake, carrying, heard_entry}
 use Rattle.srm_agent.specs.Noting.{Enters, Stays}
 use Rattle.srm_entries.proofs.Adding.{flat_map-snoc}
 use Rattle.srm_agent.proofs.Entering.{of_member}
@@ -66,7 +66,7 @@ one_name d n = drop (same_name d.name n) ∙ same_flip d.name n
     drop true = refl
     drop false = refl
 
-pub data_brings : (d : Drawop) → BringsOne d (Data d)
+data_brings : (d : Drawop) → BringsOne d (Data d)
 data_brings d = record {
   drawops = refl;
   names = refl;
@@ -75,7 +75,7 @@ data_brings d = record {
   brings = λ me moment arms s. record { shows = λ t. one_number d (same_stream t d.name.stream); gains = λ n. one_name d n };
 }
 
-pub repair_brings : (sender : ℕ) (d : Drawop) → BringsOne d (Repair sender d)
+repair_brings : (sender : ℕ) (d : Drawop) → BringsOne d (Repair sender d)
 repair_brings sender d = record {
   drawops = refl;
   names = refl;
@@ -83,6 +83,18 @@ repair_brings sender d = record {
   uncalled = λ me now. refl;
   brings = λ me moment arms s. record { shows = λ t. one_number d (same_stream t d.name.stream); gains = λ n. one_name d n };
 }
+
+pub carrying_brings : (repairer : Option ℕ) (d : Drawop) → BringsOne d (carrying repairer d)
+carrying_brings None d = data_brings d
+carrying_brings (Some sender) d = repair_brings sender d
+
+pub carrying_is : (repairer : Option ℕ) (d : Drawop) (repaired : Bool) → repaired ≡ is_some repairer → IsDrawopOf repaired d.name (carrying repairer d)
+carrying_is None d repaired e = rw e refl
+carrying_is (Some sender) d repaired e = rw e refl
+
+-- the name of a drawop that may be taken
+pub may_carry : {W : Type 0} (repairer : Option ℕ) (d : Drawop) (names : List FullName) (moment : ℕ) (a : Content W) → MayTake (carrying repairer d) names moment a → MayTake (carrying repairer d) (d.name ∷ []) moment a
+may_carry repairer d names moment a may = subst (λ ns. MayTake (carrying repairer d) ns moment a) (may.named ∙ (carrying_brings repairer d).names) may
 
 no_calls : (me : ℕ) (past : List Entry) (moment : ℕ) (d : Drawop) (g : Datagram) (arms : List Arm) (s : AgentState) → BringsOne d g → distance_calls me (past ++ heard_entry me moment g arms s ∷ []) ≡ distance_calls me past
 no_calls me past moment d g arms s one =

@@ -1,8 +1,11 @@
 -- What hearing one datagram says of its entry.
-use Rattle.std.specs.Prelude.{◌≡◌, ◌≢◌, ℕ, List, [], Some, None, Ok}
+use Rattle.std.specs.Prelude.{◌≡◌, ◌≢◌, ℕ, ◌≤◌, false, List, [], Option, Some, None, Ok}
+use Rattle.srm_names.specs.declared.limits.TheConstants.{MOMENT}
 use Rattle.srm_names.specs.FullName.{FullName}
 use Rattle.srm_names.specs.Names.{AreExactly}
+use Rattle.srm_names.specs.declared.drawop.Drawop.{Drawop}
 use Rattle.srm_codec.specs.declared.datagram.Datagram.{Datagram}
+use Rattle.srm_codec.specs.declared.datagram.Datagram.TheVariants.{Data, Repair}
 use Rattle.srm_codec.specs.declared.fault.DecodeFault.{DecodeFault}
 use Rattle.srm_codec.specs.declared.fault.DecodeFault.TheVariants as decoding
 use Rattle.srm_timers.specs.declared.arm.Arm.{Arm}
@@ -19,7 +22,9 @@ use Rattle.srm_entries.specs.Configs.{Config}
 use Rattle.srm_agent.specs.declared.heard.Heard as answers
 use Rattle.srm_agent.specs.Contents.{Content}
 use Rattle.srm_agent.specs.Fits.{Fits}
-use Rattle.srm_entries.specs.Entries.{known}
+use Rattle.srm_codec.specs.Spelling.{IsSpellable, names_in}
+use Rattle.srm_entries.specs.Entries.{is_gone, known}
+use Rattle.srm_agent_parts.specs.PageTables.{lacks_room_for}
 use Rattle.srm_agent_parts.specs.Growth.{is_between}
 use Rattle.srm_entries.specs.Verdicts.{verdict_of}
 use Rattle.srm_agent.specs.Noting.{Enters, ReadsAs, AnswersHeard}
@@ -34,9 +39,24 @@ pub record IsNoiseFor (fault : DecodeFault) (e : Entry) : Type 0 where
   pub verdict : e.verdict ≡ Ignored (causes.Decode fault)
   pub other : fault ≢ decoding.Memory
 
+-- the datagram that carries a drawop: data, or a repair where a member repairs it
+abbrev pub carrying : Option ℕ → Drawop → Datagram
+carrying None drawop = Data drawop
+carrying (Some repairer) drawop = Repair repairer drawop
+
 -- the datagram is taken, after whatever run the agent fitted
 pub record IsTaken {W : Type 0} (datagram : Datagram) (old : Content W) : Type 0 where
   pub each : (c : Config) (made : ℕ) (past : List Entry) → Fits c made past old → Done ≡ verdict_of c past (Heard datagram)
+
+-- a member may take a datagram with these names at this moment: it isn't gone, and the table has room for their pages
+pub record MayTake {W : Type 0} (datagram : Datagram) (names : List FullName) (moment : ℕ) (a : Content W) : Type 0 where
+  pub here : is_gone a.state ≡ false
+  pub spelled : IsSpellable datagram
+  pub later : a.last ≤ moment
+  pub in_range : moment ≤ MOMENT
+  pub taken : IsTaken datagram a
+  pub named : names ≡ names_in datagram
+  pub pages : lacks_room_for a.pages names ≡ false
 
 -- the entry in which a datagram was heard and taken: it sets timers, and does nothing else
 abbrev pub heard_entry : ℕ → ℕ → Datagram → List Arm → AgentState → Entry

@@ -165,6 +165,19 @@ waits_before draw a b from to arms k h = record { each = λ c s. h.each c (k.eac
 pub first_placed : (name : FullName) (a b : FixContent) → FixPlace a name → b ≡ a → FixPlace b name
 first_placed name a b place same = subst (λ (x : FixContent). FixPlace x name) (sym same) place
 
+pub placed_if : (repaired : Bool) (name : FullName) (a b : FixContent) → (repaired ≡ true → FixPlace a name) → b ≡ a → repaired ≡ true → FixPlace b name
+placed_if repaired name a b place same is = first_placed name a b (place is) same
+
+-- what is as it was
+pub all_stays : (t : TimersContent) → TimersStay t t
+all_stays t = record { each = λ c past h. h }
+
+pub fixes_same : (t : FixContent) → FixStays t t
+fixes_same t = record { each = λ d1 d2 calls h. h }
+
+pub settings_same : (t : TimersContent) → KeepSettings t t
+settings_same t = record { each = λ c s. s }
+
 -- the waits of arms of requests
 pub waits_drawn : {W : Type 0} (draw : W → ℕ × W) (asks : AskContent) (fixes : FixContent) (names asked : List FullName) (dist : List ℕ) (from to : W) (arms : List Arm) → AskedFirst names asked dist arms
     → AreDrawn draw (timers.low_of asks.c1) (timers.high_of asks.c1 asks.c2) from arms to → WaitsAreDrawn draw (record { asks = asks; fixes = fixes }) from arms to

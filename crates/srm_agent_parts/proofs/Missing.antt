@@ -35,7 +35,7 @@ use Rattle.srm_entries.specs.Entries.{heard, held, shown_by, drawops_in, names_h
 use Rattle.srm_entries.specs.Distances.{distance}
 use Rattle.srm_entries.specs.Timers.{asker, asker_in, first_asker, repaired, repairs_in, ask_exponent, ask_setting, fix_setting, setting_of, fix_running, held_off, ArmsRight}
 use Rattle.srm_agent_parts.specs.TimersKept.{TimersContent, HaveSettings, TimersFit}
-use Rattle.srm_agent_parts.specs.TimerCalls.{AreFresh, HearsWith, KeepSettings, AreDistancesAfter, TimersHear, WaitsAreDrawn, IsDataOf, IsRepairOf, IsSession, ask_running}
+use Rattle.srm_agent_parts.specs.TimerCalls.{AreFresh, HearsWith, KeepSettings, AreDistancesAfter, TimersHear, WaitsAreDrawn, FixEnds, IsDataOf, IsDrawopOf, IsRepairOf, IsSession, ask_running}
 use Rattle.srm_entries.proofs.Adding.{shows, gains, is_missing-snoc}
 use Rattle.srm_entries.proofs.Arming.{ask_at}
 use Rattle.srm_entries.proofs.Setting.{of_kind, asks_of, fixes_of, is_armed, drawn_waits}
@@ -382,13 +382,16 @@ rows_hear draw from to fresh dist now arms old new adds same first drawn = recor
 }
 
 -- data
-pub data_hears : {W : Type 0} (draw : W → ℕ × W) (from to : W) (name : FullName) (fresh : List FullName) (dist : List ℕ) (now : ℕ) (arms : List Arm) (old mid new : TimersContent)
-    → AskAdds (sets now arms) old.asks mid.asks → mid.fixes ≡ old.fixes → AskedFirst fresh [] dist arms → WaitsAreDrawn draw old from arms to
-    → AskAdds (Gained name ∷ []) mid.asks new.asks → new.fixes ≡ mid.fixes → TimersHear (IsDataOf name) fresh dist now arms old new
-data_hears draw from to name fresh dist now arms old mid new adds same first drawn gained then_same = record {
+data_hears : {W : Type 0} (draw : W → ℕ × W) (from to : W) (name : FullName) (fresh : List FullName) (dist : List ℕ) (now : ℕ) (arms : List Arm) (old roomy set held new : TimersContent)
+    → roomy.asks ≡ old.asks → FixStays old.fixes roomy.fixes → KeepSettings old roomy
+    → AskAdds (sets now arms) roomy.asks set.asks → set.fixes ≡ roomy.fixes → AskedFirst fresh [] dist arms → WaitsAreDrawn draw roomy from arms to
+    → AskAdds (Gained name ∷ []) set.asks held.asks → held.fixes ≡ set.fixes
+    → new.fixes ≡ held.fixes → new.asks ≡ held.asks → TimersHear (IsDataOf name) fresh dist now arms old new
+data_hears draw from to name fresh dist now arms old roomy set held new roomy_asks stays keeps adds set_fixes first roomy_drawn gained held_fixes new_fixes new_asks = record {
   each = λ c past e g is with_ h are d.
       let none : (n : FullName) → asker n e ≡ None = λ n. no_asker e g n with_.heard (data_asks n name g is) in
       let gain : (n : FullName) → gains e n ≡ same_name n name = λ n. gains_heard e g n with_.heard with_.drawn ∙ data_gains n name g is in
+      let drawn : WaitsAreDrawn draw old from arms to = waits_before draw old roomy from to arms keeps roomy_drawn in
       record {
         arms = arms_right draw from to c past e g now arms fresh dist old h with_ none are d first drawn;
         fits = midway_fits c past e now arms (λ n. same_name n name) (λ n. None) no_name (λ n. 0) new
@@ -397,10 +400,11 @@ data_hears draw from to name fresh dist now arms old mid new adds same first dra
             (λ n k. absurd (cc)))
             (record {
               ask_calls = (h.ask_calls ++ sets now arms) ++ Gained name ∷ [];
-              asks = gained.each c.c1 c.c2 (h.ask_calls ++ sets now arms) (adds.each c.c1 c.c2 h.ask_calls h.asks);
+              asks = subst (AskFits c.c1 c.c2 ((h.ask_calls ++ sets now arms) ++ Gained name ∷ [])) (sym new_asks)
+                  (gained.each c.c1 c.c2 (h.ask_calls ++ sets now arms) (adds.each c.c1 c.c2 h.ask_calls (subst (AskFits c.c1 c.c2 h.ask_calls) (sym roomy_asks) h.asks)));
               ask_timers = λ n. asks_gained c past e now arms h.ask_calls fresh dist name n (h.ask_timers n) first are (gain n);
               fix_calls = h.fix_calls;
-              fixes = rw (then_same, same) h.fixes;
+              fixes = subst (FixFits c.d1 c.d2 h.fix_calls) (sym (new_fixes ∙ held_fixes ∙ set_fixes)) (stays.each c.d1 c.d2 h.fix_calls h.fixes);
               fix_timers = λ n. h.fix_timers n ∙ fixes_as_they_were past now arms fresh dist n (fix_running past n) first;
               askers = λ n. h.askers n ∙ sym (or_else-none (first_of (asker n) past));
               offs = λ n u. h.offs n u ∙ sym (or_false (held_off c.me past n u));
@@ -416,7 +420,7 @@ holds_until c past e now dist calls n d asked near =
     ap (λ k. now + 3 * k) (d.each (fixes.first_asker calls n) near ∙ ap (λ o. distance (past ++ e ∷ []) c.me (unwrap_or o n.stream.source)) asked)
 
 -- a repair
-pub repair_hears : {W : Type 0} (draw : W → ℕ × W) (from to : W) (name : FullName) (fresh : List FullName) (dist : List ℕ) (now : ℕ) (arms : List Arm) (old roomy set held new : TimersContent)
+repair_hears : {W : Type 0} (draw : W → ℕ × W) (from to : W) (name : FullName) (fresh : List FullName) (dist : List ℕ) (now : ℕ) (arms : List Arm) (old roomy set held new : TimersContent)
     → roomy.asks ≡ old.asks → FixStays old.fixes roomy.fixes → KeepSettings old roomy
     → AskAdds (sets now arms) roomy.asks set.asks → set.fixes ≡ roomy.fixes → AskedFirst fresh [] dist arms → WaitsAreDrawn draw roomy from arms to
     → AskAdds (Gained name ∷ []) set.asks held.asks → held.fixes ≡ set.fixes
@@ -447,3 +451,14 @@ repair_hears draw from to name fresh dist now arms old roomy set held new roomy_
             });
       };
 }
+
+-- either
+pub drawop_hears : {W : Type 0} (draw : W → ℕ × W) (from to : W) (repaired : Bool) (name : FullName) (fresh : List FullName) (dist : List ℕ) (now : ℕ) (arms : List Arm) (old roomy set held new : TimersContent)
+    → roomy.asks ≡ old.asks → FixStays old.fixes roomy.fixes → KeepSettings old roomy
+    → AskAdds (sets now arms) roomy.asks set.asks → set.fixes ≡ roomy.fixes → AskedFirst fresh [] dist arms → WaitsAreDrawn draw roomy from arms to
+    → AskAdds (Gained name ∷ []) set.asks held.asks → held.fixes ≡ set.fixes
+    → FixEnds repaired now dist name held.fixes new.fixes → new.asks ≡ held.asks → TimersHear (IsDrawopOf repaired name) fresh dist now arms old new
+drawop_hears draw from to false name fresh dist now arms old roomy set held new roomy_asks stays keeps adds set_fixes first drawn gained held_fixes ends new_asks =
+    data_hears draw from to name fresh dist now arms old roomy set held new roomy_asks stays keeps adds set_fixes first drawn gained held_fixes ends new_asks
+drawop_hears draw from to true name fresh dist now arms old roomy set held new roomy_asks stays keeps adds set_fixes first drawn gained held_fixes ends new_asks =
+    repair_hears draw from to name fresh dist now arms old roomy set held new roomy_asks stays keeps adds set_fixes first drawn gained held_fixes ends new_asks

@@ -13,7 +13,7 @@ use Rattle.srm_timers.specs.declared.arm.Armed.{Armed}
 use Rattle.srm_timers.specs.declared.arm.ArmKind.TheVariants.{Ask, Fix}
 use Rattle.srm_timers.specs.Arms.{AreDrawn, ran_out, plan_of, backs_off}
 use Rattle.srm_timers.specs.AskCalls.{AskCall, AskFits, AskAdds, AskDue, AskTimersRun, ask_timer, ask_plan, sets}
-use Rattle.srm_timers.specs.FixCalls.{Asked, FixAdds, FixAnswers, FixDue, sets_fix}
+use Rattle.srm_timers.specs.FixCalls.{Asked, FixContent, FixAdds, FixAnswers, FixDue, FixRepairs, sets_fix}
 use Rattle.srm_timers.specs.Distances.{distance_to}
 use Rattle.srm_entries.specs.declared.entry.Entry.{Entry}
 use Rattle.srm_entries.specs.Configs.{Config}
@@ -78,6 +78,11 @@ abbrev pub IsRepairOf : FullName → Datagram → Type 0
 IsRepairOf name (Repair sender drawop) = drawop.name ≡ name
 IsRepairOf name _ = ⊥
 
+-- data of a name, or a repair of it
+abbrev pub IsDrawopOf : Bool → FullName → Datagram → Type 0
+IsDrawopOf false = IsDataOf
+IsDrawopOf true = IsRepairOf
+
 abbrev pub IsSession : Datagram → Type 0
 IsSession (Session sender sent farewell shown rows echoes) = Unit {0}
 IsSession _ = ⊥
@@ -96,6 +101,11 @@ pub record TimersStay (old new : TimersContent) : Type 0 where
 pub record TimersHear (is : Datagram → Type 0) (fresh : List FullName) (dist : List ℕ) (now : ℕ) (arms : List Arm) (old new : TimersContent) : Type 0 where
   pub each : (c : Config) (past : List Entry) (e : Entry) (g : Datagram) → is g → HearsWith g now arms e → TimersFit c past old
       → AreFresh past e fresh → AreDistancesAfter c (past ++ e ∷ []) dist → TimersAdd c past e new
+
+-- a repair of a name ends its repair timer and holds it off; data changes nothing of these
+abbrev pub FixEnds : Bool → ℕ → List ℕ → FullName → FixContent → FixContent → Type 0
+FixEnds false now dist name old new = new ≡ old
+FixEnds true now dist name old new = FixRepairs now dist (name ∷ []) old new
 
 -- a request is heard, over the store as it is before
 pub record TimersHearRequest (s : StoreContent) (from : ℕ) (asked fresh : List FullName) (dist : List ℕ) (now : ℕ) (arms : List Arm) (old new : TimersContent) : Type 0 where

@@ -13,6 +13,7 @@ mod node;
 mod pausing;
 mod sending;
 mod sink;
+mod spare;
 mod ticking;
 mod working;
 

@@ -11,15 +11,17 @@ ghost use Rattle.srm_node.specs.Turns.{HearsNow, DrawsNow, LeavesNow, TicksNow, 
 
 use crate::counting::{Counts, counts_in};
 use crate::drawing::draw_strokes;
-use crate::ending::{is_ended, none_closed};
+use crate::ending::is_ended;
 use crate::fault::{NodeFault, OutOfMemory};
 use crate::giving::give_all;
-use crate::limits::{BUFFER, DRAWN, RECEIVED};
+use crate::limits::{DRAWN, RECEIVED};
 use crate::listening::listen;
-use crate::pausing::{earlier, time_to_wait};
+use crate::pausing::time_to_wait;
 use crate::sending::send_all;
+use crate::spare::{Spare, make_spare};
 use crate::ticking::{leave, tick};
 use srm_agent::{Config, Entry};
+use srm_agent_parts::earlier;
 use srm_names::MOMENT;
 use srm_pages::ends::Well;
 use srm_pages::{Feed, Stroke};
@@ -185,6 +187,7 @@ impl<W: Words + Drop, X: Wire + Drop, C: Clock + Drop, P: Past<Entry> + Drop> No
         ensures clock { IfOk result (λ node. node.clock ≡ clock) }
         ensures journal { IfOk result (λ node. node.view.journal ≡ recorder.journal) }
     {
+        let Spare { buffer, closed } = make_spare(alloc)?;
         Ok(Node {
             config,
             recorder,
@@ -193,9 +196,9 @@ impl<W: Words + Drop, X: Wire + Drop, C: Clock + Drop, P: Past<Entry> + Drop> No
             hand: None,
             wire,
             clock,
-            buffer: vec![in alloc; 0; BUFFER]?,
+            buffer,
             asked: None,
-            closed: none_closed(alloc)?,
+            closed,
             // As after a full turn: the first one comes at once.
             heard: RECEIVED,
             drawn: DRAWN,

@@ -25,11 +25,3 @@ pub fn time_to_wait(heard: u8, drawn: u8, due: Option<u64>, now: u64) -> u64 {
         until_due
     }
 }
-
-/// The earlier of two moments, of which there may be one or none.
-pub fn earlier(one: Option<u64>, other: Option<u64>) -> Option<u64> {
-    match (one, other) {
-        (Some(one), Some(other)) => Some(one.min(other)),
-        (one, other) => one.or(other),
-    }
-}

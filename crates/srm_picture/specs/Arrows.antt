@@ -10,27 +10,27 @@ use Rattle.srm_entries.specs.declared.entry.Input.TheVariants.{Heard, Noise}
 use Rattle.srm_entries.specs.declared.entry.Verdict.{Verdict}
 use Rattle.srm_entries.specs.declared.entry.Verdict.TheVariants.{Done}
 use Rattle.srm_entries.specs.Entries.{sent}
-use Rattle.srm_picture.specs.declared.arrow.Kind.{Kind}
-use Rattle.srm_picture.specs.declared.arrow.Kind.TheVariants.{Data, Request, Repair, Session}
+use Rattle.srm_picture.specs.declared.arrow.DatagramKind.{DatagramKind}
+use Rattle.srm_picture.specs.declared.arrow.DatagramKind.TheVariants.{Data, Request, Repair, Session}
 use Rattle.srm_picture.specs.declared.arrow.Launch.{Launch}
 use Rattle.srm_picture.specs.declared.arrow.Hearing.{Hearing}
-use Rattle.srm_picture.specs.declared.arrow.End.{End}
-use Rattle.srm_picture.specs.declared.arrow.End.TheVariants.{Taken, Ignored, Lost}
+use Rattle.srm_picture.specs.declared.arrow.ArrowEnd.{ArrowEnd}
+use Rattle.srm_picture.specs.declared.arrow.ArrowEnd.TheVariants.{Taken, Ignored, Lost}
 use Rattle.srm_picture.specs.declared.arrow.Arrow.{Arrow}
-use Rattle.srm_picture.specs.declared.place.Place.{Place}
-use Rattle.srm_picture.specs.Rows.{by_row, place_of}
+use Rattle.srm_picture.specs.declared.point.Point.{Point}
+use Rattle.srm_picture.specs.Rows.{by_row, point_of}
 
-abbrev pub kind_of : Datagram → Kind
+abbrev pub kind_of : Datagram → DatagramKind
 kind_of (AData drawop) = Data
 kind_of (ARequest sender name mask) = Request
 kind_of (ARepair sender drawop) = Repair
 kind_of (ASession sender sent farewell shown rows echoes) = Session
 
-abbrev pub launch : Place → ℕ × Datagram → Launch
+abbrev pub launch : Point → ℕ × Datagram → Launch
 launch place p = record { from = place; nth = p.0; kind = kind_of p.1 }
 
 abbrev pub launched_in : ℕ × Entry → List Launch
-launched_in r = map (launch (place_of r)) (enumerate_from 0 r.1.effects.outs)
+launched_in r = map (launch (point_of r)) (enumerate_from 0 r.1.effects.outs)
 
 -- each datagram that the entries sent, in order
 abbrev pub launches_in : List Entry → List Launch
@@ -61,15 +61,15 @@ pub record IsHearing (es : List Entry) (h : Hearing) : Type 0 where
   pub comes : IsComing datagram step.this.input
   pub taken : h.taken ≡ is_done step.this.verdict
 
-abbrev pub coming_in : ℕ × Entry → List Place
-coming_in r = if something_comes r.1.input then place_of r ∷ [] else []
+abbrev pub coming_in : ℕ × Entry → List Point
+coming_in r = if something_comes r.1.input then point_of r ∷ [] else []
 
 -- each is a hearing, and each entry in which something came has one, in order
 pub record AreHearings (es : List Entry) (hs : List Hearing) : Type 0 where
   pub each : AllByRecursion (IsHearing es) hs
   pub places : map (λ (h : Hearing). h.at) hs ≡ by_row coming_in es
 
-abbrev pub end_of : Hearing → End
+abbrev pub end_of : Hearing → ArrowEnd
 end_of h = if h.taken then Taken h.at else Ignored h.at
 
 abbrev pub arrow_to : ℕ × Launch → Hearing → Arrow

@@ -13,12 +13,12 @@ use Rattle.srm_timers.specs.Arms.{same_kind}
 use Rattle.srm_entries.specs.declared.entry.Entry.{Entry}
 use Rattle.srm_entries.specs.Entries.{heard, is_gone, drawops_in}
 use Rattle.srm_entries.specs.Timers.{repairs_in}
-use Rattle.srm_picture.specs.declared.bracket.Ending.{Ending}
-use Rattle.srm_picture.specs.declared.bracket.Ending.TheVariants.{RanOut, BackedOff, Cancelled}
-use Rattle.srm_picture.specs.declared.bracket.Ended.{Ended}
+use Rattle.srm_picture.specs.declared.bracket.TimerEnd.{TimerEnd}
+use Rattle.srm_picture.specs.declared.bracket.TimerEnd.TheVariants.{RanOut, BackedOff, Cancelled}
+use Rattle.srm_picture.specs.declared.bracket.BracketEnd.{BracketEnd}
 use Rattle.srm_picture.specs.declared.bracket.Bracket.{Bracket}
-use Rattle.srm_picture.specs.declared.place.Place.{Place}
-use Rattle.srm_picture.specs.Rows.{by_row, place_of}
+use Rattle.srm_picture.specs.declared.point.Point.{Point}
+use Rattle.srm_picture.specs.Rows.{by_row, point_of}
 
 -- the names that the entry hands out as requests, or as repairs
 abbrev pub handed_out : ArmKind → Entry → List FullName
@@ -38,7 +38,7 @@ abbrev pub answers : ArmKind → FullName → Entry → Bool
 answers kind n e = answers_in kind n (heard e)
 
 -- how a later entry of the member ends a timer, if it does
-abbrev pub ends_later : Arm → Entry → Option Ending
+abbrev pub ends_later : Arm → Entry → Option TimerEnd
 ends_later a e =
     if among (handed_out a.kind e) a.name then Some RanOut
     else if sets a e then Some BackedOff
@@ -46,29 +46,29 @@ ends_later a e =
     else None
 
 -- the entry that sets it ends it only as the member goes
-abbrev pub ends_itself : Entry → Option Ending
+abbrev pub ends_itself : Entry → Option TimerEnd
 ends_itself e = if is_gone e.effects.state then Some Cancelled else None
 
-abbrev pub ending_in : Bool → Arm → Entry → Option Ending
+abbrev pub ending_in : Bool → Arm → Entry → Option TimerEnd
 ending_in itself a e = if itself then ends_itself e else ends_later a e
 
-abbrev pub ended_at : ℕ → Ending → Ended
+abbrev pub ended_at : ℕ → TimerEnd → BracketEnd
 ended_at row ending = record { row = row; ending = ending }
 
-abbrev pub ended_in : Place → Arm → ℕ × Entry → Option Ended
+abbrev pub ended_in : Point → Arm → ℕ × Entry → Option BracketEnd
 ended_in place a r =
     if nat_lt r.0 place.row || not (r.1.member == place.member) then None
     else option_map (ended_at r.0) (ending_in (r.0 == place.row) a r.1)
 
 -- the first entry of its member that ends a timer
-abbrev pub end_of : List Entry → Place → Arm → Option Ended
+abbrev pub end_of : List Entry → Point → Arm → Option BracketEnd
 end_of es place a = first_of (ended_in place a) (enumerate_from 0 es)
 
-abbrev pub bracket : List Entry → Place → ℕ × Arm → Bracket
+abbrev pub bracket : List Entry → Point → ℕ × Arm → Bracket
 bracket es place p = record { from = place; nth = p.0; kind = p.1.kind; name = p.1.name; end = end_of es place p.1 }
 
 abbrev pub brackets_from : List Entry → ℕ × Entry → List Bracket
-brackets_from es r = map (bracket es (place_of r)) (enumerate_from 0 r.1.effects.arms)
+brackets_from es r = map (bracket es (point_of r)) (enumerate_from 0 r.1.effects.arms)
 
 -- each timer that the entries set, in order
 abbrev pub brackets_in : List Entry → List Bracket

@@ -1,10 +1,10 @@
 -- Arrows, text and ticks at worked values.
 use Rattle.std.specs.Prelude.{◌≡◌, true, false, [], ◌∷◌, map, codes, None, Some, refl}
 use Rattle.srm_names.specs.declared.page_msg.PageMsg.TheVariants.{Close}
-use Rattle.srm_picture.specs.declared.arrow.Kind.TheVariants.{Data, Request}
+use Rattle.srm_picture.specs.declared.arrow.DatagramKind.TheVariants.{Data, Request}
 use Rattle.srm_picture.specs.declared.arrow.Launch.{Launch}
 use Rattle.srm_picture.specs.declared.arrow.Hearing.{Hearing}
-use Rattle.srm_picture.specs.declared.arrow.End.TheVariants.{Taken, Ignored, Lost}
+use Rattle.srm_picture.specs.declared.arrow.ArrowEnd.TheVariants.{Taken, Ignored, Lost}
 use Rattle.srm_picture.specs.declared.tick.TickKind.TheVariants.{Gave, Noted}
 use Rattle.srm_picture.specs.Arrows.{arrows_in}
 use Rattle.srm_picture.specs.Escaping.{escaped}

@@ -12,7 +12,7 @@ use Rattle.srm_entries.specs.Entries.{is_gone}
 use Rattle.srm_picture.specs.declared.tick.TickKind.{TickKind}
 use Rattle.srm_picture.specs.declared.tick.TickKind.TheVariants.{Drew, Gave, Took, Noted, Gone}
 use Rattle.srm_picture.specs.declared.tick.Tick.{Tick}
-use Rattle.srm_picture.specs.Rows.{by_row, place_of}
+use Rattle.srm_picture.specs.Rows.{by_row, point_of}
 
 -- a message of a slot, which may be no drawop
 abbrev pub message_kind : TickKind → Option PageMsg → Option TickKind
@@ -42,7 +42,7 @@ abbrev pub tick_kind : Entry → Option TickKind
 tick_kind e = kind_for e.verdict e.input e.effects
 
 abbrev pub tick : ℕ × Entry → TickKind → Tick
-tick r kind = record { at = place_of r; nth = length r.1.effects.outs; kind = kind }
+tick r kind = record { at = point_of r; nth = length r.1.effects.outs; kind = kind }
 
 abbrev pub ticks_at : ℕ × Entry → List Tick
 ticks_at r = option_to_list (option_map (tick r) (tick_kind r.1))

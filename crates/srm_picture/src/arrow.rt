@@ -3,38 +3,38 @@
 ghost use Rattle.std.specs.Prelude.{◌≡◌};
 ghost use Rattle.srm_picture.specs.Arrows.{kind_of};
 
-use crate::place::Place;
+use crate::point::Point;
 use srm_codec::Datagram;
 
 /// The kinds of datagrams.
 #[derive(Clone, Copy, Debug, PartialEq, Eq)]
-pub enum Kind {
+pub enum DatagramKind {
     Data,
     Request,
     Repair,
     Session,
 }
 
-impl Kind {
+impl DatagramKind {
     /// The kind of a datagram.
-    pub fn of(datagram: &Datagram) -> Kind
+    pub fn of(datagram: &Datagram) -> DatagramKind
         ensures { result ≡ kind_of datagram.now }
     {
         match datagram {
-            Datagram::Data(_) => Kind::Data,
-            Datagram::Request { .. } => Kind::Request,
-            Datagram::Repair { .. } => Kind::Repair,
-            Datagram::Session { .. } => Kind::Session,
+            Datagram::Data(_) => DatagramKind::Data,
+            Datagram::Request { .. } => DatagramKind::Request,
+            Datagram::Repair { .. } => DatagramKind::Repair,
+            Datagram::Session { .. } => DatagramKind::Session,
         }
     }
 
     /// What `srm world` calls it.
     pub fn word(self) -> &'static str {
         match self {
-            Kind::Data => "data",
-            Kind::Request => "request",
-            Kind::Repair => "repair",
-            Kind::Session => "session",
+            DatagramKind::Data => "data",
+            DatagramKind::Request => "request",
+            DatagramKind::Repair => "repair",
+            DatagramKind::Session => "session",
         }
     }
 }
@@ -42,10 +42,10 @@ impl Kind {
 /// That a datagram was sent.
 #[derive(Clone, Copy, Debug, PartialEq, Eq)]
 pub struct Launch {
-    pub from: Place,
+    pub from: Point,
     /// Its place among what this entry sent, from 0.
     pub nth: usize,
-    pub kind: Kind,
+    pub kind: DatagramKind,
 }
 
 /// That a datagram came to a member.
@@ -53,16 +53,16 @@ pub struct Launch {
 pub struct Hearing {
     /// Its number, from 0 in the order of sending.
     pub number: usize,
-    pub at: Place,
+    pub at: Point,
     /// Whether it was taken, and not ignored.
     pub taken: bool,
 }
 
 /// Where an arrow ends.
 #[derive(Clone, Copy, Debug, PartialEq, Eq)]
-pub enum End {
-    Taken(Place),
-    Ignored(Place),
+pub enum ArrowEnd {
+    Taken(Point),
+    Ignored(Point),
     /// It was never delivered.
     Lost,
 }
@@ -73,5 +73,5 @@ pub struct Arrow {
     /// Its number, from 0 in the order of sending.
     pub number: usize,
     pub launch: Launch,
-    pub end: End,
+    pub end: ArrowEnd,
 }

@@ -4,8 +4,8 @@ ghost use Rattle.std.specs.Prelude.{◌≡◌, map, IfOk};
 ghost use Rattle.std.specs.List.{enumerate_from};
 ghost use Rattle.srm_picture.specs.Arrows.{arrow_to, arrows_in, arrows_of as arrows_for, end_of as end_at, hearings_of, launch, launches_in};
 
-use crate::arrow::{Arrow, End, Hearing, Kind, Launch};
-use crate::place::Place;
+use crate::arrow::{Arrow, ArrowEnd, DatagramKind, Hearing, Launch};
+use crate::point::Point;
 use srm_codec::Datagram;
 use srm_entries::Entry;
 use std::alloc::{AllocError, Global};
@@ -16,7 +16,7 @@ pub(crate) fn launches(alloc: Global, entries: &[Entry]) -> Result<Vec<Launch>, 
 {
     let mut launches = Vec::new(alloc);
     for (row, entry) in entries.iter().enumerate() {
-        let from = Place {
+        let from = Point {
             row,
             member: entry.member,
         };
@@ -26,7 +26,7 @@ pub(crate) fn launches(alloc: Global, entries: &[Entry]) -> Result<Vec<Launch>, 
 }
 
 /// The datagrams that one entry sent.
-fn launched(alloc: Global, from: &Place, outs: &[Datagram]) -> Result<Vec<Launch>, AllocError>
+fn launched(alloc: Global, from: &Point, outs: &[Datagram]) -> Result<Vec<Launch>, AllocError>
     ensures { IfOk result (λ launches. launches.items ≡ map (launch from.now) (enumerate_from 0 outs.now)) }
 {
     let mut launches = Vec::new(alloc);
@@ -36,13 +36,13 @@ fn launched(alloc: Global, from: &Place, outs: &[Datagram]) -> Result<Vec<Launch
     Ok(launches)
 }
 
-fn launch_of(from: &Place, nth: usize, datagram: &Datagram) -> Launch
+fn launch_of(from: &Point, nth: usize, datagram: &Datagram) -> Launch
     ensures { result ≡ launch from.now (nth, datagram.now) }
 {
     Launch {
         from: *from,
         nth,
-        kind: Kind::of(datagram),
+        kind: DatagramKind::of(datagram),
     }
 }
 
@@ -75,7 +75,7 @@ fn arrows_of(
         arrows.push(Arrow {
             number,
             launch: *launch,
-            end: End::Lost,
+            end: ArrowEnd::Lost,
         })?;
     }
     Ok(arrows)
@@ -101,12 +101,12 @@ fn reaching(
         .collect(alloc)
 }
 
-fn end_of(hearing: &Hearing) -> End
+fn end_of(hearing: &Hearing) -> ArrowEnd
     ensures { result ≡ end_at hearing.now }
 {
     if hearing.taken {
-        End::Taken(hearing.at)
+        ArrowEnd::Taken(hearing.at)
     } else {
-        End::Ignored(hearing.at)
+        ArrowEnd::Ignored(hearing.at)
     }
 }

@@ -1,12 +1,12 @@
 //! Timers, from when they were set to their end.
 
-use crate::place::Place;
+use crate::point::Point;
 use srm_entries::ArmKind;
 use srm_names::Name;
 
 /// How a timer ends.
 #[derive(Clone, Copy, Debug, PartialEq, Eq)]
-pub enum Ending {
+pub enum TimerEnd {
     /// It ran out: the member asks, or repairs.
     RanOut,
     /// It was set anew before it ran out, as another member asked.
@@ -17,20 +17,20 @@ pub enum Ending {
 
 /// The entry of the same member that ends a timer, by its place in the trace, and how.
 #[derive(Clone, Copy, Debug, PartialEq, Eq)]
-pub struct Ended {
+pub struct BracketEnd {
     pub row: usize,
-    pub ending: Ending,
+    pub ending: TimerEnd,
 }
 
 /// A timer.
 #[derive(Clone, Copy, Debug, PartialEq, Eq)]
 pub struct Bracket {
     /// The entry that set it.
-    pub from: Place,
+    pub from: Point,
     /// Its place among what this entry set, from 0.
     pub nth: usize,
     pub kind: ArmKind,
     pub name: Name,
     /// None where it still runs after the last entry.
-    pub end: Option<Ended>,
+    pub end: Option<BracketEnd>,
 }

@@ -6,8 +6,8 @@ ghost use Rattle.srm_entries.specs.Entries.{is_gone as has_gone};
 ghost use Rattle.srm_picture.specs.Brackets.{answers, answers_in, bracket, brackets_in, end_of as end_in, ended_in as how_ended_in, ending_in as how_ended, ends_later as how_ended_later, handed_out, sets};
 ghost use Rattle.srm_names.specs.Names.{among};
 
-use crate::bracket::{Bracket, Ended, Ending};
-use crate::place::Place;
+use crate::bracket::{Bracket, BracketEnd, TimerEnd};
+use crate::point::Point;
 use srm_codec::Datagram;
 use srm_entries::{AgentState, Arm, ArmKind, Entry, Input, Verdict};
 use std::alloc::{AllocError, Global};
@@ -18,7 +18,7 @@ pub(crate) fn brackets(alloc: Global, entries: &[Entry]) -> Result<Vec<Bracket>,
 {
     let mut brackets = Vec::new(alloc);
     for (row, entry) in entries.iter().enumerate() {
-        let from = Place {
+        let from = Point {
             row,
             member: entry.member,
         };
@@ -31,7 +31,7 @@ pub(crate) fn brackets(alloc: Global, entries: &[Entry]) -> Result<Vec<Bracket>,
 fn brackets_from(
     alloc: Global,
     entries: &[Entry],
-    from: &Place,
+    from: &Point,
     arms: &[Arm],
 ) -> Result<Vec<Bracket>, AllocError>
     ensures { IfOk result (λ brackets. brackets.items ≡ map (bracket entries.now from.now) (enumerate_from 0 arms.now)) }
@@ -43,7 +43,7 @@ fn brackets_from(
     Ok(brackets)
 }
 
-fn bracket_of(entries: &[Entry], from: &Place, nth: usize, arm: &Arm) -> Bracket
+fn bracket_of(entries: &[Entry], from: &Point, nth: usize, arm: &Arm) -> Bracket
     ensures { result ≡ bracket entries.now from.now (nth, arm.now) }
 {
     Bracket {
@@ -56,7 +56,7 @@ fn bracket_of(entries: &[Entry], from: &Place, nth: usize, arm: &Arm) -> Bracket
 }
 
 /// The first entry of its member that ends a timer. One that is set as its member goes ends at once.
-fn end_of(entries: &[Entry], from: &Place, arm: &Arm) -> Option<Ended>
+fn end_of(entries: &[Entry], from: &Point, arm: &Arm) -> Option<BracketEnd>
     ensures { result ≡ end_in entries.now from.now arm.now }
 {
     for (row, entry) in entries.iter().enumerate() {
@@ -68,39 +68,39 @@ fn end_of(entries: &[Entry], from: &Place, arm: &Arm) -> Option<Ended>
 }
 
 /// That the entry in this row ends a timer, if it does.
-fn ended_in(row: usize, entry: &Entry, from: &Place, arm: &Arm) -> Option<Ended>
+fn ended_in(row: usize, entry: &Entry, from: &Point, arm: &Arm) -> Option<BracketEnd>
     ensures { result ≡ how_ended_in from.now arm.now (row, entry.now) }
 {
     if row < from.row || entry.member != from.member {
         return None;
     }
     let ending = ending_in(entry, arm, row == from.row)?;
-    Some(Ended { row, ending })
+    Some(BracketEnd { row, ending })
 }
 
 /// How an entry ends a timer, if it does. The one that sets it ends it only as the member goes.
-fn ending_in(entry: &Entry, arm: &Arm, itself: bool) -> Option<Ending>
+fn ending_in(entry: &Entry, arm: &Arm, itself: bool) -> Option<TimerEnd>
     ensures { result ≡ how_ended itself arm.now entry.now }
 {
     if !itself {
         ends_later(entry, arm)
     } else if is_gone(entry) {
-        Some(Ending::Cancelled)
+        Some(TimerEnd::Cancelled)
     } else {
         None
     }
 }
 
 /// How a later entry of the member ends a timer, if it does.
-fn ends_later(entry: &Entry, arm: &Arm) -> Option<Ending>
+fn ends_later(entry: &Entry, arm: &Arm) -> Option<TimerEnd>
     ensures { result ≡ how_ended_later arm.now entry.now }
 {
     if is_handed_out(entry, arm) {
-        Some(Ending::RanOut)
+        Some(TimerEnd::RanOut)
     } else if is_set(entry, arm) {
-        Some(Ending::BackedOff)
+        Some(TimerEnd::BackedOff)
     } else if is_gone(entry) || is_answered(entry, arm) {
-        Some(Ending::Cancelled)
+        Some(TimerEnd::Cancelled)
     } else {
         None
     }

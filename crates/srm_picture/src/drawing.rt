@@ -7,7 +7,7 @@ mod shapes;
 
 use crate::picture::Picture;
 use crate::plan::Plan;
-use crate::session::Session;
+use crate::subject::Subject;
 use std::alloc::Global;
 use std::io;
 use std::io::Write;
@@ -16,16 +16,16 @@ use std::io::Write;
 pub fn write_svg<W: Write>(
     alloc: Global,
     out: &mut W,
-    session: &Session<'_>,
+    subject: &Subject<'_>,
     picture: &Picture,
 ) -> io::Result<()> {
-    let plan = Plan::of(alloc, session, picture)?;
-    frame::write_head(out, session, &plan)?;
-    frame::write_moments(out, session, &plan)?;
-    frame::write_lifelines(out, session, picture, &plan)?;
-    shapes::write_brackets(alloc, out, session, picture, &plan)?;
-    shapes::write_arrows(alloc, out, session, picture, &plan)?;
-    labels::write_datagrams(out, session, picture, &plan)?;
-    labels::write_ticks(alloc, out, session, picture, &plan)?;
+    let plan = Plan::of(alloc, subject, picture)?;
+    frame::write_head(out, subject, &plan)?;
+    frame::write_moments(out, subject, &plan)?;
+    frame::write_lifelines(out, subject, picture, &plan)?;
+    shapes::write_brackets(alloc, out, subject, picture, &plan)?;
+    shapes::write_arrows(alloc, out, subject, picture, &plan)?;
+    labels::write_datagrams(out, subject, picture, &plan)?;
+    labels::write_ticks(alloc, out, subject, picture, &plan)?;
     legend::write_legend(out, &plan)
 }

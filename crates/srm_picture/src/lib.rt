@@ -2,7 +2,7 @@
 //!
 //! ```
 //! let picture = Picture::of(alloc, entries, hearings)?;
-//! write_svg(alloc, &mut out, &Session { members: 2, entries, lines }, &picture)?;
+//! write_svg(alloc, &mut out, &Subject { members: 2, entries, lines }, &picture)?;
 //! ```
 //!
 //! [`Picture`] is what is to be drawn: arrows, brackets and ticks, each by the entries that it speaks of. [`write_svg`] draws it. Which datagram
@@ -18,16 +18,16 @@ mod brackets;
 mod drawing;
 mod escaping;
 mod picture;
-mod place;
 mod plan;
-mod session;
+mod point;
+mod subject;
 mod tick;
 
-pub use arrow::{Arrow, End, Hearing, Kind, Launch};
-pub use bracket::{Bracket, Ended, Ending};
+pub use arrow::{Arrow, ArrowEnd, DatagramKind, Hearing, Launch};
+pub use bracket::{Bracket, BracketEnd, TimerEnd};
 pub use drawing::write_svg;
 pub use escaping::escaped;
 pub use picture::Picture;
-pub use place::Place;
-pub use session::Session;
+pub use point::Point;
+pub use subject::Subject;
 pub use tick::{Tick, TickKind};

@@ -4,7 +4,7 @@ ghost use Rattle.std.specs.Prelude.{◌*◌, ◌<◌, ◌≤◌};
 
 use crate::bracket::Bracket;
 use crate::picture::Picture;
-use crate::session::Session;
+use crate::subject::Subject;
 use crate::tick::becomes_gone;
 use srm_entries::Entry;
 use srm_names::{MEMBERS, Member};
@@ -47,12 +47,12 @@ pub(crate) struct Plan {
 }
 
 impl Plan {
-    pub fn of(alloc: Global, session: &Session<'_>, picture: &Picture) -> Result<Plan, AllocError> {
+    pub fn of(alloc: Global, subject: &Subject<'_>, picture: &Picture) -> Result<Plan, AllocError> {
         let lanes = lanes_of(alloc, picture.brackets.as_slice())?;
         let used = lanes.iter().map(|lane| lane.saturating_add(1)).max();
         Ok(Plan {
-            members: u64::from(session.members),
-            lines: lines_of(alloc, session.entries)?,
+            members: u64::from(subject.members),
+            lines: lines_of(alloc, subject.entries)?,
             lanes,
             used: used.unwrap_or(0),
         })

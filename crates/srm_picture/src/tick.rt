@@ -3,7 +3,7 @@
 ghost use Rattle.std.specs.Prelude.{◌≡◌, ◌++◌, is_some, IfOk, OnOk};
 ghost use Rattle.srm_picture.specs.Ticks.{done_kind, goes, message_kind, tick_kind, ticks_at, ticks_in};
 
-use crate::place::Place;
+use crate::point::Point;
 use srm_entries::{AgentState, Effects, Entry, Input, Verdict};
 use srm_names::PageMsg;
 use std::alloc::{AllocError, Global};
@@ -26,7 +26,7 @@ pub enum TickKind {
 /// A tick on a lifeline.
 #[derive(Clone, Copy, Debug, PartialEq, Eq)]
 pub struct Tick {
-    pub at: Place,
+    pub at: Point,
     /// How many datagrams its entry sent before.
     pub nth: usize,
     pub kind: TickKind,
@@ -50,7 +50,7 @@ fn push_tick(ticks: &mut Vec<Tick>, row: usize, entry: &Entry) -> Result<(), All
     match kind_in(entry) {
         None => Ok(()),
         Some(kind) => Ok(ticks.push(Tick {
-            at: Place {
+            at: Point {
                 row,
                 member: entry.member,
             },

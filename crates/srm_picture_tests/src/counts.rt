@@ -1,6 +1,6 @@
 //! How many shapes of each kind a picture has.
 
-use srm_picture::{End, Ending, Kind, Picture, TickKind};
+use srm_picture::{ArrowEnd, DatagramKind, Picture, TickKind, TimerEnd};
 use srm_played::{PictureFault, play};
 use srm_script::read_script;
 use std::alloc::Global;
@@ -23,16 +23,16 @@ pub(crate) fn counts_of(alloc: Global, script: &str) -> Result<Counts, PictureFa
     let picture = picture_of(alloc, script)?;
     Ok(Counts {
         arrows: [
-            arrows(&picture, Kind::Data),
-            arrows(&picture, Kind::Request),
-            arrows(&picture, Kind::Repair),
-            arrows(&picture, Kind::Session),
+            arrows(&picture, DatagramKind::Data),
+            arrows(&picture, DatagramKind::Request),
+            arrows(&picture, DatagramKind::Repair),
+            arrows(&picture, DatagramKind::Session),
         ],
         crosses: [ignored(&picture), lost(&picture)],
         brackets: [
-            brackets(&picture, Some(Ending::RanOut)),
-            brackets(&picture, Some(Ending::BackedOff)),
-            brackets(&picture, Some(Ending::Cancelled)),
+            brackets(&picture, Some(TimerEnd::RanOut)),
+            brackets(&picture, Some(TimerEnd::BackedOff)),
+            brackets(&picture, Some(TimerEnd::Cancelled)),
             brackets(&picture, None),
         ],
         ticks: [
@@ -50,7 +50,7 @@ fn picture_of(alloc: Global, script: &str) -> Result<Picture, PictureFault> {
     Ok(played.picture(alloc)?)
 }
 
-fn arrows(picture: &Picture, kind: Kind) -> usize {
+fn arrows(picture: &Picture, kind: DatagramKind) -> usize {
     picture
         .arrows
         .iter()
@@ -62,7 +62,7 @@ fn ignored(picture: &Picture) -> usize {
     picture
         .arrows
         .iter()
-        .filter(|arrow| matches!(arrow.end, End::Ignored(_)))
+        .filter(|arrow| matches!(arrow.end, ArrowEnd::Ignored(_)))
         .count()
 }
 
@@ -70,11 +70,11 @@ fn lost(picture: &Picture) -> usize {
     picture
         .arrows
         .iter()
-        .filter(|arrow| matches!(arrow.end, End::Lost))
+        .filter(|arrow| matches!(arrow.end, ArrowEnd::Lost))
         .count()
 }
 
-fn brackets(picture: &Picture, ending: Option<Ending>) -> usize {
+fn brackets(picture: &Picture, ending: Option<TimerEnd>) -> usize {
     picture
         .brackets
         .iter()

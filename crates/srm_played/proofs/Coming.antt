@@ -19,8 +19,8 @@ use Rattle.srm_world.specs.declared.event.Event.TheVariants.{Draw, Deliver, Tick
 use Rattle.srm_world.specs.Traces.{of_member}
 use Rattle.srm_world.specs.Events.{asked, comes, input_of, in_slot, member_of}
 use Rattle.srm_picture.specs.declared.arrow.Hearing.{Hearing}
-use Rattle.srm_picture.specs.declared.place.Place.{Place}
-use Rattle.srm_picture.specs.Rows.{by_row, place_of}
+use Rattle.srm_picture.specs.declared.point.Point.{Point}
+use Rattle.srm_picture.specs.Rows.{by_row, point_of}
 use Rattle.srm_picture.specs.Arrows.{IsComing, IsHearing, AreHearings, something_comes, coming_in}
 use Rattle.srm_picture.proofs.Rows.{enumerate_from-append}
 use Rattle.srm_played.specs.Plays.{came, hearing_in, number_in}
@@ -61,7 +61,7 @@ comings-snoc : (es : List Entry) (e : Entry) → by_row coming_in (es ++ e ∷ [
 comings-snoc es e =
     ap flat (enumerate_from-append 0 es (e ∷ [])) ∙ flat_map-snoc coming_in (enumerate_from 0 es) (0 + length es, e) ∙ ap (λ n. by_row coming_in es ++ coming_in (n, e)) (zero_more (length es))
   where
-    flat : List (ℕ × Entry) → List Place
+    flat : List (ℕ × Entry) → List Point
     flat rs = flat_map coming_in rs
 
     zero_more : (n : ℕ) → 0 + n ≡ n
@@ -131,16 +131,16 @@ brings es (Take member slot) number input n e = absurd (cc)
 
 -- one entry more
 
-come_one : (row : ℕ) (e : Entry) → something_comes e.input ≡ true → coming_in (row, e) ≡ place_of (row, e) ∷ []
-come_one row e some = ap (λ b. cond b (place_of (row, e) ∷ []) []) some
+come_one : (row : ℕ) (e : Entry) → something_comes e.input ≡ true → coming_in (row, e) ≡ point_of (row, e) ∷ []
+come_one row e some = ap (λ b. cond b (point_of (row, e) ∷ []) []) some
 
 come_none : (row : ℕ) (e : Entry) → something_comes e.input ≡ false → coming_in (row, e) ≡ []
-come_none row e none = ap (λ b. cond b (place_of (row, e) ∷ []) []) none
+come_none row e none = ap (λ b. cond b (point_of (row, e) ∷ []) []) none
 
 right_one : (es : List Entry) (e : Entry) (hs : List Hearing) (number : ℕ) → Brings es number e.input → AreHearings es hs → AreHearings (es ++ e ∷ []) (hs ++ hearing_in (length es, e) number ∷ [])
 right_one es e hs number b all = record {
   each = all_join (IsHearing (es ++ e ∷ [])) hs (hearing_in (length es, e) number ∷ []) (all_still es e hs all.each) (newest, tt);
-  places = map-append (λ (x : Hearing). x.at) hs (hearing_in (length es, e) number ∷ []) ∙ ap (λ ps. ps ++ place_of (length es, e) ∷ []) all.places
+  places = map-append (λ (x : Hearing). x.at) hs (hearing_in (length es, e) number ∷ []) ∙ ap (λ ps. ps ++ point_of (length es, e) ∷ []) all.places
       ∙ ap (λ ps. by_row coming_in es ++ ps) (sym (come_one (length es) e b.something)) ∙ sym (comings-snoc es e);
 }
   where

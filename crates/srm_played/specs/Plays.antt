@@ -8,7 +8,7 @@ use Rattle.srm_world.specs.declared.event.Event.TheVariants.{Deliver}
 use Rattle.srm_world.specs.Traces.{Trace}
 use Rattle.srm_world.specs.Events.{FollowsOne}
 use Rattle.srm_picture.specs.declared.arrow.Hearing.{Hearing}
-use Rattle.srm_picture.specs.Rows.{place_of}
+use Rattle.srm_picture.specs.Rows.{point_of}
 use Rattle.srm_picture.specs.Arrows.{is_done}
 
 -- what happened, and which datagrams came in which entries
@@ -27,7 +27,7 @@ number_in _ = None
 
 -- that the datagram with this number came in an entry
 abbrev pub hearing_in : ℕ × Entry → ℕ → Hearing
-hearing_in r number = record { number = number; at = place_of r; taken = is_done r.1.verdict }
+hearing_in r number = record { number = number; at = point_of r; taken = is_done r.1.verdict }
 
 -- what came in an entry, by the number that its event has
 abbrev pub came : Option ℕ → ℕ × Entry → List Hearing

@@ -5,7 +5,7 @@ ghost use Rattle.srm_world.specs.Events.{IsTimely};
 ghost use Rattle.srm_played.specs.Plays.{PlaysOne, came, number_in};
 
 use srm_agent::{Entry, Verdict};
-use srm_picture::{Hearing, Place};
+use srm_picture::{Hearing, Point};
 use srm_timers::Listed;
 use srm_world::{Event, World, WorldFault};
 
@@ -51,7 +51,7 @@ fn note(hearings: &mut Vec<Hearing>, number: Option<usize>, row: usize, entry: &
     };
     let _ = hearings.push(Hearing {
         number,
-        at: Place {
+        at: Point {
             row,
             member: entry.member,
         },

@@ -2,7 +2,7 @@
 //!
 //! ```
 //! let played = play(alloc, read_script(alloc, text)?)?;
-//! write_svg(alloc, &mut out, &played.session(), &played.picture(alloc)?)?;
+//! write_svg(alloc, &mut out, &played.subject(), &played.picture(alloc)?)?;
 //! ```
 //!
 //! [`play`] plays a script to its end and keeps which datagram came in which entry, so that `srm_picture` can draw it. [`run_picture`] is the

@@ -10,7 +10,7 @@ use crate::fault::PictureFault;
 use crate::hearing::advance;
 use crate::limits::EVENTS;
 use srm_agent::Config;
-use srm_picture::{Hearing, Picture, Session};
+use srm_picture::{Hearing, Picture, Subject};
 use srm_script::{Fault, Report, Script, print_newest};
 use srm_timers::Listed;
 use srm_world::{Event, World};
@@ -80,11 +80,11 @@ impl Played {
     }
 
     /// What is drawn beside the shapes of its picture. It takes no memory.
-    pub fn session(&self) -> Session<'_>
+    pub fn subject(&self) -> Subject<'_>
         ensures members { result.members ≡ length self.now.trace.starts }
         ensures entries { result.entries.now ≡ self.now.trace.entries }
     {
-        Session {
+        Subject {
             members: self.members(),
             entries: self.world.trace().entries(),
             lines: self.lines.as_slice(),

@@ -33,6 +33,6 @@ fn run<I: Read, O: Write>(alloc: Global, reader: &mut I, out: &mut O) -> Result<
     let played = play(alloc, read_script(alloc, input.as_slice())?)?;
     let picture = played.picture(alloc)?;
     let mut out = BufWriter::new(alloc, out).map_err(Fault::of_output)?;
-    write_svg(alloc, &mut out, &played.session(), &picture).map_err(Fault::of_output)?;
+    write_svg(alloc, &mut out, &played.subject(), &picture).map_err(Fault::of_output)?;
     Ok(out.flush().map_err(Fault::of_output)?)
 }

@@ -7,8 +7,7 @@ ghost use Rattle.srm_codec.specs.Judging.{judge};
 ghost use Rattle.srm_codec.specs.Spelling.{IsSpellable, names_in};
 ghost use Rattle.srm_entries.specs.Entries.{is_gone};
 ghost use Rattle.srm_store.specs.Stores.{HavePlaces};
-ghost use Rattle.srm_agent_parts.specs.PageTables.{lacks_room_for};
-ghost use Rattle.srm_agent.specs.Heeding.{HeardAs, IsJudgedBy, IsNoiseFor, IsTaken, entry_by};
+ghost use Rattle.srm_agent.specs.Heeding.{HeardAs, IsJudgedBy, IsNoiseFor, MayTake, entry_by};
 ghost use Rattle.srm_entries.specs.declared.cause.Outcome.TheVariants.{Taken};
 ghost use Rattle.srm_agent.specs.Noting.{Enters, Stays, ReadsAs, AnswersHeard, Hears};
 
@@ -200,13 +199,7 @@ impl<W: Words + Drop> Agent<W> {
         notes: bool,
         moment: u64,
     ) -> Result<Hearing, AllocError>
-        requires here { is_gone self.old.state ≡ false }
-        requires spelled { IsSpellable datagram }
-        requires later { self.old.last ≤ moment }
-        requires moment { moment ≤ MOMENT }
-        requires taken { IsTaken datagram self.old }
-        requires names { names.now ≡ names_in datagram }
-        requires pages { lacks_room_for self.old.pages names.now ≡ false }
+        requires may { MayTake datagram names.now moment self.old }
         ensures ok { IfOk result (λ hearing. Enters W.draw (Some moment) (Input.Heard datagram) self.old self.new (entry_by self.old moment (Input.Heard datagram) hearing.heard)) }
         ensures judged { IfOk result (λ hearing. IsJudgedBy datagram self.old (entry_by self.old moment (Input.Heard datagram) hearing.heard)) }
         ensures noted { IfOk result (λ hearing. notes ≡ true → hearing.noted ≡ hearing.heard.arms) }
@@ -226,6 +219,7 @@ impl<W: Words + Drop> Agent<W> {
     }
 
     /// Takes a datagram with these names, for which the store has room.
+    #[tactic(auto, using(crate::proofs::Taken::may_carry))]
     fn take_ready(
         &mut self,
         datagram: Datagram,
@@ -233,13 +227,7 @@ impl<W: Words + Drop> Agent<W> {
         notes: bool,
         moment: u64,
     ) -> Result<Hearing, AllocError>
-        requires here { is_gone self.old.state ≡ false }
-        requires spelled { IsSpellable datagram }
-        requires later { self.old.last ≤ moment }
-        requires moment { moment ≤ MOMENT }
-        requires taken { IsTaken datagram self.old }
-        requires names { names.now ≡ names_in datagram }
-        requires pages { lacks_room_for self.old.pages names.now ≡ false }
+        requires may { MayTake datagram names.now moment self.old }
         requires ready { HavePlaces names.now self.old.store }
         ensures ok { IfOk result (λ hearing. Enters W.draw (Some moment) (Input.Heard datagram) self.old self.new (entry_by self.old moment (Input.Heard datagram) hearing.heard)) }
         ensures done { IfOk result (λ hearing. hearing.heard.outcome ≡ Taken) }
@@ -247,11 +235,13 @@ impl<W: Words + Drop> Agent<W> {
         ensures err { OnErr result (Stays self.old self.new) }
     {
         match datagram {
-            Datagram::Data(drawop) => self.take_data(drawop, notes, moment),
+            Datagram::Data(drawop) => self.take_drawop(drawop, None, notes, moment),
             Datagram::Request { sender, name, mask } => {
                 self.take_request(sender, name, mask, names, notes, moment)
             }
-            Datagram::Repair { sender, drawop } => self.take_repair(sender, drawop, notes, moment),
+            Datagram::Repair { sender, drawop } => {
+                self.take_drawop(drawop, Some(sender), notes, moment)
+            }
             session @ Datagram::Session { .. } => self.take_session(session, names, notes, moment),
         }
     }

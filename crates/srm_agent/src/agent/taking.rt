@@ -1,14 +1,9 @@
 //! Taking data and repairs.
 
-ghost use Rattle.std.specs.Prelude.{◌≡◌, ◌≤◌, [], ◌∷◌, Some, Ok, IfOk, OnErr, true, false};
-ghost use Rattle.srm_names.specs.declared.limits.TheConstants.{MOMENT};
+ghost use Rattle.std.specs.Prelude.{◌≡◌, [], ◌∷◌, Some, Ok, IfOk, OnErr, true};
 ghost use Rattle.srm_names.specs.Names.{ascending, name_below};
-ghost use Rattle.srm_codec.specs.declared.datagram.Datagram.TheVariants.{Data, Repair};
-ghost use Rattle.srm_codec.specs.Spelling.{IsSpellable};
 ghost use Rattle.srm_store.specs.Stores.{HavePlaces};
-ghost use Rattle.srm_entries.specs.Entries.{is_gone};
-ghost use Rattle.srm_agent_parts.specs.PageTables.{lacks_room_for};
-ghost use Rattle.srm_agent.specs.Heeding.{IsTaken, IsFreshBelow, entry_by};
+ghost use Rattle.srm_agent.specs.Heeding.{MayTake, IsFreshBelow, carrying, entry_by};
 ghost use Rattle.srm_entries.specs.declared.cause.Outcome.TheVariants.{Taken};
 ghost use Rattle.srm_agent.specs.Noting.{Enters, Stays};
 
@@ -21,21 +16,17 @@ use srm_timers::Words;
 use std::alloc::AllocError;
 
 impl<W: Words + Drop> Agent<W> {
-    /// Takes data.
-    pub(super) fn take_data(
+    /// Takes a drawop: data, or a repair by this member.
+    pub(super) fn take_drawop(
         &mut self,
         drawop: Drawop,
+        repairer: Option<Member>,
         notes: bool,
         moment: u64,
     ) -> Result<Hearing, AllocError>
-        requires here { is_gone self.old.state ≡ false }
-        requires spelled { IsSpellable (Data drawop) }
-        requires later { self.old.last ≤ moment }
-        requires moment { moment ≤ MOMENT }
-        requires taken { IsTaken (Data drawop) self.old }
-        requires pages { lacks_room_for self.old.pages (drawop.name ∷ []) ≡ false }
+        requires may { MayTake (carrying repairer drawop) (drawop.name ∷ []) moment self.old }
         requires ready { HavePlaces (drawop.name ∷ []) self.old.store }
-        ensures ok { IfOk result (λ hearing. Enters W.draw (Some moment) (Input.Heard (Data drawop)) self.old self.new (entry_by self.old moment (Input.Heard (Data drawop)) hearing.heard)) }
+        ensures ok { IfOk result (λ hearing. Enters W.draw (Some moment) (Input.Heard (carrying repairer drawop)) self.old self.new (entry_by self.old moment (Input.Heard (carrying repairer drawop)) hearing.heard)) }
         ensures done { IfOk result (λ hearing. hearing.heard.outcome ≡ Taken) }
         ensures noted { IfOk result (λ hearing. notes ≡ true → hearing.noted ≡ hearing.heard.arms) }
         ensures err { OnErr result (Stays self.old self.new) }
@@ -44,43 +35,10 @@ impl<W: Words + Drop> Agent<W> {
         let fresh = self.fresh_below(name)?;
         let mut copies = room_to_note(self.alloc, notes, fresh.len())?;
         let dist = distance_table(&self.distances);
+        let repaired = repairer.is_some();
         let arms = self
             .timers
-            .hear_data(name, &fresh, dist, moment, &mut self.words)?;
-        note_arms(&mut copies, notes, &arms);
-        keep(&mut self.store, drawop);
-        self.pages.add_all(&[name]);
-        self.last = moment;
-        Ok(took(arms, copies))
-    }
-
-    /// Takes a repair.
-    pub(super) fn take_repair(
-        &mut self,
-        sender: Member,
-        drawop: Drawop,
-        notes: bool,
-        moment: u64,
-    ) -> Result<Hearing, AllocError>
-        requires here { is_gone self.old.state ≡ false }
-        requires spelled { IsSpellable (Repair sender drawop) }
-        requires later { self.old.last ≤ moment }
-        requires moment { moment ≤ MOMENT }
-        requires taken { IsTaken (Repair sender drawop) self.old }
-        requires pages { lacks_room_for self.old.pages (drawop.name ∷ []) ≡ false }
-        requires ready { HavePlaces (drawop.name ∷ []) self.old.store }
-        ensures ok { IfOk result (λ hearing. Enters W.draw (Some moment) (Input.Heard (Repair sender drawop)) self.old self.new (entry_by self.old moment (Input.Heard (Repair sender drawop)) hearing.heard)) }
-        ensures done { IfOk result (λ hearing. hearing.heard.outcome ≡ Taken) }
-        ensures noted { IfOk result (λ hearing. notes ≡ true → hearing.noted ≡ hearing.heard.arms) }
-        ensures err { OnErr result (Stays self.old self.new) }
-    {
-        let name = drawop.name;
-        let fresh = self.fresh_below(name)?;
-        let mut copies = room_to_note(self.alloc, notes, fresh.len())?;
-        let dist = distance_table(&self.distances);
-        let arms = self
-            .timers
-            .hear_repair(name, &fresh, dist, moment, &mut self.words)?;
+            .hear_drawop(name, repaired, &fresh, dist, moment, &mut self.words)?;
         note_arms(&mut copies, notes, &arms);
         keep(&mut self.store, drawop);
         self.pages.add_all(&[name]);

@@ -1,15 +1,11 @@
 //! Taking requests.
 
-ghost use Rattle.std.specs.Prelude.{◌≡◌, ◌≤◌, Some, Ok, IfOk, OnErr, true, false};
-ghost use Rattle.srm_names.specs.declared.limits.TheConstants.{MOMENT};
+ghost use Rattle.std.specs.Prelude.{◌≡◌, Some, Ok, IfOk, OnErr, true};
 ghost use Rattle.srm_names.specs.Names.{ascending, name_below};
 ghost use Rattle.srm_codec.specs.declared.datagram.Datagram.TheVariants.{Request};
-ghost use Rattle.srm_codec.specs.Spelling.{IsSpellable, asked_by};
 ghost use Rattle.srm_store.specs.Stores.{HavePlaces};
-ghost use Rattle.srm_entries.specs.Entries.{is_gone};
 ghost use Rattle.srm_agent.specs.Growth.{IsFreshUpTo};
-ghost use Rattle.srm_agent_parts.specs.PageTables.{lacks_room_for};
-ghost use Rattle.srm_agent.specs.Heeding.{IsTaken, entry_by};
+ghost use Rattle.srm_agent.specs.Heeding.{MayTake, entry_by};
 ghost use Rattle.srm_entries.specs.declared.cause.Outcome.TheVariants.{Taken};
 ghost use Rattle.srm_agent.specs.Noting.{Enters, Stays};
 
@@ -32,13 +28,7 @@ impl<W: Words + Drop> Agent<W> {
         notes: bool,
         moment: u64,
     ) -> Result<Hearing, AllocError>
-        requires here { is_gone self.old.state ≡ false }
-        requires spelled { IsSpellable (Request sender name mask) }
-        requires later { self.old.last ≤ moment }
-        requires moment { moment ≤ MOMENT }
-        requires taken { IsTaken (Request sender name mask) self.old }
-        requires names { names.now ≡ asked_by name mask }
-        requires pages { lacks_room_for self.old.pages names.now ≡ false }
+        requires may { MayTake (Request sender name mask) names.now moment self.old }
         requires ready { HavePlaces names.now self.old.store }
         ensures ok { IfOk result (λ hearing. Enters W.draw (Some moment) (Input.Heard (Request sender name mask)) self.old self.new (entry_by self.old moment (Input.Heard (Request sender name mask)) hearing.heard)) }
         ensures done { IfOk result (λ hearing. hearing.heard.outcome ≡ Taken) }

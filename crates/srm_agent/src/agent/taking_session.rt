@@ -1,15 +1,12 @@
 //! Taking session messages.
 
-ghost use Rattle.std.specs.Prelude.{◌≡◌, ◌≤◌, Some, Ok, IfOk, OnErr, true, false};
-ghost use Rattle.srm_names.specs.declared.limits.TheConstants.{MOMENT};
+ghost use Rattle.std.specs.Prelude.{◌≡◌, Some, Ok, IfOk, OnErr, true};
 ghost use Rattle.srm_names.specs.Names.{ascending, name_below};
-ghost use Rattle.srm_codec.specs.Spelling.{IsSpellable, names_in, row_below};
+ghost use Rattle.srm_codec.specs.Spelling.{row_below};
 ghost use Rattle.srm_store.specs.Stores.{HavePlaces};
-ghost use Rattle.srm_entries.specs.Entries.{is_gone};
 ghost use Rattle.srm_agent.specs.Growth.{IsFreshOf};
-ghost use Rattle.srm_agent_parts.specs.PageTables.{lacks_room_for};
 ghost use Rattle.srm_agent_parts.specs.TimerCalls.{IsSession};
-ghost use Rattle.srm_agent.specs.Heeding.{IsTaken, entry_by};
+ghost use Rattle.srm_agent.specs.Heeding.{MayTake, entry_by};
 ghost use Rattle.srm_entries.specs.declared.cause.Outcome.TheVariants.{Taken};
 ghost use Rattle.srm_agent.specs.Noting.{Enters, Stays};
 
@@ -32,13 +29,7 @@ impl<W: Words + Drop> Agent<W> {
         moment: u64,
     ) -> Result<Hearing, AllocError>
         requires session { IsSession datagram }
-        requires here { is_gone self.old.state ≡ false }
-        requires spelled { IsSpellable datagram }
-        requires later { self.old.last ≤ moment }
-        requires moment { moment ≤ MOMENT }
-        requires taken { IsTaken datagram self.old }
-        requires names { names.now ≡ names_in datagram }
-        requires pages { lacks_room_for self.old.pages names.now ≡ false }
+        requires may { MayTake datagram names.now moment self.old }
         requires ready { HavePlaces names.now self.old.store }
         ensures ok { IfOk result (λ hearing. Enters W.draw (Some moment) (Input.Heard datagram) self.old self.new (entry_by self.old moment (Input.Heard datagram) hearing.heard)) }
         ensures done { IfOk result (λ hearing. hearing.heard.outcome ≡ Taken) }

@@ -4,9 +4,9 @@ ghost use Rattle.std.specs.Prelude.{◌≡◌, ◌≤◌, length, true, IfOk, Is
 ghost use Rattle.srm_names.specs.declared.limits.TheConstants.{MOMENT};
 ghost use Rattle.srm_names.specs.Names.{ascending, name_below};
 ghost use Rattle.srm_timers.specs.AskCalls.{AnswerReady, Gained, AskAdds};
-ghost use Rattle.srm_timers.specs.FixCalls.{FixStays, FixPlace, FixRepairs};
+ghost use Rattle.srm_timers.specs.FixCalls.{FixStays, FixPlace};
 ghost use Rattle.srm_timers.specs.Distances.{AreDistances};
-ghost use Rattle.srm_agent_parts.specs.TimerCalls.{IsDataOf, IsRepairOf, IsSession, KeepSettings, TimersHear, TimersStay, WaitsAreDrawn};
+ghost use Rattle.srm_agent_parts.specs.TimerCalls.{FixEnds, IsDrawopOf, IsSession, KeepSettings, TimersHear, TimersStay, WaitsAreDrawn};
 
 use super::Timers;
 use srm_names::Name;
@@ -48,12 +48,13 @@ impl Timers {
         self.detect(fresh, &[], dist, now, words)
     }
 
-    /// Data of a name was heard, by which these names of its stream, which rise, become missing. Only want of memory
-    /// refuses it.
-    #[tactic(auto, using(crate::proofs::Missing::data_hears, crate::proofs::Midway::keep_on))]
-    pub fn hear_data<W: Words>(
+    /// A name's drawop was heard, as data or as a repair, by which these names of its stream, which rise, become missing. A repair
+    /// ends the name's repair timer, and holds the name off. Only want of memory refuses it.
+    #[tactic(auto, using(crate::proofs::Midway::keep_on, crate::proofs::Midway::stay_on, crate::proofs::Midway::waits_before, crate::proofs::Midway::placed_if))]
+    pub fn hear_drawop<W: Words>(
         &mut self,
         name: Name,
+        repaired: bool,
         fresh: &[Name],
         dist: &[u64],
         now: u64,
@@ -62,45 +63,20 @@ impl Timers {
         requires rising { ascending name_below fresh.now ≡ true }
         requires distances { AreDistances dist.now }
         requires now { now ≤ MOMENT }
-        ensures hears { IfOk result (λ arms. TimersHear (IsDataOf name) fresh.now dist.now now arms.items self.old self.new) }
+        ensures hears { IfOk result (λ arms. TimersHear (IsDrawopOf repaired name) fresh.now dist.now now arms.items self.old self.new) }
         ensures few { IfOk result (λ arms. length arms.items ≤ length fresh.now) }
         ensures drawn { IfOk result (λ arms. WaitsAreDrawn W.draw self.old words.old arms.items words.new) }
         ensures kept { OnErr result (TimersStay self.old self.new) }
         ensures undrawn { OnErr result (words.new ≡ words.old) }
         ensures settings { KeepSettings self.old self.new }
     {
+        self.drawop_room(name, repaired)?;
         let arms = self.detect(fresh, &[], dist, now, words)?;
         self.gain(name);
+        self.end_repair(name, repaired, dist, now);
         Ok(arms)
     }
 
-    /// A repair of a name was heard, by which these names of its stream, which rise, become missing: its repair timer is
-    /// gone, and it is held off. Only want of memory refuses it.
-    #[tactic(auto, using(crate::proofs::Missing::repair_hears, crate::proofs::Midway::keep_on, crate::proofs::Midway::stay_on, crate::proofs::Midway::waits_before, crate::proofs::Midway::first_placed))]
-    pub fn hear_repair<W: Words>(
-        &mut self,
-        name: Name,
-        fresh: &[Name],
-        dist: &[u64],
-        now: u64,
-        words: &mut W,
-    ) -> Result<Vec<Arm>, AllocError>
-        requires rising { ascending name_below fresh.now ≡ true }
-        requires distances { AreDistances dist.now }
-        requires now { now ≤ MOMENT }
-        ensures hears { IfOk result (λ arms. TimersHear (IsRepairOf name) fresh.now dist.now now arms.items self.old self.new) }
-        ensures few { IfOk result (λ arms. length arms.items ≤ length fresh.now) }
-        ensures drawn { IfOk result (λ arms. WaitsAreDrawn W.draw self.old words.old arms.items words.new) }
-        ensures kept { OnErr result (TimersStay self.old self.new) }
-        ensures undrawn { OnErr result (words.new ≡ words.old) }
-        ensures settings { KeepSettings self.old self.new }
-    {
-        self.repair_room(name)?;
-        let arms = self.detect(fresh, &[], dist, now, words)?;
-        self.gain(name);
-        self.end_repair(name, dist, now);
-        Ok(arms)
-    }
     /// A name is held from now on: its request timer is gone. Takes no memory.
     #[tactic(auto, using(crate::proofs::Midway::asks_keep))]
     fn gain(&mut self, name: Name)
@@ -111,28 +87,34 @@ impl Timers {
         self.asks.gained(name);
     }
 
-    /// Makes room for a repair of a name. No timer changes.
-    #[tactic(auto, using(crate::proofs::Midway::fixes_stay, crate::proofs::Midway::fixes_keep))]
-    fn repair_room(&mut self, name: Name) -> Result<(), AllocError>
+    /// Makes room for a repair of a name, if it is one. No timer changes.
+    #[tactic(auto, using(crate::proofs::Midway::fixes_stay, crate::proofs::Midway::fixes_keep, crate::proofs::Midway::all_stays, crate::proofs::Midway::fixes_same, crate::proofs::Midway::settings_same))]
+    fn drawop_room(&mut self, name: Name, repaired: bool) -> Result<(), AllocError>
         ensures kept { TimersStay self.old self.new }
         ensures asks { self.new.asks ≡ self.old.asks }
         ensures fixes { FixStays self.old.fixes self.new.fixes }
         ensures settings { KeepSettings self.old self.new }
-        ensures place { OnOk result (FixPlace self.new.fixes name) }
+        ensures place { OnOk result (repaired ≡ true → FixPlace self.new.fixes name) }
     {
-        self.fixes.make_place(name)
+        if repaired {
+            self.fixes.make_place(name)
+        } else {
+            Ok(())
+        }
     }
 
-    /// A repair of a name was heard: its repair timer is gone, and it is held off. Takes no memory.
-    #[tactic(auto, using(crate::proofs::Midway::fixes_keep))]
-    fn end_repair(&mut self, name: Name, dist: &[u64], now: u64)
-        requires place { FixPlace self.old.fixes name }
+    /// A drawop of a name was heard. If it was a repair, the name's repair timer is gone, and it is held off. Takes no memory.
+    #[tactic(auto, using(crate::proofs::Midway::fixes_keep, crate::proofs::Midway::settings_same))]
+    fn end_repair(&mut self, name: Name, repaired: bool, dist: &[u64], now: u64)
+        requires place { repaired ≡ true → FixPlace self.old.fixes name }
         requires distances { AreDistances dist.now }
         requires now { now ≤ MOMENT }
-        ensures fixes { FixRepairs now dist.now (name ∷ []) self.old.fixes self.new.fixes }
+        ensures fixes { FixEnds repaired now dist.now name self.old.fixes self.new.fixes }
         ensures asks { self.new.asks ≡ self.old.asks }
         ensures settings { KeepSettings self.old self.new }
     {
-        self.fixes.repair(name, dist, now);
+        if repaired {
+            self.fixes.repair(name, dist, now);
+        }
     }
 }

@@ -3,7 +3,7 @@
 use crate::drawing::legend::STYLE;
 use crate::picture::Picture;
 use crate::plan::{MOMENTS, Plan};
-use crate::session::Session;
+use crate::subject::Subject;
 use crate::tick::TickKind;
 use srm_names::Member;
 use std::io;
@@ -12,13 +12,13 @@ use std::io::Write;
 /// The beginning of the file, and its title.
 pub(super) fn write_head<W: Write>(
     out: &mut W,
-    session: &Session<'_>,
+    subject: &Subject<'_>,
     plan: &Plan,
 ) -> io::Result<()> {
     let width = plan.width();
     let height = plan.height();
-    let members = session.members;
-    let events = session.entries.len();
+    let members = subject.members;
+    let events = subject.entries.len();
     writeln!(
         out,
         "<svg xmlns=\"http://www.w3.org/2000/svg\" width=\"{width}\" height=\"{height}\" viewBox=\"0 0 {width} {height}\" role=\"img\">"
@@ -41,7 +41,7 @@ pub(super) fn write_head<W: Write>(
 /// A line for each entry, and its moment where it differs from the one before.
 pub(super) fn write_moments<W: Write>(
     out: &mut W,
-    session: &Session<'_>,
+    subject: &Subject<'_>,
     plan: &Plan,
 ) -> io::Result<()> {
     let right = plan.width().saturating_sub(16);
@@ -51,7 +51,7 @@ pub(super) fn write_moments<W: Write>(
         MOMENTS - 12
     )?;
     let mut last = None;
-    for (row, entry) in session.entries.iter().enumerate() {
+    for (row, entry) in subject.entries.iter().enumerate() {
         let y = plan.y(row, 0);
         writeln!(
             out,
@@ -81,11 +81,11 @@ fn write_moment<W: Write>(out: &mut W, moment: u64, y: u64) -> io::Result<()> {
 /// A line for each member, which is dashed once it is gone.
 pub(super) fn write_lifelines<W: Write>(
     out: &mut W,
-    session: &Session<'_>,
+    subject: &Subject<'_>,
     picture: &Picture,
     plan: &Plan,
 ) -> io::Result<()> {
-    for member in (0..session.members).filter_map(Member::new) {
+    for member in (0..subject.members).filter_map(Member::new) {
         write_lifeline(out, picture, plan, member)?;
     }
     Ok(())

@@ -3,7 +3,7 @@
 use crate::escaping::escaped;
 use crate::picture::Picture;
 use crate::plan::Plan;
-use crate::session::Session;
+use crate::subject::Subject;
 use crate::tick::{Tick, TickKind};
 use srm_codec::Datagram;
 use std::alloc::Global;
@@ -50,7 +50,7 @@ impl fmt::Display for ShownDatagram<'_> {
 /// A label for each datagram where it was sent.
 pub(super) fn write_datagrams<W: Write>(
     out: &mut W,
-    session: &Session<'_>,
+    subject: &Subject<'_>,
     picture: &Picture,
     plan: &Plan,
 ) -> io::Result<()> {
@@ -61,7 +61,7 @@ pub(super) fn write_datagrams<W: Write>(
         }
         last = Some(arrow.number);
         let from = arrow.launch.from;
-        let entry = session.entries.get(from.row);
+        let entry = subject.entries.get(from.row);
         let datagram = entry.and_then(|entry| entry.effects.outs.as_slice().get(arrow.launch.nth));
         if let Some(datagram) = datagram {
             let x = plan.x(from.member).saturating_add(9);
@@ -81,12 +81,12 @@ pub(super) fn write_datagrams<W: Write>(
 pub(super) fn write_ticks<W: Write>(
     alloc: Global,
     out: &mut W,
-    session: &Session<'_>,
+    subject: &Subject<'_>,
     picture: &Picture,
     plan: &Plan,
 ) -> io::Result<()> {
     for tick in &picture.ticks {
-        let line = line_of_tick(session, tick);
+        let line = line_of_tick(subject, tick);
         write!(out, "<g class=\"tick\"><title>")?;
         write_text(alloc, out, line)?;
         writeln!(out, "</title>")?;
@@ -97,12 +97,12 @@ pub(super) fn write_ticks<W: Write>(
     Ok(())
 }
 
-fn line_of_tick<'a>(session: &'a Session<'_>, tick: &Tick) -> &'a [u8] {
+fn line_of_tick<'a>(subject: &'a Subject<'_>, tick: &Tick) -> &'a [u8] {
     let word: &[u8] = match tick.kind {
         TickKind::Gone => b"gone ",
         TickKind::Drew | TickKind::Gave | TickKind::Took | TickKind::Noted => b"",
     };
-    line_of(session.lines_of(tick.at.row), word, 0)
+    line_of(subject.lines_of(tick.at.row), word, 0)
 }
 
 fn write_tick<W: Write>(out: &mut W, plan: &Plan, tick: &Tick) -> io::Result<()> {

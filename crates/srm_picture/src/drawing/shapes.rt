@@ -1,12 +1,12 @@
 //! Brackets and arrows.
 
-use crate::arrow::{Arrow, End, Launch};
-use crate::bracket::{Bracket, Ending};
+use crate::arrow::{Arrow, ArrowEnd, Launch};
+use crate::bracket::{Bracket, TimerEnd};
 use crate::drawing::labels::{line_of, write_text};
 use crate::picture::Picture;
-use crate::place::Place;
 use crate::plan::{LINE, Plan};
-use crate::session::Session;
+use crate::point::Point;
+use crate::subject::Subject;
 use srm_entries::ArmKind;
 use srm_names::Member;
 use std::alloc::Global;
@@ -22,7 +22,7 @@ const FALL: u64 = 14;
 pub(super) fn write_brackets<W: Write>(
     alloc: Global,
     out: &mut W,
-    session: &Session<'_>,
+    subject: &Subject<'_>,
     picture: &Picture,
     plan: &Plan,
 ) -> io::Result<()> {
@@ -33,7 +33,7 @@ pub(super) fn write_brackets<W: Write>(
             ArmKind::Fix => "fix",
         };
         write!(out, "<g class=\"bracket {class}\"><title>")?;
-        let line = line_of(session.lines_of(bracket.from.row), b"arm ", bracket.nth);
+        let line = line_of(subject.lines_of(bracket.from.row), b"arm ", bracket.nth);
         write_text(alloc, out, line)?;
         writeln!(out, ", {}</title>", ending_of(bracket))?;
         write_bracket(out, plan, bracket, x)?;
@@ -47,9 +47,9 @@ fn ending_of(bracket: &Bracket) -> &'static str {
     match bracket.end {
         None => "still running",
         Some(end) => match end.ending {
-            Ending::RanOut => "ran out",
-            Ending::BackedOff => "backed off",
-            Ending::Cancelled => "cancelled",
+            TimerEnd::RanOut => "ran out",
+            TimerEnd::BackedOff => "backed off",
+            TimerEnd::Cancelled => "cancelled",
         },
     }
 }
@@ -74,9 +74,9 @@ fn write_bracket<W: Write>(out: &mut W, plan: &Plan, bracket: &Bracket, x: u64) 
         x.saturating_add(6)
     )?;
     match end.ending {
-        Ending::RanOut => Ok(()),
-        Ending::BackedOff => write_strike(out, x, from, until, "l10 -8"),
-        Ending::Cancelled => write_strike(out, x, from, until, "l10 -8m0 8l-10 -8"),
+        TimerEnd::RanOut => Ok(()),
+        TimerEnd::BackedOff => write_strike(out, x, from, until, "l10 -8"),
+        TimerEnd::Cancelled => write_strike(out, x, from, until, "l10 -8m0 8l-10 -8"),
     }
 }
 
@@ -100,7 +100,7 @@ fn write_strike<W: Write>(
 pub(super) fn write_arrows<W: Write>(
     alloc: Global,
     out: &mut W,
-    session: &Session<'_>,
+    subject: &Subject<'_>,
     picture: &Picture,
     plan: &Plan,
 ) -> io::Result<()> {
@@ -110,7 +110,7 @@ pub(super) fn write_arrows<W: Write>(
             "<g class=\"arrow {}\"><title>",
             arrow.launch.kind.word()
         )?;
-        write_title(alloc, out, session, arrow)?;
+        write_title(alloc, out, subject, arrow)?;
         writeln!(out, "</title>")?;
         write_arrow(out, plan, arrow)?;
         writeln!(out, "</g>")?;
@@ -122,38 +122,38 @@ pub(super) fn write_arrows<W: Write>(
 fn write_title<W: Write>(
     alloc: Global,
     out: &mut W,
-    session: &Session<'_>,
+    subject: &Subject<'_>,
     arrow: &Arrow,
 ) -> io::Result<()> {
     let launch = arrow.launch;
     write_text(
         alloc,
         out,
-        line_of(session.lines_of(launch.from.row), b"out ", launch.nth),
+        line_of(subject.lines_of(launch.from.row), b"out ", launch.nth),
     )?;
     match arrow.end {
-        End::Taken(at) | End::Ignored(at) => {
+        ArrowEnd::Taken(at) | ArrowEnd::Ignored(at) => {
             write!(out, ", ")?;
-            write_text(alloc, out, line_of(session.lines_of(at.row), b"heard ", 0))
+            write_text(alloc, out, line_of(subject.lines_of(at.row), b"heard ", 0))
         }
-        End::Lost => write!(out, ", never delivered"),
+        ArrowEnd::Lost => write!(out, ", never delivered"),
     }
 }
 
 fn write_arrow<W: Write>(out: &mut W, plan: &Plan, arrow: &Arrow) -> io::Result<()> {
     match &arrow.end {
-        End::Taken(at) => {
+        ArrowEnd::Taken(at) => {
             write!(out, "<path class=\"way taken\" d=\"")?;
             write_way(out, plan, arrow, at)?;
             writeln!(out, "\"/>")
         }
-        End::Ignored(at) => {
+        ArrowEnd::Ignored(at) => {
             write!(out, "<path class=\"way\" d=\"")?;
             write_way(out, plan, arrow, at)?;
             writeln!(out, "\"/>")?;
             write_cross(out, plan.x(at.member), plan.y(at.row, 0))
         }
-        End::Lost => write_lost(out, plan, &arrow.launch),
+        ArrowEnd::Lost => write_lost(out, plan, &arrow.launch),
     }
 }
 
@@ -168,7 +168,7 @@ fn write_lost<W: Write>(out: &mut W, plan: &Plan, launch: &Launch) -> io::Result
 }
 
 /// From the sending to the hearing: a straight line, or a bow where both are at one member.
-fn write_way<W: Write>(out: &mut W, plan: &Plan, arrow: &Arrow, at: &Place) -> io::Result<()> {
+fn write_way<W: Write>(out: &mut W, plan: &Plan, arrow: &Arrow, at: &Point) -> io::Result<()> {
     let from = &arrow.launch.from;
     let x = plan.x(from.member);
     let y = plan.y(from.row, arrow.launch.nth);

@@ -9,5 +9,15 @@ returns-in-Some-clause-ok g c = ignored_datagram g.W.Words.draw _ _ c.args.momen
 pub returns-in-Some-clause-judged : goal.returns-in-Some-clause-judged
 returns-in-Some-clause-judged g c = ignored_judged _ c.args.moment c.args.datagram c.in-Some.cause c.cause_to_ignore.result _ c.in-Some.is c.cause_to_ignore.ensures.verdict (ignored_by c.args.self.now _ _ _ _ c.ignore_heard.ensures.heard)
 
-pub take-requires-clause-taken : goal.take-requires-clause-taken
-take-requires-clause-taken g c = taken_at_none _ c.args.datagram c.cause_to_ignore.result c.in-None.is c.cause_to_ignore.ensures.verdict
+pub take-requires : goal.take-requires
+take-requires g c = record {
+  may = record {
+    here = c.requires.here;
+    spelled = c.requires.spelled;
+    later = c.requires.later;
+    in_range = c.requires.moment;
+    taken = taken_at_none _ c.args.datagram c.cause_to_ignore.result c.in-None.is c.cause_to_ignore.ensures.verdict;
+    named = c.requires.names;
+    pages = c.cause_to_ignore.ensures.room c.in-None.is;
+  };
+}

@@ -8,6 +8,6 @@ pub invariant_of-result : goal.invariant_of-result
 invariant_of-result g c = record {
   lists = keeps_new _ _ _ (ap (λ (j : Journal). j.entries) c.requires.recorder.is) c.requires.feeds c.requires.well;
   settings = ap (λ (j : Journal). j.start.config) c.requires.recorder.is;
-  room_is = c.in_ok-vec.ensures.len;
-  closed_are = none_closed _ _ c.requires.feeds c.in_ok-none_closed.ensures;
+  room_is = c.in_ok-buffer.ensures.buffer;
+  closed_are = none_closed _ _ c.requires.feeds c.in_ok-buffer.ensures.closed;
 }

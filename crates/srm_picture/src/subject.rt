@@ -4,7 +4,7 @@ use srm_entries::Entry;
 
 /// A session, of which there is a picture.
 #[derive(Drop)]
-pub struct Session<'a> {
+pub struct Subject<'a> {
     /// How many members there are. They have the numbers from 0.
     pub members: u8,
     /// What happened, oldest first.
@@ -13,7 +13,7 @@ pub struct Session<'a> {
     pub lines: &'a [Vec<u8>],
 }
 
-impl Session<'_> {
+impl Subject<'_> {
     /// The lines of an entry.
     pub fn lines_of(&self, row: usize) -> &[u8] {
         match self.lines.get(row) {

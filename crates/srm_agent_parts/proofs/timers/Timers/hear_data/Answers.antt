@@ -1,7 +1,0 @@
-use Rattle.srm_agent_parts.proofs.Missing.{data_hears}
-use Rattle.srm_agent_parts.proofs.timers.Timers.hear_data.Goals as goal
-
-pub returns-clause-hears : goal.returns-clause-hears
-returns-clause-hears g c =
-    data_hears g.W.Words.draw c.args.words.now c.detect.new.words c.args.name c.args.fresh.now c.args.dist.now c.args.now c.in_ok-arms.arms.items c.args.self.now c.detect.new.self c.gain.new.self
-    c.in_ok-arms.ensures.fits c.in_ok-arms.ensures.fixes c.in_ok-arms.ensures.arms c.in_ok-arms.ensures.drawn c.gain.ensures.asks c.gain.ensures.fixes

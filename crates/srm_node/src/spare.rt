@@ -1,0 +1,27 @@
+//! What a node makes for itself, beside what it is made of.
+
+ghost use Rattle.std.specs.Prelude.{◌≡◌, vec_len, replicate, false, IfOk};
+ghost use Rattle.srm_names.specs.declared.limits.TheConstants.{PAGES};
+ghost use Rattle.srm_node.specs.declared.limits.TheConstants.{BUFFER};
+
+use crate::ending::none_closed;
+use crate::limits::BUFFER;
+use std::alloc::{AllocError, Global};
+
+/// The buffer that datagrams are received into, and that no feed put its close yet.
+#[derive(Drop)]
+pub struct Spare {
+    pub buffer: Vec<u8>,
+    pub closed: Vec<bool>,
+}
+
+/// By itself, so that one exit alone drops what a node is made of. Only want of memory refuses it.
+pub fn make_spare(alloc: Global) -> Result<Spare, AllocError>
+    ensures buffer { IfOk result (λ s. vec_len s.buffer ≡ BUFFER) }
+    ensures closed { IfOk result (λ s. s.closed.items ≡ replicate PAGES false) }
+{
+    Ok(Spare {
+        buffer: vec![in alloc; 0; BUFFER]?,
+        closed: none_closed(alloc)?,
+    })
+}
