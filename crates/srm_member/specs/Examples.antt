@@ -1,11 +1,14 @@
--- Texts and their lines, and how a member ends.
+-- Texts and their lines, how a member ends, and the words of a number.
 use Rattle.std.specs.Prelude.{◌≡◌, true, false, [], ◌∷◌, map, codes, refl, Some, None, Ok, Err}
 use Rattle.std.specs.declared.io.ErrorKind.TheVariants as kind
+use Rattle.rand_core.specs.Pcg32Seed.{pcg32_seed}
+use Rattle.rand_core.specs.Steps.{u32_at, word_bytes}
 use Rattle.srm_script.specs.declared.fault.Fault.TheVariants.{Input, Memory}
 use Rattle.srm_node.specs.declared.fault.NodeFault.TheVariants as node
 use Rattle.srm_member.specs.declared.fault.MemberFault.TheVariants.{Script, Wire, Turns}
 use Rattle.srm_member.specs.Lines.{lines_of, each_fourth, bad_line}
 use Rattle.srm_member.specs.Ends.{fault_of, fault_of_live, fault_of_binding, status_of_member}
+use Rattle.srm_member.specs.Stations.{words_of}
 
 no_lines : lines_of [] ≡ []
 no_lines = refl
@@ -42,3 +45,7 @@ an_address_in_use = refl
 
 a_system_without_memory : fault_of_binding kind.OutOfMemory ≡ Script Memory
 a_system_without_memory = refl
+
+the_words_that_7_starts : words_of 7 ≡ record { state = 75399758779710541671558023171123802774; increment = 83908065895571479823384977301799156541 }
+unfolding words_of u32_at pcg32_seed word_bytes
+the_words_that_7_starts = refl

@@ -5,7 +5,7 @@ ghost use Rattle.srm_names.specs.declared.limits.TheConstants.{PAGES};
 ghost use Rattle.srm_pages.specs.Ends.{AreNewPens};
 ghost use Rattle.srm_node.specs.Nodes.{AreNewFeeds};
 ghost use Rattle.srm_node.specs.Hosting.{Hosts, HostFails, AreEndsOfLanes};
-ghost use Rattle.srm_member.specs.Stations.{IsNewStation};
+ghost use Rattle.srm_member.specs.Stations.{IsNewStation, words_of};
 
 use crate::fault::MemberFault;
 use crate::pens::PenThreads;
@@ -47,7 +47,8 @@ impl<R: time::Clock + Copy + Drop> Station<R> {
     pub fn bind(rt: &R, alloc: Global, options: NodeOptions) -> Result<Station<R>, MemberFault>
     where
         R: Net,
-        ensures { IfOk result (λ s. IsNewStation options.config options.stay None s.node.view s.taps.items s.pens.items) }
+        ensures new { IfOk result (λ s. IsNewStation options.config options.stay None s.node.view s.taps.items s.pens.items) }
+        ensures words { IfOk result (λ s. s.node.words ≡ words_of options.start) }
     {
         let NodeOptions {
             config,
@@ -73,7 +74,8 @@ impl<R: time::Clock + Copy + Drop, X: Wire + Drop> Station<R, X> {
         wire: X,
     ) -> Result<Station<R, X>, MemberFault>
         requires { X.failed wire ≡ 0 }
-        ensures { IfOk result (λ s. IsNewStation options.now.config options.now.stay (X.told wire) s.node.view s.taps.items s.pens.items) }
+        ensures new { IfOk result (λ s. IsNewStation options.now.config options.now.stay (X.told wire) s.node.view s.taps.items s.pens.items) }
+        ensures words { IfOk result (λ s. s.node.words ≡ words_of options.now.start) }
     {
         Station::new(rt, alloc, options.config, options.start, options.stay, wire)
     }
@@ -87,7 +89,8 @@ impl<R: time::Clock + Copy + Drop, X: Wire + Drop> Station<R, X> {
         wire: X,
     ) -> Result<Station<R, X>, MemberFault>
         requires { X.failed wire ≡ 0 }
-        ensures { IfOk result (λ s. IsNewStation config stay (X.told wire) s.node.view s.taps.items s.pens.items) }
+        ensures new { IfOk result (λ s. IsNewStation config stay (X.told wire) s.node.view s.taps.items s.pens.items) }
+        ensures words { IfOk result (λ s. s.node.words ≡ words_of start) }
     {
         let Parts {
             clock,
@@ -96,7 +99,7 @@ impl<R: time::Clock + Copy + Drop, X: Wire + Drop> Station<R, X> {
             well,
             pens,
         } = make_parts(rt, alloc)?;
-        let mut node = Node::new(alloc, config, Pcg::new(start), wire, clock, feeds, well)?;
+        let mut node = Node::new(alloc, config, words(start), wire, clock, feeds, well)?;
         node.ask_leave(stay);
         Ok(Station { node, taps, pens })
     }
@@ -117,9 +120,31 @@ impl<R: time::Clock + Copy + Drop, X: Wire + Drop> Station<R, X> {
         ensures hosts { IfOk result (λ h. MatchResult h.end (λ _. Hosts L.entries self.node.view self.taps.items turns h) (λ fault. (all : Bool) × HostFails L.entries all self.node.view self.taps.items turns fault h)) }
         ensures lanes { IfOk result (λ h. IfOk h.end (λ _. AreEndsOfLanes self.node.view.feeds self.taps.items → AreEndsOfLanes h.feeds.items (map (λ w. w.tap) h.worked.items))) }
     {
+        match Crew::new(alloc) {
+            Ok(crew) => self.run_with(rt, alloc, crew, dealt, turns),
+            Err(_) => Err(MemberFault::Script(Fault::Memory)),
+        }
+    }
+
+    /// Runs the station with the sinks and the threads that it needs. It has one exit, since one that drops a node, whose wire and clock are type
+    /// parameters, is dear to prove.
+    fn run_with<L: Past<PageMsg> + Send + Drop + 'static>(
+        self,
+        rt: &R,
+        alloc: Global,
+        crew: Crew,
+        dealt: Vec<Vec<Bytes>>,
+        turns: u64,
+    ) -> Result<Hosted<Vec<Entry>, L>, MemberFault>
+    where
+        R: Threads + Wait + Send + 'static,
+        requires taps { vec_len self.taps ≡ PAGES }
+        requires sinks { vec_len crew.sinks ≡ PAGES }
+        ensures hosts { IfOk result (λ h. MatchResult h.end (λ _. Hosts L.entries self.node.view self.taps.items turns h) (λ fault. (all : Bool) × HostFails L.entries all self.node.view self.taps.items turns fault h)) }
+        ensures lanes { IfOk result (λ h. IfOk h.end (λ _. AreEndsOfLanes self.node.view.feeds self.taps.items → AreEndsOfLanes h.feeds.items (map (λ w. w.tap) h.worked.items))) }
+    {
         let Station { node, taps, pens } = self;
-        let sinks = sinks(alloc)?;
-        let mut threads = PenThreads::new(alloc)?;
+        let Crew { sinks, mut threads } = crew;
         let all = threads.start(rt, pens, dealt);
         let hosted = host_if(rt, alloc, all, node, taps, sinks, turns);
         threads.end(rt);
@@ -141,7 +166,8 @@ impl<R: time::Clock + Copy + Drop, X: Wire + Drop, P: Past<Entry> + Drop> Statio
     ) -> Result<Station<R, X, P>, MemberFault>
         requires wire { X.failed wire ≡ 0 }
         requires past { P.entries past ≡ [] }
-        ensures { IfOk result (λ s. IsNewStation options.now.config options.now.stay (X.told wire) s.node.view s.taps.items s.pens.items) }
+        ensures new { IfOk result (λ s. IsNewStation options.now.config options.now.stay (X.told wire) s.node.view s.taps.items s.pens.items) }
+        ensures words { IfOk result (λ s. s.node.words ≡ words_of options.now.start) }
     {
         let Parts {
             clock,
@@ -153,7 +179,7 @@ impl<R: time::Clock + Copy + Drop, X: Wire + Drop, P: Past<Entry> + Drop> Statio
         let mut node = Node::with_past(
             alloc,
             options.config,
-            Pcg::new(options.start),
+            words(options.start),
             wire,
             clock,
             feeds,
@@ -163,6 +189,13 @@ impl<R: time::Clock + Copy + Drop, X: Wire + Drop, P: Past<Entry> + Drop> Statio
         node.ask_leave(options.stay);
         Ok(Station { node, taps, pens })
     }
+}
+
+/// The words that a number starts.
+fn words(start: u64) -> Pcg
+    ensures { result ≡ words_of start }
+{
+    Pcg::new(start)
 }
 
 /// The clock of a station's node, what its workers have of it and it of them, and the same of its pens.
@@ -196,6 +229,25 @@ fn make_parts<R: time::Clock + Copy + Drop>(rt: &R, alloc: Global) -> Result<Par
         well,
         pens,
     })
+}
+
+/// What a run needs beside its station: a sink for each worker, and the threads of the pens.
+#[derive(Drop)]
+struct Crew {
+    sinks: Vec<Unseen>,
+    threads: PenThreads,
+}
+
+impl Crew {
+    /// No thread is started yet. Only want of memory refuses it.
+    fn new(alloc: Global) -> Result<Crew, AllocError>
+        ensures { IfOk result (λ crew. vec_len crew.sinks ≡ PAGES) }
+    {
+        Ok(Crew {
+            sinks: sinks(alloc)?,
+            threads: PenThreads::new(alloc)?,
+        })
+    }
 }
 
 /// Runs the node with its workers where all pens were started.
