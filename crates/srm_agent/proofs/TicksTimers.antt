@@ -17,10 +17,8 @@ use Rattle.srm_agent_parts.specs.Outs.{IsOwn, AreOwn}
 use Rattle.srm_agent_parts.specs.TimersKept.{TimersContent, HaveSettings}
 use Rattle.srm_distance.specs.Fits.{IsTableOf}
 use Rattle.srm_agent_parts.specs.TimerCalls.{AreDistancesAfter, TimersTick, WaitsAreDrawn}
-use Rattle.srm_agent.specs.Ticking.{TicksTimers, HandsOut, HandsOutNothing}
+use Rattle.srm_agent.specs.Ticking.{TicksTimers, HandsOut}
 use Rattle.srm_entries.proofs.Adding.{flat_map-snoc}
-use Rattle.srm_agent_parts.proofs.Dueness.{ticks_right}
-use Rattle.srm_agent.proofs.Quiet.{Quiet, timers_stay, no_arms}
 
 same_calls : (me : ℕ) (past : List Entry) (e : Entry) → heard e ≡ None → distance_calls me (past ++ e ∷ []) ≡ distance_calls me past
 same_calls me past e unheard = flat_map-snoc (calls_in me) past e ∙ ap (λ o. distance_calls me past ++ calls_of me e.moment o) unheard ∙ append-nil (distance_calls me past)
@@ -34,17 +32,6 @@ ticks_timers a asks fixes dist moment arms new table ticks = record {
       } in
       ticks.each c past e t h.timers here to_ask to_fix after;
 }
-
--- where nothing is due no timer changes
-pub nothing_due : {W : Type 0} (draw : W → ℕ × W) (a : Content W) (handed : HandedOut) (moment : ℕ) (arms : List Arm) → arms ≡ [] → HandsOutNothing handed → HandsOut draw a handed moment arms a
-nothing_due draw a handed moment arms none nothing = subst (λ as_. HandsOut draw a handed moment as_ a) (sym none) (record {
-  ticks = record {
-    each = λ c made past e h t here to_ask to_fix.
-        let quiet : Quiet e = record { unheard = t.heard; drawn = t.drawn; arms = t.arms; asks = t.asks ∙ nothing.asks; fixes = t.fixes ∙ nothing.fixes } in
-        (record { arms = no_arms c past e quiet; fits = timers_stay c past e a.timers quiet h.timers }, ticks_right moment past e [] handed.asks handed.fixes t here to_ask to_fix);
-  };
-  drawn = refl;
-})
 
 pub hands_out : {W : Type 0} (draw : W → ℕ × W) (a b : Content W) (handed : HandedOut) (dist : List ℕ) (moment : ℕ) (arms : List Arm)
     → HaveSettings a.config a.timers → IsTableOf a.distances dist → TimersTick handed.asks handed.fixes dist moment arms a.timers b.timers → WaitsAreDrawn draw a.timers a.words arms b.words → HandsOut draw a handed moment arms b

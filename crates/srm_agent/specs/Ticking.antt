@@ -79,11 +79,6 @@ abbrev pub IsReportIf : {W : Type 0} → Bool → Content W → ℕ → Bool →
 IsReportIf wanted a moment farewell None = wanted ≡ false
 IsReportIf wanted a moment farewell (Some r) = (wanted ≡ true) × IsReportAt a moment farewell r
 
--- nothing is asked for or repaired
-pub record HandsOutNothing (h : HandedOut) : Type 0 where
-  pub asks : h.asks ≡ []
-  pub fixes : h.fixes ≡ []
-
 -- the names whose timers ran out, over whatever run the agent fits
 pub record IsToHandOut {W : Type 0} (a : Content W) (moment : ℕ) (h : HandedOut) : Type 0 where
   pub asks : AsksPending moment a.timers h.asks

@@ -1,14 +1,13 @@
 //! What is due at a moment.
 
 ghost use Rattle.std.specs.Prelude.{◌≡◌, ◌≤◌, true, IfOk};
-ghost use Rattle.std.specs.Bool.{OnTrue};
 ghost use Rattle.std.specs.List.{AllByRecursion};
 ghost use Rattle.srm_names.specs.declared.limits.TheConstants.{MOMENT};
 ghost use Rattle.srm_names.specs.Names.{ascending, name_below};
 ghost use Rattle.srm_agent.specs.Answering.{AnswersDue};
 ghost use Rattle.srm_outbox.specs.Answering.{AreAnswers, IsAnswerOf};
 ghost use Rattle.srm_entries.specs.Entries.{is_leaving};
-ghost use Rattle.srm_agent.specs.Ticking.{HandsOutNothing, IsDue, IsReportAt, IsReportIf, IsToHandOut};
+ghost use Rattle.srm_agent.specs.Ticking.{IsDue, IsReportAt, IsReportIf, IsToHandOut};
 
 use super::Agent;
 use srm_agent_parts::Outgoing;
@@ -42,12 +41,6 @@ pub(super) struct HandedOut {
 }
 
 impl HandedOut {
-    pub(super) fn is_empty(&self) -> bool
-        ensures { OnTrue result (HandsOutNothing self.now) }
-    {
-        self.asks.as_slice().is_empty() && self.fixes.as_slice().is_empty()
-    }
-
     /// The same once more. Only want of memory refuses it.
     pub(super) fn copy(&self, alloc: Global) -> Result<HandedOut, AllocError>
         ensures { IfOk result (λ copy. copy ≡ self.now) }

@@ -31,31 +31,6 @@ impl<W: Words + Drop> Agent<W> {
         ensures timers { OnErr result (TimersStay self.old.timers self.new.timers) }
         ensures words { OnErr result (self.new.words ≡ self.old.words) }
     {
-        if due.is_empty() {
-            return Ok((
-                Items::new(Vec::new(self.alloc)),
-                Items::new(Vec::new(self.alloc)),
-            ));
-        }
-        self.hand_out_some(due, notes, moment)
-    }
-
-    /// The same, whether anything is due or not.
-    fn hand_out_some(
-        &mut self,
-        due: &HandedOut,
-        notes: bool,
-        moment: u64,
-    ) -> Result<(Items<Arm>, Items<Arm>), AllocError>
-        requires asks { AreDueAsks moment self.old.timers due.now.asks }
-        requires fixes { AreDueFixes moment self.old.timers due.now.fixes }
-        requires moment { moment ≤ MOMENT }
-        ensures ok { IfOk result (λ arms. HandsOut W.draw self.old due.now moment arms.0 self.new) }
-        ensures noted { IfOk result (λ arms. notes ≡ true → arms.1 ≡ arms.0) }
-        ensures rest { self.new ≡ record self.old { timers = self.new.timers; words = self.new.words } }
-        ensures timers { OnErr result (TimersStay self.old.timers self.new.timers) }
-        ensures words { OnErr result (self.new.words ≡ self.old.words) }
-    {
         let asks = due.asks.as_slice();
         let fixes = due.fixes.as_slice();
         let mut noted = room_to_note(self.alloc, notes, asks.len())?;
