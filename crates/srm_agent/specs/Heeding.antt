@@ -58,16 +58,6 @@ pub record MayTake {W : Type 0} (datagram : Datagram) (names : List FullName) (m
   pub named : names ≡ names_in datagram
   pub pages : lacks_room_for a.pages names ≡ false
 
--- the entry in which a datagram was heard and taken: it sets timers, and does nothing else
-abbrev pub heard_entry : ℕ → ℕ → Datagram → List Arm → AgentState → Entry
-heard_entry me moment datagram arms state = record {
-  member = me;
-  moment = moment;
-  input = Heard datagram;
-  verdict = Done;
-  effects = record { drawn = None; arms = arms; asks = []; fixes = []; outs = []; message = None; state = state };
-}
-
 -- the verdict on what was heard, by what is answered
 abbrev pub verdict_by : Outcome → Verdict
 verdict_by outcomes.Taken = Done
@@ -82,6 +72,10 @@ entry_with me moment input state heard = record {
   verdict = verdict_by heard.outcome;
   effects = record { drawn = None; arms = heard.arms; asks = []; fixes = []; outs = []; message = None; state = state };
 }
+
+-- the entry in which a datagram was heard and taken
+abbrev pub heard_entry : ℕ → ℕ → Datagram → List Arm → AgentState → Entry
+heard_entry me moment datagram arms state = entry_with me moment (Heard datagram) state (record { arms = arms; outcome = outcomes.Taken })
 
 -- and of what an agent heard
 abbrev pub entry_by : {W : Type 0} → Content W → ℕ → Input → answers.Heard → Entry
