@@ -1,5 +1,5 @@
 -- The answers of an agent for what is due are those of whatever run it fits.
-use Rattle.std.proofs.Common.{◌≡◌, ℕ, List, ◌++◌, Result, Ok, Err, ap, ◌∙◌}
+use Rattle.std.proofs.Common.{◌≡◌, ℕ, List, ◌++◌, Result, Ok, Err, ap, subst, ◌∙◌}
 use Rattle.std.specs.Prelude.{IfOk, option_map}
 use Rattle.std.specs.List.{AllByRecursion, filter_map}
 use Rattle.srm_names.specs.FullName.{FullName}
@@ -19,13 +19,13 @@ use Rattle.srm_agent.specs.Contents.{Content}
 use Rattle.srm_agent.specs.Answering.{AnswersDue}
 use Rattle.srm_outbox.specs.Answering.{AreAnswers}
 
-pub answers_due : {W D E : Type 0} (a : Content W) (me : ℕ) (asks fixes : List FullName) (gs : List Datagram) (items_of : D → List Answer) (r : Result D E) → me ≡ a.config.me
+pub answers_due : {W D E : Type 0} (a : Content W) (me session : ℕ) (asks fixes : List FullName) (gs : List Datagram) (items_of : D → List Answer) (r : Result D E) → me ≡ a.config.me → session ≡ a.config.session
     → ((held : List Drawop) (shown : List FullName) (settled : List Settling) → store.Fits held shown settled a.store → AllByRecursion is_drawop held → gs ≡ packed me asks ++ filter_map (λ n. option_map (Repair me) (held_at held n)) fixes)
-    → IfOk r (λ d. AreAnswers a.config.me a.config.session a.showing gs (items_of d)) → IfOk r (λ d. AnswersDue a asks fixes (items_of d))
-answers_due a me asks fixes gs items_of (Err e) same_me value are = tt
-answers_due a me asks fixes gs items_of (Ok d) same_me value are = record {
+    → IfOk r (λ d. AreAnswers me session a.showing gs (items_of d)) → IfOk r (λ d. AnswersDue a asks fixes (items_of d))
+answers_due a me session asks fixes gs items_of (Err e) same_me same_session value are = tt
+answers_due a me session asks fixes gs items_of (Ok d) same_me same_session value are = record {
   datagrams = gs;
-  spelled = are;
+  spelled = subst (λ m. AreAnswers m a.config.session a.showing gs (items_of d)) same_me (subst (λ n. AreAnswers me n a.showing gs (items_of d)) same_session are);
   value = λ c made past h.
       value (held past) (shown_to_exist past) (settlings past) h.store h.spelled
       ∙ ap (λ m. packed m asks ++ filter_map (λ n. option_map (Repair m) (held_at (held past) n)) fixes) (same_me ∙ ap (λ (s : Config). s.me) h.config);

@@ -1,17 +1,14 @@
 //! What is due at a moment.
 
 ghost use Rattle.std.specs.Prelude.{◌≡◌, ◌≤◌, true, IfOk};
-ghost use Rattle.std.specs.List.{AllByRecursion};
 ghost use Rattle.srm_names.specs.declared.limits.TheConstants.{MOMENT};
 ghost use Rattle.srm_names.specs.Names.{ascending, name_below};
 ghost use Rattle.srm_agent.specs.Answering.{AnswersDue};
-ghost use Rattle.srm_outbox.specs.Answering.{AreAnswers, IsAnswerOf};
 ghost use Rattle.srm_entries.specs.Entries.{is_leaving};
 ghost use Rattle.srm_agent.specs.Ticking.{IsDue, IsReportAt, IsReportIf, IsToHandOut};
 
 use super::Agent;
 use srm_agent_parts::Outgoing;
-use srm_codec::Datagram;
 use srm_entries::AgentState;
 use srm_names::{Items, Name};
 use srm_outbox::{Answer, answering, spelled};
@@ -129,22 +126,9 @@ impl<W: Words + Drop> Agent<W> {
         requires { ascending name_below asks.now ≡ true }
         ensures { IfOk result (λ answers. AnswersDue self.now asks.now fixes.now answers.items) }
     {
-        let answers = answering(self.alloc, self.config.me(), &self.store, asks, fixes)?;
-        self.spelled_here(answers)
-    }
-
-    /// The answers spelled in this member's session, each with the class that it has while this page is shown. Only want of
-    /// memory refuses them.
-    fn spelled_here(&self, answers: VecDeque<Datagram>) -> Result<VecDeque<Answer>, AllocError>
-        requires { AllByRecursion (IsAnswerOf self.now.config.me) answers.items }
-        ensures { IfOk result (λ items. AreAnswers self.now.config.me self.now.config.session self.now.showing answers.items items.items) }
-    {
-        spelled(
-            self.alloc,
-            self.config.me(),
-            self.config.session(),
-            &self.showing,
-            answers,
-        )
+        let me = self.config.me();
+        let session = self.config.session();
+        let answers = answering(self.alloc, me, &self.store, asks, fixes)?;
+        spelled(self.alloc, me, session, &self.showing, answers)
     }
 }
