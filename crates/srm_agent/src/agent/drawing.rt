@@ -132,17 +132,10 @@ impl<W: Words + Drop> Agent<W> {
         ensures value { (c : Settings) (made : ℕ) (past : List AnEntry) → Fits c made past self.now → result ≡ name_after (stream_on c.me page.now) (known past (stream_on c.me page.now)) }
         ensures own { IfSome result (λ name. name.stream.source ≡ self.now.config.me) }
     {
-        self.next_in(Stream {
+        let stream = Stream {
             source: self.config.me(),
             page: *page,
-        })
-    }
-
-    /// The name after all that is known of a stream.
-    fn next_in(&self, stream: Stream) -> Option<Name>
-        ensures value { (c : Settings) (made : ℕ) (past : List AnEntry) → Fits c made past self.now → result ≡ name_after stream (known past stream) }
-        ensures of { IfSome result (λ name. name.stream ≡ stream) }
-    {
+        };
         let known = self.store.known(stream);
         name_after(&stream, known)
     }
