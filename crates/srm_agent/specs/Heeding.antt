@@ -81,6 +81,10 @@ heard_entry me moment datagram arms state = entry_with me moment (Heard datagram
 abbrev pub entry_by : {W : Type 0} → Content W → ℕ → Input → answers.Heard → Entry
 entry_by a moment input heard = entry_with a.config.me moment input a.state heard
 
+-- the entry is of this datagram, and by what is answered
+abbrev pub EntersHeard : {W : Type 0} → (W → ℕ × W) → Datagram → ℕ → Content W → Content W → answers.Heard → Type 0
+EntersHeard draw datagram moment old new heard = Enters draw (Some moment) (Heard datagram) old new (entry_by old moment (Heard datagram) heard)
+
 -- hearing bytes had an entry, and answered as it says
 abbrev pub HeardAs : {W : Type 0} → (W → ℕ × W) → ℕ → List ℕ → Content W → Content W → answers.Heard → Type 0
 HeardAs draw now bytes old new heard = (e : Entry) × Enters draw (Some now) e.input old new e × ReadsAs bytes old e × AnswersHeard e (Ok heard)

@@ -7,7 +7,7 @@ ghost use Rattle.srm_codec.specs.Judging.{judge};
 ghost use Rattle.srm_codec.specs.Spelling.{IsSpellable, names_in};
 ghost use Rattle.srm_entries.specs.Entries.{is_gone};
 ghost use Rattle.srm_store.specs.Stores.{HavePlaces};
-ghost use Rattle.srm_agent.specs.Heeding.{HeardAs, IsJudgedBy, IsNoiseFor, MayTake, entry_by};
+ghost use Rattle.srm_agent.specs.Heeding.{EntersHeard, HeardAs, IsJudgedBy, IsNoiseFor, MayTake, entry_by};
 ghost use Rattle.srm_entries.specs.declared.cause.Outcome.TheVariants.{Taken};
 ghost use Rattle.srm_agent.specs.Noting.{Enters, Stays, ReadsAs, AnswersHeard, Hears};
 
@@ -150,7 +150,7 @@ impl<W: Words + Drop> Agent<W> {
         requires spelled { IsSpellable datagram }
         requires later { self.old.last ≤ moment }
         requires moment { moment ≤ MOMENT }
-        ensures ok { IfOk result (λ hearing. Enters W.draw (Some moment) (Input.Heard datagram) self.old self.new (entry_by self.old moment (Input.Heard datagram) hearing.heard)) }
+        ensures ok { IfOk result (λ hearing. EntersHeard W.draw datagram moment self.old self.new hearing.heard) }
         ensures judged { IfOk result (λ hearing. IsJudgedBy datagram self.old (entry_by self.old moment (Input.Heard datagram) hearing.heard)) }
         ensures noted { IfOk result (λ hearing. notes ≡ true → hearing.noted ≡ hearing.heard.arms) }
         ensures err { OnErr result (Stays self.old self.new) }
@@ -175,7 +175,7 @@ impl<W: Words + Drop> Agent<W> {
         requires later { self.old.last ≤ moment }
         requires moment { moment ≤ MOMENT }
         requires names { names.now ≡ names_in datagram }
-        ensures ok { IfOk result (λ hearing. Enters W.draw (Some moment) (Input.Heard datagram) self.old self.new (entry_by self.old moment (Input.Heard datagram) hearing.heard)) }
+        ensures ok { IfOk result (λ hearing. EntersHeard W.draw datagram moment self.old self.new hearing.heard) }
         ensures judged { IfOk result (λ hearing. IsJudgedBy datagram self.old (entry_by self.old moment (Input.Heard datagram) hearing.heard)) }
         ensures noted { IfOk result (λ hearing. notes ≡ true → hearing.noted ≡ hearing.heard.arms) }
         ensures err { OnErr result (Stays self.old self.new) }
@@ -200,7 +200,7 @@ impl<W: Words + Drop> Agent<W> {
         moment: u64,
     ) -> Result<Hearing, AllocError>
         requires may { MayTake datagram names.now moment self.old }
-        ensures ok { IfOk result (λ hearing. Enters W.draw (Some moment) (Input.Heard datagram) self.old self.new (entry_by self.old moment (Input.Heard datagram) hearing.heard)) }
+        ensures ok { IfOk result (λ hearing. EntersHeard W.draw datagram moment self.old self.new hearing.heard) }
         ensures judged { IfOk result (λ hearing. IsJudgedBy datagram self.old (entry_by self.old moment (Input.Heard datagram) hearing.heard)) }
         ensures noted { IfOk result (λ hearing. notes ≡ true → hearing.noted ≡ hearing.heard.arms) }
         ensures err { OnErr result (Stays self.old self.new) }
@@ -229,7 +229,7 @@ impl<W: Words + Drop> Agent<W> {
     ) -> Result<Hearing, AllocError>
         requires may { MayTake datagram names.now moment self.old }
         requires ready { HavePlaces names.now self.old.store }
-        ensures ok { IfOk result (λ hearing. Enters W.draw (Some moment) (Input.Heard datagram) self.old self.new (entry_by self.old moment (Input.Heard datagram) hearing.heard)) }
+        ensures ok { IfOk result (λ hearing. EntersHeard W.draw datagram moment self.old self.new hearing.heard) }
         ensures done { IfOk result (λ hearing. hearing.heard.outcome ≡ Taken) }
         ensures noted { IfOk result (λ hearing. notes ≡ true → hearing.noted ≡ hearing.heard.arms) }
         ensures err { OnErr result (Stays self.old self.new) }

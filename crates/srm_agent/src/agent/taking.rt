@@ -1,16 +1,15 @@
 //! Taking data and repairs.
 
-ghost use Rattle.std.specs.Prelude.{◌≡◌, [], ◌∷◌, Some, Ok, IfOk, OnErr, true};
+ghost use Rattle.std.specs.Prelude.{◌≡◌, [], ◌∷◌, Ok, IfOk, OnErr, true};
 ghost use Rattle.srm_names.specs.Names.{ascending, name_below};
 ghost use Rattle.srm_store.specs.Stores.{HavePlaces};
-ghost use Rattle.srm_agent.specs.Heeding.{MayTake, IsFreshBelow, carrying, entry_by};
+ghost use Rattle.srm_agent.specs.Heeding.{EntersHeard, MayTake, IsFreshBelow, carrying};
 ghost use Rattle.srm_entries.specs.declared.cause.Outcome.TheVariants.{Taken};
-ghost use Rattle.srm_agent.specs.Noting.{Enters, Stays};
+ghost use Rattle.srm_agent.specs.Noting.{Stays};
 
 use super::Agent;
 use super::noting::{Hearing, note_arms, room_to_note, took};
 use srm_agent_parts::{distance_table, keep, names_between};
-use srm_entries::Input;
 use srm_names::{Drawop, Member, Name};
 use srm_timers::Words;
 use std::alloc::AllocError;
@@ -26,7 +25,7 @@ impl<W: Words + Drop> Agent<W> {
     ) -> Result<Hearing, AllocError>
         requires may { MayTake (carrying repairer drawop) (drawop.name ∷ []) moment self.old }
         requires ready { HavePlaces (drawop.name ∷ []) self.old.store }
-        ensures ok { IfOk result (λ hearing. Enters W.draw (Some moment) (Input.Heard (carrying repairer drawop)) self.old self.new (entry_by self.old moment (Input.Heard (carrying repairer drawop)) hearing.heard)) }
+        ensures ok { IfOk result (λ hearing. EntersHeard W.draw (carrying repairer drawop) moment self.old self.new hearing.heard) }
         ensures done { IfOk result (λ hearing. hearing.heard.outcome ≡ Taken) }
         ensures noted { IfOk result (λ hearing. notes ≡ true → hearing.noted ≡ hearing.heard.arms) }
         ensures err { OnErr result (Stays self.old self.new) }

@@ -1,18 +1,17 @@
 //! Taking requests.
 
-ghost use Rattle.std.specs.Prelude.{◌≡◌, Some, Ok, IfOk, OnErr, true};
+ghost use Rattle.std.specs.Prelude.{◌≡◌, Ok, IfOk, OnErr, true};
 ghost use Rattle.srm_names.specs.Names.{ascending, name_below};
 ghost use Rattle.srm_codec.specs.declared.datagram.Datagram.TheVariants.{Request};
 ghost use Rattle.srm_store.specs.Stores.{HavePlaces};
 ghost use Rattle.srm_agent.specs.Growth.{IsFreshUpTo};
-ghost use Rattle.srm_agent.specs.Heeding.{MayTake, entry_by};
+ghost use Rattle.srm_agent.specs.Heeding.{EntersHeard, MayTake};
 ghost use Rattle.srm_entries.specs.declared.cause.Outcome.TheVariants.{Taken};
-ghost use Rattle.srm_agent.specs.Noting.{Enters, Stays};
+ghost use Rattle.srm_agent.specs.Noting.{Stays};
 
 use super::Agent;
 use super::noting::{Hearing, note_arms, room_to_note, took};
 use srm_agent_parts::{distance_table, greatest_in, names_between, show_all};
-use srm_entries::Input;
 use srm_names::{Member, Name, Stream};
 use srm_timers::Words;
 use std::alloc::AllocError;
@@ -30,7 +29,7 @@ impl<W: Words + Drop> Agent<W> {
     ) -> Result<Hearing, AllocError>
         requires may { MayTake (Request sender name mask) names.now moment self.old }
         requires ready { HavePlaces names.now self.old.store }
-        ensures ok { IfOk result (λ hearing. Enters W.draw (Some moment) (Input.Heard (Request sender name mask)) self.old self.new (entry_by self.old moment (Input.Heard (Request sender name mask)) hearing.heard)) }
+        ensures ok { IfOk result (λ hearing. EntersHeard W.draw (Request sender name mask) moment self.old self.new hearing.heard) }
         ensures done { IfOk result (λ hearing. hearing.heard.outcome ≡ Taken) }
         ensures noted { IfOk result (λ hearing. notes ≡ true → hearing.noted ≡ hearing.heard.arms) }
         ensures err { OnErr result (Stays self.old self.new) }

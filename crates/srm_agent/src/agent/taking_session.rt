@@ -1,20 +1,19 @@
 //! Taking session messages.
 
-ghost use Rattle.std.specs.Prelude.{◌≡◌, Some, Ok, IfOk, OnErr, true};
+ghost use Rattle.std.specs.Prelude.{◌≡◌, Ok, IfOk, OnErr, true};
 ghost use Rattle.srm_names.specs.Names.{ascending, name_below};
 ghost use Rattle.srm_codec.specs.Spelling.{row_below};
 ghost use Rattle.srm_store.specs.Stores.{HavePlaces};
 ghost use Rattle.srm_agent.specs.Growth.{IsFreshOf};
 ghost use Rattle.srm_agent_parts.specs.TimerCalls.{IsSession};
-ghost use Rattle.srm_agent.specs.Heeding.{MayTake, entry_by};
+ghost use Rattle.srm_agent.specs.Heeding.{EntersHeard, MayTake};
 ghost use Rattle.srm_entries.specs.declared.cause.Outcome.TheVariants.{Taken};
-ghost use Rattle.srm_agent.specs.Noting.{Enters, Stays};
+ghost use Rattle.srm_agent.specs.Noting.{Stays};
 
 use super::Agent;
 use super::noting::{Hearing, note_arms, room_to_note, took};
 use srm_agent_parts::{distance_table, hear_report, learn, names_between};
 use srm_codec::Datagram;
-use srm_entries::Input;
 use srm_names::Name;
 use srm_timers::Words;
 use std::alloc::AllocError;
@@ -31,7 +30,7 @@ impl<W: Words + Drop> Agent<W> {
         requires session { IsSession datagram }
         requires may { MayTake datagram names.now moment self.old }
         requires ready { HavePlaces names.now self.old.store }
-        ensures ok { IfOk result (λ hearing. Enters W.draw (Some moment) (Input.Heard datagram) self.old self.new (entry_by self.old moment (Input.Heard datagram) hearing.heard)) }
+        ensures ok { IfOk result (λ hearing. EntersHeard W.draw datagram moment self.old self.new hearing.heard) }
         ensures done { IfOk result (λ hearing. hearing.heard.outcome ≡ Taken) }
         ensures noted { IfOk result (λ hearing. notes ≡ true → hearing.noted ≡ hearing.heard.arms) }
         ensures err { OnErr result (Stays self.old self.new) }
