@@ -55,7 +55,7 @@ use Rattle.srm_agent.specs.Contents.{Content}
 use Rattle.srm_agent.specs.Fits.{Fits, EachProgressFits, BucketFits}
 use Rattle.srm_agent_parts.specs.Outs.{datagram_of, IsOwn}
 use Rattle.srm_agent.specs.Noting.{HasEntry, IsAllowed, IsDrawnName, Enters, Stays, still_entry}
-use Rattle.srm_agent.specs.declared.agent.drawing.Draft.{Draft}
+use Rattle.srm_agent.specs.declared.agent.drafting.Draft.{Draft}
 use Rattle.srm_agent.specs.Drawing.{refusals, name_after, drawn_entry, IsDraftOf}
 use Rattle.srm_agent_parts.specs.Growth.{HoldsToo}
 use Rattle.srm_entries.proofs.Adding.{known-snoc, is_missing-snoc, flat_map-snoc, last_ask-snoc, fix_running-snoc, held_off-snoc}

@@ -10,6 +10,7 @@ ghost use Rattle.srm_entries.specs.Runs.{IsMemberRun};
 ghost use Rattle.srm_agent.specs.Noting.{Does, still_entry};
 
 mod admitting;
+mod drafting;
 mod drawing;
 mod due;
 mod giving;

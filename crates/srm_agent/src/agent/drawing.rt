@@ -1,29 +1,21 @@
 //! Drawing.
 
-ghost use Rattle.std.specs.Prelude.{◌≡◌, ◌≤◌, ◌<◌, ℕ, List, [], ◌∷◌, Some, Ok, Err, IfOk, OnOk, OnErr, IfSome, true, false, length};
-ghost use Rattle.srm_names.specs.declared.drawop.Drawop.{Drawop as ADrawop};
-ghost use Rattle.srm_names.specs.declared.limits.TheConstants.{MOMENT, BODY, DRAWOPS};
-ghost use Rattle.srm_names.specs.FullName.{FullName};
-ghost use Rattle.srm_codec.specs.declared.datagram.Datagram.TheVariants.{Data};
-ghost use Rattle.srm_codec.specs.Spelling.{is_drawop, length_of};
-ghost use Rattle.srm_store.specs.declared.fault.StoreFault.TheVariants.{PageLimit};
-ghost use Rattle.srm_store.specs.Held.{outgrow};
-ghost use Rattle.srm_store.specs.Finals.{Settling};
+ghost use Rattle.std.specs.Prelude.{◌≡◌, ◌≤◌, ◌<◌, ℕ, List, [], ◌∷◌, Some, Ok, Err, IfOk, OnErr, IfSome, false};
+ghost use Rattle.srm_names.specs.declared.limits.TheConstants.{MOMENT, DRAWOPS};
 ghost use Rattle.srm_store.specs.Stores.{HavePlaces};
-ghost use Rattle.srm_store.specs.Fits.{Fits as StoreFits, StillFits};
 ghost use Rattle.srm_bucket.specs.declared.class.Class.TheVariants.{New};
 ghost use Rattle.srm_bucket.specs.declared.limits.TheConstants.{LEAST_LENGTH, GREATEST_LENGTH};
 ghost use Rattle.srm_bucket.specs.Calls.{Handed};
-ghost use Rattle.srm_bucket.specs.Fits.{Adds, Stays as BucketStays};
+ghost use Rattle.srm_bucket.specs.Fits.{Adds};
 ghost use Rattle.srm_bucket.specs.Waiting.{Gains};
 ghost use Rattle.srm_entries.specs.declared.entry.Entry.{Entry as AnEntry};
 ghost use Rattle.srm_entries.specs.Configs.{Config as Settings};
 ghost use Rattle.srm_entries.specs.Verdicts.{first_cause, stream_on};
 ghost use Rattle.srm_entries.specs.Entries.{known};
 ghost use Rattle.srm_agent_parts.specs.PageTables.{lacks_room, with_page};
-ghost use Rattle.srm_agent.specs.Drawing.{verdict_by, refusals, name_after, drawn_entry, IsDraftOf};
+ghost use Rattle.srm_agent.specs.Drawing.{verdict_by, refusals, name_after, drawn_entry};
 ghost use Rattle.srm_agent_parts.specs.Growth.{HoldsToo};
-ghost use Rattle.srm_agent_parts.specs.Outs.{IsOutgoingOf, IsOwn};
+ghost use Rattle.srm_agent_parts.specs.Outs.{IsOwn};
 ghost use Rattle.srm_agent.specs.Fits.{Fits};
 ghost use Rattle.srm_agent.specs.Noting.{Enters, Stays, AnswersAs, Does, IsAllowed, IsDrawnName};
 
@@ -32,19 +24,11 @@ use crate::noted::Noted;
 use bytes::Bytes;
 use srm_agent_parts::{Outgoing, keep};
 use srm_bucket::{Bucket, Class, Item};
-use srm_codec::{Datagram, length};
 use srm_entries::{AgentFault, AgentState, Effects, Entry, Input, Verdict};
-use srm_names::{BODY, Drawop, Items, MEMBERS, Name, Page, Stream};
+use srm_names::{BODY, Drawop, Items, Name, Page, Stream};
 use srm_store::StoreFault;
 use srm_timers::Words;
-use std::alloc::{AllocError, Global};
-
-/// A drawop that is about to be drawn: one to hold, and one to send.
-#[derive(Debug, Drop)]
-struct Draft {
-    held: Drawop,
-    going: Item<Outgoing>,
-}
+use std::alloc::AllocError;
 
 impl<W: Words + Drop> Agent<W> {
     /// Draws on a page: the next drawop of this member there, with this body and the moment as its stamp. It is sent to the
@@ -140,27 +124,6 @@ impl<W: Words + Drop> Agent<W> {
         name_after(&stream, known)
     }
 
-    /// Makes a drawop in each form in which it is needed, and room for it, so that drawing it takes no memory.
-    fn draft(&mut self, name: Name, moment: u64, body: Bytes) -> Result<Draft, StoreFault>
-        requires moment { moment ≤ MOMENT }
-        requires short { length body ≤ BODY }
-        ensures rest { self.new ≡ record self.old { store = self.new.store; bucket = self.new.bucket } }
-        ensures store { StillFits self.old.store self.new.store }
-        ensures bucket { BucketStays self.old.bucket self.new.bucket }
-        ensures made { IfOk result (IsDraftOf self.old.config.session (record { name = name; stamp = moment; body = body })) }
-        ensures spellable { OnOk result (is_drawop (record { name = name; stamp = moment; body = body })) }
-        ensures ready { OnOk result (HavePlaces (name ∷ []) self.new.store) }
-        ensures room { OnOk result (0 < self.new.bucket.waiting.room) }
-        ensures limit { result ≡ Err PageLimit → (inserted : List ADrawop) (shown : List FullName) (settled : List Settling) → StoreFits inserted shown settled self.old.store
-            → outgrow inserted shown (name.stream.page ∷ []) ≡ true }
-        ensures same { result ≡ Err PageLimit → self.new ≡ self.old }
-    {
-        self.store.room_to_learn(&[name])?;
-        self.bucket.room(1)?;
-        let draft = make_draft(self.alloc, self.config.session(), name, moment, body)?;
-        Ok(draft)
-    }
-
     /// From this moment on the drawop is held, and waits to be sent, and its page is in the table.
     fn take_up(&mut self, page: &Page, moment: u64, drawop: Drawop, going: Item<Outgoing>)
         requires room { lacks_room self.old.pages page.now ≡ false }
@@ -220,52 +183,4 @@ fn name_after(stream: &Stream, count: u32) -> Option<Name>
     ensures of { IfSome result (λ name. name.stream ≡ stream.now) }
 {
     Name::new(stream.source, stream.page, count + 1)
-}
-
-/// A drawop to hold and to send.
-fn make_draft(
-    alloc: Global,
-    session: u32,
-    name: Name,
-    moment: u64,
-    body: Bytes,
-) -> Result<Draft, AllocError>
-    requires moment { moment ≤ MOMENT }
-    requires short { length body ≤ BODY }
-    ensures made { IfOk result (IsDraftOf session (record { name = name; stamp = moment; body = body })) }
-    ensures spellable { OnOk result (is_drawop (record { name = name; stamp = moment; body = body })) }
-{
-    let held = stamped(name, moment, body);
-    let going = going(alloc, session, held.copy()?)?;
-    Ok(Draft { held, going })
-}
-
-/// A drawop with its own moment as stamp.
-fn stamped(name: Name, moment: u64, body: Bytes) -> Drawop
-    requires moment { moment ≤ MOMENT }
-    requires short { length body ≤ BODY }
-    ensures value { result ≡ record { name = name; stamp = moment; body = body } }
-    ensures spellable { is_drawop result }
-{
-    prove!(name.source().number() < MEMBERS);
-    prove!(name.stream().page.creator.number() < MEMBERS);
-    Drawop {
-        name,
-        stamp: moment,
-        body,
-    }
-}
-
-/// A drawop to send, which is charged the bytes of its datagram.
-fn going(alloc: Global, session: u32, drawop: Drawop) -> Result<Item<Outgoing>, AllocError>
-    requires { is_drawop drawop }
-    ensures value { IfOk result (λ item. IsOutgoingOf session (Data drawop) item.value) }
-    ensures length { IfOk result (λ item. item.length ≡ length_of (Data drawop)) }
-{
-    let datagram = Datagram::Data(drawop);
-    let length = length(&datagram) as u32;
-    Ok(Item {
-        value: Outgoing::new(alloc, session, datagram)?,
-        length,
-    })
 }
