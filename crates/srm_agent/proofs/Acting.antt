@@ -8,7 +8,6 @@ use Rattle.srm_codec.specs.declared.datagram.Datagram.TheVariants.{Data, Request
 use Rattle.srm_timers.specs.declared.arm.Arm.{Arm}
 use Rattle.srm_timers.specs.Arms.{AreDrawn}
 use Rattle.srm_bucket.specs.declared.class.Class.TheVariants.{Shown, New, Other}
-use Rattle.srm_bucket.specs.Content.{Content as BucketContent}
 use Rattle.srm_bucket.specs.Fits.{Stays as BucketStays}
 use Rattle.srm_bucket.specs.Waiting.{Waiting, SameQueues, queue, count_of}
 use Rattle.srm_agent.specs.declared.agent.due.Due.{Due}
@@ -36,6 +35,7 @@ use Rattle.srm_agent.specs.Noting.{Stays}
 use Rattle.srm_agent.specs.Ticking.{TicksAs, datagrams_of, tick_entry, IsReportAt, IsReportIf, IsDue, HandsOut, SendsAll, data_waits, last_report, state_after, due_then}
 use Rattle.srm_outbox.proofs.Handing.{all-append}
 use Rattle.srm_entries.proofs.Ending.{ending_of, ending_is, EndsIn, NoSessions, charged_is, due_by}
+use Rattle.srm_agent.proofs.Fitting.{refit, roomy}
 use Rattle.srm_agent.proofs.Sent.{bucket_ticks}
 use Rattle.srm_agent.proofs.Ticks.{IsSent, TickKeeps, TickRight, tick_fits}
 use Rattle.srm_agent.proofs.Unsent.{all_sent}
@@ -53,29 +53,11 @@ out_of r = r.outgoing.out
 abbrev pub noted_of : Report → Datagram
 noted_of r = r.outgoing.noted
 
-roomy : (c : Config) (past : List Entry) (old new : BucketContent Outgoing) → BucketStays old new → BucketFits c past old → BucketFits c past new
-roomy c past old new stays h = record { goings = h.goings; entries = h.entries; goes = h.goes; calls = h.calls; read = h.read; fits = stays.fits c.rate c.depth h.calls h.fits }
-
 -- want of memory: there is room in the bucket, the timers stay, and no word was drawn
 pub tick_stays : {W : Type 0} (a b d : Content W) → b ≡ record a { bucket = b.bucket } → BucketStays a.bucket b.bucket → d ≡ record b { timers = d.timers; words = d.words }
     → TimersStay b.timers d.timers → d.words ≡ b.words → Stays a d
 tick_stays a b d room bucket rest timers words = record {
-  fits = λ c made past h. subst (Fits c made past) (sym rest) (subst (λ x. Fits c made past (record x { timers = d.timers; words = d.words })) (sym room) (record {
-    run = h.run;
-    config = h.config;
-    state = h.state;
-    last = h.last;
-    showing = h.showing;
-    pages = h.pages;
-    progress = h.progress;
-    store = h.store;
-    distances = h.distances;
-    timers = timers.each c past (subst (TimersFit c past) (sym (ap (λ x. x.timers) room)) h.timers);
-    bucket = roomy c past a.bucket b.bucket bucket h.bucket;
-    due = h.due;
-    own = h.own;
-    spelled = h.spelled;
-  }));
+  fits = λ c made past h. subst (Fits c made past) (sym rest) (subst (λ x. Fits c made past (record x { timers = d.timers; words = d.words })) (sym room) (refit c made past a a.store d.timers b.bucket a.words h h.store (timers.each c past (subst (TimersFit c past) (sym (ap (λ x. x.timers) room)) h.timers)) (roomy c past a.bucket b.bucket bucket h.bucket)));
   words = words ∙ ap (λ x. x.words) room;
 }
 
@@ -222,22 +204,7 @@ acts_fits draw a b d f z moment due arms went last outs c made past s h =
     here = ap is_gone (sym h.state) ∙ s.here
 
     before : Fits c made past b
-    before = subst (Fits c made past) (sym s.room) (record {
-      run = h.run;
-      config = h.config;
-      state = h.state;
-      last = h.last;
-      showing = h.showing;
-      pages = h.pages;
-      progress = h.progress;
-      store = h.store;
-      distances = h.distances;
-      timers = h.timers;
-      bucket = roomy c past a.bucket b.bucket s.bucket h.bucket;
-      due = h.due;
-      own = h.own;
-      spelled = h.spelled;
-    })
+    before = subst (Fits c made past) (sym s.room) (refit c made past a a.store a.timers b.bucket a.words h h.store h.timers (roomy c past a.bucket b.bucket s.bucket h.bucket))
 
     keeps : TickKeeps a z
     keeps = record {

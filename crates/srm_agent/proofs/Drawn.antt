@@ -64,6 +64,7 @@ use Rattle.srm_agent_parts.proofs.Running.{steps_more, last_moment-snoc, shown-p
 use Rattle.srm_entries.proofs.Arming.{ask_at}
 use Rattle.srm_entries.proofs.Marking.{bucket_calls-snoc, entries-snoc}
 use Rattle.srm_agent.proofs.Still.{same_progress}
+use Rattle.srm_agent.proofs.Fitting.{refit, roomy}
 use Rattle.srm_agent.proofs.Entering.{later, moves_on, refused_enters}
 
 -- the pages of all that was shown to exist are in the table
@@ -455,22 +456,8 @@ draw_unslotted draw a b now moment page body name x fine some same full is at = 
 -- after room was made, the agent fits what it fitted
 roomy_fits : {W : Type 0} (a b : Content W) → b ≡ record a { store = b.store; bucket = b.bucket } → StillFits a.store b.store → bucket.Stays a.bucket b.bucket
     → (c : Config) (made : ℕ) (past : List Entry) → Fits c made past a → Fits c made past b
-roomy_fits {W} a b is still stays c made past h = subst (Fits c made past) (sym is) (record {
-  run = h.run;
-  config = h.config;
-  state = h.state;
-  last = h.last;
-  showing = h.showing;
-  pages = h.pages;
-  progress = h.progress;
-  store = still.each (held past) (shown_to_exist past) (settlings past) h.store;
-  distances = h.distances;
-  timers = h.timers;
-  bucket = record { goings = h.bucket.goings; entries = h.bucket.entries; goes = h.bucket.goes; calls = h.bucket.calls; read = h.bucket.read; fits = stays.fits c.rate c.depth h.bucket.calls h.bucket.fits };
-  due = h.due;
-  own = h.own;
-  spelled = h.spelled;
-})
+roomy_fits a b is still stays c made past h =
+    subst (Fits c made past) (sym is) (refit c made past a b.store a.timers b.bucket a.words h (still.each (held past) (shown_to_exist past) (settlings past) h.store) h.timers (roomy c past a.bucket b.bucket stays h.bucket))
 
 pub roomy_stays : {W : Type 0} (a b : Content W) → b ≡ record a { store = b.store; bucket = b.bucket } → StillFits a.store b.store → bucket.Stays a.bucket b.bucket → Stays a b
 roomy_stays a b is still stays = record { fits = roomy_fits a b is still stays; words = ap (λ (x : Content _). x.words) is }

@@ -1,7 +1,8 @@
 -- The entries of the calls that hear nothing and send nothing.
 use Rattle.std.proofs.Common.{◌≡◌, ℕ, ◌≤◌, max, Bool, true, false, not, ◌&&◌, List, [], ◌∷◌, ◌++◌, refl, ap, sym, ◌∙◌, subst, arith}
-use Rattle.std.specs.Prelude.{Some, None, MatchBool}
+use Rattle.std.specs.Prelude.{Some, None, unwrap_or, MatchBool}
 use Rattle.srm_names.specs.declared.page.Page.{Page}
+use Rattle.srm_names.specs.Histories.{greatest}
 use Rattle.srm_entries.specs.declared.fault.AgentFault.{AgentFault}
 use Rattle.srm_entries.specs.declared.fault.AgentFault.TheVariants as faults
 use Rattle.srm_entries.specs.declared.state.AgentState.{AgentState}
@@ -9,17 +10,18 @@ use Rattle.srm_entries.specs.declared.state.AgentState.TheVariants.{Active, Leav
 use Rattle.srm_entries.specs.declared.entry.Entry.{Entry}
 use Rattle.srm_entries.specs.declared.entry.Input.{Input}
 use Rattle.srm_entries.specs.declared.entry.Input.TheVariants.{Showed, AskedLeave, Ticked, Gave}
+use Rattle.srm_entries.specs.declared.entry.Verdict.{Verdict}
 use Rattle.srm_entries.specs.declared.entry.Verdict.TheVariants.{Done, Refused}
 use Rattle.srm_entries.specs.Configs.{Config}
-use Rattle.srm_entries.specs.Entries.{is_tick, takes_moment, last_moment, is_gone, state}
+use Rattle.srm_entries.specs.Entries.{is_tick, takes_moment, clock_of, last_moment, is_gone, state, done_input, page_shown, slots}
 use Rattle.srm_agent_parts.specs.PageTables.{lacks_room, with_page}
 use Rattle.srm_entries.specs.Verdicts.{VerdictRight}
 use Rattle.srm_entries.specs.Giving.{MessageRight, given_in}
 use Rattle.srm_agent.specs.Contents.{Content}
-use Rattle.srm_agent.specs.Fits.{Fits}
+use Rattle.srm_agent.specs.Fits.{Fits, EachProgressFits}
 use Rattle.srm_agent.specs.Noting.{Enters, IsAllowed, still_entry}
 use Rattle.srm_agent_parts.proofs.Running.{slots-same, slots-one}
-use Rattle.srm_agent.proofs.Still.{SameParts, still_fits, same_progress}
+use Rattle.srm_agent.proofs.Still.{MayFollow, SameParts, still_fits, same_progress}
 
 -- an entry of this agent is one of the member whose run it fits
 pub of_member : {W : Type 0} (c : Config) (made : ℕ) (past : List Entry) (a b : Content W) (e : Entry) (make : ℕ → Entry) → Fits c made past a → e ≡ make a.config.me → Fits c made (past ++ make c.me ∷ []) b → Fits c made (past ++ e ∷ []) b
@@ -41,27 +43,36 @@ stays_at last = omega arith
 same_parts : {W : Type 0} (a : Content W) → SameParts a a
 same_parts a = record { config = refl; store = refl; distances = refl; timers = refl; bucket = refl; due = refl }
 
+-- an entry without effects: what the agent becomes by it, of the state, the last moment, the page, the pages and the progress
+pub still_enters : {W : Type 0} (draw : W → ℕ × W) (a b : Content W) (now moment : ℕ) (input : Input) (verdict : Verdict) (after : AgentState) (e : Entry) → e ≡ still_entry a.config.me moment input verdict None after → moment ≡ max now a.last
+    → b.words ≡ a.words → SameParts a b → b.state ≡ after → b.last ≡ max a.last (greatest (clock_of verdict (still_entry a.config.me moment input verdict None after))) → b.showing ≡ unwrap_or (page_shown (done_input verdict input)) a.showing
+    → ((c : Config) (made : ℕ) (past : List Entry) → Fits c made past a → last_moment made past ≤ moment → MayFollow c made past moment input verdict None after)
+    → ((c : Config) (made : ℕ) (past : List Entry) → Fits c made past a → b.pages ≡ slots (past ++ still_entry c.me moment input verdict None after ∷ []))
+    → ((c : Config) (made : ℕ) (past : List Entry) → Fits c made past a → EachProgressFits (past ++ still_entry c.me moment input verdict None after ∷ []) b.progress) → Enters draw (Some now) input a b e
+still_enters draw a b now moment input verdict after e is at words same is_state is_last is_showing may pages progress = record {
+  input_is = ap (λ (x : Entry). x.input) is;
+  words = rw is words;
+  moment_is = ap (λ (x : Entry). x.moment) is ∙ at;
+  fits = λ c made past h. of_member c made past a b e (λ me. still_entry me moment input verdict None after) h is
+      (still_fits c made past a b moment input verdict None after h (may c made past h (later c made past a now moment h at)) same is_state is_last is_showing (pages c made past h) (progress c made past h));
+}
+
 -- a refused call changes nothing, and its moment doesn't count
 pub refused_enters : {W : Type 0} (draw : W → ℕ × W) (a : Content W) (now moment : ℕ) (input : Input) (fault : AgentFault) (e : Entry) → e ≡ still_entry a.config.me moment input (Refused fault) None a.state → moment ≡ max now a.last
     → is_tick input ≡ false → takes_moment input ≡ true → ((j : ℕ) → given_in j input None ≡ None) → ((c : Config) (past : List Entry) → MessageRight c past input None)
     → ((c : Config) (made : ℕ) (past : List Entry) → Fits c made past a → VerdictRight c past input (Refused fault)) → Enters draw (Some now) input a a e
-refused_enters draw a now moment input fault e is at unticked takes ungiven message right = record {
-  input_is = ap (λ (x : Entry). x.input) is;
-  words = rw is refl;
-  moment_is = ap (λ (x : Entry). x.moment) is ∙ at;
-  fits = λ c made past h. of_member c made past a a e (λ me. still_entry me moment input (Refused fault) None a.state) h is
-      (still_fits c made past a a moment input (Refused fault) None a.state h
-      (record {
-        unheard = refl;
-        undrawn = refl;
-        idle = ap (λ b. b && not (is_gone (state past))) unticked;
-        moment_right = subst (λ (b : Bool). MatchBool b (last_moment made past ≤ moment) (moment ≡ last_moment made past)) (sym takes) (later c made past a now moment h at);
-        verdict_right = right c made past h;
-        message_right = message c past;
-        state_right = h.state;
-      })
-      (same_parts a) refl (stays_at a.last) refl (h.pages ∙ sym (slots-same past _ refl)) (same_progress past _ a.progress ungiven h.progress));
-}
+refused_enters draw a now moment input fault e is at unticked takes ungiven message right =
+    still_enters draw a a now moment input (Refused fault) a.state e is at refl (same_parts a) refl (stays_at a.last) refl
+    (λ c made past h late. record {
+      unheard = refl;
+      undrawn = refl;
+      idle = ap (λ b. b && not (is_gone (state past))) unticked;
+      moment_right = subst (λ (b : Bool). MatchBool b (last_moment made past ≤ moment) (moment ≡ last_moment made past)) (sym takes) late;
+      verdict_right = right c made past h;
+      message_right = message c past;
+      state_right = h.state;
+    })
+    (λ c made past h. h.pages ∙ sym (slots-same past _ refl)) (λ c made past h. same_progress past _ a.progress ungiven h.progress)
 
 gone_leaves : (s : AgentState) → s ≡ Gone → (past : List Entry) (c : Config) → s ≡ state past → VerdictRight c past AskedLeave (Refused faults.Gone)
 gone_leaves s e past c q = rw (sym q ∙ e) refl
@@ -74,24 +85,18 @@ leave_leaving draw a now moment e leaving is at = refused_enters draw a now mome
 
 pub leave_done : {W : Type 0} (draw : W → ℕ × W) (a : Content W) (now moment : ℕ) (e : Entry) → a.state ≡ Active → e ≡ still_entry a.config.me moment AskedLeave Done None Leaving → moment ≡ max now a.last
     → Enters draw (Some now) AskedLeave a (record a { state = Leaving; last = moment }) e
-leave_done draw a now moment e active is at = record {
-  input_is = ap (λ (x : Entry). x.input) is;
-  words = rw is refl;
-  moment_is = ap (λ (x : Entry). x.moment) is ∙ at;
-  fits = λ c made past h. of_member c made past a (record a { state = Leaving; last = moment }) e (λ me. still_entry me moment AskedLeave Done None Leaving) h is
-      (still_fits c made past a (record a { state = Leaving; last = moment }) moment AskedLeave Done None Leaving h
-      (record {
-        unheard = refl;
-        undrawn = refl;
-        idle = refl;
-        moment_right = later c made past a now moment h at;
-        verdict_right = rw (sym h.state ∙ active) refl;
-        message_right = refl;
-        state_right = refl;
-      })
-      (record { config = refl; store = refl; distances = refl; timers = refl; bucket = refl; due = refl }) refl (moves_on now a.last moment at) refl
-      (h.pages ∙ sym (slots-same past _ refl)) (same_progress past _ a.progress (λ j. refl) h.progress));
-}
+leave_done draw a now moment e active is at =
+    still_enters draw a (record a { state = Leaving; last = moment }) now moment AskedLeave Done Leaving e is at refl (record { config = refl; store = refl; distances = refl; timers = refl; bucket = refl; due = refl }) refl (moves_on now a.last moment at) refl
+    (λ c made past h late. record {
+      unheard = refl;
+      undrawn = refl;
+      idle = refl;
+      moment_right = late;
+      verdict_right = rw (sym h.state ∙ active) refl;
+      message_right = refl;
+      state_right = refl;
+    })
+    (λ c made past h. h.pages ∙ sym (slots-same past _ refl)) (λ c made past h. same_progress past _ a.progress (λ j. refl) h.progress)
 
 pub show_gone : {W : Type 0} (draw : W → ℕ × W) (a : Content W) (now moment : ℕ) (page : Page) (e : Entry) → is_gone a.state ≡ true → e ≡ still_entry a.config.me moment (Showed page) (Refused faults.Gone) None a.state → moment ≡ max now a.last
     → Enters draw (Some now) (Showed page) a a e
@@ -107,46 +112,34 @@ show_full draw a now moment page e here full is at =
 pub show_done : {W : Type 0} (draw : W → ℕ × W) (a : Content W) (now moment : ℕ) (page : Page) (pages : List Page) (e : Entry) → is_gone a.state ≡ false → lacks_room a.pages page ≡ false → pages ≡ with_page a.pages page
     → e ≡ still_entry a.config.me moment (Showed page) Done None a.state → moment ≡ max now a.last
     → Enters draw (Some now) (Showed page) a (record a { last = moment; showing = page; pages = pages }) e
-show_done draw a now moment page pages e here room added is at = record {
-  input_is = ap (λ (x : Entry). x.input) is;
-  words = rw is refl;
-  moment_is = ap (λ (x : Entry). x.moment) is ∙ at;
-  fits = λ c made past h. of_member c made past a _ e (λ me. still_entry me moment (Showed page) Done None a.state) h is
-      (still_fits c made past a (record a { last = moment; showing = page; pages = pages }) moment (Showed page) Done None a.state h
-      (record {
-        unheard = refl;
-        undrawn = refl;
-        idle = refl;
-        moment_right = later c made past a now moment h at;
-        verdict_right = rw (ap is_gone (sym h.state) ∙ here, ap (λ ps. lacks_room ps page) (sym h.pages) ∙ room) refl;
-        message_right = refl;
-        state_right = h.state;
-      })
-      (record { config = refl; store = refl; distances = refl; timers = refl; bucket = refl; due = refl }) refl (moves_on now a.last moment at) refl
-      (added ∙ ap (λ ps. with_page ps page) h.pages ∙ sym (slots-one past _ page refl)) (same_progress past _ a.progress (λ j. refl) h.progress));
-}
+show_done draw a now moment page pages e here room added is at =
+    still_enters draw a (record a { last = moment; showing = page; pages = pages }) now moment (Showed page) Done a.state e is at refl (record { config = refl; store = refl; distances = refl; timers = refl; bucket = refl; due = refl }) refl (moves_on now a.last moment at) refl
+    (λ c made past h late. record {
+      unheard = refl;
+      undrawn = refl;
+      idle = refl;
+      moment_right = late;
+      verdict_right = rw (ap is_gone (sym h.state) ∙ here, ap (λ ps. lacks_room ps page) (sym h.pages) ∙ room) refl;
+      message_right = refl;
+      state_right = h.state;
+    })
+    (λ c made past h. added ∙ ap (λ ps. with_page ps page) h.pages ∙ sym (slots-one past _ page refl)) (λ c made past h. same_progress past _ a.progress (λ j. refl) h.progress)
 
 -- the tick of a member that is gone
 pub rest_gone : {W : Type 0} (draw : W → ℕ × W) (a b : Content W) (now moment : ℕ) (e : Entry) → is_gone a.state ≡ true → b ≡ record a { last = moment } → e ≡ still_entry a.config.me moment Ticked Done None a.state
     → moment ≡ max now a.last → Enters draw (Some now) Ticked a b e
-rest_gone draw a b now moment e gone new is at = subst (λ x. Enters draw (Some now) Ticked a x e) (sym new) (record {
-  input_is = ap (λ (x : Entry). x.input) is;
-  words = rw is refl;
-  moment_is = ap (λ (x : Entry). x.moment) is ∙ at;
-  fits = λ c made past h. of_member c made past a (record a { last = moment }) e (λ me. still_entry me moment Ticked Done None a.state) h is
-      (still_fits c made past a (record a { last = moment }) moment Ticked Done None a.state h
-      (record {
-        unheard = refl;
-        undrawn = refl;
-        idle = ap not (ap is_gone (sym h.state) ∙ gone);
-        moment_right = later c made past a now moment h at;
-        verdict_right = refl;
-        message_right = refl;
-        state_right = h.state;
-      })
-      (record { config = refl; store = refl; distances = refl; timers = refl; bucket = refl; due = refl }) refl (moves_on now a.last moment at) refl
-      (h.pages ∙ sym (slots-same past _ refl)) (same_progress past _ a.progress (λ j. refl) h.progress));
-})
+rest_gone draw a b now moment e gone new is at = subst (λ x. Enters draw (Some now) Ticked a x e) (sym new)
+    (still_enters draw a (record a { last = moment }) now moment Ticked Done a.state e is at refl (record { config = refl; store = refl; distances = refl; timers = refl; bucket = refl; due = refl }) refl (moves_on now a.last moment at) refl
+    (λ c made past h late. record {
+      unheard = refl;
+      undrawn = refl;
+      idle = ap not (ap is_gone (sym h.state) ∙ gone);
+      moment_right = late;
+      verdict_right = refl;
+      message_right = refl;
+      state_right = h.state;
+    })
+    (λ c made past h. h.pages ∙ sym (slots-same past _ refl)) (λ c made past h. same_progress past _ a.progress (λ j. refl) h.progress))
 
 -- what is done whenever it is asked
 pub tick_allowed : {W : Type 0} (a : Content W) → IsAllowed Ticked a

@@ -29,7 +29,8 @@ use Rattle.srm_entries.specs.Configs.{Config}
 use Rattle.srm_entries.specs.Entries.{done, heard, is_gone, state, slots, pages_in, last_moment, held, shown_to_exist, known, drawn, drawops_in}
 use Rattle.srm_entries.specs.Distances.{distance_calls, calls_in, calls_of}
 use Rattle.srm_entries.specs.Timers.{TimersRight}
-use Rattle.srm_agent_parts.specs.TimerCalls.{TimersAdd}
+use Rattle.srm_agent_parts.specs.TimerCalls.{TimersAdd, WaitsAreDrawn}
+use Rattle.srm_agent_parts.specs.TimersKept.{HaveSettings}
 use Rattle.srm_agent_parts.specs.PageTables.{with_pages_of}
 use Rattle.srm_entries.specs.Verdicts.{verdict_of, settlings, settling_of, drawn_in, stream_on, is_past, is_beyond, final}
 use Rattle.srm_entries.specs.Sessions.{session_due, pause_after}
@@ -38,13 +39,25 @@ use Rattle.srm_entries.specs.Runs.{EntryRight}
 use Rattle.srm_agent.specs.Contents.{Content}
 use Rattle.srm_agent.specs.Fits.{Fits, BucketFits}
 use Rattle.srm_agent.specs.Heeding.{heard_entry}
+use Rattle.srm_agent.specs.Noting.{Enters}
 use Rattle.srm_bucket.specs.Content.{Content as BucketContent}
 use Rattle.srm_entries.proofs.Adding.{flat_map-snoc, known-snoc}
 use Rattle.srm_entries.proofs.Cutting.{bucket_calls-append}
 use Rattle.srm_agent_parts.proofs.Listing.{firsts_more, firsts_again}
 use Rattle.srm_entries.proofs.Showing.{state-snoc, held-snoc, shown-snoc, drawn-snoc, hearing_fine}
 use Rattle.srm_agent_parts.proofs.Running.{steps_more, last_moment-snoc, shown-page-snoc}
+use Rattle.srm_agent.proofs.Entering.{of_member}
 use Rattle.srm_agent.proofs.Still.{same_progress}
+
+-- all but the last moment, the words, the pages, the store, the distances and the timers is as it was
+pub record Goes {W : Type 0} (a b : Content W) (moment : ℕ) : Type 0 where
+  pub last : b.last ≡ moment
+  pub config : b.config ≡ a.config
+  pub state : b.state ≡ a.state
+  pub showing : b.showing ≡ a.showing
+  pub progress : b.progress ≡ a.progress
+  pub bucket : b.bucket ≡ a.bucket
+  pub due : b.due ≡ a.due
 
 -- what an agent keeps of a datagram that was heard and taken; its entry is e
 pub record Heeds {W : Type 0} (c : Config) (made : ℕ) (past : List Entry) (a b : Content W) (moment : ℕ) (g : Datagram) (e : Entry) : Type 0 where
@@ -57,13 +70,7 @@ pub record Heeds {W : Type 0} (c : Config) (made : ℕ) (past : List Entry) (a b
   pub store : store.Fits (held past ++ drawops_in (Some g)) (shown_to_exist past ++ names_in g) (settlings past ++ cons_option (settling_of (Some g)) []) b.store
   pub distances : distances.Fits c.me (distance_calls c.me past ++ calls_of c.me moment (Some g)) b.distances
   pub pages : b.pages ≡ with_pages_of a.pages (names_in g)
-  pub last : b.last ≡ moment
-  pub config : b.config ≡ a.config
-  pub state : b.state ≡ a.state
-  pub showing : b.showing ≡ a.showing
-  pub progress : b.progress ≡ a.progress
-  pub bucket : b.bucket ≡ a.bucket
-  pub due : b.due ≡ a.due
+  pub goes : Goes a b moment
 
 -- the entry is one that those before it allow
 
@@ -169,20 +176,33 @@ heard_fits c made past a b moment g arms h =
     let e : Entry = heard_entry c.me moment g arms a.state in
     record {
       run = steps_more (EntryRight c made) past e h.fits.run (heard_right c made past a b moment g arms h);
-      config = h.config ∙ h.fits.config;
-      state = h.state ∙ sym (state-snoc past e);
-      last = h.last ∙ sym (last_moment-snoc made past e ∙ clock (last_moment made past) moment h.later);
-      showing = h.showing ∙ h.fits.showing ∙ sym (shown-page-snoc past e);
+      config = h.goes.config ∙ h.fits.config;
+      state = h.goes.state ∙ sym (state-snoc past e);
+      last = h.goes.last ∙ sym (last_moment-snoc made past e ∙ clock (last_moment made past) moment h.later);
+      showing = h.goes.showing ∙ h.fits.showing ∙ sym (shown-page-snoc past e);
       pages = h.pages ∙ ap (λ ps. with_pages_of ps (names_in g)) h.fits.pages ∙ sym (slots-all past e);
-      progress = rw h.progress (same_progress past e a.progress (λ j. refl) h.fits.progress);
+      progress = rw h.goes.progress (same_progress past e a.progress (λ j. refl) h.fits.progress);
       store = rw (held-snoc past e, shown-snoc past e, filter_map-append (λ (x : Entry). settling_of (heard x)) past (e ∷ [])) h.store;
       distances = rw (flat_map-snoc (calls_in c.me) past e) h.distances;
       timers = h.timers.fits;
-      bucket = rw h.bucket (bucket_stays c past moment g arms a.state a.bucket h.fits.bucket);
-      due = h.due ∙ h.fits.due ∙ sym (same_due c made past moment g arms a.state);
+      bucket = rw h.goes.bucket (bucket_stays c past moment g arms a.state a.bucket h.fits.bucket);
+      due = h.goes.due ∙ h.fits.due ∙ sym (same_due c made past moment g arms a.state);
       own = same_own c made past a b moment g arms h;
       spelled = rw (held-snoc past e) (all_more is_drawop (held past) (drawops_in (Some g)) h.fits.spelled (drawops_spelled g h.spellable));
     }
   where
     clock : (l m : ℕ) → l ≤ m → max l (max m 0) ≡ m
     clock l m k = omega (arith, k)
+
+-- the entry is of the datagram, at the moment, and its waits are by the next words
+pub heard_enters : {W : Type 0} (draw : W → ℕ × W) (a b : Content W) (moment : ℕ) (g : Datagram) (arms : List Arm) (e : Entry) → a.last ≤ moment → HaveSettings a.config a.timers → WaitsAreDrawn draw a.timers a.words arms b.words
+    → e ≡ heard_entry a.config.me moment g arms a.state → ((c : Config) (made : ℕ) (past : List Entry) → Fits c made past a → Heeds c made past a b moment g (heard_entry c.me moment g arms a.state)) → Enters draw (Some moment) (Heard g) a b e
+heard_enters draw a b moment g arms e late settings drawn e_is heeds = record {
+  input_is = ap (λ (x : Entry). x.input) e_is;
+  moment_is = ap (λ (x : Entry). x.moment) e_is ∙ at_least a.last moment late;
+  words = rw e_is (drawn.each a.config settings);
+  fits = λ c made past h. of_member c made past a b e (λ me. heard_entry me moment g arms a.state) h e_is (heard_fits c made past a b moment g arms (heeds c made past h));
+}
+  where
+    at_least : (last moment : ℕ) → last ≤ moment → moment ≡ max moment last
+    at_least last moment l = omega (arith, l)

@@ -25,30 +25,25 @@ use Rattle.srm_agent.specs.Contents.{Content}
 use Rattle.srm_agent.specs.Fits.{Fits}
 use Rattle.srm_agent.specs.Noting.{Enters, ReadsAs, still_entry}
 use Rattle.srm_agent_parts.proofs.Running.{slots-same}
-use Rattle.srm_agent.proofs.Still.{still_fits, same_progress}
-use Rattle.srm_agent.proofs.Entering.{of_member, later, moves_on}
+use Rattle.srm_agent.proofs.Still.{same_progress}
+use Rattle.srm_agent.proofs.Entering.{still_enters, moves_on}
 
 ignored_enters : {W : Type 0} (draw : W → ℕ × W) (a : Content W) (now moment : ℕ) (input : Input) (cause : Cause) (e : Entry) → e ≡ still_entry a.config.me moment input (Ignored cause) None a.state → moment ≡ max now a.last
     → is_tick input ≡ false → takes_moment input ≡ true → ((j : ℕ) → given_in j input None ≡ None) → ((c : Config) (past : List Entry) → MessageRight c past input None)
     → ((c : Config) (made : ℕ) (past : List Entry) → Fits c made past a → VerdictRight c past input (Ignored cause)) → Enters draw (Some now) input a (record a { last = moment }) e
-ignored_enters draw a now moment input cause e is at unticked takes ungiven message right = record {
-  input_is = ap (λ (x : Entry). x.input) is;
-  words = rw is refl;
-  moment_is = ap (λ (x : Entry). x.moment) is ∙ at;
-  fits = λ c made past h. of_member c made past a (record a { last = moment }) e (λ me. still_entry me moment input (Ignored cause) None a.state) h is
-      (still_fits c made past a (record a { last = moment }) moment input (Ignored cause) None a.state h
-      (record {
-        unheard = refl;
-        undrawn = refl;
-        idle = ap (λ b. b && not (is_gone (state past))) unticked;
-        moment_right = subst (λ (b : Bool). MatchBool b (last_moment made past ≤ moment) (moment ≡ last_moment made past)) (sym takes) (later c made past a now moment h at);
-        verdict_right = right c made past h;
-        message_right = message c past;
-        state_right = h.state;
-      })
-      (record { config = refl; store = refl; distances = refl; timers = refl; bucket = refl; due = refl }) refl
-      (subst (λ (b : Bool). moment ≡ max a.last (greatest (if b then moment ∷ [] else []))) (sym takes) (moves_on now a.last moment at)) refl (h.pages ∙ sym (slots-same past _ refl)) (same_progress past _ a.progress ungiven h.progress));
-}
+ignored_enters draw a now moment input cause e is at unticked takes ungiven message right =
+    still_enters draw a (record a { last = moment }) now moment input (Ignored cause) a.state e is at refl (record { config = refl; store = refl; distances = refl; timers = refl; bucket = refl; due = refl }) refl
+    (subst (λ (b : Bool). moment ≡ max a.last (greatest (if b then moment ∷ [] else []))) (sym takes) (moves_on now a.last moment at)) refl
+    (λ c made past h late. record {
+      unheard = refl;
+      undrawn = refl;
+      idle = ap (λ b. b && not (is_gone (state past))) unticked;
+      moment_right = subst (λ (b : Bool). MatchBool b (last_moment made past ≤ moment) (moment ≡ last_moment made past)) (sym takes) late;
+      verdict_right = right c made past h;
+      message_right = message c past;
+      state_right = h.state;
+    })
+    (λ c made past h. h.pages ∙ sym (slots-same past _ refl)) (λ c made past h. same_progress past _ a.progress ungiven h.progress)
 
 abbrev pub ignored_entry : {W : Type 0} → Content W → ℕ → Input → Cause → Entry
 ignored_entry a moment input cause = still_entry a.config.me moment input (Ignored cause) None a.state

@@ -1,5 +1,5 @@
 -- The entry in which a session message was heard and taken.
-use Rattle.std.proofs.Common.{◌≡◌, ℕ, ◌≤◌, max, true, false, List, [], ◌∷◌, ◌++◌, refl, ap, sym, ◌∙◌, subst, arith}
+use Rattle.std.proofs.Common.{◌≡◌, ℕ, ◌≤◌, true, false, List, [], ◌∷◌, ◌++◌, refl, ap, sym, ◌∙◌, subst}
 use Rattle.std.specs.Prelude.{Some}
 use Rattle.std.specs.List.{flat_map, cons_option}
 use Rattle.std.proofs.lemmas.List.{append-nil}
@@ -36,10 +36,8 @@ use Rattle.srm_agent.specs.Fits.{Fits}
 use Rattle.srm_agent.specs.Heeding.{IsTaken, heard_entry}
 use Rattle.srm_agent.specs.Noting.{Enters}
 use Rattle.srm_entries.proofs.Adding.{flat_map-snoc}
-use Rattle.srm_agent.proofs.Entering.{of_member}
-use Rattle.srm_agent.proofs.Heeded.{Heeds, heard_fits}
+use Rattle.srm_agent.proofs.Heeded.{Goes, Heeds, heard_enters}
 use Rattle.srm_agent.proofs.Joining.{ShowsRows, fresh_rows}
-use Rattle.srm_agent.proofs.Taken.{Goes}
 
 -- the rows of a session message rise
 pub rows_rise : (g : Datagram) (names : List FullName) → IsSession g → IsSpellable g → names ≡ names_in g → ascending row_below names ≡ true
@@ -60,9 +58,6 @@ shows_rows (Data drawop) me moment arms state is = absurd is
 shows_rows (Request sender name mask) me moment arms state is = absurd is
 shows_rows (Repair sender drawop) me moment arms state is = absurd is
 
-at_least : (last moment : ℕ) → last ≤ moment → moment ≡ max moment last
-at_least last moment l = omega (arith, l)
-
 -- room changes nothing of what is heard
 pub hears_roomy : (is : Datagram → Type 0) (fresh : List FullName) (dist : List ℕ) (now : ℕ) (arms : List Arm) (a b d : TimersContent) → TimersStay a b → TimersHear is fresh dist now arms b d → TimersHear is fresh dist now arms a d
 hears_roomy is fresh dist now arms a b d stays hears = record { each = λ c past e g it with_this fits. hears.each c past e g it with_this (stays.each c past fits) }
@@ -72,12 +67,8 @@ pub session_enters : {W : Type 0} (draw : W → ℕ × W) (a b : Content W) (mom
     → TimersHear IsSession fresh dist moment arms a.timers b.timers → StillFits a.store roomy → LearnsToo g roomy b.store → b.pages ≡ with_pages_of a.pages names → b.distances ≡ after → Goes a b moment
     → HaveSettings a.config a.timers → WaitsAreDrawn draw a.timers a.words arms b.words → e ≡ heard_entry a.config.me moment g arms a.state
     → Enters draw (Some moment) (Heard g) a b e
-session_enters draw a b moment g names fresh dist arms roomy after e is named here spellable late taken fresh_of hears_too table hears kept learns pages same goes settings drawn e_is = record {
-  input_is = ap (λ (x : Entry). x.input) e_is;
-  moment_is = ap (λ (x : Entry). x.moment) e_is ∙ at_least a.last moment late;
-  words = rw e_is (drawn.each a.config settings);
-  fits = λ c made past h. of_member c made past a b e (λ me. heard_entry me moment g arms a.state) h e_is (heard_fits c made past a b moment g arms (heeds c made past h));
-}
+session_enters draw a b moment g names fresh dist arms roomy after e is named here spellable late taken fresh_of hears_too table hears kept learns pages same goes settings drawn e_is =
+    heard_enters draw a b moment g arms e late settings drawn e_is heeds
   where
     hears_by : (c : Config) (made : ℕ) (past : List Entry) → Fits c made past a → distances.Fits c.me (distance_calls c.me past ++ calls_of c.me moment (Some g)) after
     hears_by c made past h = (subst (λ (s : Config). HearsToo s.me moment g a.distances after) h.config hears_too).each (distance_calls c.me past) h.distances
@@ -101,11 +92,5 @@ session_enters draw a b moment g names fresh dist arms roomy after e is named he
           (learns.each (held past) (shown_to_exist past) (settlings past) (kept.each (held past) (shown_to_exist past) (settlings past) h.store));
       distances = subst (λ d. distances.Fits c.me (distance_calls c.me past ++ calls_of c.me moment (Some g)) d) (sym same) (hears_by c made past h);
       pages = pages ∙ ap (with_pages_of a.pages) named;
-      last = goes.last;
-      config = goes.config;
-      state = goes.state;
-      showing = goes.showing;
-      progress = goes.progress;
-      bucket = goes.bucket;
-      due = goes.due;
+      goes = goes;
     }

@@ -1,5 +1,5 @@
 -- The entry in which a request was heard and taken.
-use Rattle.std.proofs.Common.{◌≡◌, ℕ, ◌+◌, ◌≤◌, max, false, List, [], ◌∷◌, ◌++◌, refl, ap, sym, ◌∙◌, subst, arith}
+use Rattle.std.proofs.Common.{◌≡◌, ℕ, ◌+◌, ◌≤◌, false, List, [], ◌∷◌, ◌++◌, refl, ap, sym, ◌∙◌, subst}
 use Rattle.std.specs.Prelude.{Some}
 use Rattle.std.proofs.lemmas.List.{append-nil}
 use Rattle.srm_names.specs.declared.stream.Stream.{Stream}
@@ -32,10 +32,8 @@ use Rattle.srm_agent.specs.Fits.{Fits}
 use Rattle.srm_agent.specs.Heeding.{IsTaken, heard_entry}
 use Rattle.srm_agent.specs.Noting.{Enters}
 use Rattle.srm_entries.proofs.Adding.{flat_map-snoc}
-use Rattle.srm_agent.proofs.Entering.{of_member}
 use Rattle.srm_agent.proofs.Evident.{fresh_request}
-use Rattle.srm_agent.proofs.Heeded.{Heeds, heard_fits}
-use Rattle.srm_agent.proofs.Taken.{Goes}
+use Rattle.srm_agent.proofs.Heeded.{Goes, Heeds, heard_enters}
 
 -- what was found between what is known and the greatest that is asked for
 pub up_to_is : (s : Stream) (k l known_of greatest : ℕ) (names : List FullName) → known_of ≡ k → greatest ≡ l → AreExactly (is_between s known_of (greatest + 1)) names → AreExactly (is_between s k (l + 1)) names
@@ -47,20 +45,13 @@ fresh_in {a = a} {names = names} {fresh = fresh} e h = subst (λ s. IsFreshUpTo 
 no_calls : (me : ℕ) (past : List Entry) (moment sender : ℕ) (name : FullName) (mask : ℕ) (arms : List Arm) (s : AgentState) → distance_calls me (past ++ heard_entry me moment (Request sender name mask) arms s ∷ []) ≡ distance_calls me past
 no_calls me past moment sender name mask arms s = flat_map-snoc (calls_in me) past (heard_entry me moment (Request sender name mask) arms s) ∙ append-nil (distance_calls me past)
 
-at_least : (last moment : ℕ) → last ≤ moment → moment ≡ max moment last
-at_least last moment l = omega (arith, l)
-
 pub request_enters : {W : Type 0} (draw : W → ℕ × W) (a b : Content W) (moment sender : ℕ) (name : FullName) (mask : ℕ) (names fresh : List FullName) (dist : List ℕ) (arms : List Arm) (roomy : StoreContent) (e : Entry)
     → names ≡ asked_by name mask → is_gone a.state ≡ false → IsSpellable (Request sender name mask) → a.last ≤ moment → IsTaken (Request sender name mask) a → IsFreshUpTo name.stream names a fresh → IsTableOf a.distances dist
     → TimersHearRequest roomy sender names fresh dist moment arms a.timers b.timers → StillFits a.store roomy → ShowsToo names roomy b.store → b.pages ≡ with_pages_of a.pages names → b.distances ≡ a.distances → Goes a b moment
     → HaveSettings a.config a.timers → WaitsAreDrawn draw a.timers a.words arms b.words → e ≡ heard_entry a.config.me moment (Request sender name mask) arms a.state
     → Enters draw (Some moment) (Heard (Request sender name mask)) a b e
-request_enters draw a b moment sender name mask names fresh dist arms roomy e asked here spellable late taken up_to table hears kept shows pages same goes settings drawn e_is = record {
-  input_is = ap (λ (x : Entry). x.input) e_is;
-  moment_is = ap (λ (x : Entry). x.moment) e_is ∙ at_least a.last moment late;
-  words = rw e_is (drawn.each a.config settings);
-  fits = λ c made past h. of_member c made past a b e (λ me. heard_entry me moment (Request sender name mask) arms a.state) h e_is (heard_fits c made past a b moment (Request sender name mask) arms (heeds c made past h));
-}
+request_enters draw a b moment sender name mask names fresh dist arms roomy e asked here spellable late taken up_to table hears kept shows pages same goes settings drawn e_is =
+    heard_enters draw a b moment (Request sender name mask) arms e late settings drawn e_is heeds
   where
     after : (c : Config) (made : ℕ) (past : List Entry) → Fits c made past a → AreDistancesAfter c (past ++ heard_entry c.me moment (Request sender name mask) arms a.state ∷ []) dist
     after c made past h = record {
@@ -82,11 +73,5 @@ request_enters draw a b moment sender name mask names fresh dist arms roomy e as
           store = rw (append-nil (held past), append-nil (settlings past)) (subst (λ ns. store.Fits (held past) (shown_to_exist past ++ ns) (settlings past) b.store) asked (shows.each (held past) (shown_to_exist past) (settlings past) old_fits));
           distances = rw (append-nil (distance_calls c.me past), same) h.distances;
           pages = pages ∙ ap (with_pages_of a.pages) asked;
-          last = goes.last;
-          config = goes.config;
-          state = goes.state;
-          showing = goes.showing;
-          progress = goes.progress;
-          bucket = goes.bucket;
-          due = goes.due;
+          goes = goes;
         }

@@ -1,5 +1,5 @@
 -- The entry in which data or a repair was heard and taken.
-use Rattle.std.proofs.Common.{◌≡◌, ℕ, ◌≤◌, max, Bool, true, false, ◌||◌, List, [], ◌∷◌, ◌++◌, refl, ap, sym, ◌∙◌, subst, arith}
+use Rattle.std.proofs.Common.{◌≡◌, ℕ, ◌≤◌, Bool, true, false, ◌||◌, List, [], ◌∷◌, ◌++◌, refl, ap, sym, ◌∙◌, subst, arith}
 use Rattle.std.specs.Prelude.{Option, Some, None, is_some, if◌then◌else◌, Result, Ok, Err, OnErr}
 use Rattle.std.proofs.lemmas.List.{append-nil}
 use Rattle.srm_names.specs.declared.stream.Stream.{Stream}
@@ -33,19 +33,9 @@ use Rattle.srm_agent.specs.Fits.{Fits}
 use Rattle.srm_agent.specs.Heeding.{IsTaken, IsFreshBelow, MayTake, carrying, heard_entry}
 use Rattle.srm_agent.specs.Noting.{Enters, Stays}
 use Rattle.srm_entries.proofs.Adding.{flat_map-snoc}
-use Rattle.srm_agent.proofs.Entering.{of_member}
+use Rattle.srm_agent.proofs.Fitting.{refit}
 use Rattle.srm_agent.proofs.Fresh.{Brings, fresh_drawop}
-use Rattle.srm_agent.proofs.Heeded.{Heeds, heard_fits}
-
--- all but the last moment, the words, the pages, the store, the distances and the timers is as it was
-pub record Goes {W : Type 0} (a b : Content W) (moment : ℕ) : Type 0 where
-  pub last : b.last ≡ moment
-  pub config : b.config ≡ a.config
-  pub state : b.state ≡ a.state
-  pub showing : b.showing ≡ a.showing
-  pub progress : b.progress ≡ a.progress
-  pub bucket : b.bucket ≡ a.bucket
-  pub due : b.due ≡ a.due
+use Rattle.srm_agent.proofs.Heeded.{Goes, Heeds, heard_enters}
 
 -- a datagram that brings one drawop, and no session message
 pub record BringsOne (d : Drawop) (g : Datagram) : Type 0 where
@@ -100,20 +90,13 @@ no_calls : (me : ℕ) (past : List Entry) (moment : ℕ) (d : Drawop) (g : Datag
 no_calls me past moment d g arms s one =
     flat_map-snoc (calls_in me) past (heard_entry me moment g arms s) ∙ ap (λ cs. distance_calls me past ++ cs) (one.uncalled me moment) ∙ append-nil (distance_calls me past)
 
-at_least : (last moment : ℕ) → last ≤ moment → moment ≡ max moment last
-at_least last moment l = omega (arith, l)
-
 pub drawop_enters : {W : Type 0} (draw : W → ℕ × W) (a b : Content W) (moment : ℕ) (g : Datagram) (is : Datagram → Type 0) (d : Drawop) (fresh : List FullName) (dist : List ℕ) (arms : List Arm) (roomy : StoreContent) (e : Entry)
     → BringsOne d g → is g → is_gone a.state ≡ false → IsSpellable g → a.last ≤ moment → IsTaken g a → IsFreshBelow d.name a fresh → IsTableOf a.distances dist
     → TimersHear is fresh dist moment arms a.timers b.timers → StillFits a.store roomy → HoldsToo d roomy b.store → b.pages ≡ with_pages_of a.pages (d.name ∷ []) → b.distances ≡ a.distances → Goes a b moment
     → HaveSettings a.config a.timers → WaitsAreDrawn draw a.timers a.words arms b.words → e ≡ heard_entry a.config.me moment g arms a.state
     → Enters draw (Some moment) (Heard g) a b e
-drawop_enters draw a b moment g is d fresh dist arms roomy e one it here spellable late taken below table hears kept holds pages same goes settings drawn e_is = record {
-  input_is = ap (λ (x : Entry). x.input) e_is;
-  moment_is = ap (λ (x : Entry). x.moment) e_is ∙ at_least a.last moment late;
-  words = rw e_is (drawn.each a.config settings);
-  fits = λ c made past h. of_member c made past a b e (λ me. heard_entry me moment g arms a.state) h e_is (heard_fits c made past a b moment g arms (heeds c made past h));
-}
+drawop_enters draw a b moment g is d fresh dist arms roomy e one it here spellable late taken below table hears kept holds pages same goes settings drawn e_is =
+    heard_enters draw a b moment g arms e late settings drawn e_is heeds
   where
     after : (c : Config) (made : ℕ) (past : List Entry) → Fits c made past a → AreDistancesAfter c (past ++ heard_entry c.me moment g arms a.state ∷ []) dist
     after c made past h = record {
@@ -132,13 +115,7 @@ drawop_enters draw a b moment g is d fresh dist arms roomy e one it here spellab
       store = rw (one.drawops, one.names, one.unsettled, append-nil (settlings past)) (holds.each (held past) (shown_to_exist past) (settlings past) (kept.each (held past) (shown_to_exist past) (settlings past) h.store));
       distances = rw (one.uncalled c.me moment, append-nil (distance_calls c.me past), same) h.distances;
       pages = rw one.names pages;
-      last = goes.last;
-      config = goes.config;
-      state = goes.state;
-      showing = goes.showing;
-      progress = goes.progress;
-      bucket = goes.bucket;
-      due = goes.due;
+      goes = goes;
     }
 
 -- what was found between what is known and the name
@@ -151,22 +128,7 @@ below_is n s k known_of number names e f g h = record {
 -- want of memory: the store has room, the timers stay, and no word was drawn
 pub stays : {W : Type 0} (a : Content W) (s : StoreContent) (t : TimersContent) (w : W) → StillFits a.store s → TimersStay a.timers t → w ≡ a.words → Stays a (record a { store = s; timers = t; words = w })
 stays a s t w kept timers words = record {
-  fits = λ c made past h. record {
-    run = h.run;
-    config = h.config;
-    state = h.state;
-    last = h.last;
-    showing = h.showing;
-    pages = h.pages;
-    progress = h.progress;
-    store = kept.each (held past) (shown_to_exist past) (settlings past) h.store;
-    distances = h.distances;
-    timers = timers.each c past h.timers;
-    bucket = h.bucket;
-    due = h.due;
-    own = h.own;
-    spelled = h.spelled;
-  };
+  fits = λ c made past h. refit c made past a s t a.bucket w h (kept.each (held past) (shown_to_exist past) (settlings past) h.store) (timers.each c past h.timers) h.bucket;
   words = words;
 }
 
