@@ -1,6 +1,6 @@
 -- The entries of the calls that hear nothing and send nothing.
 use Rattle.std.proofs.Common.{◌≡◌, ℕ, ◌≤◌, max, Bool, true, false, not, ◌&&◌, List, [], ◌∷◌, ◌++◌, refl, ap, sym, ◌∙◌, subst, arith}
-use Rattle.std.specs.Prelude.{Some, None, unwrap_or, MatchBool}
+use Rattle.std.specs.Prelude.{Some, None, Result, Ok, Err, unwrap_or, MatchBool}
 use Rattle.srm_names.specs.declared.page.Page.{Page}
 use Rattle.srm_names.specs.Histories.{greatest}
 use Rattle.srm_entries.specs.declared.fault.AgentFault.{AgentFault}
@@ -19,7 +19,7 @@ use Rattle.srm_entries.specs.Verdicts.{VerdictRight}
 use Rattle.srm_entries.specs.Giving.{MessageRight, given_in}
 use Rattle.srm_agent.specs.Contents.{Content}
 use Rattle.srm_agent.specs.Fits.{Fits, EachProgressFits}
-use Rattle.srm_agent.specs.Noting.{Enters, IsAllowed, still_entry}
+use Rattle.srm_agent.specs.Noting.{AnswersAs, Enters, EntersStill, HasEntry, IsAllowed, still_entry, verdict_answering}
 use Rattle.srm_agent_parts.proofs.Running.{slots-same, slots-one}
 use Rattle.srm_agent.proofs.Still.{MayFollow, SameParts, still_fits, same_progress}
 
@@ -56,6 +56,29 @@ still_enters draw a b now moment input verdict after e is at words same is_state
   fits = λ c made past h. of_member c made past a b e (λ me. still_entry me moment input verdict None after) h is
       (still_fits c made past a b moment input verdict None after h (may c made past h (later c made past a now moment h at)) same is_state is_last is_showing (pages c made past h) (progress c made past h));
 }
+
+-- what a call without effects says of the moment that counts, and of its answer
+
+pub at_moment : (last moment : ℕ) → last ≤ moment → moment ≡ max moment last
+at_moment last moment l = omega (arith, l)
+
+answers_still : {A : Type 0} (r : Result A AgentFault) → AnswersAs (λ _. Unit {0}) (verdict_answering r) r
+answers_still (Ok value) = tt
+answers_still (Err fault) = refl
+
+enters_at : {W A : Type 0} (draw : W → ℕ × W) (a b : Content W) (now moment : ℕ) (input : Input) (r : Result A AgentFault) → moment ≡ max now a.last → EntersStill draw moment input a b r
+    → Enters draw (Some now) input a b (still_entry b.config.me moment input (verdict_answering r) None b.state)
+enters_at draw a b now moment input r at enters = record { input_is = refl; moment_is = at; fits = enters.fits; words = enters.words }
+
+pub has_still : {W A : Type 0} (draw : W → ℕ × W) (a b : Content W) (now moment : ℕ) (input : Input) (r : Result A AgentFault) → moment ≡ max now a.last → EntersStill draw moment input a b r → HasEntry draw (Some now) input (λ _ _. Unit {0}) a b r
+has_still draw a b now moment input r at enters = (still_entry b.config.me moment input (verdict_answering r) None b.state, enters_at draw a b now moment input r at enters, answers_still r)
+
+pub noted_enters : {W A : Type 0} (draw : W → ℕ × W) (a b : Content W) (now moment : ℕ) (input : Input) (r : Result A AgentFault) (e : Entry) → moment ≡ max now a.last → EntersStill draw moment input a b r
+    → e ≡ still_entry b.config.me moment input (verdict_answering r) None b.state → Enters draw (Some now) input a b e
+noted_enters draw a b now moment input r e at enters is = subst (λ x. Enters draw (Some now) input a b x) (sym is) (enters_at draw a b now moment input r at enters)
+
+pub noted_answers : {A : Type 0} (me moment : ℕ) (input : Input) (r answer : Result A AgentFault) (after : AgentState) (e : Entry) → e ≡ still_entry me moment input (verdict_answering r) None after → answer ≡ r → AnswersAs (λ _. Unit {0}) e.verdict answer
+noted_answers me moment input r answer after e is same = subst (λ (x : Entry). AnswersAs (λ _. Unit {0}) x.verdict answer) (sym is) (subst (λ x. AnswersAs (λ _. Unit {0}) (verdict_answering r) x) (sym same) (answers_still r))
 
 -- a refused call changes nothing, and its moment doesn't count
 pub refused_enters : {W : Type 0} (draw : W → ℕ × W) (a : Content W) (now moment : ℕ) (input : Input) (fault : AgentFault) (e : Entry) → e ≡ still_entry a.config.me moment input (Refused fault) None a.state → moment ≡ max now a.last

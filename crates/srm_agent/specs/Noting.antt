@@ -39,6 +39,11 @@ still_entry me moment input verdict message after = record {
   effects = record { drawn = None; arms = []; asks = []; fixes = []; outs = []; message = message; state = after };
 }
 
+-- the verdict on a call, by what it answers
+abbrev pub verdict_answering : {A : Type 0} → Result A AgentFault → Verdict
+verdict_answering (Ok value) = Done
+verdict_answering (Err fault) = Refused fault
+
 -- the entry of a give, by what is answered
 abbrev pub gave_by : {W : Type 0} → Content W → ℕ → Option PageMsg → Entry
 gave_by a slot message = still_entry a.config.me a.last (Gave slot) Done message a.state
@@ -55,6 +60,10 @@ pub record Enters {W : Type 0} (draw : W → ℕ × W) (now : Option ℕ) (input
   pub moment_is : e.moment ≡ moment_that_counts now old.last
   pub fits : (c : Config) (made : ℕ) (past : List Entry) → Fits c made past old → Fits c made (past ++ e ∷ []) new
   pub words : AreDrawn draw (low_of old.config) (high_of old.config) old.words e.effects.arms new.words
+
+-- a call without effects has the entry of the agent that it leaves, with the verdict of what it answers
+abbrev pub EntersStill : {W A : Type 0} → (W → ℕ × W) → ℕ → Input → Content W → Content W → Result A AgentFault → Type 0
+EntersStill draw moment input old new answer = Enters draw (Some moment) input old new (still_entry new.config.me moment input (verdict_answering answer) None new.state)
 
 -- whatever run the agent fitted, it still fits, and no word was drawn
 pub record Stays {W : Type 0} (old new : Content W) : Type 0 where

@@ -1,13 +1,13 @@
 //! One member's agent.
 
-ghost use Rattle.std.specs.Prelude.{◌≡◌, ◌≤◌, ℕ, max, List, [], IfOk, IsOk, Ok, None};
+ghost use Rattle.std.specs.Prelude.{◌≡◌, ◌≤◌, ℕ, max, List, [], IfOk, Ok, Err, None};
 ghost use Rattle.srm_names.specs.declared.limits.TheConstants.{MOMENT};
 ghost use Rattle.srm_entries.specs.Configs.{Config as Settings};
 ghost use Rattle.srm_entries.specs.declared.entry.Entry.{Entry as AnEntry};
 ghost use Rattle.srm_entries.specs.Entries.{is_gone, state};
 ghost use Rattle.srm_agent.specs.Fits.{Fits, AreNewProgress};
 ghost use Rattle.srm_entries.specs.Runs.{IsMemberRun};
-ghost use Rattle.srm_agent.specs.Noting.{Does, still_entry};
+ghost use Rattle.srm_agent.specs.Noting.{Does, still_entry, verdict_answering};
 
 mod admitting;
 mod drafting;
@@ -165,20 +165,18 @@ impl<W: Words + Drop> Agent<W> {
         ensures entry { result.entry ≡ still_entry self.now.config.me moment input (Verdict.Refused fault) None self.now.state }
         ensures answer { result.answer ≡ Err fault }
     {
-        Noted {
-            answer: Err(fault),
-            entry: self.entry(moment, input, Verdict::Refused(fault), None),
-        }
+        self.noted(moment, input, Err(fault))
     }
 
-    /// The entry of a call that is done and has no effects.
-    fn done(&self, moment: u64, input: Input) -> Noted<()>
-        ensures entry { result.entry ≡ still_entry self.now.config.me moment input Verdict.Done None self.now.state }
-        ensures answer { IsOk result.answer }
+    /// What is answered, and the entry, of a call that is refused, or done and has no effects.
+    fn noted<A>(&self, moment: u64, input: Input, answer: Result<A, AgentFault>) -> Noted<A>
+        ensures entry { result.entry ≡ still_entry self.now.config.me moment input (verdict_answering answer) None self.now.state }
+        ensures answer { result.answer ≡ answer }
     {
+        let verdict = verdict_answering(&answer);
         Noted {
-            answer: Ok(()),
-            entry: self.entry(moment, input, Verdict::Done, None),
+            entry: self.entry(moment, input, verdict, None),
+            answer,
         }
     }
 
@@ -201,6 +199,15 @@ impl<W: Words + Drop> Agent<W> {
                 state: self.state,
             },
         }
+    }
+}
+
+fn verdict_answering<A>(answer: &Result<A, AgentFault>) -> Verdict
+    ensures { result ≡ verdict_answering answer.now }
+{
+    match answer {
+        Ok(_) => Verdict::Done,
+        Err(fault) => Verdict::Refused(*fault),
     }
 }
 

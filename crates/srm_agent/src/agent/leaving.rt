@@ -3,7 +3,7 @@
 ghost use Rattle.std.specs.Prelude.{◌≡◌, ◌≤◌, IfOk, OnErr, Ok, Some};
 ghost use Rattle.srm_names.specs.declared.limits.TheConstants.{MOMENT};
 ghost use Rattle.srm_entries.specs.declared.state.AgentState.TheVariants.{Leaving};
-ghost use Rattle.srm_agent.specs.Noting.{Enters, Stays, AnswersAs, IsAllowed, HasEntry};
+ghost use Rattle.srm_agent.specs.Noting.{Enters, EntersStill, Stays, AnswersAs, IsAllowed, HasEntry};
 
 use super::Agent;
 use crate::noted::Noted;
@@ -24,14 +24,8 @@ impl<W: Words + Drop> Agent<W> {
         ensures allowed { OnErr result (IsAllowed Input.AskedLeave self.old) }
     {
         let moment = self.moment(now);
-        match self.state {
-            AgentState::Gone => Ok(self.refused(moment, Input::AskedLeave, AgentFault::Gone)),
-            AgentState::Leaving => Ok(self.refused(moment, Input::AskedLeave, AgentFault::Leaving)),
-            AgentState::Active => {
-                self.begin_to_leave(moment);
-                Ok(self.done(moment, Input::AskedLeave))
-            }
-        }
+        let answer = self.leave_at(moment);
+        Ok(self.noted(moment, Input::AskedLeave, answer))
     }
 
     /// [`leave_noted`](Agent::leave_noted) without its entry, which isn't made. It takes no memory.
@@ -40,6 +34,15 @@ impl<W: Words + Drop> Agent<W> {
         ensures { HasEntry W.draw (Some now) Input.AskedLeave (λ _ _. Unit {0}) self.old self.new result }
     {
         let moment = self.moment(now);
+        self.leave_at(moment)
+    }
+
+    /// Begins to leave at a moment that isn't below the last one. It takes no memory.
+    fn leave_at(&mut self, moment: u64) -> Result<(), AgentFault>
+        requires later { self.old.last ≤ moment }
+        requires moment { moment ≤ MOMENT }
+        ensures { EntersStill W.draw moment Input.AskedLeave self.old self.new result }
+    {
         match self.state {
             AgentState::Gone => Err(AgentFault::Gone),
             AgentState::Leaving => Err(AgentFault::Leaving),

@@ -3,7 +3,7 @@
 ghost use Rattle.std.specs.Prelude.{◌≡◌, ◌≤◌, IfOk, OnErr, Ok, Some, false};
 ghost use Rattle.srm_names.specs.declared.limits.TheConstants.{MOMENT};
 ghost use Rattle.srm_agent_parts.specs.PageTables.{lacks_room, with_page};
-ghost use Rattle.srm_agent.specs.Noting.{Enters, Stays, AnswersAs, IsAllowed, Does};
+ghost use Rattle.srm_agent.specs.Noting.{Enters, EntersStill, Stays, AnswersAs, IsAllowed, Does};
 
 use super::Agent;
 use crate::noted::Noted;
@@ -25,14 +25,8 @@ impl<W: Words + Drop> Agent<W> {
         ensures allowed { OnErr result (IsAllowed (Input.Showed page) self.old) }
     {
         let moment = self.moment(now);
-        if self.is_gone() {
-            return Ok(self.refused(moment, Input::Showed(page), AgentFault::Gone));
-        }
-        if !self.pages.has_room(&page) {
-            return Ok(self.refused(moment, Input::Showed(page), AgentFault::PageLimit));
-        }
-        self.turn_to(&page, moment);
-        Ok(self.done(moment, Input::Showed(page)))
+        let answer = self.show_at(&page, moment);
+        Ok(self.noted(moment, Input::Showed(page), answer))
     }
 
     /// [`show_noted`](Agent::show_noted) without its entry, which isn't made.
@@ -41,13 +35,22 @@ impl<W: Words + Drop> Agent<W> {
         ensures { Does W.draw (Some now) (Input.Showed page) (λ _ _. Unit {0}) self.old self.new result }
     {
         let moment = self.moment(now);
+        self.show_at(&page, moment)
+    }
+
+    /// Shows a page at a moment that isn't below the last one.
+    fn show_at(&mut self, page: &Page, moment: u64) -> Result<(), AgentFault>
+        requires later { self.old.last ≤ moment }
+        requires moment { moment ≤ MOMENT }
+        ensures { EntersStill W.draw moment (Input.Showed page.now) self.old self.new result }
+    {
         if self.is_gone() {
             return Err(AgentFault::Gone);
         }
-        if !self.pages.has_room(&page) {
+        if !self.pages.has_room(page) {
             return Err(AgentFault::PageLimit);
         }
-        self.turn_to(&page, moment);
+        self.turn_to(page, moment);
         Ok(())
     }
 
