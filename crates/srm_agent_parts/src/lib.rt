@@ -36,4 +36,4 @@ pub use page_table::PageTable;
 pub use progress::Progress;
 pub use reports::{hear_report, learn};
 pub use roster::{member, page_in_range, stream_in_range};
-pub use timers::{Timers, earlier};
+pub use timers::Timers;

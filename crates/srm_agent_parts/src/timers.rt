@@ -6,7 +6,6 @@ ghost use Rattle.srm_names.specs.Names.{ascending, name_below};
 ghost use Rattle.srm_timers.specs.AskCalls.{AskAdds, AskedFirst, AnswerReady, sets};
 ghost use Rattle.srm_deadlines.specs.Deadlines.{DueAmong};
 ghost use Rattle.srm_timers.specs.Distances.{AreDistances};
-ghost use Rattle.srm_deadlines.specs.Least.{lesser};
 ghost use Rattle.srm_agent_parts.specs.TimersKept.{TimersFit, HaveSettings};
 ghost use Rattle.srm_agent_parts.specs.TimerCalls.{AreDueAsks, AreDueFixes, AsksPending, FixesPending, KeepSettings, TimersNext, TimersStay, WaitsAreDrawn};
 
@@ -14,6 +13,7 @@ mod hearing;
 mod requests;
 mod ticking;
 
+use srm_deadlines::lesser;
 use srm_entries::Config;
 use srm_names::Name;
 use srm_timers::{Arm, Asks, Fixes, TimerFault, Tree, Words};
@@ -111,17 +111,6 @@ impl Timers {
     pub fn next(&self) -> Option<u64>
         ensures { TimersNext self.now result }
     {
-        earlier(self.asks.next(), self.fixes.next())
-    }
-}
-
-/// The earlier of two moments.
-pub fn earlier(a: Option<u64>, b: Option<u64>) -> Option<u64>
-    ensures { result ≡ lesser a b }
-{
-    match (a, b) {
-        (Some(a), Some(b)) => Some(a.min(b)),
-        (a, None) => a,
-        (None, b) => b,
+        lesser(self.asks.next(), self.fixes.next())
     }
 }

@@ -1,9 +1,8 @@
 -- What is due, looked for place by place.
-use Rattle.std.proofs.Common.{◌≡◌, ℕ, take, length, get_or, ◌<◌, ◌≤◌, ◌+◌, inl, inr, min, arith, Bool, true, false, ◌&&◌, ◌||◌, List, [], refl, sym, ap, subst, ◌∙◌}
+use Rattle.std.proofs.Common.{◌≡◌, ℕ, take, length, get_or, ◌<◌, ◌≤◌, ◌+◌, inl, inr, arith, Bool, true, false, ◌&&◌, ◌||◌, List, [], refl, sym, ap, subst, ◌∙◌}
 use Rattle.std.specs.Prelude.{Option, Some, None, IfSome, find, is_some, ◌⊎◌}
 use Rattle.std.specs.List.{list_any}
 use Rattle.std.proofs.lemmas.List.Folds.{list_any_more}
-use Rattle.std.proofs.lemmas.Bool.{cases_lt}
 use Rattle.std.proofs.lemmas.Option.{none-some}
 use Rattle.srm_names.specs.FullName.{FullName}
 use Rattle.srm_names.specs.Names.{same_name, name_below, ascending, among, AreExactly}
@@ -12,6 +11,8 @@ use Rattle.srm_deadlines.specs.declared.by_name.Place.{Place}
 use Rattle.srm_deadlines.specs.Deadlines.{has_come}
 use Rattle.srm_deadlines.specs.Least.{lesser}
 use Rattle.srm_deadlines.specs.Places.{is_at, value_in, value_at, IsLeast}
+use Rattle.srm_deadlines.specs.Rows.{IsUnder}
+use Rattle.srm_deadlines.proofs.Rows.{under_lesser, lesser_under, lesser_is}
 use Rattle.srm_deadlines.proofs.Tables.{any_find, either}
 
 pub among_already : (xs : List FullName) (y m : FullName) → among xs y ≡ true → among xs m ≡ among xs m || same_name m y
@@ -71,23 +72,6 @@ due_all now places names h = record { in_order = h.order; exact = λ n. h.exact 
     go None = refl
     go (Some p) = refl
 
--- a moment is at least the least one, which there is where there is any
-abbrev pub IsUnder : Option ℕ → Option ℕ → Type 0
-IsUnder least None = Unit {0}
-IsUnder None (Some m) = ⊥
-IsUnder (Some t) (Some m) = t ≤ m
-
-under_lesser : (a b o : Option ℕ) → IsUnder a o → IsUnder (lesser a b) o
-under_lesser a b None h = tt
-under_lesser None b (Some m) h = absurd h
-under_lesser (Some t) None (Some m) h = h
-under_lesser (Some t) (Some u) (Some m) h = omega arith
-
-lesser_under : (a b : Option ℕ) → IsUnder (lesser a b) b
-lesser_under a None = tt
-lesser_under None (Some u) = omega arith
-lesser_under (Some t) (Some u) = omega arith
-
 -- the least of the moments of the first places
 pub record LeastSoFar (seen places : List (Place ℕ)) (found : Option ℕ) : Type 0 where
   pub is_one : (t : ℕ) → found ≡ Some t → (n : FullName) × (value_at places n ≡ Some t)
@@ -95,15 +79,10 @@ pub record LeastSoFar (seen places : List (Place ℕ)) (found : Option ℕ) : Ty
 
 one_of : (places : List (Place ℕ)) (n : FullName) (a b : Option ℕ) → value_at places n ≡ b → ((t : ℕ) → a ≡ Some t → (n : FullName) × (value_at places n ≡ Some t))
     → (t : ℕ) → lesser a b ≡ Some t → (n : FullName) × (value_at places n ≡ Some t)
-one_of places n None b v h t e = (n, v ∙ e)
-one_of places n (Some x) None v h t e = h t e
-one_of places n (Some x) (Some y) v h t e = elim (min_is x y) [
-  | inl first ↦ h t (ap Some (sym first) ∙ e)
-  | inr second ↦ (n, v ∙ ap Some (sym second) ∙ e)
+one_of places n a b v h t e = elim (lesser_is a b) [
+  | inl first ↦ h t (sym first ∙ e)
+  | inr second ↦ (n, v ∙ sym second ∙ e)
 ]
-  where
-    min_is : (x y : ℕ) → (min x y ≡ x) ⊎ (min x y ≡ y)
-    min_is x y = elim (cases_lt x y) [ inl l ↦ inl (omega arith) | inr l ↦ inr (omega arith) ]
 
 pub least_more : (places : List (Place ℕ)) (i : ℕ) (p : Place ℕ) (found : Option ℕ) → i < length places → p ≡ get_or places i p
     → LeastSoFar (take i places) places found → LeastSoFar (take (i + 1) places) places (lesser found (value_at places p.name))

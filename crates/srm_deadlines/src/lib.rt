@@ -31,6 +31,6 @@ pub use agenda::put_names;
 pub use by_name::{ByName, Place};
 pub use deadlines::Deadlines;
 pub use ordered::Ordered;
-pub use scanned::Scanned;
+pub use scanned::{Scanned, lesser};
 pub use timed::Timed;
 pub use tree::Tree;

@@ -108,7 +108,7 @@ pub(crate) fn come(moment: Option<u64>, now: u64) -> bool
 }
 
 /// The lesser of two moments, where there are two.
-pub(crate) fn lesser(a: Option<u64>, b: Option<u64>) -> Option<u64>
+pub fn lesser(a: Option<u64>, b: Option<u64>) -> Option<u64>
     ensures { result ≡ lesser a b }
 {
     match (a, b) {

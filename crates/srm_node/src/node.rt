@@ -21,7 +21,7 @@ use crate::sending::send_all;
 use crate::spare::{Spare, make_spare};
 use crate::ticking::{leave, tick};
 use srm_agent::{Config, Entry};
-use srm_agent_parts::earlier;
+use srm_deadlines::lesser;
 use srm_names::MOMENT;
 use srm_pages::ends::Well;
 use srm_pages::{Feed, Stroke};
@@ -301,7 +301,7 @@ impl<W: Words + Drop, X: Wire + Drop, C: Clock + Drop, P: Past<Entry> + Drop> No
         ensures clock { self.new.clock ≡ self.old.clock }
     {
         let now = self.clock.now().min(MOMENT);
-        let due = earlier(self.recorder.next_due(), self.hand_due());
+        let due = lesser(self.recorder.next_due(), self.hand_due());
         let micros = time_to_wait(self.heard, self.drawn, due, now);
         self.wire.pause(micros);
     }

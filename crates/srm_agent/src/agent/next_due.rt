@@ -11,8 +11,8 @@ ghost use Rattle.srm_agent_parts.specs.TimerCalls.{TimersNext};
 ghost use Rattle.srm_agent.specs.Waking.{IsEarly, IsLate, IsNextAt, NextDue, report_next, sooner_of};
 
 use super::Agent;
-use srm_agent_parts::earlier;
 use srm_bucket::Class;
+use srm_deadlines::lesser;
 use srm_timers::Words;
 
 impl<W: Words + Drop> Agent<W> {
@@ -44,7 +44,7 @@ impl<W: Words + Drop> Agent<W> {
     fn next_at(&self) -> u64
         ensures { IsNextAt self.now result }
     {
-        let first = earlier(self.next_timer(), self.next_to_go());
+        let first = lesser(self.next_timer(), self.next_to_go());
         sooner(first, self.next_report())
     }
 
