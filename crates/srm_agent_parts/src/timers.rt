@@ -16,7 +16,7 @@ mod ticking;
 use srm_deadlines::lesser;
 use srm_entries::Config;
 use srm_names::Name;
-use srm_timers::{Arm, Asks, Fixes, TimerFault, Tree, Words};
+use srm_timers::{Arm, Asks, Fixes, Tree, Words};
 use std::alloc::{AllocError, Global};
 use std::marker::Model;
 
@@ -61,7 +61,7 @@ impl Timers {
         ensures due { IfOk result (λ names. AreDueAsks now self.now names.items) }
     {
         let names = Vec::new(self.alloc);
-        self.asks.pending(now, names).map_err(|_| AllocError)
+        self.asks.pending(now, names)
     }
 
     /// The names whose repair timers have run out, in order of name: those that a tick repairs. Only want of memory
@@ -73,7 +73,7 @@ impl Timers {
         ensures due { IfOk result (λ names. AreDueFixes now self.now names.items) }
     {
         let names = Vec::new(self.alloc);
-        self.fixes.pending(now, names).map_err(|_| AllocError)
+        self.fixes.pending(now, names)
     }
 
     /// Names were found missing, which rise: their request timers are set. The exponent is 1 for a name among `asked`, and
@@ -100,10 +100,8 @@ impl Timers {
         ensures settings { KeepSettings self.old self.new }
         ensures room { AnswerReady fresh.now self.old.asks → IsOk result }
     {
-        match self.asks.detect(fresh, asked, dist, now, words) {
-            Ok(arms) => Ok(arms),
-            Err(TimerFault::Memory) => Err(AllocError),
-        }
+        let arms = self.asks.detect(fresh, asked, dist, now, words)?;
+        Ok(arms)
     }
 
     /// The least moment at which a timer runs out. Takes no memory.

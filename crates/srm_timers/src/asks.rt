@@ -14,7 +14,6 @@ ghost use Rattle.srm_deadlines.specs.Places.{value_at, has_place, Keeps};
 use crate::arm::{Arm, ArmKind, Armed};
 use crate::distance::distance_in;
 use crate::ends::Ends;
-use crate::fault::TimerFault;
 use crate::limits::{EXPONENT, LONGEST_WAIT, TIMER_SETTING};
 use crate::timers::{arm_at, set_timers};
 use crate::wait::draw_wait;
@@ -27,7 +26,7 @@ use std::mem;
 
 /// The request timers that run: one for each name that is missing.
 ///
-/// A call that answers [`TimerFault::Memory`] has changed nothing and taken no word. Moments are microseconds, at most
+/// A call that is refused for memory has changed nothing and taken no word. Moments are microseconds, at most
 /// 2^48, and distances microseconds, at most 10,000,000.
 #[derive(Drop)]
 pub struct Asks<D: Deadlines> {
@@ -78,7 +77,7 @@ impl<D: Deadlines> Asks<D> {
     /// Makes room, so that one `detect` of these names and one `due` at which no other names are due, in either order, aren't
     /// refused, nor needs `set_all` memory for them. No timer changes. Only want of memory refuses it, and then the room
     /// that the calls before made is still there.
-    pub fn room(&mut self, names: &[Name]) -> Result<(), TimerFault>
+    pub fn room(&mut self, names: &[Name]) -> Result<(), AllocError>
         ensures kept { AskStays self.old self.new }
         ensures ends { Keeps self.old.ends.places self.new.ends.places }
         ensures held { AskHolds self.old self.new }
@@ -134,7 +133,7 @@ impl<D: Deadlines> Asks<D> {
         dist: &[u64],
         now: u64,
         words: &mut W,
-    ) -> Result<Vec<Arm>, TimerFault>
+    ) -> Result<Vec<Arm>, AllocError>
         requires rising { ascending name_below names.now ≡ true }
         requires distances { AreDistances dist.now }
         requires now { now ≤ MOMENT }
@@ -224,7 +223,7 @@ impl<D: Deadlines> Asks<D> {
     /// where that list has too little room for them: no [`room`](Asks::room) is needed, since a caller that makes room
     /// for what is due asks here which names these are.
     #[tactic(auto, using(crate::proofs::AskSteps::due_is, crate::proofs::AskSteps::timers_run))]
-    pub fn pending(&self, now: u64, names: Vec<Name>) -> Result<Vec<Name>, TimerFault>
+    pub fn pending(&self, now: u64, names: Vec<Name>) -> Result<Vec<Name>, AllocError>
         ensures due { IfOk result (λ names. AskDue now self.now names.items) }
         ensures among { IfOk result (λ names. DueAmong now self.now.ends.places names.items) }
         ensures rising { IfOk result (λ names. ascending name_below names.items ≡ true) }
@@ -244,7 +243,7 @@ impl<D: Deadlines> Asks<D> {
         now: u64,
         dist: &[u64],
         words: &mut W,
-    ) -> Result<Vec<Arm>, TimerFault>
+    ) -> Result<Vec<Arm>, AllocError>
         requires distances { AreDistances dist.now }
         requires now { now ≤ MOMENT }
         ensures fits { IfOk result (λ arms. AskAdds (sets now arms.items) self.old self.new) }

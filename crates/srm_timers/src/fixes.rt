@@ -13,7 +13,6 @@ ghost use Rattle.srm_deadlines.specs.Places.{HasPlaces, Keeps};
 use crate::arm::{Arm, ArmKind};
 use crate::distance::distance_in;
 use crate::ends::Ends;
-use crate::fault::TimerFault;
 use crate::limits::{HOLD_OFF, LONGEST_WAIT, TIMER_SETTING};
 use crate::marks::Marks;
 use crate::wait::draw_wait;
@@ -26,7 +25,7 @@ use std::mem;
 
 /// The repair timers that run, who asked first for each name, and until when names are held off.
 ///
-/// A call that answers [`TimerFault::Memory`] has changed nothing and taken no word. Moments are microseconds, at most
+/// A call that is refused for memory has changed nothing and taken no word. Moments are microseconds, at most
 /// 2^48, and distances microseconds, at most 10,000,000.
 #[derive(Drop)]
 pub struct Fixes<D: Deadlines> {
@@ -70,7 +69,7 @@ impl<D: Deadlines> Fixes<D> {
 
     /// Makes room, so that no call on one of these names is refused, nor needs `set_all` memory for them, nor is one `due`
     /// refused at which no other names are due. Nothing else changes. Only want of memory refuses it.
-    pub fn room(&mut self, names: &[Name]) -> Result<(), TimerFault>
+    pub fn room(&mut self, names: &[Name]) -> Result<(), AllocError>
         ensures kept { FixStays self.old self.new }
         ensures ends { Keeps self.old.ends.places self.new.ends.places }
         ensures held { FixHolds self.old self.new }
@@ -121,7 +120,7 @@ impl<D: Deadlines> Fixes<D> {
         dist: &[u64],
         now: u64,
         words: &mut W,
-    ) -> Result<Option<Arm>, TimerFault>
+    ) -> Result<Option<Arm>, AllocError>
         requires distances { AreDistances dist.now }
         requires now { now ≤ MOMENT }
         ensures fits { IfOk result (λ arm. FixAdds (Asked name from ∷ sets_fix now (option_to_list arm)) self.old self.new) }
@@ -171,7 +170,7 @@ impl<D: Deadlines> Fixes<D> {
     /// A repair of a name was heard: its timer is gone, and it is held off for three distances to the member that asked
     /// for it first, else to its source, unless a repair before holds it off for longer. Only want of memory refuses it.
     #[tactic(auto, using(crate::proofs::FixSteps::repairs_after))]
-    pub fn heard_repair(&mut self, name: Name, dist: &[u64], now: u64) -> Result<(), TimerFault>
+    pub fn heard_repair(&mut self, name: Name, dist: &[u64], now: u64) -> Result<(), AllocError>
         requires distances { AreDistances dist.now }
         requires now { now ≤ MOMENT }
         ensures fits { OnOk result (FixRepairs now dist.now (name ∷ []) self.old self.new) }
@@ -190,7 +189,7 @@ impl<D: Deadlines> Fixes<D> {
     /// where that list has too little room for them: no [`room`](Fixes::room) is needed, since a caller that makes room
     /// for what is due asks here which names these are.
     #[tactic(auto, using(crate::proofs::FixSteps::fix_due_is))]
-    pub fn pending(&self, now: u64, names: Vec<Name>) -> Result<Vec<Name>, TimerFault>
+    pub fn pending(&self, now: u64, names: Vec<Name>) -> Result<Vec<Name>, AllocError>
         ensures due { IfOk result (λ names. FixDue now self.now names.items) }
         ensures among { IfOk result (λ names. DueAmong now self.now.ends.places names.items) }
         ensures rising { IfOk result (λ names. ascending name_below names.items ≡ true) }
@@ -204,7 +203,7 @@ impl<D: Deadlines> Fixes<D> {
     /// The names whose timers have run out, in order of name, to be repaired now: their timers are gone, and they are
     /// held off as where a repair of them was heard. Only want of memory refuses it.
     #[tactic(auto, using(crate::proofs::FixSteps::fix_due_is, crate::proofs::FixSteps::fix_stays, crate::proofs::AskSteps::keeps_self))]
-    pub fn due(&mut self, now: u64, dist: &[u64]) -> Result<Vec<Name>, TimerFault>
+    pub fn due(&mut self, now: u64, dist: &[u64]) -> Result<Vec<Name>, AllocError>
         requires distances { AreDistances dist.now }
         requires now { now ≤ MOMENT }
         ensures fits { IfOk result (λ names. FixRepairs now dist.now names.items self.old self.new) }

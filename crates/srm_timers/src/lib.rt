@@ -13,7 +13,7 @@
 //! ```
 //!
 //! [`Fixes`] answers requests in the same way. All times are microseconds; words are 64 bits each, one for each timer that is
-//! set. **What is refused**: want of memory alone, [`TimerFault::Memory`], before any word is drawn; after `room` for its names a
+//! set. **What is refused**: want of memory alone, `AllocError`, before any word is drawn; after `room` for its names a
 //! call isn't.
 #![tactic(auto)]
 
@@ -21,7 +21,6 @@ mod arm;
 mod asks;
 mod distance;
 mod ends;
-mod fault;
 mod fixes;
 mod limits;
 mod listed;
@@ -33,7 +32,6 @@ mod words;
 
 pub use arm::{Arm, ArmKind, Armed};
 pub use asks::Asks;
-pub use fault::TimerFault;
 pub use fixes::Fixes;
 pub use limits::{EXPONENT, LONGEST_WAIT, TIMER_SETTING};
 pub use listed::Listed;

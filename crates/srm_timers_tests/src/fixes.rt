@@ -4,7 +4,7 @@ ghost use Rattle.srm_timers.specs.Distances.{AreDistances};
 
 use crate::fixtures::{all_at, fix, member, name, near_and_far, no_fixes, words};
 use srm_names::{MOMENT, Name};
-use srm_timers::{Fixes, Listed, Scanned, TimerFault};
+use srm_timers::{Fixes, Listed, Scanned};
 use std::alloc::Global;
 use std::process::Abort;
 
@@ -211,11 +211,4 @@ fn a_caller_sets_timers_in_an_order_of_its_own(rt: HostRuntime) {
     fixes.repaired(held, 100_000, 20);
     check_next(&rt, &fixes, None);
     check_asker(&rt, &fixes, 1);
-}
-
-#[test]
-fn the_fault_says_what_it_is(rt: HostRuntime) {
-    let text = format!(in rt.alloc(); "{}", TimerFault::Memory).expect(&rt, "memory");
-    assert_eq!(rt; text.as_str(), "out of memory");
-    assert_eq!(rt; TimerFault::Memory as u8, 1);
 }

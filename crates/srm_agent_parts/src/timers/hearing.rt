@@ -21,7 +21,7 @@ impl Timers {
         ensures settings { KeepSettings self.old self.new }
         ensures ready { OnOk result (AnswerReady fresh.now self.new.asks) }
     {
-        self.asks.room(fresh).map_err(|_| AllocError)
+        self.asks.room(fresh)
     }
 
     /// A session message was heard, by which these names, which rise, become missing: their request timers are set. Only

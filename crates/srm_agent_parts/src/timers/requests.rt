@@ -60,7 +60,7 @@ impl Timers {
         ensures ready { OnOk result (AnswerReady fresh.now self.new.asks) }
     {
         self.fixes.make_places(asked)?;
-        self.asks.room(fresh).map_err(|_| AllocError)?;
+        self.asks.room(fresh)?;
         Vec::with_capacity(self.alloc, asked.len() + fresh.len())
     }
 
