@@ -19,7 +19,7 @@ use Rattle.srm_entries.specs.Bucket.{Going, GoesRight, entries_of, lets_go, pops
 use Rattle.srm_agent.specs.Fits.{BucketFits}
 use Rattle.srm_agent_parts.specs.Outs.{datagram_of, IsOwn, AreOwn}
 use Rattle.srm_outbox.specs.Answering.{AreAnswers, classed_of}
-use Rattle.srm_outbox.specs.Outbox.{WentContent, HandsIn, Goes, LetsGo, pops_of}
+use Rattle.srm_outbox.specs.Outbox.{WentContent, HandsIn, Goes, LetsGo}
 use Rattle.srm_agent_parts.proofs.Running.{steps_more}
 use Rattle.srm_entries.proofs.Marking.{bucket_calls-snoc, entries-snoc}
 
@@ -32,7 +32,7 @@ datagrams_read : (goes : List (Classed Outgoing)) → datagrams_of (map (read_cl
 datagrams_read [] = refl
 datagrams_read (i ∷ goes) = ap (λ gs. datagram_of i.item.value ∷ gs) (datagrams_read goes)
 
-pops_read : (now : ℕ) (goes : List (Classed Outgoing)) → map (read_call datagram_of) (pops_of now goes) ≡ pops now (map (read_classed datagram_of) goes)
+pops_read : (now : ℕ) (goes : List (Classed Outgoing)) → map (read_call datagram_of) (pops now goes) ≡ pops now (map (read_classed datagram_of) goes)
 pops_read now [] = refl
 pops_read now (i ∷ goes) = ap (λ cs. Popped now (Some (read_classed datagram_of i)) ∷ cs) (pops_read now goes)
 
@@ -55,7 +55,7 @@ bucket_ticks c session past e old handed new showing gs answers went h own spell
   goings = h.goings ++ x ∷ [];
   entries = entries-snoc h.goings x ∙ ap (λ es. es ++ e ∷ []) h.entries;
   goes = steps_more GoesRight h.goings x h.goes right;
-  calls = (h.calls ++ map Handed (map classed_of answers)) ++ pops_of e.moment g.goes;
+  calls = (h.calls ++ map Handed (map classed_of answers)) ++ pops e.moment g.goes;
   read = read;
   fits = g.fits;
 }
@@ -84,10 +84,10 @@ bucket_ticks c session past e old handed new showing gs answers went h own spell
         ∙ ap (λ o. data_item o ++ map (answer_item (shown past)) (answers_in c.me (record { before = past; this = e }))) (sym sends.drawn)
         ∙ ap (λ es. handed_by c.me (record { before = es; this = e })) (sym h.entries)
 
-    read : map (read_call datagram_of) ((h.calls ++ map Handed (map classed_of answers)) ++ pops_of e.moment g.goes) ≡ bucket_calls c.me (h.goings ++ x ∷ [])
+    read : map (read_call datagram_of) ((h.calls ++ map Handed (map classed_of answers)) ++ pops e.moment g.goes) ≡ bucket_calls c.me (h.goings ++ x ∷ [])
     read =
-        map-append (read_call datagram_of) (h.calls ++ map Handed (map classed_of answers)) (pops_of e.moment g.goes)
-        ∙ ap (λ cs. cs ++ map (read_call datagram_of) (pops_of e.moment g.goes)) (map-append (read_call datagram_of) h.calls (map Handed (map classed_of answers)))
+        map-append (read_call datagram_of) (h.calls ++ map Handed (map classed_of answers)) (pops e.moment g.goes)
+        ∙ ap (λ cs. cs ++ map (read_call datagram_of) (pops e.moment g.goes)) (map-append (read_call datagram_of) h.calls (map Handed (map classed_of answers)))
         ∙ ap (λ cs. (map (read_call datagram_of) h.calls ++ map (read_call datagram_of) (map Handed (map classed_of answers))) ++ cs) (pops_read e.moment g.goes)
         ∙ ap (λ cs. (map (read_call datagram_of) h.calls ++ cs) ++ pops e.moment x.goes) (handed_read answers ∙ ap (map Handed) items)
         ∙ ap (λ cs. (cs ++ map Handed (handed_by c.me (record { before = entries_of h.goings; this = e }))) ++ pops e.moment x.goes) h.read

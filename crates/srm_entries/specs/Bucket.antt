@@ -66,7 +66,7 @@ abbrev pub lets_go : Step Going → Bool
 lets_go s = ticked s.this.entry && not (is_gone (state (entries_of s.before)))
 
 -- pops until nothing goes
-abbrev pub pops : ℕ → List (Classed Datagram) → List (Call Datagram)
+abbrev pub pops : {T : Type 0} → ℕ → List (Classed T) → List (Call T)
 pops now goes = map (λ i. Popped now (Some i)) goes ++ Popped now None ∷ []
 
 abbrev pub calls_by : ℕ → Step Going → List (Call Datagram)

@@ -1,9 +1,10 @@
 -- Lines as they are typed, and what is drawn of them.
-use Rattle.std.specs.Prelude.{◌≡◌, ◌≢◌, ℕ, ◌+◌, ◌-◌, ◌^◌, min, nat_lt, List, [], ◌∷◌, ◌++◌, map, length, Option, Some, IfSome, if◌then◌else◌}
+use Rattle.std.specs.Prelude.{◌≡◌, ◌≢◌, ℕ, nat_lt, List, [], ◌∷◌, ◌++◌, map, length, Option, Some, IfSome, if◌then◌else◌}
 use Rattle.srm_names.specs.declared.limits.TheConstants.{BODY}
 use Rattle.srm_pages.specs.Ends.{PenView}
 use Rattle.srm_live.specs.declared.typed.Typed.{Typed}
 use Rattle.srm_live.specs.declared.typed.Typed.TheVariants.{Stroke, TooLong}
+use Rattle.srm_wire.specs.Wires.{one_more}
 use Rattle.srm_member.specs.Lines.{lines_of}
 use Rattle.srm_member.specs.Strokes.{stroke_of, Drew, DrewFront}
 
@@ -31,7 +32,7 @@ typed_of l = if nat_lt BODY (length l.kept) then TooLong l.number else Stroke l.
 
 -- the line behind it, of which nothing is typed
 abbrev pub next_of : LineView → LineView
-next_of l = record { number = min (l.number + 1) (2 ^ 64 - 1); kept = [] }
+next_of l = record { number = one_more l.number; kept = [] }
 
 -- the bodies that are drawn of a line that ended
 abbrev pub bodies_in : Typed → List (List ℕ)

@@ -1,10 +1,11 @@
 -- The parts of a turn.
-use Rattle.std.specs.Prelude.{◌≡◌, ◌⊎◌, ℕ, ◌<◌, ◌≤◌, ◌==◌, ◌+◌, nat_le, Bool, true, false, ◌&&◌, ◌||◌, List, [], ◌∷◌, ◌++◌, map, length, slice_get, Option, Some, None, is_none, option_to_list, is_some, MatchBool, if◌then◌else◌}
+use Rattle.std.specs.Prelude.{◌≡◌, ◌⊎◌, ℕ, ◌<◌, ◌≤◌, ◌==◌, ◌+◌, Bool, true, false, ◌&&◌, ◌||◌, List, [], ◌∷◌, ◌++◌, map, length, slice_get, Option, Some, None, is_none, option_to_list, is_some, MatchBool, if◌then◌else◌}
 use Rattle.std.specs.Bool.{OnTrue, OnFalse}
 use Rattle.std.specs.List.{AllByRecursion, list_any}
 use Rattle.srm_names.specs.declared.limits.TheConstants.{PAGES}
 use Rattle.srm_pages.specs.declared.stroke.Stroke.{Stroke}
 use Rattle.srm_pages.specs.Ends.{FeedView, WellView, credit_of}
+use Rattle.srm_bucket.specs.Admitting.{is_from}
 use Rattle.srm_entries.specs.declared.entry.Entry.{Entry}
 use Rattle.srm_entries.specs.declared.entry.Input.{Input}
 use Rattle.srm_entries.specs.declared.entry.Input.TheVariants.{Gave, AskedLeave, Ticked}
@@ -125,14 +126,9 @@ pub record DrewStrokesCut (now : ℕ) (old new : Journal) (from to : WellView) (
 
 -- LEAVING
 
--- whether a node that may have been asked to leave is to do so by now
-abbrev pub is_due : Option ℕ → ℕ → Bool
-is_due None now = false
-is_due (Some at) now = nat_le at now
-
 -- it leaves where no stroke is left, its pens are done, and it is to by now
 abbrev pub is_to_leave : (none_left pens_done : Bool) → Option ℕ → ℕ → Bool
-is_to_leave none_left pens_done asked now = none_left && (pens_done && is_due asked now)
+is_to_leave none_left pens_done asked now = none_left && (pens_done && is_from asked now)
 
 -- one that left isn't to leave again
 abbrev pub still_asked : Bool → Option ℕ → Option ℕ

@@ -2,9 +2,10 @@
 
 ghost use Rattle.std.specs.Prelude.{◌≡◌, ◌≤◌, true, false, [], Some, None, IfOk, MatchResult};
 ghost use Rattle.srm_names.specs.declared.limits.TheConstants.{MOMENT, PAGES};
+ghost use Rattle.srm_bucket.specs.Admitting.{is_from};
 ghost use Rattle.srm_node.specs.Counting.{counts_of};
 ghost use Rattle.srm_node.specs.Nodes.{Keeps, AreNewFeeds, IsNewJournal, IsNewNode, has_ended, recorded_in};
-ghost use Rattle.srm_node.specs.Parts.{is_due, still_asked};
+ghost use Rattle.srm_node.specs.Parts.{still_asked};
 ghost use Rattle.srm_node.specs.Waits.{WaitsByWords};
 ghost use Rattle.srm_node.specs.Moments.{IsTold, GrowsAtTold};
 ghost use Rattle.srm_node.specs.Turns.{HearsNow, DrawsNow, LeavesNow, TicksNow, GivesNow, HearsCut, DrawsCut, GivesCut, TurnEnds, Paused, RunEnds};
@@ -399,7 +400,7 @@ impl<W: Words + Drop, X: Wire + Drop, C: Clock + Drop, P: Past<Entry> + Drop> No
 }
 
 fn is_due(asked: Option<u64>, now: u64) -> bool
-    ensures { result ≡ is_due asked now }
+    ensures { result ≡ is_from asked now }
 {
     match asked {
         Some(at) => at <= now,

@@ -4,13 +4,14 @@ use Rattle.srm_bucket.specs.Calls.{Classed, Popped}
 use Rattle.srm_agent_parts.specs.declared.out.Outgoing.{Outgoing}
 use Rattle.srm_codec.specs.declared.datagram.Datagram.TheVariants.{Data, Session}
 use Rattle.srm_names.specs.Names.{first_page}
+use Rattle.srm_entries.specs.Bucket.{pops}
 use Rattle.srm_entries.specs.Sample.{a}
 use Rattle.std.proofs.Common.{arith}
 use Rattle.srm_outbox.specs.Answering.{IsAnswerOf}
-use Rattle.srm_outbox.specs.Outbox.{NothingWent, pops_of}
+use Rattle.srm_outbox.specs.Outbox.{NothingWent}
 
 -- a tick pops until nothing comes
-pops_of_two : (i j : Classed Outgoing) → pops_of 7 (i ∷ j ∷ []) ≡ Popped 7 (Some i) ∷ Popped 7 (Some j) ∷ Popped 7 None ∷ []
+pops_of_two : (i j : Classed Outgoing) → pops 7 (i ∷ j ∷ []) ≡ Popped 7 (Some i) ∷ Popped 7 (Some j) ∷ Popped 7 None ∷ []
 pops_of_two i j = refl
 
 nothing_went : NothingWent (record { outs = []; noted = []; room = 3 })

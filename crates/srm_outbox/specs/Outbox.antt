@@ -1,5 +1,5 @@
 -- What handing in and letting go do to the bucket, over whatever calls it fitted, and what went.
-use Rattle.std.specs.Prelude.{◌≡◌, ℕ, ◌+◌, ◌<◌, List, [], ◌∷◌, ◌++◌, map, length, Some, None}
+use Rattle.std.specs.Prelude.{◌≡◌, ℕ, ◌+◌, ◌<◌, List, [], ◌∷◌, ◌++◌, map, length, None}
 use Rattle.std.specs.List.{AllByRecursion}
 use Rattle.srm_codec.specs.declared.datagram.Datagram.{Datagram}
 use Rattle.srm_bucket.specs.Calls.{Classed, Call, Handed, Popped}
@@ -7,6 +7,7 @@ use Rattle.srm_bucket.specs.Content.{Content as BucketContent}
 use Rattle.srm_bucket.specs.Fits.{Fits}
 use Rattle.srm_bucket.specs.Law.{may_go}
 use Rattle.srm_bucket.specs.Waiting.{count_of}
+use Rattle.srm_entries.specs.Bucket.{pops}
 use Rattle.srm_outbox.specs.declared.answers.Answer.{Answer}
 use Rattle.srm_agent_parts.specs.declared.out.Out.{Out}
 use Rattle.srm_agent_parts.specs.declared.out.Outgoing.{Outgoing}
@@ -29,15 +30,11 @@ pub record HandsIn (answers : List Answer) (old new : BucketContent Outgoing) : 
   pub own : (me session : ℕ) → AreOwn me session old.waiting → AllByRecursion (λ a. IsOwn me session a.item.value) answers → AreOwn me session new.waiting
   pub count : count_of new.waiting ≡ count_of old.waiting + length answers
 
--- the pops of a tick in which these items go, and then nothing
-abbrev pub pops_of : ℕ → List (Classed Outgoing) → List (Call Outgoing)
-pops_of now goes = map (λ i. Popped now (Some i)) goes ++ Popped now None ∷ []
-
 -- the calls so far are followed by pops in which these went
 pub record Goes (rate depth now : ℕ) (calls : List (Call Outgoing)) (items : List Outgoing) (new : BucketContent Outgoing) : Type 0 where
   pub goes : List (Classed Outgoing)
   pub items_are : map (λ i. i.item.value) goes ≡ items
-  pub fits : Fits rate depth (calls ++ pops_of now goes) new
+  pub fits : Fits rate depth (calls ++ pops now goes) new
 
 -- pops until nothing goes; there is room for one more
 pub record LetsGo (now : ℕ) (old new : BucketContent Outgoing) (went : WentContent) : Type 0 where

@@ -1,5 +1,6 @@
 -- What contracts see of a wire over UDP.
-use Rattle.std.specs.Prelude.{◌≡◌, ℕ, ◌+◌, ◌-◌, ◌^◌, min, Result, Ok, Err}
+use Rattle.std.specs.Prelude.{◌≡◌, ℕ, Result, Ok, Err}
+use Rattle.srm_wire.specs.Wires.{one_more}
 
 -- how many members have an address, and how many calls failed
 pub record UdpView : Type 0 where
@@ -12,7 +13,7 @@ new_wire members = record { members = members; failures = 0 }
 
 -- one more failure, up to the greatest number of 64 bits
 abbrev pub one_more_failure : UdpView → UdpView
-one_more_failure w = record w { failures = min (w.failures + 1) (2 ^ 64 - 1) }
+one_more_failure w = record w { failures = one_more w.failures }
 
 -- an Err is one more failure, and an Ok none
 abbrev pub CountsEach : {T E : Type 0} → Result T E → UdpView → UdpView → Type 0

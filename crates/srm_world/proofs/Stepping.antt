@@ -27,7 +27,7 @@ use Rattle.srm_world.specs.declared.event.Event.{Event}
 use Rattle.srm_world.specs.declared.event.Event.TheVariants.{Deliver}
 use Rattle.srm_world.specs.declared.start.Start.{Start}
 use Rattle.srm_world.specs.Traces.{Trace, of_member, IsRoster, IsAtPlace, IsRunOfMember, IsRunOf, IsHonest}
-use Rattle.srm_world.specs.Events.{member_of, moment_in, moment_of, input_of, in_slot, comes, asked, made_at, last_of_member, FollowsOne, Follows}
+use Rattle.srm_world.specs.Events.{member_of, moment_in, input_of, in_slot, comes, asked, made_at, last_of_member, FollowsOne, Follows}
 use Rattle.srm_world.specs.Claims.{IsLawful}
 use Rattle.srm_world.specs.Words.{Played, AreByOwnWords, PlaysByWords}
 use Rattle.srm_world.specs.Participants.{Content, Fits, Adds, GoesOn, Stays, HearsBytes, SendsOuts, AreOutsOf}
@@ -105,10 +105,6 @@ heard_by Done input gs h = h
 heard_by (Ignored cause) input gs h = tt
 heard_by (Refused fault) input gs h = tt
 
-moments : (now : Option ℕ) (last : ℕ) → moment_that_counts now last ≡ moment_of last now
-moments None last = refl
-moments (Some now) last = refl
-
 -- what a call of the member at a place makes of a world
 record Called {W : Type 0} (ps : List (Content W)) (t : Trace) (event : Event) (i : ℕ) (q : Content W) (e : Entry) : Type 0 where
   pub start : Start
@@ -141,7 +137,7 @@ enters draw ps sents more t event i d q input e w lt named goes c asks hears sen
   is_entry = record {
     member = c.mine ∙ named;
     input_is = refl;
-    moment = c.adds.moment ∙ moments (moment_in event) (last_moment c.start.made (of_member i t.entries)) ∙ ap (λ n. moment_of n (moment_in event)) last;
+    moment = c.adds.moment ∙ ap (moment_that_counts (moment_in event)) last;
   };
   inside = omega (arith, lt, w.count, c.mine);
   hears = heard_by e.verdict e.input (sent t.entries) (subst (λ x. IfSome (heard_in (Some x)) (Contains (sent t.entries))) (sym goes.input_is) hears);

@@ -1,11 +1,12 @@
 -- What a list of events does to a trace.
-use Rattle.std.specs.Prelude.{◌≡◌, ℕ, ◌≤◌, max, nat_lt, Bool, true, false, List, [], ◌∷◌, ◌++◌, length, Option, Some, None, option_map, unwrap_or, slice_get, if◌then◌else◌, MatchOption, IfSome}
+use Rattle.std.specs.Prelude.{◌≡◌, ℕ, ◌≤◌, nat_lt, Bool, true, false, List, [], ◌∷◌, ◌++◌, length, Option, Some, None, option_map, unwrap_or, slice_get, if◌then◌else◌, MatchOption, IfSome}
 use Rattle.srm_names.specs.declared.limits.TheConstants.{PAGES, MOMENT}
 use Rattle.srm_codec.specs.declared.datagram.Datagram.{Datagram}
 use Rattle.srm_entries.specs.declared.entry.Entry.{Entry}
 use Rattle.srm_entries.specs.declared.entry.Input.{Input}
 use Rattle.srm_entries.specs.declared.entry.Input.TheVariants.{Drew, Heard, Noise, Ticked, Showed, AskedLeave, Gave, Took}
 use Rattle.srm_entries.specs.Entries.{sent, state, is_gone, last_moment}
+use Rattle.srm_agent.specs.Noting.{moment_that_counts}
 use Rattle.srm_world.specs.declared.event.Event.{Event}
 use Rattle.srm_world.specs.declared.event.Event.TheVariants.{Draw, Deliver, Tick, Show, Leave, Give, Take}
 use Rattle.srm_world.specs.declared.start.Start.{Start}
@@ -59,11 +60,6 @@ asked starts es event = if nat_lt (member_of event) (length starts) then input_o
 abbrev pub made_at : List Start → ℕ → ℕ
 made_at starts m = unwrap_or (option_map (λ (a : Start). a.made) (slice_get starts m)) 0
 
--- the moment that counts
-abbrev pub moment_of : ℕ → Option ℕ → ℕ
-moment_of last None = last
-moment_of last (Some now) = max now last
-
 -- the last moment of a member
 abbrev pub last_of_member : List Start → List Entry → ℕ → ℕ
 last_of_member starts es m = last_moment (made_at starts m) (of_member m es)
@@ -72,7 +68,7 @@ last_of_member starts es m = last_moment (made_at starts m) (of_member m es)
 pub record IsEntryOf (starts : List Start) (es : List Entry) (event : Event) (input : Input) (e : Entry) : Type 0 where
   pub member : e.member ≡ member_of event
   pub input_is : e.input ≡ input
-  pub moment : e.moment ≡ moment_of (last_of_member starts es (member_of event)) (moment_in event)
+  pub moment : e.moment ≡ moment_that_counts (moment_in event) (last_of_member starts es (member_of event))
 
 -- the new entries are the old ones and one of the event, or just the old ones where it is skipped
 abbrev pub FollowsOne : List Start → List Entry → Event → List Entry → Type 0

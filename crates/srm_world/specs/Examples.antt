@@ -17,12 +17,13 @@ use Rattle.srm_entries.specs.Giving.{given}
 use Rattle.srm_entries.specs.Sample.{in_roster, zeros, a, b, c, draws, hears, ticks, gives, takes, ask_arm}
 use Rattle.srm_entries.specs.FirstScript as first
 use Rattle.srm_entries.specs.SecondScript as second
+use Rattle.srm_agent.specs.Noting.{moment_that_counts}
 use Rattle.srm_world.specs.declared.event.Event.{Event}
 use Rattle.srm_world.specs.declared.event.Event.TheVariants as events
 use Rattle.srm_world.specs.declared.start.Start.{Start}
 use Rattle.srm_world.specs.Traces.{of_member, drawn_by, taken_by, is_take, IsHonest, IsUntaken}
 use Rattle.srm_world.specs.Words.{Recorded, Played, AreByWords, AreByOwnWords, RecordsByWords, PlaysByWords}
-use Rattle.srm_world.specs.Events.{member_of, moment_in, moment_of, asked, last_of_member, IsEntryOf, Follows}
+use Rattle.srm_world.specs.Events.{member_of, moment_in, asked, last_of_member, IsEntryOf, Follows}
 
 abbrev start : ℕ → ℕ → Start
 start members me = record { config = in_roster me members 4204; made = 0 }
@@ -35,7 +36,7 @@ three = map (start 3) (0 ∷ 1 ∷ 2 ∷ [])
 
 -- the entry that an event leaves, by its member, its input and its moment
 is : {starts : List Start} {es : List Entry} {event : Event} {input : Input} {e : Entry} → e.member ≡ member_of event → e.input ≡ input
-    → e.moment ≡ moment_of (last_of_member starts es (member_of event)) (moment_in event) → IsEntryOf starts es event input e
+    → e.moment ≡ moment_that_counts (moment_in event) (last_of_member starts es (member_of event)) → IsEntryOf starts es event input e
 is p q r = record { member = p; input_is = q; moment = r }
 
 -- the first script: late, out of order and twice
@@ -286,9 +287,6 @@ noise = refl
 -- a moment before the last one counts as the last
 moments : map (λ m. last_of_member three second_trace m) (0 ∷ 1 ∷ 2 ∷ []) ≡ 21 ∷ 200100 ∷ 100100 ∷ []
 moments = refl
-
-moments_that_count : map (moment_of 21) (Some 22 ∷ Some 5 ∷ None ∷ []) ≡ 22 ∷ 21 ∷ 21 ∷ []
-moments_that_count = refl
 
 -- words: a timer's wait is by the next word of its member's source
 
