@@ -127,14 +127,10 @@ fn of_length(length: usize) -> u64 {
 }
 
 fn of_cause(cause: Cause) -> u64 {
+    let number = u64::from(cause.number());
     match cause {
-        Cause::Own => 1,
-        Cause::Gone => 2,
-        Cause::Conflict => 3,
-        Cause::PageLimit => 4,
-        Cause::BeyondFinal => 5,
-        Cause::Decode(fault) => 6 + 256 * u64::from(fault as u8),
-        Cause::Stranger => 7,
+        Cause::Decode(fault) => number + 256 * u64::from(fault as u8),
+        _ => number,
     }
 }
 

@@ -1,5 +1,8 @@
 //! Why a datagram was not taken.
 
+ghost use Rattle.std.specs.Prelude.{◌≡◌};
+ghost use Rattle.srm_entries.specs.Causes.{cause_number};
+
 use srm_codec::DecodeFault;
 
 /// Why a datagram was not taken.
@@ -20,6 +23,23 @@ pub enum Cause {
     Decode(DecodeFault),
     /// Its sender, or a source that it names, isn't in the roster.
     Stranger,
+}
+
+impl Cause {
+    /// The number that stands for it where causes are printed or counted, from 1.
+    pub fn number(&self) -> u8
+        ensures { result ≡ cause_number self.now }
+    {
+        match self {
+            Cause::Own => 1,
+            Cause::Gone => 2,
+            Cause::Conflict => 3,
+            Cause::PageLimit => 4,
+            Cause::BeyondFinal => 5,
+            Cause::Decode(_) => 6,
+            Cause::Stranger => 7,
+        }
+    }
 }
 
 /// What became of a datagram.

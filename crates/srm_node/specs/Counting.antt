@@ -1,23 +1,12 @@
 -- What came to nothing, counted.
 use Rattle.std.specs.Prelude.{ℕ, min, ◌-◌, ◌^◌, ◌==◌, Bool, true, false, ◌&&◌, List, [], ◌∷◌, count_by}
-use Rattle.srm_entries.specs.declared.cause.Cause.{Cause}
-use Rattle.srm_entries.specs.declared.cause.Cause.TheVariants.{Own, Gone, Conflict, PageLimit, BeyondFinal, Decode, Stranger}
 use Rattle.srm_entries.specs.declared.entry.Entry.{Entry}
 use Rattle.srm_entries.specs.declared.entry.Input.{Input}
 use Rattle.srm_entries.specs.declared.entry.Input.TheVariants.{Drew, Noise}
 use Rattle.srm_entries.specs.declared.entry.Verdict.{Verdict}
 use Rattle.srm_entries.specs.declared.entry.Verdict.TheVariants.{Ignored, Refused}
+use Rattle.srm_entries.specs.Causes.{cause_number}
 use Rattle.srm_node.specs.declared.counting.Counts.{Counts}
-
--- the causes by number, from 1
-abbrev pub cause_number : Cause → ℕ
-cause_number Own = 1
-cause_number Gone = 2
-cause_number Conflict = 3
-cause_number PageLimit = 4
-cause_number BeyondFinal = 5
-cause_number (Decode fault) = 6
-cause_number Stranger = 7
 
 abbrev pub is_noise : Input → Bool
 is_noise Noise = true

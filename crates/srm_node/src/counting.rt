@@ -1,9 +1,9 @@
 //! What came to nothing, counted.
 
 ghost use Rattle.std.specs.Prelude.{◌≡◌, ◌+◌, ◌-◌, ◌^◌, min, if◌then◌else◌};
-ghost use Rattle.srm_node.specs.Counting.{cause_number, came_as_noise, was_dropped, was_ignored, count_up_to, counts_of};
+ghost use Rattle.srm_node.specs.Counting.{came_as_noise, was_dropped, was_ignored, count_up_to, counts_of};
 
-use srm_agent::{Cause, Entry, Input, Verdict};
+use srm_agent::{Entry, Input, Verdict};
 
 /// How much of what a member was given came to nothing. Each number stays at the greatest of 64 bits when it gets there.
 #[derive(Clone, Copy, Debug, PartialEq, Eq)]
@@ -93,21 +93,7 @@ fn is_ignored(entry: &Entry, number: u8) -> bool
     ensures { result ≡ was_ignored number entry.now }
 {
     match entry.verdict {
-        Verdict::Ignored(cause) => number_of(cause) == number,
+        Verdict::Ignored(cause) => cause.number() == number,
         _ => false,
-    }
-}
-
-fn number_of(cause: Cause) -> u8
-    ensures { result ≡ cause_number cause }
-{
-    match cause {
-        Cause::Own => 1,
-        Cause::Gone => 2,
-        Cause::Conflict => 3,
-        Cause::PageLimit => 4,
-        Cause::BeyondFinal => 5,
-        Cause::Decode(_) => 6,
-        Cause::Stranger => 7,
     }
 }

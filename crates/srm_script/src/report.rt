@@ -7,7 +7,7 @@ mod shown;
 
 pub use shown::ShownMessage;
 use shown::{ShownAnswer, ShownArm, ShownName, ShownPage};
-use srm_agent::{AgentState, Arm, Cause, Effects, Entry, Input, Verdict};
+use srm_agent::{AgentState, Arm, Effects, Entry, Input, Verdict};
 use srm_codec::{Datagram, length};
 use srm_names::Name;
 use std::io;
@@ -35,11 +35,7 @@ impl Report {
         let member = entry.member.number();
         match entry.verdict {
             Verdict::Done => self.print_done(out, member, &entry.input, &entry.effects),
-            Verdict::Ignored(cause) => writeln!(
-                out,
-                "heard {member} ignored {}",
-                number_of_cause(cause)
-            ),
+            Verdict::Ignored(cause) => writeln!(out, "heard {member} ignored {}", cause.number()),
             Verdict::Refused(fault) => writeln!(out, "refused {member} {}", fault as u8),
         }
     }
@@ -152,18 +148,5 @@ fn kind_of(datagram: &Datagram) -> &'static str {
         Datagram::Request { .. } => "request",
         Datagram::Repair { .. } => "repair",
         Datagram::Session { .. } => "session",
-    }
-}
-
-/// The number that stands for a cause in a printed line (`docs/SCRIPTS.md`).
-fn number_of_cause(cause: Cause) -> u8 {
-    match cause {
-        Cause::Own => 1,
-        Cause::Gone => 2,
-        Cause::Conflict => 3,
-        Cause::PageLimit => 4,
-        Cause::BeyondFinal => 5,
-        Cause::Decode(_) => 6,
-        Cause::Stranger => 7,
     }
 }
