@@ -3,6 +3,7 @@ use Rattle.std.specs.Prelude.{◌≡◌, ℕ, ◌+◌, ◌≤◌, min, max, Bool
 use Rattle.srm_bucket.specs.declared.limits.TheConstants.{GREATEST_LENGTH}
 use Rattle.srm_bucket.specs.declared.class.Class.TheVariants.{New}
 use Rattle.srm_bucket.specs.Admitting.{admits, is_from}
+use Rattle.srm_codec.specs.declared.format.TheConstants.{HEAD_BYTES, DRAWOP_BYTES}
 use Rattle.srm_entries.specs.Configs.{Config}
 use Rattle.srm_entries.specs.declared.entry.Entry.{Entry}
 use Rattle.srm_entries.specs.Entries.{last_moment}
@@ -10,7 +11,7 @@ use Rattle.srm_entries.specs.Bucket.{Going, BucketRight, entries_of, bucket_call
 
 -- what the datagram of a draw is charged, by the length of its body; a body that is too long counts as the longest
 abbrev pub draw_length : ℕ → ℕ
-draw_length body = min GREATEST_LENGTH (27 + body)
+draw_length body = min GREATEST_LENGTH (HEAD_BYTES + DRAWOP_BYTES + body)
 
 -- Whether a draw of a body of so many bytes is admitted at a moment: nothing waits of answers for the page shown and of new data, or
 -- the level covers all of these and the draw. A moment below the last one counts as the last.

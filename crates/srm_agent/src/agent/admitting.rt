@@ -6,11 +6,9 @@ ghost use Rattle.srm_agent.specs.Admitting.{DrawAdmitted, DrawAdmittedFrom};
 
 use super::Agent;
 use srm_bucket::Class;
+use srm_codec::{DRAWOP_BYTES, HEAD_BYTES};
 use srm_names::BODY;
 use srm_timers::Words;
-
-/// The bytes of a datagram with new data, beside the body.
-const DATA_HEAD: usize = 27;
 
 impl<W: Words + Drop> Agent<W> {
     /// Whether the rate would let a drawop with a body of so many bytes go at once, if it were drawn at this moment, in
@@ -42,5 +40,5 @@ impl<W: Words + Drop> Agent<W> {
 fn draw_length(body: usize) -> u32
     ensures { result ≡ draw_length body }
 {
-    (DATA_HEAD + body.min(usize::from(BODY))) as u32
+    (HEAD_BYTES + DRAWOP_BYTES + body.min(usize::from(BODY))) as u32
 }

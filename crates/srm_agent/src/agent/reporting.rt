@@ -16,14 +16,14 @@ ghost use Rattle.srm_entries.specs.Verdicts.{stream_on};
 
 use super::Agent;
 use srm_agent_parts::{Outgoing, member, page_in_range, stream_in_range};
-use srm_codec::{Datagram, length};
+use srm_codec::{Datagram, ECHO_BYTES, HEAD_BYTES, NAME_BYTES, REPORT_BYTES, length};
 use srm_entries::{SECOND, SESSION_SHARE, SHORTEST_PAUSE};
 use srm_names::{Echo, Items, Member, Name, Page, Stream};
 use srm_timers::Words;
 use std::alloc::{AllocError, Global};
 
 /// No datagram has more bytes: 255 rows and 255 echoes.
-const LONGEST_REPORT: usize = 6_398;
+const LONGEST_REPORT: usize = HEAD_BYTES + REPORT_BYTES + 255 * (NAME_BYTES + ECHO_BYTES);
 
 /// No pause is longer, in microseconds: that of 32 members at one byte a second.
 pub const LONGEST_PAUSE: u64 = 4_094_720_000_000;
