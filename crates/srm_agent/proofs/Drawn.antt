@@ -54,7 +54,8 @@ use Rattle.srm_agent_parts.specs.TimersKept.{TimersContent, TimersFit, shown_if}
 use Rattle.srm_agent.specs.Contents.{Content}
 use Rattle.srm_agent.specs.Fits.{Fits, EachProgressFits, BucketFits}
 use Rattle.srm_agent_parts.specs.Outs.{datagram_of, IsOwn}
-use Rattle.srm_agent.specs.Noting.{HasEntry, IsAllowed, IsDrawnName, Enters, Stays, still_entry}
+use Rattle.srm_entries.specs.Still.{still_entry}
+use Rattle.srm_agent.specs.Noting.{HasEntry, IsAllowed, IsDrawnName, Enters, Stays}
 use Rattle.srm_agent.specs.declared.agent.drafting.Draft.{Draft}
 use Rattle.srm_agent.specs.Drawing.{refusals, name_after, drawn_entry, IsDraftOf}
 use Rattle.srm_agent_parts.specs.Growth.{HoldsToo}

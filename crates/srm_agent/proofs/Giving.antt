@@ -18,7 +18,8 @@ use Rattle.srm_entries.specs.Giving.{given, given_in, GiveRight}
 use Rattle.srm_agent_parts.specs.Progress.{ProgressContent, ProgressFits}
 use Rattle.srm_agent.specs.Contents.{Content}
 use Rattle.srm_agent.specs.Fits.{Fits, EachProgressFits}
-use Rattle.srm_agent.specs.Noting.{Enters, HasEntry, gave_by, still_entry}
+use Rattle.srm_entries.specs.Still.{still_entry}
+use Rattle.srm_agent.specs.Noting.{Enters, HasEntry, gave_by}
 use Rattle.srm_entries.proofs.Feeding.{feeds_right, fed_gives, given-snoc}
 use Rattle.srm_agent_parts.proofs.Running.{slots-same}
 use Rattle.srm_agent.proofs.Still.{MayFollow, still_fits, same_progress}

@@ -17,7 +17,7 @@ use Rattle.srm_entries.specs.Runs.{EntryRight, MomentRight, drawop_due, state_du
 use Rattle.srm_agent_parts.specs.Progress.{ProgressContent, ProgressFits}
 use Rattle.srm_agent.specs.Contents.{Content}
 use Rattle.srm_agent.specs.Fits.{Fits, EachProgressFits}
-use Rattle.srm_agent.specs.Noting.{still_entry}
+use Rattle.srm_entries.specs.Still.{still_entry}
 use Rattle.srm_entries.proofs.Feeding.{given-snoc}
 use Rattle.srm_entries.proofs.Showing.{state-snoc}
 use Rattle.srm_agent_parts.proofs.Running.{steps_more, last_moment-snoc, shown-page-snoc}

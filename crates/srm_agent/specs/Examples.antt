@@ -18,7 +18,8 @@ use Rattle.srm_entries.specs.declared.entry.Input.TheVariants.{Gave}
 use Rattle.srm_entries.specs.declared.entry.Verdict.TheVariants.{Done, Ignored, Refused}
 use Rattle.srm_entries.specs.Sample.{zeros, a, c, draws, hears, gives, ask_arm}
 use Rattle.srm_agent.specs.declared.heard.Heard.{Heard}
-use Rattle.srm_agent.specs.Noting.{still_entry, moment_that_counts, AnswersAs, IsOutcome, AnswersHeard, IsDrawnName}
+use Rattle.srm_entries.specs.Still.{still_entry}
+use Rattle.srm_agent.specs.Noting.{moment_that_counts, AnswersAs, IsOutcome, AnswersHeard, IsDrawnName}
 use Rattle.srm_agent.specs.Heeding.{verdict_by, entry_with}
 use Rattle.srm_agent.specs.Waking.{sooner_of}
 

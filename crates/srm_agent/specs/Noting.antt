@@ -14,13 +14,13 @@ use Rattle.srm_agent.specs.declared.ticked.Ticked.{Ticked}
 use Rattle.srm_agent_parts.specs.declared.out.Out.{Out}
 use Rattle.srm_entries.specs.declared.fault.AgentFault.{AgentFault}
 use Rattle.srm_entries.specs.declared.fault.AgentFault.TheVariants.{Memory}
-use Rattle.srm_entries.specs.declared.state.AgentState.{AgentState}
 use Rattle.srm_entries.specs.declared.entry.Entry.{Entry}
 use Rattle.srm_entries.specs.declared.entry.Input.{Input}
 use Rattle.srm_entries.specs.declared.entry.Input.TheVariants.{Gave}
 use Rattle.srm_entries.specs.declared.entry.Verdict.{Verdict}
 use Rattle.srm_entries.specs.declared.entry.Verdict.TheVariants.{Done, Ignored, Refused}
 use Rattle.srm_entries.specs.Configs.{Config}
+use Rattle.srm_entries.specs.Still.{still_entry}
 use Rattle.srm_entries.specs.Entries.{is_gone}
 use Rattle.srm_entries.specs.Verdicts.{verdict_of}
 use Rattle.srm_agent.specs.Contents.{Content}
@@ -28,16 +28,6 @@ use Rattle.srm_agent.specs.Fits.{Fits}
 use Rattle.srm_entries.specs.Timers.{low_of, high_of}
 use Rattle.srm_entries.specs.Hearing.{bytes_heard}
 use Rattle.srm_agent_parts.specs.Outs.{IsOut}
-
--- an entry without effects, but perhaps a message
-abbrev pub still_entry : ℕ → ℕ → Input → Verdict → Option PageMsg → AgentState → Entry
-still_entry me moment input verdict message after = record {
-  member = me;
-  moment = moment;
-  input = input;
-  verdict = verdict;
-  effects = record { drawn = None; arms = []; asks = []; fixes = []; outs = []; message = message; state = after };
-}
 
 -- the verdict on a call, by what it answers
 abbrev pub verdict_answering : {A : Type 0} → Result A AgentFault → Verdict

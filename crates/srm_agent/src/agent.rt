@@ -7,7 +7,8 @@ ghost use Rattle.srm_entries.specs.declared.entry.Entry.{Entry as AnEntry};
 ghost use Rattle.srm_entries.specs.Entries.{is_gone, state};
 ghost use Rattle.srm_agent.specs.Fits.{Fits, AreNewProgress};
 ghost use Rattle.srm_entries.specs.Runs.{IsMemberRun};
-ghost use Rattle.srm_agent.specs.Noting.{Does, still_entry, verdict_answering};
+ghost use Rattle.srm_entries.specs.Still.{still_entry};
+ghost use Rattle.srm_agent.specs.Noting.{Does, verdict_answering};
 
 mod admitting;
 mod drafting;
@@ -33,8 +34,8 @@ use crate::noted::Noted;
 use srm_agent_parts::{Outgoing, PageTable, Progress, Timers};
 use srm_bucket::Bucket;
 use srm_distance::Distances;
-use srm_entries::{AgentFault, AgentState, Config, Effects, Entry, Input, SHORTEST_PAUSE, Verdict};
-use srm_names::{Items, PAGES, Page, PageMsg};
+use srm_entries::{AgentFault, AgentState, Config, Entry, Input, SHORTEST_PAUSE, Verdict};
+use srm_names::{PAGES, Page, PageMsg};
 use srm_store::Store;
 use srm_timers::Words;
 use std::alloc::{AllocError, Global};
@@ -184,21 +185,8 @@ impl<W: Words + Drop> Agent<W> {
     fn entry(&self, moment: u64, input: Input, verdict: Verdict, message: Option<PageMsg>) -> Entry
         ensures { result ≡ still_entry self.now.config.me moment input verdict message self.now.state }
     {
-        Entry {
-            member: self.config.me(),
-            moment,
-            input,
-            verdict,
-            effects: Effects {
-                drawn: None,
-                arms: Items::new(Vec::new(self.alloc)),
-                asks: Items::new(Vec::new(self.alloc)),
-                fixes: Items::new(Vec::new(self.alloc)),
-                outs: Items::new(Vec::new(self.alloc)),
-                message,
-                state: self.state,
-            },
-        }
+        let (me, state) = (self.config.me(), self.state);
+        Entry::still(self.alloc, me, moment, input, verdict, message, state)
     }
 }
 

@@ -1,5 +1,6 @@
 pub mod Configs
 pub mod Entries
+pub mod Still
 pub mod Distances
 pub mod Timers
 pub mod Verdicts

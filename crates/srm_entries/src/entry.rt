@@ -1,5 +1,8 @@
 //! What one call of an agent was given, and what it did.
 
+ghost use Rattle.std.specs.Prelude.{◌≡◌};
+ghost use Rattle.srm_entries.specs.Still.{still_entry};
+
 use crate::cause::Cause;
 use crate::fault::AgentFault;
 use crate::state::AgentState;
@@ -7,6 +10,7 @@ use bytes::Bytes;
 use srm_codec::Datagram;
 use srm_names::{Drawop, Items, Member, Name, Page, PageMsg};
 use srm_timers::Arm;
+use std::alloc::Global;
 
 /// What a call was given.
 #[derive(Debug, Drop)]
@@ -63,4 +67,35 @@ pub struct Entry {
     pub input: Input,
     pub verdict: Verdict,
     pub effects: Effects,
+}
+
+impl Entry {
+    /// An entry without effects, but perhaps a message. It takes no memory.
+    pub fn still(
+        alloc: Global,
+        member: Member,
+        moment: u64,
+        input: Input,
+        verdict: Verdict,
+        message: Option<PageMsg>,
+        state: AgentState,
+    ) -> Entry
+        ensures { result ≡ still_entry member moment input verdict message state }
+    {
+        Entry {
+            member,
+            moment,
+            input,
+            verdict,
+            effects: Effects {
+                drawn: None,
+                arms: Items::new(Vec::new(alloc)),
+                asks: Items::new(Vec::new(alloc)),
+                fixes: Items::new(Vec::new(alloc)),
+                outs: Items::new(Vec::new(alloc)),
+                message,
+                state,
+            },
+        }
+    }
 }

@@ -33,7 +33,8 @@ use Rattle.srm_entries.specs.Verdicts.{VerdictRight}
 use Rattle.srm_entries.specs.Runs.{EntryRight}
 use Rattle.srm_agent.specs.Fits as agents_fit
 use Rattle.srm_agent.specs.Noting as noting
-use Rattle.srm_agent.specs.Noting.{Enters, ReadsAs, AnswersAs, IsTicked, still_entry, moment_that_counts}
+use Rattle.srm_entries.specs.Still.{still_entry}
+use Rattle.srm_agent.specs.Noting.{Enters, ReadsAs, AnswersAs, IsTicked, moment_that_counts}
 use Rattle.srm_agent_parts.proofs.Running.{last_moment-snoc, slots-same}
 use Rattle.srm_agent.proofs.Still.{still_fits, same_progress}
 use Rattle.srm_entries.proofs.Showing.{state-snoc}

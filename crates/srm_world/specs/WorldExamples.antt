@@ -13,7 +13,7 @@ use Rattle.srm_codec.specs.declared.fault.DecodeFault.TheVariants.{Short, Magic}
 use Rattle.srm_codec.specs.Judging.{judge, magic_at, front_at}
 use Rattle.srm_entries.specs.declared.state.AgentState.TheVariants.{Active}
 use Rattle.srm_entries.specs.declared.state.AgentState.TheVariants as states
-use Rattle.srm_agent.specs.Noting.{still_entry}
+use Rattle.srm_entries.specs.Still.{still_entry}
 use Rattle.srm_entries.specs.Sample.{in_roster}
 use Rattle.srm_world.specs.declared.start.Start.{Start}
 use Rattle.srm_world.specs.Traces.{Journal, started}

@@ -3,12 +3,12 @@
 ghost use Rattle.std.specs.Prelude.{◌≡◌, ◌<◌, None, IfOk, OnErr};
 ghost use Rattle.srm_names.specs.declared.limits.TheConstants.{PAGES};
 ghost use Rattle.srm_entries.specs.declared.entry.Verdict.TheVariants.{Done};
-ghost use Rattle.srm_agent.specs.Noting.{still_entry};
+ghost use Rattle.srm_entries.specs.Still.{still_entry};
 ghost use Rattle.srm_world.specs.Participants.{GoesOn, Stays};
 
 use super::Participant;
-use srm_agent::{AgentFault, Effects, Entry, Input, Noted, Verdict};
-use srm_names::{Items, PageMsg};
+use srm_agent::{AgentFault, Entry, Input, Noted, Verdict};
+use srm_names::PageMsg;
 use srm_timers::Words;
 use std::alloc::AllocError;
 
@@ -39,21 +39,15 @@ impl<W: Words + Drop> Participant<W> {
     fn took(&self, slot: u8, message: Option<PageMsg>) -> Entry
         ensures { result ≡ still_entry self.now.config.me self.now.last (Input.Took slot) Done message self.now.state }
     {
-        Entry {
-            member: self.config.me(),
-            moment: self.last,
-            input: Input::Took(slot),
-            verdict: Verdict::Done,
-            effects: Effects {
-                drawn: None,
-                arms: Items::new(Vec::new(self.alloc)),
-                asks: Items::new(Vec::new(self.alloc)),
-                fixes: Items::new(Vec::new(self.alloc)),
-                outs: Items::new(Vec::new(self.alloc)),
-                message,
-                state: self.state,
-            },
-        }
+        Entry::still(
+            self.alloc,
+            self.config.me(),
+            self.last,
+            Input::Took(slot),
+            Verdict::Done,
+            message,
+            self.state,
+        )
     }
 }
 

@@ -5,7 +5,7 @@ use Rattle.srm_entries.specs.declared.entry.Verdict.TheVariants.{Refused}
 use Rattle.srm_entries.specs.declared.fault.AgentFault.TheVariants as faults
 use Rattle.srm_entries.specs.Verdicts.{first_cause}
 use Rattle.srm_agent.specs.Drawing.{verdict_by, refusals}
-use Rattle.srm_agent.specs.Noting.{still_entry}
+use Rattle.srm_entries.specs.Still.{still_entry}
 use Rattle.srm_agent.proofs.Drawn.{draw_refused, draw_full, draw_unslotted, roomy_stays, own_draft, draw_done, draw_allowed, draw_refuses, draw_names}
 use Rattle.srm_agent.proofs.agent.Agent.draw.Goals as goal
 

@@ -2,7 +2,7 @@ use Rattle.std.proofs.Common.{◌∙◌, ap}
 use Rattle.srm_entries.specs.declared.entry.Input.TheVariants.{Gave}
 use Rattle.srm_entries.specs.declared.entry.Verdict.TheVariants.{Done}
 use Rattle.srm_agent.specs.Contents.{Content}
-use Rattle.srm_agent.specs.Noting.{still_entry}
+use Rattle.srm_entries.specs.Still.{still_entry}
 use Rattle.srm_agent.proofs.Giving.{give_notes}
 use Rattle.srm_agent.proofs.agent.Agent.give_noted.Goals as goal
 

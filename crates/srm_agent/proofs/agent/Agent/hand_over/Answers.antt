@@ -1,6 +1,7 @@
 use Rattle.std.proofs.Common.{subst, ap}
 use Rattle.srm_agent.specs.Fits.{Fits}
-use Rattle.srm_agent.specs.Noting.{gave_by, still_entry}
+use Rattle.srm_entries.specs.Still.{still_entry}
+use Rattle.srm_agent.specs.Noting.{gave_by}
 use Rattle.srm_entries.specs.declared.entry.Input.TheVariants.{Gave}
 use Rattle.srm_entries.specs.declared.entry.Verdict.TheVariants.{Done}
 use Rattle.srm_entries.specs.Giving.{given, GiveRight}
