@@ -15,8 +15,8 @@ use Rattle.srm_agent.specs.declared.agent.due.Report.{Report}
 use Rattle.srm_outbox.specs.declared.answers.Answer.{Answer}
 use Rattle.srm_entries.specs.declared.entry.Entry.{Entry}
 use Rattle.srm_entries.specs.declared.entry.Input.TheVariants.{Ticked}
-use Rattle.srm_agent_parts.specs.declared.out.Out.{Out}
-use Rattle.srm_agent_parts.specs.declared.out.Outgoing.{Outgoing}
+use Rattle.srm_outbox.specs.declared.out.Out.{Out}
+use Rattle.srm_outbox.specs.declared.out.Outgoing.{Outgoing}
 use Rattle.srm_entries.specs.declared.state.AgentState.{AgentState}
 use Rattle.srm_entries.specs.declared.state.AgentState.TheVariants.{Active, Leaving, Gone}
 use Rattle.srm_entries.specs.Configs.{Config}
@@ -27,7 +27,7 @@ use Rattle.srm_entries.specs.Sessions.{is_session, is_farewell, session_pause, I
 use Rattle.srm_entries.specs.Runs.{state_due}
 use Rattle.srm_agent.specs.Fits.{Fits, BucketFits}
 use Rattle.srm_agent_parts.specs.TimersKept.{TimersFit}
-use Rattle.srm_agent_parts.specs.Outs.{IsOut, IsOutgoing, IsOwn, AreOwn}
+use Rattle.srm_outbox.specs.Outs.{IsOut, IsOutgoing, IsOwn, AreOwn}
 use Rattle.srm_agent_parts.specs.TimerCalls.{TicksWith, TimersAdd, TimersStay}
 use Rattle.srm_outbox.specs.Answering.{AreAnswers}
 use Rattle.srm_outbox.specs.Outbox.{WentContent}

@@ -13,7 +13,7 @@ use Rattle.srm_entries.specs.Configs.{Config}
 use Rattle.srm_entries.specs.Entries.{last_moment}
 use Rattle.srm_entries.specs.Bucket.{entries_of, bucket_calls}
 use Rattle.srm_entries.specs.Admitting.{draw_length, admits_draw, AdmitsDraw, AdmitsDrawFrom}
-use Rattle.srm_agent_parts.specs.Outs.{datagram_of}
+use Rattle.srm_outbox.specs.Outs.{datagram_of}
 use Rattle.srm_agent.specs.Contents.{Content}
 use Rattle.srm_agent.specs.Fits.{Fits}
 use Rattle.srm_agent.specs.Admitting.{DrawAdmitted, DrawAdmittedFrom}

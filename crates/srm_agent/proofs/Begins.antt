@@ -7,7 +7,7 @@ use Rattle.srm_bucket.specs.Calls.{Call}
 use Rattle.srm_bucket.specs.Content.{Content as BucketContent}
 use Rattle.srm_bucket.specs.Fits as bucket
 use Rattle.srm_entries.specs.declared.state.AgentState.TheVariants.{Active}
-use Rattle.srm_agent_parts.specs.declared.out.Outgoing.{Outgoing}
+use Rattle.srm_outbox.specs.declared.out.Outgoing.{Outgoing}
 use Rattle.srm_entries.specs.Configs.{Config}
 use Rattle.srm_agent.specs.Contents.{Content}
 use Rattle.srm_agent.specs.Fits.{Fits, AreNewProgress}

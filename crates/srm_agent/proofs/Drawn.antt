@@ -40,7 +40,7 @@ use Rattle.srm_entries.specs.declared.entry.Entry.{Entry}
 use Rattle.srm_entries.specs.declared.entry.Input.TheVariants.{Drew}
 use Rattle.srm_entries.specs.declared.entry.Verdict.{Verdict}
 use Rattle.srm_entries.specs.declared.entry.Verdict.TheVariants.{Done, Refused}
-use Rattle.srm_agent_parts.specs.declared.out.Outgoing.{Outgoing}
+use Rattle.srm_outbox.specs.declared.out.Outgoing.{Outgoing}
 use Rattle.srm_entries.specs.Configs.{Config}
 use Rattle.srm_entries.specs.Entries.{done, heard, held, shown_by, shown_to_exist, drawn, is_held, is_missing, known, slots, pages_in, state, is_gone, is_leaving, last_moment}
 use Rattle.srm_entries.specs.Distances.{distance_calls, calls_in}
@@ -53,7 +53,7 @@ use Rattle.srm_agent_parts.specs.PageTables.{with_page}
 use Rattle.srm_agent_parts.specs.TimersKept.{TimersContent, TimersFit, shown_if}
 use Rattle.srm_agent.specs.Contents.{Content}
 use Rattle.srm_agent.specs.Fits.{Fits, EachProgressFits, BucketFits}
-use Rattle.srm_agent_parts.specs.Outs.{datagram_of, IsOwn}
+use Rattle.srm_outbox.specs.Outs.{datagram_of, IsOwn}
 use Rattle.srm_entries.specs.Still.{still_entry}
 use Rattle.srm_agent.specs.Noting.{HasEntry, IsAllowed, IsDrawnName, Enters, Stays}
 use Rattle.srm_agent.specs.declared.agent.drafting.Draft.{Draft}

@@ -13,8 +13,8 @@ use Rattle.srm_entries.specs.Entries.{held, shown_to_exist}
 use Rattle.srm_entries.specs.Verdicts.{settlings}
 use Rattle.srm_agent_parts.specs.TimersKept.{TimersContent, TimersFit}
 use Rattle.srm_agent.specs.Fits.{Fits, BucketFits}
-use Rattle.srm_agent_parts.specs.declared.out.Outgoing.{Outgoing}
-use Rattle.srm_agent_parts.specs.Outs.{datagram_of}
+use Rattle.srm_outbox.specs.declared.out.Outgoing.{Outgoing}
+use Rattle.srm_outbox.specs.Outs.{datagram_of}
 use Rattle.srm_entries.specs.Runs.{IsMemberRun}
 
 pub fits_run : {W : Type 0} (c : Config) (made : ℕ) (past : List Entry) (a : Content W) → Fits c made past a → IsMemberRun c made past

@@ -24,7 +24,7 @@ use Rattle.srm_entries.specs.declared.entry.Entry.{Entry}
 use Rattle.srm_entries.specs.declared.entry.Input.TheVariants.{Heard}
 use Rattle.srm_entries.specs.declared.entry.Verdict.TheVariants.{Done}
 use Rattle.srm_entries.specs.declared.state.AgentState.{AgentState}
-use Rattle.srm_agent_parts.specs.declared.out.Outgoing.{Outgoing}
+use Rattle.srm_outbox.specs.declared.out.Outgoing.{Outgoing}
 use Rattle.srm_entries.specs.Configs.{Config}
 use Rattle.srm_entries.specs.Entries.{done, heard, is_gone, state, slots, pages_in, last_moment, held, shown_to_exist, known, drawn, drawops_in}
 use Rattle.srm_entries.specs.Distances.{distance_calls, calls_in, calls_of}

@@ -32,11 +32,11 @@ use Rattle.srm_entries.specs.Sessions.{is_data, charged, all_data_sent, ending}
 use Rattle.srm_entries.specs.Bucket.{Going, GoesRight, BucketRight, entries_of, calls_by, bucket_calls}
 use Rattle.srm_entries.specs.Runs.{EntryRight}
 use Rattle.srm_agent.specs.Fits.{Fits, BucketFits}
-use Rattle.srm_agent_parts.specs.Outs.{datagram_of}
+use Rattle.srm_outbox.specs.Outs.{datagram_of}
 use Rattle.srm_agent_parts.specs.TimersKept.{shown_if}
 use Rattle.srm_entries.specs.Promises.{MayDoNothing}
 use Rattle.srm_agent_parts.specs.TimerCalls.{RunOutFirst, IsBefore}
-use Rattle.srm_agent_parts.specs.declared.out.Outgoing.{Outgoing}
+use Rattle.srm_outbox.specs.declared.out.Outgoing.{Outgoing}
 use Rattle.srm_agent_parts.proofs.Midway.{before_first, before_second}
 use Rattle.srm_agent.specs.Ticking.{tick_entry}
 use Rattle.srm_outbox.specs.Outbox.{Passes}

@@ -18,7 +18,7 @@ use Rattle.srm_bucket.proofs.Mapping.{law-read, may_go-read}
 use Rattle.srm_bucket.proofs.Pausing.{paused-none, none-before}
 use Rattle.srm_codec.specs.declared.datagram.Datagram.{Datagram}
 use Rattle.srm_entries.specs.declared.entry.Entry.{Entry}
-use Rattle.srm_agent_parts.specs.declared.out.Outgoing.{Outgoing}
+use Rattle.srm_outbox.specs.declared.out.Outgoing.{Outgoing}
 use Rattle.srm_entries.specs.declared.state.AgentState.{AgentState}
 use Rattle.srm_entries.specs.declared.state.AgentState.TheVariants.{Active, Leaving, Gone}
 use Rattle.srm_entries.specs.Configs.{Config}
@@ -29,7 +29,7 @@ use Rattle.srm_entries.specs.Sessions.{is_session, charged, ending, EndsWith}
 use Rattle.srm_entries.specs.Bucket.{Going, GoesRight, entries_of, datagrams_of, bucket_calls}
 use Rattle.srm_entries.specs.Runs.{EntryRight, IsMemberRun}
 use Rattle.srm_agent.specs.Fits.{Fits}
-use Rattle.srm_agent_parts.specs.Outs.{datagram_of}
+use Rattle.srm_outbox.specs.Outs.{datagram_of}
 use Rattle.srm_agent_parts.specs.TimersKept.{shown_if}
 use Rattle.srm_entries.specs.Promises.{MayDoNothing}
 use Rattle.srm_agent_parts.specs.TimerCalls.{ask_running}

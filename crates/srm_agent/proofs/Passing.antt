@@ -13,7 +13,7 @@ use Rattle.srm_agent.specs.Contents.{Content}
 use Rattle.srm_agent.specs.Fits.{Fits}
 use Rattle.srm_agent.specs.Noting.{Enters, AnswersAs, HasEntry, IsTicked}
 use Rattle.srm_outbox.specs.Outbox.{Passes}
-use Rattle.srm_agent_parts.specs.Outs.{IsOut}
+use Rattle.srm_outbox.specs.Outs.{IsOut}
 use Rattle.srm_agent.specs.Ticking.{IsIdle, TicksAs, tick_entry, ticked_by, ticked_with}
 use Rattle.srm_agent.specs.Waking.{IsEarly}
 use Rattle.srm_agent.proofs.Entering.{of_member, rest_gone}

@@ -14,7 +14,7 @@ use Rattle.srm_timers.specs.declared.arm.ArmKind.TheVariants.{Ask, Fix}
 use Rattle.srm_timers.specs.Arms.{Setting, setting, ran_out, arm_of}
 use Rattle.srm_bucket.specs.Content.{Content as BucketContent}
 use Rattle.srm_entries.specs.declared.entry.Entry.{Entry}
-use Rattle.srm_agent_parts.specs.declared.out.Outgoing.{Outgoing}
+use Rattle.srm_outbox.specs.declared.out.Outgoing.{Outgoing}
 use Rattle.srm_entries.specs.Configs.{Config}
 use Rattle.srm_entries.specs.Entries.{heard, ticked, state, is_gone, held, held_by, drawops_in, shown_to_exist, drawn, is_missing, is_held}
 use Rattle.srm_entries.specs.Distances.{distance_calls, calls_in, calls_of}

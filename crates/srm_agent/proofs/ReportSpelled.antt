@@ -14,11 +14,11 @@ use Rattle.srm_distance.specs.Calls.{Call}
 use Rattle.srm_distance.specs.Echoes.{AreSpellable, CanBeSent}
 use Rattle.srm_distance.specs.Echoes as distances
 use Rattle.srm_distance.specs.Fits.{Fits as DistancesFit}
-use Rattle.srm_agent_parts.specs.declared.out.Outgoing.{Outgoing}
+use Rattle.srm_outbox.specs.declared.out.Outgoing.{Outgoing}
 use Rattle.srm_entries.specs.Configs.{Config}
 use Rattle.srm_agent.specs.Contents.{Content}
 use Rattle.srm_entries.specs.Distances.{distance_calls}
-use Rattle.srm_agent_parts.specs.Outs.{IsOutgoing, IsOutgoingOf}
+use Rattle.srm_outbox.specs.Outs.{IsOutgoing, IsOutgoingOf}
 use Rattle.srm_agent.specs.Reports.{IsReportOf, IsReportSpelled, AreReported, AreOwed}
 
 -- echoes that can be sent at a moment have a spelling

@@ -11,13 +11,13 @@ use Rattle.srm_bucket.specs.Content.{Content as BucketContent}
 use Rattle.srm_bucket.specs.Mapping.{read_classed, read_call}
 use Rattle.srm_outbox.specs.declared.answers.Answer.{Answer}
 use Rattle.srm_entries.specs.declared.entry.Entry.{Entry}
-use Rattle.srm_agent_parts.specs.declared.out.Outgoing.{Outgoing}
+use Rattle.srm_outbox.specs.declared.out.Outgoing.{Outgoing}
 use Rattle.srm_entries.specs.Configs.{Config}
 use Rattle.srm_entries.specs.Entries.{ticked, state, is_gone, shown}
 use Rattle.srm_entries.specs.Sessions.{charged}
 use Rattle.srm_entries.specs.Bucket.{Going, GoesRight, entries_of, lets_go, pops, bucket_calls, handed_by, answers_in, answer_item, data_item, datagrams_of}
 use Rattle.srm_agent.specs.Fits.{BucketFits}
-use Rattle.srm_agent_parts.specs.Outs.{datagram_of, IsOwn, AreOwn}
+use Rattle.srm_outbox.specs.Outs.{datagram_of, IsOwn, AreOwn}
 use Rattle.srm_outbox.specs.Answering.{AreAnswers, classed_of}
 use Rattle.srm_outbox.specs.Outbox.{WentContent, HandsIn, Goes, LetsGo}
 use Rattle.srm_agent_parts.proofs.Running.{steps_more}

@@ -9,11 +9,11 @@ use Rattle.srm_distance.specs.Fits as distances
 use Rattle.srm_bucket.specs.Waiting.{Waiting, SameQueues}
 use Rattle.srm_agent.specs.declared.agent.due.HandedOut.{HandedOut}
 use Rattle.srm_entries.specs.declared.entry.Entry.{Entry}
-use Rattle.srm_agent_parts.specs.declared.out.Outgoing.{Outgoing}
+use Rattle.srm_outbox.specs.declared.out.Outgoing.{Outgoing}
 use Rattle.srm_agent.specs.Contents.{Content}
 use Rattle.srm_entries.specs.Entries.{heard}
 use Rattle.srm_entries.specs.Distances.{distance_calls, calls_in, calls_of}
-use Rattle.srm_agent_parts.specs.Outs.{IsOwn, AreOwn}
+use Rattle.srm_outbox.specs.Outs.{IsOwn, AreOwn}
 use Rattle.srm_agent_parts.specs.TimersKept.{TimersContent, HaveSettings}
 use Rattle.srm_distance.specs.Fits.{IsTableOf}
 use Rattle.srm_agent_parts.specs.TimerCalls.{AreDistancesAfter, TimersTick, WaitsAreDrawn}

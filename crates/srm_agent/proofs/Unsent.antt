@@ -23,14 +23,14 @@ use Rattle.srm_bucket.specs.Waiting.{queue}
 use Rattle.srm_bucket.proofs.Mapping.{law-read, gone-read, handed-read, length-read}
 use Rattle.srm_entries.specs.Configs.{Config}
 use Rattle.srm_entries.specs.declared.entry.Entry.{Entry}
-use Rattle.srm_agent_parts.specs.declared.out.Outgoing.{Outgoing}
+use Rattle.srm_outbox.specs.declared.out.Outgoing.{Outgoing}
 use Rattle.srm_entries.specs.Entries.{shown, drawn, sent, held_at}
 use Rattle.srm_entries.specs.Sessions.{is_data, is_session, charged, all_data_sent}
 use Rattle.srm_entries.specs.Packing.{is_covered_by, packed_after, packed, mask_of}
 use Rattle.srm_entries.specs.Bucket.{Going, GoesRight, class_for, page_of, answer_item, data_item, answers_in, handed_by, repair_of, entries_of, bucket_calls, datagrams_of}
 use Rattle.srm_entries.specs.Rates.{one_of_class, of_class, handed_so_far, gone_so_far}
 use Rattle.srm_agent.specs.Fits.{BucketFits}
-use Rattle.srm_agent_parts.specs.Outs.{datagram_of}
+use Rattle.srm_outbox.specs.Outs.{datagram_of}
 use Rattle.srm_entries.proofs.Adding.{flat_map-append}
 use Rattle.srm_entries.proofs.Marking.{gone_is, handed_is}
 use Rattle.srm_entries.proofs.Sending.{went_first, went_is_charged, in_its_class}

@@ -6,11 +6,11 @@ use Rattle.srm_store.specs.Stores.{StoreContent}
 use Rattle.srm_distance.specs.Content.{Content as DistancesContent}
 use Rattle.srm_bucket.specs.Content.{Content as BucketContent}
 use Rattle.srm_entries.specs.declared.state.AgentState.{AgentState}
-use Rattle.srm_agent_parts.specs.declared.out.Outgoing.{Outgoing}
+use Rattle.srm_outbox.specs.declared.out.Outgoing.{Outgoing}
 use Rattle.srm_agent.specs.declared.agent.Agent.TheInside.{Inside}
 use Rattle.srm_entries.specs.Configs.{Config}
 use Rattle.srm_agent_parts.specs.Progress.{ProgressContent}
-use Rattle.srm_agent_parts.specs.Outs.{AreOwn}
+use Rattle.srm_outbox.specs.Outs.{AreOwn}
 use Rattle.srm_agent_parts.specs.TimersKept.{TimersContent, HaveSettings}
 
 pub record Content (W : Type 0) : Type 0 where

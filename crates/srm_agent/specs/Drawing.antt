@@ -18,7 +18,7 @@ use Rattle.srm_entries.specs.declared.entry.Verdict.{Verdict}
 use Rattle.srm_entries.specs.declared.entry.Verdict.TheVariants.{Done, Refused}
 use Rattle.srm_entries.specs.Entries.{is_gone, is_leaving}
 use Rattle.srm_agent_parts.specs.PageTables.{lacks_room}
-use Rattle.srm_agent_parts.specs.Outs.{IsOutgoingOf}
+use Rattle.srm_outbox.specs.Outs.{IsOutgoingOf}
 
 abbrev pub verdict_by : Option AgentFault → Verdict
 verdict_by None = Done

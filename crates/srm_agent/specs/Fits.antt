@@ -12,7 +12,7 @@ use Rattle.srm_bucket.specs.Mapping.{read_call}
 use Rattle.srm_bucket.specs.Content.{Content as BucketContent}
 use Rattle.srm_bucket.specs.Fits as bucket
 use Rattle.srm_entries.specs.declared.entry.Entry.{Entry}
-use Rattle.srm_agent_parts.specs.declared.out.Outgoing.{Outgoing}
+use Rattle.srm_outbox.specs.declared.out.Outgoing.{Outgoing}
 use Rattle.srm_entries.specs.Configs.{Config}
 use Rattle.srm_entries.specs.Entries.{state, shown, slots, last_moment, held, shown_to_exist, known}
 use Rattle.srm_entries.specs.Distances.{distance_calls}
@@ -21,7 +21,7 @@ use Rattle.srm_entries.specs.Sessions.{session_due}
 use Rattle.srm_entries.specs.Bucket.{Going, GoesRight, entries_of, bucket_calls}
 use Rattle.srm_entries.specs.Giving.{given}
 use Rattle.srm_entries.specs.Runs.{EntryRight}
-use Rattle.srm_agent_parts.specs.Outs.{datagram_of}
+use Rattle.srm_outbox.specs.Outs.{datagram_of}
 use Rattle.srm_agent_parts.specs.Progress.{ProgressContent, ProgressFits}
 use Rattle.srm_agent_parts.specs.TimersKept.{TimersFit}
 use Rattle.srm_agent.specs.Contents.{Content}

@@ -11,7 +11,7 @@ use Rattle.srm_entries.specs.declared.cause.Outcome.TheVariants.{Taken}
 use Rattle.srm_entries.specs.declared.cause.Outcome.TheVariants as outcomes
 use Rattle.srm_agent.specs.declared.heard.Heard.{Heard}
 use Rattle.srm_agent.specs.declared.ticked.Ticked.{Ticked}
-use Rattle.srm_agent_parts.specs.declared.out.Out.{Out}
+use Rattle.srm_outbox.specs.declared.out.Out.{Out}
 use Rattle.srm_entries.specs.declared.fault.AgentFault.{AgentFault}
 use Rattle.srm_entries.specs.declared.fault.AgentFault.TheVariants.{Memory}
 use Rattle.srm_entries.specs.declared.entry.Entry.{Entry}
@@ -27,7 +27,7 @@ use Rattle.srm_agent.specs.Contents.{Content}
 use Rattle.srm_agent.specs.Fits.{Fits}
 use Rattle.srm_entries.specs.Timers.{low_of, high_of}
 use Rattle.srm_entries.specs.Hearing.{bytes_heard}
-use Rattle.srm_agent_parts.specs.Outs.{IsOut}
+use Rattle.srm_outbox.specs.Outs.{IsOut}
 
 -- the verdict on a call, by what it answers
 abbrev pub verdict_answering : {A : Type 0} → Result A AgentFault → Verdict

@@ -16,9 +16,9 @@ use Rattle.srm_outbox.specs.declared.answers.Answer.{Answer}
 use Rattle.srm_entries.specs.declared.entry.Entry.{Entry}
 use Rattle.srm_entries.specs.declared.entry.Input.TheVariants.{Ticked}
 use Rattle.srm_entries.specs.declared.entry.Verdict.TheVariants.{Done}
-use Rattle.srm_agent_parts.specs.declared.out.Out.{Out}
-use Rattle.srm_agent_parts.specs.declared.out.Outgoing.{Outgoing}
-use Rattle.srm_agent_parts.specs.Outs.{IsOut}
+use Rattle.srm_outbox.specs.declared.out.Out.{Out}
+use Rattle.srm_outbox.specs.declared.out.Outgoing.{Outgoing}
+use Rattle.srm_outbox.specs.Outs.{IsOut}
 use Rattle.srm_agent.specs.declared.ticked.Ticked as answers
 use Rattle.srm_entries.specs.declared.state.AgentState.{AgentState}
 use Rattle.srm_entries.specs.declared.state.AgentState.TheVariants.{Gone}

@@ -31,11 +31,12 @@ mod taking_session;
 mod ticking;
 
 use crate::noted::Noted;
-use srm_agent_parts::{Outgoing, PageTable, Progress, Timers};
+use srm_agent_parts::{PageTable, Progress, Timers};
 use srm_bucket::Bucket;
 use srm_distance::Distances;
 use srm_entries::{AgentFault, AgentState, Config, Entry, Input, SHORTEST_PAUSE, Verdict};
 use srm_names::{PAGES, Page, PageMsg};
+use srm_outbox::Outgoing;
 use srm_store::Store;
 use srm_timers::Words;
 use std::alloc::{AllocError, Global};

@@ -1,8 +1,8 @@
 //! What a tick answers.
 
-use srm_agent_parts::Out;
 use srm_entries::AgentState;
 use srm_names::{Items, Name};
+use srm_outbox::Out;
 use srm_timers::Arm;
 
 /// What a tick handed out and sent.

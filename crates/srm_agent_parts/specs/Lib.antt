@@ -1,4 +1,3 @@
-pub mod Outs
 pub mod Growth
 pub mod PageTables
 pub mod Progress

@@ -13,7 +13,7 @@ use Rattle.srm_world.proofs.Laning.{at_place}
 use Rattle.std.proofs.lemmas.Option.{slice_get_within}
 use Rattle.srm_codec.specs.declared.datagram.Datagram.{Datagram}
 use Rattle.srm_codec.specs.declared.fault.DecodeFault.{DecodeFault}
-use Rattle.srm_agent_parts.specs.declared.out.Out.{Out}
+use Rattle.srm_outbox.specs.declared.out.Out.{Out}
 use Rattle.srm_entries.specs.declared.entry.Entry.{Entry}
 use Rattle.srm_entries.specs.declared.entry.Input.{Input}
 use Rattle.srm_entries.specs.declared.entry.Input.TheVariants.{Drew, Heard, Noise, Ticked, Showed, AskedLeave, Gave, Took}

@@ -11,8 +11,8 @@ use Rattle.srm_entries.specs.declared.entry.Input.{Input}
 use Rattle.srm_entries.specs.declared.entry.Input.TheVariants.{Gave, AskedLeave, Ticked}
 use Rattle.srm_entries.specs.Giving.{given}
 use Rattle.srm_entries.specs.Admitting.{AdmitsDraw}
-use Rattle.srm_agent_parts.specs.declared.out.Out.{Out}
-use Rattle.srm_agent_parts.specs.Outs.{IsOut}
+use Rattle.srm_outbox.specs.declared.out.Out.{Out}
+use Rattle.srm_outbox.specs.Outs.{IsOut}
 use Rattle.srm_world.specs.Traces.{Journal}
 use Rattle.srm_world.specs.Claims.{IsLawfulJournal}
 use Rattle.srm_world.specs.Recording.{with_entry, with_entries, IsAt, HearsEach}

@@ -1,7 +1,7 @@
 -- One turn of a node, part by part.
 use Rattle.std.specs.Prelude.{◌≡◌, ◌⊎◌, ℕ, zero, suc, ◌<◌, ◌≤◌, ◌||◌, Bool, true, false, List, map, Result, Ok, Err}
 use Rattle.srm_names.specs.declared.limits.TheConstants.{PAGES}
-use Rattle.srm_agent_parts.specs.declared.out.Out.{Out}
+use Rattle.srm_outbox.specs.declared.out.Out.{Out}
 use Rattle.srm_node.specs.declared.fault.NodeFault.{NodeFault}
 use Rattle.srm_node.specs.declared.fault.NodeFault.TheVariants.{Wire, Memory, Turns}
 use Rattle.srm_wire.specs.Wires.{CountsIf, RoseOrFull, Sends, dispatched}

@@ -27,7 +27,7 @@ use Rattle.srm_entries.specs.Giving.{given, MessageRight}
 use Rattle.srm_entries.specs.Bucket.{Going, GoesRight, classed, bucket_calls}
 use Rattle.srm_entries.specs.Runs.{EntryRight, MomentRight, state_due}
 use Rattle.srm_entries.proofs.Plain.{one, config, plain, idle, idle_right, one_spelled, right, one_held, none_missing_in, missing_none, one_of}
-use Rattle.srm_agent_parts.specs.declared.out.Out.{Out}
+use Rattle.srm_outbox.specs.declared.out.Out.{Out}
 use Rattle.srm_world.specs.Traces.{Journal}
 use Rattle.srm_world.specs.Claims.{IsLawfulJournal}
 use Rattle.srm_world.proofs.Lawful.{lawful_journal}

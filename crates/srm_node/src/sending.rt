@@ -2,7 +2,7 @@
 
 ghost use Rattle.std.specs.Prelude.{◌≤◌, map};
 ghost use Rattle.srm_names.specs.declared.limits.TheConstants.{MEMBERS};
-ghost use Rattle.srm_agent_parts.specs.declared.out.Out.{Out as SentOut};
+ghost use Rattle.srm_outbox.specs.declared.out.Out.{Out as SentOut};
 ghost use Rattle.srm_wire.specs.Wires.{Sends, dispatched};
 
 use srm_agent::Out;

@@ -13,8 +13,8 @@ use Rattle.srm_bucket.specs.Fits.{Fits, Adds, Pops}
 use Rattle.srm_bucket.specs.Law.{may_go}
 use Rattle.srm_bucket.specs.Waiting.{Waiting, HasLength, Gains, TakesNext, queue, next_in, count_of}
 use Rattle.srm_outbox.specs.declared.answers.Answer.{Answer}
-use Rattle.srm_agent_parts.specs.declared.out.Outgoing.{Outgoing}
-use Rattle.srm_agent_parts.specs.Outs.{IsOwn, AreOwn}
+use Rattle.srm_outbox.specs.declared.out.Outgoing.{Outgoing}
+use Rattle.srm_outbox.specs.Outs.{IsOwn, AreOwn}
 use Rattle.srm_outbox.specs.Answering.{classed_of}
 use Rattle.srm_outbox.specs.Outbox.{Passes, WentContent, NothingWent, HandsIn, LetsGo}
 

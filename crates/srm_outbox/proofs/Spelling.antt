@@ -19,7 +19,7 @@ use Rattle.srm_bucket.specs.Mapping.{read_classed}
 use Rattle.srm_bucket.specs.Waiting.{HasLength}
 use Rattle.srm_outbox.specs.declared.answers.Answer.{Answer}
 use Rattle.srm_entries.specs.Bucket.{answer_item}
-use Rattle.srm_agent_parts.specs.Outs.{datagram_of, IsOwn}
+use Rattle.srm_outbox.specs.Outs.{datagram_of, IsOwn}
 use Rattle.srm_outbox.specs.Answering.{IsAnswerOf, IsAnswer, AreAnswers, classed_of}
 use Rattle.srm_outbox.proofs.Handing.{all-append}
 

@@ -8,10 +8,10 @@ use Rattle.srm_bucket.specs.Calls.{Classed}
 use Rattle.srm_bucket.specs.Mapping.{read_classed}
 use Rattle.srm_bucket.specs.Waiting.{HasLength}
 use Rattle.srm_outbox.specs.declared.answers.Answer.{Answer}
-use Rattle.srm_agent_parts.specs.declared.out.Outgoing.{Outgoing}
+use Rattle.srm_outbox.specs.declared.out.Outgoing.{Outgoing}
 use Rattle.srm_entries.specs.Sessions.{is_session}
 use Rattle.srm_entries.specs.Bucket.{answer_item}
-use Rattle.srm_agent_parts.specs.Outs.{datagram_of, IsOwn}
+use Rattle.srm_outbox.specs.Outs.{datagram_of, IsOwn}
 
 -- a datagram that a member may hand in
 pub record IsAnswerOf (me : ℕ) (g : Datagram) : Type 0 where

@@ -1,7 +1,7 @@
 -- What a member may hand in, and what went.
 use Rattle.std.specs.Prelude.{◌≡◌, ℕ, true, false, [], ◌∷◌, Some, None, refl}
 use Rattle.srm_bucket.specs.Calls.{Classed, Popped}
-use Rattle.srm_agent_parts.specs.declared.out.Outgoing.{Outgoing}
+use Rattle.srm_outbox.specs.declared.out.Outgoing.{Outgoing}
 use Rattle.srm_codec.specs.declared.datagram.Datagram.TheVariants.{Data, Session}
 use Rattle.srm_names.specs.Names.{first_page}
 use Rattle.srm_entries.specs.Bucket.{pops}

@@ -1,3 +1,4 @@
+pub mod Outs
 pub mod Answering
 pub mod Outbox
 pub mod Examples

@@ -9,9 +9,9 @@ use Rattle.srm_bucket.specs.Law.{may_go}
 use Rattle.srm_bucket.specs.Waiting.{count_of}
 use Rattle.srm_entries.specs.Bucket.{pops}
 use Rattle.srm_outbox.specs.declared.answers.Answer.{Answer}
-use Rattle.srm_agent_parts.specs.declared.out.Out.{Out}
-use Rattle.srm_agent_parts.specs.declared.out.Outgoing.{Outgoing}
-use Rattle.srm_agent_parts.specs.Outs.{IsOwn, AreOwn}
+use Rattle.srm_outbox.specs.declared.out.Out.{Out}
+use Rattle.srm_outbox.specs.declared.out.Outgoing.{Outgoing}
+use Rattle.srm_outbox.specs.Outs.{IsOwn, AreOwn}
 use Rattle.srm_outbox.specs.Answering.{classed_of}
 
 -- what went, and for how much more there is room

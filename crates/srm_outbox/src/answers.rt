@@ -16,8 +16,8 @@ ghost use Rattle.srm_entries.specs.Bucket.{class_for, page_of};
 ghost use Rattle.srm_entries.specs.Packing.{packed};
 ghost use Rattle.srm_outbox.specs.Answering.{IsAnswerOf, IsAnswer, AreAnswers};
 
+use crate::out::Outgoing;
 use crate::packing::packed;
-use srm_agent_parts::Outgoing;
 use srm_bucket::{Class, Item};
 use srm_codec::{Datagram, encodable, length};
 use srm_names::{Drawop, Member, Name, Page};

@@ -17,8 +17,10 @@
 #![tactic(auto)]
 
 mod answers;
+mod out;
 mod outbox;
 mod packing;
 
 pub use answers::{Answer, answering, spelled};
+pub use out::{Out, Outgoing};
 pub use outbox::{Went, hand_in, let_go, pass};

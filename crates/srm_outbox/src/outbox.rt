@@ -7,7 +7,7 @@ ghost use Rattle.srm_bucket.specs.Waiting.{HasLength, count_of};
 ghost use Rattle.srm_outbox.specs.Outbox.{HandsIn, LetsGo, NothingWent, Passes};
 
 use crate::answers::Answer;
-use srm_agent_parts::{Out, Outgoing};
+use crate::out::{Out, Outgoing};
 use srm_bucket::Bucket;
 use srm_codec::Datagram;
 use srm_names::Items;

@@ -14,7 +14,7 @@ use Rattle.srm_codec.specs.Judging.{judge}
 use Rattle.srm_codec.proofs.JudgingLaws.{undoes}
 use Rattle.srm_entries.specs.declared.cause.Cause.TheVariants as causes
 use Rattle.srm_entries.specs.declared.fault.AgentFault.{AgentFault}
-use Rattle.srm_agent_parts.specs.declared.out.Out.{Out}
+use Rattle.srm_outbox.specs.declared.out.Out.{Out}
 use Rattle.srm_agent.specs.declared.ticked.Ticked.{Ticked}
 use Rattle.srm_entries.specs.declared.entry.Entry.{Entry}
 use Rattle.srm_entries.specs.declared.entry.Input.{Input}
@@ -28,7 +28,7 @@ use Rattle.srm_agent.specs.Contents as agents
 use Rattle.srm_entries.specs.Entries.{takes_moment, clock_of, last_moment, state, is_gone}
 use Rattle.srm_entries.specs.Giving.{given, taken, given_in, taken_in, next_taken}
 use Rattle.srm_entries.specs.Hearing.{read_as}
-use Rattle.srm_agent_parts.specs.Outs.{IsOut}
+use Rattle.srm_outbox.specs.Outs.{IsOut}
 use Rattle.srm_entries.specs.Verdicts.{VerdictRight}
 use Rattle.srm_entries.specs.Runs.{EntryRight}
 use Rattle.srm_agent.specs.Fits as agents_fit

@@ -3,7 +3,7 @@ use Rattle.std.specs.Prelude.{◌≡◌, ℕ, List, [], ◌∷◌, ◌++◌, map
 use Rattle.std.specs.List.{AllByRecursion}
 use Rattle.srm_codec.specs.declared.datagram.Datagram.{Datagram}
 use Rattle.srm_codec.specs.Spelling.{Spells}
-use Rattle.srm_agent_parts.specs.declared.out.Out.{Out}
+use Rattle.srm_outbox.specs.declared.out.Out.{Out}
 use Rattle.srm_timers.specs.Arms.{AreDrawn}
 use Rattle.srm_entries.specs.declared.state.AgentState.{AgentState}
 use Rattle.srm_entries.specs.declared.entry.Entry.{Entry}
@@ -17,7 +17,7 @@ use Rattle.srm_entries.specs.Entries.{state, is_gone, last_moment}
 use Rattle.srm_entries.specs.Giving.{given, taken}
 use Rattle.srm_agent.specs.Fits as agents_fit
 use Rattle.srm_agent.specs.Noting.{moment_that_counts}
-use Rattle.srm_agent_parts.specs.Outs.{IsOut}
+use Rattle.srm_outbox.specs.Outs.{IsOut}
 use Rattle.srm_world.specs.declared.participant.Participant.TheInside.{Inside}
 use Rattle.srm_world.specs.Events.{comes}
 use Rattle.srm_world.specs.Lane.{LaneContent}

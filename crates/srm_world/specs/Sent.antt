@@ -1,6 +1,6 @@
 -- The datagrams that a world has sent.
 use Rattle.std.specs.Prelude.{List, ◌++◌}
-use Rattle.srm_agent_parts.specs.declared.out.Out.{Out}
+use Rattle.srm_outbox.specs.declared.out.Out.{Out}
 use Rattle.srm_world.specs.declared.sent.Sent.TheInside.{Inside}
 
 -- those of the ticks before, and those of the last one

@@ -13,14 +13,14 @@ ghost use Rattle.srm_store.specs.Stores.{HavePlaces};
 ghost use Rattle.srm_store.specs.Fits.{Fits as StoreFits, StillFits};
 ghost use Rattle.srm_bucket.specs.Fits.{Stays as BucketStays};
 ghost use Rattle.srm_agent.specs.Drawing.{IsDraftOf};
-ghost use Rattle.srm_agent_parts.specs.Outs.{IsOutgoingOf};
+ghost use Rattle.srm_outbox.specs.Outs.{IsOutgoingOf};
 
 use super::Agent;
 use bytes::Bytes;
-use srm_agent_parts::Outgoing;
 use srm_bucket::Item;
 use srm_codec::{Datagram, length};
 use srm_names::{Drawop, MEMBERS, Name};
+use srm_outbox::Outgoing;
 use srm_store::StoreFault;
 use srm_timers::Words;
 use std::alloc::{AllocError, Global};

@@ -8,10 +8,9 @@ ghost use Rattle.srm_entries.specs.Entries.{is_leaving};
 ghost use Rattle.srm_agent.specs.Ticking.{IsDue, IsReportAt, IsReportIf, IsToHandOut};
 
 use super::Agent;
-use srm_agent_parts::Outgoing;
 use srm_entries::AgentState;
 use srm_names::{Items, Name};
-use srm_outbox::{Answer, answering, spelled};
+use srm_outbox::{Answer, Outgoing, answering, spelled};
 use srm_timers::Words;
 use std::alloc::{AllocError, Global};
 use std::collections::VecDeque;

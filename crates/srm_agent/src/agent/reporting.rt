@@ -15,10 +15,11 @@ ghost use Rattle.srm_entries.specs.Sessions.{members_left, session_pause, if_pos
 ghost use Rattle.srm_entries.specs.Verdicts.{stream_on};
 
 use super::Agent;
-use srm_agent_parts::{Outgoing, member, page_in_range, stream_in_range};
+use srm_agent_parts::{member, page_in_range, stream_in_range};
 use srm_codec::{Datagram, ECHO_BYTES, HEAD_BYTES, NAME_BYTES, REPORT_BYTES, length};
 use srm_entries::{SECOND, SESSION_SHARE, SHORTEST_PAUSE};
 use srm_names::{Echo, Items, Member, Name, Page, Stream};
+use srm_outbox::Outgoing;
 use srm_timers::Words;
 use std::alloc::{AllocError, Global};
 

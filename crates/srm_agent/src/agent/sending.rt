@@ -5,16 +5,15 @@ ghost use Rattle.std.specs.List.{AllByRecursion};
 ghost use Rattle.srm_names.specs.declared.limits.TheConstants.{MOMENT};
 ghost use Rattle.srm_bucket.specs.Fits.{Stays as BucketStays};
 ghost use Rattle.srm_bucket.specs.Waiting.{HasLength, SameQueues, count_of};
-ghost use Rattle.srm_agent_parts.specs.Outs.{IsOwn, AreOwn};
+ghost use Rattle.srm_outbox.specs.Outs.{IsOwn, AreOwn};
 ghost use Rattle.srm_outbox.specs.Outbox.{NothingWent};
 ghost use Rattle.srm_agent.specs.Ticking.{SendsAll, data_waits, last_report, state_after, due_then};
 
 use super::Agent;
 use super::due::Report;
-use srm_agent_parts::Outgoing;
 use srm_bucket::{Bucket, Class};
 use srm_entries::AgentState;
-use srm_outbox::{Answer, Went, hand_in, let_go};
+use srm_outbox::{Answer, Outgoing, Went, hand_in, let_go};
 use srm_timers::Words;
 use std::alloc::AllocError;
 use std::collections::VecDeque;

@@ -1,6 +1,6 @@
 use Rattle.std.proofs.Common.{take}
 use Rattle.std.specs.Prelude.{map}
-use Rattle.srm_agent_parts.specs.declared.out.Out.{Out}
+use Rattle.srm_outbox.specs.declared.out.Out.{Out}
 use Rattle.srm_wire.specs.Wires.{Sends, dispatched}
 use Rattle.srm_node.proofs.sending.send_all.Given as goal
 

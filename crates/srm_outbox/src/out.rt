@@ -2,7 +2,7 @@
 
 ghost use Rattle.std.specs.Prelude.{◌≡◌, IfOk};
 ghost use Rattle.srm_codec.specs.Spelling.{IsSpellable};
-ghost use Rattle.srm_agent_parts.specs.Outs.{IsOutgoingOf};
+ghost use Rattle.srm_outbox.specs.Outs.{IsOutgoingOf};
 
 use srm_codec::{Datagram, encode};
 use srm_names::Items;

@@ -6,8 +6,8 @@ use Rattle.srm_codec.specs.Spelling.{Spells, sender_of}
 use Rattle.srm_bucket.specs.declared.class.Class.{Class}
 use Rattle.srm_bucket.specs.Waiting.{Waiting, queue}
 use Rattle.srm_entries.specs.Sessions.{is_session}
-use Rattle.srm_agent_parts.specs.declared.out.Out.{Out}
-use Rattle.srm_agent_parts.specs.declared.out.Outgoing.{Outgoing}
+use Rattle.srm_outbox.specs.declared.out.Out.{Out}
+use Rattle.srm_outbox.specs.declared.out.Outgoing.{Outgoing}
 
 abbrev pub datagram_of : Outgoing → Datagram
 datagram_of o = o.out.datagram
