@@ -61,7 +61,8 @@ use Rattle.srm_agent.specs.Drawing.{refusals, name_after, drawn_entry, IsDraftOf
 use Rattle.srm_agent_parts.specs.Growth.{HoldsToo}
 use Rattle.srm_entries.proofs.Adding.{known-snoc, is_missing-snoc, flat_map-snoc, last_ask-snoc, fix_running-snoc, held_off-snoc}
 use Rattle.srm_entries.proofs.Showing.{kind, shown_drawing, shown_hearing, shown_quiet, shown-snoc, held-snoc, drawn-snoc, state-snoc, held_is_shown, refused_is_not_done}
-use Rattle.srm_agent_parts.proofs.Running.{steps_more, last_moment-snoc, shown-page-snoc, slots-one}
+use Rattle.srm_entries.proofs.Running.{steps_more, last_moment-snoc, shown-page-snoc}
+use Rattle.srm_agent_parts.proofs.Running.{slots-one}
 use Rattle.srm_entries.proofs.Arming.{ask_at}
 use Rattle.srm_entries.proofs.Marking.{bucket_calls-snoc, entries-snoc}
 use Rattle.srm_agent.proofs.Still.{same_progress}

@@ -21,7 +21,8 @@ use Rattle.srm_agent.specs.Contents.{Content}
 use Rattle.srm_agent.specs.Fits.{Fits, EachProgressFits}
 use Rattle.srm_entries.specs.Still.{still_entry}
 use Rattle.srm_agent.specs.Noting.{AnswersAs, Enters, EntersStill, HasEntry, IsAllowed, verdict_answering}
-use Rattle.srm_agent_parts.proofs.Running.{slots-same, slots-one}
+use Rattle.srm_entries.proofs.Running.{slots-same}
+use Rattle.srm_agent_parts.proofs.Running.{slots-one}
 use Rattle.srm_agent.proofs.Still.{MayFollow, SameParts, still_fits, same_progress}
 
 -- an entry of this agent is one of the member whose run it fits

@@ -21,7 +21,7 @@ use Rattle.srm_agent.specs.Fits.{Fits, EachProgressFits}
 use Rattle.srm_entries.specs.Still.{still_entry}
 use Rattle.srm_agent.specs.Noting.{Enters, HasEntry, gave_by}
 use Rattle.srm_entries.proofs.Feeding.{feeds_right, fed_gives, given-snoc}
-use Rattle.srm_agent_parts.proofs.Running.{slots-same}
+use Rattle.srm_entries.proofs.Running.{slots-same}
 use Rattle.srm_agent.proofs.Still.{MayFollow, still_fits, same_progress}
 use Rattle.srm_agent.proofs.Entering.{of_member, stays_at}
 

@@ -45,7 +45,7 @@ use Rattle.srm_entries.proofs.Adding.{flat_map-snoc, known-snoc}
 use Rattle.srm_entries.proofs.Cutting.{bucket_calls-append}
 use Rattle.srm_agent_parts.proofs.Listing.{firsts_more, firsts_again}
 use Rattle.srm_entries.proofs.Showing.{state-snoc, held-snoc, shown-snoc, drawn-snoc, hearing_fine}
-use Rattle.srm_agent_parts.proofs.Running.{steps_more, last_moment-snoc, shown-page-snoc}
+use Rattle.srm_entries.proofs.Running.{steps_more, last_moment-snoc, shown-page-snoc}
 use Rattle.srm_agent.proofs.Entering.{of_member}
 use Rattle.srm_agent.proofs.Still.{same_progress}
 

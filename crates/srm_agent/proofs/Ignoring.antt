@@ -25,7 +25,7 @@ use Rattle.srm_agent.specs.Contents.{Content}
 use Rattle.srm_agent.specs.Fits.{Fits}
 use Rattle.srm_entries.specs.Still.{still_entry}
 use Rattle.srm_agent.specs.Noting.{Enters, ReadsAs}
-use Rattle.srm_agent_parts.proofs.Running.{slots-same}
+use Rattle.srm_entries.proofs.Running.{slots-same}
 use Rattle.srm_agent.proofs.Still.{same_progress}
 use Rattle.srm_agent.proofs.Entering.{still_enters, moves_on}
 

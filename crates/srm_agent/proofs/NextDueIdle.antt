@@ -45,7 +45,7 @@ use Rattle.srm_entries.proofs.Adding.{flat_map-snoc}
 use Rattle.srm_entries.proofs.Ending.{ending_of, ending_is}
 use Rattle.srm_entries.proofs.Marking.{bucket_calls-snoc, entries-snoc, went_length}
 use Rattle.srm_agent.proofs.Quiet.{no_arms}
-use Rattle.srm_agent_parts.proofs.Running.{steps_more}
+use Rattle.srm_entries.proofs.Running.{steps_more}
 use Rattle.srm_entries.proofs.Showing.{drawn-snoc}
 use Rattle.srm_entries.proofs.Spending.{Charged, charged_along, charged_start}
 use Rattle.srm_agent.proofs.Ticks.{TickRight, tick_right}

@@ -20,7 +20,7 @@ use Rattle.srm_agent.specs.Fits.{BucketFits}
 use Rattle.srm_outbox.specs.Outs.{datagram_of, IsOwn, AreOwn}
 use Rattle.srm_outbox.specs.Answering.{AreAnswers, classed_of}
 use Rattle.srm_outbox.specs.Outbox.{WentContent, HandsIn, Goes, LetsGo}
-use Rattle.srm_agent_parts.proofs.Running.{steps_more}
+use Rattle.srm_entries.proofs.Running.{steps_more}
 use Rattle.srm_entries.proofs.Marking.{bucket_calls-snoc, entries-snoc}
 
 -- what is noted is what goes

@@ -20,7 +20,7 @@ use Rattle.srm_agent.specs.Fits.{Fits, EachProgressFits}
 use Rattle.srm_entries.specs.Still.{still_entry}
 use Rattle.srm_entries.proofs.Feeding.{given-snoc}
 use Rattle.srm_entries.proofs.Showing.{state-snoc}
-use Rattle.srm_agent_parts.proofs.Running.{steps_more, last_moment-snoc, shown-page-snoc}
+use Rattle.srm_entries.proofs.Running.{steps_more, last_moment-snoc, shown-page-snoc}
 use Rattle.srm_agent.proofs.Quiet.{Quiet, same_held, same_shown, same_drawn, same_settlings, same_distances, timers_stay, bucket_stays, same_due, no_arms, no_timers, no_session}
 
 -- what an entry without effects may be, after these entries

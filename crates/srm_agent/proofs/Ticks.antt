@@ -25,7 +25,7 @@ use Rattle.srm_agent_parts.specs.TimersKept.{TimersFit}
 use Rattle.srm_entries.proofs.Adding.{flat_map-snoc}
 use Rattle.srm_entries.proofs.Ending.{EndsIn, NoSessions, session_right, due_by, due_after}
 use Rattle.srm_outbox.proofs.Handing.{all-append}
-use Rattle.srm_agent_parts.proofs.Running.{steps_more, shown-page-snoc, slots-same}
+use Rattle.srm_entries.proofs.Running.{steps_more, shown-page-snoc, slots-same}
 use Rattle.srm_entries.proofs.Showing.{held-snoc, shown-snoc, drawn-snoc, state-snoc}
 use Rattle.srm_entries.proofs.Spending.{tick_is_last}
 use Rattle.srm_agent.proofs.Still.{same_progress}

@@ -10,7 +10,7 @@ use Rattle.srm_names.proofs.Lists.{AllByRecursion-parts}
 use Rattle.srm_codec.specs.declared.datagram.Datagram.{Datagram}
 use Rattle.srm_entries.specs.declared.entry.Entry.{Entry}
 use Rattle.srm_entries.specs.Entries.{heard, sent}
-use Rattle.srm_agent_parts.proofs.Running.{steps_more}
+use Rattle.srm_entries.proofs.Running.{steps_more}
 use Rattle.srm_world.specs.Traces.{Journal, of_member, IsHonest}
 use Rattle.srm_world.proofs.Laning.{get_set_same, get_set_other}
 use Rattle.srm_world.proofs.Members.{of_member-append, of_member-own}

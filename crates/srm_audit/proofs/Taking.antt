@@ -22,7 +22,7 @@ use Rattle.srm_entries.proofs.Adding.{flat_map-snoc}
 use Rattle.srm_entries.proofs.Cutting.{bucket_calls-append}
 use Rattle.srm_entries.proofs.Feeding.{given-snoc}
 use Rattle.srm_entries.proofs.Showing.{state-snoc}
-use Rattle.srm_agent_parts.proofs.Running.{steps_more, last_moment-snoc}
+use Rattle.srm_entries.proofs.Running.{steps_more, last_moment-snoc}
 use Rattle.srm_agent.proofs.Still.{still_right}
 use Rattle.srm_world.specs.declared.start.Start.{Start}
 use Rattle.srm_world.specs.Traces.{Trace, Journal, of_member, IsHonest, IsUntaken, is_take, IsRoster, IsRunOf, IsRunOfMember}

@@ -1,4 +1,5 @@
 pub mod Adding
+pub mod Running
 pub mod Releasing
 pub mod Sending
 pub mod Showing

@@ -25,21 +25,13 @@ use Rattle.srm_entries.specs.Sessions.{charged}
 use Rattle.srm_entries.specs.Bucket.{Going, GoesRight, entries_of, datagrams_of, lets_go, pops, calls_by, bucket_calls}
 use Rattle.srm_entries.specs.Rates.{gone_so_far, cost_all, tick_in, ticks_of}
 use Rattle.srm_entries.specs.Runs.{EntryRight}
-use Rattle.srm_entries.proofs.Adding.{flat_map-snoc, greatest-append}
+use Rattle.srm_entries.proofs.Adding.{flat_map-snoc}
+use Rattle.srm_entries.proofs.Running.{last_moment-snoc}
 use Rattle.srm_entries.proofs.Cutting.{bucket_calls-append, law_part}
 use Rattle.srm_entries.proofs.Charging.{handed_ticks, handed_last, pops_last, pops_level, cost_of_items, later_same, within_later}
 use Rattle.srm_entries.proofs.Marking.{bucket_calls-snoc, entries-snoc, hands}
 
 -- the moment of a tick is the last one
-
-pub last_moment-snoc : (made : ℕ) (es : List Entry) (e : Entry) → last_moment made (es ++ e ∷ []) ≡ max (last_moment made es) (greatest (clock_of e.verdict e))
-last_moment-snoc made es e =
-    ap (λ ns. max made (greatest ns)) (flat_map-snoc (λ (x : Entry). clock_of x.verdict x) es e)
-    ∙ ap (max made) (greatest-append (flat_map (λ (x : Entry). clock_of x.verdict x) es) (clock_of e.verdict e))
-    ∙ apart made (greatest (flat_map (λ (x : Entry). clock_of x.verdict x) es)) (greatest (clock_of e.verdict e))
-  where
-    apart : (a b c : ℕ) → max a (max b c) ≡ max (max a b) c
-    apart a b c = omega arith
 
 ticked_input : (e : Entry) → ticked e ≡ true → e.input ≡ Ticked
 ticked_input e t = which e.input t

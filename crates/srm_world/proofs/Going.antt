@@ -35,7 +35,7 @@ use Rattle.srm_agent.specs.Fits as agents_fit
 use Rattle.srm_agent.specs.Noting as noting
 use Rattle.srm_entries.specs.Still.{still_entry}
 use Rattle.srm_agent.specs.Noting.{Enters, ReadsAs, AnswersAs, IsTicked, moment_that_counts}
-use Rattle.srm_agent_parts.proofs.Running.{last_moment-snoc, slots-same}
+use Rattle.srm_entries.proofs.Running.{last_moment-snoc, slots-same}
 use Rattle.srm_agent.proofs.Still.{still_fits, same_progress}
 use Rattle.srm_entries.proofs.Showing.{state-snoc}
 use Rattle.srm_entries.proofs.Feeding.{given-snoc}

@@ -22,7 +22,7 @@ use Rattle.srm_outbox.specs.Outs.{IsOut}
 use Rattle.srm_agent.specs.Noting.{moment_that_counts}
 use Rattle.srm_entries.proofs.Adding.{flat_map-snoc}
 use Rattle.srm_agent.proofs.Fitting.{fits_run}
-use Rattle.srm_agent_parts.proofs.Running.{steps_more}
+use Rattle.srm_entries.proofs.Running.{steps_more}
 use Rattle.srm_world.specs.declared.event.Event.{Event}
 use Rattle.srm_world.specs.declared.event.Event.TheVariants.{Deliver}
 use Rattle.srm_world.specs.declared.start.Start.{Start}
