@@ -22,7 +22,8 @@ use Rattle.srm_entries.specs.Entries.{is_gone, known, held, shown_to_exist}
 use Rattle.srm_entries.specs.Distances.{distance_calls, calls_in}
 use Rattle.srm_entries.specs.Verdicts.{settlings}
 use Rattle.srm_agent.specs.Growth.{IsFreshUpTo}
-use Rattle.srm_agent_parts.specs.Growth.{is_between, ShowsToo}
+use Rattle.srm_names.specs.Between.{is_between}
+use Rattle.srm_agent_parts.specs.Growth.{ShowsToo}
 use Rattle.srm_agent_parts.specs.PageTables.{with_pages_of}
 use Rattle.srm_agent_parts.specs.TimersKept.{HaveSettings}
 use Rattle.srm_distance.specs.Fits.{IsTableOf}

@@ -23,7 +23,8 @@ use Rattle.srm_entries.specs.Configs.{Config}
 use Rattle.srm_entries.specs.Entries.{is_gone, held, shown_to_exist, drawops_in}
 use Rattle.srm_entries.specs.Distances.{distance_calls, calls_in, calls_of}
 use Rattle.srm_entries.specs.Verdicts.{settlings, settling_of}
-use Rattle.srm_agent_parts.specs.Growth.{is_between, HoldsToo}
+use Rattle.srm_names.specs.Between.{is_between}
+use Rattle.srm_agent_parts.specs.Growth.{HoldsToo}
 use Rattle.srm_agent_parts.specs.PageTables.{with_pages_of}
 use Rattle.srm_agent_parts.specs.TimersKept.{HaveSettings, TimersContent}
 use Rattle.srm_distance.specs.Fits.{IsTableOf}

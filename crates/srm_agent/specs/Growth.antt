@@ -10,7 +10,7 @@ use Rattle.srm_entries.specs.Configs.{Config}
 use Rattle.srm_agent.specs.Contents.{Content}
 use Rattle.srm_entries.specs.Entries.{known}
 use Rattle.srm_agent.specs.Fits.{Fits}
-use Rattle.srm_agent_parts.specs.Growth.{is_between}
+use Rattle.srm_names.specs.Between.{is_between}
 
 -- the names are those of a stream that aren't known of, up to the greatest of these, in order, after whatever run the agent fitted
 pub record IsFreshUpTo {W : Type 0} (s : Stream) (names : List FullName) (old : Content W) (fresh : List FullName) : Type 0 where

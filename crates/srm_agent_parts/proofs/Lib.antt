@@ -7,6 +7,5 @@ pub mod Missing
 pub mod Dueness
 pub mod RequestTimers
 pub mod Starting
-pub mod Growing
 pub mod Evident
 pub mod Learning

@@ -1,10 +1,8 @@
 -- What a store and what is known of the others become as more is heard.
-use Rattle.std.specs.Prelude.{ℕ, ◌+◌, nat_lt, Bool, ◌&&◌, List, [], ◌++◌, Option, Some, option_map, ◌≡◌, ◌∷◌}
+use Rattle.std.specs.Prelude.{ℕ, List, [], ◌++◌, Option, Some, option_map, ◌≡◌, ◌∷◌}
 use Rattle.std.specs.List.{cons_option}
-use Rattle.srm_names.specs.declared.stream.Stream.{Stream}
 use Rattle.srm_names.specs.FullName.{FullName}
 use Rattle.srm_names.specs.declared.drawop.Drawop.{Drawop}
-use Rattle.srm_names.specs.Names.{same_stream}
 use Rattle.srm_store.specs.Finals.{Settling}
 use Rattle.srm_store.specs.Fits as store
 use Rattle.srm_store.specs.Stores.{StoreContent}
@@ -15,10 +13,6 @@ use Rattle.srm_distance.specs.Content.{Content as DistancesContent}
 use Rattle.srm_distance.specs.Fits as distances
 use Rattle.srm_entries.specs.Distances.{calls_of}
 use Rattle.srm_entries.specs.Verdicts.{settling_of}
-
--- the name is of the stream, and its number between these two
-abbrev pub is_between : Stream → ℕ → ℕ → FullName → Bool
-is_between s above below n = same_stream n.stream s && nat_lt above n.number && nat_lt n.number below
 
 -- these names are known to exist too
 pub record ShowsToo (names : List FullName) (old new : StoreContent) : Type 0 where

@@ -3,4 +3,3 @@ pub mod PageTables
 pub mod Progress
 pub mod TimersKept
 pub mod TimerCalls
-pub mod Examples

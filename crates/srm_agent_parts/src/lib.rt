@@ -14,22 +14,18 @@
 //! has eight.
 #![tactic(auto)]
 
-mod between;
 mod distances;
 mod evidence;
 mod keeping;
-mod mentions;
 mod page_table;
 mod progress;
 mod reports;
 mod roster;
 mod timers;
 
-pub use between::names_between;
 pub use distances::distance_table;
 pub use evidence::{greatest_in, show_all};
 pub use keeping::keep;
-pub use mentions::names_in;
 pub use page_table::PageTable;
 pub use progress::Progress;
 pub use reports::{hear_report, learn};

@@ -8,3 +8,4 @@ pub mod FieldLaws
 pub mod ListLaws
 pub mod ContentLaws
 pub mod JudgingLaws
+pub mod Asked

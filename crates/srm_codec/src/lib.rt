@@ -21,6 +21,7 @@ mod format;
 mod laws;
 mod lists;
 mod mask;
+mod mentions;
 mod reader;
 mod spellable;
 
@@ -30,5 +31,6 @@ pub use encoding::{encode, length};
 pub use fault::DecodeFault;
 pub use format::{DRAWOP_BYTES, ECHO_BYTES, HEAD_BYTES, NAME_BYTES, REPORT_BYTES};
 pub use laws::{judging_undoes_spelling, spellings_are_unique};
+pub use mentions::{names_in, only_name};
 pub use spellable::encodable;
 pub use srm_names::Echo;

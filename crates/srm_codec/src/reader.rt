@@ -188,7 +188,7 @@ impl<'a> Reader<'a> {
     {
         let stream = self.stream(wanted, last)?;
         let number = self.u32()?;
-        Name::new(stream.source, stream.page, number).ok_or(DecodeFault::Number)
+        stream.at(number).ok_or(DecodeFault::Number)
     }
 
     #[tactic(auto, unfolding(crate::specs::Judging::front_at, crate::specs::Judging::size_at, crate::specs::Judging::body_at))]

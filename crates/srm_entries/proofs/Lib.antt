@@ -23,7 +23,6 @@ pub mod AskedExample
 pub mod RepairedExample
 pub mod Naming
 pub mod Marks
-pub mod Asked
 pub mod Ending
 pub mod Holding
 pub mod Setting

@@ -32,6 +32,9 @@ same_page-itself a = and_from _ _ (eq-eqb a.creator a.creator refl) (eq-eqb a.nu
 pub same_stream-itself : (a : Stream) → same_stream a a ≡ true
 same_stream-itself a = and_from _ _ (eq-eqb a.source a.source refl) (same_page-itself a.page)
 
+pub same_name-itself : (a : FullName) → same_name a a ≡ true
+same_name-itself a = and_from _ _ (same_stream-itself a.stream) (eq-eqb a.number a.number refl)
+
 -- each page stands among the first ones
 pub Has-firsts : (p : Page) (pages : List Page) → Has p pages → Has p (firsts same_page pages)
 Has-firsts p [] h = absurd h

@@ -1,11 +1,12 @@
 -- The definitions at worked examples.
-use Rattle.std.specs.Prelude.{◌≡◌, ℕ, ◌==◌, nat_lt, true, false, [], ◌∷◌, length, Option, Some, None, if◌then◌else◌, refl}
+use Rattle.std.specs.Prelude.{◌≡◌, ℕ, ◌==◌, nat_lt, true, false, [], ◌∷◌, map, length, Option, Some, None, if◌then◌else◌, refl}
 use Rattle.srm_names.specs.declared.page.Page.{Page}
 use Rattle.srm_names.specs.declared.stream.Stream.{Stream}
 use Rattle.srm_names.specs.declared.drawop.Drawop.{Drawop}
 use Rattle.srm_names.specs.declared.page_msg.PageMsg.TheVariants.{Open, Draw, Left, Close}
 use Rattle.srm_names.specs.Histories.{IsPrefix, steps, first_of, last_of, since, greatest, first_best, firsts, count_up, until_none}
 use Rattle.srm_names.specs.Names.{first_page, name_below, echo_below, ascending, named, names_up_to, among}
+use Rattle.srm_names.specs.Between.{is_between}
 use Rattle.srm_names.specs.PageFeeds.{is_page_feed, drawops_of}
 
 abbrev later_page : Page
@@ -130,3 +131,13 @@ after_it_left = refl
 
 after_the_close : is_page_feed (Open first_page ∷ Close ∷ Left 0 ∷ []) ≡ false
 after_the_close = refl
+
+-- neither of the two is between them
+between_two_and_five : map (λ n. is_between (stream_of 0 first_page) 2 5 (named (stream_of 0 first_page) n)) (2 ∷ 3 ∷ 4 ∷ 5 ∷ []) ≡ false ∷ true ∷ true ∷ false ∷ []
+between_two_and_five = refl
+
+none_is_between : map (λ n. is_between (stream_of 0 first_page) 3 4 (named (stream_of 0 first_page) n)) (3 ∷ 4 ∷ []) ≡ false ∷ false ∷ []
+none_is_between = refl
+
+of_another_stream : is_between (stream_of 0 first_page) 2 5 (named (stream_of 1 first_page) 3) ≡ false
+of_another_stream = refl

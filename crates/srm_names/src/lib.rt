@@ -9,10 +9,11 @@
 //! assert!(Name::new(source, page, 0).is_none());
 //! ```
 //!
-//! **What is refused.** [`Member::new`] has none from [`MEMBERS`] on, [`Name::new`] none of number 0 or past [`DRAWOPS`]. Copies
-//! are refused for want of memory alone.
+//! **What is refused.** [`Member::new`] has none from [`MEMBERS`] on, [`Name::new`] and [`Stream::at`] none of number 0 or past
+//! [`DRAWOPS`]. Copies and lists are refused for want of memory alone.
 #![tactic(auto)]
 
+mod between;
 mod drawop;
 mod echo;
 mod items;
@@ -25,6 +26,7 @@ mod stream;
 #[cfg(test)]
 mod tests;
 
+pub use between::names_between;
 pub use drawop::Drawop;
 pub use echo::Echo;
 pub use items::Items;

@@ -2,7 +2,7 @@
 
 ghost use Rattle.std.specs.Prelude.{◌≡◌, ◌≤◌, ◌↔◌, IfSome, IsSome};
 ghost use Rattle.srm_names.specs.NameOrder.{IsTotalOrderOfNames};
-ghost use Rattle.srm_names.specs.Names.{name_below};
+ghost use Rattle.srm_names.specs.Names.{name_below, named};
 
 use crate::limits::DRAWOPS;
 use crate::member::Member;
@@ -77,6 +77,16 @@ impl Name {
         ensures { result ≡ name_below self other }
     {
         self < other
+    }
+}
+
+impl Stream {
+    /// The name with this number in the stream. None where the number isn't from 1 to [`DRAWOPS`].
+    pub fn at(&self, number: u32) -> Option<Name>
+        ensures known { IsSome result ↔ ((1 ≤ number) × (number ≤ DRAWOPS)) }
+        ensures value { IfSome result (λ name. name ≡ named self.now number) }
+    {
+        Name::new(self.source, self.page, number)
     }
 }
 

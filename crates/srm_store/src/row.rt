@@ -141,7 +141,7 @@ impl Row {
         if self.holds(number) {
             None
         } else {
-            Name::new(stream.source, stream.page, number)
+            stream.at(number)
         }
     }
 }

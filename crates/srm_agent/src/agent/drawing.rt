@@ -183,5 +183,5 @@ fn name_after(stream: &Stream, count: u32) -> Option<Name>
     ensures value { result ≡ name_after stream.now count }
     ensures of { IfSome result (λ name. name.stream ≡ stream.now) }
 {
-    Name::new(stream.source, stream.page, count + 1)
+    stream.at(count + 1)
 }

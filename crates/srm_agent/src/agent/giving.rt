@@ -19,7 +19,7 @@ use super::Agent;
 use crate::noted::Noted;
 use srm_agent_parts::{Progress, member};
 use srm_entries::{AgentFault, Entry, Input, Verdict};
-use srm_names::{Drawop, Member, Name, PAGES, Page, PageMsg, Stream};
+use srm_names::{Drawop, Member, PAGES, Page, PageMsg, Stream};
 use srm_timers::Words;
 use std::alloc::AllocError;
 
@@ -154,8 +154,7 @@ impl<W: Words + Drop> Agent<W> {
         if given >= self.store.released(stream) {
             return None;
         }
-        self.store
-            .get(Name::new(stream.source, stream.page, given + 1)?)
+        self.store.get(stream.at(given + 1)?)
     }
 }
 

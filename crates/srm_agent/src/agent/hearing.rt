@@ -12,11 +12,10 @@ ghost use Rattle.srm_entries.specs.declared.cause.Outcome.TheVariants.{Taken};
 ghost use Rattle.srm_agent.specs.Noting.{Enters, Stays, ReadsAs, AnswersHeard, Hears};
 
 use super::Agent;
-use super::noting::{Hearing, note, only_name};
+use super::noting::{Hearing, note};
 use crate::heard::Heard;
 use crate::noted::Noted;
-use srm_agent_parts::names_in;
-use srm_codec::{Datagram, DecodeFault, decode};
+use srm_codec::{Datagram, DecodeFault, decode, names_in, only_name};
 use srm_entries::{AgentFault, Cause, Input, Outcome};
 use srm_names::{Items, Name};
 use srm_store::StoreFault;

@@ -1,15 +1,13 @@
 //! What hearing did, and its entry.
 
-ghost use Rattle.std.specs.Prelude.{◌≡◌, ◌≤◌, ◌∷◌, [], Ok, IfOk, IfSome, length, true, vec_capacity};
-ghost use Rattle.srm_codec.specs.Spelling.{names_in};
+ghost use Rattle.std.specs.Prelude.{◌≡◌, ◌≤◌, [], Ok, IfOk, length, true, vec_capacity};
 ghost use Rattle.srm_entries.specs.declared.cause.Outcome.TheVariants.{Taken};
 ghost use Rattle.srm_agent.specs.Heeding.{entry_with, verdict_by};
 
 use crate::heard::Heard;
 use crate::noted::Noted;
-use srm_codec::Datagram;
 use srm_entries::{AgentState, Effects, Entry, Input, Outcome, Verdict};
-use srm_names::{Items, Member, Name};
+use srm_names::{Items, Member};
 use srm_timers::Arm;
 use std::alloc::{AllocError, Global};
 
@@ -98,15 +96,5 @@ pub(super) fn note_arms(copies: &mut Vec<Arm>, notes: bool, arms: &[Arm])
 {
     if notes {
         copies.extend_from_slice(arms).unwrap();
-    }
-}
-
-/// The name of a datagram that has one alone.
-pub(super) fn only_name(datagram: &Datagram) -> Option<Name>
-    ensures { IfSome result (λ name. names_in datagram.now ≡ name ∷ []) }
-{
-    match datagram {
-        Datagram::Data(drawop) | Datagram::Repair { drawop, .. } => Some(drawop.name),
-        _ => None,
     }
 }

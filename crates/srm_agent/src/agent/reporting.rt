@@ -211,7 +211,7 @@ fn numbered(stream: &Stream, known: u32) -> Option<Name>
     requires { known ≤ DRAWOPS }
     ensures { result ≡ option_map (named stream.now) (if_positive known) }
 {
-    Name::new(stream.source, stream.page, known)
+    stream.at(known)
 }
 
 fn session(

@@ -12,9 +12,9 @@ ghost use Rattle.srm_agent.specs.Noting.{Stays};
 
 use super::Agent;
 use super::noting::{Hearing, note_arms, room_to_note, took};
-use srm_agent_parts::{distance_table, hear_report, learn, names_between};
+use srm_agent_parts::{distance_table, hear_report, learn};
 use srm_codec::Datagram;
-use srm_names::Name;
+use srm_names::{Name, names_between};
 use srm_timers::Words;
 use std::alloc::AllocError;
 

@@ -1,11 +1,12 @@
 //! The names of a stream between two numbers.
 
-ghost use Rattle.std.specs.Prelude.{◌≤◌, ◌+◌, IfOk, length};
+ghost use Rattle.std.specs.Prelude.{◌≤◌, ◌+◌, IfOk};
 ghost use Rattle.srm_names.specs.declared.limits.TheConstants.{DRAWOPS};
 ghost use Rattle.srm_names.specs.Names.{AreExactly};
-ghost use Rattle.srm_agent_parts.specs.Growth.{is_between};
+ghost use Rattle.srm_names.specs.Between.{is_between};
 
-use srm_names::{Name, Stream};
+use crate::name::Name;
+use crate::stream::Stream;
 use std::alloc::{AllocError, Global};
 
 /// The names of a stream whose numbers are above one number and below another, in order. Only want of memory refuses it.
@@ -21,7 +22,7 @@ pub fn names_between(
 {
     let mut names = Vec::new(alloc);
     for number in above + 1..below {
-        let name = Name::new(stream.source, stream.page, number).unwrap();
+        let name = stream.at(number).unwrap();
         names.push(name)?;
     }
     Ok(names)

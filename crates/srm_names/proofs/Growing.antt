@@ -7,8 +7,8 @@ use Rattle.std.proofs.lemmas.List.Folds.{list_any-append}
 use Rattle.srm_names.specs.declared.stream.Stream.{Stream}
 use Rattle.srm_names.specs.FullName.{FullName}
 use Rattle.srm_names.specs.Names.{same_stream, same_name, stream_below, name_below, ascending, named, AreExactly, among}
-use Rattle.srm_deadlines.proofs.Same.{same_itself}
-use Rattle.srm_agent_parts.specs.Growth.{is_between}
+use Rattle.srm_names.proofs.Same.{same_name-itself}
+use Rattle.srm_names.specs.Between.{is_between}
 
 below_in_stream : (m n : FullName) → same_stream m.stream n.stream ≡ true → nat_lt m.number n.number ≡ true → name_below m n ≡ true
 below_in_stream m n s lt = or (stream_below m.stream n.stream) (same_stream m.stream n.stream) (nat_lt m.number n.number) s lt
@@ -20,7 +20,7 @@ below_in_stream m n s lt = or (stream_below m.stream n.stream) (same_stream m.st
 -- one more name that is above all
 pub ascending-snoc : (xs : List FullName) (y : FullName) → ascending name_below xs ≡ true → ((m : FullName) → among xs m ≡ true → name_below m y ≡ true) → ascending name_below (xs ++ y ∷ []) ≡ true
 ascending-snoc [] y asc below = refl
-ascending-snoc (x ∷ []) y asc below = let k : name_below x y ≡ true = below x (ap (λ b. b || false) (same_itself x)) in rw k refl
+ascending-snoc (x ∷ []) y asc below = let k : name_below x y ≡ true = below x (ap (λ b. b || false) (same_name-itself x)) in rw k refl
 ascending-snoc (x ∷ z ∷ xs) y asc below =
     let parts = and_parts (name_below x z) (ascending name_below (z ∷ xs)) asc in
     rw parts.0 (ascending-snoc (z ∷ xs) y parts.1 (λ m h. below m (or (same_name m x) (among (z ∷ xs) m) h)))

@@ -1,10 +1,10 @@
 //! The names that a datagram names.
 
-ghost use Rattle.std.specs.Prelude.{◌≡◌, [], ◌∷◌, IfOk};
+ghost use Rattle.std.specs.Prelude.{◌≡◌, [], ◌∷◌, IfOk, IfSome};
 ghost use Rattle.std.specs.List.{AllByRecursion};
 ghost use Rattle.srm_codec.specs.Spelling.{names_in, asked_by, is_name, IsSpellable};
 
-use srm_codec::Datagram;
+use crate::datagram::Datagram;
 use srm_names::Name;
 use std::alloc::{AllocError, Global};
 
@@ -17,6 +17,16 @@ pub fn names_in(alloc: Global, datagram: &Datagram) -> Result<Vec<Name>, AllocEr
         Datagram::Data(drawop) | Datagram::Repair { drawop, .. } => only(alloc, drawop.name),
         Datagram::Request { name, mask, .. } => asked_names(alloc, *name, *mask),
         Datagram::Session { rows, .. } => Vec::from_slice(alloc, rows.as_slice()),
+    }
+}
+
+/// The name of a datagram that has one alone.
+pub fn only_name(datagram: &Datagram) -> Option<Name>
+    ensures { IfSome result (λ name. names_in datagram.now ≡ name ∷ []) }
+{
+    match datagram {
+        Datagram::Data(drawop) | Datagram::Repair { drawop, .. } => Some(drawop.name),
+        _ => None,
     }
 }
 
@@ -39,7 +49,7 @@ fn asked_names(alloc: Global, name: Name, mask: u32) -> Result<Vec<Name>, AllocE
         if rest % 2 == 1 {
             let stream = name.stream();
             let number = name.number() + 1 + bit;
-            names.push(Name::new(stream.source, stream.page, number).unwrap())?;
+            names.push(stream.at(number).unwrap())?;
         }
         rest /= 2;
     }

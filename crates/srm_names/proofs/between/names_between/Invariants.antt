@@ -1,7 +1,7 @@
 use Rattle.std.proofs.Common.{◌≤◌, ◌+◌, max}
 use Rattle.srm_names.specs.Names.{AreExactly}
-use Rattle.srm_agent_parts.specs.Growth.{is_between}
-use Rattle.srm_agent_parts.proofs.between.names_between.Given as goal
+use Rattle.srm_names.specs.Between.{is_between}
+use Rattle.srm_names.proofs.between.names_between.Given as goal
 
 abbrev pub invariant-loop-number : goal.invariant-loop-number
 invariant-loop-number l = record {
