@@ -1,12 +1,12 @@
 -- What is first, what is named and what is due in lists in order.
-use Rattle.std.proofs.Common.{◌≡◌, ℕ, zero, suc, ◌+◌, ◌<◌, ◌≤◌, Bool, true, false, cond, ◌&&◌, ◌||◌, List, [], ◌∷◌, map, length, take, get_or, refl, sym, ap, subst, ◌∙◌, arith, inl, inr, add-one}
+use Rattle.std.proofs.Common.{◌≡◌, ℕ, zero, suc, ◌+◌, ◌<◌, ◌≤◌, Bool, true, false, cond, ◌||◌, List, [], ◌∷◌, map, length, take, get_or, refl, sym, ap, subst, ◌∙◌, arith, inl, inr, add-one}
 use Rattle.std.specs.Prelude.{filter, Option, Some, None, IfSome, slice_get, Result, Ok, Err, is_ok}
 use Rattle.std.specs.declared.cmp.Ordering.{Ordering}
 use Rattle.std.specs.declared.cmp.Ordering.TheVariants.{Less, Equal, Greater}
 use Rattle.std.specs.List.{list_any, All, AllWithin}
 use Rattle.std.specs.List.Sorted.{IsPermutation, IsSorted, IsSortedBy, IsPartitionPoint, IsBinarySearchResult, IsSearchInRange}
 use Rattle.std.specs.Ordering.{is_lt}
-use Rattle.std.proofs.lemmas.Bool.{and_parts, cases_lt}
+use Rattle.std.proofs.lemmas.Bool.{and_from, and_parts, cases_lt}
 use Rattle.std.proofs.lemmas.Cmp.{tied_itself}
 use Rattle.std.proofs.lemmas.List.Sorted.{searchable_from_sorted, list_any-IsPermutation}
 use Rattle.srm_names.specs.FullName.{FullName}
@@ -140,37 +140,43 @@ fewer p q (x ∷ xs) = go (p x) refl (q x) (fewer p q xs)
     go false e true h = subst (λ c. length (cond c (x ∷ filter p (filter q xs)) (filter p (filter q xs))) ≤ length (filter p xs)) (sym e) h
     go false e false h = h
 
--- names that are sorted and stand once each rise
-pub rise : (ns : List FullName) → IsSorted name_order ns → ((n : FullName) → length (filter (same_name n) ns) ≤ 1) → ascending name_below ns ≡ true
-rise [] sorted once = refl
-rise (a ∷ []) sorted once = refl
-rise (a ∷ b ∷ ns) sorted once = ap (λ c. c && ascending name_below (b ∷ ns)) first ∙ rise (b ∷ ns) tail shorter
+-- what is sorted and stands once each rises
+pub rise_by : {X : Type 0} (order : X → X → Ordering) (below same : X → X → Bool) → ((a b : X) → is_lt (order a b) ≡ below a b) → ((a b : X) → same a b ≡ false → below b a ≡ false → below a b ≡ true)
+    → ((a : X) → same a a ≡ true) → (xs : List X) → IsSorted order xs → ((x : X) → length (filter (same x) xs) ≤ 1) → ascending below xs ≡ true
+rise_by order below same lt_is next itself [] sorted once = refl
+rise_by order below same lt_is next itself (a ∷ []) sorted once = refl
+rise_by order below same lt_is next itself (a ∷ b ∷ xs) sorted once =
+    and_from _ _ (next a b (differ (same a b) refl) (sym (lt_is b a) ∙ sorted 0 a (omega arith) (omega arith))) (rise_by order below same lt_is next itself (b ∷ xs) tail shorter)
   where
-    twice : same_name a b ≡ true → ⊥
-    twice e =
-        let k : length (cond (same_name a a) (a ∷ cond (same_name a b) (b ∷ filter (same_name a) ns) (filter (same_name a) ns)) (cond (same_name a b) (b ∷ filter (same_name a) ns) (filter (same_name a) ns))) ≤ 1 = once a in
-        let l : length (a ∷ b ∷ filter (same_name a) ns) ≤ 1 =
-        subst (λ c. length (a ∷ cond c (b ∷ filter (same_name a) ns) (filter (same_name a) ns)) ≤ 1) e
-        (subst (λ c. length (cond c (a ∷ cond (same_name a b) (b ∷ filter (same_name a) ns) (filter (same_name a) ns)) (cond (same_name a b) (b ∷ filter (same_name a) ns) (filter (same_name a) ns))) ≤ 1) (same_itself a) k) in
-        omega arith
+    differ : (e : Bool) → same a b ≡ e → same a b ≡ false
+    differ false e = e
+    differ true e =
+        let k : length (a ∷ b ∷ filter (same a) xs) ≤ 1 =
+        subst (λ c. length (a ∷ cond c (b ∷ filter (same a) xs) (filter (same a) xs)) ≤ 1) e
+        (subst (λ c. length (cond c (a ∷ filter (same a) (b ∷ xs)) (filter (same a) (b ∷ xs))) ≤ 1) (itself a) (once a)) in
+        absurd (omega arith)
 
-    first : name_below a b ≡ true
-    first = elim (names_in_order.total a b) [
-      | inl below ↦ below
-      | inr (inl same) ↦ absurd (twice (subst (λ n. same_name a n ≡ true) same (same_itself a)))
-      | inr (inr above) ↦ absurd (let k : true ≡ false = sym above ∙ sym (name_lt_is b a) ∙ sorted 0 a (omega arith) (omega arith) in cc)
-    ]
-
-    tail : IsSorted name_order (b ∷ ns)
+    tail : IsSorted order (b ∷ xs)
     tail k d low high =
-        ap (λ m. is_lt (name_order (get_or (a ∷ b ∷ ns) m d) (get_or (b ∷ ns) k d))) (let e : suc (k + 1) ≡ suc k + 1 = omega arith in e) ∙ sorted (suc k) d (omega arith) (omega arith)
+        ap (λ m. is_lt (order (get_or (a ∷ b ∷ xs) m d) (get_or (b ∷ xs) k d))) (let e : suc (k + 1) ≡ suc k + 1 = omega arith in e) ∙ sorted (suc k) d (omega arith) (omega arith)
 
-    shorter : (n : FullName) → length (filter (same_name n) (b ∷ ns)) ≤ 1
-    shorter n = go (same_name n a) (once n)
+    shorter : (x : _) → length (filter (same x) (b ∷ xs)) ≤ 1
+    shorter x = go (same x a) (once x)
       where
-        go : (c : Bool) → length (cond c (a ∷ filter (same_name n) (b ∷ ns)) (filter (same_name n) (b ∷ ns))) ≤ 1 → length (filter (same_name n) (b ∷ ns)) ≤ 1
+        go : (c : Bool) → length (cond c (a ∷ filter (same x) (b ∷ xs)) (filter (same x) (b ∷ xs))) ≤ 1 → length (filter (same x) (b ∷ xs)) ≤ 1
         go true h = omega arith
         go false h = h
+
+-- names among them
+pub rise : (ns : List FullName) → IsSorted name_order ns → ((n : FullName) → length (filter (same_name n) ns) ≤ 1) → ascending name_below ns ≡ true
+rise ns sorted once = rise_by name_order name_below same_name name_lt_is next same_itself ns sorted once
+  where
+    next : (a b : FullName) → same_name a b ≡ false → name_below b a ≡ false → name_below a b ≡ true
+    next a b e f = elim (names_in_order.total a b) [
+      | inl below ↦ below
+      | inr (inl same) ↦ absurd (let k : true ≡ false = sym (subst (λ n. same_name a n ≡ true) same (same_itself a)) ∙ e in cc)
+      | inr (inr above) ↦ absurd (let k : true ≡ false = sym above ∙ f in cc)
+    ]
 
 pub due_names : (now : ℕ) (pairs : List Timed) (count : ℕ) (names sorted : List FullName) → ((n : FullName) → length (of_name n pairs) ≤ 1) → count ≤ length pairs
     → IsPartitionPoint (λ t. is_due now t ≡ true) (λ t. is_due now t ≡ false) pairs count → names ≡ names_of (take count pairs) → IsPermutation names sorted → IsSorted name_order sorted
