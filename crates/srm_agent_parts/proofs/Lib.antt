@@ -5,6 +5,12 @@ pub mod Roomy
 pub mod Midway
 pub mod Missing
 pub mod Dueness
+pub mod RisingNames
+pub mod AskedNames
+pub mod JoinedArms
+pub mod OneAnswered
+pub mod RequestSays
+pub mod RequestSettings
 pub mod RequestTimers
 pub mod Starting
 pub mod Evident

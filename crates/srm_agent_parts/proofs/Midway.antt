@@ -1,10 +1,10 @@
 -- The timers in the middle of an entry: what of them was set, gained and repaired so far; and what each call keeps.
-use Rattle.std.proofs.Common.{◌≡◌, ℕ, ◌+◌, ◌*◌, ◌<◌, ◌≤◌, min, Bool, true, false, ◌&&◌, ◌||◌, List, [], ◌∷◌, ◌++◌, refl, ap, sym, ◌∙◌, subst, arith, inl, inr}
+use Rattle.std.proofs.Common.{◌≡◌, ℕ, ◌+◌, ◌*◌, ◌<◌, ◌≤◌, min, Bool, true, false, ◌&&◌, ◌||◌, List, [], ◌∷◌, ◌++◌, refl, ap, sym, ◌∙◌, subst, arith, inl, inr, zero, suc, length, get_or}
 use Rattle.std.specs.Prelude.{◌⊎◌, nat_lt, nat_le, if◌then◌else◌, Option, Some, None, is_some, option_map, IfSome, Result, Ok, Err, IfOk, OnErr}
 use Rattle.std.proofs.lemmas.Bool.Decides.{nat_tests}
 use Rattle.srm_names.specs.FullName.{FullName}
 use Rattle.srm_names.specs.Histories.{or_else, first_of}
-use Rattle.srm_names.specs.Names.{name_below, ascending, among}
+use Rattle.srm_names.specs.Names.{name_below, ascending, among, same_name}
 use Rattle.srm_names.proofs.Snoc.{first_of-snoc}
 use Rattle.srm_timers.specs.declared.arm.Arm.{Arm}
 use Rattle.srm_timers.specs.declared.arm.ArmKind.{ArmKind}
@@ -14,18 +14,20 @@ use Rattle.srm_timers.specs.Arms as timers
 use Rattle.srm_timers.specs.Arms.{setting, arm_names, AreDrawn, end_of, ran_out, RunsOutFirst, ArmsAre, arm_of}
 use Rattle.srm_timers.specs.Timers.{armed_at}
 use Rattle.srm_deadlines.specs.Least.{lesser}
-use Rattle.srm_timers.specs.AskCalls.{AskCall, AskContent, AskFits, AskStays, AskDue, AskTimersRun, AskNext, AskedFirst, AskHolds, ask_timer, first_exponent}
-use Rattle.srm_timers.specs.FixCalls.{FixCall, FixContent, FixFits, FixStays, FixDue, FixNext, FixHolds, FixPlace, fix_timer, asked_first, is_off}
+use Rattle.srm_timers.specs.AskCalls.{AskCall, AskContent, AskFits, AskStays, AskDue, AskTimersRun, AskNext, AskedFirst, AskHolds, ask_timer, first_exponent, AskReady, AnswerReady}
+use Rattle.srm_timers.specs.FixCalls.{FixCall, FixContent, FixFits, FixStays, FixDue, FixNext, FixHolds, FixPlace, fix_timer, asked_first, is_off, FixPlaces}
 use Rattle.srm_timers.specs.Distances.{distance_to}
 use Rattle.srm_entries.specs.declared.entry.Entry.{Entry}
 use Rattle.srm_entries.specs.Configs.{Config}
 use Rattle.srm_entries.specs.Entries.{is_missing}
 use Rattle.srm_entries.specs.Distances.{distance}
-use Rattle.srm_entries.specs.Timers.{arm_in, last_ask, asker, repaired, first_asker, fix_running, held_off}
+use Rattle.srm_entries.specs.Timers.{arm_in, last_ask, asker, repaired, first_asker, fix_running, held_off, low_of, high_of}
 use Rattle.srm_agent_parts.specs.TimersKept.{TimersContent, TimersFit, shown_if}
 use Rattle.srm_agent_parts.specs.TimerCalls.{KeepSettings, WaitsAreDrawn, TimersStay, AreDueAsks, AreDueFixes, AsksPending, FixesPending, IsBefore, TimersNext, ask_running}
 use Rattle.srm_entries.proofs.Adding.{last_ask-snoc, fix_running-snoc, held_off-snoc}
 use Rattle.srm_entries.proofs.Setting.{of_kind, find_kind, all_asks, drawn_asks}
+use Rattle.srm_timers.proofs.Arming.{same_itself}
+use Rattle.srm_agent_parts.proofs.RisingNames.{later_among}
 
 -- the timer that an arm of a kind made, by these arms
 abbrev pub armed_as : ArmKind → ℕ → List Arm → FullName → Option Armed
@@ -289,3 +291,40 @@ first_of_both t a b asks fixes = record {
         is_one = one_of_both (ask_running past) (fix_running past) a b p q;
       };
 }
+
+-- rooms that stay
+pub room_stays : (names : List FullName) (a b : AskContent) → AnswerReady names a → AskHolds a b → AnswerReady names b
+room_stays names a b ready holds =
+    let set : AskReady names b = record {
+      ends = record { places = λ n at. holds.ends.places n (ready.detect.set.ends.places n at); room = omega (arith, ready.detect.set.ends.room, holds.ends.room) };
+      timers = λ n at. holds.timers n (ready.detect.set.timers n at);
+    } in
+    record {
+      detect = record { set = set; list = omega (arith, ready.detect.list, holds.detect_list) };
+      due = record { set = set; list = omega (arith, ready.due.list, holds.due_list); look_up = omega (arith, ready.due.look_up, holds.names) };
+    }
+
+pub places_stay : (names : List FullName) (a b : FixContent) → FixPlaces names a → FixHolds a b → FixPlaces names b
+places_stay names a b places holds = record { each = λ n at. holds.each n (places.each n at) }
+
+pub place_at : (names : List FullName) (i : ℕ) (name : FullName) (a : FixContent) → i < length names → name ≡ get_or names i name → FixPlaces names a → FixPlace a name
+place_at names i name a lt is places = places.each name (there names i lt (ap (λ n. same_name name n) (sym is) ∙ same_itself name))
+  where
+    there : (ns : List FullName) (j : ℕ) → j < length ns → same_name name (get_or ns j name) ≡ true → among ns name ≡ true
+    there [] j l e = absurd (omega (arith, l))
+    there (n ∷ ns) zero l e = ap (λ b. b || among ns name) e
+    there (n ∷ ns) (suc j) l e = later_among name n ns (there ns j (omega (arith, l)) e)
+
+pub settings_keep : (a b : TimersContent) → AskHolds a.asks b.asks → FixHolds a.fixes b.fixes → KeepSettings a b
+settings_keep a b p q = record { each = λ c s. record { c1 = p.c1 ∙ s.c1; c2 = p.c2 ∙ s.c2; d1 = q.d1 ∙ s.d1; d2 = q.d2 ∙ s.d2 } }
+
+-- words that are drawn one after another
+drawn_append : {W : Type 0} (draw : W → ℕ × W) (low high : Arm → ℕ) (from mid to : W) (xs ys : List Arm) → AreDrawn draw low high from xs mid → AreDrawn draw low high mid ys to → AreDrawn draw low high from (xs ++ ys) to
+drawn_append draw low high from mid to [] ys h k = subst (λ w. AreDrawn draw low high w ys to) h k
+drawn_append draw low high from mid to (x ∷ xs) ys h k = (h.0, drawn_append draw low high (draw from).1 mid to xs ys h.1 k)
+
+pub waits_join : {W : Type 0} (draw : W → ℕ × W) (t : TimersContent) (from mid to : W) (xs ys all : List Arm) → all ≡ xs ++ ys → WaitsAreDrawn draw t from xs mid → WaitsAreDrawn draw t mid ys to → WaitsAreDrawn draw t from all to
+waits_join draw t from mid to xs ys all is h k = rw is (record { each = λ c s. drawn_append draw (low_of c) (high_of c) from mid to xs ys (h.each c s) (k.each c s) })
+
+pub no_waits : {W : Type 0} (draw : W → ℕ × W) (t : TimersContent) (from : W) (arms : List Arm) → arms ≡ [] → WaitsAreDrawn draw t from arms from
+no_waits draw t from arms is = rw is (record { each = λ c s. refl })

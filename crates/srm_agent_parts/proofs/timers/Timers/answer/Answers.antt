@@ -1,5 +1,5 @@
 use Rattle.std.proofs.Common.{refl}
-use Rattle.srm_agent_parts.proofs.RequestTimers.{answered_unheld}
+use Rattle.srm_agent_parts.proofs.OneAnswered.{answered_unheld}
 use Rattle.srm_agent_parts.proofs.timers.Timers.answer.Goals as goal
 
 pub returns-else-is_held-clause-answered : goal.returns-else-is_held-clause-answered

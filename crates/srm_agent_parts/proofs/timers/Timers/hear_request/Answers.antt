@@ -1,7 +1,8 @@
 use Rattle.std.proofs.Common.{◌++◌, length, length-append, ap, ◌∙◌, arith}
 use Rattle.std.specs.Prelude.{option_to_list}
-use Rattle.srm_agent_parts.proofs.Midway.{keep_on, waits_before}
-use Rattle.srm_agent_parts.proofs.RequestTimers.{one_more_at_most, one_more_answered, waits_join, settings_keep, places_stay, room_stays, found_fits, request_hears}
+use Rattle.srm_agent_parts.proofs.Midway.{keep_on, waits_before, waits_join, settings_keep, places_stay, room_stays}
+use Rattle.srm_agent_parts.proofs.RequestTimers.{one_more_at_most, found_fits, request_hears}
+use Rattle.srm_agent_parts.proofs.OneAnswered.{one_more_answered}
 use Rattle.srm_agent_parts.proofs.timers.Timers.hear_request.Goals as goal
 
 pub loop-name-preserved : goal.loop-name-preserved

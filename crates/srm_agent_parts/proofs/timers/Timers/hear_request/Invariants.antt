@@ -3,7 +3,7 @@ use Rattle.std.specs.Prelude.{vec_capacity}
 use Rattle.srm_timers.specs.AskCalls.{AnswerReady}
 use Rattle.srm_timers.specs.FixCalls.{FixPlaces}
 use Rattle.srm_agent_parts.specs.TimerCalls.{KeepSettings, WaitsAreDrawn}
-use Rattle.srm_agent_parts.proofs.RequestTimers.{AnsweredSoFar}
+use Rattle.srm_agent_parts.proofs.OneAnswered.{AnsweredSoFar}
 use Rattle.srm_agent_parts.proofs.timers.Timers.hear_request.Given as goal
 
 abbrev pub invariant-loop-name : goal.invariant-loop-name
