@@ -3,6 +3,7 @@ use Rattle.std.proofs.Common.{◌≡◌, ℕ, ◌+◌, ◌==◌, ◌<◌, ◌≤
 use Rattle.std.specs.Prelude.{Option, Some, None, option_map, option_to_list, nat_le, IfSome, if◌then◌else◌}
 use Rattle.std.specs.List.{list_any, AllByRecursion}
 use Rattle.std.proofs.lemmas.List.{map-append}
+use Rattle.srm_names.proofs.Lists.{AllByRecursion-append}
 use Rattle.srm_codec.specs.declared.datagram.Datagram.{Datagram}
 use Rattle.srm_codec.specs.declared.datagram.Datagram.TheVariants.{Data, Request, Repair, Session}
 use Rattle.srm_timers.specs.declared.arm.Arm.{Arm}
@@ -33,7 +34,6 @@ use Rattle.srm_outbox.specs.Answering.{AreAnswers}
 use Rattle.srm_outbox.specs.Outbox.{WentContent}
 use Rattle.srm_agent.specs.Noting.{Stays}
 use Rattle.srm_agent.specs.Ticking.{TicksAs, datagrams_of, tick_entry, IsReportAt, IsReportIf, IsDue, HandsOut, SendsAll, data_waits, last_report, state_after, due_then}
-use Rattle.srm_outbox.proofs.Handing.{all-append}
 use Rattle.srm_entries.proofs.Ending.{ending_of, ending_is, EndsIn, NoSessions, charged_is, due_by}
 use Rattle.srm_agent.proofs.Fitting.{refit, roomy}
 use Rattle.srm_agent.proofs.Sent.{bucket_ticks}
@@ -312,7 +312,7 @@ acts_outs draw a b d f z moment due arms went last outs answered s is = (
       ∙ ap (λ xs. datagrams_of xs ++ datagrams_of (option_to_list (option_map out_of last))) s.sent.lets.outs
       ∙ ap (λ gs. gs ++ datagrams_of (option_to_list (option_map out_of last))) (sent_outs d.config.me d.config.session s.sent.lets.items own ∙ sym s.sent.lets.noted)
       ∙ ap (λ gs. went.noted ++ gs) (last_out a.config.session last ending) ∙ sym s.outs_are),
-  subst (AllByRecursion (IsOut a.config.session)) (sym is) (all-append (IsOut a.config.session) went.outs (option_to_list (option_map out_of last))
+  subst (AllByRecursion (IsOut a.config.session)) (sym is) (AllByRecursion-append (IsOut a.config.session) went.outs (option_to_list (option_map out_of last))
       (subst (AllByRecursion (IsOut a.config.session)) (sym s.sent.lets.outs) (subst (λ n. AllByRecursion (IsOut n) (map (λ (o : Outgoing). o.out) s.sent.lets.items)) (ap (λ k. k.session) d_config) (sent_spelled d.config.me d.config.session s.sent.lets.items own)))
       (last_spelled a.config.session last ending)),
 )

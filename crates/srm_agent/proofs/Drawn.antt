@@ -15,7 +15,7 @@ use Rattle.srm_names.specs.FullName.{FullName}
 use Rattle.srm_names.specs.Histories.{steps, greatest, firsts, first_of, last_of}
 use Rattle.srm_names.specs.Names.{first_page, same_page, same_stream, same_name, named, among}
 use Rattle.srm_names.proofs.Same.{same_page-is, same_page-itself, same_stream-is, same_stream-itself}
-use Rattle.srm_names.proofs.Lists.{Has, Has-append, Has-front, Has-back, Has-map, map-Has}
+use Rattle.srm_names.proofs.Lists.{Has, Has-append, Has-front, Has-back, Has-map, map-Has, AllByRecursion-snoc}
 use Rattle.srm_names.proofs.Snoc.{along, steps-snoc, last_of-snoc, first_of-snoc, or_else-none}
 use Rattle.srm_codec.specs.declared.datagram.Datagram.{Datagram}
 use Rattle.srm_codec.specs.declared.datagram.Datagram.TheVariants.{Data}
@@ -321,11 +321,6 @@ module _ (me moment : ℕ) (page : Page) (body : List ℕ) (stamp : ℕ) (after 
   distances_kept : (n : ℕ) → distance_calls n (past ++ e ∷ []) ≡ distance_calls n past
   distances_kept n = flat_map-snoc (calls_in n) past e ∙ append-nil (distance_calls n past)
 
--- what holds of each of a list, and of one more
-all_more : {X : Type 0} (P : X → Type 0) (xs : List X) (x : X) → AllByRecursion P xs → P x → AllByRecursion P (xs ++ x ∷ [])
-all_more P [] x all p = (p, tt)
-all_more P (y ∷ xs) x all p = (all.0, all_more P xs x all.1 p)
-
 -- the agent that fits a run fits it with the draw
 module _ {W : Type 0} (c : Config) (made : ℕ) (past : List Entry) (a n : Content W) (moment : ℕ) (page : Page) (body : List ℕ) (h : Fits c made past a) where
   abbrev made_drawop : Drawop
@@ -368,7 +363,7 @@ module _ {W : Type 0} (c : Config) (made : ℕ) (past : List Entry) (a n : Conte
     bucket = bucket_gains c.me moment page body moment a.state past c a.bucket n.bucket item sent charged adds h.bucket;
     due = ap (λ (x : Content W). x.due) is ∙ h.due ∙ sym (same_session_due c.me moment page body moment a.state past c made);
     own = λ page2. own_kept c.me moment page body moment a.state past page2 (h.own page2);
-    spelled = subst (AllByRecursion is_drawop) (sym (held-snoc past entry)) (all_more is_drawop (held past) made_drawop h.spelled spellable);
+    spelled = subst (AllByRecursion is_drawop) (sym (held-snoc past entry)) (AllByRecursion-snoc is_drawop (held past) made_drawop h.spelled spellable);
   }
 
 -- what a draw is refused for

@@ -13,6 +13,7 @@ use Rattle.srm_names.specs.Histories.{steps, last_of, greatest, firsts}
 use Rattle.srm_names.specs.Names.{first_page, same_page, same_stream}
 use Rattle.srm_names.proofs.Snoc.{steps-snoc, last_of-snoc}
 use Rattle.srm_names.proofs.Same.{same_stream-is}
+use Rattle.srm_names.proofs.Lists.{AllByRecursion-append}
 use Rattle.srm_codec.specs.declared.datagram.Datagram.{Datagram}
 use Rattle.srm_codec.specs.declared.datagram.Datagram.TheVariants.{Data, Request, Repair, Session}
 use Rattle.srm_codec.specs.Spelling.{names_in, is_drawop, IsSpellable}
@@ -160,10 +161,6 @@ same_own c made past a b moment g arms h page =
     ∙ sym (known-snoc past e (stream_on c.me page) ∙ ap (λ ns. max (known past (stream_on c.me page)) (greatest (flat_map (number_in (stream_on c.me page)) ns))) (append-nil (names_in g))
     ∙ own_known (known past (stream_on c.me page)) (greatest (flat_map (number_in (stream_on c.me page)) (names_in g))) less)
 
-all_more : {X : Type 0} (P : X → Type 0) (xs ys : List X) → AllByRecursion P xs → AllByRecursion P ys → AllByRecursion P (xs ++ ys)
-all_more P [] ys h k = k
-all_more P (x ∷ xs) ys h k = (h.0, all_more P xs ys h.1 k)
-
 drawops_spelled : (g : Datagram) → IsSpellable g → AllByRecursion is_drawop (drawops_in (Some g))
 drawops_spelled (Data d) h = (h, tt)
 drawops_spelled (Repair s d) h = (h.1, tt)
@@ -188,7 +185,7 @@ heard_fits c made past a b moment g arms h =
       bucket = rw h.goes.bucket (bucket_stays c past moment g arms a.state a.bucket h.fits.bucket);
       due = h.goes.due ∙ h.fits.due ∙ sym (same_due c made past moment g arms a.state);
       own = same_own c made past a b moment g arms h;
-      spelled = rw (held-snoc past e) (all_more is_drawop (held past) (drawops_in (Some g)) h.fits.spelled (drawops_spelled g h.spellable));
+      spelled = rw (held-snoc past e) (AllByRecursion-append is_drawop (held past) (drawops_in (Some g)) h.fits.spelled (drawops_spelled g h.spellable));
     }
   where
     clock : (l m : ℕ) → l ≤ m → max l (max m 0) ≡ m

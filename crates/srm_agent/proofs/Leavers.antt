@@ -1,10 +1,11 @@
 -- Who is known to have left, and how many aren't.
-use Rattle.std.proofs.Common.{◌≡◌, ℕ, zero, suc, ◌+◌, ◌≤◌, Bool, true, false, not, List, [], ◌∷◌, ◌++◌, refl, ap, sym, ◌∙◌, arith, add-one}
+use Rattle.std.proofs.Common.{◌≡◌, ℕ, ◌+◌, ◌≤◌, Bool, true, false, not, List, [], ◌∷◌, refl, ap, sym, ◌∙◌, arith}
 use Rattle.std.specs.Prelude.{Option, Some, None, is_some, count_by, cond}
 use Rattle.std.proofs.lemmas.List.Sums.{sum_by-append}
 use Rattle.srm_names.specs.declared.stream.Stream.{Stream}
 use Rattle.srm_names.specs.FullName.{FullName}
 use Rattle.srm_names.specs.Histories.{count_up}
+use Rattle.srm_names.proofs.Snoc.{up_to_more}
 use Rattle.srm_store.specs.Finals.{final_in}
 use Rattle.srm_entries.specs.declared.entry.Entry.{Entry}
 use Rattle.srm_entries.specs.Configs.{Config}
@@ -22,13 +23,6 @@ told_by_final (Some rows) s = refl
 pub record CountsLeft {W : Type 0} (a : Content W) (n count : ℕ) : Type 0 where
   pub is : (c : Config) (made : ℕ) (past : List Entry) → Fits c made past a → count ≡ count_by (λ m. not (is_some (told past m))) (count_up 0 n)
   pub few : count ≤ n
-
-count_up-last : (from n : ℕ) → count_up from (suc n) ≡ count_up from n ++ (from + n) ∷ []
-count_up-last from zero = ap (λ k. k ∷ []) (omega arith)
-count_up-last from (suc n) = ap (λ ks. from ∷ ks) (count_up-last (from + 1) n ∙ ap (λ k. count_up (from + 1) n ++ k ∷ []) (omega arith))
-
-pub up_to_more : (n : ℕ) → count_up 0 (n + 1) ≡ count_up 0 n ++ n ∷ []
-up_to_more n = ap (count_up 0) (add-one n) ∙ count_up-last 0 n ∙ ap (λ k. count_up 0 n ++ k ∷ []) (omega arith)
 
 count_one_more : (p : ℕ → Bool) (n : ℕ) → count_by p (count_up 0 (n + 1)) ≡ count_by p (count_up 0 n) + cond (p n) 1 0
 count_one_more p n = ap (count_by p) (up_to_more n) ∙ sum_by-append (λ m. cond (p m) 1 0) (count_up 0 n) (n ∷ []) ∙ (let k : ℕ = cond (p n) 1 0 in omega arith)

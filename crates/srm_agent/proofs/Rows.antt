@@ -12,7 +12,7 @@ use Rattle.srm_names.specs.declared.stream.Stream.{Stream}
 use Rattle.srm_names.specs.FullName.{FullName}
 use Rattle.srm_names.specs.Histories.{steps, count_up, greatest}
 use Rattle.srm_names.specs.Names.{named, first_page, same_page, same_stream, page_below, stream_below, ascending}
-use Rattle.srm_names.proofs.Snoc.{along}
+use Rattle.srm_names.proofs.Snoc.{along, up_to_more}
 use Rattle.srm_names.proofs.Lists.{Has, none_passes}
 use Rattle.srm_names.proofs.Same.{same_stream-is, Has-firsts}
 use Rattle.srm_names.proofs.Orders.{and_left, and_right}
@@ -27,7 +27,6 @@ use Rattle.srm_entries.specs.Sessions.{if_positive, row_at}
 use Rattle.srm_entries.specs.Verdicts.{stream_on}
 use Rattle.srm_agent.specs.Reports.{row_for, IsRow, AreOf, AreRowsOf, streams_on, AreShown, AreOwn, AreReported}
 use Rattle.srm_entries.proofs.Telling.{ToldRight, told_step, told_start}
-use Rattle.srm_agent.proofs.Leavers.{up_to_more}
 
 -- ---- one row
 

@@ -5,6 +5,7 @@ use Rattle.std.specs.List.{list_any, AllByRecursion}
 use Rattle.std.proofs.lemmas.List.{append-nil}
 use Rattle.std.proofs.lemmas.List.Elements.{filter_map-append}
 use Rattle.srm_names.specs.FullName.{FullName}
+use Rattle.srm_names.proofs.Lists.{AllByRecursion-append}
 use Rattle.srm_codec.specs.declared.datagram.Datagram.{Datagram}
 use Rattle.srm_codec.specs.Spelling.{sender_of, IsSpellable}
 use Rattle.srm_timers.specs.declared.arm.Arm.{Arm}
@@ -24,7 +25,6 @@ use Rattle.srm_agent.specs.Fits.{Fits, BucketFits}
 use Rattle.srm_agent_parts.specs.TimersKept.{TimersFit}
 use Rattle.srm_entries.proofs.Adding.{flat_map-snoc}
 use Rattle.srm_entries.proofs.Ending.{EndsIn, NoSessions, session_right, due_by, due_after}
-use Rattle.srm_outbox.proofs.Handing.{all-append}
 use Rattle.srm_entries.proofs.Running.{steps_more, shown-page-snoc, slots-same}
 use Rattle.srm_entries.proofs.Showing.{held-snoc, shown-snoc, drawn-snoc, state-snoc}
 use Rattle.srm_entries.proofs.Spending.{tick_is_last}
@@ -77,7 +77,7 @@ pub record TickRight (c : Config) (made : ℕ) (past : List Entry) (e : Entry) (
 pub tick_right : (c : Config) (made moment : ℕ) (past : List Entry) (asks fixes : List FullName) (arms : List Arm) (outs : List Datagram) (after : AgentState) (wanted : Option Bool) (went : List Datagram) (o : Option Datagram)
     → TickRight c made past (tick_entry c.me moment asks fixes arms outs after) wanted went o → EntryRight c made (record { before = past; this = tick_entry c.me moment asks fixes arms outs after })
 tick_right c made moment past asks fixes arms outs after wanted went o t =
-    let all : AllByRecursion (IsSent c.me) outs = subst (AllByRecursion (IsSent c.me)) (sym t.outs) (all-append (IsSent c.me) went (option_to_list o) t.each t.last) in
+    let all : AllByRecursion (IsSent c.me) outs = subst (AllByRecursion (IsSent c.me)) (sym t.outs) (AllByRecursion-append (IsSent c.me) went (option_to_list o) t.each t.last) in
     record {
       member = refl;
       moment = t.moment;

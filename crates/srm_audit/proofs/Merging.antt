@@ -6,7 +6,7 @@ use Rattle.std.proofs.lemmas.Bool.{cases_eq, ne_eqb}
 use Rattle.std.proofs.lemmas.List.{append-nil}
 use Rattle.std.proofs.lemmas.Option.{same_Some, slice_get-get_or, none-some}
 use Rattle.srm_names.specs.Histories.{Step}
-use Rattle.srm_names.proofs.Lists.{AllByRecursion-parts}
+use Rattle.srm_names.proofs.Lists.{AllByRecursion-parts, AllByRecursion-snoc}
 use Rattle.srm_codec.specs.declared.datagram.Datagram.{Datagram}
 use Rattle.srm_entries.specs.declared.entry.Entry.{Entry}
 use Rattle.srm_entries.specs.Entries.{heard, sent}
@@ -71,10 +71,6 @@ goes_after m new k queue rest popped e l is pops some queues entries outs outs_a
 
 -- one entry more keeps all
 
-pub all_snoc : {X : Type 0} (P : X → Type 0) (xs : List X) (x : X) → AllByRecursion P xs → P x → AllByRecursion P (xs ++ x ∷ [])
-all_snoc P [] x all p = (p, tt)
-all_snoc P (y ∷ xs) x all p = (all.0, all_snoc P xs x all.1 p)
-
 pub other_member : (k : ℕ) (es : List Entry) (e : Entry) → e.member ≢ k → of_member k (es ++ e ∷ []) ≡ of_member k es
 other_member k es e ne = of_member-append k es (e ∷ []) ∙ ap (λ b. of_member k es ++ cond b (e ∷ []) []) (ne_eqb e.member k ne) ∙ append-nil (of_member k es)
 
@@ -88,7 +84,7 @@ advances_keeps k old new a q m = record {
   count = ap length a.queues ∙ length-set old.queues k a.rest ∙ m.count;
   own = m.own;
   each = λ j rest at. which j rest at (cases_eq j k);
-  inside = subst (AllByRecursion (λ (e : Entry). e.member < length q)) (sym a.entries) (all_snoc (λ (e : Entry). e.member < length q) old.entries a.entry m.inside (subst (λ n. n < length q) (sym mine) (subst (λ n. k < n) m.count (within old.queues k (a.entry ∷ a.rest) a.next))));
+  inside = subst (AllByRecursion (λ (e : Entry). e.member < length q)) (sym a.entries) (AllByRecursion-snoc (λ (e : Entry). e.member < length q) old.entries a.entry m.inside (subst (λ n. n < length q) (sym mine) (subst (λ n. k < n) m.count (within old.queues k (a.entry ∷ a.rest) a.next))));
   honest = subst IsHonest (sym a.entries) (steps_more (λ (s : Step Entry). IfSome (heard s.this) (Contains (sent s.before))) old.entries a.entry m.honest (a.hears (sent old.entries) m.knows));
   knows = subst (λ gs. Knows gs new.texts) (sym (ap sent a.entries ∙ sent-snoc old.entries a.entry)) (a.learns.each (sent old.entries) m.knows);
 }

@@ -7,6 +7,7 @@ use Rattle.std.proofs.lemmas.List.{append-nil, map-append, take_more}
 use Rattle.std.proofs.lemmas.Option.{same_Some, none-some, unwrap_or-slice_get}
 use Rattle.srm_names.specs.declared.page_msg.PageMsg.{PageMsg}
 use Rattle.srm_names.specs.Histories.{Step, steps_after, greatest}
+use Rattle.srm_names.proofs.Lists.{AllByRecursion-snoc}
 use Rattle.srm_bucket.specs.Law.{BucketLaw}
 use Rattle.srm_entries.specs.Configs.{Config}
 use Rattle.srm_entries.specs.declared.entry.Entry.{Entry}
@@ -35,7 +36,7 @@ use Rattle.srm_audit.specs.declared.got.Got.{Got}
 use Rattle.srm_audit.specs.declared.ending.Ending.{Ending}
 use Rattle.srm_audit.specs.Audits.{IsFound, AreFound, entries_at, starts_of, is_of, listed, outline, takes_of}
 use Rattle.srm_audit.proofs.Finding.{after_front, entries_here}
-use Rattle.srm_audit.proofs.Merging.{all_snoc, other_member}
+use Rattle.srm_audit.proofs.Merging.{other_member}
 use Rattle.srm_audit.proofs.Ordering.{by_place, from_places, me_at, journal_at, count_starts}
 use Rattle.srm_audit.specs.Merging.{Completes}
 use Rattle.srm_audit.specs.Refusals.{IsReconciled}
@@ -162,7 +163,7 @@ takes_one : (q : List Journal) (gots : List Got) (got : Got) (d : List PageMsg) 
 takes_one q gots got d m rest j ending es here me is found split h = record {
   each = λ k i at. own k i at (cases_eq k got.member);
   taken_is = λ k slot. took k slot (cases_eq k got.member);
-  inside = all_snoc (λ (x : Entry). x.member < length q) es e h.inside found.member;
+  inside = AllByRecursion-snoc (λ (x : Entry). x.member < length q) es e h.inside found.member;
   honest = steps_more (λ (s : Step Entry). IfSome (heard s.this) (Contains (sent s.before))) es e h.honest tt;
 }
   where

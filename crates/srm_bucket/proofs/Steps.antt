@@ -5,6 +5,7 @@ use Rattle.std.proofs.lemmas.List.{append-nil, map-append}
 use Rattle.std.proofs.lemmas.Grind.{flat_map-append}
 use Rattle.srm_names.specs.Histories.{Step, steps, greatest}
 use Rattle.srm_names.proofs.Snoc.{steps-snoc, greatest-snoc}
+use Rattle.srm_names.proofs.Lists.{AllByRecursion-snoc}
 use Rattle.srm_bucket.specs.declared.class.Class.{Class}
 use Rattle.srm_bucket.specs.Calls.{Classed, Call, Popped}
 use Rattle.srm_bucket.specs.Classes.{handed_in, gone_in, handed, gone}
@@ -48,15 +49,11 @@ waiting-snoc calls c old new moves are k =
     ∙ ap (λ xs. xs ++ handed_in k c) (are k)
     ∙ sym (handed-snoc k calls c)
 
-all-snoc : {X : Type 0} (P : X → Type 0) (xs : List X) (y : X) → AllByRecursion P xs → P y → AllByRecursion P (xs ++ y ∷ [])
-all-snoc P [] y all p = (p, tt)
-all-snoc P (x ∷ xs) y all p = (all.0, all-snoc P xs y all.1 p)
-
 pub law-snoc : {T : Type 0} (rate depth : ℕ) (calls : List (Call T)) (c : Call T) → BucketLaw rate depth calls
     → GoesRight rate depth calls (calls ++ c ∷ []) c → BucketLaw rate depth (calls ++ c ∷ [])
 law-snoc {T = T} rate depth calls c law right =
     let P : Step (Call T) → Type 0 = λ s. GoesRight rate depth s.before (s.before ++ s.this ∷ []) s.this in
-    subst (AllByRecursion P) (sym (steps-snoc calls c)) (all-snoc P (steps calls) (record { before = calls; this = c }) law right)
+    subst (AllByRecursion P) (sym (steps-snoc calls c)) (AllByRecursion-snoc P (steps calls) (record { before = calls; this = c }) law right)
 
 -- time goes on to a moment; one below the last counts as the last
 pub level-at : (rate depth last now : ℕ) (ts : List Tick) → IsWithin rate depth last ts

@@ -1,5 +1,5 @@
 -- The echoes that are collected member by member.
-use Rattle.std.proofs.Common.{◌≡◌, ◌≢◌, ◌+◌, ◌<◌, ◌≤◌, ℕ, zero, suc, List, [], ◌∷◌, ◌++◌, length, Option, Some, None, true, refl, sym, ap, ◌∙◌, arith, add-one, length-append}
+use Rattle.std.proofs.Common.{◌≡◌, ◌≢◌, ◌+◌, ◌<◌, ◌≤◌, ℕ, List, [], ◌∷◌, ◌++◌, length, Option, Some, None, true, refl, sym, ap, ◌∙◌, arith, length-append}
 use Rattle.std.specs.Prelude.{nat_lt}
 use Rattle.std.specs.List.{filter_map, cons_option, All}
 use Rattle.std.proofs.lemmas.List.{append-nil}
@@ -9,6 +9,7 @@ use Rattle.std.proofs.lemmas.Bool.{and_parts, and_from, eq-eqb}
 use Rattle.srm_names.specs.declared.echo.Echo.{Echo}
 use Rattle.srm_names.specs.Histories.{count_up}
 use Rattle.srm_names.specs.Names.{ascending, echo_below}
+use Rattle.srm_names.proofs.Snoc.{up_to_more}
 use Rattle.srm_distance.specs.Calls.{Call}
 use Rattle.srm_distance.specs.Echoes.{echo_to, CanBeSent}
 use Rattle.srm_distance.specs.Content.{Content}
@@ -22,13 +23,6 @@ pub record Collected (d : Content) (now n : ℕ) (echoes : List Echo) : Type 0 w
   pub below : All (λ (e : Echo). e.member < n) echoes
   pub few : length echoes ≤ n
   pub fewer : d.me < n → length echoes < n
-
-count_up-last : (from n : ℕ) → count_up from (suc n) ≡ count_up from n ++ (from + n) ∷ []
-count_up-last from zero = ap (λ k. k ∷ []) (omega arith)
-count_up-last from (suc n) = ap (λ ks. from ∷ ks) (count_up-last (from + 1) n ∙ ap (λ k. count_up (from + 1) n ++ k ∷ []) (omega arith))
-
-up_to_more : (n : ℕ) → count_up 0 (n + 1) ≡ count_up 0 n ++ n ∷ []
-up_to_more n = ap (count_up 0) (add-one n) ∙ count_up-last 0 n ∙ ap (λ k. count_up 0 n ++ k ∷ []) (omega arith)
 
 pub one_more : {X : Type 0} (f : ℕ → Option X) (n : ℕ) → filter_map f (count_up 0 (n + 1)) ≡ filter_map f (count_up 0 n) ++ cons_option (f n) []
 one_more f n = ap (filter_map f) (up_to_more n) ∙ filter_map-append f (count_up 0 n) (n ∷ [])

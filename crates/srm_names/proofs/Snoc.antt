@@ -1,5 +1,5 @@
 -- What one more element at the end does to the words on histories.
-use Rattle.std.proofs.Common.{◌≡◌, ℕ, max, Bool, true, false, not, ◌&&◌, ◌||◌, List, [], ◌∷◌, ◌++◌, refl, ap, sym, ◌∙◌, subst, arith, append_assoc}
+use Rattle.std.proofs.Common.{◌≡◌, ℕ, max, Bool, true, false, not, ◌&&◌, ◌||◌, List, [], ◌∷◌, ◌++◌, refl, ap, sym, ◌∙◌, subst, arith, append_assoc, zero, suc, ◌+◌, add-one}
 use Rattle.std.specs.Prelude.{nat_lt, filter, if◌then◌else◌, cond, Option, Some, None}
 use Rattle.std.specs.List.{list_any, list_all, AllByRecursion}
 use Rattle.std.specs.Bool.{OnTrue}
@@ -8,7 +8,7 @@ use Rattle.srm_names.specs.PageFeeds.{continues, is_page_feed}
 use Rattle.std.proofs.lemmas.List.{append-nil}
 use Rattle.std.proofs.lemmas.List.Elements.{filter-append}
 use Rattle.std.proofs.lemmas.Bool.Decides.{nat_tests}
-use Rattle.srm_names.specs.Histories.{Step, steps_after, steps, or_else, first_of, last_of, since, greatest, better_first, first_best, firsts}
+use Rattle.srm_names.specs.Histories.{Step, steps_after, steps, or_else, first_of, last_of, since, greatest, better_first, first_best, firsts, count_up}
 
 steps_after-snoc : {X : Type 0} (before xs : List X) (y : X) → steps_after before (xs ++ y ∷ []) ≡ steps_after before xs ++ record { before = before ++ xs; this = y } ∷ []
 steps_after-snoc before [] y = ap (λ b. record { before = b; this = y } ∷ []) (sym (append-nil before))
@@ -146,3 +146,14 @@ steps_from R before (x ∷ xs) ys all = subst (λ zs. AllByRecursion R (steps_af
 pub steps_front : {X : Type 0} (R : Step X → Type 0) (before xs ys : List X) → AllByRecursion R (steps_after before (xs ++ ys)) → AllByRecursion R (steps_after before xs)
 steps_front R before [] ys all = tt
 steps_front R before (x ∷ xs) ys all = (all.0, steps_front R (before ++ x ∷ []) xs ys all.1)
+
+-- one number more
+pub count_up-last : (from n : ℕ) → count_up from (suc n) ≡ count_up from n ++ (from + n) ∷ []
+count_up-last from zero = ap (λ k. k ∷ []) (omega arith)
+count_up-last from (suc n) = ap (λ ks. from ∷ ks) (count_up-last (from + 1) n ∙ ap (λ k. count_up (from + 1) n ++ k ∷ []) (omega arith))
+
+pub count_up-more : (from n : ℕ) → count_up from (n + 1) ≡ count_up from n ++ (from + n) ∷ []
+count_up-more from n = ap (count_up from) (add-one n) ∙ count_up-last from n
+
+pub up_to_more : (n : ℕ) → count_up 0 (n + 1) ≡ count_up 0 n ++ n ∷ []
+up_to_more n = count_up-more 0 n ∙ ap (λ k. count_up 0 n ++ k ∷ []) (omega arith)

@@ -10,6 +10,7 @@ use Rattle.std.proofs.lemmas.Option.{same_Some, slice_get_read}
 use Rattle.srm_names.specs.declared.limits.TheConstants.{PAGES}
 use Rattle.srm_names.specs.declared.page_msg.PageMsg.{PageMsg}
 use Rattle.srm_names.specs.PageFeeds.{is_page_feed}
+use Rattle.srm_names.proofs.Lists.{AllByRecursion-append}
 use Rattle.srm_pages.specs.Ends.{FeedView, credit_of}
 use Rattle.srm_entries.specs.declared.entry.Entry.{Entry}
 use Rattle.srm_entries.specs.declared.entry.Input.TheVariants.{Gave}
@@ -186,10 +187,6 @@ served_front slot es fs f h = ap (λ b. (credit_of f == 0) || b || f.lost) (any-
     four : (a b c d : Bool) → (a || b || d) ≡ true → (a || (b || c) || d) ≡ true
     four a b c d h = grind arith
 
-all-append : (P : Entry → Type 0) (xs ys : List Entry) → AllByRecursion P xs → AllByRecursion P ys → AllByRecursion P (xs ++ ys)
-all-append P [] ys h k = k
-all-append P (x ∷ xs) ys h k = (h.0, all-append P xs ys h.1 k)
-
 same_on : (f g h : FeedView) → SameFeed f g → SameFeed g h → SameFeed f h
 same_on f g h same more = more ∙ ap (λ (x : FeedView). record x { put = h.put; seen = h.seen; lost = h.lost }) same
 
@@ -201,7 +198,7 @@ pub gives_on : (slot : ℕ) (ended : Bool) (a b c : Journal) (f g h : FeedView) 
 gives_on slot ended a b c f g h x y = record {
   entries = x.entries ++ y.entries;
   grown = grown_on a b c x.entries y.entries x.grown y.grown;
-  inputs = all-append (λ (e : Entry). e.input ≡ Gave slot) x.entries y.entries x.inputs y.inputs;
+  inputs = AllByRecursion-append (λ (e : Entry). e.input ≡ Gave slot) x.entries y.entries x.inputs y.inputs;
   lawful = y.lawful;
   carries = y.carries;
   same = same_on f g h x.same y.same;
@@ -277,7 +274,7 @@ pub up_stops : (n : ℕ) (ended : Bool) (a b c : Journal) (fs gs hs : List FeedV
 up_stops n ended a b c fs gs hs g h x at_g y is = record {
   entries = x.entries ++ y.entries;
   grown = grown_on a b c x.entries y.entries x.grown y.grown;
-  inputs = all-append (λ (e : Entry). is_give e.input ≡ true) x.entries y.entries x.inputs (gave_is_give n y.entries y.inputs);
+  inputs = AllByRecursion-append (λ (e : Entry). is_give e.input ≡ true) x.entries y.entries x.inputs (gave_is_give n y.entries y.inputs);
   lawful = y.lawful;
   carries = λ j f at_f. carried_at j f (subst (λ xs. slice_get xs j ≡ Some f) is at_f) (cases_eq j n);
   slots = ap length is ∙ length-set gs n h ∙ x.slots;

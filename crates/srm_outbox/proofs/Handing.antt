@@ -3,6 +3,7 @@ use Rattle.std.proofs.Common.{◌≡◌, ℕ, ◌+◌, ◌<◌, ◌≤◌, Bool,
 use Rattle.std.specs.Prelude.{◌==◌, Option, Some, None, option_map, if◌then◌else◌}
 use Rattle.std.specs.List.{AllByRecursion}
 use Rattle.std.proofs.lemmas.List.{append-nil, map-append}
+use Rattle.srm_names.proofs.Lists.{AllByRecursion-append}
 use Rattle.srm_bucket.specs.declared.class.Class.{Class}
 use Rattle.srm_bucket.specs.declared.class.Class.TheVariants.{Shown, New, Other}
 use Rattle.srm_bucket.specs.declared.item.Item.{Item}
@@ -17,10 +18,6 @@ use Rattle.srm_outbox.specs.declared.out.Outgoing.{Outgoing}
 use Rattle.srm_outbox.specs.Outs.{IsOwn, AreOwn}
 use Rattle.srm_outbox.specs.Answering.{classed_of}
 use Rattle.srm_outbox.specs.Outbox.{Passes, WentContent, NothingWent, HandsIn, LetsGo}
-
-pub all-append : {X : Type 0} (P : X → Type 0) (xs ys : List X) → AllByRecursion P xs → AllByRecursion P ys → AllByRecursion P (xs ++ ys)
-all-append P [] ys p q = q
-all-append P (x ∷ xs) ys p q = (p.0, all-append P xs ys p.1 q)
 
 pub all-front : {X : Type 0} (P : X → Type 0) (xs ys : List X) → AllByRecursion P (xs ++ ys) → AllByRecursion P xs
 all-front P [] ys p = tt
@@ -48,7 +45,7 @@ all-class P class c p = go (rank c.class == rank class)
 pub own_behind : (me session : ℕ) (c : Classed Outgoing) (old new : Waiting Outgoing) → AreOwn me session old → Gains c old new → IsOwn me session c.item.value → AreOwn me session new
 own_behind me session c old new own gains one = record {
   each = λ class. subst (AllByRecursion (λ i. IsOwn me session i.value)) (sym (gains class))
-      (all-append (λ i. IsOwn me session i.value) (queue old class) (in_class class (Some c)) (own.each class) (all-class (λ i. IsOwn me session i.value) class c one));
+      (AllByRecursion-append (λ i. IsOwn me session i.value) (queue old class) (in_class class (Some c)) (own.each class) (all-class (λ i. IsOwn me session i.value) class c one));
 }
 
 count-of-class : (class : Class) (item : Item Outgoing) (old new : Waiting Outgoing) → Gains (record { class = class; item = item }) old new → count_of new ≡ count_of old + 1
@@ -177,7 +174,7 @@ going_goes_on now old b new went more item h pops takes fewer outs noted room = 
   outs = outs ∙ ap (λ xs. xs ++ item.value.out ∷ []) h.outs ∙ sym (map-append (λ (o : Outgoing). o.out) h.items (item.value ∷ []));
   noted = noted ∙ ap (λ xs. xs ++ item.value.noted ∷ []) h.noted ∙ sym (map-append (λ (o : Outgoing). o.noted) h.items (item.value ∷ []));
   fits = λ rate depth calls f. pops_one rate depth now calls h.items b new item (h.fits rate depth calls f) pops;
-  own = λ me session own. all-append (IsOwn me session) h.items (item.value ∷ []) (h.own me session own) (taken (λ i. IsOwn me session i.value) b.waiting new.waiting item takes (h.left me session own).each, tt);
+  own = λ me session own. AllByRecursion-append (IsOwn me session) h.items (item.value ∷ []) (h.own me session own) (taken (λ i. IsOwn me session i.value) b.waiting new.waiting item takes (h.left me session own).each, tt);
   left = λ me session own. record { each = remaining (λ i. IsOwn me session i.value) b.waiting new.waiting item takes (h.left me session own).each };
   room = omega (arith, h.room);
 }

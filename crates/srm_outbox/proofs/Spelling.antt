@@ -10,7 +10,7 @@ use Rattle.srm_names.specs.FullName.{FullName}
 use Rattle.srm_codec.specs.declared.datagram.Datagram.{Datagram}
 use Rattle.srm_codec.specs.declared.datagram.Datagram.TheVariants.{Repair}
 use Rattle.srm_codec.specs.Spelling.{is_drawop}
-use Rattle.srm_names.proofs.Lists.{All-Has, find-Has}
+use Rattle.srm_names.proofs.Lists.{All-Has, find-Has, AllByRecursion-append}
 use Rattle.srm_store.specs.Held.{held_at, has_name}
 use Rattle.srm_store.specs.Finals.{Settling}
 use Rattle.srm_store.specs.Fits.{Fits}
@@ -21,7 +21,6 @@ use Rattle.srm_outbox.specs.declared.answers.Answer.{Answer}
 use Rattle.srm_entries.specs.Bucket.{answer_item}
 use Rattle.srm_outbox.specs.Outs.{datagram_of, IsOwn}
 use Rattle.srm_outbox.specs.Answering.{IsAnswerOf, IsAnswer, AreAnswers, classed_of}
-use Rattle.srm_outbox.proofs.Handing.{all-append}
 
 -- a held drawop can be spelled in a repair
 spellable_at : (held : List Drawop) (n : FullName) → AllByRecursion is_drawop held → IfSome (held_at held n) is_drawop
@@ -50,7 +49,7 @@ repairing_goes_on me s requests names i n answers here o lt at there is fine h =
       ∙ ap (λ xs. requests ++ (filter_map (λ n. option_map (Repair me) (held_at held n)) (take i names) ++ xs)) (ap option_to_list (repaired held spellable (there held shown settled fits)) ∙ as_list (option_map (Repair me) (held_at held n)))
       ∙ ap (λ xs. requests ++ xs) (sym (ap (filter_map (λ n. option_map (Repair me) (held_at held n))) (take_more names i n lt ∙ ap (λ m. take i names ++ m ∷ []) (sym at))
       ∙ filter_map-append (λ n. option_map (Repair me) (held_at held n)) (take i names) (n ∷ [])));
-  each = all-append (IsAnswerOf me) answers (option_to_list o) h.each (fine_list o fine);
+  each = AllByRecursion-append (IsAnswerOf me) answers (option_to_list o) h.each (fine_list o fine);
 }
   where
     repaired : (held : List Drawop) → AllByRecursion is_drawop held → here ≡ held_at held n → o ≡ option_map (Repair me) (held_at held n)
@@ -85,10 +84,10 @@ spelling_goes_on me session showing answers left rest g items a e is h = record 
   done = h.done ++ g ∷ [];
   split = append_assoc h.done (g ∷ []) rest ∙ ap (λ xs. h.done ++ xs) (sym e) ∙ h.split;
   spelled = record {
-    own = all-append (λ x. IsOwn me session x.item.value) items (a ∷ []) h.spelled.own (is.own, tt);
+    own = AllByRecursion-append (λ x. IsOwn me session x.item.value) items (a ∷ []) h.spelled.own (is.own, tt);
     read = map-append (λ (x : Answer). read_classed datagram_of (classed_of x)) items (a ∷ []) ∙ ap (λ xs. xs ++ read_classed datagram_of (classed_of a) ∷ []) h.spelled.read
         ∙ ap (λ x. map (answer_item showing) h.done ++ x ∷ []) is.read ∙ sym (map-append (answer_item showing) h.done (g ∷ []));
-    lengths = all-append (λ x. HasLength x.item) items (a ∷ []) h.spelled.lengths (is.length, tt);
+    lengths = AllByRecursion-append (λ x. HasLength x.item) items (a ∷ []) h.spelled.lengths (is.length, tt);
   };
   each = (subst (AllByRecursion (IsAnswerOf me)) e h.each).1;
 }

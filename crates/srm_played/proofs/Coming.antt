@@ -6,7 +6,7 @@ use Rattle.std.proofs.lemmas.Option.{same_Some}
 use Rattle.std.proofs.lemmas.List.{map-append, append-nil}
 use Rattle.srm_names.specs.Histories.{steps, steps_after}
 use Rattle.srm_names.proofs.Snoc.{steps-snoc}
-use Rattle.srm_names.proofs.Lists.{slice_get-front}
+use Rattle.srm_names.proofs.Lists.{slice_get-front, AllByRecursion-append}
 use Rattle.srm_codec.specs.declared.datagram.Datagram.{Datagram}
 use Rattle.srm_entries.specs.declared.entry.Entry.{Entry}
 use Rattle.srm_entries.specs.declared.entry.Input.{Input}
@@ -52,10 +52,6 @@ still es e h is = record {
 all_still : (es : List Entry) (e : Entry) (hs : List Hearing) → AllByRecursion (IsHearing es) hs → AllByRecursion (IsHearing (es ++ e ∷ [])) hs
 all_still es e [] all = tt
 all_still es e (h ∷ hs) all = (still es e h all.0, all_still es e hs all.1)
-
-all_join : {X : Type 0} (P : X → Type 0) (xs ys : List X) → AllByRecursion P xs → AllByRecursion P ys → AllByRecursion P (xs ++ ys)
-all_join P [] ys all more = more
-all_join P (x ∷ xs) ys all more = (all.0, all_join P xs ys all.1 more)
 
 comings-snoc : (es : List Entry) (e : Entry) → by_row coming_in (es ++ e ∷ []) ≡ by_row coming_in es ++ coming_in (length es, e)
 comings-snoc es e =
@@ -139,7 +135,7 @@ come_none row e none = ap (λ b. cond b (point_of (row, e) ∷ []) []) none
 
 right_one : (es : List Entry) (e : Entry) (hs : List Hearing) (number : ℕ) → Brings es number e.input → AreHearings es hs → AreHearings (es ++ e ∷ []) (hs ++ hearing_in (length es, e) number ∷ [])
 right_one es e hs number b all = record {
-  each = all_join (IsHearing (es ++ e ∷ [])) hs (hearing_in (length es, e) number ∷ []) (all_still es e hs all.each) (newest, tt);
+  each = AllByRecursion-append (IsHearing (es ++ e ∷ [])) hs (hearing_in (length es, e) number ∷ []) (all_still es e hs all.each) (newest, tt);
   places = map-append (λ (x : Hearing). x.at) hs (hearing_in (length es, e) number ∷ []) ∙ ap (λ ps. ps ++ point_of (length es, e) ∷ []) all.places
       ∙ ap (λ ps. by_row coming_in es ++ ps) (sym (come_one (length es) e b.something)) ∙ sym (comings-snoc es e);
 }
@@ -149,7 +145,7 @@ right_one es e hs number b all = record {
 
 right_none : (es : List Entry) (e : Entry) (hs : List Hearing) → something_comes e.input ≡ false → AreHearings es hs → AreHearings (es ++ e ∷ []) (hs ++ [])
 right_none es e hs none all = record {
-  each = all_join (IsHearing (es ++ e ∷ [])) hs [] (all_still es e hs all.each) tt;
+  each = AllByRecursion-append (IsHearing (es ++ e ∷ [])) hs [] (all_still es e hs all.each) tt;
   places = ap (map (λ (x : Hearing). x.at)) (append-nil hs) ∙ all.places ∙ sym (comings-snoc es e ∙ ap (λ ps. by_row coming_in es ++ ps) (come_none (length es) e none) ∙ append-nil (by_row coming_in es));
 }
 

@@ -1,5 +1,5 @@
 -- One more name in the list of those that aren't held.
-use Rattle.std.proofs.Common.{◌≡◌, ℕ, zero, suc, ◌+◌, List, [], ◌∷◌, ◌++◌, Option, Some, None, Bool, true, false, refl, sym, ap, ◌∙◌, arith, append_assoc}
+use Rattle.std.proofs.Common.{◌≡◌, ℕ, ◌+◌, List, [], ◌∷◌, ◌++◌, Option, Some, None, Bool, true, false, refl, sym, ap, ◌∙◌, arith, append_assoc}
 use Rattle.std.specs.Prelude.{is_some, map, not, if◌then◌else◌, option_to_list}
 use Rattle.std.proofs.lemmas.List.{append-nil, map-append}
 use Rattle.std.proofs.lemmas.List.Elements.{filter-append}
@@ -7,16 +7,10 @@ use Rattle.srm_names.specs.declared.stream.Stream.{Stream}
 use Rattle.srm_names.specs.FullName.{FullName}
 use Rattle.srm_names.specs.Histories.{count_up}
 use Rattle.srm_names.specs.Names.{named}
+use Rattle.srm_names.proofs.Snoc.{count_up-more}
 use Rattle.srm_store.specs.Places.{place_at}
 use Rattle.srm_store.specs.Held.{names_after}
 use Rattle.srm_store.specs.Rows.{RowContent, row_unheld}
-
-pub count_up-suc : (from n : ℕ) → count_up from (suc n) ≡ count_up from n ++ (from + n) ∷ []
-count_up-suc from zero = let e : from ≡ from + 0 = omega arith in ap (λ k. k ∷ []) e
-count_up-suc from (suc n) = let e : from + 1 + n ≡ from + suc n = omega arith in ap (λ ks. from ∷ ks) (count_up-suc (from + 1) n ∙ ap (λ k. count_up (from + 1) n ++ k ∷ []) e)
-
-count_up-more : (from n : ℕ) → count_up from (n + 1) ≡ count_up from n ++ (from + n) ∷ []
-count_up-more from n = let e : n + 1 ≡ suc n = omega arith in ap (count_up from) e ∙ count_up-suc from n
 
 names_after-more : (s : Stream) (after n : ℕ) → names_after s after (n + 1) ≡ names_after s after n ++ named s (after + n + 1) ∷ []
 names_after-more s after n =

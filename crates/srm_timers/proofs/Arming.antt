@@ -1,13 +1,14 @@
 -- Lists of arms: their names, their plans, and how they are drawn.
 use Rattle.std.proofs.Common.{◌≡◌, ℕ, zero, suc, ◌+◌, ◌<◌, List, [], ◌∷◌, ◌++◌, map, length, get_or, take, Option, Some, None, Bool, true, false, ◌||◌, cond, refl, sym, ap, subst, ◌∙◌, arith}
 use Rattle.std.specs.Prelude.{if◌then◌else◌, option_map, find, is_some}
-use Rattle.std.specs.List.{list_any, AllByRecursion}
+use Rattle.std.specs.List.{list_any}
 use Rattle.srm_names.specs.declared.limits.TheConstants.{MEMBERS}
 use Rattle.srm_names.specs.FullName.{FullName}
 use Rattle.srm_names.specs.Histories.{or_else, last_of}
 use Rattle.srm_names.specs.Names.{same_name, name_below, ascending, among}
 use Rattle.srm_names.proofs.Same.{same_name-is}
 use Rattle.srm_names.proofs.Orders.{stands_once, and_right}
+use Rattle.srm_names.proofs.Lists.{AllByRecursion-snoc}
 use Rattle.srm_deadlines.proofs.Order.{map_take}
 use Rattle.srm_timers.specs.declared.arm.Arm.{Arm}
 use Rattle.srm_deadlines.specs.declared.timed.Timed.{Timed}
@@ -24,22 +25,18 @@ pub drawn_more : {W : Type 0} (draw : W → ℕ × W) (low high : Arm → ℕ) (
 drawn_more draw low high from mid to [] a h k = subst (λ w. AreDrawn draw low high w (a ∷ []) to) h k
 drawn_more draw low high from mid to (b ∷ arms) a h k = (h.0, drawn_more draw low high (draw from).1 mid to arms a h.1 k)
 
-all_more : {X : Type 0} (P : X → Type 0) (xs : List X) (x : X) → AllByRecursion P xs → P x → AllByRecursion P (xs ++ x ∷ [])
-all_more P [] x all here = (here, tt)
-all_more P (y ∷ xs) x all here = (all.0, all_more P xs x all.1 here)
-
 pub members_more : (name : FullName) (source : ℕ) (arms : List Arm) (a : Arm) → AreOfMembers arms → a.name ≡ name → source ≡ name.stream.source → source < MEMBERS → AreOfMembers (arms ++ a ∷ [])
 members_more name source arms a h named is below =
-    record { each = all_more (λ (x : Arm). x.name.stream.source < MEMBERS) arms a h.each (subst (λ (n : FullName). n.stream.source < MEMBERS) (sym named) (subst (λ k. k < MEMBERS) is below)) }
+    record { each = AllByRecursion-snoc (λ (x : Arm). x.name.stream.source < MEMBERS) arms a h.each (subst (λ (n : FullName). n.stream.source < MEMBERS) (sym named) (subst (λ k. k < MEMBERS) is below)) }
 
 pub short_more : (arms : List Arm) (a : Arm) → AreShort arms → is_short a → AreShort (arms ++ a ∷ [])
-short_more arms a h here = record { each = all_more is_short arms a h.each here }
+short_more arms a h here = record { each = AllByRecursion-snoc is_short arms a h.each here }
 
 pub asks_more : (arms : List Arm) (a : Arm) → AreAsks arms → IsAsk a → AreAsks (arms ++ a ∷ [])
-asks_more arms a h here = record { each = all_more IsAsk arms a h.each here }
+asks_more arms a h here = record { each = AllByRecursion-snoc IsAsk arms a h.each here }
 
 pub fixes_more : (arms : List Arm) (a : Arm) → AreFixes arms → IsFix a → AreFixes (arms ++ a ∷ [])
-fixes_more arms a h here = record { each = all_more IsFix arms a h.each here }
+fixes_more arms a h here = record { each = AllByRecursion-snoc IsFix arms a h.each here }
 
 map_more : {X Y : Type 0} (f : X → Y) (xs : List X) (x : X) → map f (xs ++ x ∷ []) ≡ map f xs ++ f x ∷ []
 map_more f [] x = refl

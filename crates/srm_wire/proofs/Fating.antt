@@ -6,11 +6,11 @@ use Rattle.std.proofs.lemmas.List.{append-nil, length-append}
 use Rattle.std.proofs.lemmas.List.Elements.{filter-append}
 use Rattle.std.proofs.lemmas.Option.{slice_get_past}
 use Rattle.srm_names.specs.Histories.{count_up}
+use Rattle.srm_names.proofs.Snoc.{up_to_more}
 use Rattle.srm_wire.specs.declared.fates.Fate.{Fate}
 use Rattle.srm_wire.specs.declared.fates.Fate.TheVariants.{Pass}
 use Rattle.srm_wire.specs.declared.sent.Sent.{Sent}
 use Rattle.srm_wire.specs.Fates.{fate_of, is_behind, comes, coming}
-use Rattle.srm_wire.proofs.Telling.{up_to_more}
 
 abbrev late : List Fate → ℕ → ℕ → Bool
 late fates sent number = is_behind (fate_of fates number) number sent

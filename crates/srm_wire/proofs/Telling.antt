@@ -1,11 +1,12 @@
 -- What wires tell, one call after another.
-use Rattle.std.proofs.Common.{◌≡◌, ℕ, zero, suc, ◌+◌, ◌-◌, ◌^◌, min, ◌<◌, ◌≤◌, ◌||◌, Bool, true, false, List, [], ◌∷◌, ◌++◌, refl, ap, sym, ◌∙◌, subst, inl, inr, arith, append_assoc, add-one}
+use Rattle.std.proofs.Common.{◌≡◌, ℕ, ◌+◌, ◌-◌, ◌^◌, min, ◌<◌, ◌≤◌, ◌||◌, Bool, true, false, List, [], ◌∷◌, ◌++◌, refl, ap, sym, ◌∙◌, subst, inl, inr, arith, append_assoc}
 use Rattle.std.specs.Prelude.{◌⊎◌, Result, Ok, Err, is_err, Option, Some, None, option_map, not, ◌==◌}
 use Rattle.std.specs.Bool.{OnFalse}
 use Rattle.std.proofs.lemmas.Bool.{cases_lt}
 use Rattle.std.proofs.lemmas.List.{append-nil, map-append}
 use Rattle.std.proofs.lemmas.List.Elements.{filter-append}
 use Rattle.srm_names.specs.Histories.{count_up}
+use Rattle.srm_names.proofs.Snoc.{up_to_more}
 use Rattle.srm_wire.specs.declared.sent.Sent.{Sent}
 use Rattle.srm_wire.specs.Wires.{Told, TellsMore, told_more, CountsIf, RoseOrFull, CountsFailure, counted_with, AreSomeOf, Sends, bytes_to, took, but, others, sends_to}
 
@@ -24,13 +25,6 @@ told_twice a c b d (Some t) = ap (λ (x : Told). Some x) (ap (λ came. record { 
 -- what was told, and then more
 pub tells_on : (a c : List (Option (List ℕ))) (b d : List Sent) (x y z : Option Told) → TellsMore a b x y → TellsMore c d y z → TellsMore (a ++ c) (b ++ d) x z
 tells_on a c b d x y z h k = record { told = k.told ∙ ap (option_map (told_more c d)) h.told ∙ told_twice a c b d x }
-
-count_up-last : (from n : ℕ) → count_up from (suc n) ≡ count_up from n ++ (from + n) ∷ []
-count_up-last from zero = ap (λ k. k ∷ []) (omega arith)
-count_up-last from (suc n) = ap (λ ks. from ∷ ks) (count_up-last (from + 1) n ∙ ap (λ k. count_up (from + 1) n ++ k ∷ []) (omega arith))
-
-pub up_to_more : (n : ℕ) → count_up 0 (n + 1) ≡ count_up 0 n ++ n ∷ []
-up_to_more n = ap (count_up 0) (add-one n) ∙ count_up-last 0 n ∙ ap (λ k. count_up 0 n ++ k ∷ []) (omega arith)
 
 others_more : (me n : ℕ) → others me (n + 1) ≡ others me n ++ but me (n ∷ [])
 others_more me n = ap (but me) (up_to_more n) ∙ filter-append (λ m. not (m == me)) (count_up 0 n) (n ∷ [])

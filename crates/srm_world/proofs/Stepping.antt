@@ -6,6 +6,7 @@ use Rattle.std.proofs.lemmas.Option.{same_Some, slice_get-get_or, slice_get_with
 use Rattle.std.proofs.lemmas.Bool.Decides.{nat_tests}
 use Rattle.std.proofs.lemmas.Bool.{cases_eq, lt-ltb, ne_eqb}
 use Rattle.std.proofs.lemmas.List.{length-set, append-nil, map-append, take_more}
+use Rattle.srm_names.proofs.Lists.{AllByRecursion-append}
 use Rattle.srm_codec.specs.declared.datagram.Datagram.{Datagram}
 use Rattle.srm_timers.specs.Arms.{AreDrawn}
 use Rattle.srm_outbox.specs.declared.out.Out.{Out}
@@ -59,10 +60,6 @@ by_place : {X : Type 0} (P : X → Type 0) (xs : List X) (k : ℕ) (x : X) → A
 by_place P [] k x all at = cc
 by_place P (y ∷ xs) zero x all at = subst P (same_Some y x at) all.0
 by_place P (y ∷ xs) (suc k) x all at = by_place P xs k x all.1 at
-
-all_join : {X : Type 0} (P : X → Type 0) (xs ys : List X) → AllByRecursion P xs → AllByRecursion P ys → AllByRecursion P (xs ++ ys)
-all_join P [] ys all more = more
-all_join P (x ∷ xs) ys all more = (all.0, all_join P xs ys all.1 more)
 
 pub sent-snoc : (es : List Entry) (e : Entry) → sent (es ++ e ∷ []) ≡ sent es ++ e.effects.outs
 sent-snoc es e = flat_map-snoc (λ (x : Entry). x.effects.outs) es e
@@ -160,7 +157,7 @@ sends_these : (starts : List Start) (sents outs : List Out) (es : List Entry) (e
     → AreSent starts sents es → AreOutsOf a.config.session e outs → AreSent starts (sents ++ outs) (es ++ e ∷ [])
 sends_these starts sents outs es e m a session s o = record {
   same = map-append (λ (x : Out). x.datagram) sents outs ∙ ap (λ gs. gs ++ map (λ (x : Out). x.datagram) outs) s.same ∙ ap (λ gs. sent es ++ gs) o.same ∙ sym (sent-snoc es e);
-  spelled = λ n b at. all_join (IsOut b.config.session) sents outs (s.spelled n b at) (subst (λ k. AllByRecursion (IsOut k) outs) (session n b at) o.spelled);
+  spelled = λ n b at. AllByRecursion-append (IsOut b.config.session) sents outs (s.spelled n b at) (subst (λ k. AllByRecursion (IsOut k) outs) (session n b at) o.spelled);
 }
 
 one_session : (t : Trace) (es : List Entry) (m : ℕ) (a : Start) → IsRunOf t.starts es → slice_get t.starts m ≡ Some a → (n : ℕ) (b : Start) → slice_get t.starts n ≡ Some b → a.config.session ≡ b.config.session
@@ -288,7 +285,7 @@ pub world_more : {W : Type 0} (draw : W → ℕ × W) (old new : List (Content W
 world_more draw old new sents more t now event e is w all = subst (AreWorld new more) (sym is) (
     let es : List Entry = t.entries ++ e ∷ [] in
     let h = all.enters t w in
-    let run : IsRunOf t.starts es = run_more t.starts es new w.lawful.run.roster (all.count ∙ w.count) h.fit (all_join (λ (x : Entry). x.member < length t.starts) t.entries (e ∷ []) w.lawful.run.inside (h.inside, tt)) in
+    let run : IsRunOf t.starts es = run_more t.starts es new w.lawful.run.roster (all.count ∙ w.count) h.fit (AllByRecursion-append (λ (x : Entry). x.member < length t.starts) t.entries (e ∷ []) w.lawful.run.inside (h.inside, tt)) in
     let honest : IsHonest es = steps_more (λ s. IfSome (heard s.this) (Contains (sent s.before))) t.entries e w.lawful.honest h.hears in
     record { count = all.count ∙ w.count; fit = h.fit; sent = h.sent; lawful = lawful (record { starts = t.starts; entries = es }) run honest })
 
