@@ -22,7 +22,8 @@ use Rattle.srm_bucket.specs.Calls.{Classed}
 use Rattle.std.specs.List.{AllByRecursion}
 use Rattle.srm_entries.specs.Promises.{MayDoNothing, IsNextDue}
 use Rattle.srm_agent.proofs.NextDueRests.{gone_rests, idle_rests}
-use Rattle.srm_entries.proofs.Plain.{zeros, config, plain, idle, idle_right, right, missing_none, unknown_unmissed}
+use Rattle.srm_entries.specs.Sample.{zeros, idle}
+use Rattle.srm_entries.proofs.Plain.{config, plain, idle_right, right, missing_none, unknown_unmissed}
 
 -- a new member: its first session message is due after a second
 

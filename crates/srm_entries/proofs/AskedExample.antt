@@ -1,19 +1,17 @@
 -- A run of a member with timers: it hears the second drawop, misses the first and asks for it at the first tick past the end of the
 -- interval. So the premises of the law of response can be met.
-use Rattle.std.proofs.Common.{◌≡◌, ℕ, ◌==◌, ◌<◌, Bool, true, false, not, ◌&&◌, ◌||◌, List, [], ◌∷◌, ◌++◌, refl, ap, ◌∙◌, arith, lit<, lit≤}
+use Rattle.std.proofs.Common.{◌≡◌, ℕ, ◌==◌, Bool, true, false, not, ◌&&◌, ◌||◌, List, [], ◌∷◌, ◌++◌, refl, ap, ◌∙◌, arith, lit<, lit≤}
 use Rattle.std.specs.Prelude.{◌⊎◌, Option, Some, None, nat_le, option_map, is_some, if◌then◌else◌}
 use Rattle.std.proofs.lemmas.Bool.Decides.{nat_tests}
 use Rattle.srm_names.specs.FullName.{FullName}
-use Rattle.srm_names.specs.Histories.{greatest, last_of, IsPrefix}
+use Rattle.srm_names.specs.Histories.{greatest, last_of}
 use Rattle.srm_names.specs.Names.{named, same_name, same_stream}
 use Rattle.srm_codec.specs.declared.datagram.Datagram.{Datagram}
 use Rattle.srm_codec.specs.declared.datagram.Datagram.TheVariants.{Data, Request}
 use Rattle.srm_codec.specs.Spelling.{bits_set, IsSpellable}
-use Rattle.srm_bucket.specs.declared.class.Class.{Class}
-use Rattle.srm_bucket.specs.declared.class.Class.TheVariants.{Shown, New, Other}
-use Rattle.srm_bucket.specs.Calls.{Classed, Call, Handed, Popped}
-use Rattle.srm_bucket.specs.Classes.{rank, handed, gone}
-use Rattle.srm_bucket.specs.Law.{BucketLaw, GoesRight as CallRight}
+use Rattle.srm_bucket.specs.declared.class.Class.TheVariants.{Shown}
+use Rattle.srm_bucket.specs.Calls.{Classed}
+use Rattle.srm_bucket.specs.Law.{BucketLaw}
 use Rattle.srm_timers.specs.declared.arm.Arm.{Arm}
 use Rattle.srm_timers.specs.declared.arm.ArmKind.TheVariants.{Ask}
 use Rattle.srm_timers.specs.Arms.{Setting, setting, next_exponent, ran_out, arm_of}
@@ -24,7 +22,7 @@ use Rattle.srm_entries.specs.Timers.{arm_in, ask_due, held_off, setting_of}
 use Rattle.srm_entries.specs.Bucket.{Going, classed, bucket_calls}
 use Rattle.srm_entries.specs.Runs.{EntryRight, IsMemberRun}
 use Rattle.srm_entries.specs.Sample.{in_roster, zeros, drawop_of, hears, ticks, ask_arm, idle}
-use Rattle.srm_entries.proofs.Plain.{idle_right, of_all, neither, missing_none, unknown_unmissed}
+use Rattle.srm_entries.proofs.Plain.{idle_right, of_all, neither, missing_none, unknown_unmissed, one_goes}
 use Rattle.srm_entries.proofs.Responding.{response_law}
 
 abbrev one_of_four : Config
@@ -137,33 +135,8 @@ asked_item = classed Shown request
 abbrev goings : List Going
 goings = idle gap ∷ record { entry = asks; goes = asked_item ∷ [] } ∷ []
 
-abbrev handed_one : List (Call Datagram)
-handed_one = Handed asked_item ∷ []
-
-abbrev went_one : List (Call Datagram)
-went_one = handed_one ++ Popped 1400000 (Some asked_item) ∷ []
-
 law : BucketLaw 8000 4204 (bucket_calls 1 goings)
-law = (hands, (goes, (ends, tt)))
-  where
-    hands : CallRight 8000 4204 [] handed_one (Handed asked_item)
-    hands = record { in_order = λ class. (handed class handed_one, refl); highest_first = tt; not_too_much = tt; all_that_may = tt }
-
-    all_gone : (class : Class) → IsPrefix (gone class went_one) (handed class went_one)
-    all_gone Shown = ([], refl)
-    all_gone New = ([], refl)
-    all_gone Other = ([], refl)
-
-    none_higher : (class : Class) → rank class < 1 → gone class handed_one ≡ handed class handed_one
-    none_higher Shown l = absurd (omega arith)
-    none_higher New l = absurd (omega arith)
-    none_higher Other l = absurd (omega arith)
-
-    goes : CallRight 8000 4204 handed_one went_one (Popped 1400000 (Some asked_item))
-    goes = record { in_order = all_gone; highest_first = none_higher; not_too_much = (lit≤ tt, lit≤ tt, tt); all_that_may = tt }
-
-    ends : CallRight 8000 4204 went_one (went_one ++ Popped 1400000 None ∷ []) (Popped 1400000 None)
-    ends = record { in_order = all_gone; highest_first = tt; not_too_much = (lit≤ tt, lit≤ tt, tt); all_that_may = tt }
+law = one_goes 8000 4204 1400000 Shown asked_item.item (lit≤ tt, lit≤ tt, tt) (lit≤ tt, lit≤ tt, tt)
 
 pub run : IsMemberRun one_of_four 1000000 (gap ∷ asks ∷ [])
 run = record { each = (gap_right, (asks_right, tt)); bucket = (goings, refl, (idle_right refl, (record { same = refl; at_ticks = tt }, tt)), law) }

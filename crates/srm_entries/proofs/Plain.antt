@@ -1,5 +1,5 @@
 -- Entries without timers, of a member that misses nothing: for examples of runs.
-use Rattle.std.proofs.Common.{◌≡◌, ℕ, ◌==◌, Bool, true, false, not, ◌&&◌, ◌||◌, List, [], ◌∷◌, ◌++◌, refl, ap, sym, ◌∙◌, subst, arith, lit<, lit≤}
+use Rattle.std.proofs.Common.{◌≡◌, ℕ, ◌==◌, ◌<◌, Bool, true, false, not, ◌&&◌, ◌||◌, List, [], ◌∷◌, ◌++◌, refl, ap, sym, ◌∙◌, subst, arith, lit<, lit≤}
 use Rattle.std.specs.Prelude.{Option, Some, None, IfSome, is_some, nat_le, if◌then◌else◌}
 use Rattle.std.specs.Bool.{OnTrue}
 use Rattle.std.specs.List.{list_any, AllByRecursion}
@@ -8,12 +8,19 @@ use Rattle.srm_names.specs.declared.stream.Stream.{Stream}
 use Rattle.srm_names.specs.declared.drawop.Drawop.{Drawop}
 use Rattle.srm_names.specs.declared.page_msg.PageMsg.{PageMsg}
 use Rattle.srm_names.specs.FullName.{FullName}
-use Rattle.srm_names.specs.Names.{first_page, named, same_stream}
+use Rattle.srm_names.specs.Histories.{IsPrefix}
+use Rattle.srm_names.specs.Names.{named, same_stream}
 use Rattle.srm_names.proofs.Same.{same_stream-is}
 use Rattle.srm_codec.specs.declared.datagram.Datagram.{Datagram}
 use Rattle.srm_codec.specs.declared.datagram.Datagram.TheVariants.{Data}
 use Rattle.srm_codec.specs.Spelling.{sender_of, IsSpellable, is_name}
-use Rattle.srm_bucket.specs.Calls.{Classed}
+use Rattle.srm_bucket.specs.declared.class.Class.{Class}
+use Rattle.srm_bucket.specs.declared.class.Class.TheVariants.{Shown, New, Other}
+use Rattle.srm_bucket.specs.declared.item.Item.{Item}
+use Rattle.srm_bucket.specs.Calls.{Classed, Call, Handed, Popped}
+use Rattle.srm_bucket.specs.Classes.{rank, handed, gone, next_of}
+use Rattle.srm_bucket.specs.Ticks.{last_moment, ticks, cost, IsWithin}
+use Rattle.srm_bucket.specs.Law.{BucketLaw, level_at, GoesRight as CallRight}
 use Rattle.srm_entries.specs.Configs.{Config}
 use Rattle.srm_entries.specs.declared.entry.Entry.{Entry}
 use Rattle.srm_entries.specs.declared.state.AgentState.{AgentState}
@@ -27,31 +34,19 @@ use Rattle.srm_entries.specs.Sessions.{SessionRight, charged, is_farewell}
 use Rattle.srm_entries.specs.Bucket.{Going, GoesRight, lets_go}
 use Rattle.srm_entries.specs.Giving.{MessageRight}
 use Rattle.srm_entries.specs.Runs.{EntryRight, MomentRight, drawop_due, state_due}
-
-abbrev pub zeros : Stream
-zeros = record { source = 0; page = first_page }
+use Rattle.srm_entries.specs.Sample.{in_roster, zeros, drawop_of, quiet, entry, idle}
 
 -- the one drawop of the examples
 abbrev pub one : Drawop
-one = record { name = named zeros 1; stamp = 1; body = 97 ∷ [] }
+one = drawop_of 1 1 (97 ∷ [])
 
 -- the settings of one of two members
 abbrev pub config : ℕ → Config
-config me = record { me = me; members = 2; session = 1; rate = 8000; depth = 4204; c1 = 2; c2 = 2; d1 = 1; d2 = 1 }
+config me = in_roster me 2 4204
 
 -- a done entry without timers
 abbrev pub plain : ℕ → ℕ → Input → Option Drawop → List Datagram → Option PageMsg → AgentState → Entry
-plain m now input drawn outs message after = record {
-  member = m;
-  moment = now;
-  input = input;
-  verdict = Done;
-  effects = record { drawn = drawn; arms = []; asks = []; fixes = []; outs = outs; message = message; state = after };
-}
-
--- an entry in which nothing goes out of the bucket
-abbrev pub idle : Entry → Going
-idle e = record { entry = e; goes = [] }
+plain m now input drawn outs message after = entry m now input (record (quiet after) { drawn = drawn; outs = outs; message = message })
 
 pub idle_right : {before : List Going} {e : Entry} → charged e ≡ [] → GoesRight (record { before = before; this = idle e })
 idle_right {before} {e} q = record { same = sym q; at_ticks = whenever (not (lets_go (record { before = before; this = idle e }))) }
@@ -59,6 +54,59 @@ idle_right {before} {e} q = record { same = sym q; at_ticks = whenever (not (let
     whenever : (b : Bool) → OnTrue b (◌≡◌ {A = List (Classed Datagram)} [] [])
     whenever true = refl
     whenever false = tt
+
+-- One item that is handed in, goes at the tick behind it, and nothing more does.
+
+abbrev pub handed_one : Class → Item Datagram → List (Call Datagram)
+handed_one k item = Handed (record { class = k; item = item }) ∷ []
+
+abbrev pub went_one : ℕ → Class → Item Datagram → List (Call Datagram)
+went_one now k item = handed_one k item ++ Popped now (Some (record { class = k; item = item })) ∷ []
+
+pub all_gone : (now : ℕ) (k : Class) (item : Item Datagram) (class : Class) → IsPrefix (gone class (went_one now k item)) (handed class (went_one now k item))
+all_gone now Shown item Shown = ([], refl)
+all_gone now Shown item New = ([], refl)
+all_gone now Shown item Other = ([], refl)
+all_gone now New item Shown = ([], refl)
+all_gone now New item New = ([], refl)
+all_gone now New item Other = ([], refl)
+all_gone now Other item Shown = ([], refl)
+all_gone now Other item New = ([], refl)
+all_gone now Other item Other = ([], refl)
+
+none_higher : (k : Class) (item : Item Datagram) (class : Class) → rank class < rank k → gone class (handed_one k item) ≡ handed class (handed_one k item)
+none_higher Shown item Shown l = absurd (omega arith)
+none_higher Shown item New l = absurd (omega arith)
+none_higher Shown item Other l = absurd (omega arith)
+none_higher New item Shown l = refl
+none_higher New item New l = absurd (omega arith)
+none_higher New item Other l = absurd (omega arith)
+none_higher Other item Shown l = refl
+none_higher Other item New l = refl
+none_higher Other item Other l = absurd (omega arith)
+
+none_next : (now : ℕ) (k : Class) (item : Item Datagram) → next_of (went_one now k item ++ Popped now None ∷ []) ≡ None
+none_next now Shown item = refl
+none_next now New item = refl
+none_next now Other item = refl
+
+pub one_goes : (rate depth now : ℕ) (k : Class) (item : Item Datagram) → IsWithin rate depth (last_moment (went_one now k item)) (ticks (went_one now k item))
+    → IsWithin rate depth (last_moment (went_one now k item ++ Popped now None ∷ [])) (ticks (went_one now k item ++ Popped now None ∷ [])) → BucketLaw rate depth (went_one now k item ++ Popped now None ∷ [])
+one_goes rate depth now k item within within_then = (hands, (goes, (ends, tt)))
+  where
+    hands : CallRight rate depth [] (handed_one k item) (Handed (record { class = k; item = item }))
+    hands = record { in_order = λ class. (handed class (handed_one k item), refl); highest_first = tt; not_too_much = tt; all_that_may = tt }
+
+    goes : CallRight rate depth (handed_one k item) (went_one now k item) (Popped now (Some (record { class = k; item = item })))
+    goes = record { in_order = all_gone now k item; highest_first = none_higher k item; not_too_much = within; all_that_may = tt }
+
+    ends : CallRight rate depth (went_one now k item) (went_one now k item ++ Popped now None ∷ []) (Popped now None)
+    ends = record {
+      in_order = all_gone now k item;
+      highest_first = tt;
+      not_too_much = within_then;
+      all_that_may = subst (λ (o : Option (Classed Datagram)). IfSome o (λ c. level_at rate depth (went_one now k item ++ Popped now None ∷ []) (last_moment (went_one now k item ++ Popped now None ∷ [])) < cost (Some c))) (sym (none_next now k item)) tt;
+    }
 
 pub one_spelled : IsSpellable (Data one)
 one_spelled = ((lit< tt, (lit< tt, lit< tt), lit≤ tt, lit≤ tt), lit≤ tt, lit≤ tt)

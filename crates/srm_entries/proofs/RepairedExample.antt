@@ -1,20 +1,18 @@
 -- A run of a member with timers: it holds a drawop, hears a request for it and repairs it at the first tick past the end of the
 -- interval. So the premises of the law of response on repairs can be met too.
-use Rattle.std.proofs.Common.{◌≡◌, ℕ, ◌==◌, ◌<◌, Bool, true, false, ◌&&◌, ◌||◌, List, [], ◌∷◌, ◌++◌, refl, ap, sym, ◌∙◌, arith, lit<, lit≤}
+use Rattle.std.proofs.Common.{◌≡◌, ℕ, ◌==◌, Bool, true, false, ◌&&◌, ◌||◌, List, [], ◌∷◌, ◌++◌, refl, ap, sym, ◌∙◌, arith, lit<, lit≤}
 use Rattle.std.specs.Prelude.{Option, Some, None, option_map, if◌then◌else◌}
 use Rattle.std.specs.List.{list_any}
 use Rattle.std.proofs.lemmas.Bool.Decides.{nat_tests}
 use Rattle.srm_names.specs.FullName.{FullName}
-use Rattle.srm_names.specs.Histories.{greatest, or_else, IsPrefix}
+use Rattle.srm_names.specs.Histories.{greatest, or_else}
 use Rattle.srm_names.specs.Names.{named, same_name}
 use Rattle.srm_codec.specs.declared.datagram.Datagram.{Datagram}
 use Rattle.srm_codec.specs.declared.datagram.Datagram.TheVariants.{Data, Request, Repair}
 use Rattle.srm_codec.specs.Spelling.{bits_set, IsSpellable}
-use Rattle.srm_bucket.specs.declared.class.Class.{Class}
-use Rattle.srm_bucket.specs.declared.class.Class.TheVariants.{Shown, New, Other}
-use Rattle.srm_bucket.specs.Calls.{Classed, Call, Handed, Popped}
-use Rattle.srm_bucket.specs.Classes.{rank, handed, gone}
-use Rattle.srm_bucket.specs.Law.{BucketLaw, GoesRight as CallRight}
+use Rattle.srm_bucket.specs.declared.class.Class.TheVariants.{Shown}
+use Rattle.srm_bucket.specs.Calls.{Classed}
+use Rattle.srm_bucket.specs.Law.{BucketLaw}
 use Rattle.srm_timers.specs.declared.arm.Arm.{Arm}
 use Rattle.srm_timers.specs.declared.arm.ArmKind.TheVariants.{Fix}
 use Rattle.srm_timers.specs.Arms.{Setting, setting, ran_out, arm_of}
@@ -26,7 +24,7 @@ use Rattle.srm_entries.specs.Timers.{repaired, ask_due, fix_due, asker, setting_
 use Rattle.srm_entries.specs.Bucket.{Going, classed, bucket_calls}
 use Rattle.srm_entries.specs.Runs.{EntryRight, IsMemberRun}
 use Rattle.srm_entries.specs.Sample.{in_roster, zeros, hears, ticks, fix_arm, idle}
-use Rattle.srm_entries.proofs.Plain.{idle_right, of_all, no_setting, missing_none, unknown_unmissed, one_held, one, one_spelled}
+use Rattle.srm_entries.proofs.Plain.{idle_right, of_all, no_setting, missing_none, unknown_unmissed, one_held, one, one_spelled, one_goes}
 use Rattle.srm_entries.proofs.Responding.{response_law}
 
 abbrev two_of_four : Config
@@ -154,33 +152,8 @@ repair_item = classed Shown (Repair 2 one)
 abbrev goings : List Going
 goings = idle holds ∷ idle asked ∷ record { entry = repairs; goes = repair_item ∷ [] } ∷ []
 
-abbrev handed_one : List (Call Datagram)
-handed_one = Handed repair_item ∷ []
-
-abbrev went_one : List (Call Datagram)
-went_one = handed_one ++ Popped 5200000 (Some repair_item) ∷ []
-
 law : BucketLaw 8000 4204 (bucket_calls 2 goings)
-law = (hands, (goes, (ends, tt)))
-  where
-    hands : CallRight 8000 4204 [] handed_one (Handed repair_item)
-    hands = record { in_order = λ class. (handed class handed_one, refl); highest_first = tt; not_too_much = tt; all_that_may = tt }
-
-    all_gone : (class : Class) → IsPrefix (gone class went_one) (handed class went_one)
-    all_gone Shown = ([], refl)
-    all_gone New = ([], refl)
-    all_gone Other = ([], refl)
-
-    none_higher : (class : Class) → rank class < 1 → gone class handed_one ≡ handed class handed_one
-    none_higher Shown l = absurd (omega arith)
-    none_higher New l = absurd (omega arith)
-    none_higher Other l = absurd (omega arith)
-
-    goes : CallRight 8000 4204 handed_one went_one (Popped 5200000 (Some repair_item))
-    goes = record { in_order = all_gone; highest_first = none_higher; not_too_much = (lit≤ tt, lit≤ tt, tt); all_that_may = tt }
-
-    ends : CallRight 8000 4204 went_one (went_one ++ Popped 5200000 None ∷ []) (Popped 5200000 None)
-    ends = record { in_order = all_gone; highest_first = tt; not_too_much = (lit≤ tt, lit≤ tt, tt); all_that_may = tt }
+law = one_goes 8000 4204 5200000 Shown repair_item.item (lit≤ tt, lit≤ tt, tt) (lit≤ tt, lit≤ tt, tt)
 
 pub run : IsMemberRun two_of_four 5000000 (holds ∷ asked ∷ repairs ∷ [])
 run = record {

@@ -1,21 +1,19 @@
 -- A node's first turn, in which it draws a stroke and gives it, whole and cut, at worked examples.
-use Rattle.std.specs.Prelude.{◌≡◌, ◌+◌, ◌<◌, ℕ, zero, suc, true, false, List, [], ◌∷◌, ◌++◌, map, take, Option, Some, None, Ok, slice_get, refl}
+use Rattle.std.specs.Prelude.{◌≡◌, ◌+◌, ℕ, zero, suc, true, false, List, [], ◌∷◌, ◌++◌, map, take, Option, Some, None, Ok, slice_get, refl}
 use Rattle.std.specs.List.{AllByRecursion}
 use Rattle.std.proofs.Common.{arith, inl, inr, subst, ap, lit≤}
 use Rattle.std.proofs.lemmas.Option.{same_Some}
 use Rattle.srm_names.specs.FullName.{FullName}
-use Rattle.srm_names.specs.Histories.{steps, greatest, IsPrefix}
+use Rattle.srm_names.specs.Histories.{steps, greatest}
 use Rattle.srm_names.specs.Names.{first_page}
 use Rattle.srm_names.specs.declared.page_msg.PageMsg.{PageMsg}
 use Rattle.srm_names.specs.declared.page_msg.PageMsg.TheVariants.{Open, Draw}
 use Rattle.srm_codec.specs.declared.datagram.Datagram.{Datagram}
 use Rattle.srm_codec.specs.declared.datagram.Datagram.TheVariants.{Data}
 use Rattle.srm_codec.specs.Spelling.{head, page_bytes, name_bytes, drawop_bytes, spelling}
-use Rattle.srm_bucket.specs.declared.class.Class.{Class}
-use Rattle.srm_bucket.specs.declared.class.Class.TheVariants.{Shown, New, Other}
-use Rattle.srm_bucket.specs.Calls.{Classed, Call, Handed, Popped}
-use Rattle.srm_bucket.specs.Classes.{rank, handed, gone}
-use Rattle.srm_bucket.specs.Law.{BucketLaw, GoesRight as CallRight}
+use Rattle.srm_bucket.specs.declared.class.Class.TheVariants.{New}
+use Rattle.srm_bucket.specs.Calls.{Classed}
+use Rattle.srm_bucket.specs.Law.{BucketLaw}
 use Rattle.srm_pages.specs.declared.stroke.Stroke.{Stroke}
 use Rattle.srm_pages.specs.Ends.{FeedView, WellView, LaneId}
 use Rattle.srm_entries.specs.declared.entry.Entry.{Entry}
@@ -26,7 +24,8 @@ use Rattle.srm_entries.specs.Timers.{fix_running}
 use Rattle.srm_entries.specs.Giving.{given, MessageRight}
 use Rattle.srm_entries.specs.Bucket.{Going, GoesRight, classed, bucket_calls}
 use Rattle.srm_entries.specs.Runs.{EntryRight, MomentRight, state_due}
-use Rattle.srm_entries.proofs.Plain.{one, config, plain, idle, idle_right, one_spelled, right, one_held, none_missing_in, missing_none, one_of}
+use Rattle.srm_entries.specs.Sample.{idle}
+use Rattle.srm_entries.proofs.Plain.{one, config, plain, idle_right, one_spelled, right, one_held, none_missing_in, missing_none, one_of, one_goes}
 use Rattle.srm_outbox.specs.declared.out.Out.{Out}
 use Rattle.srm_world.specs.Traces.{Journal}
 use Rattle.srm_world.specs.Claims.{IsLawfulJournal}
@@ -191,33 +190,8 @@ one_data = classed New (Data one)
 abbrev goings : List Going
 goings = idle draws ∷ record { entry = sends; goes = one_data ∷ [] } ∷ map idle all_gives
 
-abbrev handed_one : List (Call Datagram)
-handed_one = Handed one_data ∷ []
-
-abbrev went_one : List (Call Datagram)
-went_one = handed_one ++ Popped 1 (Some one_data) ∷ []
-
 law : BucketLaw 8000 4204 (bucket_calls 0 goings)
-law = (hands, (goes, (ends, tt)))
-  where
-    hands : CallRight 8000 4204 [] handed_one (Handed one_data)
-    hands = record { in_order = λ class. (handed class handed_one, refl); highest_first = tt; not_too_much = tt; all_that_may = tt }
-
-    all_gone : (class : Class) → IsPrefix (gone class went_one) (handed class went_one)
-    all_gone Shown = ([], refl)
-    all_gone New = ([], refl)
-    all_gone Other = ([], refl)
-
-    none_higher : (class : Class) → rank class < 2 → gone class handed_one ≡ handed class handed_one
-    none_higher Shown l = refl
-    none_higher New l = absurd (omega arith)
-    none_higher Other l = absurd (omega arith)
-
-    goes : CallRight 8000 4204 handed_one went_one (Popped 1 (Some one_data))
-    goes = record { in_order = all_gone; highest_first = none_higher; not_too_much = (lit≤ tt, lit≤ tt, tt); all_that_may = tt }
-
-    ends : CallRight 8000 4204 went_one (went_one ++ Popped 1 None ∷ []) (Popped 1 None)
-    ends = record { in_order = all_gone; highest_first = tt; not_too_much = (lit≤ tt, lit≤ tt, tt); all_that_may = tt }
+law = one_goes 8000 4204 1 New one_data.item (lit≤ tt, lit≤ tt, tt) (lit≤ tt, lit≤ tt, tt)
 
 goings_right : AllByRecursion GoesRight (steps goings)
 goings_right = (idle_right refl, (record { same = refl; at_ticks = tt }, (idle_right refl, (idle_right refl, (idle_right refl, (idle_right refl, (idle_right refl, (idle_right refl, (idle_right refl, (idle_right refl, (idle_right refl, (idle_right refl, tt))))))))))))

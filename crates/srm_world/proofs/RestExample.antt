@@ -1,20 +1,18 @@
 -- An honest run of two members that are at rest, after one drawop and a report of each: the premises of the law of rest can be met.
-use Rattle.std.proofs.Common.{◌≡◌, ℕ, ◌<◌, Bool, true, false, ◌&&◌, List, [], ◌∷◌, ◌++◌, map, refl, ap, sym, ◌∙◌, subst, arith, lit<, lit≤}
+use Rattle.std.proofs.Common.{◌≡◌, ℕ, Bool, true, false, ◌&&◌, List, [], ◌∷◌, ◌++◌, map, refl, ap, sym, ◌∙◌, subst, arith, lit<, lit≤}
 use Rattle.std.specs.Prelude.{Some, None, option_map, nat_lt, if◌then◌else◌}
 use Rattle.std.specs.List.{AllByRecursion}
 use Rattle.srm_names.specs.declared.stream.Stream.{Stream}
 use Rattle.srm_names.specs.FullName.{FullName}
-use Rattle.srm_names.specs.Histories.{steps, greatest, IsPrefix}
+use Rattle.srm_names.specs.Histories.{steps, greatest}
 use Rattle.srm_names.specs.Names.{first_page, named, same_page, same_stream}
 use Rattle.srm_names.proofs.Same.{same_stream-is}
 use Rattle.srm_codec.specs.declared.datagram.Datagram.{Datagram}
 use Rattle.srm_codec.specs.declared.datagram.Datagram.TheVariants.{Data, Session}
 use Rattle.srm_codec.specs.Spelling.{IsSpellable}
-use Rattle.srm_bucket.specs.declared.class.Class.{Class}
-use Rattle.srm_bucket.specs.declared.class.Class.TheVariants.{Shown, New, Other}
-use Rattle.srm_bucket.specs.Calls.{Classed, Call, Handed, Popped}
-use Rattle.srm_bucket.specs.Classes.{rank, handed, gone}
-use Rattle.srm_bucket.specs.Law.{BucketLaw, GoesRight as CallRight}
+use Rattle.srm_bucket.specs.declared.class.Class.TheVariants.{New}
+use Rattle.srm_bucket.specs.Calls.{Classed}
+use Rattle.srm_bucket.specs.Law.{BucketLaw}
 use Rattle.srm_entries.specs.Configs.{Config}
 use Rattle.srm_entries.specs.declared.entry.Entry.{Entry}
 use Rattle.srm_entries.specs.declared.state.AgentState.TheVariants.{Active}
@@ -26,7 +24,8 @@ use Rattle.srm_entries.specs.Verdicts.{stream_on}
 use Rattle.srm_entries.specs.Runs.{EntryRight, IsMemberRun}
 use Rattle.srm_world.specs.Traces.{Trace, of_member, IsHonest, IsRun}
 use Rattle.srm_world.specs.Claims.{AtRest}
-use Rattle.srm_entries.proofs.Plain.{zeros, one, config, plain, idle, idle_right, one_spelled, row_spelled, right, one_held, none_missing_in, missing_none, one_of}
+use Rattle.srm_entries.specs.Sample.{zeros, idle}
+use Rattle.srm_entries.proofs.Plain.{one, config, plain, idle_right, one_spelled, row_spelled, right, one_held, none_missing_in, missing_none, one_of, one_goes}
 
 abbrev draws : Entry
 draws = plain 0 1 (Drew first_page (97 ∷ [])) (Some one) [] None Active
@@ -127,33 +126,8 @@ one_data = classed New (Data one)
 abbrev goings_0 : List Going
 goings_0 = idle draws ∷ record { entry = sends; goes = one_data ∷ [] } ∷ idle hears_back ∷ []
 
-abbrev handed_one : List (Call Datagram)
-handed_one = Handed one_data ∷ []
-
-abbrev went_one : List (Call Datagram)
-went_one = handed_one ++ Popped 1000000 (Some one_data) ∷ []
-
 law_0 : BucketLaw 8000 4204 (bucket_calls 0 goings_0)
-law_0 = (hands, (goes, (ends, tt)))
-  where
-    hands : CallRight 8000 4204 [] handed_one (Handed one_data)
-    hands = record { in_order = λ class. (handed class handed_one, refl); highest_first = tt; not_too_much = tt; all_that_may = tt }
-
-    all_gone : (class : Class) → IsPrefix (gone class went_one) (handed class went_one)
-    all_gone Shown = ([], refl)
-    all_gone New = ([], refl)
-    all_gone Other = ([], refl)
-
-    none_higher : (class : Class) → rank class < 2 → gone class handed_one ≡ handed class handed_one
-    none_higher Shown l = refl
-    none_higher New l = absurd (omega arith)
-    none_higher Other l = absurd (omega arith)
-
-    goes : CallRight 8000 4204 handed_one went_one (Popped 1000000 (Some one_data))
-    goes = record { in_order = all_gone; highest_first = none_higher; not_too_much = (lit≤ tt, lit≤ tt, tt); all_that_may = tt }
-
-    ends : CallRight 8000 4204 went_one (went_one ++ Popped 1000000 None ∷ []) (Popped 1000000 None)
-    ends = record { in_order = all_gone; highest_first = tt; not_too_much = (lit≤ tt, lit≤ tt, tt); all_that_may = tt }
+law_0 = one_goes 8000 4204 1000000 New one_data.item (lit≤ tt, lit≤ tt, tt) (lit≤ tt, lit≤ tt, tt)
 
 run_0 : IsMemberRun (config 0) 0 (of_member 0 entries)
 run_0 = record { each = each_0; bucket = (goings_0, refl, (idle_right refl, (record { same = refl; at_ticks = tt }, (idle_right refl, tt))), law_0) }

@@ -1,22 +1,20 @@
 -- An honest run in which one member draws, sends and leaves, and the other hears it all, gives it and has it taken: the
 -- premises of the law on takes can be met, and those of 'the whole' too.
-use Rattle.std.proofs.Common.{◌≡◌, ◌==◌, ◌<◌, Bool, true, false, List, [], ◌∷◌, ◌++◌, map, refl, ap, sym, arith, lit<, lit≤}
+use Rattle.std.proofs.Common.{◌≡◌, ◌==◌, Bool, true, false, List, [], ◌∷◌, ◌++◌, map, refl, ap, sym, lit<, lit≤}
 use Rattle.std.specs.Prelude.{Option, Some, None, IfSome, if◌then◌else◌, option_map}
 use Rattle.std.specs.List.{AllByRecursion}
 use Rattle.srm_names.specs.declared.stream.Stream.{Stream}
 use Rattle.srm_names.specs.declared.page_msg.PageMsg.{PageMsg}
 use Rattle.srm_names.specs.declared.page_msg.PageMsg.TheVariants.{Open, Draw, Left}
 use Rattle.srm_names.specs.FullName.{FullName}
-use Rattle.srm_names.specs.Histories.{steps, greatest, IsPrefix}
+use Rattle.srm_names.specs.Histories.{steps, greatest}
 use Rattle.srm_names.specs.Names.{first_page, named, same_stream}
 use Rattle.srm_names.proofs.Same.{same_stream-is}
 use Rattle.srm_codec.specs.declared.datagram.Datagram.{Datagram}
 use Rattle.srm_codec.specs.declared.datagram.Datagram.TheVariants.{Data, Session}
 use Rattle.srm_codec.specs.Spelling.{IsSpellable}
-use Rattle.srm_bucket.specs.declared.class.Class.{Class}
-use Rattle.srm_bucket.specs.declared.class.Class.TheVariants.{Shown, New, Other}
-use Rattle.srm_bucket.specs.Calls.{Classed, Call, Handed, Popped}
-use Rattle.srm_bucket.specs.Classes.{rank, handed, gone}
+use Rattle.srm_bucket.specs.declared.class.Class.TheVariants.{New}
+use Rattle.srm_bucket.specs.Calls.{Classed, Popped}
 use Rattle.srm_bucket.specs.Law.{BucketLaw, GoesRight as CallRight}
 use Rattle.srm_entries.specs.declared.entry.Entry.{Entry}
 use Rattle.srm_entries.specs.declared.state.AgentState.TheVariants.{Active, Leaving, Gone}
@@ -31,7 +29,8 @@ use Rattle.srm_entries.specs.Giving.{MessageRight}
 use Rattle.srm_entries.specs.Runs.{EntryRight, IsMemberRun, MomentRight, drawop_due, state_due}
 use Rattle.srm_entries.specs.declared.entry.Verdict.TheVariants.{Done}
 use Rattle.srm_world.specs.Traces.{Trace, taken_by, IsRun, IsHonest}
-use Rattle.srm_entries.proofs.Plain.{zeros, one, config, plain, idle, idle_right, one_spelled, row_spelled, neither, right, one_held, none_missing_in, missing_none, one_of}
+use Rattle.srm_entries.specs.Sample.{zeros, idle}
+use Rattle.srm_entries.proofs.Plain.{one, config, plain, idle_right, one_spelled, row_spelled, neither, right, one_held, none_missing_in, missing_none, one_of, went_one, all_gone, one_goes}
 
 abbrev draws : Entry
 draws = plain 0 1 (Drew first_page (97 ∷ [])) (Some one) [] None Active
@@ -110,36 +109,11 @@ one_data = classed New (Data one)
 abbrev goings : List Going
 goings = idle draws ∷ record { entry = sends; goes = one_data ∷ [] } ∷ idle asks_leave ∷ idle parts ∷ []
 
-abbrev handed_one : List (Call Datagram)
-handed_one = Handed one_data ∷ []
-
-abbrev went_one : List (Call Datagram)
-went_one = handed_one ++ Popped 4 (Some one_data) ∷ []
-
 first_law : BucketLaw 8000 4204 (bucket_calls 0 goings)
-first_law = (hands, (goes, (ends, (ends_too, tt))))
+first_law = let first = one_goes 8000 4204 4 New one_data.item (lit≤ tt, lit≤ tt, tt) (lit≤ tt, lit≤ tt, tt) in (first.0, (first.1.0, (first.1.1.0, (ends_too, tt))))
   where
-    hands : CallRight 8000 4204 [] handed_one (Handed one_data)
-    hands = record { in_order = λ class. (handed class handed_one, refl); highest_first = tt; not_too_much = tt; all_that_may = tt }
-
-    all_gone : (class : Class) → IsPrefix (gone class went_one) (handed class went_one)
-    all_gone Shown = ([], refl)
-    all_gone New = ([], refl)
-    all_gone Other = ([], refl)
-
-    none_higher : (class : Class) → rank class < 2 → gone class handed_one ≡ handed class handed_one
-    none_higher Shown l = refl
-    none_higher New l = absurd (omega arith)
-    none_higher Other l = absurd (omega arith)
-
-    goes : CallRight 8000 4204 handed_one went_one (Popped 4 (Some one_data))
-    goes = record { in_order = all_gone; highest_first = none_higher; not_too_much = (lit≤ tt, lit≤ tt, tt); all_that_may = tt }
-
-    ends : CallRight 8000 4204 went_one (went_one ++ Popped 4 None ∷ []) (Popped 4 None)
-    ends = record { in_order = all_gone; highest_first = tt; not_too_much = (lit≤ tt, lit≤ tt, tt); all_that_may = tt }
-
-    ends_too : CallRight 8000 4204 (went_one ++ Popped 4 None ∷ []) (went_one ++ Popped 4 None ∷ Popped 21 None ∷ []) (Popped 21 None)
-    ends_too = record { in_order = all_gone; highest_first = tt; not_too_much = (lit≤ tt, lit≤ tt, (lit≤ tt, lit≤ tt, tt)); all_that_may = tt }
+    ends_too : CallRight 8000 4204 (went_one 4 New one_data.item ++ Popped 4 None ∷ []) (went_one 4 New one_data.item ++ Popped 4 None ∷ Popped 21 None ∷ []) (Popped 21 None)
+    ends_too = record { in_order = all_gone 4 New one_data.item; highest_first = tt; not_too_much = (lit≤ tt, lit≤ tt, (lit≤ tt, lit≤ tt, tt)); all_that_may = tt }
 
 first_goes : AllByRecursion GoesRight (steps goings)
 first_goes = (idle_right refl, (record { same = refl; at_ticks = tt }, (idle_right refl, (idle_right refl, tt))))
