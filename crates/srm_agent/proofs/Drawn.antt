@@ -1,6 +1,6 @@
 -- The entry of a draw, and what it leaves.
 use Rattle.std.proofs.Common.{◌≡◌, ◌≢◌, ℕ, ◌+◌, ◌≤◌, max, Bool, true, false, not, ◌&&◌, ◌||◌, List, [], ◌∷◌, ◌++◌, map, length, refl, ap, sym, ◌∙◌, subst, inl, inr, arith}
-use Rattle.std.specs.Prelude.{◌⊎◌, ◌==◌, nat_lt, nat_le, filter, Option, Some, None, if◌then◌else◌, option_map, is_some, unwrap_or, Result, Ok, Err, OnOk, IfSome}
+use Rattle.std.specs.Prelude.{◌⊎◌, ◌==◌, nat_lt, nat_le, filter, Option, Some, None, if◌then◌else◌, option_map, is_some, unwrap_or, Ok, Err, IfSome}
 use Rattle.std.specs.List.{flat_map, AllByRecursion}
 use Rattle.std.proofs.lemmas.Bool.{false≢true, cases_eq, eq-eqb, ne_eqb}
 use Rattle.std.proofs.lemmas.Bool.Decides.{nat_tests}
@@ -13,7 +13,7 @@ use Rattle.srm_names.specs.declared.stream.Stream.{Stream}
 use Rattle.srm_names.specs.declared.drawop.Drawop.{Drawop}
 use Rattle.srm_names.specs.FullName.{FullName}
 use Rattle.srm_names.specs.Histories.{steps, greatest, firsts, first_of, last_of}
-use Rattle.srm_names.specs.Names.{first_page, same_page, same_stream, same_name, named, among}
+use Rattle.srm_names.specs.Names.{first_page, same_page, same_stream, named}
 use Rattle.srm_names.proofs.Same.{same_page-is, same_page-itself, same_stream-is, same_stream-itself}
 use Rattle.srm_names.proofs.Lists.{Has, Has-append, Has-front, Has-back, Has-map, map-Has, AllByRecursion-snoc}
 use Rattle.srm_names.proofs.Snoc.{along, steps-snoc, last_of-snoc, first_of-snoc, or_else-none}
@@ -139,21 +139,6 @@ slots_suffice c made es pages all fine =
   where
     within : (m n : ℕ) → m ≤ n → nat_lt PAGES n ≡ false → nat_lt PAGES m ≡ false
     within m n le e = grind (arith, nat_tests)
-
--- a name among itself alone
-pub one_page : (p : Page) → is_in (p ∷ []) p ≡ true
-one_page p = ap (λ b. b || false) (same_page-itself p)
-
-itself : (n : FullName) → same_name n n ≡ true
-itself n = ap (λ b. b && (n.number == n.number)) (same_stream-itself n.stream) ∙ eq-eqb n.number n.number refl
-
-pub one_among : (n : FullName) → among (n ∷ []) n ≡ true
-one_among n = ap (λ b. b || false) (itself n)
-
--- what holds where a call was done
-pub when_ok : {X E P : Type 0} (r : Result X E) {x : X} → r ≡ Ok x → OnOk r P → P
-when_ok (Ok y) e p = p
-when_ok (Err f) e p = absurd (cc)
 
 -- the drawop that is drawn is held at once, so nothing comes to be missing
 

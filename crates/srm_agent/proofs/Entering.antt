@@ -99,9 +99,6 @@ refused_enters draw a now moment input fault e is at unticked takes ungiven mess
     })
     (λ c made past h. h.pages ∙ sym (slots-same past _ refl)) (λ c made past h. same_progress past _ a.progress ungiven h.progress)
 
-gone_leaves : (s : AgentState) → s ≡ Gone → (past : List Entry) (c : Config) → s ≡ state past → VerdictRight c past AskedLeave (Refused faults.Gone)
-gone_leaves s e past c q = rw (sym q ∙ e) refl
-
 pub leave_gone : {W : Type 0} (draw : W → ℕ × W) (a : Content W) (now moment : ℕ) (e : Entry) → a.state ≡ Gone → e ≡ still_entry a.config.me moment AskedLeave (Refused faults.Gone) None a.state → moment ≡ max now a.last → Enters draw (Some now) AskedLeave a a e
 leave_gone draw a now moment e gone is at = refused_enters draw a now moment AskedLeave faults.Gone e is at refl refl (λ j. refl) (λ c past. refl) (λ c made past h. rw (sym h.state ∙ gone) refl)
 

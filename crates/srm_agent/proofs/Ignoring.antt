@@ -113,14 +113,6 @@ pub refused_as_read : {A B : Type 0} (r : Result A B) (session own : ℕ) (bytes
 refused_as_read (Ok x) session own bytes g same read = tt
 refused_as_read (Err y) session own bytes g same read = rw (← same, read) refl
 
-abbrev failed : DecodeFault → Result Datagram DecodeFault
-failed fault = Err fault
-
-pub refused_in_reading : {A B : Type 0} (r : Result A B) (fault : DecodeFault) (session own : ℕ) (bytes : List ℕ) → session ≡ own → (failed fault ≡ failed decoding.Memory → IsOk (judge session bytes))
-    → OnErr r (fault ≡ decoding.Memory) → OnErr r (IsOk (judge own bytes))
-refused_in_reading (Ok x) fault session own bytes same good memory = tt
-refused_in_reading (Err y) fault session own bytes same good memory = rw (← same) (good (ap failed memory))
-
 -- what holds of what is answered, where something is
 pub if_one : {A B : Type 0} {P Q : A → Type 0} (r : Result A B) → IfOk r P → ((x : A) → P x → Q x) → IfOk r Q
 if_one (Ok x) p to = to x p

@@ -62,12 +62,6 @@ nothing_is_next past s g k all left count none all_is left_is e = rw (sym count,
 pub progress_at : (past : List Entry) (progress : List ProgressContent) (j i : ℕ) (f : ProgressContent) → EachProgressFits past progress → length progress ≡ PAGES → j < PAGES → i ≡ j → f ≡ get_or progress i f → ProgressFits (given past j) f
 progress_at past progress j i f h size inside same at = h.each j f (subst (λ k. slice_get progress k ≡ Some f) same (slice_get_read progress PAGES i f (sym size) (subst (λ k. k < PAGES) (sym same) inside) at))
 
-pub gives_nothing_closed : (c : Config) (past : List Entry) (j : ℕ) (f : ProgressContent) → ProgressFits (given past j) f → f.closed ≡ true → GiveRight c past j None
-gives_nothing_closed c past j f fits closed = let k : list_any is_close (given past j) ≡ true = sym fits.closed ∙ closed in ((λ _. k), ap (λ b. b || is_quiet c past (given past j) (slice_get (slots past) j)) k)
-
-pub gives_open : (c : Config) (past : List Entry) (j : ℕ) (page : Page) (f : ProgressContent) → ProgressFits (given past j) f → slice_get (slots past) j ≡ Some page → f.opened ≡ false → f.closed ≡ false → GiveRight c past j (Some (Open page))
-gives_open c past j page f fits at unopened unclosed = subst (λ o. GivesAfter c past (given past j) o (Some (Open page))) (sym at) (refl, fits.begun unopened unclosed)
-
 none_of : (p : ℕ → Bool) (from n : ℕ) → ((k : ℕ) → from ≤ k → k < from + n → p k ≡ false) → list_any p (count_up from n) ≡ false
 none_of p from zero none = refl
 none_of p from (suc n) none = ap (λ b. b || list_any p (count_up (from + 1) n)) (none from (omega arith) (omega arith)) ∙ none_of p (from + 1) n (λ k l m. none k (omega arith) (omega arith))
@@ -93,11 +87,6 @@ close_or_none c past g None true gone closed quiet = (closed, gone, quiet)
 close_or_none c past g (Some page) true gone closed quiet = (closed, gone, quiet)
 close_or_none c past g None false gone closed quiet = ((λ e. absurd (cc)), ap (λ b. b || true) closed)
 close_or_none c past g (Some page) false gone closed quiet = ((λ e. absurd (cc)), ap (λ b. b || is_quiet c past g (Some page)) closed ∙ quiet)
-
-pub closes_without_page : (c : Config) (past : List Entry) (j : ℕ) (f : ProgressContent) (gone : Bool) → ProgressFits (given past j) f → slice_get (slots past) j ≡ None → f.closed ≡ false → gone ≡ is_gone (state past)
-    → GiveRight c past j (if gone then Some Close else None)
-closes_without_page c past j f gone fits at closed is =
-    subst (λ o. GivesAfter c past (given past j) o (if gone then Some Close else None)) (sym at) (close_or_none c past (given past j) None gone (sym is) (sym fits.closed ∙ closed) refl)
 
 pub closes_with_page : (c : Config) (past : List Entry) (j : ℕ) (page : Page) (f : ProgressContent) (gone : Bool) → ProgressFits (given past j) f → slice_get (slots past) j ≡ Some page → f.opened ≡ true → f.closed ≡ false
     → IsNextOn c past page (given past j) None → gone ≡ is_gone (state past) → GiveRight c past j (if gone then Some Close else None)

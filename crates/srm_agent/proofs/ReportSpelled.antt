@@ -7,19 +7,16 @@ use Rattle.srm_names.specs.declared.limits.TheConstants.{MEMBERS, MOMENT}
 use Rattle.srm_names.specs.declared.page.Page.{Page}
 use Rattle.srm_names.specs.declared.echo.Echo.{Echo}
 use Rattle.srm_names.specs.FullName.{FullName}
-use Rattle.srm_codec.specs.declared.datagram.Datagram.{Datagram}
 use Rattle.srm_codec.specs.declared.datagram.Datagram.TheVariants.{Session}
 use Rattle.srm_codec.specs.Spelling.{IsSpellable, is_page, is_echo, AreRows, AreEchoes}
 use Rattle.srm_distance.specs.Calls.{Call}
 use Rattle.srm_distance.specs.Echoes.{AreSpellable, CanBeSent}
 use Rattle.srm_distance.specs.Echoes as distances
 use Rattle.srm_distance.specs.Fits.{Fits as DistancesFit}
-use Rattle.srm_outbox.specs.declared.out.Outgoing.{Outgoing}
 use Rattle.srm_entries.specs.Configs.{Config}
 use Rattle.srm_agent.specs.Contents.{Content}
 use Rattle.srm_entries.specs.Distances.{distance_calls}
-use Rattle.srm_outbox.specs.Outs.{IsOutgoing, IsOutgoingOf}
-use Rattle.srm_agent.specs.Reports.{IsReportOf, IsReportSpelled, AreReported, AreOwed}
+use Rattle.srm_agent.specs.Reports.{IsReportOf, AreReported, AreOwed}
 
 -- echoes that can be sent at a moment have a spelling
 each_echo : (me now : ℕ) (echoes : List Echo) → now ≤ MOMENT → All (CanBeSent me now) echoes → AllByRecursion is_echo echoes
@@ -61,11 +58,3 @@ report_is a moment farewell me page rows echoes same shown reported owed spellab
   farewell = refl;
   spellable = spellable;
 }
-
-pub spelled_if_ok : {W E : Type 0} (a : Content W) (moment : ℕ) (farewell : Bool) (session : ℕ) (g : Datagram) (r : Result Outgoing E)
-    → session ≡ a.config.session → IsReportOf a moment farewell g → IfOk r (λ o. IsOutgoingOf session g o) → IfOk r (λ o. IsReportSpelled a moment farewell o)
-spelled_if_ok a moment farewell session g (Ok o) same report out = record {
-  report = subst (IsReportOf a moment farewell) (sym out.of) report;
-  outgoing = subst (λ n. IsOutgoing n o) same out.is;
-}
-spelled_if_ok a moment farewell session g (Err e) same report out = tt

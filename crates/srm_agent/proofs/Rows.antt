@@ -200,9 +200,6 @@ any_source : (me : ℕ) (ss : List Stream) → AllByRecursion (λ (s : Stream). 
 any_source me [] = tt
 any_source me (s ∷ ss) = ((λ e. absurd (cc)), any_source me ss)
 
-swapped_page : (a b : Page) → same_page a b ≡ same_page b a
-swapped_page a b = grind (arith, nat_tests)
-
 pub rows_of_page : {W : Type 0} (a : Content W) (streams : List Stream) (rows : List FullName) → AreShown a streams → AreRowsOf a streams rows → AreReported a false rows
 rows_of_page a streams rows page are = record {
   right = λ c made past now fits. record {

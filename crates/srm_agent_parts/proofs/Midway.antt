@@ -1,10 +1,10 @@
 -- The timers in the middle of an entry: what of them was set, gained and repaired so far; and what each call keeps.
-use Rattle.std.proofs.Common.{◌≡◌, ℕ, ◌+◌, ◌*◌, ◌<◌, ◌≤◌, min, Bool, true, false, ◌&&◌, ◌||◌, List, [], ◌∷◌, ◌++◌, refl, ap, sym, ◌∙◌, subst, arith, inl, inr, zero, suc, length, get_or}
-use Rattle.std.specs.Prelude.{◌⊎◌, nat_lt, nat_le, if◌then◌else◌, Option, Some, None, is_some, option_map, IfSome, Result, Ok, Err, IfOk, OnErr}
+use Rattle.std.proofs.Common.{◌≡◌, ℕ, ◌+◌, ◌*◌, ◌≤◌, min, Bool, true, false, ◌&&◌, ◌||◌, List, [], ◌∷◌, ◌++◌, refl, ap, sym, ◌∙◌, subst, arith, inl, inr}
+use Rattle.std.specs.Prelude.{◌⊎◌, nat_lt, nat_le, if◌then◌else◌, Option, Some, None, is_some, option_map, IfSome, Result, Ok, Err, IfOk}
 use Rattle.std.proofs.lemmas.Bool.Decides.{nat_tests}
 use Rattle.srm_names.specs.FullName.{FullName}
 use Rattle.srm_names.specs.Histories.{or_else, first_of}
-use Rattle.srm_names.specs.Names.{name_below, ascending, among, same_name}
+use Rattle.srm_names.specs.Names.{name_below, ascending, among}
 use Rattle.srm_names.proofs.Snoc.{first_of-snoc}
 use Rattle.srm_timers.specs.declared.arm.Arm.{Arm}
 use Rattle.srm_timers.specs.declared.arm.ArmKind.{ArmKind}
@@ -26,8 +26,6 @@ use Rattle.srm_agent_parts.specs.TimersKept.{TimersContent, TimersFit, shown_if}
 use Rattle.srm_agent_parts.specs.TimerCalls.{KeepSettings, WaitsAreDrawn, TimersStay, AreDueAsks, AreDueFixes, AsksPending, FixesPending, IsBefore, TimersNext, ask_running}
 use Rattle.srm_entries.proofs.Adding.{last_ask-snoc, fix_running-snoc, held_off-snoc}
 use Rattle.srm_entries.proofs.Setting.{of_kind, find_kind, all_asks, drawn_asks}
-use Rattle.srm_timers.proofs.Arming.{same_itself}
-use Rattle.srm_agent_parts.proofs.RisingNames.{later_among}
 
 -- the timer that an arm of a kind made, by these arms
 abbrev pub armed_as : ArmKind → ℕ → List Arm → FullName → Option Armed
@@ -146,10 +144,6 @@ fixes_keep asks fixes fixes' h = record { each = λ c s. record { c1 = s.c1; c2 
 pub stay_on : (a b d : TimersContent) → TimersStay a b → TimersStay b d → TimersStay a d
 stay_on a b d p q = record { each = λ c past h. q.each c past (p.each c past h) }
 
-pub on_err : {X E P : Type 0} (r : Result X E) → P → OnErr r P
-on_err (Ok x) p = tt
-on_err (Err e) p = p
-
 pub on_ok : {X E : Type 0} {P : X → Type 0} (r : Result X E) → ((x : X) → r ≡ Ok x → P x) → IfOk r P
 on_ok (Ok x) f = f x refl
 on_ok (Err e) f = tt
@@ -217,10 +211,6 @@ pub fixes_due : (now : ℕ) (t : TimersContent) (names : List FullName) → FixD
 fixes_due now t names due rising = record { due = due; rising = rising }
 
 -- the first of the timers of one kind
-
-not_yet : (u : ℕ) (o : Option Armed) → ((t : ℕ) → option_map end_of o ≡ Some t → u < t) → ran_out u o ≡ false
-not_yet u None later = refl
-not_yet u (Some a) later = let l : u < end_of a = later (end_of a) refl in grind (arith, nat_tests)
 
 none_before : (timer : FullName → Option Armed) (moment : Option ℕ) (u : ℕ) → RunsOutFirst timer moment → IsBefore u moment → (n : FullName) → ran_out u (timer n) ≡ false
 none_before timer None u h before n = ap (ran_out u) (h.none refl n)
@@ -307,14 +297,6 @@ room_stays names a b ready holds =
 pub places_stay : (names : List FullName) (a b : FixContent) → FixPlaces names a → FixHolds a b → FixPlaces names b
 places_stay names a b places holds = record { each = λ n at. holds.each n (places.each n at) }
 
-pub place_at : (names : List FullName) (i : ℕ) (name : FullName) (a : FixContent) → i < length names → name ≡ get_or names i name → FixPlaces names a → FixPlace a name
-place_at names i name a lt is places = places.each name (there names i lt (ap (λ n. same_name name n) (sym is) ∙ same_itself name))
-  where
-    there : (ns : List FullName) (j : ℕ) → j < length ns → same_name name (get_or ns j name) ≡ true → among ns name ≡ true
-    there [] j l e = absurd (omega (arith, l))
-    there (n ∷ ns) zero l e = ap (λ b. b || among ns name) e
-    there (n ∷ ns) (suc j) l e = later_among name n ns (there ns j (omega (arith, l)) e)
-
 pub settings_keep : (a b : TimersContent) → AskHolds a.asks b.asks → FixHolds a.fixes b.fixes → KeepSettings a b
 settings_keep a b p q = record { each = λ c s. record { c1 = p.c1 ∙ s.c1; c2 = p.c2 ∙ s.c2; d1 = q.d1 ∙ s.d1; d2 = q.d2 ∙ s.d2 } }
 
@@ -325,6 +307,3 @@ drawn_append draw low high from mid to (x ∷ xs) ys h k = (h.0, drawn_append dr
 
 pub waits_join : {W : Type 0} (draw : W → ℕ × W) (t : TimersContent) (from mid to : W) (xs ys all : List Arm) → all ≡ xs ++ ys → WaitsAreDrawn draw t from xs mid → WaitsAreDrawn draw t mid ys to → WaitsAreDrawn draw t from all to
 waits_join draw t from mid to xs ys all is h k = rw is (record { each = λ c s. drawn_append draw (low_of c) (high_of c) from mid to xs ys (h.each c s) (k.each c s) })
-
-pub no_waits : {W : Type 0} (draw : W → ℕ × W) (t : TimersContent) (from : W) (arms : List Arm) → arms ≡ [] → WaitsAreDrawn draw t from arms from
-no_waits draw t from arms is = rw is (record { each = λ c s. refl })

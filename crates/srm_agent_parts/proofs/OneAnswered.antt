@@ -64,25 +64,6 @@ or_false : (b : Bool) → (b || false) ≡ b
 or_false true = refl
 or_false false = refl
 
-pub none_answered : (s : StoreContent) (from : ℕ) (dist : List ℕ) (now : ℕ) (asked : List FullName) (arms : List Arm) (old : TimersContent) → arms ≡ [] → AnsweredSoFar s from dist now asked 0 arms old old
-none_answered s from dist now asked arms old is = rw is (record {
-  each = λ c past h f r. record {
-    mid = record {
-      ask_calls = h.ask_calls;
-      asks = h.asks;
-      ask_timers = h.ask_timers;
-      fix_calls = h.fix_calls;
-      fixes = h.fixes;
-      fix_timers = h.fix_timers;
-      askers = λ n. h.askers n ∙ sym (or_else-none (first_of (asker n) past));
-      offs = λ n u. h.offs n u ∙ sym (or_false (held_off c.me past n u));
-    };
-    rising = refl;
-    inside = λ n at. absurd (cc);
-    exact = λ n. refl;
-  };
-})
-
 -- one name
 
 abbrev plan_at : FullName → Setting → Plan

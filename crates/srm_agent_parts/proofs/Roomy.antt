@@ -2,7 +2,7 @@
 use Rattle.std.proofs.Common.{◌≡◌, ℕ, ◌+◌, ◌≤◌, ◌<◌, Bool, true, false, ◌||◌, List, [], ◌∷◌, ◌++◌, take, drop, get_or, length, refl, ap, sym, ◌∙◌, subst, arith, length-append, append_assoc}
 use Rattle.std.specs.Prelude.{nat_lt, if◌then◌else◌}
 use Rattle.std.specs.List.{list_any}
-use Rattle.std.proofs.lemmas.List.{append-nil, map-append, take_more, take_all, take-append-drop}
+use Rattle.std.proofs.lemmas.List.{append-nil, map-append, take_more, take-append-drop}
 use Rattle.std.proofs.lemmas.Bool.Decides.{nat_tests}
 use Rattle.srm_names.specs.declared.page.Page.{Page}
 use Rattle.srm_names.specs.FullName.{FullName}
@@ -13,9 +13,6 @@ use Rattle.srm_names.proofs.Lists.{firsts-front}
 use Rattle.srm_agent_parts.specs.PageTables.{with_page, lacks_room, pages_of, with_pages_of, lacks_room_for}
 use Rattle.srm_entries.proofs.Adding.{list_any-append}
 use Rattle.srm_agent_parts.proofs.Listing.{firsts_more, firsts_again}
-
-page_of : FullName → Page
-page_of n = n.stream.page
 
 pages_of-snoc : (pages : List Page) (names : List FullName) (n : FullName) → pages ++ pages_of (names ++ n ∷ []) ≡ (pages ++ pages_of names) ++ n.stream.page ∷ []
 pages_of-snoc pages names n = ap (λ ps. pages ++ ps) (map-append (λ (m : FullName). m.stream.page) names (n ∷ [])) ∙ sym (append_assoc pages (pages_of names) (n.stream.page ∷ []))
@@ -56,9 +53,6 @@ room_next pages self names i n l e so_far room =
 pub none_added : (pages : List Page) → firsts same_page pages ≡ pages → pages ≡ with_pages_of pages []
 none_added pages distinct = sym distinct ∙ ap (firsts same_page) (sym (append-nil pages))
 
-pub all_added : (pages : List Page) (names : List FullName) (i : ℕ) (self : List Page) → length names ≤ i → self ≡ with_pages_of pages (take i names) → self ≡ with_pages_of pages names
-all_added pages names i self l e = e ∙ ap (with_pages_of pages) (take_all i names l)
-
 -- counting them
 pub any_of : (page : Page) (names : List FullName) → list_any (λ other. same_page other page) (pages_of names) ≡ list_any (λ (n : FullName). same_page n.stream.page page) names
 any_of page [] = refl
@@ -89,12 +83,6 @@ too_many pages names i count n l e there so_far full =
   where
     past : (a b count : ℕ) → count + 1 ≡ a → count ≡ 8 → a ≤ b → nat_lt 8 b ≡ true
     past a b count e f l = grind (arith, nat_tests)
-
-pub not_too_many : (pages : List Page) (names : List FullName) (i count : ℕ) → length names ≤ i → count ≡ length (with_pages_of pages (take i names)) → count ≤ 8 → lacks_room_for pages names ≡ false
-not_too_many pages names i count l so_far few = within (length (with_pages_of pages names)) (so_far ∙ ap (λ ns. length (with_pages_of pages ns)) (take_all i names l))
-  where
-    within : (n : ℕ) → count ≡ n → nat_lt 8 n ≡ false
-    within n e = grind (arith, nat_tests)
 
 pub room_left : (count most : ℕ) → count ≤ 8 → most ≡ 8 → (count ≡ most → ⊥) → count + 1 ≤ 8
 room_left count most few e other = grind (arith, few, e, other)

@@ -18,7 +18,7 @@ use Rattle.srm_world.proofs.Stepping.{sent-snoc}
 use Rattle.srm_audit.specs.Audits.{entries_at}
 use Rattle.srm_audit.specs.Texts.{Knows, Learns}
 use Rattle.srm_audit.specs.Queues.{HearsSent, MayGo, PopsReady}
-use Rattle.srm_audit.specs.Merging.{Content, left, Merges, Keeps, Advances, Waits, Moves, TriesMember, Tries, Stops}
+use Rattle.srm_audit.specs.Merging.{Content, left, Merges, Keeps, Advances, Waits, Moves, TriesMember, Tries}
 
 pub at_queue : {X : Type 0} (xs : List X) (k : ℕ) (x : X) → k < length xs → x ≡ get_or xs k x → slice_get xs k ≡ Some x
 at_queue xs k x l is = slice_get-get_or xs k x l ∙ ap Some (sym is)
@@ -113,9 +113,6 @@ left_set (x ∷ queues) (suc k) e rest at = let h = left_set queues k e rest at 
 advances_less : (k : ℕ) (old new : Content) → Advances k old new → left new.queues + 1 ≡ left old.queues
 advances_less k old new a = ap (λ xs. left xs + 1) a.queues ∙ left_set old.queues k a.entry a.rest a.next
 
-pub keeps_itself : (m : Content) → Keeps m m
-keeps_itself m = record { each = λ q h. h; count = refl }
-
 pub keeps_on : (old mid new : Content) → Keeps old mid → Keeps mid new → Keeps old new
 keeps_on old mid new a b = record { each = λ q h. b.each q (a.each q h); count = b.count ∙ a.count }
 
@@ -151,9 +148,6 @@ goes_count k old mid false l h = subst (λ (m : Content). k < length m.queues) (
 
 -- each member is tried in turn
 
-pub tries_none : (m : Content) → Tries 0 m m false
-tries_none m = record { keeps = keeps_itself m; less = omega arith; still = λ e. refl; waits = λ e k l. absurd (omega arith) }
-
 pub tries_more : (i : ℕ) (old mid new : Content) (moved went : Bool) → Tries i old mid moved → TriesMember i mid new went → Tries (i + 1) old new (moved || went)
 tries_more i old mid new true true h a = record {
   keeps = keeps_on old mid new h.keeps a.keeps;
@@ -181,10 +175,4 @@ tries_more i old mid new false false h (same, waits) = record {
     | inl is ↦ subst (Waits old) (sym is) (subst (λ (m : Content). Waits m i) (h.still refl) waits)
     | inr ne ↦ h.waits refl k (omega (arith, ne))
   ];
-}
-
-pub stops : (old mid new : Content) → Keeps old mid → Tries (length mid.queues) mid new false → Stops old new
-stops old mid new keeps tries = record {
-  keeps = keeps_on old mid new keeps tries.keeps;
-  waits = λ k l. subst (λ (m : Content). Waits m k) (sym (tries.still refl)) (tries.waits refl k (subst (λ (m : Content). k < length m.queues) (tries.still refl) l));
 }

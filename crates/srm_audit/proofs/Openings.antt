@@ -47,13 +47,6 @@ pub record Opened (all rest : List Journal) (starts : List Start) (queues : List
   pub queues_are : map (λ (j : Journal). j.entries) all ≡ queues ++ map (λ (j : Journal). j.entries) rest
   pub known : AllByRecursion IsLawfulJournal rest
 
-pub opened_none : (all rest : List Journal) (starts : List Start) (queues : List (List Entry)) → rest ≡ all → starts ≡ [] → queues ≡ [] → AllByRecursion IsLawfulJournal all → Opened all rest starts queues
-opened_none all rest starts queues same none nothing known = record {
-  starts_are = ap starts_of (sym same) ∙ ap (λ ss. ss ++ starts_of rest) (sym none);
-  queues_are = ap (map (λ (j : Journal). j.entries)) (sym same) ∙ ap (λ qs. qs ++ map (λ (j : Journal). j.entries) rest) (sym nothing);
-  known = subst (AllByRecursion IsLawfulJournal) (sym same) known;
-}
-
 pub opened_more : (all old rest : List Journal) (j : Journal) (start : Start) (entries queue : List Entry) (starts starts' : List Start) (queues queues' : List (List Entry)) → Opened all old starts queues → old ≡ j ∷ rest → start ≡ j.start → entries ≡ j.entries
     → queue ≡ entries → starts' ≡ starts ++ start ∷ [] → queues' ≡ queues ++ queue ∷ [] → Opened all rest starts' queues'
 opened_more all old rest j start entries queue starts starts' queues queues' h split start_is entries_are queue_is starts_grow queues_grow =
@@ -68,16 +61,6 @@ opened_more all old rest j start entries queue starts starts' queues queues' h s
 
 pub opened_readable : (all old rest : List Journal) (j : Journal) (entries : List Entry) (starts : List Start) (queues : List (List Entry)) → Opened all old starts queues → old ≡ j ∷ rest → entries ≡ j.entries → AreReadable entries
 opened_readable all old rest j entries starts queues h split are = subst AreReadable (sym are) (readable j (subst (AllByRecursion IsLawfulJournal) split h.known).0)
-
-pub opened_starts : (all rest : List Journal) (starts : List Start) (queues : List (List Entry)) → Opened all rest starts queues → rest ≡ [] → starts ≡ starts_of all
-opened_starts all rest starts queues h none = sym (h.starts_are ∙ ap (λ js. starts ++ starts_of js) none ∙ append-nil starts)
-
-pub opens : (all rest : List Journal) (starts : List Start) (queues : List (List Entry)) (m : Content) → Opened all rest starts queues → rest ≡ [] → m.queues ≡ queues → m.entries ≡ [] → Knows [] m.texts → Opens all m
-opens all rest starts queues m h none same nothing knows = record {
-  queues = same ∙ sym (h.queues_are ∙ ap (λ js. queues ++ map (λ (j : Journal). j.entries) js) none ∙ append-nil queues);
-  entries = nothing;
-  knows = knows;
-}
 
 -- where they stand in order, nothing was put into the order yet
 

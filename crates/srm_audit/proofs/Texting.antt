@@ -19,13 +19,6 @@ pub list_any-map : {X Y : Type 0} (p : Y → Bool) (f : X → Y) (xs : List X) �
 list_any-map p f [] = refl
 list_any-map p f (x ∷ xs) = ap (λ b. p (f x) || b) (list_any-map p f xs)
 
--- nothing was sent
-pub knows_nothing : (t : List (List ℕ)) → t ≡ [] → Knows [] t
-knows_nothing t none = record { each = λ g fits. (λ e. absurd (no (ap (λ ts. is_text ts (text_of g)) (sym none) ∙ e)), λ h. absurd (Has-contained g [] h)) }
-  where
-    no : false ≡ true → ⊥
-    no e = cc
-
 -- the texts with these bytes more
 pub record Gains (bytes : List ℕ) (old new : List (List ℕ)) : Type 0 where
   pub each : (text : List ℕ) → is_text new text ≡ (bytes_eq text bytes || is_text old text)

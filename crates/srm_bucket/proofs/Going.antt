@@ -10,7 +10,7 @@ use Rattle.srm_bucket.specs.declared.item.Item.{Item}
 use Rattle.srm_bucket.specs.declared.tokens.Tokens.{Tokens}
 use Rattle.srm_bucket.specs.Calls.{Classed, Call, Handed, Refilled, Popped}
 use Rattle.srm_bucket.specs.Classes.{in_class, handed, gone, left, next_of}
-use Rattle.srm_bucket.specs.Tokens.{IsFirstMoment, cost_of, refilled, spent}
+use Rattle.srm_bucket.specs.Tokens.{IsFirstMoment, refilled, spent}
 use Rattle.srm_bucket.specs.Ticks.{last_moment, ticks, cost, level, IsWithin}
 use Rattle.srm_bucket.specs.Law.{GoesRight, NoneHigher, lets_nothing_go, level_at, covered, may_go}
 use Rattle.srm_bucket.specs.Waiting.{Waiting, Gains, Loses, SameQueues, queue, next_in}
@@ -224,8 +224,3 @@ waits_for {T = T} b c moment next first = record {
 
 pub waits_for_nothing : {T : Type 0} (b : Content T) → next_in b.waiting ≡ None → Waits b None
 waits_for_nothing b next = record { until = λ rate depth calls f. next-is calls b.waiting f.waiting_is ∙ next }
-
--- a new bucket fits no calls
-pub fits_new : {T : Type 0} (rate depth : ℕ) (b : Content T) → b.tokens ≡ record { rate = rate; depth = depth; level = cost_of depth; last = 0 }
-    → ((k : Class) → queue b.waiting k ≡ []) → let calls : List (Call T) = [] in Fits rate depth calls b
-fits_new rate depth b tokens empty = record { tokens_are = tokens; waiting_is = λ k. empty k; within = tt; law = tt }

@@ -1,15 +1,15 @@
 -- What goes next of what waits, and what its going leaves.
-use Rattle.std.proofs.Common.{◌≡◌, ℕ, ◌+◌, ◌<◌, List, [], ◌∷◌, ◌++◌, length, Option, Some, None, Bool, true, false, refl, sym, ap, subst, ◌∙◌, arith}
-use Rattle.std.specs.Prelude.{◌==◌, if◌then◌else◌, IfSome}
+use Rattle.std.proofs.Common.{◌≡◌, ℕ, ◌+◌, ◌<◌, List, [], ◌∷◌, ◌++◌, length, Option, Some, None, refl, sym, ap, subst, ◌∙◌, arith}
+use Rattle.std.specs.Prelude.{IfSome}
 use Rattle.std.specs.List.{All}
-use Rattle.std.proofs.lemmas.List.Elements.{All-nil, All-head, All-tail, All-append, All-push}
+use Rattle.std.proofs.lemmas.List.Elements.{All-head, All-tail}
 use Rattle.srm_names.specs.Histories.{or_else}
 use Rattle.srm_bucket.specs.declared.class.Class.{Class}
 use Rattle.srm_bucket.specs.declared.class.Class.TheVariants.{Shown, New, Other}
 use Rattle.srm_bucket.specs.declared.item.Item.{Item}
 use Rattle.srm_bucket.specs.Calls.{Classed}
 use Rattle.srm_bucket.specs.Classes.{rank, in_class, first_in, first_of_highest}
-use Rattle.srm_bucket.specs.Waiting.{Waiting, HasLength, Gains, Loses, queue, count_of}
+use Rattle.srm_bucket.specs.Waiting.{Waiting, HasLength, Loses, queue, count_of}
 
 pub next-same : {T : Type 0} (a b : Class → List (Item T)) → ((k : Class) → a k ≡ b k) → first_of_highest a ≡ first_of_highest b
 next-same a b h = rw (h Shown, h New, h Other) refl
@@ -55,14 +55,6 @@ has_length [] [] [] p q r = tt
 
 pub next-length : {T : Type 0} (a : Class → List (Item T)) → ((k : Class) → All HasLength (a k)) → IfSome (first_of_highest a) (λ c. HasLength c.item)
 next-length a all = has_length (a Shown) (a New) (a Other) (all Shown) (all New) (all Other)
-
-one_more : {T : Type 0} (items : List (Item T)) (item : Item T) (b : Bool) → All HasLength items → HasLength item → All HasLength (items ++ (if b then item ∷ [] else []))
-one_more items item true all h = All-push HasLength items item all h
-one_more items item false all h = All-append HasLength items [] all (All-nil HasLength)
-
-pub lengths-gained : {T : Type 0} (c : Classed T) (old new : Waiting T) → Gains c old new → HasLength c.item
-    → ((k : Class) → All HasLength (queue old k)) → (k : Class) → All HasLength (queue new k)
-lengths-gained c old new gains h all k = subst (All HasLength) (sym (gains k)) (one_more (queue old k) c.item (rank c.class == rank k) (all k) h)
 
 rest_of : {T : Type 0} (xs ys : List (Item T)) → All HasLength (xs ++ ys) → All HasLength ys
 rest_of [] ys all = all

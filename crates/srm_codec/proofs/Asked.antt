@@ -7,7 +7,7 @@ use Rattle.srm_names.specs.FullName.{FullName}
 use Rattle.srm_names.specs.Names.{named}
 use Rattle.srm_names.specs.declared.limits.TheConstants.{DRAWOPS}
 use Rattle.srm_names.proofs.Lists.{AllByRecursion-parts}
-use Rattle.srm_codec.specs.Spelling.{bits_set, asked_by, is_name}
+use Rattle.srm_codec.specs.Spelling.{bits_set, is_name}
 
 -- the name of a bit
 abbrev pub at_bit : FullName → ℕ → FullName
@@ -42,14 +42,7 @@ left_set name bit rest l e =
 pub left_clear : (name : FullName) (bit rest : ℕ) → bit < 32 → (rest % 2 == 1) ≡ false → left_to_ask name bit rest ≡ left_to_ask name (bit + 1) (rest / 2)
 left_clear name bit rest l e = left_step name bit rest l ∙ ap (λ (b : Bool). map (λ k. at_bit name (bit + k)) (if b then 0 ∷ [] else []) ++ left_to_ask name (bit + 1) (rest / 2)) e
 
-from_none : (name : FullName) (bits : List ℕ) → map (λ b. at_bit name (0 + b)) bits ≡ map (at_bit name) bits
-from_none name [] = refl
-from_none name (b ∷ bits) = ap (λ k. at_bit name k ∷ map (λ b. at_bit name (0 + b)) bits) (omega arith) ∙ ap (λ ns. at_bit name b ∷ ns) (from_none name bits)
-
--- at first all is left, at the end nothing
-pub all_left : (name : FullName) (mask : ℕ) (names : List FullName) → names ≡ name ∷ [] → names ++ left_to_ask name 0 mask ≡ asked_by name mask
-all_left name mask names e = ap (λ ns. ns ++ left_to_ask name 0 mask) e ∙ ap (λ ns. name ∷ ns) (from_none name (bits_set 32 mask))
-
+-- at the end nothing is left
 no_bits : (rest : ℕ) → bits_set 0 rest ≡ []
 unfolding bits_set
 no_bits rest = refl

@@ -1,5 +1,5 @@
 -- What is due fits into a list that has room for all of it.
-use Rattle.std.proofs.Common.{◌≡◌, ℕ, suc, ◌+◌, ◌<◌, ◌≤◌, Bool, true, false, cond, ◌&&◌, ◌||◌, List, [], ◌∷◌, ◌++◌, map, length, take, drop, get_or, refl, sym, ap, subst, ◌∙◌, arith}
+use Rattle.std.proofs.Common.{◌≡◌, ℕ, suc, ◌<◌, ◌≤◌, Bool, true, false, cond, ◌&&◌, ◌||◌, List, [], ◌∷◌, map, length, take, drop, refl, sym, ap, subst, ◌∙◌, arith}
 use Rattle.std.specs.Prelude.{filter, find, None, Result, Ok, Err, OnErr}
 use Rattle.std.specs.List.{list_any}
 use Rattle.std.specs.List.Sorted.{IsPartitionPoint}
@@ -17,7 +17,7 @@ use Rattle.srm_deadlines.specs.Agenda.{of_name, is_due, PairsFit}
 use Rattle.srm_deadlines.proofs.Agendas.{there_is_room, none_among, rising_once, short_of}
 use Rattle.srm_deadlines.proofs.Dues.{front_passes, any_both, among_names, names_counted, fewer}
 use Rattle.srm_deadlines.proofs.Looking.{DueSoFar}
-use Rattle.srm_deadlines.proofs.Order.{take_drop, map_take}
+use Rattle.srm_deadlines.proofs.Order.{take_drop}
 
 abbrev as_place : FullName → Place ℕ
 as_place n = record { name = n; value = None }
@@ -63,11 +63,6 @@ front_fits now pairs count room once le parts fit =
     (λ n at. fit.due n (sym (among_names (filter (is_due now) pairs) n ∙ any_both (is_timed n) (is_due now) pairs) ∙ at)) in
     let l = fit.few in
     omega (arith, ap length front)
-
--- one more name of a list that is gone through
-pub names_more : (pairs : List Timed) (i : ℕ) (t : Timed) → i < length pairs → t ≡ get_or pairs i t → (names names' : List FullName) → names ≡ names_of (take i pairs) → names' ≡ names_of (take i pairs) ++ t.name ∷ []
-    → names' ≡ names_of (take (i + 1) pairs)
-names_more pairs i t lt is names names' h items = items ∙ sym (map_take (λ (u : Timed). u.name) pairs i t lt is)
 
 once_timed : (names : List FullName) → ascending name_below names ≡ true → (n : FullName) → length (of_name n (map as_timed names)) ≤ 1
 once_timed names rising n = subst (λ xs. length xs ≤ 1) (sym (rising_once (map as_timed names) (ap (ascending name_below) (named names) ∙ rising) n)) (short_of (find (is_timed n) (map as_timed names)) [] (omega arith))

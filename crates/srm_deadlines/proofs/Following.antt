@@ -1,17 +1,16 @@
 -- An agenda that follows the moments by name.
-use Rattle.std.proofs.Common.{◌≡◌, ℕ, zero, ◌+◌, ◌<◌, ◌≤◌, Bool, true, false, cond, ◌||◌, List, [], ◌∷◌, ◌++◌, length, get_or, refl, sym, ap, subst, ◌∙◌, arith, inl, inr, length-append}
+use Rattle.std.proofs.Common.{◌≡◌, ℕ, zero, ◌+◌, ◌<◌, ◌≤◌, Bool, true, false, cond, List, [], ◌∷◌, ◌++◌, length, get_or, refl, sym, ap, subst, ◌∙◌, arith, inl, inr, length-append}
 use Rattle.std.specs.Prelude.{Option, Some, None, IfSome, find, filter, is_some, option_map, slice_get, if◌then◌else◌}
-use Rattle.std.specs.List.{list_any, All}
+use Rattle.std.specs.List.{All}
 use Rattle.std.proofs.lemmas.List.Elements.{All-filter, filter-append}
 use Rattle.srm_names.specs.FullName.{FullName}
 use Rattle.srm_names.specs.Histories.{or_else}
-use Rattle.srm_names.specs.Names.{same_name, name_below, ascending, among, AreExactly}
+use Rattle.srm_names.specs.Names.{same_name, name_below, ascending, among}
 use Rattle.srm_names.proofs.Same.{same_name-is}
 use Rattle.srm_deadlines.specs.declared.by_name.Place.{Place}
 use Rattle.srm_deadlines.specs.declared.timed.Timed.{Timed}
-use Rattle.srm_deadlines.specs.Deadlines.{has_come}
 use Rattle.srm_deadlines.specs.Places.{is_timed, is_at, names_of, moment_among, value_in, value_at, has_place, SetsAll, ClearsAll, HasPlaces, IsLeast}
-use Rattle.srm_deadlines.specs.Agenda.{Agenda, Follows, of_name, timed_for, timed_or, timed_among, is_due}
+use Rattle.srm_deadlines.specs.Agenda.{Agenda, Follows, of_name, timed_for, timed_or, timed_among}
 use Rattle.srm_deadlines.proofs.Agendas.{there_is_room, appended, absent_found, short_of, none_among}
 use Rattle.srm_deadlines.proofs.Looking.{none_without}
 use Rattle.srm_deadlines.proofs.Same.{same_itself}
@@ -66,11 +65,6 @@ room_for_all a places pairs moments f has asc left =
         go true e = absurd (let k : true ≡ false = sym (has.each n e) ∙ without in cc)
         go false e = filter-append (is_timed n) pairs moments
             ∙ ap (λ xs. xs ++ of_name n moments) (left n ∙ ap (λ c. if c then [] else of_name n a.pairs) e ∙ nothing_without a places f n without) ∙ none_among moments n e
-
--- what is left once each name of a list is taken out stands once
-pub few_left : (a : Agenda) (places : List (Place ℕ)) (b : Bool) (n : FullName) → Follows a places → length (if b then [] else of_name n a.pairs) ≤ 1
-few_left a places true n f = omega arith
-few_left a places false n f = once_each a places f n
 
 -- ---- many moments are set
 
@@ -147,14 +141,3 @@ first_is_least a places t f e all = record {
     go n (Some m) h k = subst (All (λ (u : Timed). t.moment ≤ u.moment)) k h 0 t (omega arith)
 
 -- ---- the due
-
-pub due_by_name : (now : ℕ) (a : Agenda) (places : List (Place ℕ)) (names : List FullName) → Follows a places → AreExactly (λ n. list_any (is_due now) (of_name n a.pairs)) names → AreExactly (λ n. has_come now (value_at places n)) names
-due_by_name now a places names f due = record { in_order = due.in_order; exact = λ n. due.exact n ∙ ap (list_any (is_due now)) (f.each n) ∙ go n (value_at places n) }
-  where
-    or_none : (b : Bool) → (b || false) ≡ b
-    or_none true = refl
-    or_none false = refl
-
-    go : (n : FullName) (o : Option ℕ) → list_any (is_due now) (timed_for n o) ≡ has_come now o
-    go n None = refl
-    go n (Some t) = or_none _

@@ -1,9 +1,8 @@
 -- What is due, looked for place by place.
-use Rattle.std.proofs.Common.{◌≡◌, ℕ, take, length, get_or, ◌<◌, ◌≤◌, ◌+◌, inl, inr, arith, Bool, true, false, ◌&&◌, ◌||◌, List, [], refl, sym, ap, subst, ◌∙◌}
+use Rattle.std.proofs.Common.{◌≡◌, ℕ, take, length, get_or, ◌<◌, ◌≤◌, ◌+◌, inl, inr, arith, Bool, true, false, ◌&&◌, ◌||◌, List, refl, sym, ap, subst, ◌∙◌}
 use Rattle.std.specs.Prelude.{Option, Some, None, IfSome, find, is_some, ◌⊎◌}
 use Rattle.std.specs.List.{list_any}
 use Rattle.std.proofs.lemmas.List.Folds.{list_any_more}
-use Rattle.std.proofs.lemmas.Option.{none-some}
 use Rattle.srm_names.specs.FullName.{FullName}
 use Rattle.srm_names.specs.Names.{same_name, name_below, ascending, among, AreExactly}
 use Rattle.srm_names.proofs.Same.{same_name-is}
@@ -14,21 +13,6 @@ use Rattle.srm_deadlines.specs.Places.{is_at, value_in, value_at, IsLeast}
 use Rattle.srm_deadlines.specs.Rows.{IsUnder}
 use Rattle.srm_deadlines.proofs.Rows.{under_lesser, lesser_under, lesser_is}
 use Rattle.srm_deadlines.proofs.Tables.{any_find, either}
-
-pub among_already : (xs : List FullName) (y m : FullName) → among xs y ≡ true → among xs m ≡ among xs m || same_name m y
-among_already xs y m has = go (same_name m y) refl
-  where
-    right_true : (b : Bool) → b ≡ true → b ≡ b || true
-    right_true true e = refl
-    right_true false e = cc
-
-    right_false : (b : Bool) → b ≡ b || false
-    right_false true = refl
-    right_false false = refl
-
-    go : (s : Bool) → same_name m y ≡ s → among xs m ≡ among xs m || s
-    go true e = right_true (among xs m) (ap (among xs) (same_name-is m y e) ∙ has)
-    go false e = right_false (among xs m)
 
 -- the names that came, so far
 pub record DueSoFar (now : ℕ) (seen places : List (Place ℕ)) (names : List FullName) : Type 0 where
@@ -119,6 +103,3 @@ least_all places (Some t) h = record { none = λ e n. absurd (let k : true ≡ f
     go : (o : Option ℕ) → IsUnder (Some t) o → IfSome o (λ m. t ≤ m)
     go None u = tt
     go (Some m) u = u
-
-pub none_so_far : (places : List (Place ℕ)) → LeastSoFar [] places None
-none_so_far places = record { is_one = λ t e. absurd (none-some t e); under = λ n e. absurd (let k : false ≡ true = e in cc) }

@@ -12,7 +12,7 @@ use Rattle.srm_deadlines.specs.declared.timed.Timed.{Timed}
 use Rattle.srm_deadlines.specs.Places.{names_of, is_timed, moment_among, value_at, has_place, Holds, GivesPlaces, Sets, SetsAll, HasPlaces}
 use Rattle.srm_deadlines.proofs.Same.{same_itself}
 use Rattle.srm_deadlines.proofs.Order.{ascending_tail}
-use Rattle.srm_deadlines.proofs.Tables.{gives_none, given_on}
+use Rattle.srm_deadlines.proofs.Tables.{given_on}
 
 abbrev given : Option Timed → Option ℕ → Option ℕ
 given found o = or_else (option_map (λ t. t.moment) found) o
@@ -50,9 +50,6 @@ pub record SetSoFar (moments : List Timed) (old new : List (Place ℕ)) : Type 0
   pub held : Holds old new
   pub only : GivesPlaces [] old new
   pub length : length new ≡ length old
-
-pub none_set : (places : List (Place ℕ)) → SetSoFar [] places places
-none_set places = record { sets = record { each = λ n. refl }; held = record { each = λ n h. h }; only = gives_none [] places places refl; length = refl }
 
 pub more_sets : (moments : List Timed) (i : ℕ) (t : Timed) (old now new : List (Place ℕ)) → ascending name_below (names_of moments) ≡ true → i < length moments → t ≡ get_or moments i t
     → SetsAll (take i moments) old now → Sets t.name (Some t.moment) now new → SetsAll (take (i + 1) moments) old new

@@ -2,7 +2,7 @@
 use Rattle.std.proofs.Common.{◌≡◌, ℕ, ◌+◌, ◌<◌, Bool, true, false, ◌||◌, cond, add-zero, List, [], ◌∷◌, length, take, get_or, Option, Some, None, refl, sym, ap, subst, ◌∙◌, inl, inr, ◌⊎◌}
 use Rattle.std.specs.Prelude.{find, is_some, IfSome, if◌then◌else◌, Result, Ok, Err, OnOk, OnErr, IfOk}
 use Rattle.std.specs.List.{list_any}
-use Rattle.std.proofs.lemmas.List.Folds.{list_any_more, list_any_at}
+use Rattle.std.proofs.lemmas.List.Folds.{list_any_more}
 use Rattle.std.proofs.lemmas.List.{length-map}
 use Rattle.std.specs.Map.{keys_of, lookup}
 use Rattle.srm_names.specs.FullName.{FullName}
@@ -205,7 +205,3 @@ module _ {V : Type 0} where
       go true false o = refl
       go false true o = refl
       go false false o = refl
-
--- one of the first names has no place where a call for it may be refused
-pub among_at : (names : List FullName) (i : ℕ) (d : FullName) → i < length names → among names (get_or names i d) ≡ true
-among_at names i d lt = list_any_at (same_name (get_or names i d)) names i d lt (same_itself (get_or names i d))

@@ -1,4 +1,3 @@
 pub mod Steps
 pub mod Collecting
-pub mod Ties
 pub mod Table

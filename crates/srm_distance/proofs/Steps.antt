@@ -14,7 +14,7 @@ use Rattle.srm_distance.specs.declared.report.Report.{Report}
 use Rattle.srm_distance.specs.declared.peer.Peer.{Peer}
 use Rattle.srm_distance.specs.Calls.{Call, Heard, Forgot}
 use Rattle.srm_distance.specs.Distance.{returned_at, returned, newest}
-use Rattle.srm_distance.specs.Echoes.{reported, latest, forgets, is_forgotten, SentWithin}
+use Rattle.srm_distance.specs.Echoes.{reported, latest, forgets, is_forgotten}
 use Rattle.srm_distance.specs.Peers.{peer_of}
 use Rattle.srm_distance.specs.Content.{Content}
 use Rattle.srm_distance.specs.Fits.{Fits, Adds}
@@ -61,9 +61,6 @@ or_true false = refl
 pub same_peer : (r r' : Option Returned) (s s' : Option Report) (f f' : Bool) → r ≡ r' → s ≡ s' → f ≡ f'
     → ◌≡◌ {A = Peer} (record { returned = r; report = s; forgotten = f }) (record { returned = r'; report = s'; forgotten = f' })
 same_peer r r' s s' f f' p q e = cc
-
-pub is_forgotten-heard : (calls : List Call) (b sent : ℕ) (echo : Option (ℕ × ℕ)) (now : ℕ) → is_forgotten (calls ++ Heard b sent echo now ∷ []) b ≡ is_forgotten calls b
-is_forgotten-heard calls b sent echo now = list_any-snoc (forgets b) calls (Heard b sent echo now) ∙ or_false (is_forgotten calls b)
 
 pub peer_of_forgot : (calls : List Call) (b : ℕ) → peer_of (calls ++ Forgot b ∷ []) b ≡ record { returned = newest calls b; report = latest calls b; forgotten = true }
 peer_of_forgot calls b =
@@ -124,6 +121,3 @@ fits_new me p h = record {
   size = refl;
   each = λ b below. slice_get-get_or (replicate 32 p) b p (omega (arith, length-replicate 32 p)) ∙ ap Some (get_or-replicate 32 b p p below ∙ h b);
 }
-
-pub all_within-new : (p : Peer) → SentWithin p.report → (k : ℕ) (d : Peer) → k < 32 → SentWithin (get_or (replicate 32 p) k d).report
-all_within-new p h k d lt = rw (get_or-replicate 32 k p d lt) h

@@ -1,8 +1,7 @@
 -- The table of distances beside what is kept of the members.
-use Rattle.std.proofs.Common.{◌≡◌, ◌≢◌, ◌<◌, ◌≤◌, ◌↔◌, ℕ, inl, inr, get_or, set, replicate, List, [], length, Option, Some, None, refl, sym, ap, ◌∙◌, arith}
+use Rattle.std.proofs.Common.{◌≡◌, ◌≢◌, ◌<◌, ◌≤◌, ◌↔◌, ℕ, inl, inr, get_or, set, replicate, List, [], Option, Some, None, refl, sym, ap, ◌∙◌, arith}
 use Rattle.std.specs.Prelude.{slice_set, slice_get, slice_index}
 use Rattle.std.proofs.lemmas.List.{length-set, get_or_past, get_or-set_same, get_or-set_other, length-replicate, get_or-replicate}
-use Rattle.std.proofs.lemmas.List.Elements.{All-set}
 use Rattle.std.proofs.lemmas.Option.{slice_get-get_or, slice_get_within, get_or_from_slice_get}
 use Rattle.std.proofs.lemmas.Bool.{ne_eqb, eq-eqb, cases_eq, cases_lt}
 use Rattle.srm_names.specs.declared.limits.TheConstants.{MEMBERS, LONGEST_DISTANCE}
@@ -22,35 +21,6 @@ to_oneself me p = rw (eq-eqb me me refl) refl
 
 to_another : (me member : ℕ) (p : Peer) → member ≢ me → distance_by me member p ≡ estimate p.returned
 to_another me member p ne = rw (ne_eqb member me ne) refl
-
-within : (peers : List Peer) (place m : ℕ) (p q : Peer) → slice_get (set peers place p) m ≡ Some q → m < length peers
-within peers place m p q found = omega (arith, slice_get_within (set peers place p) m q found, length-set peers place p)
-
-set_here : (peers : List Peer) (place m : ℕ) (p q : Peer) → m ≡ place → slice_get (set peers place p) m ≡ Some q → p ≡ q
-set_here peers place m p q same found =
-    sym (get_or-set_same peers place p q (omega (arith, within peers place m p q found, same))) ∙ ap (λ k. get_or (set peers place p) k q) (sym same)
-    ∙ get_or_from_slice_get (set peers place p) m q q found
-
-set_there : (peers : List Peer) (place m : ℕ) (p q : Peer) → m ≢ place → slice_get (set peers place p) m ≡ Some q → slice_get peers m ≡ Some q
-set_there peers place m p q other found =
-    slice_get-get_or peers m q (within peers place m p q found)
-    ∙ ap Some (sym (get_or-set_other peers place m p q other) ∙ get_or_from_slice_get (set peers place p) m q q found)
-
--- one place of both is written
-pub kept_set : (me place from v : ℕ) (peers : List Peer) (table : List ℕ) (p : Peer) → place ≡ from → place < MEMBERS
-    → v ≡ distance_by me from p → SentWithin p.report
-    → IsKept (record { me = me; peers = peers; table = table })
-    → IsKept (record { me = me; peers = slice_set peers place p; table = slice_set table place v })
-kept_set me place from v peers table p at lt value sent h = record {
-  sent = All-set (λ (q : Peer). SentWithin q.report) peers place p sent h.sent;
-  peers = length-set peers place p ∙ h.peers;
-  size = length-set table place v ∙ h.size;
-  table = λ m q found. elim (cases_eq m place) [
-    | inl same ↦ ap (λ k. get_or (set table place v) k 0) same ∙ get_or-set_same table place v 0 (omega (arith, lt, h.size)) ∙ value
-        ∙ ap (λ k. distance_by me k p) (sym at ∙ sym same) ∙ ap (distance_by me m) (set_here peers place m p q same found)
-    | inr other ↦ get_or-set_other table place m v 0 other ∙ h.table m q (set_there peers place m p q other found)
-  ];
-}
 
 at : (me m : ℕ) (peers : List Peer) (table : List ℕ) (d : Peer) → m < MEMBERS → IsKept (record { me = me; peers = peers; table = table })
     → slice_index table m ≡ distance_by me m (get_or peers m d)

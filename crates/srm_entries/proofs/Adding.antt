@@ -68,9 +68,6 @@ pub held_off-snoc : (me : ℕ) (es : List Entry) (e : Entry) (n : FullName) (now
     → held_off me (es ++ e ∷ []) n now ≡ held_off me es n now || holds_off me n now (record { before = es; this = e })
 held_off-snoc me es e n now = ap (list_any (holds_off me n now)) (steps-snoc es e) ∙ list_any-snoc (holds_off me n now) (steps es) _
 
-pub is_held-cons : (e : Entry) (es : List Entry) (n : FullName) → is_held (e ∷ es) n ≡ gains e n || is_held es n
-is_held-cons e es n = ap (list_any (has_name n)) (flat_map-append held_by (e ∷ []) es) ∙ list_any-append (has_name n) (held (e ∷ [])) (held es)
-
 pub known-append : (es more : List Entry) (s : Stream) → known (es ++ more) s ≡ max (known es s) (known more s)
 known-append es more s =
     ap (λ ns. greatest (flat_map (number_in s) ns)) (flat_map-append shown_by es more)

@@ -12,7 +12,7 @@ use Rattle.srm_entries.specs.declared.entry.Entry.{Entry}
 use Rattle.srm_entries.specs.declared.state.AgentState.{AgentState}
 use Rattle.srm_entries.specs.Configs.{Config}
 use Rattle.srm_entries.specs.Entries.{ticked, state, is_gone, is_leaving}
-use Rattle.srm_entries.specs.Sessions.{is_session, is_farewell, charged, session_pause, pause_after, session_due, all_data_sent, IsReport, ending, EndsWith, SessionRight}
+use Rattle.srm_entries.specs.Sessions.{is_session, charged, session_pause, pause_after, session_due, all_data_sent, IsReport, ending, EndsWith, SessionRight}
 
 -- by the member's state, whether data that it drew waits, and whether a session message is due: nothing, or whether a farewell
 abbrev pub ending_of : AgentState → Bool → Bool → Option Bool
@@ -45,12 +45,6 @@ report_is_session c before now farewell (Data d) r = absurd r
 report_is_session c before now farewell (Request a n m) r = absurd r
 report_is_session c before now farewell (Repair a d) r = absurd r
 report_is_session c before now farewell (Session sender sent f shown rows echoes) r = refl
-
-pub report_is_farewell : (c : Config) (before : List Entry) (now : ℕ) (farewell : Bool) (g : Datagram) → IsReport c before now farewell g → is_farewell g ≡ farewell
-report_is_farewell c before now farewell (Data d) r = absurd r
-report_is_farewell c before now farewell (Request a n m) r = absurd r
-report_is_farewell c before now farewell (Repair a d) r = absurd r
-report_is_farewell c before now farewell (Session sender sent f shown rows echoes) r = r.2
 
 all_kept : (went : List Datagram) → NoSessions went → filter (λ g. not (is_session g)) went ≡ went
 all_kept [] none = refl

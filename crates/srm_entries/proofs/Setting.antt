@@ -106,12 +106,6 @@ ask_low c a e = rw e refl
 pub ask_high : (c : Config) (a : Arm) → a.kind ≡ Ask → timers.high_of c.c1 c.c2 a ≡ high_of c a
 ask_high c a e = rw e refl
 
-pub fix_low : (c : Config) (a : Arm) → a.kind ≡ Fix → a.exponent ≡ 0 → timers.low_of c.d1 a ≡ low_of c a
-fix_low c a e z = rw (e, z) (omega arith)
-
-pub fix_high : (c : Config) (a : Arm) → a.kind ≡ Fix → a.exponent ≡ 0 → timers.high_of c.d1 c.d2 a ≡ high_of c a
-fix_high c a e z = rw (e, z) (omega arith)
-
 -- an arm that is drawn by one pair of ends is drawn by another that is the same
 one_drawn : (wait word low low' high high' : ℕ) → low ≡ low' → high ≡ high' → wait ≡ low + word % (high - low + 1) → wait ≡ low' + word % (high' - low' + 1)
 one_drawn wait word low low' high high' p q e = rw (sym p, sym q) e

@@ -169,17 +169,6 @@ pub front_none : (known : Option (List ℕ)) (pen : PenView) → DrewFrontOf kno
 front_none None pen = tt
 front_none (Some text) pen = (strokes_in text, record { sent = []; split = refl; is = sent_none pen })
 
--- nothing was there
-reads_same : (known left after : Option (List ℕ)) (begun : List ℕ) (old new : PenView) → ReadsOf known left begun old new → Keeps left after → ReadsOf known after begun old new
-reads_same None left after begun old new h same = tt
-reads_same (Some text) left after begun old new h same =
-    record { rest = h.rest; left_is = kept left after h.left_is same; drawn = h.drawn; strokes = h.strokes; one = h.one; sent = h.sent }
-  where
-    kept : (left after : Option (List ℕ)) → left ≡ Some h.rest → Keeps left after → after ≡ Some h.rest
-    kept None after is same = cc
-    kept (Some xs) None is same = absurd same
-    kept (Some xs) (Some ys) is same = ap Some same ∙ is
-
 rest_is : (left after : Option (List ℕ)) (bytes rest : List ℕ) → left ≡ Some rest → Consumes left after bytes → (ys : List ℕ) × (after ≡ Some ys) × (rest ≡ bytes ++ ys)
 rest_is None after bytes rest is took = absurd cc
 rest_is (Some xs) None bytes rest is took = absurd took
@@ -261,10 +250,6 @@ read_drawn known left after some n buffer begun old mid next new h took is draws
 pub read_cut : (known left after : Option (List ℕ)) (some : Option ℕ) (n : ℕ) (buffer begun : List ℕ) (old mid new : PenView) → ReadsOf known left begun old mid → Took some buffer left after → some ≡ Some n
     → DrawsSome (take n buffer) begun mid new → DrewFrontOf known old new
 read_cut known left after some n buffer begun old mid new h took is draws = reads_some known left after (take n buffer) begun old mid new h (took_bytes some n buffer left after took is) draws
-
--- nothing was read
-pub read_none : (known left after : Option (List ℕ)) (some : Option ℕ) (buffer begun : List ℕ) (old new : PenView) → ReadsOf known left begun old new → Took some buffer left after → some ≡ None → ReadsOf known after begun old new
-read_none known left after some buffer begun old new h took is = reads_same known left after begun old new h (subst (λ o. Took o buffer left after) is took)
 
 ended_known : (known left after : Option (List ℕ)) (some : Option ℕ) (buffer begun : List ℕ) (old mid : PenView) → ReadsOf known left begun old mid → Took some buffer left after → some ≡ Some 0 → ReadsOf known after begun old mid
 ended_known known left after some buffer begun old mid h took is = reads_more known left after [] begun old mid begun mid h (took_bytes some 0 buffer left after took is) (draws_none begun mid)

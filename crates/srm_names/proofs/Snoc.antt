@@ -1,8 +1,7 @@
 -- What one more element at the end does to the words on histories.
 use Rattle.std.proofs.Common.{◌≡◌, ℕ, max, Bool, true, false, not, ◌&&◌, ◌||◌, List, [], ◌∷◌, ◌++◌, refl, ap, sym, ◌∙◌, subst, arith, append_assoc, zero, suc, ◌+◌, add-one}
-use Rattle.std.specs.Prelude.{nat_lt, filter, if◌then◌else◌, cond, Option, Some, None}
+use Rattle.std.specs.Prelude.{nat_lt, filter, if◌then◌else◌, Option, Some, None}
 use Rattle.std.specs.List.{list_any, list_all, AllByRecursion}
-use Rattle.std.specs.Bool.{OnTrue}
 use Rattle.srm_names.specs.declared.page_msg.PageMsg.{PageMsg}
 use Rattle.srm_names.specs.PageFeeds.{continues, is_page_feed}
 use Rattle.std.proofs.lemmas.List.{append-nil}
@@ -121,21 +120,6 @@ list_all-append p (x ∷ xs) ys = ap (λ b. p x && b) (list_all-append p xs ys) 
 -- a page feed goes on by a message that continues it
 pub is_page_feed-snoc : (before : List PageMsg) (m : PageMsg) → is_page_feed before ≡ true → continues before m ≡ true → is_page_feed (before ++ m ∷ []) ≡ true
 is_page_feed-snoc before m fed next = ap (list_all (λ (s : Step PageMsg). continues s.before s.this)) (steps-snoc before m) ∙ list_all-append _ (steps before) _ ∙ rw (fed, next) refl
-
--- What holds at each step of a part of a history holds, in the whole, at each step of that part over what it had before.
-part_at : {X : Type 0} (p : X → Bool) (R : Step X → Type 0) (before : List X) (x : X) (xs : List X) (b : Bool) → p x ≡ b
-    → AllByRecursion R (steps_after (filter p before) (cond b (x ∷ filter p xs) (filter p xs)))
-    → OnTrue b (R (record { before = filter p before; this = x })) × AllByRecursion R (steps_after (filter p (before ++ x ∷ [])) (filter p xs))
-part_at p R before x xs true e all = (all.0, subst (λ zs. AllByRecursion R (steps_after zs (filter p xs))) (sym (filter-append p before (x ∷ []) ∙ rw e refl)) all.1)
-part_at p R before x xs false e all = (tt, subst (λ zs. AllByRecursion R (steps_after zs (filter p xs))) (sym (filter-append p before (x ∷ []) ∙ rw e (append-nil (filter p before)))) all)
-
-pub steps_of_part : {X : Type 0} (p : X → Bool) (R : Step X → Type 0) (before xs : List X)
-    → AllByRecursion R (steps_after (filter p before) (filter p xs))
-    → AllByRecursion (λ (s : Step X). OnTrue (p s.this) (R (record { before = filter p s.before; this = s.this }))) (steps_after before xs)
-steps_of_part p R before [] all = tt
-steps_of_part p R before (x ∷ xs) all =
-    let here = part_at p R before x xs (p x) refl all in
-    (here.0, steps_of_part p R (before ++ x ∷ []) xs here.1)
 
 -- What holds at each step of a whole history holds at each of its last part, over what came before.
 pub steps_from : {X : Type 0} (R : Step X → Type 0) (before xs ys : List X) → AllByRecursion R (steps_after before (xs ++ ys)) → AllByRecursion R (steps_after (before ++ xs) ys)

@@ -221,36 +221,6 @@ gives_looked slot a b f g h x looked = record {
   served = tt;
 }
 
--- no credit is left
-pub gives_spent : (slot : ℕ) (a b : Journal) (f g h : FeedView) → Gives slot false a b f g → h ≡ record g { seen = h.seen } → credit_of h ≡ 0 → Gives slot true a b f h
-gives_spent slot a b f g h x looked spent = let y = gives_looked slot a b f g h x looked in record {
-  entries = y.entries;
-  grown = y.grown;
-  inputs = y.inputs;
-  lawful = y.lawful;
-  carries = y.carries;
-  same = y.same;
-  served = three (credit_of h == 0) (list_any (gave_nothing slot) y.entries) h.lost (eq-eqb (credit_of h) 0 spent);
-}
-  where
-    three : (a b c : Bool) → a ≡ true → (a || b || c) ≡ true
-    three a b c h = grind arith
-
--- the feed was lost before
-pub gives_gone : (slot : ℕ) (a b : Journal) (f g : FeedView) → Gives slot false a b f g → g.lost ≡ true → Gives slot true a b f g
-gives_gone slot a b f g x lost = record {
-  entries = x.entries;
-  grown = x.grown;
-  inputs = x.inputs;
-  lawful = x.lawful;
-  carries = x.carries;
-  same = x.same;
-  served = three (credit_of g == 0) (list_any (gave_nothing slot) x.entries) g.lost lost;
-}
-  where
-    three : (a b c : Bool) → c ≡ true → (a || b || c) ≡ true
-    three a b c h = grind arith
-
 -- SLOTS
 
 pub up_none : (j : Journal) (fs : List FeedView) → IsLawfulJournal j → CarriesEach j fs → GivesUpTo 0 j j fs fs

@@ -62,9 +62,6 @@ listened_fails now n a b s u few h = record { count = n; ended = []; listens = h
 pub listened_none : (now n : ℕ) (a b : Journal) (s u : Option Told) → n < RECEIVED → Listens now n (None ∷ []) a b s u → Listened now false a b s u
 listened_none now n a b s u few h = record { count = n; ended = None ∷ []; listens = h; ends = inr (few, refl) }
 
-pub listened_all : (now n : ℕ) (a b : Journal) (s u : Option Told) → n ≡ RECEIVED → Listens now n [] a b s u → Listened now false a b s u
-listened_all now n a b s u all h = record { count = n; ended = []; listens = h; ends = inl (all, refl) }
-
 -- memory ran out, and what came last is lost
 pub listened_lost : (now n : ℕ) (bytes : List ℕ) (a b c : Journal) (s t u : Option Told) (fault : AgentFault) → n < RECEIVED → Listens now n [] a b s t → RecordsHeard now bytes b c (Err fault) → TellsMore (Some bytes ∷ []) [] t u → ListenedCut now a c s u
 listened_lost now n bytes a b c s t u fault few h r told = record {

@@ -15,7 +15,7 @@ use Rattle.srm_node.specs.Working.{WorkedFrom}
 use Rattle.srm_node.specs.Parts.{SameFeed, SameFeeds}
 use Rattle.srm_node.specs.Nodes.{NodeView, Keeps}
 use Rattle.srm_node.specs.Turns.{Turned, RunsOf, RunsToEnd}
-use Rattle.srm_node.specs.Hosting.{started, Starts, StartsSome, StopsBy, WorkedEach, Joins, Hosts, HostFails, AreEndsOfLanes}
+use Rattle.srm_node.specs.Hosting.{started, StartsSome, StopsBy, WorkedEach, Joins, Hosts, HostFails, AreEndsOfLanes}
 
 each-snoc : {L : Type 0} (entries : L → List PageMsg) (ts : List TapView) (ws : List (Worked L)) (t : TapView) (w : Worked L) → WorkedEach entries ts ws → WorkedFrom entries t w → WorkedEach entries (ts ++ t ∷ []) (ws ++ w ∷ [])
 each-snoc entries [] [] t w h k = (k, tt)
@@ -23,26 +23,12 @@ each-snoc entries [] (v ∷ ws) t w h k = absurd h
 each-snoc entries (s ∷ ts) [] t w h k = absurd h
 each-snoc entries (s ∷ ts) (v ∷ ws) t w h k = (h.0, each-snoc entries ts ws t w h.1 k)
 
-pub joins_none : {L : Type 0} (entries : L → List PageMsg) (ws : List (Worker L)) (done : List (Worked L)) → done ≡ [] → Joins entries (map started ws) ws done
-joins_none {L} entries ws done none = record { joined = []; split = refl; each = subst (λ (ds : List (Worked L)). WorkedEach entries [] ds) (sym none) tt }
-
 pub joins_more : {L : Type 0} (entries : L → List PageMsg) (all : List TapView) (w : Worker L) (left rest : List (Worker L)) (worked grown : List (Worked L)) (one : Worked L) → Joins entries all left worked → left ≡ w ∷ rest → WorkedFrom entries (started w) one → grown ≡ worked ++ one ∷ [] → Joins entries all rest grown
 joins_more entries all w left rest worked grown one h is took grew = record {
   joined = h.joined ++ started w ∷ [];
   split = h.split ∙ ap (λ ws. h.joined ++ map started ws) is ∙ sym (append_assoc h.joined (started w ∷ []) (map started rest));
   each = subst (WorkedEach entries (h.joined ++ started w ∷ [])) (sym grew) (each-snoc entries h.joined worked (started w) one h.each took);
 }
-
-pub joins_all : {L : Type 0} (entries : L → List PageMsg) (all : List TapView) (left : List (Worker L)) (worked : List (Worked L)) → Joins entries all left worked → left ≡ [] → WorkedEach entries all worked
-joins_all entries all left worked h none = subst (λ ts. WorkedEach entries ts worked) (sym (h.split ∙ ap (λ ws. h.joined ++ map started ws) none ∙ append-nil h.joined)) h.each
-
-pub nothing_left : {L : Type 0} (left : List (Worker L)) → length left ≡ 0 → left ≡ []
-nothing_left [] e = refl
-nothing_left (w ∷ ws) e = absurd (omega arith)
-
-pub starts_more : {L : Type 0} (all taps left : List TapView) (workers more : List (Worker L)) → map started workers ++ taps ≡ all → Starts taps left workers more → map started more ++ left ≡ all
-starts_more all taps left workers more h s =
-    ap (λ ts. ts ++ left) s.started_are ∙ append_assoc (map started workers) (s.tap ∷ []) left ∙ ap (λ ts. map started workers ++ ts) (sym s.taps_are) ∙ h
 
 one_less : {L : Type 0} (left rest : List (Worker L)) (w : Worker L) → left ≡ w ∷ rest → length left ≡ length rest + 1
 one_less left rest w is = ap length is ∙ sym (add-one (length rest))
@@ -124,13 +110,6 @@ hosted entries (Err e) node last taps turns all h feeds keeps ran lists journal 
     no_more : (b : Bool) (ts : List TapView) → OnTrue b (ts ≡ ts)
     no_more true ts = refl
     no_more false ts = tt
-
--- of the taps handed in the workers were started with the first
-pub starts_some : {L : Type 0} (all left : List TapView) (workers more : List (Worker L)) → map started workers ++ left ≡ all → map started more ≡ map started workers → StartsSome all more
-starts_some all left workers more starts same = record { rest = left; split = ap (λ ts. ts ++ left) same ∙ starts }
-
-pub starts_whole : {L : Type 0} (all : List TapView) (workers : List (Worker L)) → map started workers ≡ all → StartsSome all workers
-starts_whole all workers is = record { rest = []; split = append-nil (map started workers) ∙ is }
 
 -- nothing stands behind what is the whole already
 none_behind : (xs ys all : List TapView) → xs ++ ys ≡ all → xs ≡ all → ys ≡ []

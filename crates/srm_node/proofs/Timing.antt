@@ -21,9 +21,6 @@ at j es = record { start = j.start; entries = es }
 
 -- ONE JOURNAL BEHIND ANOTHER
 
-pub grows_none : (Is : ℕ → Type 0) (j : Journal) → GrowsAt Is j j
-grows_none Is j = record { entries = []; grown = ap (at j) (sym (append-nil j.entries)); made = tt }
-
 made_on : (Is : ℕ → Type 0) (j : Journal) (es fs : List Entry) → AreMadeAt Is j es → AreMadeAt Is (with_entries j es) fs → AreMadeAt Is j (es ++ fs)
 made_on Is j [] fs h k = subst (λ xs. AreMadeAt Is (at j xs) fs) (append-nil j.entries) k
 made_on Is j (e ∷ es) fs h k = (h.0, made_on Is (with_entry j e) es fs h.1 (subst (λ xs. AreMadeAt Is (at j xs) fs) (sym (append_assoc j.entries (e ∷ []) es)) k))
@@ -125,9 +122,6 @@ pub told_whole : (Tells : ℕ → Type 0) (told now : ℕ) (u v w : Bool) (a b c
 told_whole Tells told now u v w a b c d e f tells counts h x l t g = on Tells a e f (ticked_told Tells now u v w a b c d e (record { told = told; tells = tells; counts = counts }) h x l t) (gives_at (IsTold Tells) PAGES e f g)
 
 -- A RUN
-
-pub told_none : (Tells : ℕ → Type 0) (a : NodeView) → GrowsAtTold Tells a a
-told_none Tells a = record { grows = grows_none (IsTold Tells) a.journal }
 
 -- one more turn behind a pause
 pub told_on : {C : Type 0} (Tells : C → ℕ → Type 0) (first last : C) (a b p c : NodeView) → GrowsAtTold (Tells first) a b → last ≡ first → Paused b p → GrowsAtTold (Tells last) p c → GrowsAtTold (Tells first) a c

@@ -1,35 +1,18 @@
 -- A turn of its parts.
-use Rattle.std.proofs.Common.{◌≡◌, ℕ, ◌+◌, ◌<◌, ◌≤◌, ◌||◌, Bool, true, false, refl, ap, sym, ◌∙◌, subst, inl, inr, add-one}
-use Rattle.std.specs.Prelude.{List, Option, Result, Ok, Err, MatchResult, IsErrAnd, ◌&&◌, is_ok}
+use Rattle.std.proofs.Common.{◌≡◌, ℕ, ◌+◌, ◌<◌, ◌||◌, Bool, true, false, refl, ap, sym, ◌∙◌, subst, inl, inr, add-one}
+use Rattle.std.specs.Prelude.{Option, Result, Ok, Err, MatchResult, IsErrAnd, ◌&&◌, is_ok}
 use Rattle.std.specs.Bool.{OnTrue}
 use Rattle.srm_names.specs.declared.limits.TheConstants.{PAGES}
-use Rattle.srm_pages.specs.declared.stroke.Stroke.{Stroke}
-use Rattle.srm_pages.specs.Ends.{FeedView, WellView}
 use Rattle.srm_world.specs.Traces.{Journal}
 use Rattle.srm_node.specs.declared.fault.NodeFault.{NodeFault}
 use Rattle.srm_node.specs.declared.fault.NodeFault.TheVariants.{Wire, Memory, Turns}
 use Rattle.srm_node.specs.declared.fault.OutOfMemory.{OutOfMemory}
-use Rattle.srm_wire.specs.Wires.{Told, CountsIf, RoseOrFull}
+use Rattle.srm_wire.specs.Wires.{CountsIf, RoseOrFull}
 use Rattle.srm_bucket.specs.Admitting.{is_from}
-use Rattle.srm_node.specs.Parts.{Listened, ListenedCut, DrewStrokes, DrewStrokesCut, is_to_leave, still_asked, Leaves, GivesUpTo, GaveSome}
+use Rattle.srm_node.specs.Parts.{is_to_leave, still_asked, Leaves}
 use Rattle.srm_node.specs.Nodes.{NodeView, has_ended}
-use Rattle.srm_node.specs.Turns.{HearsNow, DrawsNow, LeavesNow, TicksNow, GivesNow, HearsCut, DrawsCut, GivesCut, IsCut, Turned, TurnedDeaf, TurnEnds, Paused, RunsOf, Runs, RunsToEnd, RunsOut, RunEnds}
+use Rattle.srm_node.specs.Turns.{HearsNow, DrawsNow, LeavesNow, TicksNow, GivesNow, HearsCut, DrawsCut, GivesCut, IsCut, Turned, TurnedDeaf, TurnEnds, Paused, RunsOf, Runs, RunEnds}
 use Rattle.srm_wire.proofs.Telling.{counts_on}
-
--- what was heard stays, also where memory ran out
-pub hears_now : (now : ℕ) (n : NodeView) (k : Journal) (failures : ℕ) (told : Option Told) (failed : Bool) → CountsIf failed n.failures failures → Listened now failed n.journal k n.told told
-    → HearsNow now failed n (record n { journal = k; failures = failures; told = told })
-hears_now now n k failures told failed counts listened = record { listened = listened; failures = counts; same = refl }
-
-pub hears_cut : (now : ℕ) (n : NodeView) (k : Journal) (failures : ℕ) (told : Option Told) → CountsIf false n.failures failures → ListenedCut now n.journal k n.told told → HearsCut now n (record n { journal = k; failures = failures; told = told })
-hears_cut now n k failures told counts listened = record { listened = listened; failures = counts.0; same = refl }
-
-pub draws_now : (now : ℕ) (none_left : Bool) (n : NodeView) (k : Journal) (well : WellView) (from hand : Option Stroke) → from ≡ n.hand → DrewStrokes now none_left n.journal k n.well well from hand
-    → DrawsNow now none_left n (record n { journal = k; well = well; hand = hand })
-draws_now now none_left n k well from hand same drew = record { drew = subst (λ x. DrewStrokes now none_left n.journal k n.well well x hand) same drew; same = refl }
-
-pub draws_cut : (now : ℕ) (n : NodeView) (k : Journal) (well : WellView) (from hand : Option Stroke) → from ≡ n.hand → DrewStrokesCut now n.journal k n.well well from hand → DrawsCut now n (record n { journal = k; well = well; hand = hand })
-draws_cut now n k well from hand same drew = record { drew = subst (λ x. DrewStrokesCut now n.journal k n.well well x hand) same drew; same = refl }
 
 -- a node that leaves isn't to leave again, unless memory ran out
 pub leaves_now : (now : ℕ) (none_left pens_done is_due_now leaves ok : Bool) (n : NodeView) (k : Journal) (asked : Option ℕ) (r : Result (Unit {0}) OutOfMemory)
@@ -53,11 +36,6 @@ leaves_now now none_left pens_done is_due_now leaves ok n k asked (Err e) due is
     none : (b : Bool) → (b && false) ≡ false
     none true = refl
     none false = refl
-
-pub gives_now : (n : NodeView) (k : Journal) (feeds : List FeedView) (r : Result (Unit {0}) OutOfMemory) → MatchResult r (λ _. GivesUpTo PAGES n.journal k n.feeds feeds) (λ _. GaveSome n.journal k n.feeds feeds)
-    → MatchResult r (λ _. GivesNow PAGES n (record n { journal = k; feeds = feeds })) (λ _. GivesCut n (record n { journal = k; feeds = feeds }))
-gives_now n k feeds (Ok u) gives = record { gives = gives; same = refl }
-gives_now n k feeds (Err e) gives = record { gives = gives; same = refl }
 
 ends_cut : (r : Result (Unit {0}) NodeFault) (a b : NodeView) → IsErrAnd r (λ fault. fault ≡ Memory) → IsCut a b → TurnEnds r a b
 ends_cut (Ok _) a b is cut = absurd is
@@ -107,9 +85,6 @@ turned_deaf now u v w a b c d e f h x l t g some = record {
 
 -- RUNS
 
-pub runs_none : (n : NodeView) → Runs 0 n n
-runs_none n = record { turns = refl }
-
 pub runs_more : (count : ℕ) (a b p c : NodeView) (ended : Bool) → Runs count a b → ended ≡ has_ended b → ended ≡ false → Paused b p → Turned false false p c → Runs (count + 1) a c
 runs_more count a b p c ended h is goes_on paused t = record { turns = subst (λ k. RunsOf k a c) (sym (add-one count)) (b, p, h.turns, sym is ∙ goes_on, paused, t) }
 
@@ -122,9 +97,3 @@ runs_into Turns count limit a b p c ended few h is goes_on paused t = absurd t
 pub runs_ended : (r : Result (Unit {0}) NodeFault) (fault : NodeFault) (count limit : ℕ) (a b p c : NodeView) (ended : Bool) → IsErrAnd r (λ e. e ≡ fault) → count < limit → Runs count a b → ended ≡ has_ended b → ended ≡ false → Paused b p → TurnEnds (Err fault) p c → RunEnds r limit a c
 runs_ended (Ok u) fault count limit a b p c ended is few h at goes_on paused t = absurd is
 runs_ended (Err e) fault count limit a b p c ended is few h at goes_on paused t = subst (λ f. RunEnds (Err f) limit a c) (sym is) (runs_into fault count limit a b p c ended few h at goes_on paused t)
-
-pub runs_to_end : (count limit : ℕ) (a b : NodeView) (ended : Bool) → count ≤ limit → Runs count a b → ended ≡ has_ended b → ended ≡ true → RunsToEnd limit a b
-runs_to_end count limit a b ended few h is done = record { count = count; few = few; runs = h; ended = sym is ∙ done }
-
-pub runs_out : (limit : ℕ) (a b : NodeView) (ended : Bool) → Runs limit a b → ended ≡ has_ended b → ended ≡ false → RunsOut limit a b
-runs_out limit a b ended h is goes_on = record { runs = h; goes_on = sym is ∙ goes_on }

@@ -1,13 +1,11 @@
 -- The words by which waits are drawn, over one call of the recorder and over several.
 use Rattle.std.proofs.Common.{◌≡◌, ℕ, List, [], ◌++◌, refl, ap, sym, ◌∙◌, subst, inl, inr, append_assoc}
-use Rattle.std.specs.Prelude.{Option, Result}
-use Rattle.srm_entries.specs.declared.entry.Entry.{Entry}
-use Rattle.srm_entries.specs.declared.entry.Input.{Input}
+use Rattle.std.specs.Prelude.{Result}
 use Rattle.srm_entries.specs.declared.fault.AgentFault.{AgentFault}
 use Rattle.srm_entries.specs.Configs.{Config}
 use Rattle.srm_agent.specs.declared.heard.Heard.{Heard}
 use Rattle.srm_world.specs.Traces.{Journal}
-use Rattle.srm_world.specs.Recording.{Records, RecordsHeard}
+use Rattle.srm_world.specs.Recording.{RecordsHeard}
 use Rattle.srm_world.specs.Words.{Recorded, AreByWords, RecordsByWords}
 use Rattle.srm_world.proofs.Wording.{by_more, no_words_recorded}
 use Rattle.srm_node.specs.Nodes.{NodeView, NodeState, recorded_in}
@@ -27,11 +25,6 @@ waits_on draw a b c h k = record {
         (subst (λ (s : Config). AreByWords draw s b.words k.words.added c.words) (ap (λ s. s.config) h.start) k.words.words);
   };
 }
-
--- one call of the recorder
-pub waits_recorded : {W A : Type 0} (draw : W → ℕ × W) (now : Option ℕ) (input : Input) (is : Entry → A → Type 0) (a b : Recorded W) (answer : Result A AgentFault) → Records now input is a.journal b.journal answer → RecordsByWords draw a b → WaitsByWords draw a b
-waits_recorded draw now input is a b answer (inl (e, grows, at, answers)) words = record { start = ap (λ (j : Journal). j.start) grows.grown; words = words }
-waits_recorded draw now input is a b answer (inr (wrong, same)) words = record { start = ap (λ (j : Journal). j.start) same; words = words }
 
 pub waits_heard : {W : Type 0} (draw : W → ℕ × W) (now : ℕ) (bytes : List ℕ) (a b : Recorded W) (answer : Result Heard AgentFault) → RecordsHeard now bytes a.journal b.journal answer → RecordsByWords draw a b → WaitsByWords draw a b
 waits_heard draw now bytes a b answer (inl (e, grows, hearing, answers)) words = record { start = ap (λ (j : Journal). j.start) grows.grown; words = words }

@@ -121,11 +121,6 @@ pub record MaskSoFar (first : FullName) (rest left : List FullName) (mask : ℕ)
   pub rising : ascending name_below (before ∷ left) ≡ true
   pub sum : mask + mask_of first left ≡ mask_of first rest
 
-pub mask_begins : (first : FullName) (rest : List FullName) → first.number ≤ DRAWOPS → ascending name_below (first ∷ rest) ≡ true → MaskSoFar first rest rest 0
-mask_begins first rest l asc =
-    let none : first.number - first.number ≡ 0 = omega arith in
-    record { before = first; stream = refl; from_first = omega arith; near = omega arith; limit = l; below = subst (λ k. 0 < 2 ^ k) (sym none) (omega arith); rising = asc; sum = omega arith }
-
 pub mask_goes_on : (first n : FullName) (rest ns : List FullName) (mask : ℕ) → n.number ≤ DRAWOPS → is_covered first n ≡ true → MaskSoFar first rest (n ∷ ns) mask → MaskSoFar first rest ns (mask + 2 ^ (n.number - first.number - 1))
 mask_goes_on first n rest ns mask l e m =
     let c = covers first n e in
@@ -160,9 +155,6 @@ pub mask_stops : (first n : FullName) (rest ns : List FullName) (mask : ℕ) →
 mask_stops first n rest ns mask e m =
     let none : mask_of first (n ∷ ns) ≡ 0 = none_covered first m.before n ns m.stream m.from_first m.rising e in
     omega (arith, m.sum)
-
-pub mask_ends : (first : FullName) (rest : List FullName) (mask : ℕ) → MaskSoFar first rest [] mask → mask ≡ mask_of first rest
-mask_ends first rest mask m = omega (arith, m.sum)
 
 pub mask_within : (first : FullName) (rest left : List FullName) (mask : ℕ) → MaskSoFar first rest left mask → mask < 2 ^ (DRAWOPS - first.number)
 mask_within first rest left mask m =

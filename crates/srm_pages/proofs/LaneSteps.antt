@@ -2,7 +2,7 @@
 use Rattle.std.proofs.Common.{◌≡◌, ◌≢◌, ℕ, true, false, true≢false, List, [], ◌∷◌, ◌++◌, length, set, sym, refl, ap, ◌∙◌, subst, ⊎_elim, append_assoc}
 use mathlib.Core.Option.{some}
 use lib.ListN.{get_elem?}
-use Rattle.crossbeam_channel.specs.Fifo.{Pushes, Pops, Forks, Merges, Learns}
+use Rattle.crossbeam_channel.specs.Fifo.{Pushes, Pops, Forks, Merges}
 use Rattle.atomic_table.proofs.Lists.{at_set}
 use Rattle.srm_names.specs.declared.page_msg.PageMsg.{PageMsg}
 use Rattle.srm_names.specs.PageFeeds.{is_page_feed}
@@ -71,6 +71,3 @@ merges id v other u a b items views h at two at' = let both : LaneView = lane_vi
     let Now : ℕ → LaneView → Type 0 = λ j y. j ≢ other → FitsLane h.0 id h.2 h.3 j y in
     let now : All Now vs = all_set Now views id both (λ _. ((λ _. mine.0 a), λ _. (refl, theirs.1))) (λ j y _ e apart. ((h.6 j y e).0, λ p. absurd (apart (((h.6 j y e).1 p).0 ∙ sym theirs.0)))) in
     (h.0, id, h.2, h.3, h.4, h.5, all_set (FitsLane h.0 id h.2 h.3) vs other (lane_view false false [] []) ((λ p. absurd (true≢false (sym p))), λ p. absurd (true≢false (sym p))) (λ j y apart e. now j y e apart))
-
-pub totals : (id : ℕ) (v : LaneView) → v.puts ≡ true → v.takes ≡ true → Learns LaneHolds id v (λ items. v.put ≡ v.taken ++ items)
-totals id v a b items views h at = let mine = h.6 id v at in (mine.0 a).1 ∙ h.4 ∙ ap (λ l. l ++ items) (sym (mine.1 b).1)

@@ -39,9 +39,6 @@ drawing_more p m n l d is page source number = record {
   is_open = list_any-snoc is_close l (Draw d) ∙ ap (λ b. b || false) is.is_open;
 }
 
-pub drawing_starts : (p : Page) (m : ℕ) (l : List PageMsg) → l ≡ [] → IsDrawing p m 0 (l ++ Open p ∷ [])
-drawing_starts p m l e = subst (λ (k : List PageMsg). IsDrawing p m 0 (k ++ Open p ∷ [])) (sym e) record { feed = refl; page_is = refl; count = refl; stays = refl; is_open = refl }
-
 -- a page feed with no end may be closed
 pub drawing_closes : (p : Page) (m n : ℕ) (l : List PageMsg) → IsDrawing p m n l → is_page_feed (l ++ Close ∷ []) ≡ true
 drawing_closes p m n l is = is_page_feed-snoc l Close is.feed (ap not is.is_open)

@@ -1,8 +1,8 @@
 -- What is made of a list element by element, each with its place.
-use Rattle.std.proofs.Common.{◌≡◌, ℕ, suc, zero, ◌+◌, ◌<◌, ◌≤◌, get_or, List, [], ◌∷◌, ◌++◌, length, take, drop, refl, ap, sym, ◌∙◌, arith}
+use Rattle.std.proofs.Common.{◌≡◌, ℕ, suc, zero, ◌+◌, ◌<◌, get_or, List, [], ◌∷◌, ◌++◌, length, take, drop, refl, ap, sym, ◌∙◌, arith}
 use Rattle.std.specs.Prelude.{Option, Some, None, map}
 use Rattle.std.specs.List.{flat_map, enumerate_from}
-use Rattle.std.proofs.lemmas.List.{take_more, take_all, length-take-le, map-append, take-append-drop}
+use Rattle.std.proofs.lemmas.List.{take_more, length-take-le, map-append, take-append-drop}
 use Rattle.srm_names.specs.Histories.{first_of, or_else}
 use Rattle.srm_names.proofs.Snoc.{first_of-snoc}
 use Rattle.srm_entries.proofs.Adding.{flat_map-snoc}
@@ -24,23 +24,14 @@ pub row_more : {X Y : Type 0} (f : ℕ × X → List Y) (xs : List X) (i : ℕ) 
 row_more f xs i x ys more l at so_far is =
     ap (λ zs. zs ++ more) so_far ∙ ap (λ zs. by_row f (take i xs) ++ zs) is ∙ sym (ap (flat_map f) (placed xs i x l at) ∙ flat_map-snoc f (enumerate_from 0 (take i xs)) (i, x))
 
-pub rows_all : {X Y : Type 0} (f : ℕ × X → List Y) (xs : List X) (i : ℕ) (ys : List Y) → length xs ≤ i → ys ≡ by_row f (take i xs) → ys ≡ by_row f xs
-rows_all f xs i ys l so_far = so_far ∙ ap (by_row f) (take_all i xs l)
-
 pub each_more : {X Y : Type 0} (f : ℕ × X → Y) (xs : List X) (i : ℕ) (x : X) (ys : List Y) (y : Y) → i < length xs → x ≡ get_or xs i x → ys ≡ map f (enumerate_from 0 (take i xs)) → y ≡ f (i, x) → ys ++ y ∷ [] ≡ map f (enumerate_from 0 (take (i + 1) xs))
 each_more f xs i x ys y l at so_far is =
     ap (λ zs. zs ++ y ∷ []) so_far ∙ ap (λ z. map f (enumerate_from 0 (take i xs)) ++ z ∷ []) is ∙ sym (ap (map f) (placed xs i x l at) ∙ map-append f (enumerate_from 0 (take i xs)) ((i, x) ∷ []))
-
-pub each_all : {X Y : Type 0} (f : ℕ × X → Y) (xs : List X) (i : ℕ) (ys : List Y) → length xs ≤ i → ys ≡ map f (enumerate_from 0 (take i xs)) → ys ≡ map f (enumerate_from 0 xs)
-each_all f xs i ys l so_far = so_far ∙ ap (λ zs. map f (enumerate_from 0 zs)) (take_all i xs l)
 
 -- nothing was found up to here
 pub none_more : {X Y : Type 0} (f : ℕ × X → Option Y) (xs : List X) (i : ℕ) (x : X) → i < length xs → x ≡ get_or xs i x → first_of f (enumerate_from 0 (take i xs)) ≡ None → f (i, x) ≡ None → first_of f (enumerate_from 0 (take (i + 1) xs)) ≡ None
 none_more f xs i x l at so_far is =
     ap (first_of f) (placed xs i x l at) ∙ first_of-snoc f (enumerate_from 0 (take i xs)) (i, x) ∙ ap (λ o. or_else o (f (i, x))) so_far ∙ is
-
-pub none_all : {X Y : Type 0} (f : ℕ × X → Option Y) (xs : List X) (i : ℕ) → length xs ≤ i → first_of f (enumerate_from 0 (take i xs)) ≡ None → None ≡ first_of f (enumerate_from 0 xs)
-none_all f xs i l so_far = sym (ap (λ zs. first_of f (enumerate_from 0 zs)) (sym (take_all i xs l)) ∙ so_far)
 
 or_else-more : {Y : Type 0} (o p q : Option Y) (y : Y) → (p ≡ Some y → q ≡ Some y) → or_else o p ≡ Some y → or_else o q ≡ Some y
 or_else-more (Some z) p q y h e = e

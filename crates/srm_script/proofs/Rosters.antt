@@ -9,10 +9,6 @@ use Rattle.srm_world.specs.declared.start.Start.{Start}
 use Rattle.srm_world.specs.Traces.{IsRoster, IsAtPlace, SameSession, started}
 use Rattle.srm_world.proofs.Stepping.{all_by_place}
 
--- the settings of a member at a place
-abbrev IsSettingOf : ℕ → ℕ → ℕ → Config → Type 0
-IsSettingOf members session k c = (c.me ≡ k) × (c.members ≡ members) × (c.session ≡ session)
-
 -- each of the settings is that of the member at its place, in one session
 pub record AreSettings (members session : ℕ) (configs : List Config) : Type 0 where
   pub each : (k : ℕ) (c : Config) → slice_get configs k ≡ Some c → (c.me ≡ k) × (c.members ≡ members) × (c.session ≡ session)

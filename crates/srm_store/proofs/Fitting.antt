@@ -223,9 +223,6 @@ module _ {inserted : List Drawop} {shown : List FullName} {settled : List Settli
       rows_more : (m : ℕ) → rows_of (settled ++ record { member = member; rows = rows } ∷ []) m ≡ (if m == member then or_else (rows_of settled m) (Some rows) else rows_of settled m)
       rows_more m = first_of-snoc (rows_for m) settled (record { member = member; rows = rows }) ∙ ap (λ b. or_else (rows_of settled m) (if b then Some rows else None)) (eqb-flip member m) ∙ choose m (m == member)
 
-pub same_table : (t : TableContent) → SameTable t t
-same_table t = record { pages = refl; rows = λ s lt. record { each = λ n. refl; known = refl } }
-
 pub same_finals : (f : FinalsContent) → SameFinals f f
 same_finals f = record { each = λ m. refl }
 

@@ -1,5 +1,5 @@
 -- Room for answers, and what stays ready.
-use Rattle.std.proofs.Common.{◌≡◌, ℕ, zero, suc, ◌+◌, ◌-◌, ◌<◌, ◌≤◌, List, [], ◌∷◌, ◌++◌, Some, None, Bool, true, false, not, ◌&&◌, max, map, length, Result, Ok, Err, IsOk, get_or, take, drop, refl, sym, ap, ◌∙◌, subst, arith}
+use Rattle.std.proofs.Common.{◌≡◌, ℕ, zero, suc, ◌+◌, ◌-◌, ◌<◌, ◌≤◌, List, [], ◌∷◌, ◌++◌, Some, None, Bool, true, false, not, ◌&&◌, max, length, Result, Ok, Err, IsOk, get_or, take, drop, refl, sym, ap, ◌∙◌, subst, arith}
 use Rattle.std.specs.Prelude.{◌||◌, nat_lt, nat_le, is_some, position, cond, if◌then◌else◌}
 use Rattle.std.specs.List.{list_any, position_or_len}
 use Rattle.std.proofs.lemmas.Bool.{false≢true, and_parts}
@@ -10,12 +10,9 @@ use Rattle.srm_names.specs.Names.{same_name, same_stream, among}
 use Rattle.srm_names.proofs.Same.{same_name-is, same_stream-itself}
 use Rattle.srm_store.specs.Rooms.{RoomContent, fits_answer, has_room, StillHasOthers}
 use Rattle.srm_store.specs.Tables.{row_at, TableLearns, StillHasPlaces}
-use Rattle.srm_store.specs.Stores.{StoreContent, IsReady, AreReady, StaysReady, KeepsSlots}
-use Rattle.srm_store.specs.Held.{page_of_name}
-use Rattle.srm_store.specs.Finals.{FinalsContent}
+use Rattle.srm_store.specs.Stores.{StoreContent, IsReady, StaysReady}
 use Rattle.srm_store.specs.declared.fault.StoreFault.{StoreFault}
 use Rattle.srm_store.specs.declared.fault.StoreFault.TheVariants.{PageLimit, Memory}
-use Rattle.srm_store.proofs.Seating.{page_among}
 use Rattle.srm_store.proofs.Fitting.{learns_known}
 use Rattle.std.proofs.lemmas.List.Folds.{list_any_more}
 
@@ -123,14 +120,6 @@ ready_more names i name old new at lt before stays here = each_more names i name
 
 pub stays_on : (a b c : StoreContent) → StaysReady a b → StaysReady b c → StaysReady a c
 stays_on a b c p q = record { each = λ n ready. q.each n (p.each n ready) }
-
--- a call for one of the names leaves all of them ready
-pub still_ready : (names : List FullName) (n : FullName) (old new : StoreContent) → among names n ≡ true → AreReady names old → StaysReady old new → KeepsSlots n.stream.page old new → new.finals ≡ old.finals → AreReady names new
-still_ready names n old new there ready stays keeps finals = record {
-  slots = keeps.each (map page_of_name names) (page_among names n there) ready.slots;
-  each = λ m among_them. stays.each m (ready.each m among_them);
-  settling = omega (arith, ready.settling, ap (λ (f : FinalsContent). f.room) finals);
-}
 
 -- what is refused neither for slots nor for memory is done
 pub not_refused : {X : Type 0} (r : Result X StoreFault) → (r ≡ Err PageLimit → ⊥) → (r ≡ Err Memory → ⊥) → IsOk r

@@ -12,7 +12,7 @@ use Rattle.srm_names.proofs.Lists.{AllByRecursion-snoc}
 use Rattle.srm_deadlines.proofs.Order.{map_take}
 use Rattle.srm_timers.specs.declared.arm.Arm.{Arm}
 use Rattle.srm_deadlines.specs.declared.timed.Timed.{Timed}
-use Rattle.srm_timers.specs.Arms.{Plan, Setting, plan_of, setting, arm_name, arm_names, arm_of, ArmsAre, AreDrawn, IsAsk, AreAsks, IsFix, AreFixes, AreOfMembers}
+use Rattle.srm_timers.specs.Arms.{Plan, Setting, plan_of, setting, arm_name, arm_names, arm_of, ArmsAre, AreDrawn, IsAsk, AreAsks, AreOfMembers}
 use Rattle.srm_timers.specs.Ends.{timed_at, arm_end, is_short, AreShort}
 use Rattle.srm_deadlines.specs.Places.{names_of, moment_among, is_timed}
 
@@ -34,9 +34,6 @@ short_more arms a h here = record { each = AllByRecursion-snoc is_short arms a h
 
 pub asks_more : (arms : List Arm) (a : Arm) → AreAsks arms → IsAsk a → AreAsks (arms ++ a ∷ [])
 asks_more arms a h here = record { each = AllByRecursion-snoc IsAsk arms a h.each here }
-
-pub fixes_more : (arms : List Arm) (a : Arm) → AreFixes arms → IsFix a → AreFixes (arms ++ a ∷ [])
-fixes_more arms a h here = record { each = AllByRecursion-snoc IsFix arms a h.each here }
 
 map_more : {X Y : Type 0} (f : X → Y) (xs : List X) (x : X) → map f (xs ++ x ∷ []) ≡ map f xs ++ f x ∷ []
 map_more f [] x = refl

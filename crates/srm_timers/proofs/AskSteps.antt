@@ -1,5 +1,5 @@
 -- One more call, in the request timers.
-use Rattle.std.proofs.Common.{◌≡◌, ℕ, ◌+◌, ◌≤◌, List, [], ◌∷◌, ◌++◌, map, length, Option, Some, None, Bool, true, false, cond, refl, sym, ap, subst, ◌∙◌, arith}
+use Rattle.std.proofs.Common.{◌≡◌, ℕ, ◌+◌, ◌≤◌, List, [], ◌∷◌, ◌++◌, map, length, Option, Some, None, Bool, true, false, cond, refl, sym, ap, subst, ◌∙◌}
 use Rattle.std.specs.Prelude.{if◌then◌else◌, option_map, nat_le, IsNone, IsSome, is_some, IfSome, find, ◌||◌}
 use Rattle.std.specs.List.{AllByRecursion}
 use Rattle.srm_names.specs.FullName.{FullName}
@@ -12,10 +12,10 @@ use Rattle.srm_timers.specs.declared.arm.ArmKind.TheVariants.{Ask}
 use Rattle.srm_deadlines.specs.declared.by_name.Place.{Place}
 use Rattle.srm_timers.specs.Arms.{arm_names, arm_of, end_of, ran_out, backs_off, next_exponent, RunsOutFirst, ArmsAre, Setting, Plan, plan_of}
 use Rattle.srm_deadlines.specs.Deadlines.{has_come}
-use Rattle.srm_timers.specs.Ends.{arm_end, SetsEnds, KeepsRoom}
+use Rattle.srm_timers.specs.Ends.{arm_end, SetsEnds}
 use Rattle.srm_timers.specs.Timers.{armed_at, SetsTimers}
 use Rattle.srm_deadlines.specs.Places.{value_at, value_in, is_at, has_place, Keeps, Sets, IsLeast}
-use Rattle.srm_timers.specs.AskCalls.{AskCall, Set, Gained, told_by, flat, ask_timer, sets, AskFits, AskContent, AskAdds, AskBacksOff, AskRuns, AskNext, AskDue, AskedFirst, AskedAgain, found_plan, found_setting, AskStays, ask_setting, ask_plan, AskReady, AskTimersRun, AskHolds, DetectReady, DueReady, DetectStaysReady, DueStaysReady, again_exponent, again_plan, again_setting, due_setting}
+use Rattle.srm_timers.specs.AskCalls.{AskCall, Set, Gained, told_by, flat, ask_timer, sets, AskFits, AskContent, AskAdds, AskBacksOff, AskRuns, AskNext, AskDue, AskedFirst, AskedAgain, found_plan, found_setting, AskStays, ask_setting, ask_plan, AskReady, AskTimersRun, DetectReady, DueReady, again_exponent, again_plan, again_setting, due_setting}
 use Rattle.srm_timers.specs.Distances.{distance_to}
 use Rattle.srm_timers.proofs.Arming.{last_arms, planned_names, planned_are}
 
@@ -145,19 +145,6 @@ stays_on a b c p q = record { each = λ c1 c2 calls h. q.each c1 c2 calls (p.eac
 -- the list for the next answer has no part in what can be set
 pub ready_still : (names : List FullName) (a : AskContent) (list : ℕ) → AskReady names a → AskReady names (record a { detect_list = list })
 ready_still names a list h = record { ends = h.ends; timers = h.timers }
-
-ready_on : (names : List FullName) (a b : AskContent) → AskReady names a → KeepsRoom a.ends b.ends → ((n : FullName) → has_place a.timers n ≡ true → has_place b.timers n ≡ true) → AskReady names b
-ready_on names a b ready ends timers = record {
-  ends = record { places = λ n at. ends.places n (ready.ends.places n at); room = omega (arith, ready.ends.room, ends.room) };
-  timers = λ n at. timers n (ready.timers n at);
-}
-
--- what each of the two answers doesn't take from the other
-pub detect_stays : (a b : AskContent) → AskHolds (record a { due_list = 0 }) b → DetectStaysReady a b
-detect_stays a b h = record { each = λ names ready. record { set = ready_on names a b ready.set h.ends h.timers; list = omega (arith, ready.list, h.detect_list) } }
-
-pub due_stays : (a b : AskContent) → AskHolds (record a { detect_list = 0 }) b → DueStaysReady a b
-due_stays a b h = record { each = λ names ready. record { set = ready_on names a b ready.set h.ends h.timers; list = omega (arith, ready.list, h.due_list); look_up = omega (arith, ready.look_up, h.names) } }
 
 -- what has a value has a place
 pub placed : {V : Type 0} (places : List (Place V)) (n : FullName) → IsSome (value_at places n) → has_place places n ≡ true

@@ -21,7 +21,7 @@ use Rattle.srm_timers.specs.Timers.{armed_at}
 use Rattle.srm_deadlines.specs.Places.{value_at, Keeps, Sets, ClearsAll, IsLeast}
 use Rattle.srm_timers.specs.AskCalls.{flat}
 use Rattle.srm_timers.specs.Marks.{NotesAsker, OffAsBefore}
-use Rattle.srm_timers.specs.FixCalls.{FixCall, Asked, SetFix, Repaired, asker_by, asked_first, first_asker, ran_by, fix_timer, is_off_by, is_off, is_free, sets_fix, hold_end, repair_by, repairs, FixFits, FixContent, FixStays, FixAdds, FixRepairs, FixDue, FixNext, FixIsFree, FixFirstAsker, FixAnswers, fix_plan, FixHolds, FixPlace, FixPlaces, HoldsOff, HoldAllOff, asker_at, is_held_off, held_off_until}
+use Rattle.srm_timers.specs.FixCalls.{FixCall, Asked, SetFix, Repaired, asker_by, asked_first, first_asker, ran_by, fix_timer, is_off_by, is_off, is_free, sets_fix, hold_end, repair_by, repairs, FixFits, FixContent, FixStays, FixAdds, FixRepairs, FixDue, FixNext, FixIsFree, FixFirstAsker, FixAnswers, fix_plan, FixPlace, FixPlaces, HoldsOff, HoldAllOff, asker_at, is_held_off, held_off_until}
 use Rattle.srm_deadlines.proofs.Order.{map_take}
 use Rattle.srm_timers.proofs.Arming.{same_itself, last_arms}
 pub use Rattle.srm_deadlines.proofs.Tables.{holds_on}
@@ -101,15 +101,6 @@ pub new_asker : (name : FullName) (from : ℕ) (n : FullName) (f : FullName → 
 new_asker name from n f none true same = sym (ap (λ o. or_else o (Some from)) (ap f (same_name-is n name same) ∙ none))
 new_asker name from n f none false other = sym (or_none (f n))
 
-pub old_asker : (name : FullName) (from : ℕ) (n : FullName) (f : FullName → Option ℕ) → is_some (f name) ≡ true → (b : Bool) → same_name n name ≡ b
-    → f n ≡ or_else (f n) (if b then Some from else None)
-old_asker name from n f some true same = go (f n) (ap (λ m. is_some (f m)) (same_name-is n name same) ∙ some)
-  where
-    go : (o : Option ℕ) → is_some o ≡ true → o ≡ or_else o (Some from)
-    go (Some x) e = refl
-    go None e = cc
-old_asker name from n f some false other = sym (or_none (f n))
-
 -- timers are set
 pub fits_sets_fix : (d1 d2 : ℕ) (calls : List FixCall) (now : ℕ) (arms : List Arm) (a b : FixContent) → FixFits d1 d2 calls a → b.d1 ≡ a.d1 → b.d2 ≡ a.d2
     → b.askers ≡ a.askers → b.holds ≡ a.holds → ascending name_below (arm_names arms) ≡ true → SetsEnds now arms a.ends.places b.ends.places
@@ -175,9 +166,6 @@ pub held_as_long : (name : FullName) (until kept : ℕ) (holds : List (Place ℕ
 held_as_long name until kept holds is more = record { each = λ n now. as_long name until (value_at holds) (subst (λ k. until ≤ k) is more) n now (same_name n name) refl }
 
 -- one more name of those that are held off in one call
-pub held_none : (now : ℕ) (dist : List ℕ) (askers holds : List (Place ℕ)) → HoldAllOff now dist [] askers holds holds
-held_none now dist askers holds = record { each = λ n t. sym (or_false (is_held_off holds n t)); near = λ n at. absurd (cc) }
-
 pub held_more : (now : ℕ) (dist : List ℕ) (names : List FullName) (i : ℕ) (name : FullName) (distance member : ℕ) (askers old mid new : List (Place ℕ)) → i < length names → name ≡ get_or names i name
     → member ≡ asker_at askers name → member < MEMBERS → distance ≡ distance_to dist member → HoldAllOff now dist (take i names) askers old mid → HoldsOff name (now + 3 * distance) mid new
     → HoldAllOff now dist (take (i + 1) names) askers old new
@@ -303,15 +291,6 @@ free_is d1 d2 calls a n now h =
 
 pub fix_stays_on : (a b c : FixContent) → FixStays a b → FixStays b c → FixStays a c
 fix_stays_on a b c p q = record { each = λ d1 d2 calls h. q.each d1 d2 calls (p.each d1 d2 calls h) }
-
-pub fix_holds_on : (a b c : FixContent) → FixHolds a b → FixHolds b c → FixHolds a c
-fix_holds_on a b c p q = record {
-  d1 = q.d1 ∙ p.d1;
-  d2 = q.d2 ∙ p.d2;
-  each = λ n h. q.each n (p.each n h);
-  ends = record { places = λ n h. q.ends.places n (p.ends.places n h); room = omega (arith, p.ends.room, q.ends.room) };
-  list = omega (arith, p.list, q.list);
-}
 
 -- a place for the one name
 pub one_place : (a : FixContent) (name : FullName) → FixPlace a name → FixPlaces (name ∷ []) a

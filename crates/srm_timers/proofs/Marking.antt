@@ -1,6 +1,6 @@
 -- What is kept of names in one table, read as who asked for them and until when they are held off.
 use Rattle.std.proofs.Common.{◌≡◌, ℕ, ◌+◌, ◌<◌, Bool, true, false, List, [], ◌∷◌, map, length, get_or, take, Option, Some, None, cond, refl, sym, ap, ◌∙◌}
-use Rattle.std.specs.Prelude.{if◌then◌else◌, find, nat_lt, unwrap_or, is_some, ◌||◌}
+use Rattle.std.specs.Prelude.{if◌then◌else◌, find, nat_lt, unwrap_or, ◌||◌}
 use Rattle.srm_names.specs.declared.limits.TheConstants.{MEMBERS}
 use Rattle.srm_names.specs.FullName.{FullName}
 use Rattle.srm_names.specs.Names.{same_name}
@@ -11,7 +11,7 @@ use Rattle.srm_timers.specs.declared.marks.Mark.{Mark}
 use Rattle.srm_timers.specs.FixCalls.{HoldsOff, HoldAllOff, asker_at, is_held_off, held_off_until}
 use Rattle.srm_timers.specs.Marks.{asker_of, until_of, place_by, marks_of, MarkContent, HaveMarks, MarksHold, NotesAsker, OffAsBefore}
 use Rattle.srm_timers.specs.Distances.{distance_to}
-use Rattle.srm_timers.proofs.FixSteps.{new_asker, old_asker, held_longer, held_more}
+use Rattle.srm_timers.proofs.FixSteps.{new_asker, held_longer, held_more}
 pub use Rattle.srm_timers.proofs.FixSteps.{held_as_long}
 
 module _ (f : Option Mark → Option ℕ) (none : f None ≡ None) where
@@ -91,12 +91,6 @@ note_first name from k old new none is sets = (
   record { each = λ n t. ap (λ o. nat_lt t (unwrap_or o 0)) ((sets_by until_of refl name _ old new sets).each n) ∙ off_same (marks_of old).holds name n k t is (same_name n name) refl },
 )
 
-pub note_later : (name : FullName) (from : ℕ) (askers : List (Place ℕ)) → is_some (value_at askers name) ≡ true → NotesAsker name from askers askers
-note_later name from askers some = record { each = λ n. old_asker name from n (value_at askers) some (same_name n name) refl }
-
-pub off_still : (holds : List (Place ℕ)) → OffAsBefore holds holds
-off_still holds = record { each = λ n t. refl }
-
 -- a name is held off for longer
 pub held_on : (name : FullName) (asker : Option ℕ) (kept until : ℕ) (old new : List (Place Mark)) → asker ≡ value_at (marks_of old).askers name → kept ≡ unwrap_or (value_at (marks_of old).holds name) 0 → kept < until
     → Sets name (Some (record { asker = asker; until = until })) old new → HoldsOff name until (marks_of old).holds (marks_of new).holds × Keeps (marks_of old).askers (marks_of new).askers
@@ -122,6 +116,3 @@ keeps_through a b c p q = record { each = λ n. q.each n ∙ p.each n }
 
 pub marks_through : (a b c : MarkContent) → MarksHold a b → MarksHold b c → MarksHold a c
 marks_through a b c p q = record { askers = record { each = λ n h. q.askers.each n (p.askers.each n h) }; holds = record { each = λ n h. q.holds.each n (p.holds.each n h) } }
-
-pub marks_still : (m : MarkContent) → MarksHold m m
-marks_still m = record { askers = record { each = λ n h. h }; holds = record { each = λ n h. h } }

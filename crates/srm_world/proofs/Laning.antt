@@ -1,13 +1,12 @@
 -- The lanes of a member after one of them was written.
-use Rattle.std.proofs.Common.{◌≡◌, ◌≢◌, ℕ, zero, suc, ◌<◌, ◌==◌, Bool, true, false, List, [], ◌∷◌, ◌++◌, length, get_or, refl, ap, sym, ◌∙◌, subst, arith, inl, inr, eq-eqb}
+use Rattle.std.proofs.Common.{◌≡◌, ◌≢◌, ℕ, zero, suc, ◌<◌, List, [], ◌∷◌, ◌++◌, length, get_or, refl, ap, sym, ◌∙◌, subst, arith, inl, inr, eq-eqb}
 use Rattle.std.specs.Prelude.{◌⊎◌, Result, Ok, Err, OnOk, Option, Some, slice_get, slice_set, option_to_list, option_map, map, drop, cond}
 use Rattle.std.proofs.lemmas.Bool.{cases_eq, ne_eqb}
 use Rattle.std.proofs.lemmas.List.{append-nil}
 use Rattle.std.proofs.lemmas.Option.{same_Some, slice_get-get_or}
 use Rattle.srm_names.specs.declared.page_msg.PageMsg.{PageMsg}
-use Rattle.srm_names.proofs.Lists.{slice_get-snoc}
 use Rattle.srm_world.specs.Lane.{LaneContent}
-use Rattle.srm_world.specs.Lanes.{AreEmpty, HasRoom, Gains, Loses, in_lane}
+use Rattle.srm_world.specs.Lanes.{HasRoom, Gains, Loses, in_lane}
 
 -- what is read, of a list with one place written
 pub get_set_same : {X : Type 0} (xs : List X) (i : ℕ) (x y : X) → slice_get xs i ≡ Some x → slice_get (slice_set xs i y) i ≡ Some y
@@ -33,15 +32,6 @@ at_place [] k l = absurd (omega arith)
 at_place (x ∷ xs) zero l = (x, refl)
 at_place (x ∷ xs) (suc k) l = at_place xs k (omega arith)
 
--- a new lane is empty
-pub empty_more : (lanes : List LaneContent) (l : LaneContent) → AreEmpty lanes → l.waiting ≡ [] → AreEmpty (lanes ++ l ∷ [])
-empty_more lanes l h e = record {
-  each = λ j x at. elim (slice_get-snoc lanes l j x at) [
-    | inl old ↦ h.each j x old
-    | inr last ↦ subst (λ (w : LaneContent). w.waiting ≡ []) last.1 e
-  ];
-}
-
 -- one lane is written, and gains these messages
 pub gains_at : (lanes : List LaneContent) (slot : ℕ) (w l : LaneContent) (more : List PageMsg) → slice_get lanes slot ≡ Some w → l.waiting ≡ w.waiting ++ more → Gains slot more lanes (slice_set lanes slot l)
 gains_at lanes slot w l more at e = record { each = λ j x there. which j x there (cases_eq j slot) }
@@ -52,16 +42,6 @@ gains_at lanes slot w l more at e = record { each = λ j x there. which j x ther
         (w, ap (slice_get lanes) same ∙ at, ap (λ (v : LaneContent). v.waiting) (sym is) ∙ e ∙ ap (λ b. w.waiting ++ cond b more []) (sym (eq-eqb j slot same)))
     which j x there (inr differ) =
         (x, sym (get_set_other lanes slot j l differ) ∙ there, sym (append-nil x.waiting) ∙ ap (λ b. x.waiting ++ cond b more []) (sym (ne_eqb j slot differ)))
-
-pub gains_nothing : (lanes : List LaneContent) (slot : ℕ) → Gains slot [] lanes lanes
-gains_nothing lanes slot = record { each = λ j x there. (x, there, sym (append-nil x.waiting) ∙ ap (λ ms. x.waiting ++ ms) (nothing (j == slot))) }
-  where
-    none : List PageMsg
-    none = []
-
-    nothing : (b : Bool) → none ≡ cond b none none
-    nothing true = refl
-    nothing false = refl
 
 first_and_rest : (ms : List PageMsg) → ms ≡ option_to_list (slice_get ms 0) ++ drop 1 ms
 first_and_rest [] = refl
