@@ -63,8 +63,8 @@ ROWS = [
     ('again_setting -> again_basis (srm_timers)', G('again_setting', 'again_basis')),
     ('due_setting -> due_basis (srm_timers)', G('due_setting', 'due_basis')),
     # 8 pending
-    ('pending_asks, pending_fixes -> asks_that_ran_out, fixes_that_ran_out (srm_agent_parts)', G('pending_asks', 'asks_that_ran_out'), G('pending_fixes', 'fixes_that_ran_out')),
-    ('AsksPending, FixesPending -> AsksRanOut, FixesRanOut (srm_agent_parts)', G('AsksPending', 'AsksRanOut'), G('FixesPending', 'FixesRanOut')),
+    ('pending_asks, fixes_that_ran_out -> asks_that_ran_out, fixes_that_ran_out (srm_agent_parts)', G('pending_asks', 'asks_that_ran_out'), G('pending_fixes', 'fixes_that_ran_out')),
+    ('AsksPending, FixesRanOut -> AsksRanOut, FixesRanOut (srm_agent_parts)', G('AsksPending', 'AsksRanOut'), G('FixesPending', 'FixesRanOut')),
     # 9 fault
     ('Fault -> ScriptFault (srm_script)', D('srm_script', 'fault', 'Fault', 'ScriptFault'),
         E('edits/srm_script/a_bad_line_has_the_status_of_want_of_memory.edit', [
@@ -129,7 +129,7 @@ ROWS = [
     ('state_due -> expected_state (srm_entries)', G('state_due', 'expected_state')),
     ('echoes_due -> echoes_owed (srm_distance, srm_entries)', G('echoes_due', 'echoes_owed')),
     # 24 next
-    ('Timers::next -> next_moment (srm_agent_parts)', M('srm_agent_parts', 'timers', 'Timers', 'next', 'next_moment', answers=['crates/srm_agent/proofs/agent/Agent/next_due/*', 'crates/srm_agent/proofs/agent/Agent/next_moment/*']), R(r'self\.timers\.(next)\(', 'next_moment', ['crates/srm_agent/src/agent/next_due.rt'])),
+    ('Timers::next_moment -> next_moment (srm_agent_parts)', M('srm_agent_parts', 'timers', 'Timers', 'next', 'next_moment', answers=['crates/srm_agent/proofs/agent/Agent/next_due/*', 'crates/srm_agent/proofs/agent/Agent/next_moment/*']), R(r'self\.timers\.(next)\(', 'next_moment', ['crates/srm_agent/src/agent/next_due.rt'])),
     # 26 lost
     ('is_lost -> is_disconnected (srm_pages)', G('is_lost', 'is_disconnected')),
     # 27 played
@@ -219,7 +219,7 @@ ROWS = [
     s('srm_agent', 'Heeding', 'verdict_by', 'verdict_of_outcome'),
     s('srm_world', 'Worlds', 'Steps', 'Happens'),
     # two words for one meaning, and words that aren't whole
-    ('DrewFront, DrewFrontOf -> DrewPrefix, DrewPrefixOf (srm_member, srm_live)', G('DrewFront', 'DrewPrefix'), G('DrewFrontOf', 'DrewPrefixOf')),
+    ('DrewFront, DrewPrefixOf -> DrewPrefix, DrewPrefixOf (srm_member, srm_live)', G('DrewFront', 'DrewPrefix'), G('DrewFrontOf', 'DrewPrefixOf')),
     ('HearsFront -> HearsPrefix (srm_world)', G('HearsFront', 'HearsPrefix')),
     ('fresh -> new_data, the queue of new data (srm_bucket)', R(r'(?<![\w])(fresh)\b', 'new_data', ['crates/srm_bucket/src/queues.rt', 'crates/srm_bucket/specs/Waiting.antt', 'crates/srm_bucket/proofs/*']), R(r'\.(fresh)\b', 'new_data', ['crates/srm_outbox/proofs/Handing.antt'])),
     ('Sight, Deal -> LookoutView, DealerView (srm_pages)', S('srm_pages', 'specs.Seats', 'Sight', 'LookoutView'), S('srm_pages', 'specs.Seats', 'Deal', 'DealerView')),

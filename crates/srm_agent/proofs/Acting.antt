@@ -7,7 +7,7 @@ use Rattle.srm_names.proofs.Lists.{AllByRecursion-append}
 use Rattle.srm_codec.specs.declared.datagram.Datagram.{Datagram}
 use Rattle.srm_codec.specs.declared.datagram.Datagram.TheVariants.{Data, Request, Repair, Session}
 use Rattle.srm_timers.specs.declared.arm.Arm.{Arm}
-use Rattle.srm_timers.specs.Arms.{AreDrawn}
+use Rattle.srm_timers.specs.Arms.{AreChosen}
 use Rattle.srm_bucket.specs.declared.class.Class.TheVariants.{Shown, New, Other}
 use Rattle.srm_bucket.specs.Fits.{Stays as BucketStays}
 use Rattle.srm_bucket.specs.Waiting.{Waiting, SameQueues, queue, count_of}
@@ -24,8 +24,8 @@ use Rattle.srm_entries.specs.Configs.{Config}
 use Rattle.srm_agent.specs.Contents.{Content}
 use Rattle.srm_entries.specs.Entries.{state, is_gone, is_leaving}
 use Rattle.srm_entries.specs.Timers.{low_of, high_of, TimersRight}
-use Rattle.srm_entries.specs.Sessions.{is_session, is_farewell, session_pause, IsReport, ending}
-use Rattle.srm_entries.specs.Runs.{state_due}
+use Rattle.srm_entries.specs.Sessions.{is_session, is_farewell, session_interval, IsReport, ending}
+use Rattle.srm_entries.specs.Runs.{expected_state}
 use Rattle.srm_agent.specs.Fits.{Fits, BucketFits}
 use Rattle.srm_agent_parts.specs.TimersKept.{TimersFit}
 use Rattle.srm_outbox.specs.Outs.{IsOut, IsOutgoing, IsOwn, AreOwn}
@@ -103,8 +103,8 @@ report_sent : {W : Type 0} (a : Content W) (moment : ℕ) (farewell : Bool) (r :
 report_sent a moment farewell r h = subst (IsSent a.config.me) (sym h.report.outgoing.noted) (record { sender = h.report.report.sender; spellable = h.report.report.spellable })
 
 report_next : {W : Type 0} (c : Config) (made : ℕ) (past : List Entry) (a : Content W) (moment : ℕ) (farewell : Bool) (r : Report) → Fits c made past a → IsReportAt a moment farewell r
-    → r.next ≡ moment + session_pause c past r.outgoing.noted
-report_next c made past a moment farewell r fits h = h.next c made past fits ∙ ap (λ g. moment + session_pause c past g) (sym h.report.outgoing.noted)
+    → r.next ≡ moment + session_interval c past r.outgoing.noted
+report_next c made past a moment farewell r fits h = h.next c made past fits ∙ ap (λ g. moment + session_interval c past g) (sym h.report.outgoing.noted)
 
 report_is : {W : Type 0} (c : Config) (made : ℕ) (past : List Entry) (a : Content W) (moment : ℕ) (farewell : Bool) (r : Report) → Fits c made past a → IsReportAt a moment farewell r → IsReport c past moment farewell r.outgoing.noted
 report_is c made past a moment farewell r fits h = subst (IsReport c past moment farewell) (sym h.report.outgoing.noted) (h.report.report.right c made past fits)
@@ -129,7 +129,7 @@ ends_in c made past a moment fits Leaving true is_due farewell report here f r =
 ends_in c made past a moment fits Leaving false is_due None report here f r = absurd (let k : true ≡ false = f in cc)
 ends_in c made past a moment fits Leaving false is_due (Some x) report here f r = report_is c made past a moment true x fits f.1
 
-due_is_by : (c : Config) (past : List Entry) (moment old : ℕ) (last : Option Report) → IfSome last (λ r. r.next ≡ moment + session_pause c past r.outgoing.noted)
+due_is_by : (c : Config) (past : List Entry) (moment old : ℕ) (last : Option Report) → IfSome last (λ r. r.next ≡ moment + session_interval c past r.outgoing.noted)
     → due_then last old ≡ due_by c past moment old (option_map noted_of last)
 due_is_by c past moment old None h = refl
 due_is_by c past moment old (Some r) h = h
@@ -146,23 +146,23 @@ only_last : (went : List Datagram) (o : Option Datagram) → NoSessions went →
 only_last [] o none = refl
 only_last (g ∷ gs) o none = ap (λ b. b || list_any is_farewell (gs ++ option_to_list o)) (no_farewell g none.0) ∙ only_last gs o none.1
 
-stays_here : (old : AgentState) → is_gone old ≡ false → old ≡ state_due old false (Some Ticked)
+stays_here : (old : AgentState) → is_gone old ≡ false → old ≡ expected_state old false (Some Ticked)
 stays_here Active h = refl
 stays_here Leaving h = refl
 stays_here Gone h = refl
 
 report_state : {W : Type 0} (a : Content W) (moment : ℕ) (old : AgentState) → is_gone old ≡ false → (is_due : Bool) (report : Option Report) → IsReportIf is_due a moment false report
-    → old ≡ state_due old (list_any is_farewell (option_to_list (option_map noted_of report))) (Some Ticked)
+    → old ≡ expected_state old (list_any is_farewell (option_to_list (option_map noted_of report))) (Some Ticked)
 report_state a moment old here is_due None h = stays_here old here
-report_state a moment old here is_due (Some r) h = stays_here old here ∙ ap (λ b. state_due old (b || false) (Some Ticked)) (sym (report_leaves a moment false r h.1))
+report_state a moment old here is_due (Some r) h = stays_here old here ∙ ap (λ b. expected_state old (b || false) (Some Ticked)) (sym (report_leaves a moment false r h.1))
 
 state_is : {W : Type 0} (a : Content W) (moment : ℕ) (old : AgentState) (waits is_due : Bool) (farewell report : Option Report) → is_gone old ≡ false
     → IsReportIf (is_leaving old) a moment true farewell → IsReportIf is_due a moment false report
-    → state_after waits farewell old ≡ state_due old (list_any is_farewell (option_to_list (option_map noted_of (last_report waits farewell report)))) (Some Ticked)
+    → state_after waits farewell old ≡ expected_state old (list_any is_farewell (option_to_list (option_map noted_of (last_report waits farewell report)))) (Some Ticked)
 state_is a moment old true is_due None report here f r = report_state a moment old here is_due report r
 state_is a moment old true is_due (Some x) report here f r = report_state a moment old here is_due report r
 state_is a moment old false is_due None report here f r = report_state a moment old here is_due report r
-state_is a moment old false is_due (Some x) report here f r = ap (λ b. state_due old (b || false) (Some Ticked)) (sym (report_leaves a moment true x f.1))
+state_is a moment old false is_due (Some x) report here f r = ap (λ b. expected_state old (b || false) (Some Ticked)) (sym (report_leaves a moment true x f.1))
 
 not_twice : (b : Bool) → not (not b) ≡ b
 not_twice true = refl
@@ -249,10 +249,10 @@ acts_fits draw a b d f z moment due arms went last outs c made past s h =
 
     due_right : z.due ≡ due_by c past moment a.due o
     due_right = ap (λ x. x.due) s.ended ∙ ap (due_then last) (ap (λ x. x.due) s.sent_rest ∙ ap (λ x. x.due) s.handed_rest ∙ ap (λ x. x.due) s.room)
-        ∙ due_is_by c past moment a.due last (subst (λ l. IfSome l (λ r. r.next ≡ moment + session_pause c past r.outgoing.noted)) (sym s.last_is)
-        (each_last (λ r. r.next ≡ moment + session_pause c past r.outgoing.noted) waits due.farewell due.report
-        (if_some a moment true (λ r. r.next ≡ moment + session_pause c past r.outgoing.noted) (λ r k. report_next c made past a moment true r h k) (is_leaving a.state) due.farewell s.due_is.farewell)
-        (if_some a moment false (λ r. r.next ≡ moment + session_pause c past r.outgoing.noted) (λ r k. report_next c made past a moment false r h k) is_due due.report s.due_is.report)))
+        ∙ due_is_by c past moment a.due last (subst (λ l. IfSome l (λ r. r.next ≡ moment + session_interval c past r.outgoing.noted)) (sym s.last_is)
+        (each_last (λ r. r.next ≡ moment + session_interval c past r.outgoing.noted) waits due.farewell due.report
+        (if_some a moment true (λ r. r.next ≡ moment + session_interval c past r.outgoing.noted) (λ r k. report_next c made past a moment true r h k) (is_leaving a.state) due.farewell s.due_is.farewell)
+        (if_some a moment false (λ r. r.next ≡ moment + session_interval c past r.outgoing.noted) (λ r k. report_next c made past a moment false r h k) is_due due.report s.due_is.report)))
 
     in_bucket : BucketFits c (past ++ e ∷ []) f.bucket
     in_bucket = bucket_ticks c d.config.session past e d.bucket s.sent.handed f.bucket a.showing s.due_is.answers.datagrams due.answers.items went
@@ -265,12 +265,12 @@ acts_fits draw a b d f z moment due arms went last outs c made past s h =
     ending_right = ending_is c made past e a.state waits is_due refl h.state
         (not_twice (length (queue f.bucket.waiting New) == 0) ∙ sym (all_sent c (past ++ e ∷ []) f.bucket in_bucket)) (ap (λ n. nat_le n moment) h.due)
 
-    state_right : z.state ≡ state_due (state past) (list_any is_farewell outs) (Some Ticked)
+    state_right : z.state ≡ expected_state (state past) (list_any is_farewell outs) (Some Ticked)
     state_right = ap (λ x. x.state) s.ended ∙ ap (state_after waits due.farewell) (ap (λ x. x.state) s.sent_rest ∙ ap (λ x. x.state) s.handed_rest ∙ ap (λ x. x.state) s.room)
         ∙ state_is a moment a.state waits is_due due.farewell due.report s.here s.due_is.farewell s.due_is.report
-        ∙ ap (λ l. state_due a.state (list_any is_farewell (option_to_list (option_map noted_of l))) (Some Ticked)) (sym s.last_is)
-        ∙ ap (λ b. state_due a.state b (Some Ticked)) (sym (only_last went.noted o none)) ∙ ap (λ gs. state_due a.state (list_any is_farewell gs) (Some Ticked)) (sym s.outs_are)
-        ∙ ap (λ st. state_due st (list_any is_farewell outs) (Some Ticked)) h.state
+        ∙ ap (λ l. expected_state a.state (list_any is_farewell (option_to_list (option_map noted_of l))) (Some Ticked)) (sym s.last_is)
+        ∙ ap (λ b. expected_state a.state b (Some Ticked)) (sym (only_last went.noted o none)) ∙ ap (λ gs. expected_state a.state (list_any is_farewell gs) (Some Ticked)) (sym s.outs_are)
+        ∙ ap (λ st. expected_state st (list_any is_farewell outs) (Some Ticked)) h.state
 
     right : TickRight c made past e wanted went.noted o
     right = record {
@@ -340,8 +340,8 @@ acts_ticks draw a b d f z moment due arms went last outs answered s is = record 
     fits = λ c made past h. subst (λ x. Fits c made (past ++ x ∷ []) z)
         (ap (λ gs. tick_entry c.me moment due.handed.asks due.handed.fixes arms gs z.state) same.0 ∙ ap (λ k. tick_entry k.me moment due.handed.asks due.handed.fixes arms (datagrams_of answered) z.state) (sym h.config))
         (acts_fits draw a b d f z moment due arms went last outs c made past s h);
-    words = subst (λ w. AreDrawn draw (low_of a.config) (high_of a.config) a.words arms w) (sym (ap (λ x. x.words) s.ended ∙ ap (λ x. x.words) s.sent_rest))
-        (subst (λ k. AreDrawn draw (low_of k) (high_of k) a.words arms d.words) (ap (λ x. x.config) s.room) (subst (λ w. AreDrawn draw (low_of b.config) (high_of b.config) w arms d.words) (ap (λ x. x.words) s.room) s.handed.drawn));
+    words = subst (λ w. AreChosen draw (low_of a.config) (high_of a.config) a.words arms w) (sym (ap (λ x. x.words) s.ended ∙ ap (λ x. x.words) s.sent_rest))
+        (subst (λ k. AreChosen draw (low_of k) (high_of k) a.words arms d.words) (ap (λ x. x.config) s.room) (subst (λ w. AreChosen draw (low_of b.config) (high_of b.config) w arms d.words) (ap (λ x. x.words) s.room) s.handed.drawn));
   };
   spelled = same.1;
 }

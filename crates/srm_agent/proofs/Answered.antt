@@ -15,7 +15,7 @@ use Rattle.srm_entries.specs.declared.entry.Input.TheVariants.{Heard, Noise}
 use Rattle.srm_entries.specs.Entries.{is_gone}
 use Rattle.srm_agent.specs.declared.heard.Heard as answers
 use Rattle.srm_agent.specs.Contents.{Content}
-use Rattle.srm_agent.specs.Heeding.{HeardAs, IsJudgedBy, IsNoiseFor, entry_by, heard_entry, verdict_by}
+use Rattle.srm_agent.specs.Heeding.{HeardAs, IsJudgedBy, IsNoiseFor, entry_by, heard_entry, verdict_of_outcome}
 use Rattle.srm_agent.specs.Noting.{AnswersHeard, Enters, IsOutcome}
 use Rattle.srm_agent.proofs.Ignoring.{gone_enters, gone_reads, heard_reads, ignored_entry, noise_reads, read_enters}
 
@@ -28,7 +28,7 @@ ignored_by a moment input cause h is = ap (entry_by a moment input) is
 pub answers_by : {W : Type 0} (a : Content W) (moment : ℕ) (input : Input) (h : answers.Heard) → AnswersHeard (entry_by a moment input h) (Ok h)
 answers_by a moment input h = (refl, outcome h.outcome)
   where
-    outcome : (o : Outcome) → IsOutcome (verdict_by o) o
+    outcome : (o : Outcome) → IsOutcome (verdict_of_outcome o) o
     outcome outcomes.Taken = refl
     outcome (outcomes.Ignored cause) = refl
 

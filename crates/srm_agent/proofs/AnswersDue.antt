@@ -12,7 +12,7 @@ use Rattle.srm_store.specs.Finals.{Settling}
 use Rattle.srm_store.specs.Fits as store
 use Rattle.srm_outbox.specs.declared.answers.Answer.{Answer}
 use Rattle.srm_entries.specs.Configs.{Config}
-use Rattle.srm_entries.specs.Entries.{held, shown_to_exist}
+use Rattle.srm_entries.specs.Entries.{held, evidence_in}
 use Rattle.srm_entries.specs.Verdicts.{settlings}
 use Rattle.srm_entries.specs.Packing.{packed}
 use Rattle.srm_agent.specs.Contents.{Content}
@@ -20,13 +20,13 @@ use Rattle.srm_agent.specs.Answering.{AnswersDue}
 use Rattle.srm_outbox.specs.Answering.{AreAnswers}
 
 pub answers_due : {W D E : Type 0} (a : Content W) (me session : ℕ) (asks fixes : List FullName) (gs : List Datagram) (items_of : D → List Answer) (r : Result D E) → me ≡ a.config.me → session ≡ a.config.session
-    → ((held : List Drawop) (shown : List FullName) (settled : List Settling) → store.Fits held shown settled a.store → AllByRecursion is_drawop held → gs ≡ packed me asks ++ filter_map (λ n. option_map (Repair me) (held_at held n)) fixes)
+    → ((held : List Drawop) (evidence : List FullName) (settled : List Settling) → store.Fits held evidence settled a.store → AllByRecursion is_drawop held → gs ≡ packed me asks ++ filter_map (λ n. option_map (Repair me) (held_at held n)) fixes)
     → IfOk r (λ d. AreAnswers me session a.showing gs (items_of d)) → IfOk r (λ d. AnswersDue a asks fixes (items_of d))
 answers_due a me session asks fixes gs items_of (Err e) same_me same_session value are = tt
 answers_due a me session asks fixes gs items_of (Ok d) same_me same_session value are = record {
   datagrams = gs;
   spelled = subst (λ m. AreAnswers m a.config.session a.showing gs (items_of d)) same_me (subst (λ n. AreAnswers me n a.showing gs (items_of d)) same_session are);
   value = λ c made past h.
-      value (held past) (shown_to_exist past) (settlings past) h.store h.spelled
+      value (held past) (evidence_in past) (settlings past) h.store h.spelled
       ∙ ap (λ m. packed m asks ++ filter_map (λ n. option_map (Repair m) (held_at (held past) n)) fixes) (same_me ∙ ap (λ (s : Config). s.me) h.config);
 }

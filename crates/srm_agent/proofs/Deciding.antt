@@ -16,7 +16,7 @@ use Rattle.srm_entries.specs.Causes.{ignored_for}
 use Rattle.srm_entries.specs.Configs.{Config}
 use Rattle.srm_entries.specs.Entries.{is_gone, state, known, held_at, drawops_in}
 use Rattle.srm_agent_parts.specs.PageTables.{lacks_room_for}
-use Rattle.srm_entries.specs.Verdicts.{verdict_of, first_cause, is_stranger, is_beyond, is_short, overflows, differs, drawn_in, stream_on}
+use Rattle.srm_entries.specs.Verdicts.{verdict_of, first_cause, is_stranger, is_beyond, says_too_little, overflows, differs, drawn_in, stream_on}
 use Rattle.srm_agent.specs.Contents.{Content}
 use Rattle.srm_agent.specs.Fits.{Fits}
 
@@ -47,13 +47,13 @@ same_room : {W : Type 0} (c : Config) (made : ℕ) (past : List Entry) (a : Cont
     → overflows past (map (λ (n : FullName). n.stream.page) (names_in g)) ≡ b
 same_room c made past a g names b j e = ap (λ ps. lacks_room_for ps (names_in g)) (sym j.fits.pages) ∙ ap (lacks_room_for a.pages) (sym j.of) ∙ e
 
-same_beyond : {W : Type 0} (c : Config) (made : ℕ) (past : List Entry) (a : Content W) (g : Datagram) (names : List FullName) (b : Bool) → Judged c made past a g names → (list_any (is_beyond c.me past) names || is_short past g) ≡ b
-    → (list_any (is_beyond c.me past) (names_in g) || is_short past g) ≡ b
-same_beyond c made past a g names b j e = ap (λ ns. list_any (is_beyond c.me past) ns || is_short past g) (sym j.of) ∙ e
+same_beyond : {W : Type 0} (c : Config) (made : ℕ) (past : List Entry) (a : Content W) (g : Datagram) (names : List FullName) (b : Bool) → Judged c made past a g names → (list_any (is_beyond c.me past) names || says_too_little past g) ≡ b
+    → (list_any (is_beyond c.me past) (names_in g) || says_too_little past g) ≡ b
+same_beyond c made past a g names b j e = ap (λ ns. list_any (is_beyond c.me past) ns || says_too_little past g) (sym j.of) ∙ e
 
 -- the first cause found is the verdict
 pub first_judged : {W : Type 0} (c : Config) (made : ℕ) (past : List Entry) (a : Content W) (g : Datagram) (names : List FullName) (own stranger full beyond conflicting : Bool) (o : Option Cause) → Judged c made past a g names
-    → own ≡ (sender_of g == a.config.me) → stranger ≡ is_stranger a.config g → full ≡ lacks_room_for a.pages names → beyond ≡ (list_any (is_beyond c.me past) names || is_short past g)
+    → own ≡ (sender_of g == a.config.me) → stranger ≡ is_stranger a.config g → full ≡ lacks_room_for a.pages names → beyond ≡ (list_any (is_beyond c.me past) names || says_too_little past g)
     → conflicting ≡ list_any (λ d. differs d (held_at past d.name)) (drawops_in (Some g))
     → ignored_for o ≡ first_cause ((own, Ignored causes.Own) ∷ (stranger, Ignored causes.Stranger) ∷ (full, Ignored causes.PageLimit) ∷ (beyond, Ignored causes.BeyondFinal) ∷ (conflicting, Ignored causes.Conflict) ∷ [])
     → ignored_for o ≡ verdict_of c past (Heard g)

@@ -7,7 +7,7 @@ use Rattle.std.proofs.lemmas.Bool.Decides.{nat_tests}
 use Rattle.std.proofs.lemmas.Option.{none-some, same_Some}
 use Rattle.std.proofs.lemmas.List.{append-nil, map-append, length-append}
 use Rattle.std.proofs.lemmas.List.Elements.{filter-append, filter_map-append}
-use Rattle.srm_names.specs.declared.limits.TheConstants.{PAGES, DRAWOPS, BODY}
+use Rattle.srm_names.specs.declared.limits.TheConstants.{PAGES, DRAWOPS, LONGEST_BODY}
 use Rattle.srm_names.specs.declared.page.Page.{Page}
 use Rattle.srm_names.specs.declared.stream.Stream.{Stream}
 use Rattle.srm_names.specs.declared.drawop.Drawop.{Drawop}
@@ -26,7 +26,7 @@ use Rattle.srm_store.specs.Finals.{Settling}
 use Rattle.srm_store.specs.Fits.{StillFits}
 use Rattle.srm_store.specs.Fits as store
 use Rattle.srm_store.proofs.Pages.{length-included, each_once-firsts, is_in-firsts}
-use Rattle.srm_timers.specs.Arms.{Setting}
+use Rattle.srm_timers.specs.Arms.{WaitBasis}
 use Rattle.srm_bucket.specs.declared.class.Class.TheVariants.{New}
 use Rattle.srm_bucket.specs.declared.item.Item.{Item}
 use Rattle.srm_bucket.specs.Calls.{Classed, Handed}
@@ -42,15 +42,15 @@ use Rattle.srm_entries.specs.declared.entry.Verdict.{Verdict}
 use Rattle.srm_entries.specs.declared.entry.Verdict.TheVariants.{Done, Refused}
 use Rattle.srm_outbox.specs.declared.out.Outgoing.{Outgoing}
 use Rattle.srm_entries.specs.Configs.{Config}
-use Rattle.srm_entries.specs.Entries.{done, heard, held, shown_by, shown_to_exist, drawn, is_held, is_missing, known, slots, pages_in, state, is_gone, is_leaving, last_moment}
+use Rattle.srm_entries.specs.Entries.{done, accepted, held, evidence_by, evidence_in, drawn, is_held, is_missing, known, slots, pages_in, state, is_gone, is_leaving, last_moment}
 use Rattle.srm_entries.specs.Distances.{distance_calls, calls_in}
-use Rattle.srm_entries.specs.Timers.{last_ask, fix_running, held_off, asker, setting_of, fix_setting, ask_setting, ask_exponent, ArmsRight, TimersRight}
+use Rattle.srm_entries.specs.Timers.{last_ask, fix_running, held_off, asker, basis_of, fix_basis_of, ask_basis_of, ask_exponent, ArmsRight, TimersRight}
 use Rattle.srm_entries.specs.Verdicts.{first_cause, verdict_of, overflows, drawn_in, stream_on, settlings, settling_of}
-use Rattle.srm_entries.specs.Sessions.{session_due, pause_after, is_session}
-use Rattle.srm_entries.specs.Bucket.{Going, GoesRight, bucket_calls, classed}
+use Rattle.srm_entries.specs.Sessions.{session_due, interval_after, is_session}
+use Rattle.srm_entries.specs.Bucket.{Going, GoesAsCharged, bucket_calls, classed}
 use Rattle.srm_entries.specs.Runs.{EntryRight}
 use Rattle.srm_agent_parts.specs.PageTables.{with_page}
-use Rattle.srm_agent_parts.specs.TimersKept.{TimersContent, TimersFit, shown_if}
+use Rattle.srm_agent_parts.specs.TimersKept.{TimersContent, TimersFit, only_if}
 use Rattle.srm_agent.specs.Contents.{Content}
 use Rattle.srm_agent.specs.Fits.{Fits, EachProgressFits, BucketFits}
 use Rattle.srm_outbox.specs.Outs.{datagram_of, IsOwn}
@@ -74,15 +74,15 @@ use Rattle.srm_agent.proofs.Entering.{later, moves_on, refused_enters}
 abbrev pages_heard : List Entry → List Page
 pages_heard es = flat_map (λ (e : Entry). pages_in (done e)) es
 
-pages_there : (c : Config) (made : ℕ) (es : List Entry) → AllByRecursion (EntryRight c made) (steps es) → (n : FullName) → Has n (shown_to_exist es) → Has n.stream.page (pages_heard es)
-pages_there c made es all = along (EntryRight c made) (λ xs. (n : FullName) → Has n (shown_to_exist xs) → Has n.stream.page (pages_heard xs))
+pages_there : (c : Config) (made : ℕ) (es : List Entry) → AllByRecursion (EntryRight c made) (steps es) → (n : FullName) → Has n (evidence_in es) → Has n.stream.page (pages_heard es)
+pages_there c made es all = along (EntryRight c made) (λ xs. (n : FullName) → Has n (evidence_in xs) → Has n.stream.page (pages_heard xs))
     (λ before e p right n h. subst (λ ps. Has n.stream.page ps) (sym (flat_map-snoc (λ (x : Entry). pages_in (done x)) before e))
-    (elim (Has-append n (shown_to_exist before) (shown_by e) (subst (λ ns. Has n ns) (shown-snoc before e) h)) [
+    (elim (Has-append n (evidence_in before) (evidence_by e) (subst (λ ns. Has n ns) (shown-snoc before e) h)) [
       | inl l ↦ Has-front n.stream.page (pages_heard before) (pages_in (done e)) (p n l)
       | inr r ↦ Has-back n.stream.page (pages_heard before) (pages_in (done e)) (here before e right n r)
     ])) [] es (λ n h. absurd h) all
   where
-    here : (before : List Entry) (e : Entry) → EntryRight c made (record { before = before; this = e }) → (n : FullName) → Has n (shown_by e) → Has n.stream.page (pages_in (done e))
+    here : (before : List Entry) (e : Entry) → EntryRight c made (record { before = before; this = e }) → (n : FullName) → Has n (evidence_by e) → Has n.stream.page (pages_in (done e))
     here before e right n h = elim (kind c made before e right) [
       | inl drew ↦ elim (subst (λ ns. Has n ns) (shown_drawing c before e drew) h) [
         | inl q ↦ subst (λ o. Has n.stream.page (pages_in o)) (sym drew.2) (inl (ap (λ (m : FullName). m.stream.page) q))
@@ -112,14 +112,14 @@ has_in (q ∷ ps) p (inr h) = rw (has_in ps p h) (last (same_page q p))
     last false = refl
 
 -- so where the page table has room for pages, the store has slots for them
-named_there : (c : Config) (made : ℕ) (es : List Entry) → AllByRecursion (EntryRight c made) (steps es) → (q : Page) → is_in (pages_named (held es) (shown_to_exist es)) q ≡ true → is_in (slots es) q ≡ true
-named_there c made es all q h = is_in-firsts (first_page ∷ pages_heard es) q ∙ has_in (first_page ∷ pages_heard es) q (there (in_has (pages_named (held es) (shown_to_exist es)) q h))
+named_there : (c : Config) (made : ℕ) (es : List Entry) → AllByRecursion (EntryRight c made) (steps es) → (q : Page) → is_in (pages_named (held es) (evidence_in es)) q ≡ true → is_in (slots es) q ≡ true
+named_there c made es all q h = is_in-firsts (first_page ∷ pages_heard es) q ∙ has_in (first_page ∷ pages_heard es) q (there (in_has (pages_named (held es) (evidence_in es)) q h))
   where
-    there : Has q (pages_named (held es) (shown_to_exist es)) → Has q (first_page ∷ pages_heard es)
+    there : Has q (pages_named (held es) (evidence_in es)) → Has q (first_page ∷ pages_heard es)
     there (inl e) = inl e
-    there (inr r) = inr (elim (Has-append q (map page_of_drawop (held es)) (map page_of_name (shown_to_exist es)) r) [
+    there (inr r) = inr (elim (Has-append q (map page_of_drawop (held es)) (map page_of_name (evidence_in es)) r) [
       | inl l ↦ let (d, in_held, e) = Has-map page_of_drawop q (held es) l in subst (λ p. Has p (pages_heard es)) (sym e) (pages_there c made es all d.name (held_is_shown es d in_held))
-      | inr s ↦ let (n, in_shown, e) = Has-map page_of_name q (shown_to_exist es) s in subst (λ p. Has p (pages_heard es)) (sym e) (pages_there c made es all n in_shown)
+      | inr s ↦ let (n, in_shown, e) = Has-map page_of_name q (evidence_in es) s in subst (λ p. Has p (pages_heard es)) (sym e) (pages_there c made es all n in_shown)
     ])
 
 in_append : (q : Page) (xs ys zs : List Page) → (is_in xs q ≡ true → is_in ys q ≡ true) → is_in (xs ++ zs) q ≡ true → is_in (ys ++ zs) q ≡ true
@@ -128,12 +128,12 @@ in_append q xs ys zs more h = elim (Has-append q xs zs (in_has (xs ++ zs) q h)) 
   | inr r ↦ has_in (ys ++ zs) q (Has-back q ys zs r)
 ]
 
-pub slots_suffice : (c : Config) (made : ℕ) (es : List Entry) (pages : List Page) → AllByRecursion (EntryRight c made) (steps es) → overflows es pages ≡ false → outgrow (held es) (shown_to_exist es) pages ≡ false
+pub slots_suffice : (c : Config) (made : ℕ) (es : List Entry) (pages : List Page) → AllByRecursion (EntryRight c made) (steps es) → overflows es pages ≡ false → outgrow (held es) (evidence_in es) pages ≡ false
 slots_suffice c made es pages all fine =
-    let named : List Page = pages_named (held es) (shown_to_exist es) ++ pages in
+    let named : List Page = pages_named (held es) (evidence_in es) ++ pages in
     let table : List Page = slots es ++ pages in
     let fewer = length-included (firsts same_page named) (firsts same_page table) (each_once-firsts named)
-    (λ q h. is_in-firsts table q ∙ in_append q (pages_named (held es) (shown_to_exist es)) (slots es) pages (named_there c made es all q) (sym (is_in-firsts named q) ∙ h)) in
+    (λ q h. is_in-firsts table q ∙ in_append q (pages_named (held es) (evidence_in es)) (slots es) pages (named_there c made es all q) (sym (is_in-firsts named q) ∙ h)) in
     let few : nat_lt PAGES (length (firsts same_page table)) ≡ false = fine in
     within (length (firsts same_page named)) (length (firsts same_page table)) fewer few
   where
@@ -224,7 +224,7 @@ module _ (me moment : ℕ) (page : Page) (body : List ℕ) (stamp : ℕ) (after 
   drawn_arms : (c : Config) → ArmsRight c past e
   drawn_arms c = record { in_order = refl; exact = λ n. sym (none n (is_held past n) refl); waits = tt }
     where
-      nothing : (b : Bool) (o : Option Setting) → o ≡ None → (if b then o else None) ≡ None
+      nothing : (b : Bool) (o : Option WaitBasis) → o ≡ None → (if b then o else None) ≡ None
       nothing true o e = e
       nothing false o e = refl
 
@@ -232,9 +232,9 @@ module _ (me moment : ℕ) (page : Page) (body : List ℕ) (stamp : ℕ) (after 
       exponent n true m = rw m refl
       exponent n false m = rw (m, drawn_missing n ∙ m) refl
 
-      none : (n : FullName) (b : Bool) → is_held past n ≡ b → setting_of c.me past e n ≡ None
-      none n true q = ap (λ (b : Bool). if b then fix_setting c.me past e n else ask_setting c.me past e n) q ∙ nothing (is_held past n && not (is_some (fix_running past n)) && not (held_off c.me past n moment)) None refl
-      none n false q = ap (λ (b : Bool). if b then fix_setting c.me past e n else ask_setting c.me past e n) q ∙ ap (option_map (ask_at c.me (past ++ e ∷ []) n)) (exponent n (is_missing past n) refl)
+      none : (n : FullName) (b : Bool) → is_held past n ≡ b → basis_of c.me past e n ≡ None
+      none n true q = ap (λ (b : Bool). if b then fix_basis_of c.me past e n else ask_basis_of c.me past e n) q ∙ nothing (is_held past n && not (is_some (fix_running past n)) && not (held_off c.me past n moment)) None refl
+      none n false q = ap (λ (b : Bool). if b then fix_basis_of c.me past e n else ask_basis_of c.me past e n) q ∙ ap (option_map (ask_at c.me (past ++ e ∷ []) n)) (exponent n (is_missing past n) refl)
 
   drawn_timers : TimersRight past e
   drawn_timers = record {
@@ -247,7 +247,7 @@ module _ (me moment : ℕ) (page : Page) (body : List ℕ) (stamp : ℕ) (after 
   timers_kept c t h = record {
     ask_calls = h.ask_calls;
     asks = h.asks;
-    ask_timers = λ n. h.ask_timers n ∙ sym (ap (λ b. shown_if b (last_ask (past ++ e ∷ []) n)) (drawn_missing n) ∙ ap (shown_if (is_missing past n)) (last_ask-snoc past e n));
+    ask_timers = λ n. h.ask_timers n ∙ sym (ap (λ b. only_if b (last_ask (past ++ e ∷ []) n)) (drawn_missing n) ∙ ap (only_if (is_missing past n)) (last_ask-snoc past e n));
     fix_calls = h.fix_calls;
     fixes = h.fixes;
     fix_timers = λ n. h.fix_timers n ∙ sym (fix_running-snoc past e n);
@@ -267,7 +267,7 @@ module _ (me moment : ℕ) (page : Page) (body : List ℕ) (stamp : ℕ) (after 
   bucket_gains c a b item is charged adds h = record {
     goings = h.goings ++ going ∷ [];
     entries = entries-snoc h.goings going ∙ ap (λ es. es ++ e ∷ []) h.entries;
-    goes = steps_more GoesRight h.goings going h.goes (record { same = refl; at_ticks = refl });
+    goes = steps_more GoesAsCharged h.goings going h.goes (record { same = refl; at_ticks = refl });
     calls = h.calls ++ Handed (record { class = New; item = item }) ∷ [];
     read =
         map-append (read_call datagram_of) h.calls (Handed (record { class = New; item = item }) ∷ [])
@@ -282,7 +282,7 @@ module _ (me moment : ℕ) (page : Page) (body : List ℕ) (stamp : ℕ) (after 
           ∙ ap (λ k. let x : Classed Datagram = record { class = New; item = record { value = Data d; length = k } } in x) charged
 
   same_session_due : (c : Config) (made : ℕ) → session_due c made (past ++ e ∷ []) ≡ session_due c made past
-  same_session_due c made = ap (λ o. unwrap_or o (made + 1000000)) (ap (last_of (pause_after c)) (steps-snoc past e) ∙ last_of-snoc (pause_after c) (steps past) (record { before = past; this = e }))
+  same_session_due c made = ap (λ o. unwrap_or o (made + 1000000)) (ap (last_of (interval_after c)) (steps-snoc past e) ∙ last_of-snoc (interval_after c) (steps past) (record { before = past; this = e }))
 
   -- what was drawn is what is known
   own_kept : (page2 : Page) → drawn_in past (stream_on me page2) ≡ known past (stream_on me page2) → drawn_in (past ++ e ∷ []) (stream_on me page2) ≡ known (past ++ e ∷ []) (stream_on me page2)
@@ -301,7 +301,7 @@ module _ (me moment : ℕ) (page : Page) (body : List ℕ) (stamp : ℕ) (after 
       go false q = rw q (omega (arith, h))
 
   settlings_kept : settlings (past ++ e ∷ []) ≡ settlings past
-  settlings_kept = filter_map-append (λ (x : Entry). settling_of (heard x)) past (e ∷ []) ∙ append-nil (settlings past)
+  settlings_kept = filter_map-append (λ (x : Entry). settling_of (accepted x)) past (e ∷ []) ∙ append-nil (settlings past)
 
   distances_kept : (n : ℕ) → distance_calls n (past ++ e ∷ []) ≡ distance_calls n past
   distances_kept n = flat_map-snoc (calls_in n) past e ∙ append-nil (distance_calls n past)
@@ -375,14 +375,14 @@ full_last c past page = (nat_le DRAWOPS (drawn_in past (stream_on c.me page)), R
 
 -- the first four as the agent keeps them
 kept_refusals : {W : Type 0} (c : Config) (made : ℕ) (past : List Entry) (a : Content W) (page : Page) (body : List ℕ) (v : Verdict) → Fits c made past a
-    → v ≡ first_cause (refusals a.state a.pages page (length body)) → v ≡ first_cause (in_turn (is_gone (state past)) (is_leaving (state past)) (nat_lt BODY (length body)) (overflows past (page ∷ [])) [])
+    → v ≡ first_cause (refusals a.state a.pages page (length body)) → v ≡ first_cause (in_turn (is_gone (state past)) (is_leaving (state past)) (nat_lt LONGEST_BODY (length body)) (overflows past (page ∷ [])) [])
 kept_refusals c made past a page body v h r = r ∙ ap (λ s. first_cause (refusals s a.pages page (length body))) h.state ∙ ap (λ ps. first_cause (refusals (state past) ps page (length body))) h.pages
 
 pub draw_refused : {W : Type 0} (draw : W → ℕ × W) (a : Content W) (now moment : ℕ) (page : Page) (body : List ℕ) (fault : AgentFault) (x : Entry) → Refused fault ≡ first_cause (refusals a.state a.pages page (length body))
     → x ≡ still_entry a.config.me moment (Drew page body) (Refused fault) None a.state → moment ≡ max now a.last → Enters draw (Some now) (Drew page body) a a x
 draw_refused draw a now moment page body fault x refused is at =
     refused_enters draw a now moment (Drew page body) fault x is at refl refl (λ j. refl) (λ c past. refl)
-    (λ c made past h. first_stays (is_gone (state past)) (is_leaving (state past)) (nat_lt BODY (length body)) (overflows past (page ∷ [])) (full_last c past page) fault (kept_refusals c made past a page body (Refused fault) h refused))
+    (λ c made past h. first_stays (is_gone (state past)) (is_leaving (state past)) (nat_lt LONGEST_BODY (length body)) (overflows past (page ∷ [])) (full_last c past page) fault (kept_refusals c made past a page body (Refused fault) h refused))
 
 full_name : (s : Stream) (k : ℕ) → None ≡ name_after s k → nat_le DRAWOPS k ≡ true
 full_name s k none = go (nat_le DRAWOPS k) refl
@@ -412,7 +412,7 @@ draw_full draw a now moment page body x fine none is at =
     refused_enters draw a now moment (Drew page body) faults.StreamFull x is at refl refl (λ j. refl) (λ c past. refl)
     (λ c made past h.
     fullness c made past a page true h (full_name (stream_on c.me page) (known past (stream_on c.me page)) (none c made past h))
-    ∙ last_counts (is_gone (state past)) (is_leaving (state past)) (nat_lt BODY (length body)) (overflows past (page ∷ [])) (full_last c past page) (kept_refusals c made past a page body Done h fine))
+    ∙ last_counts (is_gone (state past)) (is_leaving (state past)) (nat_lt LONGEST_BODY (length body)) (overflows past (page ∷ [])) (full_last c past page) (kept_refusals c made past a page body Done h fine))
 
 four_fine : (gone leaving long full : Bool) → Done ≡ first_cause (in_turn gone leaving long full []) → full ≡ false
 four_fine true leaving long full r = absurd (refused_is_not_done _ (sym r))
@@ -424,22 +424,22 @@ four_fine false false false false r = refl
 -- the store has slots where the page table has
 pub draw_unslotted : {W : Type 0} (draw : W → ℕ × W) (a b : Content W) (now moment : ℕ) (page : Page) (body : List ℕ) (name : FullName) (x : Entry) → Done ≡ first_cause (refusals a.state a.pages page (length body))
     → Names a page (Some name) → b ≡ a
-    → ((inserted : List Drawop) (shown : List FullName) (settled : List Settling) → store.Fits inserted shown settled a.store → outgrow inserted shown (name.stream.page ∷ []) ≡ true)
+    → ((inserted : List Drawop) (evidence : List FullName) (settled : List Settling) → store.Fits inserted evidence settled a.store → outgrow inserted evidence (name.stream.page ∷ []) ≡ true)
     → x ≡ still_entry b.config.me moment (Drew page body) (Refused faults.PageLimit) None b.state → moment ≡ max now a.last → Enters draw (Some now) (Drew page body) a b x
 draw_unslotted draw a b now moment page body name x fine some same full is at = subst (λ y. Enters draw (Some now) (Drew page body) a y x) (sym same)
     (refused_enters draw a now moment (Drew page body) faults.PageLimit x (subst (λ (y : Content _). x ≡ still_entry y.config.me moment (Drew page body) (Refused faults.PageLimit) None y.state) same is) at refl refl (λ j. refl) (λ c past. refl)
     (λ c made past h.
     let named_so = (next_of_name (stream_on c.me page) (known past (stream_on c.me page)) name (some c made past h)).1 in
-    let room = four_fine (is_gone (state past)) (is_leaving (state past)) (nat_lt BODY (length body)) (overflows past (page ∷ [])) (kept_refusals c made past a page body Done h fine) in
+    let room = four_fine (is_gone (state past)) (is_leaving (state past)) (nat_lt LONGEST_BODY (length body)) (overflows past (page ∷ [])) (kept_refusals c made past a page body Done h fine) in
     let short = slots_suffice c made past (page ∷ []) h.run room in
-    let long = full (held past) (shown_to_exist past) (settlings past) h.store in
-    absurd (false≢true (sym short ∙ ap (λ (n : FullName). outgrow (held past) (shown_to_exist past) (n.stream.page ∷ [])) (sym named_so) ∙ long))))
+    let long = full (held past) (evidence_in past) (settlings past) h.store in
+    absurd (false≢true (sym short ∙ ap (λ (n : FullName). outgrow (held past) (evidence_in past) (n.stream.page ∷ [])) (sym named_so) ∙ long))))
 
 -- after room was made, the agent fits what it fitted
 roomy_fits : {W : Type 0} (a b : Content W) → b ≡ record a { store = b.store; bucket = b.bucket } → StillFits a.store b.store → bucket.Stays a.bucket b.bucket
     → (c : Config) (made : ℕ) (past : List Entry) → Fits c made past a → Fits c made past b
 roomy_fits a b is still stays c made past h =
-    subst (Fits c made past) (sym is) (refit c made past a b.store a.timers b.bucket a.words h (still.each (held past) (shown_to_exist past) (settlings past) h.store) h.timers (roomy c past a.bucket b.bucket stays h.bucket))
+    subst (Fits c made past) (sym is) (refit c made past a b.store a.timers b.bucket a.words h (still.each (held past) (evidence_in past) (settlings past) h.store) h.timers (roomy c past a.bucket b.bucket stays h.bucket))
 
 pub roomy_stays : {W : Type 0} (a b : Content W) → b ≡ record a { store = b.store; bucket = b.bucket } → StillFits a.store b.store → bucket.Stays a.bucket b.bucket → Stays a b
 roomy_stays a b is still stays = record { fits = roomy_fits a b is still stays; words = ap (λ (x : Content _). x.words) is }
@@ -458,7 +458,7 @@ judged_done : {W : Type 0} (c : Config) (made : ℕ) (past : List Entry) (a : Co
     → Done ≡ first_cause (refusals a.state a.pages page (length body)) → Names a page (Some name) → Fits c made past a → Done ≡ verdict_of c past (Drew page body)
 judged_done c made past a page body name fine some h =
     fullness c made past a page false h (next_of_name (stream_on c.me page) (known past (stream_on c.me page)) name (some c made past h)).0
-    ∙ last_counts (is_gone (state past)) (is_leaving (state past)) (nat_lt BODY (length body)) (overflows past (page ∷ [])) (full_last c past page) (kept_refusals c made past a page body Done h fine)
+    ∙ last_counts (is_gone (state past)) (is_leaving (state past)) (nat_lt LONGEST_BODY (length body)) (overflows past (page ∷ [])) (full_last c past page) (kept_refusals c made past a page body Done h fine)
 
 pub draw_allowed : {W : Type 0} (a : Content W) (page : Page) (body : List ℕ) (name : FullName) → Done ≡ first_cause (refusals a.state a.pages page (length body)) → Names a page (Some name) → IsAllowed (Drew page body) a
 draw_allowed a page body name fine some = record { each = λ c made past h. sym (judged_done c made past a page body name fine some h) }

@@ -9,7 +9,7 @@ use Rattle.srm_bucket.proofs.Mapping.{law-read}
 use Rattle.srm_entries.specs.declared.entry.Entry.{Entry}
 use Rattle.srm_entries.specs.Configs.{Config}
 use Rattle.srm_agent.specs.Contents.{Content}
-use Rattle.srm_entries.specs.Entries.{held, shown_to_exist}
+use Rattle.srm_entries.specs.Entries.{held, evidence_in}
 use Rattle.srm_entries.specs.Verdicts.{settlings}
 use Rattle.srm_agent_parts.specs.TimersKept.{TimersContent, TimersFit}
 use Rattle.srm_agent.specs.Fits.{Fits, BucketFits}
@@ -25,7 +25,7 @@ fits_run c made past a h = record {
 
 -- a store, timers and a bucket that fit the run in place of those that it has, and whatever words come next
 pub refit : {W : Type 0} (c : Config) (made : ℕ) (past : List Entry) (a : Content W) (s : StoreContent) (t : TimersContent) (k : BucketContent Outgoing) (w : W)
-    → Fits c made past a → store.Fits (held past) (shown_to_exist past) (settlings past) s → TimersFit c past t → BucketFits c past k → Fits c made past (record a { store = s; timers = t; bucket = k; words = w })
+    → Fits c made past a → store.Fits (held past) (evidence_in past) (settlings past) s → TimersFit c past t → BucketFits c past k → Fits c made past (record a { store = s; timers = t; bucket = k; words = w })
 refit c made past a s t k w h stores timers bucket = record {
   run = h.run;
   config = h.config;

@@ -27,15 +27,15 @@ use Rattle.srm_entries.specs.declared.entry.Verdict.TheVariants.{Done}
 use Rattle.srm_entries.specs.declared.state.AgentState.{AgentState}
 use Rattle.srm_outbox.specs.declared.out.Outgoing.{Outgoing}
 use Rattle.srm_entries.specs.Configs.{Config}
-use Rattle.srm_entries.specs.Entries.{done, heard, is_gone, state, slots, pages_in, last_moment, held, shown_to_exist, known, drawn, drawops_in}
+use Rattle.srm_entries.specs.Entries.{done, accepted, is_gone, state, slots, pages_in, last_moment, held, evidence_in, known, drawn, drawops_in}
 use Rattle.srm_entries.specs.Distances.{distance_calls, calls_in, calls_of}
 use Rattle.srm_entries.specs.Timers.{TimersRight}
 use Rattle.srm_agent_parts.specs.TimerCalls.{TimersAdd, WaitsAreDrawn}
 use Rattle.srm_agent_parts.specs.TimersKept.{HaveSettings}
 use Rattle.srm_agent_parts.specs.PageTables.{with_pages_of}
-use Rattle.srm_entries.specs.Verdicts.{verdict_of, settlings, settling_of, drawn_in, stream_on, is_past, is_beyond, final}
-use Rattle.srm_entries.specs.Sessions.{session_due, pause_after}
-use Rattle.srm_entries.specs.Bucket.{Going, GoesRight, bucket_calls}
+use Rattle.srm_entries.specs.Verdicts.{verdict_of, settlings, settling_of, drawn_in, stream_on, exceeds, is_beyond, final}
+use Rattle.srm_entries.specs.Sessions.{session_due, interval_after}
+use Rattle.srm_entries.specs.Bucket.{Going, GoesAsCharged, bucket_calls}
 use Rattle.srm_entries.specs.Runs.{EntryRight}
 use Rattle.srm_agent.specs.Contents.{Content}
 use Rattle.srm_agent.specs.Fits.{Fits, BucketFits}
@@ -68,7 +68,7 @@ pub record Heeds {W : Type 0} (c : Config) (made : ℕ) (past : List Entry) (a b
   pub taken : Done ≡ verdict_of c past (Heard g)
   pub spellable : IsSpellable g
   pub timers : TimersAdd c past e b.timers
-  pub store : store.Fits (held past ++ drawops_in (Some g)) (shown_to_exist past ++ names_in g) (settlings past ++ cons_option (settling_of (Some g)) []) b.store
+  pub store : store.Fits (held past ++ drawops_in (Some g)) (evidence_in past ++ names_in g) (settlings past ++ cons_option (settling_of (Some g)) []) b.store
   pub distances : distances.Fits c.me (distance_calls c.me past ++ calls_of c.me moment (Some g)) b.distances
   pub pages : b.pages ≡ with_pages_of a.pages (names_in g)
   pub goes : Goes a b moment
@@ -114,7 +114,7 @@ bucket_stays : (c : Config) (past : List Entry) (moment : ℕ) (g : Datagram) (a
 bucket_stays c past moment g arms s b h = record {
   goings = h.goings ++ going ∷ [];
   entries = map-append (λ (x : Going). x.entry) h.goings (going ∷ []) ∙ ap (λ es. es ++ going.entry ∷ []) h.entries;
-  goes = steps_more GoesRight h.goings going h.goes (record { same = refl; at_ticks = refl });
+  goes = steps_more GoesAsCharged h.goings going h.goes (record { same = refl; at_ticks = refl });
   calls = h.calls;
   read = h.read ∙ sym (append-nil (bucket_calls c.me h.goings)) ∙ sym (bucket_calls-append c.me h.goings (going ∷ []));
   fits = h.fits;
@@ -126,14 +126,14 @@ bucket_stays c past moment g arms s b h = record {
 same_due : (c : Config) (made : ℕ) (past : List Entry) (moment : ℕ) (g : Datagram) (arms : List Arm) (s : AgentState) → session_due c made (past ++ heard_entry c.me moment g arms s ∷ []) ≡ session_due c made past
 same_due c made past moment g arms s =
     ap (λ o. unwrap_or o (made + 1000000))
-    (ap (last_of (pause_after c)) (steps-snoc past (heard_entry c.me moment g arms s)) ∙ last_of-snoc (pause_after c) (steps past) (record { before = past; this = heard_entry c.me moment g arms s }))
+    (ap (last_of (interval_after c)) (steps-snoc past (heard_entry c.me moment g arms s)) ∙ last_of-snoc (interval_after c) (steps past) (record { before = past; this = heard_entry c.me moment g arms s }))
 
 -- of this member's own streams no more is known than it drew
 own_within : (me : ℕ) (past : List Entry) (s : Stream) (k : ℕ) → s.source ≡ me → drawn_in past s ≡ k → (ns : List FullName) → list_any (is_beyond me past) ns ≡ false → greatest (flat_map (number_in s) ns) ≤ k
 own_within me past s k own drew [] none = omega arith
 own_within me past s k own drew (n ∷ ns) none =
     let parts = or_parts (is_beyond me past n) (list_any (is_beyond me past) ns) none in
-    go (same_stream s n.stream) refl (own_within me past s k own drew ns parts.1) (or_parts (is_past n.number (final past n.stream)) ((n.stream.source == me) && nat_lt (drawn_in past n.stream) n.number) parts.0).1
+    go (same_stream s n.stream) refl (own_within me past s k own drew ns parts.1) (or_parts (exceeds n.number (final past n.stream)) ((n.stream.source == me) && nat_lt (drawn_in past n.stream) n.number) parts.0).1
   where
     go : (b : Bool) → same_stream s n.stream ≡ b → greatest (flat_map (number_in s) ns) ≤ k → ((n.stream.source == me) && nat_lt (drawn_in past n.stream) n.number) ≡ false
         → greatest ((if b then n.number ∷ [] else []) ++ flat_map (number_in s) ns) ≤ k
@@ -179,7 +179,7 @@ heard_fits c made past a b moment g arms h =
       showing = h.goes.showing ∙ h.fits.showing ∙ sym (shown-page-snoc past e);
       pages = h.pages ∙ ap (λ ps. with_pages_of ps (names_in g)) h.fits.pages ∙ sym (slots-all past e);
       progress = rw h.goes.progress (same_progress past e a.progress (λ j. refl) h.fits.progress);
-      store = rw (held-snoc past e, shown-snoc past e, filter_map-append (λ (x : Entry). settling_of (heard x)) past (e ∷ [])) h.store;
+      store = rw (held-snoc past e, shown-snoc past e, filter_map-append (λ (x : Entry). settling_of (accepted x)) past (e ∷ [])) h.store;
       distances = rw (flat_map-snoc (calls_in c.me) past e) h.distances;
       timers = h.timers.fits;
       bucket = rw h.goes.bucket (bucket_stays c past moment g arms a.state a.bucket h.fits.bucket);

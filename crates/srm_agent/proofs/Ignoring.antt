@@ -20,7 +20,7 @@ use Rattle.srm_entries.specs.Entries.{is_tick, takes_moment, last_moment, is_gon
 use Rattle.srm_entries.specs.Verdicts.{VerdictRight, verdict_of}
 use Rattle.srm_entries.specs.Giving.{MessageRight, given_in}
 use Rattle.srm_entries.specs.Hearing.{read_as}
-use Rattle.srm_agent.specs.Heeding.{IsJudgedBy, IsNoiseFor, IsTaken}
+use Rattle.srm_agent.specs.Heeding.{IsJudgedBy, IsNoiseFor, IsAccepted}
 use Rattle.srm_agent.specs.Contents.{Content}
 use Rattle.srm_agent.specs.Fits.{Fits}
 use Rattle.srm_entries.specs.Still.{still_entry}
@@ -92,7 +92,7 @@ pub ignored_judged : {W : Type 0} (a : Content W) (moment : ℕ) (g : Datagram) 
 ignored_judged a moment g cause o e found judged is = record { each = λ c made past h. ap (λ (x : Entry). x.verdict) is ∙ ap ignored_for (sym found) ∙ judged c made past h }
 
 -- a datagram with no cause to ignore it is taken, and what is done with it is as judged
-pub taken_at_none : {W : Type 0} (a : Content W) (g : Datagram) (o : Option Cause) → o ≡ None → ((c : Config) (made : ℕ) (past : List Entry) → Fits c made past a → ignored_for o ≡ verdict_of c past (Heard g)) → IsTaken g a
+pub taken_at_none : {W : Type 0} (a : Content W) (g : Datagram) (o : Option Cause) → o ≡ None → ((c : Config) (made : ℕ) (past : List Entry) → Fits c made past a → ignored_for o ≡ verdict_of c past (Heard g)) → IsAccepted g a
 taken_at_none a g o none judged = record { each = λ c made past h. ap ignored_for (sym none) ∙ judged c made past h }
 
 -- what was heard as a datagram was read as it

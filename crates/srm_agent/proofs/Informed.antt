@@ -23,7 +23,7 @@ use Rattle.srm_entries.specs.declared.entry.Entry.{Entry}
 use Rattle.srm_entries.specs.declared.entry.Input.TheVariants.{Heard}
 use Rattle.srm_entries.specs.declared.state.AgentState.{AgentState}
 use Rattle.srm_entries.specs.Configs.{Config}
-use Rattle.srm_entries.specs.Entries.{is_gone, held, shown_to_exist, drawops_in}
+use Rattle.srm_entries.specs.Entries.{is_gone, held, evidence_in, drawops_in}
 use Rattle.srm_entries.specs.Distances.{distance_calls, calls_in, calls_of}
 use Rattle.srm_entries.specs.Verdicts.{settlings, settling_of}
 use Rattle.srm_agent.specs.Growth.{IsFreshOf}
@@ -33,7 +33,7 @@ use Rattle.srm_agent_parts.specs.TimersKept.{HaveSettings, TimersContent}
 use Rattle.srm_agent_parts.specs.TimerCalls.{AreDistancesAfter, TimersHear, TimersStay, WaitsAreDrawn, IsSession}
 use Rattle.srm_agent.specs.Contents.{Content}
 use Rattle.srm_agent.specs.Fits.{Fits}
-use Rattle.srm_agent.specs.Heeding.{IsTaken, heard_entry}
+use Rattle.srm_agent.specs.Heeding.{IsAccepted, heard_entry}
 use Rattle.srm_agent.specs.Noting.{Enters}
 use Rattle.srm_entries.proofs.Adding.{flat_map-snoc}
 use Rattle.srm_agent.proofs.Heeded.{Goes, Heeds, heard_enters}
@@ -63,7 +63,7 @@ pub hears_roomy : (is : Datagram → Type 0) (fresh : List FullName) (dist : Lis
 hears_roomy is fresh dist now arms a b d stays hears = record { each = λ c past e g it with_this fits. hears.each c past e g it with_this (stays.each c past fits) }
 
 pub session_enters : {W : Type 0} (draw : W → ℕ × W) (a b : Content W) (moment : ℕ) (g : Datagram) (names fresh : List FullName) (dist : List ℕ) (arms : List Arm) (roomy : StoreContent) (after : DistancesContent) (e : Entry)
-    → IsSession g → names ≡ names_in g → is_gone a.state ≡ false → IsSpellable g → a.last ≤ moment → IsTaken g a → IsFreshOf names a fresh → HearsToo a.config.me moment g a.distances after → IsTableOf after dist
+    → IsSession g → names ≡ names_in g → is_gone a.state ≡ false → IsSpellable g → a.last ≤ moment → IsAccepted g a → IsFreshOf names a fresh → HearsToo a.config.me moment g a.distances after → IsTableOf after dist
     → TimersHear IsSession fresh dist moment arms a.timers b.timers → StillFits a.store roomy → LearnsToo g roomy b.store → b.pages ≡ with_pages_of a.pages names → b.distances ≡ after → Goes a b moment
     → HaveSettings a.config a.timers → WaitsAreDrawn draw a.timers a.words arms b.words → e ≡ heard_entry a.config.me moment g arms a.state
     → Enters draw (Some moment) (Heard g) a b e
@@ -88,8 +88,8 @@ session_enters draw a b moment g names fresh dist arms roomy after e is named he
       spellable = spellable;
       timers = hears.each c past (heard_entry c.me moment g arms a.state) g is (record { heard = refl; read = spellable; moment = refl; drawn = refl; arms = refl; asks = refl; fixes = refl }) h.timers
           (fresh_rows past (heard_entry c.me moment g arms a.state) names fresh (subst (λ ns. ShowsRows ns (heard_entry c.me moment g arms a.state)) (sym named) (shows_rows g c.me moment arms a.state is)) (fresh_of.each c made past h)) (dist_after c made past h);
-      store = subst (λ ds. store.Fits ds (shown_to_exist past ++ names_in g) (settlings past ++ cons_option (settling_of (Some g)) []) b.store) (sym (ap (λ ds. held past ++ ds) (no_drawops g is) ∙ append-nil (held past)))
-          (learns.each (held past) (shown_to_exist past) (settlings past) (kept.each (held past) (shown_to_exist past) (settlings past) h.store));
+      store = subst (λ ds. store.Fits ds (evidence_in past ++ names_in g) (settlings past ++ cons_option (settling_of (Some g)) []) b.store) (sym (ap (λ ds. held past ++ ds) (no_drawops g is) ∙ append-nil (held past)))
+          (learns.each (held past) (evidence_in past) (settlings past) (kept.each (held past) (evidence_in past) (settlings past) h.store));
       distances = subst (λ d. distances.Fits c.me (distance_calls c.me past ++ calls_of c.me moment (Some g)) d) (sym same) (hears_by c made past h);
       pages = pages ∙ ap (with_pages_of a.pages) named;
       goes = goes;

@@ -6,8 +6,8 @@ use Rattle.std.proofs.lemmas.Bool.Decides.{nat_tests}
 use Rattle.srm_timers.specs.declared.arm.Armed.{Armed}
 use Rattle.srm_timers.specs.Arms.{ran_out}
 use Rattle.srm_deadlines.specs.Least.{lesser}
-use Rattle.srm_bucket.specs.Classes.{next_of}
-use Rattle.srm_bucket.specs.Fits.{Waits}
+use Rattle.srm_bucket.specs.Classes.{next_queued}
+use Rattle.srm_bucket.specs.Fits.{IsNextDeparture}
 use Rattle.srm_bucket.specs.Law.{IsFirstToGo}
 use Rattle.srm_entries.specs.declared.entry.Entry.{Entry}
 use Rattle.srm_entries.specs.Configs.{Config}
@@ -66,7 +66,7 @@ module _ {W : Type 0} (c : Config) (made : ℕ) (past : List Entry) (a : Content
         | inr fix ↦ fixes_then c made past t idle.0 n (did_nothing c made past t idle) here (still_out r t (fix_running past n) come fix)
       ]
 
-  item_stirs : (answer : Option ℕ) → MatchOption answer (next_of h.bucket.calls ≡ None) (IsFirstToGo c.rate c.depth h.bucket.calls) → HasCome t answer → MayDoNothing c made past t → ⊥
+  item_stirs : (answer : Option ℕ) → MatchOption answer (next_queued h.bucket.calls ≡ None) (IsFirstToGo c.rate c.depth h.bucket.calls) → HasCome t answer → MayDoNothing c made past t → ⊥
   item_stirs None waits come idle = absurd come
   item_stirs (Some r) waits come idle = goes_then c made past a t r idle.0 h (did_nothing c made past t idle) here waits.goes come
 
@@ -99,7 +99,7 @@ first_due a next active at = subst (λ n. NextDue a (Some (max a.last n))) (sym 
 })
 
 -- the next moment, by the calls that tell its parts
-pub soonest : {W : Type 0} (a : Content W) (timers waiting : Option ℕ) → TimersNext a.timers timers → Waits a.bucket waiting → IsNextAt a (sooner_of (lesser timers waiting) (report_next a))
+pub soonest : {W : Type 0} (a : Content W) (timers waiting : Option ℕ) → TimersNext a.timers timers → IsNextDeparture a.bucket waiting → IsNextAt a (sooner_of (lesser timers waiting) (report_next a))
 soonest a timers waiting runs waits = record { timers = timers; waiting = waiting; runs = runs; waits = waits; is = refl }
 
 -- and whether it is to come

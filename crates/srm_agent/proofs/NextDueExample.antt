@@ -13,7 +13,7 @@ use Rattle.srm_entries.specs.declared.entry.Input.{Input}
 use Rattle.srm_entries.specs.declared.entry.Input.TheVariants.{Drew, Ticked, AskedLeave}
 use Rattle.srm_entries.specs.Entries.{is_missing, is_tick}
 use Rattle.srm_entries.specs.Sessions.{SessionRight, EndsWith, ending, charged}
-use Rattle.srm_entries.specs.Bucket.{Going, GoesRight, entries_of, datagrams_of, bucket_calls}
+use Rattle.srm_entries.specs.Bucket.{Going, GoesAsCharged, entries_of, datagrams_of, bucket_calls}
 use Rattle.srm_entries.specs.Runs.{EntryRight, IsMemberRun}
 use Rattle.srm_entries.proofs.Parting.{tick_draws_nothing}
 use Rattle.srm_entries.proofs.Rating.{rate_law}
@@ -22,7 +22,7 @@ use Rattle.srm_bucket.specs.Calls.{Classed}
 use Rattle.std.specs.List.{AllByRecursion}
 use Rattle.srm_entries.specs.Promises.{MayDoNothing, IsNextDue}
 use Rattle.srm_agent.proofs.NextDueRests.{gone_rests, idle_rests}
-use Rattle.srm_entries.specs.Sample.{zeros, idle}
+use Rattle.srm_entries.specs.Sample.{first_stream, idle}
 use Rattle.srm_entries.proofs.Plain.{config, plain, idle_right, right, missing_none, unknown_unmissed}
 
 -- a new member: its first session message is due after a second
@@ -76,7 +76,7 @@ due_after_a_second = (refl, lit≤ tt, (λ now l u. (idle_before now u, idle_res
 -- a member that has drawn: its data is due at once
 
 abbrev drawn : Entry
-drawn = plain 0 5 (Drew first_page []) (Some (record { name = named zeros 1; stamp = 5; body = [] })) [] None Active
+drawn = plain 0 5 (Drew first_page []) (Some (record { name = named first_stream 1; stamp = 5; body = [] })) [] None Active
 
 -- an entry in which nothing is charged is marked with nothing
 unmarked : (x : Going) (e : Entry) → x.entry ≡ e → datagrams_of x.goes ≡ charged x.entry → charged e ≡ [] → x ≡ idle e
@@ -86,7 +86,7 @@ unmarked x e p same none = ap (λ en. record { entry = en; goes = x.goes }) p �
     nothing [] q = refl
     nothing (i ∷ goes) q = absurd (cc)
 
-two_unmarked : (gs : List Going) (a b : Entry) → entries_of gs ≡ a ∷ b ∷ [] → AllByRecursion GoesRight (steps gs) → charged a ≡ [] → charged b ≡ [] → gs ≡ idle a ∷ idle b ∷ []
+two_unmarked : (gs : List Going) (a b : Entry) → entries_of gs ≡ a ∷ b ∷ [] → AllByRecursion GoesAsCharged (steps gs) → charged a ≡ [] → charged b ≡ [] → gs ≡ idle a ∷ idle b ∷ []
 two_unmarked [] a b q all m n = absurd (cc)
 two_unmarked (x ∷ []) a b q all m n = absurd (cc)
 two_unmarked (x ∷ y ∷ []) a b q all m n =
@@ -118,7 +118,7 @@ is_idle_tick e i m a f o d =
 not_kept_back : (e : Entry) → IsMemberRun (config 0) 0 (drawn ∷ idle_tick e ∷ []) → ⊥
 not_kept_back e run =
     let kept = rate_law (config 0) 0 (drawn ∷ idle_tick e ∷ []) run in
-    let marks = two_unmarked kept.marks drawn (idle_tick e) kept.entries kept.outs refl refl in
+    let marks = two_unmarked kept.goings drawn (idle_tick e) kept.entries kept.outs refl refl in
     too_much (kept.each (idle drawn ∷ []) [] (idle (idle_tick e)) marks).all_that_may
   where
     too_much : 4204000000 < 27000000 → ⊥

@@ -12,9 +12,9 @@ use Rattle.srm_timers.specs.Arms.{ran_out}
 use Rattle.srm_deadlines.specs.Least.{lesser}
 use Rattle.srm_bucket.specs.declared.class.Class.TheVariants.{New}
 use Rattle.srm_bucket.specs.Calls.{Call, Popped}
-use Rattle.srm_bucket.specs.Classes.{next_of}
+use Rattle.srm_bucket.specs.Classes.{next_queued}
 use Rattle.srm_bucket.specs.Content.{Content as BucketContent}
-use Rattle.srm_bucket.specs.Fits.{Waits}
+use Rattle.srm_bucket.specs.Fits.{IsNextDeparture}
 use Rattle.srm_bucket.specs.Law.{BucketLaw, IsFirstToGo, level_at, covered, may_go}
 use Rattle.srm_bucket.specs.Mapping.{read_call}
 use Rattle.srm_bucket.specs.Ticks.{last_moment as last_of_calls}
@@ -29,11 +29,11 @@ use Rattle.srm_agent.specs.Contents.{Content}
 use Rattle.srm_entries.specs.Entries.{state, is_gone, is_leaving, ticked, last_moment, is_missing, drawn, sent}
 use Rattle.srm_entries.specs.Timers.{last_ask, fix_running, ArmsRight, TimersRight}
 use Rattle.srm_entries.specs.Sessions.{is_data, charged, all_data_sent, ending}
-use Rattle.srm_entries.specs.Bucket.{Going, GoesRight, BucketRight, entries_of, calls_by, bucket_calls}
+use Rattle.srm_entries.specs.Bucket.{Going, GoesAsCharged, BucketRight, entries_of, calls_by, bucket_calls}
 use Rattle.srm_entries.specs.Runs.{EntryRight}
 use Rattle.srm_agent.specs.Fits.{Fits, BucketFits}
 use Rattle.srm_outbox.specs.Outs.{datagram_of}
-use Rattle.srm_agent_parts.specs.TimersKept.{shown_if}
+use Rattle.srm_agent_parts.specs.TimersKept.{only_if}
 use Rattle.srm_entries.specs.Promises.{MayDoNothing}
 use Rattle.srm_agent_parts.specs.TimerCalls.{RunOutFirst, IsBefore}
 use Rattle.srm_outbox.specs.declared.out.Outgoing.{Outgoing}
@@ -62,7 +62,7 @@ idle_arms c past u = no_arms c past (idle_at c past u) (record { unheard = refl;
 
 -- timers
 
-not_asked : (u : ℕ) (b m : Bool) (o : Option Armed) → ran_out u (shown_if m o) ≡ false → false ≡ (b && m && ran_out u o)
+not_asked : (u : ℕ) (b m : Bool) (o : Option Armed) → ran_out u (only_if m o) ≡ false → false ≡ (b && m && ran_out u o)
 not_asked u b true o e = sym (ap (λ x. b && true && x) e ∙ no b)
   where
     no : (b : Bool) → (b && true && false) ≡ false
@@ -116,7 +116,7 @@ ends_not Leaving false last due u l m = let later : nat_le due u ≡ false = gri
 
 -- the bucket
 
-nothing_goes : {T : Type 0} (rate depth : ℕ) (calls : List (Call T)) (answer : Option ℕ) (u : ℕ) → MatchOption answer (next_of calls ≡ None) (IsFirstToGo rate depth calls) → last_of_calls calls ≤ u → IsBefore u answer
+nothing_goes : {T : Type 0} (rate depth : ℕ) (calls : List (Call T)) (answer : Option ℕ) (u : ℕ) → MatchOption answer (next_queued calls ≡ None) (IsFirstToGo rate depth calls) → last_of_calls calls ≤ u → IsBefore u answer
     → may_go rate depth calls u ≡ None
 nothing_goes rate depth calls None u until l before = ap (covered (level_at rate depth calls u)) until
 nothing_goes rate depth calls (Some t) u until l before = until.no_sooner u l before
@@ -139,7 +139,7 @@ abbrev idle_going : Config → List Entry → ℕ → Going
 idle_going c past u = record { entry = idle_at c past u; goes = [] }
 
 -- nothing may go
-may_not : {W : Type 0} (c : Config) (made : ℕ) (past : List Entry) (a : Content W) (answer : Option ℕ) (u : ℕ) (h : Fits c made past a) → Waits a.bucket answer → last_moment made past ≤ u → IsBefore u answer
+may_not : {W : Type 0} (c : Config) (made : ℕ) (past : List Entry) (a : Content W) (answer : Option ℕ) (u : ℕ) (h : Fits c made past a) → IsNextDeparture a.bucket answer → last_moment made past ≤ u → IsBefore u answer
     → may_go c.rate c.depth h.bucket.calls u ≡ None
 may_not c made past a answer u h waits l before =
     let k : last_of_calls h.bucket.calls ≤ last_moment made past = calls_before c made past a h in
@@ -149,8 +149,8 @@ module _ (c : Config) (past : List Entry) (u : ℕ) {b : BucketContent Outgoing}
   idle_entries : entries_of (h.goings ++ idle_going c past u ∷ []) ≡ past ++ idle_at c past u ∷ []
   idle_entries = entries-snoc h.goings (idle_going c past u) ∙ ap (λ es. es ++ idle_at c past u ∷ []) h.entries
 
-  idle_goes : AllByRecursion GoesRight (steps (h.goings ++ idle_going c past u ∷ []))
-  idle_goes = steps_more GoesRight h.goings (idle_going c past u) h.goes (record { same = refl; at_ticks = whenever _ })
+  idle_goes : AllByRecursion GoesAsCharged (steps (h.goings ++ idle_going c past u ∷ []))
+  idle_goes = steps_more GoesAsCharged h.goings (idle_going c past u) h.goes (record { same = refl; at_ticks = whenever _ })
     where
       whenever : (b : Bool) → OnTrue b ((idle_going c past u).goes ≡ [])
       whenever true = refl
@@ -161,7 +161,7 @@ module _ (c : Config) (past : List Entry) (u : ℕ) {b : BucketContent Outgoing}
       bucket_calls-snoc c.me h.goings (idle_going c past u) ∙ ap (λ cs. bucket_calls c.me h.goings ++ cs) (pauses c.me h.goings past (idle_at c past u) h.entries here refl refl refl refl)
       ∙ ap (λ cs. cs ++ Popped u None ∷ []) (sym h.read) ∙ sym (map-append (read_call datagram_of) h.calls (Popped u None ∷ [])))
 
-idle_bucket : {W : Type 0} (c : Config) (made : ℕ) (past : List Entry) (a : Content W) (answer : Option ℕ) (u : ℕ) → Fits c made past a → is_gone (state past) ≡ false → Waits a.bucket answer
+idle_bucket : {W : Type 0} (c : Config) (made : ℕ) (past : List Entry) (a : Content W) (answer : Option ℕ) (u : ℕ) → Fits c made past a → is_gone (state past) ≡ false → IsNextDeparture a.bucket answer
     → last_moment made past ≤ u → IsBefore u answer → BucketRight c (past ++ idle_at c past u ∷ [])
 idle_bucket c made past a answer u h here waits l before = (
   h.bucket.goings ++ idle_going c past u ∷ [],

@@ -18,7 +18,7 @@ use Rattle.srm_entries.specs.Configs.{Config}
 use Rattle.srm_entries.specs.Entries.{state, is_gone, is_tick, ticked}
 use Rattle.srm_entries.specs.Timers.{ask_due, fix_due}
 use Rattle.srm_entries.specs.Sessions.{is_session, charged, session_due, all_data_sent, ending, EndsWith}
-use Rattle.srm_entries.specs.Bucket.{Going, GoesRight, entries_of, datagrams_of, lets_go, pops, calls_by, bucket_calls}
+use Rattle.srm_entries.specs.Bucket.{Going, GoesAsCharged, entries_of, datagrams_of, lets_go, pops, calls_by, bucket_calls}
 use Rattle.srm_entries.specs.Runs.{EntryRight, IsMemberRun}
 use Rattle.srm_entries.specs.Promises.{MayDoNothing, DoesNothing, NothingIsDue}
 use Rattle.srm_entries.proofs.Charging.{law_at}
@@ -73,8 +73,8 @@ record MarkedWith (c : Config) (past : List Entry) (e : Entry) : Type 0 where
   pub before : List Going
   pub goes : List (Classed Datagram)
   pub entries : entries_of before ≡ past
-  pub all : AllByRecursion GoesRight (steps before)
-  pub right : GoesRight (record { before = before; this = record { entry = e; goes = goes } })
+  pub all : AllByRecursion GoesAsCharged (steps before)
+  pub right : GoesAsCharged (record { before = before; this = record { entry = e; goes = goes } })
   pub so_far : BucketLaw c.rate c.depth (bucket_calls c.me before)
   pub law : BucketLaw c.rate c.depth (bucket_calls c.me before ++ calls_by c.me (record { before = before; this = record { entry = e; goes = goes } }))
 
@@ -82,21 +82,21 @@ marked_with : (c : Config) (made : ℕ) (past : List Entry) (e : Entry) → IsMe
 marked_with c made past e run =
     let (gs, q, all, law) = run.bucket in
     let (us, vs, p, earlier, later) = map-split (λ (g : Going). g.entry) gs past (e ∷ []) q in
-    by us vs earlier later (subst (λ w. AllByRecursion GoesRight (steps w)) p all) (subst (λ w. BucketLaw c.rate c.depth (bucket_calls c.me w)) p law)
+    by us vs earlier later (subst (λ w. AllByRecursion GoesAsCharged (steps w)) p all) (subst (λ w. BucketLaw c.rate c.depth (bucket_calls c.me w)) p law)
   where
-    by : (us vs : List Going) → entries_of us ≡ past → entries_of vs ≡ e ∷ [] → AllByRecursion GoesRight (steps (us ++ vs)) → BucketLaw c.rate c.depth (bucket_calls c.me (us ++ vs)) → MarkedWith c past e
+    by : (us vs : List Going) → entries_of us ≡ past → entries_of vs ≡ e ∷ [] → AllByRecursion GoesAsCharged (steps (us ++ vs)) → BucketLaw c.rate c.depth (bucket_calls c.me (us ++ vs)) → MarkedWith c past e
     by us [] earlier later all law = absurd (cc)
     by us (x ∷ y ∷ vs) earlier later all law = absurd (cc)
     by us (x ∷ []) earlier later all law =
         let here : x.entry ≡ e = cc in
         let is : x ≡ record { entry = e; goes = x.goes } = ap (λ en. let z : Going = record { entry = en; goes = x.goes } in z) here in
-        let parts = at_parts GoesRight us (x ∷ []) all in
+        let parts = at_parts GoesAsCharged us (x ∷ []) all in
         record {
           before = us;
           goes = x.goes;
           entries = earlier;
           all = parts.0;
-          right = subst (λ z. GoesRight (record { before = us; this = z })) is parts.1.0;
+          right = subst (λ z. GoesAsCharged (record { before = us; this = z })) is parts.1.0;
           so_far = law_to c us (x ∷ []) law;
           law = subst (λ z. BucketLaw c.rate c.depth (bucket_calls c.me us ++ calls_by c.me (record { before = us; this = z }))) is (subst (BucketLaw c.rate c.depth) (bucket_calls-snoc c.me us x) law);
         }

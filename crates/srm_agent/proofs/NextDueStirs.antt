@@ -26,11 +26,11 @@ use Rattle.srm_agent.specs.Contents.{Content}
 use Rattle.srm_entries.specs.Entries.{state, is_gone, is_leaving, is_tick, ticked, is_missing}
 use Rattle.srm_entries.specs.Timers.{last_ask, fix_running}
 use Rattle.srm_entries.specs.Sessions.{is_session, charged, ending, EndsWith}
-use Rattle.srm_entries.specs.Bucket.{Going, GoesRight, entries_of, datagrams_of, bucket_calls}
+use Rattle.srm_entries.specs.Bucket.{Going, GoesAsCharged, entries_of, datagrams_of, bucket_calls}
 use Rattle.srm_entries.specs.Runs.{EntryRight, IsMemberRun}
 use Rattle.srm_agent.specs.Fits.{Fits}
 use Rattle.srm_outbox.specs.Outs.{datagram_of}
-use Rattle.srm_agent_parts.specs.TimersKept.{shown_if}
+use Rattle.srm_agent_parts.specs.TimersKept.{only_if}
 use Rattle.srm_entries.specs.Promises.{MayDoNothing}
 use Rattle.srm_agent_parts.specs.TimerCalls.{ask_running}
 use Rattle.srm_agent.specs.Waking.{report_next}
@@ -69,7 +69,7 @@ did_nothing c made past now (e, input, moment, asks, fixes, outs, run) =
 
 -- timers
 
-runs_and_missing : (now : ℕ) (m : Bool) (o : Option Armed) → ran_out now (shown_if m o) ≡ true → (m ≡ true) × (ran_out now o ≡ true)
+runs_and_missing : (now : ℕ) (m : Bool) (o : Option Armed) → ran_out now (only_if m o) ≡ true → (m ≡ true) × (ran_out now o ≡ true)
 runs_and_missing now true o e = (refl, e)
 runs_and_missing now false o e = absurd (cc)
 
@@ -112,15 +112,15 @@ nothing_went [] e = refl
 nothing_went (i ∷ goes) e = absurd (cc)
 
 -- the entries of such a run can be marked in one way alone: with what went before, and nothing in the tick
-marked_so : (c : Config) (gs hs : List Going) (past : List Entry) (e : Entry) → entries_of gs ≡ past ++ e ∷ [] → AllByRecursion GoesRight (steps gs) → BucketLaw c.rate c.depth (bucket_calls c.me gs)
-    → entries_of hs ≡ past → AllByRecursion GoesRight (steps hs) → BucketLaw c.rate c.depth (bucket_calls c.me hs) → e.effects.outs ≡ [] → gs ≡ hs ++ record { entry = e; goes = [] } ∷ []
+marked_so : (c : Config) (gs hs : List Going) (past : List Entry) (e : Entry) → entries_of gs ≡ past ++ e ∷ [] → AllByRecursion GoesAsCharged (steps gs) → BucketLaw c.rate c.depth (bucket_calls c.me gs)
+    → entries_of hs ≡ past → AllByRecursion GoesAsCharged (steps hs) → BucketLaw c.rate c.depth (bucket_calls c.me hs) → e.effects.outs ≡ [] → gs ≡ hs ++ record { entry = e; goes = [] } ∷ []
 marked_so c gs hs past e q all law same also other outs =
     let (us, vs, p, earlier, later) = map-split (λ (g : Going). g.entry) gs past (e ∷ []) q in
-    let parts = at_parts GoesRight us vs (subst (λ w. AllByRecursion GoesRight (steps w)) p all) in
+    let parts = at_parts GoesAsCharged us vs (subst (λ w. AllByRecursion GoesAsCharged (steps w)) p all) in
     let front : us ≡ hs = marks_same c us hs (earlier ∙ sym same) parts.0 also (law_to c us vs (subst (λ w. BucketLaw c.rate c.depth (bucket_calls c.me w)) p law)) other in
     p ∙ ap (λ w. w ++ vs) front ∙ ap (λ w. hs ++ w) (last_one us vs later parts.1)
   where
-    last_one : (us vs : List Going) → entries_of vs ≡ e ∷ [] → AllByRecursion GoesRight (steps_after us vs) → vs ≡ record { entry = e; goes = [] } ∷ []
+    last_one : (us vs : List Going) → entries_of vs ≡ e ∷ [] → AllByRecursion GoesAsCharged (steps_after us vs) → vs ≡ record { entry = e; goes = [] } ∷ []
     last_one us [] r right = absurd (cc)
     last_one us (x ∷ y ∷ vs) r right = absurd (cc)
     last_one us (x ∷ []) r right =

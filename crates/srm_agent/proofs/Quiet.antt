@@ -11,18 +11,18 @@ use Rattle.srm_names.proofs.Snoc.{steps-snoc, last_of-snoc, first_of-snoc, or_el
 use Rattle.srm_timers.specs.declared.arm.Arm.{Arm}
 use Rattle.srm_timers.specs.declared.arm.ArmKind.{ArmKind}
 use Rattle.srm_timers.specs.declared.arm.ArmKind.TheVariants.{Ask, Fix}
-use Rattle.srm_timers.specs.Arms.{Setting, setting, ran_out, arm_of}
+use Rattle.srm_timers.specs.Arms.{WaitBasis, wait_basis, ran_out, arm_of}
 use Rattle.srm_bucket.specs.Content.{Content as BucketContent}
 use Rattle.srm_entries.specs.declared.entry.Entry.{Entry}
 use Rattle.srm_outbox.specs.declared.out.Outgoing.{Outgoing}
 use Rattle.srm_entries.specs.Configs.{Config}
-use Rattle.srm_entries.specs.Entries.{heard, ticked, state, is_gone, held, held_by, drawops_in, shown_to_exist, drawn, is_missing, is_held}
+use Rattle.srm_entries.specs.Entries.{accepted, ticked, state, is_gone, held, held_by, drawops_in, evidence_in, drawn, is_missing, is_held}
 use Rattle.srm_entries.specs.Distances.{distance_calls, calls_in, calls_of}
-use Rattle.srm_entries.specs.Timers.{arm_in, last_ask, fix_running, held_off, asker, asker_in, repaired, repairs_in, ask_exponent, ask_setting, fix_setting, setting_of, ArmsRight, TimersRight}
+use Rattle.srm_entries.specs.Timers.{arm_in, last_ask, fix_running, held_off, asker, asker_in, repaired, repairs_in, ask_exponent, ask_basis_of, fix_basis_of, basis_of, ArmsRight, TimersRight}
 use Rattle.srm_entries.specs.Verdicts.{settlings, settling_of}
-use Rattle.srm_entries.specs.Sessions.{session_due, pause_after, ending, EndsWith, SessionRight}
-use Rattle.srm_entries.specs.Bucket.{Going, GoesRight, entries_of, bucket_calls, calls_by}
-use Rattle.srm_agent_parts.specs.TimersKept.{TimersContent, TimersFit, shown_if}
+use Rattle.srm_entries.specs.Sessions.{session_due, interval_after, ending, EndsWith, SessionRight}
+use Rattle.srm_entries.specs.Bucket.{Going, GoesAsCharged, entries_of, bucket_calls, calls_by}
+use Rattle.srm_agent_parts.specs.TimersKept.{TimersContent, TimersFit, only_if}
 use Rattle.srm_agent.specs.Fits.{BucketFits}
 use Rattle.srm_entries.proofs.Adding.{flat_map-snoc, last_ask-snoc, fix_running-snoc, held_off-snoc}
 use Rattle.srm_entries.proofs.Showing.{held-snoc, shown-snoc, shown_quiet, drawn-snoc}
@@ -30,7 +30,7 @@ use Rattle.srm_entries.proofs.Arming.{ask_at}
 use Rattle.srm_entries.proofs.Cutting.{bucket_calls-append}
 
 pub record Quiet (e : Entry) : Type 0 where
-  pub unheard : heard e ≡ None
+  pub unheard : accepted e ≡ None
   pub drawn : e.effects.drawn ≡ None
   pub arms : e.effects.arms ≡ []
   pub asks : e.effects.asks ≡ []
@@ -42,20 +42,20 @@ pub record IsIdle (past : List Entry) (e : Entry) : Type 0 where
   pub outs : e.effects.outs ≡ []
 
 held_by_none : (e : Entry) → Quiet e → held_by e ≡ []
-held_by_none e q = ap (λ o. option_to_list o ++ drawops_in (heard e)) q.drawn ∙ ap drawops_in q.unheard
+held_by_none e q = ap (λ o. option_to_list o ++ drawops_in (accepted e)) q.drawn ∙ ap drawops_in q.unheard
 
 pub same_held : (past : List Entry) (e : Entry) → Quiet e → held (past ++ e ∷ []) ≡ held past
 same_held past e q = held-snoc past e ∙ ap (λ ds. held past ++ ds) (held_by_none e q) ∙ append-nil (held past)
 
-pub same_shown : (past : List Entry) (e : Entry) → Quiet e → shown_to_exist (past ++ e ∷ []) ≡ shown_to_exist past
-same_shown past e q = shown-snoc past e ∙ ap (λ ns. shown_to_exist past ++ ns) (shown_quiet e (q.unheard, q.drawn)) ∙ append-nil (shown_to_exist past)
+pub same_shown : (past : List Entry) (e : Entry) → Quiet e → evidence_in (past ++ e ∷ []) ≡ evidence_in past
+same_shown past e q = shown-snoc past e ∙ ap (λ ns. evidence_in past ++ ns) (shown_quiet e (q.unheard, q.drawn)) ∙ append-nil (evidence_in past)
 
 pub same_drawn : (past : List Entry) (e : Entry) → Quiet e → drawn (past ++ e ∷ []) ≡ drawn past
 same_drawn past e q = drawn-snoc past e ∙ ap (λ o. drawn past ++ option_to_list o) q.drawn ∙ append-nil (drawn past)
 
 pub same_settlings : (past : List Entry) (e : Entry) → Quiet e → settlings (past ++ e ∷ []) ≡ settlings past
 same_settlings past e q =
-    filter_map-append (λ (x : Entry). settling_of (heard x)) past (e ∷ []) ∙ ap (λ o. settlings past ++ cons_option (settling_of o) []) q.unheard ∙ append-nil (settlings past)
+    filter_map-append (λ (x : Entry). settling_of (accepted x)) past (e ∷ []) ∙ ap (λ o. settlings past ++ cons_option (settling_of o) []) q.unheard ∙ append-nil (settlings past)
 
 pub same_distances : (me : ℕ) (past : List Entry) (e : Entry) → Quiet e → distance_calls me (past ++ e ∷ []) ≡ distance_calls me past
 same_distances me past e q =
@@ -102,7 +102,7 @@ pub timers_stay : (c : Config) (past : List Entry) (e : Entry) (t : TimersConten
 timers_stay c past e t q h = record {
   ask_calls = h.ask_calls;
   asks = h.asks;
-  ask_timers = λ n. h.ask_timers n ∙ sym (ap (λ b. shown_if b (last_ask (past ++ e ∷ []) n)) (same_missing past e n q) ∙ ap (shown_if (is_missing past n)) (same_last_ask past e n q));
+  ask_timers = λ n. h.ask_timers n ∙ sym (ap (λ b. only_if b (last_ask (past ++ e ∷ []) n)) (same_missing past e n q) ∙ ap (only_if (is_missing past n)) (same_last_ask past e n q));
   fix_calls = h.fix_calls;
   fixes = h.fixes;
   fix_timers = λ n. h.fix_timers n ∙ sym (same_fix past e n q);
@@ -122,14 +122,14 @@ same_calls : (me : ℕ) (gs : List Going) (e : Entry) → Quiet e → IsIdle (en
 same_calls me gs e q i =
     bucket_calls-append me gs (still e ∷ []) ∙ ap (λ cs. bucket_calls me gs ++ (cs ++ [])) (no_calls me gs e q i) ∙ append-nil (bucket_calls me gs)
 
-goes_more : (gs : List Going) (x : Going) → AllByRecursion GoesRight (steps gs) → GoesRight (record { before = gs; this = x }) → AllByRecursion GoesRight (steps (gs ++ x ∷ []))
-goes_more gs x all right = subst (λ w. AllByRecursion GoesRight w) (sym (steps-snoc gs x)) (more GoesRight (steps gs) _ all right)
+goes_more : (gs : List Going) (x : Going) → AllByRecursion GoesAsCharged (steps gs) → GoesAsCharged (record { before = gs; this = x }) → AllByRecursion GoesAsCharged (steps (gs ++ x ∷ []))
+goes_more gs x all right = subst (λ w. AllByRecursion GoesAsCharged w) (sym (steps-snoc gs x)) (more GoesAsCharged (steps gs) _ all right)
   where
     more : (R : Step Going → Type 0) (xs : List (Step Going)) (y : Step Going) → AllByRecursion R xs → R y → AllByRecursion R (xs ++ y ∷ [])
     more R [] y all r = (r, tt)
     more R (x ∷ xs) y all r = (all.0, more R xs y all.1 r)
 
-quiet_goes : (gs : List Going) (e : Entry) → IsIdle (entries_of gs) e → GoesRight (record { before = gs; this = still e })
+quiet_goes : (gs : List Going) (e : Entry) → IsIdle (entries_of gs) e → GoesAsCharged (record { before = gs; this = still e })
 quiet_goes gs e i = record { same = rw i.outs refl; at_ticks = rw i.rests refl }
 
 pub bucket_stays : (c : Config) (past : List Entry) (e : Entry) (b : BucketContent Outgoing) → Quiet e → IsIdle past e → BucketFits c past b → BucketFits c (past ++ e ∷ []) b
@@ -144,39 +144,39 @@ bucket_stays c past e b q i h = record {
 
 -- the session message
 
-no_pause : (c : Config) (past : List Entry) (e : Entry) → e.effects.outs ≡ [] → pause_after c (record { before = past; this = e }) ≡ None
+no_pause : (c : Config) (past : List Entry) (e : Entry) → e.effects.outs ≡ [] → interval_after c (record { before = past; this = e }) ≡ None
 no_pause c past e none = rw none refl
 
 pub same_due : (c : Config) (made : ℕ) (past : List Entry) (e : Entry) → e.effects.outs ≡ [] → session_due c made (past ++ e ∷ []) ≡ session_due c made past
 same_due c made past e none =
     ap (λ o. unwrap_or o (made + 1000000))
-    (ap (last_of (pause_after c)) (steps-snoc past e) ∙ last_of-snoc (pause_after c) (steps past) (record { before = past; this = e })
-    ∙ ap (λ o. or_else o (last_of (pause_after c) (steps past))) (no_pause c past e none))
+    (ap (last_of (interval_after c)) (steps-snoc past e) ∙ last_of-snoc (interval_after c) (steps past) (record { before = past; this = e })
+    ∙ ap (λ o. or_else o (last_of (interval_after c) (steps past))) (no_pause c past e none))
 
 -- the entry is one that those before it allow
 
-no_setting : (me : ℕ) (past : List Entry) (e : Entry) (n : FullName) → Quiet e → setting_of me past e n ≡ None
+no_setting : (me : ℕ) (past : List Entry) (e : Entry) (n : FullName) → Quiet e → basis_of me past e n ≡ None
 no_setting me past e n q = go (is_held past n) refl
   where
-    nothing : (b : Bool) (o : Option Setting) → o ≡ None → (if b then o else None) ≡ None
+    nothing : (b : Bool) (o : Option WaitBasis) → o ≡ None → (if b then o else None) ≡ None
     nothing true o e = e
     nothing false o e = refl
 
-    fix : fix_setting me past e n ≡ None
+    fix : fix_basis_of me past e n ≡ None
     fix = nothing (is_held past n && not (is_some (fix_running past n)) && not (held_off me past n e.moment)) _ (rw (not_asked n e q) refl)
 
     exponent : (b : Bool) → is_missing past n ≡ b → ask_exponent past e n ≡ None
     exponent true m = rw (m, not_asked n e q, q.asks) refl
     exponent false m = rw (m, same_missing past e n q, m) refl
 
-    go : (b : Bool) → is_held past n ≡ b → setting_of me past e n ≡ None
-    go true h = ap (λ (b : Bool). if b then fix_setting me past e n else ask_setting me past e n) h ∙ fix
-    go false h = ap (λ (b : Bool). if b then fix_setting me past e n else ask_setting me past e n) h ∙ ap (option_map (ask_at me (past ++ e ∷ []) n)) (exponent (is_missing past n) refl)
+    go : (b : Bool) → is_held past n ≡ b → basis_of me past e n ≡ None
+    go true h = ap (λ (b : Bool). if b then fix_basis_of me past e n else ask_basis_of me past e n) h ∙ fix
+    go false h = ap (λ (b : Bool). if b then fix_basis_of me past e n else ask_basis_of me past e n) h ∙ ap (option_map (ask_at me (past ++ e ∷ []) n)) (exponent (is_missing past n) refl)
 
 pub no_arms : (c : Config) (past : List Entry) (e : Entry) → Quiet e → ArmsRight c past e
 no_arms c past e q = record {
   in_order = rw q.arms refl;
-  exact = λ n. ap (λ (as_ : List Arm). option_map setting (arm_of n as_)) q.arms ∙ sym (no_setting c.me past e n q);
+  exact = λ n. ap (λ (as_ : List Arm). option_map wait_basis (arm_of n as_)) q.arms ∙ sym (no_setting c.me past e n q);
   waits = rw q.arms tt;
 }
 

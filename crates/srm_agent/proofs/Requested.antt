@@ -18,19 +18,19 @@ use Rattle.srm_entries.specs.declared.entry.Entry.{Entry}
 use Rattle.srm_entries.specs.declared.entry.Input.TheVariants.{Heard}
 use Rattle.srm_entries.specs.declared.state.AgentState.{AgentState}
 use Rattle.srm_entries.specs.Configs.{Config}
-use Rattle.srm_entries.specs.Entries.{is_gone, known, held, shown_to_exist}
+use Rattle.srm_entries.specs.Entries.{is_gone, known, held, evidence_in}
 use Rattle.srm_entries.specs.Distances.{distance_calls, calls_in}
 use Rattle.srm_entries.specs.Verdicts.{settlings}
 use Rattle.srm_agent.specs.Growth.{IsFreshUpTo}
 use Rattle.srm_names.specs.Between.{is_between}
-use Rattle.srm_agent_parts.specs.Growth.{ShowsToo}
+use Rattle.srm_agent_parts.specs.Growth.{LearnsNames}
 use Rattle.srm_agent_parts.specs.PageTables.{with_pages_of}
 use Rattle.srm_agent_parts.specs.TimersKept.{HaveSettings}
 use Rattle.srm_distance.specs.Fits.{IsTableOf}
 use Rattle.srm_agent_parts.specs.TimerCalls.{AreDistancesAfter, TimersHearRequest, WaitsAreDrawn}
 use Rattle.srm_agent.specs.Contents.{Content}
 use Rattle.srm_agent.specs.Fits.{Fits}
-use Rattle.srm_agent.specs.Heeding.{IsTaken, heard_entry}
+use Rattle.srm_agent.specs.Heeding.{IsAccepted, heard_entry}
 use Rattle.srm_agent.specs.Noting.{Enters}
 use Rattle.srm_entries.proofs.Adding.{flat_map-snoc}
 use Rattle.srm_agent.proofs.Evident.{fresh_request}
@@ -47,8 +47,8 @@ no_calls : (me : ℕ) (past : List Entry) (moment sender : ℕ) (name : FullName
 no_calls me past moment sender name mask arms s = flat_map-snoc (calls_in me) past (heard_entry me moment (Request sender name mask) arms s) ∙ append-nil (distance_calls me past)
 
 pub request_enters : {W : Type 0} (draw : W → ℕ × W) (a b : Content W) (moment sender : ℕ) (name : FullName) (mask : ℕ) (names fresh : List FullName) (dist : List ℕ) (arms : List Arm) (roomy : StoreContent) (e : Entry)
-    → names ≡ asked_by name mask → is_gone a.state ≡ false → IsSpellable (Request sender name mask) → a.last ≤ moment → IsTaken (Request sender name mask) a → IsFreshUpTo name.stream names a fresh → IsTableOf a.distances dist
-    → TimersHearRequest roomy sender names fresh dist moment arms a.timers b.timers → StillFits a.store roomy → ShowsToo names roomy b.store → b.pages ≡ with_pages_of a.pages names → b.distances ≡ a.distances → Goes a b moment
+    → names ≡ asked_by name mask → is_gone a.state ≡ false → IsSpellable (Request sender name mask) → a.last ≤ moment → IsAccepted (Request sender name mask) a → IsFreshUpTo name.stream names a fresh → IsTableOf a.distances dist
+    → TimersHearRequest roomy sender names fresh dist moment arms a.timers b.timers → StillFits a.store roomy → LearnsNames names roomy b.store → b.pages ≡ with_pages_of a.pages names → b.distances ≡ a.distances → Goes a b moment
     → HaveSettings a.config a.timers → WaitsAreDrawn draw a.timers a.words arms b.words → e ≡ heard_entry a.config.me moment (Request sender name mask) arms a.state
     → Enters draw (Some moment) (Heard (Request sender name mask)) a b e
 request_enters draw a b moment sender name mask names fresh dist arms roomy e asked here spellable late taken up_to table hears kept shows pages same goes settings drawn e_is =
@@ -61,7 +61,7 @@ request_enters draw a b moment sender name mask names fresh dist arms roomy e as
 
     heeds : (c : Config) (made : ℕ) (past : List Entry) → Fits c made past a → Heeds c made past a b moment (Request sender name mask) (heard_entry c.me moment (Request sender name mask) arms a.state)
     heeds c made past h =
-        let old_fits = kept.each (held past) (shown_to_exist past) (settlings past) h.store in
+        let old_fits = kept.each (held past) (evidence_in past) (settlings past) h.store in
         record {
           fits = h;
           later = subst (λ n. n ≤ moment) h.last late;
@@ -71,7 +71,7 @@ request_enters draw a b moment sender name mask names fresh dist arms roomy e as
           timers = hears.each c past (heard_entry c.me moment (Request sender name mask) arms a.state) (Request sender name mask) (refl, sym asked)
               (record { heard = refl; read = spellable; moment = refl; drawn = refl; arms = refl; asks = refl; fixes = refl }) h.timers old_fits
               (fresh_request past c.me moment sender name mask arms a.state fresh (subst (λ ns. AreExactly (is_between name.stream (known past name.stream) (greatest_in ns name.stream + 1)) fresh) asked (up_to.each c made past h))) (after c made past h);
-          store = rw (append-nil (held past), append-nil (settlings past)) (subst (λ ns. store.Fits (held past) (shown_to_exist past ++ ns) (settlings past) b.store) asked (shows.each (held past) (shown_to_exist past) (settlings past) old_fits));
+          store = rw (append-nil (held past), append-nil (settlings past)) (subst (λ ns. store.Fits (held past) (evidence_in past ++ ns) (settlings past) b.store) asked (shows.each (held past) (evidence_in past) (settlings past) old_fits));
           distances = rw (append-nil (distance_calls c.me past), same) h.distances;
           pages = pages ∙ ap (with_pages_of a.pages) asked;
           goes = goes;

@@ -23,12 +23,12 @@ use Rattle.srm_entries.specs.declared.entry.Input.TheVariants.{Heard}
 use Rattle.srm_entries.specs.declared.entry.Verdict.TheVariants.{Done}
 use Rattle.srm_entries.specs.Causes.{ignored_for}
 use Rattle.srm_entries.specs.Configs.{Config}
-use Rattle.srm_entries.specs.Entries.{is_gone, slots, held, shown_to_exist}
+use Rattle.srm_entries.specs.Entries.{is_gone, slots, held, evidence_in}
 use Rattle.srm_entries.specs.Verdicts.{verdict_of, settlings}
 use Rattle.srm_agent_parts.specs.PageTables.{lacks_room_for, pages_of}
 use Rattle.srm_agent.specs.Contents.{Content}
 use Rattle.srm_agent.specs.Fits.{Fits}
-use Rattle.srm_agent.specs.Heeding.{IsJudgedBy, IsTaken, MayTake}
+use Rattle.srm_agent.specs.Heeding.{IsJudgedBy, IsAccepted, MayAccept}
 use Rattle.srm_agent.specs.Noting.{Enters, Stays}
 use Rattle.srm_agent.proofs.Drawn.{slots_suffice}
 use Rattle.srm_agent.proofs.Ignoring.{ignored_datagram, ignored_judged, ignored_entry}
@@ -41,10 +41,10 @@ with_store a s = record a { store = s }
 pub stays_roomy : {W : Type 0} (a : Content W) (s : StoreContent) → StillFits a.store s → Stays a (with_store a s)
 stays_roomy a s kept = stays a s a.timers a.words kept (same_timers a.timers) refl
 
-pub taken_roomy : {W : Type 0} (g : Datagram) (a : Content W) (s : StoreContent) → StillFits s a.store → IsTaken g a → IsTaken g (with_store a s)
+pub taken_roomy : {W : Type 0} (g : Datagram) (a : Content W) (s : StoreContent) → StillFits s a.store → IsAccepted g a → IsAccepted g (with_store a s)
 taken_roomy g a s before taken = record { each = λ c made past h. taken.each c made past ((stays_roomy (with_store a s) a.store before).fits c made past h) }
 
-pub may_roomy : {W : Type 0} (g : Datagram) (names : List FullName) (moment : ℕ) (a : Content W) (s : StoreContent) → StillFits s a.store → MayTake g names moment a → MayTake g names moment (with_store a s)
+pub may_roomy : {W : Type 0} (g : Datagram) (names : List FullName) (moment : ℕ) (a : Content W) (s : StoreContent) → StillFits s a.store → MayAccept g names moment a → MayAccept g names moment (with_store a s)
 may_roomy g names moment a s before may = record {
   here = may.here;
   spelled = may.spelled;
@@ -67,18 +67,18 @@ enters_roomy draw a b s moment input e kept enters = record {
 pub stays_on_roomy : {W : Type 0} (a b : Content W) (s : StoreContent) → StillFits a.store s → Stays (with_store a s) b → Stays a b
 stays_on_roomy a b s kept on = record { fits = λ c made past h. on.fits c made past ((stays_roomy a s kept).fits c made past h); words = on.words }
 
-pub judged_taken : {W : Type 0} (g : Datagram) (a : Content W) (e : Entry) → IsTaken g a → e.verdict ≡ Done → IsJudgedBy g a e
+pub judged_taken : {W : Type 0} (g : Datagram) (a : Content W) (e : Entry) → IsAccepted g a → e.verdict ≡ Done → IsJudgedBy g a e
 judged_taken g a e taken done = record { each = λ c made past h. done ∙ taken.each c made past h }
 
 -- the store has slots where the page table has
 abbrev pub Outgrows : StoreContent → List FullName → Type 0
-Outgrows s names = (inserted : List Drawop) (shown : List FullName) (settled : List Settling) → store.Fits inserted shown settled s → outgrow inserted shown (map page_of_name names) ≡ true
+Outgrows s names = (inserted : List Drawop) (evidence : List FullName) (settled : List Settling) → store.Fits inserted evidence settled s → outgrow inserted evidence (map page_of_name names) ≡ true
 
 pub never_full : {W : Type 0} (g : Datagram) (a : Content W) (names : List FullName) → lacks_room_for a.pages names ≡ false → Outgrows a.store names
     → (c : Config) (made : ℕ) (past : List Entry) → Fits c made past a → ignored_for (Some causes.PageLimit) ≡ verdict_of c past (Heard g)
 never_full g a names room full c made past h =
     let fine : nat_lt PAGES (length (firsts same_page (slots past ++ pages_of names))) ≡ false = subst (λ (ps : List Page). nat_lt PAGES (length (firsts same_page (ps ++ pages_of names))) ≡ false) h.pages room in
-    absurd (false≢true (sym (slots_suffice c made past (pages_of names) h.run fine) ∙ full (held past) (shown_to_exist past) (settlings past) h.store))
+    absurd (false≢true (sym (slots_suffice c made past (pages_of names) h.run fine) ∙ full (held past) (evidence_in past) (settlings past) h.store))
 
 pub unslotted_enters : {W : Type 0} (draw : W → ℕ × W) (a b : Content W) (moment : ℕ) (g : Datagram) (names : List FullName) (e : Entry) → is_gone a.state ≡ false → a.last ≤ moment
     → lacks_room_for a.pages names ≡ false → Outgrows a.store names → b ≡ record a { last = moment } → e ≡ ignored_entry a moment (Heard g) causes.PageLimit → Enters draw (Some moment) (Heard g) a b e
@@ -90,9 +90,9 @@ unslotted_judged a moment g names e room full is = ignored_judged a moment g cau
 
 -- what room says where it is refused for pages
 pub at_full : (s : StoreContent) (names : List FullName) (r : Result (Unit {0}) StoreFault) → r ≡ Err PageLimit
-    → ((inserted : List Drawop) (shown : List FullName) (settled : List Settling) → store.Fits inserted shown settled s → ((r ≡ Err PageLimit) ↔ (outgrow inserted shown (map page_of_name names) ≡ true)))
+    → ((inserted : List Drawop) (evidence : List FullName) (settled : List Settling) → store.Fits inserted evidence settled s → ((r ≡ Err PageLimit) ↔ (outgrow inserted evidence (map page_of_name names) ≡ true)))
     → Outgrows s names
-at_full s names r e limit inserted shown settled h = (limit inserted shown settled h).0 e
+at_full s names r e limit inserted evidence settled h = (limit inserted evidence settled h).0 e
 
 pub with_moment : {W : Type 0} (a b : Content W) (s : StoreContent) (moment : ℕ) → s ≡ a.store → b ≡ record a { store = s; last = moment } → b ≡ record a { last = moment }
 with_moment a b s moment same new = new ∙ ap (λ t. record a { store = t; last = moment }) same

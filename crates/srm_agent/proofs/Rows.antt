@@ -21,11 +21,11 @@ use Rattle.srm_store.specs.Held.{number_in}
 use Rattle.srm_entries.specs.declared.entry.Entry.{Entry}
 use Rattle.srm_entries.specs.Configs.{Config}
 use Rattle.srm_agent.specs.Contents.{Content}
-use Rattle.srm_entries.specs.Entries.{done, pages_in, known, shown, slots, shown_to_exist}
+use Rattle.srm_entries.specs.Entries.{done, pages_in, known, shown, slots, evidence_in}
 use Rattle.srm_entries.specs.Runs.{EntryRight}
-use Rattle.srm_entries.specs.Sessions.{if_positive, row_at}
+use Rattle.srm_entries.specs.Sessions.{if_positive, number_in_rows}
 use Rattle.srm_entries.specs.Verdicts.{stream_on}
-use Rattle.srm_agent.specs.Reports.{row_for, IsRow, AreOf, AreRowsOf, streams_on, AreShown, AreOwn, AreReported}
+use Rattle.srm_agent.specs.Reports.{row_for, IsRow, AreRowsInOrder, AreRowsOf, streams_on, AreShown, AreOwnStreams, AreReported}
 use Rattle.srm_entries.proofs.Telling.{ToldRight, told_step, told_start}
 
 -- ---- one row
@@ -50,12 +50,12 @@ row_spelled s (suc k) o source page low is =
 
 -- ---- rows of streams
 
-of_none : (ss : List Stream) (s : Stream) (rows : List FullName) → AreOf ss rows → AreOf (ss ++ s ∷ []) rows
+of_none : (ss : List Stream) (s : Stream) (rows : List FullName) → AreRowsInOrder ss rows → AreRowsInOrder (ss ++ s ∷ []) rows
 of_none [] s rows e = inl e
 of_none (x ∷ ss) s rows (inl h) = inl (of_none ss s rows h)
 of_none (x ∷ ss) s rows (inr (r, rest, e, f, n, h)) = inr (r, rest, e, f, n, of_none ss s rest h)
 
-of_some : (ss : List Stream) (s : Stream) (rows : List FullName) (r : FullName) → AreOf ss rows → r.stream ≡ s → is_name r → AreOf (ss ++ s ∷ []) (rows ++ r ∷ [])
+of_some : (ss : List Stream) (s : Stream) (rows : List FullName) (r : FullName) → AreRowsInOrder ss rows → r.stream ≡ s → is_name r → AreRowsInOrder (ss ++ s ∷ []) (rows ++ r ∷ [])
 of_some [] s rows r e f n = inr (r, [], ap (λ w. w ++ r ∷ []) e, f, n, refl)
 of_some (x ∷ ss) s rows r (inl h) f n = inl (of_some ss s rows r h f n)
 of_some (x ∷ ss) s rows r (inr (q, rest, e, g, m, h)) f n = inr (q, rest ++ r ∷ [], ap (λ w. w ++ r ∷ []) e, g, m, of_some ss s rest r h f n)
@@ -93,37 +93,37 @@ skipped s t (u ∷ ss) up =
     let tail : ascending stream_below (t ∷ u ∷ ss) ≡ true = and_right _ _ up in
     and_from _ _ (below_trans s t u (and_left _ _ up) (and_left _ _ tail)) (and_right _ _ tail)
 
-rise_after : (s : Stream) (ss : List Stream) (rows : List FullName) (r : FullName) → ascending stream_below (s ∷ ss) ≡ true → r.stream ≡ s → AreOf ss rows → ascending row_below (r ∷ rows) ≡ true
+rise_after : (s : Stream) (ss : List Stream) (rows : List FullName) (r : FullName) → ascending stream_below (s ∷ ss) ≡ true → r.stream ≡ s → AreRowsInOrder ss rows → ascending row_below (r ∷ rows) ≡ true
 rise_after s [] rows r up q h = ap (λ w. ascending row_below (r ∷ w)) h
 rise_after s (t ∷ ss) rows r up q (inl h) = rise_after s ss rows r (skipped s t ss up) q h
 rise_after s (t ∷ ss) rows r up q (inr (x, rest, e, f, n, h)) =
     ap (λ w. ascending row_below (r ∷ w)) e
     ∙ and_from _ _ (ap (λ u. stream_below u x.stream) q ∙ ap (stream_below s) f ∙ and_left _ _ up) (rise_after t ss rest x (and_right _ _ up) f h)
 
-rising : (ss : List Stream) (rows : List FullName) → ascending stream_below ss ≡ true → AreOf ss rows → ascending row_below rows ≡ true
+rising : (ss : List Stream) (rows : List FullName) → ascending stream_below ss ≡ true → AreRowsInOrder ss rows → ascending row_below rows ≡ true
 rising [] rows up h = ap (ascending row_below) h
 rising (s ∷ []) rows up (inl h) = rising [] rows refl h
 rising (s ∷ t ∷ ss) rows up (inl h) = rising (t ∷ ss) rows (and_right _ _ up) h
 rising (s ∷ ss) rows up (inr (r, rest, e, f, n, h)) = ap (ascending row_below) e ∙ rise_after s ss rest r up f h
 
-few_rows : (ss : List Stream) (rows : List FullName) → AreOf ss rows → length rows ≤ length ss
+few_rows : (ss : List Stream) (rows : List FullName) → AreRowsInOrder ss rows → length rows ≤ length ss
 few_rows [] rows h = let e : length rows ≡ 0 = ap length h in omega arith
 few_rows (s ∷ ss) rows (inl h) = let l = few_rows ss rows h in omega arith
 few_rows (s ∷ ss) rows (inr (r, rest, e, f, n, h)) = let l = few_rows ss rest h in let k : length rows ≡ suc (length rest) = ap length e in omega arith
 
-names_of_rows : (ss : List Stream) (rows : List FullName) → AreOf ss rows → AllByRecursion is_name rows
+names_of_rows : (ss : List Stream) (rows : List FullName) → AreRowsInOrder ss rows → AllByRecursion is_name rows
 names_of_rows [] rows h = subst (AllByRecursion is_name) (sym h) tt
 names_of_rows (s ∷ ss) rows (inl h) = names_of_rows ss rows h
 names_of_rows (s ∷ ss) rows (inr (r, rest, e, f, n, h)) = subst (AllByRecursion is_name) (sym e) (n, names_of_rows ss rest h)
 
-sources_of_rows : (P : ℕ → Type 0) (ss : List Stream) (rows : List FullName) → AllByRecursion (λ (s : Stream). P s.source) ss → AreOf ss rows → AllByRecursion (λ (r : FullName). P r.stream.source) rows
+sources_of_rows : (P : ℕ → Type 0) (ss : List Stream) (rows : List FullName) → AllByRecursion (λ (s : Stream). P s.source) ss → AreRowsInOrder ss rows → AllByRecursion (λ (r : FullName). P r.stream.source) rows
 sources_of_rows P [] rows all h = subst (AllByRecursion (λ (r : FullName). P r.stream.source)) (sym h) tt
 sources_of_rows P (s ∷ ss) rows all (inl h) = sources_of_rows P ss rows all.1 h
 sources_of_rows P (s ∷ ss) rows all (inr (r, rest, e, f, n, h)) =
     subst (AllByRecursion (λ (q : FullName). P q.stream.source)) (sym e) (subst (λ (t : Stream). P t.source) (sym f) all.0, sources_of_rows P ss rest all.1 h)
 
 are_rows : (farewell : Bool) (me : ℕ) (ss : List Stream) (rows : List FullName) → length ss ≤ MEMBERS → ascending stream_below ss ≡ true
-    → AllByRecursion (λ (s : Stream). farewell ≡ true → s.source ≡ me) ss → AreOf ss rows → AreRows farewell me rows
+    → AllByRecursion (λ (s : Stream). farewell ≡ true → s.source ≡ me) ss → AreRowsInOrder ss rows → AreRows farewell me rows
 are_rows farewell me ss rows few up from h = record {
   few = let l = few_rows ss rows h in omega arith;
   names = names_of_rows ss rows h;
@@ -134,7 +134,7 @@ are_rows farewell me ss rows few up from h = record {
 -- ---- the row of a stream among them
 
 row_among : (past : List Entry) (s t : Stream) (o : Option ℕ) (rest : List FullName) (later : Bool) (b : Bool) → same_stream s t ≡ b → if_positive (known past t) ≡ o
-    → row_at rest s ≡ (if later then if_positive (known past s) else None) → row_at (cons_option (option_map (named t) o) rest) s ≡ (if b || later then if_positive (known past s) else None)
+    → number_in_rows rest s ≡ (if later then if_positive (known past s) else None) → number_in_rows (cons_option (option_map (named t) o) rest) s ≡ (if b || later then if_positive (known past s) else None)
 row_among past s t None rest later false e f more = more
 row_among past s t (Some k) rest later false e f more = ap (λ b. option_map (λ (n : FullName). n.number) (if b then Some (named t k) else find (λ (n : FullName). same_stream s n.stream) rest)) e ∙ more
 row_among past s t (Some k) rest later true e f more =
@@ -142,7 +142,7 @@ row_among past s t (Some k) rest later true e f more =
 row_among past s t None rest true true e f more = more
 row_among past s t None rest false true e f more = more ∙ sym (ap (λ u. if_positive (known past u)) (same_stream-is s t e) ∙ f)
 
-row_at_is : (past : List Entry) (ss : List Stream) (s : Stream) → row_at (filter_map (row_for past) ss) s ≡ (if list_any (same_stream s) ss then if_positive (known past s) else None)
+row_at_is : (past : List Entry) (ss : List Stream) (s : Stream) → number_in_rows (filter_map (row_for past) ss) s ≡ (if list_any (same_stream s) ss then if_positive (known past s) else None)
 row_at_is past [] s = refl
 row_at_is past (t ∷ ss) s = row_among past s t (if_positive (known past t)) (filter_map (row_for past) ss) (list_any (same_stream s) ss) (same_stream s t) refl refl (row_at_is past ss s)
 
@@ -204,7 +204,7 @@ pub rows_of_page : {W : Type 0} (a : Content W) (streams : List Stream) (rows : 
 rows_of_page a streams rows page are = record {
   right = λ c made past now fits. record {
     in_order = rising streams rows up are.spelled;
-    exact = λ s. ap (λ w. row_at w s) (are.value c made past fits) ∙ row_at_is past streams s
+    exact = λ s. ap (λ w. number_in_rows w s) (are.value c made past fits) ∙ row_at_is past streams s
         ∙ ap (λ b. if b then if_positive (known past s) else None)
         (ap (list_any (same_stream s)) page.are ∙ on_page s a.showing 0 a.config.members ∙ ap (λ b. same_page s.page a.showing && b) (from_zero s.source a.config.members)
         ∙ ap (λ p. same_page s.page p && nat_lt s.source a.config.members) fits.showing ∙ ap (λ (k : Config). same_page s.page (shown past) && nat_lt s.source k.members) fits.config);
@@ -247,20 +247,20 @@ told_right : (c : Config) (made : ℕ) (past : List Entry) → AllByRecursion (E
 told_right c made past all = along (EntryRight c made) (ToldRight c) (λ before e p r. told_step c made before e p r) [] past (told_start c) all
 
 unknown : (c : Config) (made : ℕ) (past : List Entry) (s : Stream) → AllByRecursion (EntryRight c made) (steps past) → list_any (same_page s.page) (slots past) ≡ false → known past s ≡ 0
-unknown c made past s all none = none_numbered s (shown_to_exist past) (λ n h. by n h (same_stream s n.stream) refl)
+unknown c made past s all none = none_numbered s (evidence_in past) (λ n h. by n h (same_stream s n.stream) refl)
   where
-    by : (n : FullName) → Has n (shown_to_exist past) → (b : Bool) → same_stream s n.stream ≡ b → b ≡ false
+    by : (n : FullName) → Has n (evidence_in past) → (b : Bool) → same_stream s n.stream ≡ b → b ≡ false
     by n h false e = refl
     by n h true e =
         let there : Has n.stream.page (slots past) = Has-firsts n.stream.page (first_page ∷ flat_map (λ (e : Entry). pages_in (done e)) past) ((told_right c made past all).paged n h) in
         let not_there : same_page s.page n.stream.page ≡ false = none_passes (same_page s.page) (slots past) n.stream.page none there in
         absurd (let k : true ≡ false = sym (and_right (s.source == n.stream.source) (same_page s.page n.stream.page) e) ∙ not_there in cc)
 
-pub rows_of_own : {W : Type 0} (a : Content W) (streams : List Stream) (rows : List FullName) → AreOwn a streams → AreRowsOf a streams rows → AreReported a true rows
+pub rows_of_own : {W : Type 0} (a : Content W) (streams : List Stream) (rows : List FullName) → AreOwnStreams a streams → AreRowsOf a streams rows → AreReported a true rows
 rows_of_own a streams rows own are = record {
   right = λ c made past now fits. record {
     in_order = rising streams rows up are.spelled;
-    exact = λ s. ap (λ w. row_at w s) (are.value c made past fits) ∙ row_at_is past streams s
+    exact = λ s. ap (λ w. number_in_rows w s) (are.value c made past fits) ∙ row_at_is past streams s
         ∙ ap (λ b. if b then if_positive (known past s) else None)
         (ap (list_any (same_stream s)) own.are ∙ on_own a.config.me s own.sorted ∙ ap (λ b. (s.source == a.config.me) && b) (own.pages.exact s.page ∙ ap (list_any (same_page s.page)) fits.pages)
         ∙ ap (λ (k : Config). (s.source == k.me) && list_any (same_page s.page) (slots past)) fits.config)

@@ -15,7 +15,7 @@ use Rattle.srm_outbox.specs.declared.out.Outgoing.{Outgoing}
 use Rattle.srm_entries.specs.Configs.{Config}
 use Rattle.srm_entries.specs.Entries.{ticked, state, is_gone, shown}
 use Rattle.srm_entries.specs.Sessions.{charged}
-use Rattle.srm_entries.specs.Bucket.{Going, GoesRight, entries_of, lets_go, pops, bucket_calls, handed_by, answers_in, answer_item, data_item, datagrams_of}
+use Rattle.srm_entries.specs.Bucket.{Going, GoesAsCharged, entries_of, lets_go, pops, bucket_calls, handed_by, answers_in, answer_item, data_item, datagrams_of}
 use Rattle.srm_agent.specs.Fits.{BucketFits}
 use Rattle.srm_outbox.specs.Outs.{datagram_of, IsOwn, AreOwn}
 use Rattle.srm_outbox.specs.Answering.{AreAnswers, classed_of}
@@ -54,7 +54,7 @@ pub bucket_ticks : (c : Config) (session : ℕ) (past : List Entry) (e : Entry) 
 bucket_ticks c session past e old handed new showing gs answers went h own spelled page hands goes sends = record {
   goings = h.goings ++ x ∷ [];
   entries = entries-snoc h.goings x ∙ ap (λ es. es ++ e ∷ []) h.entries;
-  goes = steps_more GoesRight h.goings x h.goes right;
+  goes = steps_more GoesAsCharged h.goings x h.goes right;
   calls = (h.calls ++ map Handed (map classed_of answers)) ++ pops e.moment g.goes;
   read = read;
   fits = g.fits;
@@ -72,7 +72,7 @@ bucket_ticks c session past e old handed new showing gs answers went h own spell
     lets : lets_go (record { before = h.goings; this = x }) ≡ true
     lets = ap (λ b. b && not (is_gone (state (entries_of h.goings)))) sends.ticked ∙ ap (λ es. not (is_gone (state es))) h.entries ∙ ap not sends.here
 
-    right : GoesRight (record { before = h.goings; this = x })
+    right : GoesAsCharged (record { before = h.goings; this = x })
     right = record {
       same = datagrams_read g.goes ∙ ap (map datagram_of) g.items_are ∙ sym (noted_are c.me session goes.items own_items) ∙ sym goes.noted ∙ sym sends.charged_are;
       at_ticks = subst (λ b. OnTrue (not b) (x.goes ≡ [])) (sym lets) tt;

@@ -13,7 +13,7 @@ use Rattle.srm_entries.specs.Configs.{Config}
 use Rattle.srm_entries.specs.Entries.{done_input, heard_in, page_shown, is_tick, clock_of, state, is_gone, slots}
 use Rattle.srm_entries.specs.Verdicts.{VerdictRight}
 use Rattle.srm_entries.specs.Giving.{given, given_in, MessageRight}
-use Rattle.srm_entries.specs.Runs.{EntryRight, MomentRight, drawop_due, state_due}
+use Rattle.srm_entries.specs.Runs.{EntryRight, MomentRight, expected_drawop, expected_state}
 use Rattle.srm_agent_parts.specs.Progress.{ProgressContent, ProgressFits}
 use Rattle.srm_agent.specs.Contents.{Content}
 use Rattle.srm_agent.specs.Fits.{Fits, EachProgressFits}
@@ -26,12 +26,12 @@ use Rattle.srm_agent.proofs.Quiet.{Quiet, same_held, same_shown, same_drawn, sam
 -- what an entry without effects may be, after these entries
 pub record MayFollow (c : Config) (made : ℕ) (past : List Entry) (moment : ℕ) (input : Input) (verdict : Verdict) (message : Option PageMsg) (after : AgentState) : Type 0 where
   pub unheard : heard_in (done_input verdict input) ≡ None
-  pub undrawn : drawop_due c past moment (done_input verdict input) ≡ None
+  pub undrawn : expected_drawop c past moment (done_input verdict input) ≡ None
   pub idle : (is_tick input && not (is_gone (state past))) ≡ false
   pub moment_right : MomentRight c made past (still_entry c.me moment input verdict message after)
   pub verdict_right : VerdictRight c past input verdict
   pub message_right : MessageRight c past input message
-  pub state_right : after ≡ state_due (state past) false (done_input verdict input)
+  pub state_right : after ≡ expected_state (state past) false (done_input verdict input)
 
 quiet : (c : Config) (made : ℕ) (past : List Entry) (moment : ℕ) (input : Input) (verdict : Verdict) (message : Option PageMsg) (after : AgentState)
     → MayFollow c made past moment input verdict message after → Quiet (still_entry c.me moment input verdict message after)

@@ -20,7 +20,7 @@ use Rattle.srm_entries.specs.declared.entry.Entry.{Entry}
 use Rattle.srm_entries.specs.declared.entry.Input.TheVariants.{Heard}
 use Rattle.srm_entries.specs.declared.state.AgentState.{AgentState}
 use Rattle.srm_entries.specs.Configs.{Config}
-use Rattle.srm_entries.specs.Entries.{is_gone, held, shown_to_exist, drawops_in}
+use Rattle.srm_entries.specs.Entries.{is_gone, held, evidence_in, drawops_in}
 use Rattle.srm_entries.specs.Distances.{distance_calls, calls_in, calls_of}
 use Rattle.srm_entries.specs.Verdicts.{settlings, settling_of}
 use Rattle.srm_names.specs.Between.{is_between}
@@ -31,7 +31,7 @@ use Rattle.srm_distance.specs.Fits.{IsTableOf}
 use Rattle.srm_agent_parts.specs.TimerCalls.{AreDistancesAfter, IsDrawopOf, TimersHear, TimersStay, WaitsAreDrawn}
 use Rattle.srm_agent.specs.Contents.{Content}
 use Rattle.srm_agent.specs.Fits.{Fits}
-use Rattle.srm_agent.specs.Heeding.{IsTaken, IsFreshBelow, MayTake, carrying, heard_entry}
+use Rattle.srm_agent.specs.Heeding.{IsAccepted, IsFreshBelow, MayAccept, carrying, heard_entry}
 use Rattle.srm_agent.specs.Noting.{Enters, Stays}
 use Rattle.srm_entries.proofs.Adding.{flat_map-snoc}
 use Rattle.srm_agent.proofs.Fitting.{refit}
@@ -84,15 +84,15 @@ carrying_is None d repaired e = rw e refl
 carrying_is (Some sender) d repaired e = rw e refl
 
 -- the name of a drawop that may be taken
-pub may_carry : {W : Type 0} (repairer : Option ℕ) (d : Drawop) (names : List FullName) (moment : ℕ) (a : Content W) → MayTake (carrying repairer d) names moment a → MayTake (carrying repairer d) (d.name ∷ []) moment a
-may_carry repairer d names moment a may = subst (λ ns. MayTake (carrying repairer d) ns moment a) (may.named ∙ (carrying_brings repairer d).names) may
+pub may_carry : {W : Type 0} (repairer : Option ℕ) (d : Drawop) (names : List FullName) (moment : ℕ) (a : Content W) → MayAccept (carrying repairer d) names moment a → MayAccept (carrying repairer d) (d.name ∷ []) moment a
+may_carry repairer d names moment a may = subst (λ ns. MayAccept (carrying repairer d) ns moment a) (may.named ∙ (carrying_brings repairer d).names) may
 
 no_calls : (me : ℕ) (past : List Entry) (moment : ℕ) (d : Drawop) (g : Datagram) (arms : List Arm) (s : AgentState) → BringsOne d g → distance_calls me (past ++ heard_entry me moment g arms s ∷ []) ≡ distance_calls me past
 no_calls me past moment d g arms s one =
     flat_map-snoc (calls_in me) past (heard_entry me moment g arms s) ∙ ap (λ cs. distance_calls me past ++ cs) (one.uncalled me moment) ∙ append-nil (distance_calls me past)
 
 pub drawop_enters : {W : Type 0} (draw : W → ℕ × W) (a b : Content W) (moment : ℕ) (g : Datagram) (is : Datagram → Type 0) (d : Drawop) (fresh : List FullName) (dist : List ℕ) (arms : List Arm) (roomy : StoreContent) (e : Entry)
-    → BringsOne d g → is g → is_gone a.state ≡ false → IsSpellable g → a.last ≤ moment → IsTaken g a → IsFreshBelow d.name a fresh → IsTableOf a.distances dist
+    → BringsOne d g → is g → is_gone a.state ≡ false → IsSpellable g → a.last ≤ moment → IsAccepted g a → IsFreshBelow d.name a fresh → IsTableOf a.distances dist
     → TimersHear is fresh dist moment arms a.timers b.timers → StillFits a.store roomy → HoldsToo d roomy b.store → b.pages ≡ with_pages_of a.pages (d.name ∷ []) → b.distances ≡ a.distances → Goes a b moment
     → HaveSettings a.config a.timers → WaitsAreDrawn draw a.timers a.words arms b.words → e ≡ heard_entry a.config.me moment g arms a.state
     → Enters draw (Some moment) (Heard g) a b e
@@ -113,7 +113,7 @@ drawop_enters draw a b moment g is d fresh dist arms roomy e one it here spellab
       spellable = spellable;
       timers = hears.each c past (heard_entry c.me moment g arms a.state) g it (record { heard = refl; read = spellable; moment = refl; drawn = refl; arms = refl; asks = refl; fixes = refl }) h.timers
           (fresh_drawop past (heard_entry c.me moment g arms a.state) d _ fresh (one.brings c.me moment arms a.state) refl (below.each c made past h)) (after c made past h);
-      store = rw (one.drawops, one.names, one.unsettled, append-nil (settlings past)) (holds.each (held past) (shown_to_exist past) (settlings past) (kept.each (held past) (shown_to_exist past) (settlings past) h.store));
+      store = rw (one.drawops, one.names, one.unsettled, append-nil (settlings past)) (holds.each (held past) (evidence_in past) (settlings past) (kept.each (held past) (evidence_in past) (settlings past) h.store));
       distances = rw (one.uncalled c.me moment, append-nil (distance_calls c.me past), same) h.distances;
       pages = rw one.names pages;
       goes = goes;
@@ -129,7 +129,7 @@ below_is n s k known_of number names e f g h = record {
 -- want of memory: the store has room, the timers stay, and no word was drawn
 pub stays : {W : Type 0} (a : Content W) (s : StoreContent) (t : TimersContent) (w : W) → StillFits a.store s → TimersStay a.timers t → w ≡ a.words → Stays a (record a { store = s; timers = t; words = w })
 stays a s t w kept timers words = record {
-  fits = λ c made past h. refit c made past a s t a.bucket w h (kept.each (held past) (shown_to_exist past) (settlings past) h.store) (timers.each c past h.timers) h.bucket;
+  fits = λ c made past h. refit c made past a s t a.bucket w h (kept.each (held past) (evidence_in past) (settlings past) h.store) (timers.each c past h.timers) h.bucket;
   words = words;
 }
 

@@ -13,12 +13,12 @@ use Rattle.srm_entries.specs.declared.entry.Entry.{Entry}
 use Rattle.srm_entries.specs.declared.entry.Input.TheVariants.{Ticked}
 use Rattle.srm_entries.specs.declared.state.AgentState.{AgentState}
 use Rattle.srm_entries.specs.Configs.{Config}
-use Rattle.srm_entries.specs.Entries.{state, last_moment, held, shown_to_exist, drawn, heard}
+use Rattle.srm_entries.specs.Entries.{state, last_moment, held, evidence_in, drawn, accepted}
 use Rattle.srm_entries.specs.Distances.{distance_calls, calls_in}
 use Rattle.srm_entries.specs.Timers.{ArmsRight, TimersRight}
 use Rattle.srm_entries.specs.Verdicts.{settlings, settling_of}
 use Rattle.srm_entries.specs.Sessions.{is_farewell, ending}
-use Rattle.srm_entries.specs.Runs.{EntryRight, state_due}
+use Rattle.srm_entries.specs.Runs.{EntryRight, expected_state}
 use Rattle.srm_agent.specs.Ticking.{tick_entry}
 use Rattle.srm_agent.specs.Contents.{Content}
 use Rattle.srm_agent.specs.Fits.{Fits, BucketFits}
@@ -35,15 +35,15 @@ use Rattle.srm_agent.proofs.Still.{same_progress}
 pub tick_held : (me moment : ℕ) (asks fixes : List FullName) (arms : List Arm) (outs : List Datagram) (after : AgentState) (past : List Entry) → held (past ++ tick_entry me moment asks fixes arms outs after ∷ []) ≡ held past
 tick_held me moment asks fixes arms outs after past = held-snoc past _ ∙ append-nil (held past)
 
-pub tick_shown : (me moment : ℕ) (asks fixes : List FullName) (arms : List Arm) (outs : List Datagram) (after : AgentState) (past : List Entry) → shown_to_exist (past ++ tick_entry me moment asks fixes arms outs after ∷ []) ≡ shown_to_exist past
-tick_shown me moment asks fixes arms outs after past = shown-snoc past _ ∙ append-nil (shown_to_exist past)
+pub tick_shown : (me moment : ℕ) (asks fixes : List FullName) (arms : List Arm) (outs : List Datagram) (after : AgentState) (past : List Entry) → evidence_in (past ++ tick_entry me moment asks fixes arms outs after ∷ []) ≡ evidence_in past
+tick_shown me moment asks fixes arms outs after past = shown-snoc past _ ∙ append-nil (evidence_in past)
 
 pub tick_drawn : (me moment : ℕ) (asks fixes : List FullName) (arms : List Arm) (outs : List Datagram) (after : AgentState) (past : List Entry) → drawn (past ++ tick_entry me moment asks fixes arms outs after ∷ []) ≡ drawn past
 tick_drawn me moment asks fixes arms outs after past = drawn-snoc past _ ∙ append-nil (drawn past)
 
 pub tick_settlings : (me moment : ℕ) (asks fixes : List FullName) (arms : List Arm) (outs : List Datagram) (after : AgentState) (past : List Entry) → settlings (past ++ tick_entry me moment asks fixes arms outs after ∷ []) ≡ settlings past
 tick_settlings me moment asks fixes arms outs after past =
-    filter_map-append (λ (x : Entry). settling_of (heard x)) past (tick_entry me moment asks fixes arms outs after ∷ []) ∙ append-nil (settlings past)
+    filter_map-append (λ (x : Entry). settling_of (accepted x)) past (tick_entry me moment asks fixes arms outs after ∷ []) ∙ append-nil (settlings past)
 
 pub tick_distances : (me moment : ℕ) (asks fixes : List FullName) (arms : List Arm) (outs : List Datagram) (after : AgentState) (past : List Entry) → distance_calls me (past ++ tick_entry me moment asks fixes arms outs after ∷ []) ≡ distance_calls me past
 tick_distances me moment asks fixes arms outs after past = flat_map-snoc (calls_in me) past _ ∙ append-nil (distance_calls me past)
@@ -72,7 +72,7 @@ pub record TickRight (c : Config) (made : ℕ) (past : List Entry) (e : Entry) (
   pub last : AllByRecursion (IsSent c.me) (option_to_list o)
   pub ending : ending c made past e ≡ wanted
   pub ends : EndsIn c past e.moment wanted o
-  pub state : e.effects.state ≡ state_due (state past) (list_any is_farewell e.effects.outs) (Some Ticked)
+  pub state : e.effects.state ≡ expected_state (state past) (list_any is_farewell e.effects.outs) (Some Ticked)
 
 pub tick_right : (c : Config) (made moment : ℕ) (past : List Entry) (asks fixes : List FullName) (arms : List Arm) (outs : List Datagram) (after : AgentState) (wanted : Option Bool) (went : List Datagram) (o : Option Datagram)
     → TickRight c made past (tick_entry c.me moment asks fixes arms outs after) wanted went o → EntryRight c made (record { before = past; this = tick_entry c.me moment asks fixes arms outs after })

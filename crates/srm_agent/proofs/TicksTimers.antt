@@ -11,7 +11,7 @@ use Rattle.srm_agent.specs.declared.agent.due.HandedOut.{HandedOut}
 use Rattle.srm_entries.specs.declared.entry.Entry.{Entry}
 use Rattle.srm_outbox.specs.declared.out.Outgoing.{Outgoing}
 use Rattle.srm_agent.specs.Contents.{Content}
-use Rattle.srm_entries.specs.Entries.{heard}
+use Rattle.srm_entries.specs.Entries.{accepted}
 use Rattle.srm_entries.specs.Distances.{distance_calls, calls_in, calls_of}
 use Rattle.srm_outbox.specs.Outs.{IsOwn, AreOwn}
 use Rattle.srm_agent_parts.specs.TimersKept.{TimersContent, HaveSettings}
@@ -20,7 +20,7 @@ use Rattle.srm_agent_parts.specs.TimerCalls.{AreDistancesAfter, TimersTick, Wait
 use Rattle.srm_agent.specs.Ticking.{TicksTimers, HandsOut}
 use Rattle.srm_entries.proofs.Adding.{flat_map-snoc}
 
-same_calls : (me : ℕ) (past : List Entry) (e : Entry) → heard e ≡ None → distance_calls me (past ++ e ∷ []) ≡ distance_calls me past
+same_calls : (me : ℕ) (past : List Entry) (e : Entry) → accepted e ≡ None → distance_calls me (past ++ e ∷ []) ≡ distance_calls me past
 same_calls me past e unheard = flat_map-snoc (calls_in me) past e ∙ ap (λ o. distance_calls me past ++ calls_of me e.moment o) unheard ∙ append-nil (distance_calls me past)
 
 pub ticks_timers : {W : Type 0} (a : Content W) (asks fixes : List FullName) (dist : List ℕ) (moment : ℕ) (arms : List Arm) (new : TimersContent)

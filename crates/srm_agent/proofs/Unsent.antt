@@ -16,7 +16,7 @@ use Rattle.srm_bucket.specs.declared.class.Class.{Class}
 use Rattle.srm_bucket.specs.declared.class.Class.TheVariants.{Shown, New, Other}
 use Rattle.srm_bucket.specs.declared.item.Item.{Item}
 use Rattle.srm_bucket.specs.Calls.{Classed}
-use Rattle.srm_bucket.specs.Classes.{rank, in_class, handed, gone}
+use Rattle.srm_bucket.specs.Classes.{rank, in_class, handed, departed}
 use Rattle.srm_bucket.specs.Content.{Content as BucketContent}
 use Rattle.srm_bucket.specs.Law.{BucketLaw}
 use Rattle.srm_bucket.specs.Waiting.{queue}
@@ -27,8 +27,8 @@ use Rattle.srm_outbox.specs.declared.out.Outgoing.{Outgoing}
 use Rattle.srm_entries.specs.Entries.{shown, drawn, sent, held_at}
 use Rattle.srm_entries.specs.Sessions.{is_data, is_session, charged, all_data_sent}
 use Rattle.srm_entries.specs.Packing.{is_covered_by, packed_after, packed, mask_of}
-use Rattle.srm_entries.specs.Bucket.{Going, GoesRight, class_for, page_of, answer_item, data_item, answers_in, handed_by, repair_of, entries_of, bucket_calls, datagrams_of}
-use Rattle.srm_entries.specs.Rates.{one_of_class, of_class, handed_so_far, gone_so_far}
+use Rattle.srm_entries.specs.Bucket.{Going, GoesAsCharged, class_for, page_of, answer_item, data_item, answers_in, handed_by, repair_for, entries_of, bucket_calls, datagrams_of}
+use Rattle.srm_entries.specs.Rates.{one_of_class, of_class, handed_so_far, departed_so_far}
 use Rattle.srm_agent.specs.Fits.{BucketFits}
 use Rattle.srm_outbox.specs.Outs.{datagram_of}
 use Rattle.srm_entries.proofs.Adding.{flat_map-append}
@@ -65,9 +65,9 @@ repair_no_data me g others None more h = more h
 repair_no_data me g others (Some d) more (inl e) = ap is_data e
 repair_no_data me g others (Some d) more (inr h) = more h
 
-repairs_no_data : (me : ℕ) (before : List Entry) (g : Datagram) (fixes : List FullName) → Has g (filter_map (repair_of me before) fixes) → is_data g ≡ false
+repairs_no_data : (me : ℕ) (before : List Entry) (g : Datagram) (fixes : List FullName) → Has g (filter_map (repair_for me before) fixes) → is_data g ≡ false
 repairs_no_data me before g [] h = absurd h
-repairs_no_data me before g (n ∷ ns) h = repair_no_data me g (filter_map (repair_of me before) ns) (held_at before n) (repairs_no_data me before g ns) h
+repairs_no_data me before g (n ∷ ns) h = repair_no_data me g (filter_map (repair_for me before) ns) (held_at before n) (repairs_no_data me before g ns) h
 
 handed_marked : (me : ℕ) (s : Step Entry) (j : Classed Datagram) → Has j (handed_by me s) → IsMarked j
 handed_marked me s j h = elim (Has-append j (data_item s.this.effects.drawn) (map (answer_item (shown s.before)) (answers_in me s)) h) [
@@ -82,7 +82,7 @@ handed_marked me s j h = elim (Has-append j (data_item s.this.effects.drawn) (ma
 
     of_answers : ((g : Datagram) × Has g (answers_in me s) × (j ≡ answer_item (shown s.before) g)) → IsMarked j
     of_answers (g, k, e) =
-        let none : is_data g ≡ false = elim (Has-append g (packed me s.this.effects.asks) (filter_map (repair_of me s.before) s.this.effects.fixes) k) [
+        let none : is_data g ≡ false = elim (Has-append g (packed me s.this.effects.asks) (filter_map (repair_for me s.before) s.this.effects.fixes) k) [
           | inl l ↦ packed_no_data me g None s.this.effects.asks l
           | inr r ↦ repairs_no_data me s.before g s.this.effects.fixes r
         ] in
@@ -97,12 +97,12 @@ in_class_both class x j h = go (rank j.class == rank class) refl h
     go false e q = absurd q
 
 -- so what goes as new is data, and nothing else is
-went_marked : (c : Config) (gs : List Going) → AllByRecursion GoesRight (steps gs) → BucketLaw c.rate c.depth (bucket_calls c.me gs) → (i : Classed Datagram) → Has i (gone_so_far gs) → IsMarked i
+went_marked : (c : Config) (gs : List Going) → AllByRecursion GoesAsCharged (steps gs) → BucketLaw c.rate c.depth (bucket_calls c.me gs) → (i : Classed Datagram) → Has i (departed_so_far gs) → IsMarked i
 went_marked c gs all law i h =
     let (rest, e) = went_first c.rate c.depth (bucket_calls c.me gs) law i.class in
-    let here : Has i.item (of_class i.class (gone_so_far gs)) = flat_map-Has (one_of_class i.class) i.item i (gone_so_far gs) h (in_its_class i) in
+    let here : Has i.item (of_class i.class (departed_so_far gs)) = flat_map-Has (one_of_class i.class) i.item i (departed_so_far gs) h (in_its_class i) in
     let there : Has i.item (of_class i.class (handed_so_far c.me (entries_of gs))) =
-    subst (λ xs. Has i.item xs) (e ∙ handed_is c.me i.class gs all) (Has-front i.item (gone i.class (bucket_calls c.me gs)) rest (subst (λ xs. Has i.item xs) (sym (gone_is c.me i.class gs all)) here)) in
+    subst (λ xs. Has i.item xs) (e ∙ handed_is c.me i.class gs all) (Has-front i.item (departed i.class (bucket_calls c.me gs)) rest (subst (λ xs. Has i.item xs) (sym (gone_is c.me i.class gs all)) here)) in
     let (j, k, m) = Has-flat_map (one_of_class i.class) i.item (handed_so_far c.me (entries_of gs)) there in
     let (s, at, p) = Has-flat_map (handed_by c.me) j (steps (entries_of gs)) k in
     let both = in_class_both i.class i.item j m in
@@ -179,11 +179,11 @@ nothing_left gone_count left drawn_count sent_count e f = grind (arith, nat_test
 pub all_sent : (c : Config) (es : List Entry) (b : BucketContent Outgoing) → BucketFits c es b → all_data_sent es ≡ (length (queue b.waiting New) == 0)
 all_sent c es b h =
     let law : BucketLaw c.rate c.depth (bucket_calls c.me h.goings) = subst (BucketLaw c.rate c.depth) h.read (law-read datagram_of c.rate c.depth h.calls h.fits.law) in
-    let went : length (gone New h.calls) ≡ count_by is_data (sent es) =
-    sym (length-read datagram_of (gone New h.calls)) ∙ ap length (sym (gone-read datagram_of New h.calls)) ∙ ap (λ cs. length (gone New cs)) h.read ∙ ap length (gone_is c.me New h.goings h.goes)
-    ∙ count_marked (gone_so_far h.goings) (went_marked c h.goings h.goes law) ∙ ap (count_by is_data) (went_is_charged h.goings h.goes) ∙ sent_data (entries_of h.goings) ∙ ap (λ xs. count_by is_data (sent xs)) h.entries in
+    let went : length (departed New h.calls) ≡ count_by is_data (sent es) =
+    sym (length-read datagram_of (departed New h.calls)) ∙ ap length (sym (gone-read datagram_of New h.calls)) ∙ ap (λ cs. length (departed New cs)) h.read ∙ ap length (gone_is c.me New h.goings h.goes)
+    ∙ count_marked (departed_so_far h.goings) (went_marked c h.goings h.goes law) ∙ ap (count_by is_data) (went_is_charged h.goings h.goes) ∙ sent_data (entries_of h.goings) ∙ ap (λ xs. count_by is_data (sent xs)) h.entries in
     let all : length (handed New h.calls) ≡ length (drawn es) =
     sym (length-read datagram_of (handed New h.calls)) ∙ ap length (sym (handed-read datagram_of New h.calls)) ∙ ap (λ cs. length (handed New cs)) h.read ∙ ap length (handed_is c.me New h.goings h.goes)
     ∙ drawn_after c.me [] (entries_of h.goings) ∙ ap (λ xs. length (drawn xs)) h.entries in
-    nothing_left (length (gone New h.calls)) (length (queue b.waiting New)) (length (drawn es)) (count_by is_data (sent es))
-    (sym (length-append (gone New h.calls) (queue b.waiting New)) ∙ ap length (h.fits.waiting_is New) ∙ all) went
+    nothing_left (length (departed New h.calls)) (length (queue b.waiting New)) (length (drawn es)) (count_by is_data (sent es))
+    (sym (length-append (departed New h.calls) (queue b.waiting New)) ∙ ap length (h.fits.waiting_is New) ∙ all) went

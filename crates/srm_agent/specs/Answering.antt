@@ -7,7 +7,7 @@ use Rattle.srm_outbox.specs.declared.answers.Answer.{Answer}
 use Rattle.srm_entries.specs.declared.entry.Entry.{Entry}
 use Rattle.srm_entries.specs.Configs.{Config}
 use Rattle.srm_entries.specs.Packing.{packed}
-use Rattle.srm_entries.specs.Bucket.{repair_of}
+use Rattle.srm_entries.specs.Bucket.{repair_for}
 use Rattle.srm_agent.specs.Contents.{Content}
 use Rattle.srm_agent.specs.Fits.{Fits}
 use Rattle.srm_outbox.specs.Answering.{AreAnswers}
@@ -17,4 +17,4 @@ use Rattle.srm_outbox.specs.Answering.{AreAnswers}
 pub record AnswersDue {W : Type 0} (a : Content W) (asks fixes : List FullName) (answers : List Answer) : Type 0 where
   pub datagrams : List Datagram
   pub spelled : AreAnswers a.config.me a.config.session a.showing datagrams answers
-  pub value : (c : Config) (made : ℕ) (past : List Entry) → Fits c made past a → datagrams ≡ packed c.me asks ++ filter_map (repair_of c.me past) fixes
+  pub value : (c : Config) (made : ℕ) (past : List Entry) → Fits c made past a → datagrams ≡ packed c.me asks ++ filter_map (repair_for c.me past) fixes

@@ -1,6 +1,6 @@
 -- What an agent keeps.
 use Rattle.std.specs.Prelude.{◌≡◌, ℕ, ◌≤◌, List, length}
-use Rattle.srm_names.specs.declared.limits.TheConstants.{MOMENT, PAGES}
+use Rattle.srm_names.specs.declared.limits.TheConstants.{LATEST_MOMENT, PAGES}
 use Rattle.srm_names.specs.declared.page.Page.{Page}
 use Rattle.srm_store.specs.Stores.{StoreContent}
 use Rattle.srm_distance.specs.Content.{Content as DistancesContent}
@@ -46,7 +46,7 @@ content_of a = record {
 -- each slot has its progress, whether it has a page or not; the timers have the agent's settings; what waits
 -- for the bucket is the agent's own, and spelled in its session
 pub record IsWhole {W : Type 0} (a : Inside W) : Type 0 where
-  pub last : a.last ≤ MOMENT
+  pub last : a.last ≤ LATEST_MOMENT
   pub progress : length a.progress.items ≡ PAGES
   pub settings : HaveSettings a.config a.timers
   pub waiting : AreOwn a.config.me a.config.session a.bucket.waiting

@@ -1,6 +1,6 @@
 -- What a draw is refused for, what it makes, and what it leaves.
 use Rattle.std.specs.Prelude.{◌≡◌, ℕ, ◌+◌, nat_lt, nat_le, Bool, List, [], ◌∷◌, Option, Some, None, if◌then◌else◌}
-use Rattle.srm_names.specs.declared.limits.TheConstants.{DRAWOPS, BODY}
+use Rattle.srm_names.specs.declared.limits.TheConstants.{DRAWOPS, LONGEST_BODY}
 use Rattle.srm_names.specs.declared.page.Page.{Page}
 use Rattle.srm_names.specs.declared.stream.Stream.{Stream}
 use Rattle.srm_names.specs.declared.drawop.Drawop.{Drawop}
@@ -20,16 +20,16 @@ use Rattle.srm_entries.specs.Entries.{is_gone, is_leaving}
 use Rattle.srm_agent_parts.specs.PageTables.{lacks_room}
 use Rattle.srm_outbox.specs.Outs.{IsOutgoingOf}
 
-abbrev pub verdict_by : Option AgentFault → Verdict
-verdict_by None = Done
-verdict_by (Some fault) = Refused fault
+abbrev pub verdict_of_refusal : Option AgentFault → Verdict
+verdict_of_refusal None = Done
+verdict_of_refusal (Some fault) = Refused fault
 
 -- all that a draw may be refused for, but that the stream is full
 abbrev pub refusals : AgentState → List Page → Page → ℕ → List (Bool × Verdict)
 refusals state pages page length =
     (is_gone state, Refused faults.Gone)
     ∷ (is_leaving state, Refused faults.Leaving)
-    ∷ (nat_lt BODY length, Refused faults.BodyLong)
+    ∷ (nat_lt LONGEST_BODY length, Refused faults.BodyLong)
     ∷ (lacks_room pages page, Refused faults.PageLimit) ∷ []
 
 -- the name after so many of a stream, and None where it is full

@@ -16,11 +16,11 @@ use Rattle.srm_entries.specs.declared.entry.Entry.{Entry}
 use Rattle.srm_entries.specs.declared.entry.Input.TheVariants as inputs
 use Rattle.srm_entries.specs.declared.entry.Input.TheVariants.{Gave}
 use Rattle.srm_entries.specs.declared.entry.Verdict.TheVariants.{Done, Ignored, Refused}
-use Rattle.srm_entries.specs.Sample.{zeros, a, c, draws, hears, gives, ask_arm}
+use Rattle.srm_entries.specs.Sample.{first_stream, first_drawop, third_drawop, draws, hears, gives, ask_arm}
 use Rattle.srm_agent.specs.declared.heard.Heard.{Heard}
 use Rattle.srm_entries.specs.Still.{still_entry}
 use Rattle.srm_agent.specs.Noting.{moment_that_counts, AnswersAs, IsOutcome, AnswersHeard, IsDrawnName}
-use Rattle.srm_agent.specs.Heeding.{verdict_by, entry_with}
+use Rattle.srm_agent.specs.Heeding.{verdict_of_outcome, entry_with}
 use Rattle.srm_agent.specs.Waking.{sooner_of}
 
 -- ---- moments: a lower one than the last counts as the last, and a call that takes none has the last
@@ -57,15 +57,15 @@ refused_says_no_other h = absurd (let k : refused Leaving ≡ refused Gone = h i
 
 -- ---- the entry of what was heard, by what is answered
 
-verdicts : map verdict_by (outcomes.Taken ∷ outcomes.Ignored causes.Gone ∷ []) ≡ Done ∷ Ignored causes.Gone ∷ []
+verdicts : map verdict_of_outcome (outcomes.Taken ∷ outcomes.Ignored causes.Gone ∷ []) ≡ Done ∷ Ignored causes.Gone ∷ []
 verdicts = refl
 
-taken_so : entry_with 1 10 (inputs.Heard (Data c)) Active (record { arms = ask_arm 1 0 200000 ∷ []; outcome = outcomes.Taken }) ≡ hears 1 10 (Data c) (ask_arm 1 0 200000 ∷ [])
+taken_so : entry_with 1 10 (inputs.Heard (Data third_drawop)) Active (record { arms = ask_arm 1 0 200000 ∷ []; outcome = outcomes.Taken }) ≡ hears 1 10 (Data third_drawop) (ask_arm 1 0 200000 ∷ [])
 taken_so = refl
 
 -- ---- what hearing bytes answers
 
-taken_sets_a_timer : AnswersHeard (hears 1 10 (Data c) (ask_arm 1 0 200000 ∷ [])) (Ok (record { arms = ask_arm 1 0 200000 ∷ []; outcome = outcomes.Taken }))
+taken_sets_a_timer : AnswersHeard (hears 1 10 (Data third_drawop) (ask_arm 1 0 200000 ∷ [])) (Ok (record { arms = ask_arm 1 0 200000 ∷ []; outcome = outcomes.Taken }))
 taken_sets_a_timer = (refl, refl)
 
 ignored_with_its_cause : IsOutcome (Ignored (causes.Decode Short)) (outcomes.Ignored (causes.Decode Short))
@@ -76,11 +76,11 @@ never_refused fault h = h
 
 -- ---- what a draw answers, and what giving the first message leaves
 
-drawn_name : IsDrawnName (draws 0 1 a) (named zeros 1)
+drawn_name : IsDrawnName (draws 0 1 first_drawop) (named first_stream 1)
 drawn_name = refl
 
-not_another_name : IsDrawnName (draws 0 1 a) (named zeros 2) → ⊥
-not_another_name h = let k : 1 ≡ 2 = ap (λ (n : FullName). n.number) (same_Some (named zeros 1) (named zeros 2) h) in absurd (omega (arith, k))
+not_another_name : IsDrawnName (draws 0 1 first_drawop) (named first_stream 2) → ⊥
+not_another_name h = let k : 1 ≡ 2 = ap (λ (n : FullName). n.number) (same_Some (named first_stream 1) (named first_stream 2) h) in absurd (omega (arith, k))
 
 an_entry_without_effects : still_entry 1 10 (Gave 0) Done (Some (Open first_page)) Active ≡ gives 1 10 (Some (Open first_page))
 an_entry_without_effects = refl

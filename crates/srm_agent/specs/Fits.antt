@@ -14,11 +14,11 @@ use Rattle.srm_bucket.specs.Fits as bucket
 use Rattle.srm_entries.specs.declared.entry.Entry.{Entry}
 use Rattle.srm_outbox.specs.declared.out.Outgoing.{Outgoing}
 use Rattle.srm_entries.specs.Configs.{Config}
-use Rattle.srm_entries.specs.Entries.{state, shown, slots, last_moment, held, shown_to_exist, known}
+use Rattle.srm_entries.specs.Entries.{state, shown, slots, last_moment, held, evidence_in, known}
 use Rattle.srm_entries.specs.Distances.{distance_calls}
 use Rattle.srm_entries.specs.Verdicts.{settlings, drawn_in, stream_on}
 use Rattle.srm_entries.specs.Sessions.{session_due}
-use Rattle.srm_entries.specs.Bucket.{Going, GoesRight, entries_of, bucket_calls}
+use Rattle.srm_entries.specs.Bucket.{Going, GoesAsCharged, entries_of, bucket_calls}
 use Rattle.srm_entries.specs.Giving.{given}
 use Rattle.srm_entries.specs.Runs.{EntryRight}
 use Rattle.srm_outbox.specs.Outs.{datagram_of}
@@ -30,7 +30,7 @@ use Rattle.srm_agent.specs.Contents.{Content}
 pub record BucketFits (c : Config) (past : List Entry) (b : BucketContent Outgoing) : Type 0 where
   pub goings : List Going
   pub entries : entries_of goings ≡ past
-  pub goes : AllByRecursion GoesRight (steps goings)
+  pub goes : AllByRecursion GoesAsCharged (steps goings)
   pub calls : List (Call Outgoing)
   pub read : map (read_call datagram_of) calls ≡ bucket_calls c.me goings
   pub fits : bucket.Fits c.rate c.depth calls b
@@ -50,7 +50,7 @@ pub record Fits {W : Type 0} (c : Config) (made : ℕ) (past : List Entry) (a : 
   pub showing : a.showing ≡ shown past
   pub pages : a.pages ≡ slots past
   pub progress : EachProgressFits past a.progress
-  pub store : store.Fits (held past) (shown_to_exist past) (settlings past) a.store
+  pub store : store.Fits (held past) (evidence_in past) (settlings past) a.store
   pub distances : distances.Fits c.me (distance_calls c.me past) a.distances
   pub timers : TimersFit c past a.timers
   pub bucket : BucketFits c past a.bucket

@@ -1,6 +1,6 @@
 -- What hearing one datagram says of its entry.
 use Rattle.std.specs.Prelude.{◌≡◌, ◌≢◌, ℕ, ◌≤◌, false, List, [], Option, Some, None, Ok}
-use Rattle.srm_names.specs.declared.limits.TheConstants.{MOMENT}
+use Rattle.srm_names.specs.declared.limits.TheConstants.{LATEST_MOMENT}
 use Rattle.srm_names.specs.FullName.{FullName}
 use Rattle.srm_names.specs.Names.{AreExactly}
 use Rattle.srm_names.specs.declared.drawop.Drawop.{Drawop}
@@ -45,23 +45,23 @@ carrying None drawop = Data drawop
 carrying (Some repairer) drawop = Repair repairer drawop
 
 -- the datagram is taken, after whatever run the agent fitted
-pub record IsTaken {W : Type 0} (datagram : Datagram) (old : Content W) : Type 0 where
+pub record IsAccepted {W : Type 0} (datagram : Datagram) (old : Content W) : Type 0 where
   pub each : (c : Config) (made : ℕ) (past : List Entry) → Fits c made past old → Done ≡ verdict_of c past (Heard datagram)
 
 -- a member may take a datagram with these names at this moment: it isn't gone, and the table has room for their pages
-pub record MayTake {W : Type 0} (datagram : Datagram) (names : List FullName) (moment : ℕ) (a : Content W) : Type 0 where
+pub record MayAccept {W : Type 0} (datagram : Datagram) (names : List FullName) (moment : ℕ) (a : Content W) : Type 0 where
   pub here : is_gone a.state ≡ false
   pub spelled : IsSpellable datagram
   pub later : a.last ≤ moment
-  pub in_range : moment ≤ MOMENT
-  pub taken : IsTaken datagram a
+  pub in_range : moment ≤ LATEST_MOMENT
+  pub taken : IsAccepted datagram a
   pub named : names ≡ names_in datagram
   pub pages : lacks_room_for a.pages names ≡ false
 
 -- the verdict on what was heard, by what is answered
-abbrev pub verdict_by : Outcome → Verdict
-verdict_by outcomes.Taken = Done
-verdict_by (outcomes.Ignored cause) = Ignored cause
+abbrev pub verdict_of_outcome : Outcome → Verdict
+verdict_of_outcome outcomes.Taken = Done
+verdict_of_outcome (outcomes.Ignored cause) = Ignored cause
 
 -- the entry of what a member heard, by what is answered: it sets timers, and does nothing else
 abbrev pub entry_with : ℕ → ℕ → Input → AgentState → answers.Heard → Entry
@@ -69,7 +69,7 @@ entry_with me moment input state heard = record {
   member = me;
   moment = moment;
   input = input;
-  verdict = verdict_by heard.outcome;
+  verdict = verdict_of_outcome heard.outcome;
   effects = record { drawn = None; arms = heard.arms; asks = []; fixes = []; outs = []; message = None; state = state };
 }
 

@@ -5,7 +5,7 @@ use Rattle.srm_names.specs.declared.drawop.Drawop.{Drawop}
 use Rattle.srm_names.specs.FullName.{FullName}
 use Rattle.srm_names.specs.declared.page_msg.PageMsg.{PageMsg}
 use Rattle.srm_codec.specs.Judging.{judge}
-use Rattle.srm_timers.specs.Arms.{AreDrawn}
+use Rattle.srm_timers.specs.Arms.{AreChosen}
 use Rattle.srm_entries.specs.declared.cause.Outcome.{Outcome}
 use Rattle.srm_entries.specs.declared.cause.Outcome.TheVariants.{Taken}
 use Rattle.srm_entries.specs.declared.cause.Outcome.TheVariants as outcomes
@@ -49,7 +49,7 @@ pub record Enters {W : Type 0} (draw : W → ℕ × W) (now : Option ℕ) (input
   pub input_is : e.input ≡ input
   pub moment_is : e.moment ≡ moment_that_counts now old.last
   pub fits : (c : Config) (made : ℕ) (past : List Entry) → Fits c made past old → Fits c made (past ++ e ∷ []) new
-  pub words : AreDrawn draw (low_of old.config) (high_of old.config) old.words e.effects.arms new.words
+  pub words : AreChosen draw (low_of old.config) (high_of old.config) old.words e.effects.arms new.words
 
 -- a call without effects has the entry of the agent that it leaves, with the verdict of what it answers
 abbrev pub EntersStill : {W A : Type 0} → (W → ℕ × W) → ℕ → Input → Content W → Content W → Result A AgentFault → Type 0

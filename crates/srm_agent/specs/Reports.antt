@@ -15,7 +15,7 @@ use Rattle.srm_outbox.specs.declared.out.Outgoing.{Outgoing}
 use Rattle.srm_entries.specs.Configs.{Config}
 use Rattle.srm_agent.specs.Contents.{Content}
 use Rattle.srm_entries.specs.Entries.{known}
-use Rattle.srm_entries.specs.Sessions.{IsReport, ReportRight, echoes_due, if_positive, is_session, is_farewell}
+use Rattle.srm_entries.specs.Sessions.{IsReport, ReportRight, echoes_owed, if_positive, is_session, is_farewell}
 use Rattle.srm_outbox.specs.Outs.{IsOutgoing}
 use Rattle.srm_entries.specs.Verdicts.{told, stream_on}
 use Rattle.srm_agent.specs.Fits.{Fits}
@@ -54,14 +54,14 @@ pub record IsRow {W : Type 0} (a : Content W) (s : Stream) (row : Option FullNam
   pub spelled : IfSome row (λ r. (r.stream ≡ s) × is_name r)
 
 -- each row is of one of the streams, in their order
-abbrev pub AreOf : List Stream → List FullName → Type 0
-AreOf [] rows = rows ≡ []
-AreOf (s ∷ ss) rows = AreOf ss rows ⊎ ((r : FullName) × (rest : List FullName) × (rows ≡ r ∷ rest) × (r.stream ≡ s) × is_name r × AreOf ss rest)
+abbrev pub AreRowsInOrder : List Stream → List FullName → Type 0
+AreRowsInOrder [] rows = rows ≡ []
+AreRowsInOrder (s ∷ ss) rows = AreRowsInOrder ss rows ⊎ ((r : FullName) × (rest : List FullName) × (rows ≡ r ∷ rest) × (r.stream ≡ s) × is_name r × AreRowsInOrder ss rest)
 
 -- the rows of these streams
 pub record AreRowsOf {W : Type 0} (a : Content W) (streams : List Stream) (rows : List FullName) : Type 0 where
   pub value : (c : Config) (made : ℕ) (past : List Entry) → Fits c made past a → rows ≡ filter_map (row_for past) streams
-  pub spelled : AreOf streams rows
+  pub spelled : AreRowsInOrder streams rows
 
 -- the streams of a page, one for each member of the roster
 abbrev pub streams_on : Page → ℕ → List Stream
@@ -79,7 +79,7 @@ pub record AreInOrder (pages sorted : List Page) : Type 0 where
   pub few : length sorted ≤ PAGES
 
 -- the streams of a member, in order
-pub record AreOwn {W : Type 0} (a : Content W) (streams : List Stream) : Type 0 where
+pub record AreOwnStreams {W : Type 0} (a : Content W) (streams : List Stream) : Type 0 where
   pub sorted : List Page
   pub pages : AreInOrder a.pages sorted
   pub are : streams ≡ map (stream_on a.config.me) sorted
@@ -91,5 +91,5 @@ pub record AreReported {W : Type 0} (a : Content W) (wanted : Bool) (rows : List
 
 -- the echoes that are owed at a moment
 pub record AreOwed {W : Type 0} (a : Content W) (now : ℕ) (echoes : List Echo) : Type 0 where
-  pub is : (c : Config) (made : ℕ) (past : List Entry) → Fits c made past a → echoes ≡ echoes_due c past now
+  pub is : (c : Config) (made : ℕ) (past : List Entry) → Fits c made past a → echoes ≡ echoes_owed c past now
   pub spelled : AreEchoes echoes

@@ -5,7 +5,7 @@ use Rattle.srm_names.specs.FullName.{FullName}
 use Rattle.srm_names.specs.Names.{ascending, name_below}
 use Rattle.srm_codec.specs.declared.datagram.Datagram.{Datagram}
 use Rattle.srm_timers.specs.declared.arm.Arm.{Arm}
-use Rattle.srm_timers.specs.Arms.{AreDrawn}
+use Rattle.srm_timers.specs.Arms.{AreChosen}
 use Rattle.srm_bucket.specs.declared.class.Class.TheVariants.{New}
 use Rattle.srm_bucket.specs.Content.{Content as BucketContent}
 use Rattle.srm_bucket.specs.Waiting.{queue}
@@ -26,10 +26,10 @@ use Rattle.srm_entries.specs.Configs.{Config}
 use Rattle.srm_agent.specs.Contents.{Content}
 use Rattle.srm_entries.specs.Entries.{state, is_gone, is_leaving}
 use Rattle.srm_entries.specs.Timers.{low_of, high_of, TimersRight}
-use Rattle.srm_entries.specs.Sessions.{session_pause}
+use Rattle.srm_entries.specs.Sessions.{session_interval}
 use Rattle.srm_agent.specs.Fits.{Fits}
 use Rattle.srm_agent_parts.specs.TimersKept.{TimersContent}
-use Rattle.srm_agent_parts.specs.TimerCalls.{AreDueAsks, AreDueFixes, AsksPending, FixesPending, AreToAsk, AreToFix, TicksWith, TimersAdd}
+use Rattle.srm_agent_parts.specs.TimerCalls.{AreDueAsks, AreDueFixes, AsksRanOut, FixesRanOut, AreToAsk, AreToFix, TicksWith, TimersAdd}
 use Rattle.srm_agent.specs.Noting.{Enters}
 use Rattle.srm_agent.specs.Reports.{IsReportSpelled}
 use Rattle.srm_agent.specs.Answering.{AnswersDue}
@@ -72,7 +72,7 @@ pub record IsIdle (ticked : answers.Ticked) : Type 0 where
 -- a session message or a farewell of an agent at a moment, and when the next one is due after it
 pub record IsReportAt {W : Type 0} (a : Content W) (moment : ℕ) (farewell : Bool) (r : Report) : Type 0 where
   pub report : IsReportSpelled a moment farewell r.outgoing
-  pub next : (c : Config) (made : ℕ) (past : List Entry) → Fits c made past a → r.next ≡ moment + session_pause c past r.outgoing.out.datagram
+  pub next : (c : Config) (made : ℕ) (past : List Entry) → Fits c made past a → r.next ≡ moment + session_interval c past r.outgoing.out.datagram
 
 -- there is one exactly where it is wanted
 abbrev pub IsReportIf : {W : Type 0} → Bool → Content W → ℕ → Bool → Option Report → Type 0
@@ -81,10 +81,10 @@ IsReportIf wanted a moment farewell (Some r) = (wanted ≡ true) × IsReportAt a
 
 -- the names whose timers ran out, over whatever run the agent fits
 pub record IsToHandOut {W : Type 0} (a : Content W) (moment : ℕ) (h : HandedOut) : Type 0 where
-  pub asks : AsksPending moment a.timers h.asks
+  pub asks : AsksRanOut moment a.timers h.asks
   pub rising : ascending name_below h.asks ≡ true
   pub due_asks : AreDueAsks moment a.timers h.asks
-  pub fixes : FixesPending moment a.timers h.fixes
+  pub fixes : FixesRanOut moment a.timers h.fixes
   pub due_fixes : AreDueFixes moment a.timers h.fixes
 
 -- All that a tick hands out, sends and answers: the names whose timers ran out, the requests and repairs for them, the farewell of a
@@ -103,7 +103,7 @@ pub record TicksTimers {W : Type 0} (a : Content W) (asks fixes : List FullName)
 -- these names were handed out, and these timers set by the next words
 pub record HandsOut {W : Type 0} (draw : W → ℕ × W) (a : Content W) (handed : HandedOut) (moment : ℕ) (arms : List Arm) (b : Content W) : Type 0 where
   pub ticks : TicksTimers a handed.asks handed.fixes moment arms b.timers
-  pub drawn : AreDrawn draw (low_of a.config) (high_of a.config) a.words arms b.words
+  pub drawn : AreChosen draw (low_of a.config) (high_of a.config) a.words arms b.words
 
 -- answers are handed in, and what may go at a moment goes
 pub record SendsAll (moment : ℕ) (answers : List Answer) (old new : BucketContent Outgoing) (went : WentContent) : Type 0 where

@@ -1,7 +1,7 @@
 -- When an agent next does something, over all runs that it fits, and by what it keeps.
 use Rattle.std.specs.Prelude.{◌≡◌, ℕ, ◌<◌, ◌≤◌, ◌==◌, ◌&&◌, min, List, length, if◌then◌else◌, Option, Some, None}
 use Rattle.srm_bucket.specs.declared.class.Class.TheVariants.{New}
-use Rattle.srm_bucket.specs.Fits.{Waits}
+use Rattle.srm_bucket.specs.Fits.{IsNextDeparture}
 use Rattle.srm_bucket.specs.Waiting.{queue}
 use Rattle.srm_deadlines.specs.Least.{lesser}
 use Rattle.srm_entries.specs.declared.entry.Entry.{Entry}
@@ -31,7 +31,7 @@ pub record IsNextAt {W : Type 0} (a : Content W) (next : ℕ) : Type 0 where
   pub timers : Option ℕ
   pub waiting : Option ℕ
   pub runs : TimersNext a.timers timers
-  pub waits : Waits a.bucket waiting
+  pub waits : IsNextDeparture a.bucket waiting
   pub is : next ≡ sooner_of (lesser timers waiting) (report_next a)
 
 -- it is before that

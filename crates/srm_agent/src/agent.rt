@@ -1,7 +1,7 @@
 //! One member's agent.
 
 ghost use Rattle.std.specs.Prelude.{◌≡◌, ◌≤◌, ℕ, max, List, [], IfOk, Ok, Err, None};
-ghost use Rattle.srm_names.specs.declared.limits.TheConstants.{MOMENT};
+ghost use Rattle.srm_names.specs.declared.limits.TheConstants.{LATEST_MOMENT};
 ghost use Rattle.srm_entries.specs.Configs.{Config as Settings};
 ghost use Rattle.srm_entries.specs.declared.entry.Entry.{Entry as AnEntry};
 ghost use Rattle.srm_entries.specs.Entries.{is_gone, state};
@@ -34,7 +34,7 @@ use crate::noted::Noted;
 use srm_agent_parts::{PageTable, Progress, Timers};
 use srm_bucket::Bucket;
 use srm_distance::Distances;
-use srm_entries::{AgentFault, AgentState, Config, Entry, Input, SHORTEST_PAUSE, Verdict};
+use srm_entries::{AgentFault, AgentState, Config, Entry, Input, SHORTEST_INTERVAL, Verdict};
 use srm_names::{PAGES, Page, PageMsg};
 use srm_outbox::Outgoing;
 use srm_store::Store;
@@ -113,7 +113,7 @@ impl<W: Words + Drop> Agent<W> {
     /// An agent that was made at a moment, in microseconds, and did nothing yet. It shows the first page, which it has from
     /// the start in slot 0. Only want of memory refuses it.
     pub fn new(alloc: Global, config: Config, words: W, now: u64) -> Result<Agent<W>, AllocError>
-        requires { now ≤ MOMENT }
+        requires { now ≤ LATEST_MOMENT }
         ensures fits { IfOk result (Fits config now []) }
         ensures words { IfOk result (λ agent. agent.words ≡ words) }
     {
@@ -130,7 +130,7 @@ impl<W: Words + Drop> Agent<W> {
             distances: Distances::new(config.me()),
             timers: Timers::new(alloc, &config),
             bucket: Bucket::new(alloc, config.rate(), config.depth()),
-            due: now + SHORTEST_PAUSE,
+            due: now + SHORTEST_INTERVAL,
         })
     }
 
@@ -155,9 +155,9 @@ impl<W: Words + Drop> Agent<W> {
 
     /// The moment that counts.
     fn moment(&self, now: u64) -> u64
-        requires { now ≤ MOMENT }
+        requires { now ≤ LATEST_MOMENT }
         ensures value { result ≡ max now self.now.last }
-        ensures small { result ≤ MOMENT }
+        ensures small { result ≤ LATEST_MOMENT }
     {
         now.max(self.last)
     }

@@ -16,19 +16,19 @@ use Rattle.srm_timers.specs.declared.arm.Arm.{Arm}
 use Rattle.srm_timers.specs.declared.arm.Armed.{Armed}
 use Rattle.srm_timers.specs.declared.arm.ArmKind.TheVariants.{Ask}
 use Rattle.srm_timers.specs.Arms as timers
-use Rattle.srm_timers.specs.Arms.{Setting, setting, arm_names, ran_out, next_exponent, ArmsAre, IsAsk, AreAsks, AreOfMembers, AreDrawn, arm_of}
-use Rattle.srm_timers.specs.AskCalls.{AskContent, AskStays, AskAdds, AskedAgain, ask_timer, sets, due_setting, again_setting, again_exponent}
+use Rattle.srm_timers.specs.Arms.{WaitBasis, wait_basis, arm_names, ran_out, next_exponent, ArmsAre, IsAsk, AreAsks, AreOfMembers, AreChosen, arm_of}
+use Rattle.srm_timers.specs.AskCalls.{AskContent, AskStays, AskAdds, AskedAgain, ask_timer, sets, due_basis, again_basis, again_exponent}
 use Rattle.srm_timers.specs.AskCalls as asks
-use Rattle.srm_timers.specs.FixCalls.{FixStays, FixDue, FixRepairs, repairs, hold_end}
+use Rattle.srm_timers.specs.FixCalls.{FixStays, FixDue, FixRepairs, repair_calls, hold_end}
 use Rattle.srm_timers.specs.Timers.{armed_at}
 use Rattle.srm_timers.specs.Distances.{distance_to}
 use Rattle.srm_timers.proofs.AskSteps.{ask_timer-sets}
 use Rattle.srm_timers.proofs.FixSteps.{asked_first-repairs, fix_timer-repairs, is_off-repairs}
 use Rattle.srm_entries.specs.declared.entry.Entry.{Entry}
-use Rattle.srm_entries.specs.Entries.{heard, state, is_gone, shown_by, drawops_in, names_heard, is_held, is_missing, known}
+use Rattle.srm_entries.specs.Entries.{accepted, state, is_gone, evidence_by, drawops_in, names_heard, is_held, is_missing, known}
 use Rattle.srm_entries.specs.Distances.{distance}
-use Rattle.srm_entries.specs.Timers.{asker, asker_in, repaired, repairs_in, ask_exponent, ask_setting, fix_setting, setting_of, last_ask, fix_running, held_off, TimersRight}
-use Rattle.srm_agent_parts.specs.TimersKept.{TimersContent, shown_if}
+use Rattle.srm_entries.specs.Timers.{asker, asker_in, repaired, repairs_in, ask_exponent, ask_basis_of, fix_basis_of, basis_of, last_ask, fix_running, held_off, TimersRight}
+use Rattle.srm_agent_parts.specs.TimersKept.{TimersContent, only_if}
 use Rattle.srm_agent_parts.specs.TimerCalls.{TicksWith, TimersTick, AreToAsk, AreToFix, WaitsAreDrawn, ask_running}
 use Rattle.srm_entries.proofs.Adding.{shows, gains, is_missing-snoc}
 use Rattle.srm_entries.proofs.Arming.{find-holds, find-passed, ask_at}
@@ -38,18 +38,18 @@ use Rattle.srm_agent_parts.proofs.Missing.{held_not_missing, settings_fit, holds
 
 -- the entry of a tick shows and gains nothing
 
-unheard_gains : (e : Entry) (n : FullName) → heard e ≡ None → e.effects.drawn ≡ None → gains e n ≡ false
+unheard_gains : (e : Entry) (n : FullName) → accepted e ≡ None → e.effects.drawn ≡ None → gains e n ≡ false
 unheard_gains e n h d =
-    ap (list_any (has_name n)) (append-nil (option_to_list e.effects.drawn ++ drawops_in (heard e)))
-    ∙ ap (λ o. list_any (has_name n) (option_to_list o ++ drawops_in (heard e))) d ∙ ap (λ o. list_any (has_name n) (drawops_in o)) h
+    ap (list_any (has_name n)) (append-nil (option_to_list e.effects.drawn ++ drawops_in (accepted e)))
+    ∙ ap (λ o. list_any (has_name n) (option_to_list o ++ drawops_in (accepted e))) d ∙ ap (λ o. list_any (has_name n) (drawops_in o)) h
 
-unheard_shows : (e : Entry) (s : Stream) → heard e ≡ None → e.effects.drawn ≡ None → shows e s ≡ 0
+unheard_shows : (e : Entry) (s : Stream) → accepted e ≡ None → e.effects.drawn ≡ None → shows e s ≡ 0
 unheard_shows e s h d =
-    ap (λ ns. greatest (flat_map (number_in s) ns)) (append-nil (shown_by e))
-    ∙ ap (λ o. greatest (flat_map (number_in s) (map (λ (x : Drawop). x.name) (option_to_list o) ++ names_heard (heard e)))) d
+    ap (λ ns. greatest (flat_map (number_in s) ns)) (append-nil (evidence_by e))
+    ∙ ap (λ o. greatest (flat_map (number_in s) (map (λ (x : Drawop). x.name) (option_to_list o) ++ names_heard (accepted e)))) d
     ∙ ap (λ o. greatest (flat_map (number_in s) (names_heard o))) h
 
-unheard_missing : (past : List Entry) (e : Entry) (n : FullName) → heard e ≡ None → e.effects.drawn ≡ None → is_missing (past ++ e ∷ []) n ≡ is_missing past n
+unheard_missing : (past : List Entry) (e : Entry) (n : FullName) → accepted e ≡ None → e.effects.drawn ≡ None → is_missing (past ++ e ∷ []) n ≡ is_missing past n
 unheard_missing past e n h d =
     is_missing-snoc past e n
     ∙ ap (λ b. nat_le 1 n.number && nat_le n.number (max (known past n.stream) (shows e n.stream)) && not (is_held past n || b)) (unheard_gains e n h d)
@@ -64,42 +64,42 @@ unheard_missing past e n h d =
         same false = refl
 
 -- the setting of a name that is due is one of a request
-due_is_ask : (now distance : ℕ) (o : Option Armed) → (if ran_out now o then option_map (again_setting distance) o else None) ≡ ask_if (ran_out now o) (again_exponent o) distance
+due_is_ask : (now distance : ℕ) (o : Option Armed) → (if ran_out now o then option_map (again_basis distance) o else None) ≡ ask_if (ran_out now o) (again_exponent o) distance
 due_is_ask now distance None = refl
 due_is_ask now distance (Some a) = refl
 
 -- and the one that the law asks for
 unasked_tick : (me : ℕ) (past : List Entry) (e : Entry) (n : FullName) → asker n e ≡ None → is_missing (past ++ e ∷ []) n ≡ is_missing past n
-    → setting_of me past e n ≡ (if is_held past n then None else option_map (ask_at me (past ++ e ∷ []) n) (if is_missing past n then (if among e.effects.asks n then option_map next_exponent (last_ask past n) else None) else None))
+    → basis_of me past e n ≡ (if is_held past n then None else option_map (ask_at me (past ++ e ∷ []) n) (if is_missing past n then (if among e.effects.asks n then option_map next_exponent (last_ask past n) else None) else None))
 unasked_tick me past e n none same = go (is_held past n)
   where
-    no_fix : (b : Bool) (o : Option Setting) → o ≡ None → (if b then o else None) ≡ None
+    no_fix : (b : Bool) (o : Option WaitBasis) → o ≡ None → (if b then o else None) ≡ None
     no_fix true o e = e
     no_fix false o e = refl
 
-    fix : fix_setting me past e n ≡ None
+    fix : fix_basis_of me past e n ≡ None
     fix = no_fix (is_held past n && not (is_some (fix_running past n)) && not (held_off me past n e.moment)) _ (rw none refl)
 
     exponent : (m : Bool) → is_missing past n ≡ m → ask_exponent past e n ≡ (if m then (if among e.effects.asks n then option_map next_exponent (last_ask past n) else None) else None)
     exponent true p = rw (p, none) refl
     exponent false p = rw (p, same, p) refl
 
-    go : (h : Bool) → (if h then fix_setting me past e n else ask_setting me past e n)
+    go : (h : Bool) → (if h then fix_basis_of me past e n else ask_basis_of me past e n)
         ≡ (if h then None else option_map (ask_at me (past ++ e ∷ []) n) (if is_missing past n then (if among e.effects.asks n then option_map next_exponent (last_ask past n) else None) else None))
     go true = fix
     go false = ap (option_map (ask_at me (past ++ e ∷ []) n)) (exponent (is_missing past n) refl)
 
-again_by : (now : ℕ) (h m a : Bool) (last : Option Armed) (near : ℕ) (armed : ℕ → Setting) → (h ≡ true → m ≡ false) → a ≡ (m && ran_out now last)
-    → (is_some (if ran_out now (shown_if m last) then option_map (again_setting near) (shown_if m last) else None) ≡ true → (i : ℕ) → asks.ask_setting i near ≡ armed i)
-    → (if ran_out now (shown_if m last) then option_map (again_setting near) (shown_if m last) else None) ≡ (if h then None else option_map armed (if m then (if a then option_map next_exponent last else None) else None))
+again_by : (now : ℕ) (h m a : Bool) (last : Option Armed) (near : ℕ) (armed : ℕ → WaitBasis) → (h ≡ true → m ≡ false) → a ≡ (m && ran_out now last)
+    → (is_some (if ran_out now (only_if m last) then option_map (again_basis near) (only_if m last) else None) ≡ true → (i : ℕ) → asks.ask_basis i near ≡ armed i)
+    → (if ran_out now (only_if m last) then option_map (again_basis near) (only_if m last) else None) ≡ (if h then None else option_map armed (if m then (if a then option_map next_exponent last else None) else None))
 again_by now true true a last near armed q e s = let k : true ≡ false = q refl in absurd (cc)
 again_by now true false a last near armed q e s = refl
 again_by now false false a last near armed q e s = refl
 again_by now false true a None near armed q e s = rw e refl
 again_by now false true a (Some x) near armed q e s = rw e (go (ran_out now (Some x)) s)
   where
-    go : (b : Bool) → (is_some (if b then Some (again_setting near x) else None) ≡ true → (i : ℕ) → asks.ask_setting i near ≡ armed i)
-        → (if b then Some (again_setting near x) else None) ≡ option_map armed (if b then Some (next_exponent x) else None)
+    go : (b : Bool) → (is_some (if b then Some (again_basis near x) else None) ≡ true → (i : ℕ) → asks.ask_basis i near ≡ armed i)
+        → (if b then Some (again_basis near x) else None) ≡ option_map armed (if b then Some (next_exponent x) else None)
     go true s = ap Some (s refl (next_exponent x))
     go false s = refl
 
@@ -130,7 +130,7 @@ ticks_right now past e arms asked fixed t active toask tofix = record {
 
 -- arms that are requests wait by the words
 pub due_drawn : {W : Type 0} (draw : W → ℕ × W) (t : TimersContent) (from to : W) (arms : List Arm) → AreAsks arms
-    → AreDrawn draw (timers.low_of t.asks.c1) (timers.high_of t.asks.c1 t.asks.c2) from arms to → WaitsAreDrawn draw t from arms to
+    → AreChosen draw (timers.low_of t.asks.c1) (timers.high_of t.asks.c1 t.asks.c2) from arms to → WaitsAreDrawn draw t from arms to
 due_drawn draw t from to arms all drawn = record { each = λ c s. drawn_asks draw c t.asks.c1 t.asks.c2 from to arms s.c1 s.c2 (kinds arms all.each) drawn }
   where
     kinds : (as_ : List Arm) → AllByRecursion IsAsk as_ → AllByRecursion is_ask as_
@@ -148,21 +148,21 @@ tick_ticks draw from to asked fixed names dist now arms old mid new ask_stays fi
       let fixed_are = due.each c.d1 c.d2 h.fix_calls h.fixes in
       let same : (n : FullName) → is_missing (past ++ e ∷ []) n ≡ is_missing past n = λ n. unheard_missing past e n t.heard t.drawn in
       let none : (n : FullName) → asker n e ≡ None = λ n. ap (asker_in n) t.heard in
-      let due_at : (n : FullName) → Option Setting = λ n. if ran_out now (ask_running past n) then option_map (again_setting (distance_to dist n.stream.source)) (ask_running past n) else None in
-      let exact : (n : FullName) → option_map setting (arm_of n arms) ≡ due_at n
-      = λ n. are.exact n ∙ ap (λ o. if ran_out now o then option_map (again_setting (distance_to dist n.stream.source)) o else None) (h.ask_timers n) in
-      let as_ask : (n : FullName) → option_map setting (arm_of n arms) ≡ ask_if (ran_out now (ask_running past n)) (again_exponent (ask_running past n)) (distance_to dist n.stream.source)
+      let due_at : (n : FullName) → Option WaitBasis = λ n. if ran_out now (ask_running past n) then option_map (again_basis (distance_to dist n.stream.source)) (ask_running past n) else None in
+      let exact : (n : FullName) → option_map wait_basis (arm_of n arms) ≡ due_at n
+      = λ n. are.exact n ∙ ap (λ o. if ran_out now o then option_map (again_basis (distance_to dist n.stream.source)) o else None) (h.ask_timers n) in
+      let as_ask : (n : FullName) → option_map wait_basis (arm_of n arms) ≡ ask_if (ran_out now (ask_running past n)) (again_exponent (ask_running past n)) (distance_to dist n.stream.source)
       = λ n. exact n ∙ due_is_ask now (distance_to dist n.stream.source) (ask_running past n) in
       let is_set : (n : FullName) → is_some (of_kind Ask (arm_of n arms)) ≡ ran_out now (ask_running past n)
       = λ n. ap is_some (asks_of (arm_of n arms) _ _ _ (as_ask n)) ∙ is_armed (arm_of n arms) _ _ _ (as_ask n) in
-      let near : (n : FullName) → is_some (due_at n) ≡ true → (i : ℕ) → asks.ask_setting i (distance_to dist n.stream.source) ≡ ask_at c.me (past ++ e ∷ []) n i
-      = λ n some i. ap (asks.ask_setting i) (d.each n.stream.source (of_member arms n (arm_of n arms) refl members (sym (is_some_map setting (arm_of n arms)) ∙ ap is_some (exact n) ∙ some))) in
+      let near : (n : FullName) → is_some (due_at n) ≡ true → (i : ℕ) → asks.ask_basis i (distance_to dist n.stream.source) ≡ ask_at c.me (past ++ e ∷ []) n i
+      = λ n some i. ap (asks.ask_basis i) (d.each n.stream.source (of_member arms n (arm_of n arms) refl members (sym (is_some_map wait_basis (arm_of n arms)) ∙ ap is_some (exact n) ∙ some))) in
       let repaired_are : (n : FullName) → repaired n e ≡ among names n
       = λ n. ap (λ o. repairs_in n o || among e.effects.fixes n) t.heard ∙ ap (λ ns. among ns n) t.fixes ∙ tofix.exact n ∙ sym (fixed_are.exact n ∙ ap (ran_out now) (h.fix_timers n)) in (
         record {
           arms = record {
             in_order = ap (λ as_. ascending name_below (arm_names as_)) t.arms ∙ are.in_order;
-            exact = λ n. ap (λ as_. option_map setting (arm_of n as_)) t.arms ∙ exact n
+            exact = λ n. ap (λ as_. option_map wait_basis (arm_of n as_)) t.arms ∙ exact n
                 ∙ again_by now (is_held past n) (is_missing past n) (among e.effects.asks n) (last_ask past n) (distance_to dist n.stream.source) (ask_at c.me (past ++ e ∷ []) n)
                 (held_not_missing past n) (ap (λ ns. among ns n) t.asks ∙ toask.exact n) (near n)
                 ∙ sym (unasked_tick c.me past e n (none n) (same n));
@@ -187,7 +187,7 @@ tick_ticks draw from to asked fixed names dist now arms old mid new ask_stays fi
                 ask_timers = λ n. ask_timer-sets h.ask_calls now arms n are.in_order
                     ∙ ap (or_else (option_map (armed_at now) (arm_of n arms))) (h.ask_timers n)
                     ∙ ap (λ o. or_else (option_map (armed_at now) o) (ask_running past n)) (sym (asks_of (arm_of n arms) _ _ _ (as_ask n)));
-                fix_calls = h.fix_calls ++ repairs now dist h.fix_calls names;
+                fix_calls = h.fix_calls ++ repair_calls now dist h.fix_calls names;
                 fixes = repaired_.each c.d1 c.d2 h.fix_calls held;
                 fix_timers = λ n. fix_timer-repairs now dist h.fix_calls names n ∙ ap (λ o. if among names n then None else o) (h.fix_timers n)
                     ∙ ap (λ o. or_else (option_map (armed_at now) o) (if among names n then None else fix_running past n)) (sym (fixes_of (arm_of n arms) _ _ _ (as_ask n)));
@@ -199,6 +199,6 @@ tick_ticks draw from to asked fixed names dist now arms old mid new ask_stays fi
       );
 }
   where
-    shown_missing : (now : ℕ) (b : Bool) (o : Option Armed) → ran_out now (shown_if b o) ≡ true → b ≡ true
+    shown_missing : (now : ℕ) (b : Bool) (o : Option Armed) → ran_out now (only_if b o) ≡ true → b ≡ true
     shown_missing now true o e = refl
     shown_missing now false o e = absurd (cc)

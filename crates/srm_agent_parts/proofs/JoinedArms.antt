@@ -7,7 +7,7 @@ use Rattle.srm_names.specs.Names.{same_name, among}
 use Rattle.srm_timers.specs.declared.arm.Arm.{Arm}
 use Rattle.srm_timers.specs.declared.arm.Armed.{Armed}
 use Rattle.srm_timers.specs.declared.arm.ArmKind.{ArmKind}
-use Rattle.srm_timers.specs.Arms.{setting, arm_names, arm_of}
+use Rattle.srm_timers.specs.Arms.{wait_basis, arm_names, arm_of}
 use Rattle.srm_timers.specs.Timers.{armed_at}
 use Rattle.srm_entries.proofs.Setting.{of_kind}
 
@@ -40,6 +40,6 @@ joined now k None (Some b) rest e = refl
 joined now k (Some a) None rest e = refl
 joined now k (Some a) (Some b) rest e = let wrong : Some a ≡ None = e refl in absurd (cc)
 
-pub setting_or : (a b : Option Arm) → option_map setting (or_else a b) ≡ or_else (option_map setting a) (option_map setting b)
+pub setting_or : (a b : Option Arm) → option_map wait_basis (or_else a b) ≡ or_else (option_map wait_basis a) (option_map wait_basis b)
 setting_or None b = refl
 setting_or (Some a) b = refl

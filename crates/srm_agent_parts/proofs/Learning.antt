@@ -18,7 +18,7 @@ use Rattle.srm_distance.specs.Fits.{Adds}
 use Rattle.srm_distance.specs.Calls as calls
 use Rattle.srm_entries.specs.Distances.{echo_for}
 use Rattle.srm_entries.specs.Verdicts.{settling_of}
-use Rattle.srm_agent_parts.specs.Growth.{HearsToo, LearnsToo, ShowsToo, SettlesToo}
+use Rattle.srm_agent_parts.specs.Growth.{HearsToo, LearnsToo, LearnsNames, SettlesToo}
 
 -- what is known of the others after a session message, and after a farewell
 
@@ -43,14 +43,14 @@ hears_stayer me now sender sent farewell shown rows echoes g echo d0 d a is f e 
 
 -- what is learnt of the names, and then of the leaving
 pub learns_by : (g : Datagram) (names : List FullName) (leaver : Option ℕ) (a b d : StoreContent) → names ≡ names_in g → settling_of (Some g) ≡ option_map (λ m. record { member = m; rows = names_in g }) leaver
-    → ShowsToo names a b → SettlesToo leaver names b d → LearnsToo g a d
+    → LearnsNames names a b → SettlesToo leaver names b d → LearnsToo g a d
 learns_by g names leaver a b d named settling shows settles = record {
-  each = λ inserted shown settled h.
-      subst (λ o. store.Fits inserted (shown ++ names_in g) (settled ++ cons_option o []) d) (sym settling)
-      (subst (λ ns. store.Fits inserted (shown ++ ns) (settled ++ cons_option (option_map (λ m. record { member = m; rows = ns }) leaver) []) d) named
-      (settles.each inserted (shown ++ names) settled (shows.each inserted shown settled h)));
+  each = λ inserted evidence settled h.
+      subst (λ o. store.Fits inserted (evidence ++ names_in g) (settled ++ cons_option o []) d) (sym settling)
+      (subst (λ ns. store.Fits inserted (evidence ++ ns) (settled ++ cons_option (option_map (λ m. record { member = m; rows = ns }) leaver) []) d) named
+      (settles.each inserted (evidence ++ names) settled (shows.each inserted evidence settled h)));
 }
 
 pub settles_one : (leaver : Option ℕ) (member : ℕ) (rows : List FullName) (a b : StoreContent) → leaver ≡ Some member
-    → ((inserted : List Drawop) (shown : List FullName) (settled : List Settling) → store.Fits inserted shown settled a → store.Fits inserted shown (settled ++ record { member = member; rows = rows } ∷ []) b) → SettlesToo leaver rows a b
+    → ((inserted : List Drawop) (evidence : List FullName) (settled : List Settling) → store.Fits inserted evidence settled a → store.Fits inserted evidence (settled ++ record { member = member; rows = rows } ∷ []) b) → SettlesToo leaver rows a b
 settles_one leaver member rows a b is fits = subst (λ o. SettlesToo o rows a b) (sym is) (record { each = fits })

@@ -11,19 +11,19 @@ use Rattle.srm_timers.specs.declared.arm.ArmKind.{ArmKind}
 use Rattle.srm_timers.specs.declared.arm.ArmKind.TheVariants.{Ask, Fix}
 use Rattle.srm_timers.specs.declared.arm.Armed.{Armed}
 use Rattle.srm_timers.specs.Arms as timers
-use Rattle.srm_timers.specs.Arms.{setting, arm_names, AreDrawn, end_of, ran_out, RunsOutFirst, ArmsAre, arm_of}
+use Rattle.srm_timers.specs.Arms.{wait_basis, arm_names, AreChosen, runs_out_at, ran_out, RunsOutFirst, ArmsAre, arm_of}
 use Rattle.srm_timers.specs.Timers.{armed_at}
 use Rattle.srm_deadlines.specs.Least.{lesser}
-use Rattle.srm_timers.specs.AskCalls.{AskCall, AskContent, AskFits, AskStays, AskDue, AskTimersRun, AskNext, AskedFirst, AskHolds, ask_timer, first_exponent, AskReady, AnswerReady}
-use Rattle.srm_timers.specs.FixCalls.{FixCall, FixContent, FixFits, FixStays, FixDue, FixNext, FixHolds, FixPlace, fix_timer, asked_first, is_off, FixPlaces}
+use Rattle.srm_timers.specs.AskCalls.{AskCall, AskContent, AskFits, AskStays, AskDue, AskTimersRun, AskNext, AskedFirst, AskKeepsRoom, ask_timer, first_exponent, AskReady, AnswerReady}
+use Rattle.srm_timers.specs.FixCalls.{FixCall, FixContent, FixFits, FixStays, FixDue, FixNext, FixKeepsRoom, FixPlace, fix_timer, asked_first, is_off, FixPlaces}
 use Rattle.srm_timers.specs.Distances.{distance_to}
 use Rattle.srm_entries.specs.declared.entry.Entry.{Entry}
 use Rattle.srm_entries.specs.Configs.{Config}
 use Rattle.srm_entries.specs.Entries.{is_missing}
 use Rattle.srm_entries.specs.Distances.{distance}
 use Rattle.srm_entries.specs.Timers.{arm_in, last_ask, asker, repaired, first_asker, fix_running, held_off, low_of, high_of}
-use Rattle.srm_agent_parts.specs.TimersKept.{TimersContent, TimersFit, shown_if}
-use Rattle.srm_agent_parts.specs.TimerCalls.{KeepSettings, WaitsAreDrawn, TimersStay, AreDueAsks, AreDueFixes, AsksPending, FixesPending, IsBefore, TimersNext, ask_running}
+use Rattle.srm_agent_parts.specs.TimersKept.{TimersContent, TimersFit, only_if}
+use Rattle.srm_agent_parts.specs.TimerCalls.{KeepSettings, WaitsAreDrawn, TimersStay, AreDueAsks, AreDueFixes, AsksRanOut, FixesRanOut, IsBefore, TimersNext, ask_running}
 use Rattle.srm_entries.proofs.Adding.{last_ask-snoc, fix_running-snoc, held_off-snoc}
 use Rattle.srm_entries.proofs.Setting.{of_kind, find_kind, all_asks, drawn_asks}
 
@@ -57,10 +57,10 @@ pub record Does (c : Config) (past : List Entry) (e : Entry) (now : ℕ) (arms :
 
 -- the timers after it: the arm, else what ran before, for what is missing then
 timers_join : (now : ℕ) (o : Option Arm) (f s m m' : Bool) (last : Option Armed) → is_some o ≡ f → (f ≡ true → m' ≡ true) → (s ≡ true → m' ≡ false) → (f ≡ false → s ≡ false → m' ≡ m)
-    → or_else (option_map (armed_at now) o) (if s then None else shown_if m last) ≡ shown_if m' (or_else (option_map (armed_at now) o) last)
-timers_join now (Some x) f s m m' last e p q r = ap (λ b. shown_if b (Some (armed_at now x))) (sym (p (sym e)))
-timers_join now None f true m m' last e p q r = ap (λ b. shown_if b last) (sym (q refl))
-timers_join now None f false m m' last e p q r = ap (λ b. shown_if b last) (sym (r (sym e) refl))
+    → or_else (option_map (armed_at now) o) (if s then None else only_if m last) ≡ only_if m' (or_else (option_map (armed_at now) o) last)
+timers_join now (Some x) f s m m' last e p q r = ap (λ b. only_if b (Some (armed_at now x))) (sym (p (sym e)))
+timers_join now None f true m m' last e p q r = ap (λ b. only_if b last) (sym (q refl))
+timers_join now None f false m m' last e p q r = ap (λ b. only_if b last) (sym (r (sym e) refl))
 
 arm_is : (kind : ArmKind) (n : FullName) (now : ℕ) (arms : List Arm) (e : Entry) → e.moment ≡ now → e.effects.arms ≡ arms → ascending name_below (arm_names arms) ≡ true
     → arm_in kind n e ≡ armed_as kind now arms n
@@ -83,7 +83,7 @@ midway_fits c past e now arms gained asked ended until t d m = record {
   ask_timers = λ n. m.ask_timers n
       ∙ timers_join now (of_kind Ask (arm_of n arms)) (is_some (of_kind Ask (arm_of n arms))) (gained n) (is_missing past n) (is_missing (past ++ e ∷ []) n) (last_ask past n) refl
       (d.set_missing n) (d.gained_held n) (d.others_stay n)
-      ∙ ap (shown_if (is_missing (past ++ e ∷ []) n)) (sym (last_ask-snoc past e n ∙ ap (λ o. or_else o (last_ask past n)) (arm_is Ask n now arms e d.moment d.arms_are d.rising)));
+      ∙ ap (only_if (is_missing (past ++ e ∷ []) n)) (sym (last_ask-snoc past e n ∙ ap (λ o. or_else o (last_ask past n)) (arm_is Ask n now arms e d.moment d.arms_are d.rising)));
   fix_calls = m.fix_calls;
   fixes = m.fixes;
   fix_timers = λ n. m.fix_timers n
@@ -135,10 +135,10 @@ both_stay asks asks' fixes fixes' p q = record {
 pub keep_on : (a b d : TimersContent) → KeepSettings a b → KeepSettings b d → KeepSettings a d
 keep_on a b d p q = record { each = λ c h. q.each c (p.each c h) }
 
-pub asks_keep : (asks asks' : AskContent) (fixes : FixContent) → AskHolds asks asks' → KeepSettings (record { asks = asks; fixes = fixes }) (record { asks = asks'; fixes = fixes })
+pub asks_keep : (asks asks' : AskContent) (fixes : FixContent) → AskKeepsRoom asks asks' → KeepSettings (record { asks = asks; fixes = fixes }) (record { asks = asks'; fixes = fixes })
 asks_keep asks asks' fixes h = record { each = λ c s. record { c1 = h.c1 ∙ s.c1; c2 = h.c2 ∙ s.c2; d1 = s.d1; d2 = s.d2 } }
 
-pub fixes_keep : (asks : AskContent) (fixes fixes' : FixContent) → FixHolds fixes fixes' → KeepSettings (record { asks = asks; fixes = fixes }) (record { asks = asks; fixes = fixes' })
+pub fixes_keep : (asks : AskContent) (fixes fixes' : FixContent) → FixKeepsRoom fixes fixes' → KeepSettings (record { asks = asks; fixes = fixes }) (record { asks = asks; fixes = fixes' })
 fixes_keep asks fixes fixes' h = record { each = λ c s. record { c1 = s.c1; c2 = s.c2; d1 = h.d1 ∙ s.d1; d2 = h.d2 ∙ s.d2 } }
 
 pub stay_on : (a b d : TimersContent) → TimersStay a b → TimersStay b d → TimersStay a d
@@ -176,7 +176,7 @@ settings_same t = record { each = λ c s. s }
 
 -- the waits of arms of requests
 pub waits_drawn : {W : Type 0} (draw : W → ℕ × W) (asks : AskContent) (fixes : FixContent) (names asked : List FullName) (dist : List ℕ) (from to : W) (arms : List Arm) → AskedFirst names asked dist arms
-    → AreDrawn draw (timers.low_of asks.c1) (timers.high_of asks.c1 asks.c2) from arms to → WaitsAreDrawn draw (record { asks = asks; fixes = fixes }) from arms to
+    → AreChosen draw (timers.low_of asks.c1) (timers.high_of asks.c1 asks.c2) from arms to → WaitsAreDrawn draw (record { asks = asks; fixes = fixes }) from arms to
 waits_drawn draw asks fixes names asked dist from to arms first drawn = record {
   each = λ c s. drawn_asks draw c asks.c1 asks.c2 from to arms s.c1 s.c2
       (all_asks arms (among names) (first_exponent asked) (λ n. distance_to dist n.stream.source) first.are.in_order first.are.exact) drawn;
@@ -184,11 +184,11 @@ waits_drawn draw asks fixes names asked dist from to arms first drawn = record {
 
 -- what is due
 
-shown_ran_out : (now : ℕ) (b : Bool) (o : Option Armed) → ran_out now (shown_if b o) ≡ (b && ran_out now o)
+shown_ran_out : (now : ℕ) (b : Bool) (o : Option Armed) → ran_out now (only_if b o) ≡ (b && ran_out now o)
 shown_ran_out now true o = refl
 shown_ran_out now false o = refl
 
-pub asks_pending : (now : ℕ) (t : TimersContent) (names : List FullName) → AskDue now t.asks names → AsksPending now t names
+pub asks_pending : (now : ℕ) (t : TimersContent) (names : List FullName) → AskDue now t.asks names → AsksRanOut now t names
 asks_pending now t names due = record {
   each = λ c past h. record {
     in_order = (due.each c.c1 c.c2 h.ask_calls h.asks).in_order;
@@ -196,7 +196,7 @@ asks_pending now t names due = record {
   };
 }
 
-pub fixes_pending : (now : ℕ) (t : TimersContent) (names : List FullName) → FixDue now t.fixes names → FixesPending now t names
+pub fixes_pending : (now : ℕ) (t : TimersContent) (names : List FullName) → FixDue now t.fixes names → FixesRanOut now t names
 fixes_pending now t names due = record {
   each = λ c past h. record {
     in_order = (due.each c.d1 c.d2 h.fix_calls h.fixes).in_order;
@@ -216,16 +216,16 @@ none_before : (timer : FullName → Option Armed) (moment : Option ℕ) (u : ℕ
 none_before timer None u h before n = ap (ran_out u) (h.none refl n)
 none_before timer (Some t) u h before n = go (timer n) (h.least n)
   where
-    go : (o : Option Armed) → IfSome o (λ a. t ≤ end_of a) → ran_out u o ≡ false
+    go : (o : Option Armed) → IfSome o (λ a. t ≤ runs_out_at a) → ran_out u o ≡ false
     go None k = refl
     go (Some a) k = grind (arith, nat_tests)
 
-runs_out_at : (timer : FullName → Option Armed) (t : ℕ) → RunsOutFirst timer (Some t) → (n : FullName) × (ran_out t (timer n) ≡ true)
-runs_out_at timer t h = let (n, e) = h.is_one in (n, go (timer n) e)
+first_to_run_out : (timer : FullName → Option Armed) (t : ℕ) → RunsOutFirst timer (Some t) → (n : FullName) × (ran_out t (timer n) ≡ true)
+first_to_run_out timer t h = let (n, e) = h.is_one in (n, go (timer n) e)
   where
-    go : (o : Option Armed) → option_map end_of o ≡ Some t → ran_out t o ≡ true
+    go : (o : Option Armed) → option_map runs_out_at o ≡ Some t → ran_out t o ≡ true
     go None e = absurd (cc)
-    go (Some a) e = let same : end_of a ≡ t = cc in grind (arith, nat_tests)
+    go (Some a) e = let same : runs_out_at a ≡ t = cc in grind (arith, nat_tests)
 
 pub before_first : (u : ℕ) (a b : Option ℕ) → IsBefore u (lesser a b) → IsBefore u a
 before_first u None b h = tt
@@ -240,17 +240,17 @@ before_second u (Some t) (Some r) h = omega (arith, h)
 one_of_both : (asks fixes : FullName → Option Armed) (a b : Option ℕ) → RunsOutFirst asks a → RunsOutFirst fixes b
     → IfSome (lesser a b) (λ t. (n : FullName) × ((ran_out t (asks n) ≡ true) ⊎ (ran_out t (fixes n) ≡ true)))
 one_of_both asks fixes None None p q = tt
-one_of_both asks fixes None (Some r) p q = let (n, e) = runs_out_at fixes r q in (n, inr e)
-one_of_both asks fixes (Some t) None p q = let (n, e) = runs_out_at asks t p in (n, inl e)
+one_of_both asks fixes None (Some r) p q = let (n, e) = first_to_run_out fixes r q in (n, inr e)
+one_of_both asks fixes (Some t) None p q = let (n, e) = first_to_run_out asks t p in (n, inl e)
 one_of_both asks fixes (Some t) (Some r) p q = go (nat_le t r) refl
   where
     go : (b : Bool) → nat_le t r ≡ b → (n : FullName) × ((ran_out (min t r) (asks n) ≡ true) ⊎ (ran_out (min t r) (fixes n) ≡ true))
     go true e =
-        let (n, k) = runs_out_at asks t p in
+        let (n, k) = first_to_run_out asks t p in
         let same : min t r ≡ t = grind (arith, nat_tests) in
         (n, inl (ap (λ x. ran_out x (asks n)) same ∙ k))
     go false e =
-        let (n, k) = runs_out_at fixes r q in
+        let (n, k) = first_to_run_out fixes r q in
         let same : min t r ≡ r = grind (arith, nat_tests) in
         (n, inr (ap (λ x. ran_out x (fixes n)) same ∙ k))
 
@@ -262,13 +262,13 @@ same_first timer told moment same h = record {
   is_one = one moment h.is_one;
 }
   where
-    least : (m : Option ℕ) → IfSome m (λ t. (n : FullName) → IfSome (timer n) (λ a. t ≤ end_of a)) → IfSome m (λ t. (n : FullName) → IfSome (told n) (λ a. t ≤ end_of a))
+    least : (m : Option ℕ) → IfSome m (λ t. (n : FullName) → IfSome (timer n) (λ a. t ≤ runs_out_at a)) → IfSome m (λ t. (n : FullName) → IfSome (told n) (λ a. t ≤ runs_out_at a))
     least None h = h
-    least (Some t) h = λ n. subst (λ o. IfSome o (λ a. t ≤ end_of a)) (same n) (h n)
+    least (Some t) h = λ n. subst (λ o. IfSome o (λ a. t ≤ runs_out_at a)) (same n) (h n)
 
-    one : (m : Option ℕ) → IfSome m (λ t. (n : FullName) × (option_map end_of (timer n) ≡ Some t)) → IfSome m (λ t. (n : FullName) × (option_map end_of (told n) ≡ Some t))
+    one : (m : Option ℕ) → IfSome m (λ t. (n : FullName) × (option_map runs_out_at (timer n) ≡ Some t)) → IfSome m (λ t. (n : FullName) × (option_map runs_out_at (told n) ≡ Some t))
     one None h = h
-    one (Some t) (n, e) = (n, ap (option_map end_of) (sym (same n)) ∙ e)
+    one (Some t) (n, e) = (n, ap (option_map runs_out_at) (sym (same n)) ∙ e)
 
 pub first_of_both : (t : TimersContent) (a b : Option ℕ) → AskNext t.asks a → FixNext t.fixes b → TimersNext t (lesser a b)
 first_of_both t a b asks fixes = record {
@@ -283,7 +283,7 @@ first_of_both t a b asks fixes = record {
 }
 
 -- rooms that stay
-pub room_stays : (names : List FullName) (a b : AskContent) → AnswerReady names a → AskHolds a b → AnswerReady names b
+pub room_stays : (names : List FullName) (a b : AskContent) → AnswerReady names a → AskKeepsRoom a b → AnswerReady names b
 room_stays names a b ready holds =
     let set : AskReady names b = record {
       ends = record { places = λ n at. holds.ends.places n (ready.detect.set.ends.places n at); room = omega (arith, ready.detect.set.ends.room, holds.ends.room) };
@@ -294,15 +294,15 @@ room_stays names a b ready holds =
       due = record { set = set; list = omega (arith, ready.due.list, holds.due_list); look_up = omega (arith, ready.due.look_up, holds.names) };
     }
 
-pub places_stay : (names : List FullName) (a b : FixContent) → FixPlaces names a → FixHolds a b → FixPlaces names b
+pub places_stay : (names : List FullName) (a b : FixContent) → FixPlaces names a → FixKeepsRoom a b → FixPlaces names b
 places_stay names a b places holds = record { each = λ n at. holds.each n (places.each n at) }
 
-pub settings_keep : (a b : TimersContent) → AskHolds a.asks b.asks → FixHolds a.fixes b.fixes → KeepSettings a b
+pub settings_keep : (a b : TimersContent) → AskKeepsRoom a.asks b.asks → FixKeepsRoom a.fixes b.fixes → KeepSettings a b
 settings_keep a b p q = record { each = λ c s. record { c1 = p.c1 ∙ s.c1; c2 = p.c2 ∙ s.c2; d1 = q.d1 ∙ s.d1; d2 = q.d2 ∙ s.d2 } }
 
 -- words that are drawn one after another
-drawn_append : {W : Type 0} (draw : W → ℕ × W) (low high : Arm → ℕ) (from mid to : W) (xs ys : List Arm) → AreDrawn draw low high from xs mid → AreDrawn draw low high mid ys to → AreDrawn draw low high from (xs ++ ys) to
-drawn_append draw low high from mid to [] ys h k = subst (λ w. AreDrawn draw low high w ys to) h k
+drawn_append : {W : Type 0} (draw : W → ℕ × W) (low high : Arm → ℕ) (from mid to : W) (xs ys : List Arm) → AreChosen draw low high from xs mid → AreChosen draw low high mid ys to → AreChosen draw low high from (xs ++ ys) to
+drawn_append draw low high from mid to [] ys h k = subst (λ w. AreChosen draw low high w ys to) h k
 drawn_append draw low high from mid to (x ∷ xs) ys h k = (h.0, drawn_append draw low high (draw from).1 mid to xs ys h.1 k)
 
 pub waits_join : {W : Type 0} (draw : W → ℕ × W) (t : TimersContent) (from mid to : W) (xs ys all : List Arm) → all ≡ xs ++ ys → WaitsAreDrawn draw t from xs mid → WaitsAreDrawn draw t mid ys to → WaitsAreDrawn draw t from all to

@@ -19,10 +19,10 @@ use Rattle.srm_store.specs.Held.{number_in, has_name}
 use Rattle.srm_timers.specs.declared.arm.Arm.{Arm}
 use Rattle.srm_timers.specs.declared.arm.Armed.{Armed}
 use Rattle.srm_timers.specs.declared.arm.ArmKind.TheVariants.{Ask, Fix}
-use Rattle.srm_timers.specs.Arms.{Setting, setting, arm_names, arm_of}
-use Rattle.srm_timers.specs.AskCalls.{AskCall, Gained, AskContent, AskFits, AskAdds, AskedFirst, sets, ask_timer, found_setting, first_exponent}
+use Rattle.srm_timers.specs.Arms.{WaitBasis, wait_basis, arm_names, arm_of}
+use Rattle.srm_timers.specs.AskCalls.{AskCall, Gained, AskContent, AskFits, AskAdds, AskedFirst, sets, ask_timer, found_basis, first_exponent}
 use Rattle.srm_timers.specs.AskCalls as asks
-use Rattle.srm_timers.specs.FixCalls.{FixCall, FixContent, FixFits, FixStays, FixRepairs, repairs, hold_end}
+use Rattle.srm_timers.specs.FixCalls.{FixCall, FixContent, FixFits, FixStays, FixRepairs, repair_calls, hold_end}
 use Rattle.srm_timers.specs.FixCalls as fixes
 use Rattle.srm_timers.specs.Timers.{armed_at}
 use Rattle.srm_deadlines.proofs.Same.{same_flip}
@@ -31,9 +31,9 @@ use Rattle.srm_timers.proofs.FixSteps.{asked_first-repairs, fix_timer-repairs, i
 use Rattle.srm_timers.specs.Distances.{distance_to}
 use Rattle.srm_entries.specs.Configs.{Config}
 use Rattle.srm_entries.specs.declared.entry.Entry.{Entry}
-use Rattle.srm_entries.specs.Entries.{heard, held, shown_by, drawops_in, names_heard, is_held, is_missing, known}
+use Rattle.srm_entries.specs.Entries.{accepted, held, evidence_by, drawops_in, names_heard, is_held, is_missing, known}
 use Rattle.srm_entries.specs.Distances.{distance}
-use Rattle.srm_entries.specs.Timers.{asker, asker_in, first_asker, repaired, repairs_in, ask_exponent, ask_setting, fix_setting, setting_of, fix_running, held_off, ArmsRight}
+use Rattle.srm_entries.specs.Timers.{asker, asker_in, first_asker, repaired, repairs_in, ask_exponent, ask_basis_of, fix_basis_of, basis_of, fix_running, held_off, ArmsRight}
 use Rattle.srm_agent_parts.specs.TimersKept.{TimersContent, HaveSettings, TimersFit}
 use Rattle.srm_agent_parts.specs.TimerCalls.{AreFresh, HearsWith, KeepSettings, AreDistancesAfter, TimersHear, WaitsAreDrawn, FixEnds, IsDataOf, IsDrawopOf, IsRepairOf, IsSession, ask_running}
 use Rattle.srm_entries.proofs.Adding.{shows, gains, is_missing-snoc}
@@ -43,15 +43,15 @@ use Rattle.srm_agent_parts.proofs.Midway.{Does, midway_fits, armed_as, waits_bef
 
 -- what an entry that hears a datagram gains and shows
 
-pub gains_heard : (e : Entry) (g : Datagram) (n : FullName) → heard e ≡ Some g → e.effects.drawn ≡ None → gains e n ≡ list_any (has_name n) (drawops_in (Some g))
+pub gains_heard : (e : Entry) (g : Datagram) (n : FullName) → accepted e ≡ Some g → e.effects.drawn ≡ None → gains e n ≡ list_any (has_name n) (drawops_in (Some g))
 gains_heard e g n h d =
-    ap (list_any (has_name n)) (append-nil (option_to_list e.effects.drawn ++ drawops_in (heard e)))
-    ∙ ap (λ o. list_any (has_name n) (option_to_list o ++ drawops_in (heard e))) d ∙ ap (λ o. list_any (has_name n) (drawops_in o)) h
+    ap (list_any (has_name n)) (append-nil (option_to_list e.effects.drawn ++ drawops_in (accepted e)))
+    ∙ ap (λ o. list_any (has_name n) (option_to_list o ++ drawops_in (accepted e))) d ∙ ap (λ o. list_any (has_name n) (drawops_in o)) h
 
-pub shows_heard : (e : Entry) (g : Datagram) (s : Stream) → heard e ≡ Some g → e.effects.drawn ≡ None → shows e s ≡ greatest (flat_map (number_in s) (names_in g))
+pub shows_heard : (e : Entry) (g : Datagram) (s : Stream) → accepted e ≡ Some g → e.effects.drawn ≡ None → shows e s ≡ greatest (flat_map (number_in s) (names_in g))
 shows_heard e g s h d =
-    ap (λ ns. greatest (flat_map (number_in s) ns)) (append-nil (shown_by e))
-    ∙ ap (λ o. greatest (flat_map (number_in s) (map (λ (x : Drawop). x.name) (option_to_list o) ++ names_heard (heard e)))) d
+    ap (λ ns. greatest (flat_map (number_in s) ns)) (append-nil (evidence_by e))
+    ∙ ap (λ o. greatest (flat_map (number_in s) (map (λ (x : Drawop). x.name) (option_to_list o) ++ names_heard (accepted e)))) d
     ∙ ap (λ o. greatest (flat_map (number_in s) (names_heard o))) h
 
 -- missing before, held before, gained by it, missing after it: of one name
@@ -136,7 +136,7 @@ shown_above false false a b s m m' = grind (arith, nat_tests)
 pub fresh_above : (past : List Entry) (e : Entry) (n : FullName) → is_missing past n ≡ false → is_missing (past ++ e ∷ []) n ≡ true → known past n.stream < n.number
 fresh_above past e n m m' = above_known (is_held past n) (gains e n) n.number (known past n.stream) (shows e n.stream) m (sym (is_missing-snoc past e n) ∙ m')
 
-pub fresh_shown : (past : List Entry) (e : Entry) (g : Datagram) (n : FullName) → heard e ≡ Some g → e.effects.drawn ≡ None → is_missing past n ≡ false → is_missing (past ++ e ∷ []) n ≡ true
+pub fresh_shown : (past : List Entry) (e : Entry) (g : Datagram) (n : FullName) → accepted e ≡ Some g → e.effects.drawn ≡ None → is_missing past n ≡ false → is_missing (past ++ e ∷ []) n ≡ true
     → (P : FullName → Type 0) → AllByRecursion P (names_in g) → (m : FullName) × P m × (same_stream n.stream m.stream ≡ true)
 fresh_shown past e g n h d m m' P all =
     shown_in n.stream (names_in g) (known past n.stream)
@@ -150,7 +150,7 @@ names_spelled (Repair sender d) s = (s.1.0, tt)
 names_spelled (Session sender sent farewell shown rows echoes) s = s.3.names
 
 -- so its source is in the roster of all members
-pub fresh_source : (past : List Entry) (e : Entry) (g : Datagram) (n : FullName) → heard e ≡ Some g → e.effects.drawn ≡ None → IsSpellable g → is_missing past n ≡ false → is_missing (past ++ e ∷ []) n ≡ true
+pub fresh_source : (past : List Entry) (e : Entry) (g : Datagram) (n : FullName) → accepted e ≡ Some g → e.effects.drawn ≡ None → IsSpellable g → is_missing past n ≡ false → is_missing (past ++ e ∷ []) n ≡ true
     → n.stream.source < MEMBERS
 fresh_source past e g n h d s m m' =
     let (k, name, same) = fresh_shown past e g n h d m m' is_name (names_spelled g s) in
@@ -159,14 +159,14 @@ fresh_source past e g n h d s m m' =
 -- The arms that such an entry holds, where no request is heard: those of the names that become missing.
 
 unasked : (me : ℕ) (past : List Entry) (e : Entry) (n : FullName) → asker n e ≡ None → e.effects.asks ≡ []
-    → setting_of me past e n ≡ (if is_held past n then None else option_map (ask_at me (past ++ e ∷ []) n) (if is_missing past n then None else if is_missing (past ++ e ∷ []) n then Some 0 else None))
+    → basis_of me past e n ≡ (if is_held past n then None else option_map (ask_at me (past ++ e ∷ []) n) (if is_missing past n then None else if is_missing (past ++ e ∷ []) n then Some 0 else None))
 unasked me past e n none nothing = go (is_held past n)
   where
-    no_fix : (b : Bool) (o : Option Setting) → o ≡ None → (if b then o else None) ≡ None
+    no_fix : (b : Bool) (o : Option WaitBasis) → o ≡ None → (if b then o else None) ≡ None
     no_fix true o e = e
     no_fix false o e = refl
 
-    fix : fix_setting me past e n ≡ None
+    fix : fix_basis_of me past e n ≡ None
     fix = no_fix (is_held past n && not (is_some (fix_running past n)) && not (held_off me past n e.moment)) _ (rw none refl)
 
     exponent : (m m' : Bool) → is_missing past n ≡ m → is_missing (past ++ e ∷ []) n ≡ m' → ask_exponent past e n ≡ (if m then None else if m' then Some 0 else None)
@@ -174,12 +174,12 @@ unasked me past e n none nothing = go (is_held past n)
     exponent false true p q = rw (p, q, none) refl
     exponent false false p q = rw (p, q) refl
 
-    go : (h : Bool) → (if h then fix_setting me past e n else ask_setting me past e n)
+    go : (h : Bool) → (if h then fix_basis_of me past e n else ask_basis_of me past e n)
         ≡ (if h then None else option_map (ask_at me (past ++ e ∷ []) n) (if is_missing past n then None else if is_missing (past ++ e ∷ []) n then Some 0 else None))
     go true = fix
     go false = ap (option_map (ask_at me (past ++ e ∷ []) n)) (exponent (is_missing past n) (is_missing (past ++ e ∷ []) n) refl refl)
 
-fresh_by : (f h m m' : Bool) (wanted : Setting) (armed : ℕ → Setting) → f ≡ (not m && m') → (h ≡ true → m' ≡ false) → (f ≡ true → wanted ≡ armed 0)
+fresh_by : (f h m m' : Bool) (wanted : WaitBasis) (armed : ℕ → WaitBasis) → f ≡ (not m && m') → (h ≡ true → m' ≡ false) → (f ≡ true → wanted ≡ armed 0)
     → (if f then Some wanted else None) ≡ (if h then None else option_map armed (if m then None else if m' then Some 0 else None))
 fresh_by f h m m' wanted armed e q s = ap (λ (b : Bool). if b then Some wanted else None) e ∙ go h m m' q (λ k. s (e ∙ k))
   where
@@ -193,10 +193,10 @@ fresh_by f h m m' wanted armed e q s = ap (λ (b : Bool). if b then Some wanted 
     go false false false q s = refl
 
 found_by : (me : ℕ) (past : List Entry) (e : Entry) (n : FullName) (fresh : List FullName) (dist : List ℕ) → asker n e ≡ None → e.effects.asks ≡ [] → AreFresh past e fresh
-    → (among fresh n ≡ true → distance_to dist n.stream.source ≡ distance (past ++ e ∷ []) me n.stream.source) → found_setting fresh [] dist n ≡ setting_of me past e n
+    → (among fresh n ≡ true → distance_to dist n.stream.source ≡ distance (past ++ e ∷ []) me n.stream.source) → found_basis fresh [] dist n ≡ basis_of me past e n
 found_by me past e n fresh dist none nothing are near =
-    fresh_by (among fresh n) (is_held past n) (is_missing past n) (is_missing (past ++ e ∷ []) n) (asks.ask_setting 0 (distance_to dist n.stream.source)) (ask_at me (past ++ e ∷ []) n)
-    (are.exact n) (held_then past e n) (λ f. ap (λ d. asks.ask_setting 0 d) (near f))
+    fresh_by (among fresh n) (is_held past n) (is_missing past n) (is_missing (past ++ e ∷ []) n) (asks.ask_basis 0 (distance_to dist n.stream.source)) (ask_at me (past ++ e ∷ []) n)
+    (are.exact n) (held_then past e n) (λ f. ap (λ d. asks.ask_basis 0 d) (near f))
     ∙ sym (unasked me past e n none nothing)
 
 pub settings_fit : (c : Config) (past : List Entry) (t : TimersContent) → TimersFit c past t → HaveSettings c t
@@ -214,7 +214,7 @@ arms_right : {W : Type 0} (draw : W → ℕ × W) (from to : W) (c : Config) (pa
     → AskedFirst fresh [] dist arms → WaitsAreDrawn draw t from arms to → ArmsRight c past e
 arms_right draw from to c past e g now arms fresh dist t h with_ none are d first drawn = record {
   in_order = ap (λ as_. ascending name_below (arm_names as_)) with_.arms ∙ first.are.in_order;
-  exact = λ n. ap (λ as_. option_map setting (arm_of n as_)) with_.arms ∙ first.are.exact n
+  exact = λ n. ap (λ as_. option_map wait_basis (arm_of n as_)) with_.arms ∙ first.are.exact n
       ∙ found_by c.me past e n fresh dist (none n) with_.asks are (fresh_near c past e g now arms fresh dist n with_ are d);
   waits = rw with_.arms (drawn_waits draw c from to arms (drawn.each c (settings_fit c past t h)));
 }
@@ -247,7 +247,7 @@ does_so c past e g now arms fresh dist gained ended until with_ none are first g
 abbrev pub no_name : FullName → Bool
 no_name n = false
 
-no_asker : (e : Entry) (g : Datagram) (n : FullName) → heard e ≡ Some g → asker_in n (Some g) ≡ None → asker n e ≡ None
+no_asker : (e : Entry) (g : Datagram) (n : FullName) → accepted e ≡ Some g → asker_in n (Some g) ≡ None → asker n e ≡ None
 no_asker e g n h none = ap (asker_in n) h ∙ none
 
 session_asks : (n : FullName) (g : Datagram) → IsSession g → asker_in n (Some g) ≡ None
@@ -293,7 +293,7 @@ repair_gains n name (Session sender sent farewell shown rows echoes) is = absurd
 repair_gains n name (Data d) is = absurd is
 repair_gains n name (Request sender other mask) is = absurd is
 
-pub unrepaired : (e : Entry) (g : Datagram) (n : FullName) → heard e ≡ Some g → e.effects.fixes ≡ [] → repaired n e ≡ repairs_in n (Some g)
+pub unrepaired : (e : Entry) (g : Datagram) (n : FullName) → accepted e ≡ Some g → e.effects.fixes ≡ [] → repaired n e ≡ repairs_in n (Some g)
 unrepaired e g n h none = ap (λ o. repairs_in n o || among e.effects.fixes n) h ∙ ap (λ ns. repairs_in n (Some g) || among ns n) none ∙ or_false (repairs_in n (Some g))
 
 session_repairs : (n : FullName) (g : Datagram) → IsSession g → repairs_in n (Some g) ≡ false
@@ -442,7 +442,7 @@ repair_hears draw from to name fresh dist now arms old roomy set held new roomy_
               asks = subst (AskFits c.c1 c.c2 ((h.ask_calls ++ sets now arms) ++ Gained name ∷ [])) (sym new_asks)
                   (gained.each c.c1 c.c2 (h.ask_calls ++ sets now arms) (adds.each c.c1 c.c2 h.ask_calls (subst (AskFits c.c1 c.c2 h.ask_calls) (sym roomy_asks) h.asks)));
               ask_timers = λ n. asks_gained c past e now arms h.ask_calls fresh dist name n (h.ask_timers n) first are (gain n);
-              fix_calls = h.fix_calls ++ repairs now dist h.fix_calls (name ∷ []);
+              fix_calls = h.fix_calls ++ repair_calls now dist h.fix_calls (name ∷ []);
               fixes = repaired_.each c.d1 c.d2 h.fix_calls kept;
               fix_timers = λ n. fix_timer-repairs now dist h.fix_calls (name ∷ []) n ∙ ap (λ o. if among (name ∷ []) n then None else o) (h.fix_timers n)
                   ∙ fixes_as_they_were past now arms fresh dist n (if among (name ∷ []) n then None else fix_running past n) first;

@@ -15,7 +15,7 @@ use Rattle.srm_store.specs.Stores.{StoreContent}
 use Rattle.srm_timers.specs.declared.arm.Arm.{Arm}
 use Rattle.srm_timers.specs.declared.arm.ArmKind.{ArmKind}
 use Rattle.srm_timers.specs.declared.arm.ArmKind.TheVariants.{Ask, Fix}
-use Rattle.srm_timers.specs.Arms.{Setting, Plan, same_kind, setting, plan_of, arm_names, backs_off, arm_of}
+use Rattle.srm_timers.specs.Arms.{WaitBasis, Plan, same_kind, wait_basis, plan_of, arm_names, backs_off, arm_of}
 use Rattle.srm_timers.specs.Timers.{armed_at}
 use Rattle.srm_timers.specs.Distances.{distance_to}
 use Rattle.srm_timers.specs.AskCalls.{AskCall, AskContent, AskFits, AskAdds, ask_timer, sets, ask_plan}
@@ -27,7 +27,7 @@ use Rattle.srm_timers.proofs.AskSteps.{ask_timer-sets}
 use Rattle.srm_timers.proofs.FixSteps.{asked_first-snoc, asked_first-append, no_asker-sets, fix_timer-asked, fix_timer-sets, is_off-asked, is_off-append, none_off-sets}
 use Rattle.srm_entries.specs.Configs.{Config}
 use Rattle.srm_entries.specs.declared.entry.Entry.{Entry}
-use Rattle.srm_entries.specs.Entries.{held, shown_to_exist, is_held}
+use Rattle.srm_entries.specs.Entries.{held, evidence_in, is_held}
 use Rattle.srm_entries.specs.Timers.{asker, fix_running, held_off}
 use Rattle.srm_entries.specs.Verdicts.{settlings}
 use Rattle.srm_agent_parts.specs.TimersKept.{TimersContent, TimersFit}
@@ -40,11 +40,11 @@ use Rattle.srm_agent_parts.proofs.RisingNames.{rises_join, take_rises, front_bel
 use Rattle.srm_agent_parts.proofs.JoinedArms.{arm_of-append, arm_named, none_of, joined}
 
 -- The arm that a request makes for a name that it asks for, by what the entries before say.
-abbrev pub wanted : Config → List Entry → ℕ → List ℕ → ℕ → FullName → Option Setting
+abbrev pub wanted : Config → List Entry → ℕ → List ℕ → ℕ → FullName → Option WaitBasis
 wanted c past from dist now n =
     if is_held past n
-    then (if not (is_some (fix_running past n)) && not (held_off c.me past n now) then Some (fixes.fix_setting (distance_to dist from)) else None)
-    else option_map (λ i. asks.ask_setting i (distance_to dist n.stream.source)) (backs_off now (ask_running past n))
+    then (if not (is_some (fix_running past n)) && not (held_off c.me past n now) then Some (fixes.fix_basis (distance_to dist from)) else None)
+    else option_map (λ i. asks.ask_basis i (distance_to dist n.stream.source)) (backs_off now (ask_running past n))
 
 abbrev pub asked_if : List FullName → ℕ → FullName → Option ℕ
 asked_if done from n = if among done n then Some from else None
@@ -54,10 +54,10 @@ pub record AnsweredIn (c : Config) (past : List Entry) (from : ℕ) (dist : List
   pub mid : Midway c past now arms no_name (asked_if done from) no_name (λ n. 0) t
   pub rising : ascending name_below (arm_names arms) ≡ true
   pub inside : (n : FullName) → among (arm_names arms) n ≡ true → among done n ≡ true
-  pub exact : (n : FullName) → option_map setting (arm_of n arms) ≡ (if among done n then wanted c past from dist now n else None)
+  pub exact : (n : FullName) → option_map wait_basis (arm_of n arms) ≡ (if among done n then wanted c past from dist now n else None)
 
 pub record AnsweredSoFar (s : StoreContent) (from : ℕ) (dist : List ℕ) (now : ℕ) (asked : List FullName) (i : ℕ) (arms : List Arm) (old t : TimersContent) : Type 0 where
-  pub each : (c : Config) (past : List Entry) → TimersFit c past old → store.Fits (held past) (shown_to_exist past) (settlings past) s → ascending name_below asked ≡ true
+  pub each : (c : Config) (past : List Entry) → TimersFit c past old → store.Fits (held past) (evidence_in past) (settlings past) s → ascending name_below asked ≡ true
       → AnsweredIn c past from dist now (take i asked) arms t
 
 or_false : (b : Bool) → (b || false) ≡ b
@@ -66,20 +66,20 @@ or_false false = refl
 
 -- one name
 
-abbrev plan_at : FullName → Setting → Plan
-plan_at name s = record { name = name; setting = s }
+abbrev plan_at : FullName → WaitBasis → Plan
+plan_at name s = record { name = name; wait_basis = s }
 
-plan_setting : (name : FullName) (arm : Option Arm) (w : Option Setting) → option_map plan_of arm ≡ option_map (plan_at name) w → option_map setting arm ≡ w
+plan_setting : (name : FullName) (arm : Option Arm) (w : Option WaitBasis) → option_map plan_of arm ≡ option_map (plan_at name) w → option_map wait_basis arm ≡ w
 plan_setting name None None e = refl
 plan_setting name None (Some w) e = absurd (cc)
 plan_setting name (Some a) None e = absurd (cc)
-plan_setting name (Some a) (Some w) e = let same : plan_of a ≡ plan_at name w = cc in ap (λ (p : Plan). Some p.setting) same
+plan_setting name (Some a) (Some w) e = let same : plan_of a ≡ plan_at name w = cc in ap (λ (p : Plan). Some p.wait_basis) same
 
-plan_name : (name : FullName) (a : Arm) (w : Option Setting) → Some (plan_of a) ≡ option_map (plan_at name) w → a.name ≡ name
+plan_name : (name : FullName) (a : Arm) (w : Option WaitBasis) → Some (plan_of a) ≡ option_map (plan_at name) w → a.name ≡ name
 plan_name name a None e = absurd (cc)
 plan_name name a (Some w) e = let same : plan_of a ≡ plan_at name w = cc in ap (λ (p : Plan). p.name) same
 
-arm_one : (n name : FullName) (arm : Option Arm) (w : Option Setting) → option_map plan_of arm ≡ option_map (plan_at name) w → arm_of n (option_to_list arm) ≡ (if same_name n name then arm else None)
+arm_one : (n name : FullName) (arm : Option Arm) (w : Option WaitBasis) → option_map plan_of arm ≡ option_map (plan_at name) w → arm_of n (option_to_list arm) ≡ (if same_name n name then arm else None)
 arm_one n name None w e = neither (same_name n name)
   where
     neither : (b : Bool) → ◌≡◌ {A = Option Arm} None (if b then None else None)
@@ -87,11 +87,11 @@ arm_one n name None w e = neither (same_name n name)
     neither false = refl
 arm_one n name (Some a) w e = ap (λ m. cond (same_name n m) (Some a) None) (plan_name name a w e)
 
-option_plans : (name : FullName) (d : ℕ) (o : Option ℕ) → option_map (ask_plan name d) o ≡ option_map (plan_at name) (option_map (λ i. asks.ask_setting i d) o)
+option_plans : (name : FullName) (d : ℕ) (o : Option ℕ) → option_map (ask_plan name d) o ≡ option_map (plan_at name) (option_map (λ i. asks.ask_basis i d) o)
 option_plans name d None = refl
 option_plans name d (Some i) = refl
 
-fix_plans : (name : FullName) (d : ℕ) (b : Bool) → (if true && b then Some (fixes.fix_plan name d) else None) ≡ option_map (plan_at name) (if b then Some (fixes.fix_setting d) else None)
+fix_plans : (name : FullName) (d : ℕ) (b : Bool) → (if true && b then Some (fixes.fix_plan name d) else None) ≡ option_map (plan_at name) (if b then Some (fixes.fix_basis d) else None)
 fix_plans name d true = refl
 fix_plans name d false = refl
 
@@ -196,14 +196,14 @@ wants c past from dist now done arms t t' held name arm a is ans new = go held i
         (r.to_fix refl).each c.d1 c.d2 a.mid.fix_calls a.mid.fixes
         ∙ ap (λ b. if true && b then Some (fixes.fix_plan name (distance_to dist from)) else None) free
         ∙ fix_plans name (distance_to dist from) (not (is_some (fix_running past name)) && not (held_off c.me past name now))
-        ∙ ap (λ (b : Bool). option_map (plan_at name) (if b then (if not (is_some (fix_running past name)) && not (held_off c.me past name now) then Some (fixes.fix_setting (distance_to dist from)) else None)
-        else option_map (λ i. asks.ask_setting i (distance_to dist name.stream.source)) (backs_off now (ask_running past name)))) e
+        ∙ ap (λ (b : Bool). option_map (plan_at name) (if b then (if not (is_some (fix_running past name)) && not (held_off c.me past name now) then Some (fixes.fix_basis (distance_to dist from)) else None)
+        else option_map (λ i. asks.ask_basis i (distance_to dist name.stream.source)) (backs_off now (ask_running past name)))) e
     go false e r =
         r.to_ask refl c.c1 c.c2 a.mid.ask_calls a.mid.asks
         ∙ ap (λ o. option_map (ask_plan name (distance_to dist name.stream.source)) (backs_off now o)) ask_at_name
         ∙ option_plans name (distance_to dist name.stream.source) (backs_off now (ask_running past name))
-        ∙ ap (λ (b : Bool). option_map (plan_at name) (if b then (if not (is_some (fix_running past name)) && not (held_off c.me past name now) then Some (fixes.fix_setting (distance_to dist from)) else None)
-        else option_map (λ i. asks.ask_setting i (distance_to dist name.stream.source)) (backs_off now (ask_running past name)))) e
+        ∙ ap (λ (b : Bool). option_map (plan_at name) (if b then (if not (is_some (fix_running past name)) && not (held_off c.me past name now) then Some (fixes.fix_basis (distance_to dist from)) else None)
+        else option_map (λ i. asks.ask_basis i (distance_to dist name.stream.source)) (backs_off now (ask_running past name)))) e
 
 one_answered : (c : Config) (past : List Entry) (from : ℕ) (dist : List ℕ) (now : ℕ) (done : List FullName) (arms : List Arm) (t t' : TimersContent) (held : Bool) (name : FullName) (arm : Option Arm)
     → AnsweredIn c past from dist now done arms t → held ≡ is_held past name → IsAnswered held name from dist now arm t t' → ascending name_below (done ++ name ∷ []) ≡ true
@@ -234,7 +234,7 @@ one_answered c past from dist now done arms t t' held name arm a is ans rising =
   inside = λ n at. list_any-append (same_name n) done (name ∷ [])
       ∙ within n (among (arm_names arms) n) refl (among (arm_names (option_to_list arm)) n) refl
       (sym (list_any-append (same_name n) (arm_names arms) (arm_names (option_to_list arm))) ∙ ap (λ ns. among ns n) (sym (map-append (λ (x : Arm). x.name) arms (option_to_list arm))) ∙ at);
-  exact = λ n. ap (option_map setting) (arm_of-append n arms (option_to_list arm) ∙ ap (or_else (arm_of n arms)) (arm_one n name arm (wanted c past from dist now name) plan))
+  exact = λ n. ap (option_map wait_basis) (arm_of-append n arms (option_to_list arm) ∙ ap (or_else (arm_of n arms)) (arm_one n name arm (wanted c past from dist now name) plan))
       ∙ settled n (same_name n name) refl
       ∙ ap (λ (b : Bool). if b then wanted c past from dist now n else None) (sym (list_any-append (same_name n) done (name ∷ [])));
 }
@@ -261,9 +261,9 @@ one_answered c past from dist now done arms t t' held name arm a is ans rising =
         later false k = or_false (same_name n name) ∙ k
     within n false e false f h = absurd (cc)
 
-    settled : (n : FullName) (b : Bool) → same_name n name ≡ b → option_map setting (or_else (arm_of n arms) (if b then arm else None)) ≡ (if (among done n || (same_name n name || false)) then wanted c past from dist now n else None)
+    settled : (n : FullName) (b : Bool) → same_name n name ≡ b → option_map wait_basis (or_else (arm_of n arms) (if b then arm else None)) ≡ (if (among done n || (same_name n name || false)) then wanted c past from dist now n else None)
     settled n true e =
-        ap (λ o. option_map setting (or_else o arm)) (ap (λ m. arm_of m arms) (same_name-is n name e) ∙ unarmed name a new)
+        ap (λ o. option_map wait_basis (or_else o arm)) (ap (λ m. arm_of m arms) (same_name-is n name e) ∙ unarmed name a new)
         ∙ plan_setting name arm (wanted c past from dist now name) plan
         ∙ ap (wanted c past from dist now) (sym (same_name-is n name e))
         ∙ ap (λ (b : Bool). if b then wanted c past from dist now n else None) (sym (either (among done n) (same_name n name) e))
@@ -272,7 +272,7 @@ one_answered c past from dist now done arms t t' held name arm a is ans rising =
         either true q k = refl
         either false q k = or_false q ∙ k
     settled n false e =
-        ap (option_map setting) (or_else-none (arm_of n arms)) ∙ a.exact n
+        ap (option_map wait_basis) (or_else-none (arm_of n arms)) ∙ a.exact n
         ∙ ap (λ (b : Bool). if b then wanted c past from dist now n else None) (sym (ap (λ q. among done n || (q || false)) e ∙ or_false (among done n)))
 
 pub one_more_answered : (s : StoreContent) (from : ℕ) (dist : List ℕ) (now : ℕ) (asked : List FullName) (i : ℕ) (arms arms' : List Arm) (old t t' : TimersContent) (holds : Bool) (name : FullName) (arm : Option Arm)
@@ -284,7 +284,7 @@ one_more_answered s from dist now asked i arms arms' old t t' holds name arm lt 
   each = λ c past fits f rises.
       let front : take (i + 1) asked ≡ take i asked ++ name ∷ [] = take_more asked i name lt ∙ ap (λ n. take i asked ++ n ∷ []) (sym is) in
       subst (λ ns. AnsweredIn c past from dist now ns (arms ++ option_to_list arm) t') (sym front)
-      (one_answered c past from dist now (take i asked) arms t t' holds name arm (h.each c past fits f rises) (held_is (held past) (shown_to_exist past) (settlings past) f) ans
+      (one_answered c past from dist now (take i asked) arms t t' holds name arm (h.each c past fits f rises) (held_is (held past) (evidence_in past) (settlings past) f) ans
       (ap (ascending name_below) (sym front) ∙ take_rises (i + 1) asked rises));
 })
 

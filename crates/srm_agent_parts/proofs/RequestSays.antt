@@ -12,7 +12,7 @@ use Rattle.srm_codec.specs.declared.datagram.Datagram.TheVariants.{Data, Request
 use Rattle.srm_codec.specs.Spelling.{asked_by, is_name, IsSpellable, names_in}
 use Rattle.srm_store.specs.Held as stores
 use Rattle.srm_entries.specs.declared.entry.Entry.{Entry}
-use Rattle.srm_entries.specs.Entries.{heard, drawops_in}
+use Rattle.srm_entries.specs.Entries.{accepted, drawops_in}
 use Rattle.srm_distance.specs.Distance as defined
 use Rattle.srm_entries.specs.Distances.{distance, distance_calls, calls_in, calls_of}
 use Rattle.srm_entries.specs.Timers.{asker, asker_in, repaired, repairs_in}
@@ -24,7 +24,7 @@ use Rattle.srm_agent_parts.proofs.OneAnswered.{asked_if}
 
 -- what a request says
 
-pub asker_is : (e : Entry) (g : Datagram) (from : ℕ) (asked : List FullName) (n : FullName) → heard e ≡ Some g → IsRequestOf from asked g → asker n e ≡ asked_if asked from n
+pub asker_is : (e : Entry) (g : Datagram) (from : ℕ) (asked : List FullName) (n : FullName) → accepted e ≡ Some g → IsRequestOf from asked g → asker n e ≡ asked_if asked from n
 asker_is e g from asked n h is = ap (asker_in n) h ∙ go g is
   where
     go : (g : Datagram) → IsRequestOf from asked g → asker_in n (Some g) ≡ asked_if asked from n
@@ -33,7 +33,7 @@ asker_is e g from asked n h is = ap (asker_in n) h ∙ go g is
     go (Repair sender d) is = absurd is
     go (Session sender sent farewell shown rows echoes) is = absurd is
 
-pub request_gains : (e : Entry) (g : Datagram) (from : ℕ) (asked : List FullName) (n : FullName) → heard e ≡ Some g → e.effects.drawn ≡ None → IsRequestOf from asked g → gains e n ≡ false
+pub request_gains : (e : Entry) (g : Datagram) (from : ℕ) (asked : List FullName) (n : FullName) → accepted e ≡ Some g → e.effects.drawn ≡ None → IsRequestOf from asked g → gains e n ≡ false
 request_gains e g from asked n h d is = gains_heard e g n h d ∙ go g is
   where
     go : (g : Datagram) → IsRequestOf from asked g → list_any (stores.has_name n) (drawops_in (Some g)) ≡ false
@@ -42,7 +42,7 @@ request_gains e g from asked n h d is = gains_heard e g n h d ∙ go g is
     go (Repair sender d) is = absurd is
     go (Session sender sent farewell shown rows echoes) is = absurd is
 
-pub request_repairs : (e : Entry) (g : Datagram) (from : ℕ) (asked : List FullName) (n : FullName) → heard e ≡ Some g → e.effects.fixes ≡ [] → IsRequestOf from asked g → repaired n e ≡ false
+pub request_repairs : (e : Entry) (g : Datagram) (from : ℕ) (asked : List FullName) (n : FullName) → accepted e ≡ Some g → e.effects.fixes ≡ [] → IsRequestOf from asked g → repaired n e ≡ false
 request_repairs e g from asked n h none is = unrepaired e g n h none ∙ go g is
   where
     go : (g : Datagram) → IsRequestOf from asked g → repairs_in n (Some g) ≡ false
@@ -74,6 +74,6 @@ request_says from asked (Data d) is s = absurd is
 request_says from asked (Repair sender d) is s = absurd is
 request_says from asked (Session sender sent farewell shown rows echoes) is s = absurd is
 
-pub same_distance : (me : ℕ) (past : List Entry) (e : Entry) (g : Datagram) (m : ℕ) → heard e ≡ Some g → calls_of me e.moment (Some g) ≡ [] → distance (past ++ e ∷ []) me m ≡ distance past me m
+pub same_distance : (me : ℕ) (past : List Entry) (e : Entry) (g : Datagram) (m : ℕ) → accepted e ≡ Some g → calls_of me e.moment (Some g) ≡ [] → distance (past ++ e ∷ []) me m ≡ distance past me m
 same_distance me past e g m h none =
     ap (λ cs. defined.distance cs me m) (flat_map-snoc (calls_in me) past e ∙ ap (λ o. distance_calls me past ++ calls_of me e.moment o) h ∙ ap (λ cs. distance_calls me past ++ cs) none ∙ append-nil (distance_calls me past))

@@ -14,17 +14,17 @@ use Rattle.srm_timers.specs.declared.arm.Arm.{Arm}
 use Rattle.srm_timers.specs.declared.arm.Armed.{Armed}
 use Rattle.srm_timers.specs.declared.arm.ArmKind.{ArmKind}
 use Rattle.srm_timers.specs.declared.arm.ArmKind.TheVariants.{Ask, Fix}
-use Rattle.srm_timers.specs.Arms.{Setting, same_kind, next_exponent, setting, backs_off}
+use Rattle.srm_timers.specs.Arms.{WaitBasis, same_kind, next_exponent, wait_basis, backs_off}
 use Rattle.srm_timers.specs.Distances.{distance_to}
-use Rattle.srm_timers.specs.AskCalls.{found_setting}
+use Rattle.srm_timers.specs.AskCalls.{found_basis}
 use Rattle.srm_timers.specs.AskCalls as asks
 use Rattle.srm_timers.specs.FixCalls as fixes
 use Rattle.srm_entries.specs.Configs.{Config}
 use Rattle.srm_entries.specs.declared.entry.Entry.{Entry}
 use Rattle.srm_entries.specs.Entries.{held, is_held, is_missing, known}
 use Rattle.srm_entries.specs.Distances.{distance}
-use Rattle.srm_entries.specs.Timers.{asker, ask_exponent, ask_setting, fix_setting, setting_of, last_ask, fix_running, held_off}
-use Rattle.srm_agent_parts.specs.TimersKept.{shown_if}
+use Rattle.srm_entries.specs.Timers.{asker, ask_exponent, ask_basis_of, fix_basis_of, basis_of, last_ask, fix_running, held_off}
+use Rattle.srm_agent_parts.specs.TimersKept.{only_if}
 use Rattle.srm_agent_parts.specs.TimerCalls.{ask_running}
 use Rattle.srm_entries.proofs.Showing.{known_has, held_is_shown}
 use Rattle.srm_entries.proofs.Arming.{ask_at, fix_at}
@@ -38,23 +38,23 @@ is_some_if : (q : Bool) (from : ℕ) → is_some (if q then Some from else None)
 is_some_if true from = refl
 is_some_if false from = refl
 
-fix_case : (q fr free : Bool) (d from : ℕ) (far : ℕ → ℕ) (x : Setting) → fr ≡ false → d ≡ far from
-    → or_else (if q then (if free then Some (fixes.fix_setting d) else None) else None) (if fr then Some x else None)
+fix_case : (q fr free : Bool) (d from : ℕ) (far : ℕ → ℕ) (x : WaitBasis) → fr ≡ false → d ≡ far from
+    → or_else (if q then (if free then Some (fixes.fix_basis d) else None) else None) (if fr then Some x else None)
     ≡ (if free then option_map (λ a. record { kind = Fix; exponent = 0; distance = far a }) (if q then Some from else None) else None)
 fix_case q true free d from far x e f = absurd (cc)
-fix_case true false true d from far x e f = ap (λ k. Some (fixes.fix_setting k)) f
+fix_case true false true d from far x e f = ap (λ k. Some (fixes.fix_basis k)) f
 fix_case true false false d from far x e f = refl
 fix_case false false true d from far x e f = refl
 fix_case false false false d from far x e f = refl
 
-ask_case : (q fr m m' : Bool) (d now : ℕ) (armed : ℕ → Setting) (last : Option Armed) → fr ≡ (not m && m') → ((q || fr) ≡ true → (i : ℕ) → asks.ask_setting i d ≡ armed i)
-    → or_else (if q then option_map (λ i. asks.ask_setting i d) (backs_off now (shown_if m last)) else None) (if fr then Some (asks.ask_setting (if q then 1 else 0) d) else None)
+ask_case : (q fr m m' : Bool) (d now : ℕ) (armed : ℕ → WaitBasis) (last : Option Armed) → fr ≡ (not m && m') → ((q || fr) ≡ true → (i : ℕ) → asks.ask_basis i d ≡ armed i)
+    → or_else (if q then option_map (λ i. asks.ask_basis i d) (backs_off now (only_if m last)) else None) (if fr then Some (asks.ask_basis (if q then 1 else 0) d) else None)
     ≡ option_map armed (if m then (if q then backs_off now last else None) else if m' then Some (if q then 1 else 0) else None)
 ask_case true true true m' d now armed last e s = absurd (cc)
 ask_case false true true m' d now armed last e s = absurd (cc)
 ask_case true false true m' d now armed last e s = or_else-none _ ∙ go (backs_off now last)
   where
-    go : (o : Option ℕ) → option_map (λ i. asks.ask_setting i d) o ≡ option_map armed o
+    go : (o : Option ℕ) → option_map (λ i. asks.ask_basis i d) o ≡ option_map armed o
     go None = refl
     go (Some i) = ap Some (s refl i)
 ask_case false false true m' d now armed last e s = refl
@@ -68,20 +68,20 @@ ask_case false false false false d now armed last e s = refl
 pub request_setting : (c : Config) (past : List Entry) (e : Entry) (from : ℕ) (asked fresh : List FullName) (dist : List ℕ) (now : ℕ) (n : FullName)
     → asker n e ≡ asked_if asked from n → e.effects.asks ≡ [] → e.moment ≡ now → among fresh n ≡ (not (is_missing past n) && is_missing (past ++ e ∷ []) n)
     → distance_to dist from ≡ distance past c.me from → ((among asked n || among fresh n) ≡ true → distance_to dist n.stream.source ≡ distance (past ++ e ∷ []) c.me n.stream.source)
-    → or_else (if among asked n then wanted c past from dist now n else None) (found_setting fresh asked dist n) ≡ setting_of c.me past e n
+    → or_else (if among asked n then wanted c past from dist now n else None) (found_basis fresh asked dist n) ≡ basis_of c.me past e n
 request_setting c past e from asked fresh dist now n ask_is nothing at f near_from near = go (is_held past n) refl
   where
     free : ℕ → Bool
     free k = not (is_some (fix_running past n)) && not (held_off c.me past n k)
 
-    found : Option Setting
-    found = if among fresh n then Some (asks.ask_setting (if among asked n then 1 else 0) (distance_to dist n.stream.source)) else None
+    found : Option WaitBasis
+    found = if among fresh n then Some (asks.ask_basis (if among asked n then 1 else 0) (distance_to dist n.stream.source)) else None
 
-    to_fix : Option Setting
-    to_fix = if free now then Some (fixes.fix_setting (distance_to dist from)) else None
+    to_fix : Option WaitBasis
+    to_fix = if free now then Some (fixes.fix_basis (distance_to dist from)) else None
 
-    to_ask : Option Setting
-    to_ask = option_map (λ i. asks.ask_setting i (distance_to dist n.stream.source)) (backs_off now (ask_running past n))
+    to_ask : Option WaitBasis
+    to_ask = option_map (λ i. asks.ask_basis i (distance_to dist n.stream.source)) (backs_off now (ask_running past n))
 
     unfresh : is_held past n ≡ true → among fresh n ≡ false
     unfresh h = f ∙ ap (λ m'. not (is_missing past n) && m') (held_then past e n h) ∙ ends (not (is_missing past n))
@@ -90,7 +90,7 @@ request_setting c past e from asked fresh dist now n ask_is nothing at f near_fr
         ends true = refl
         ends false = refl
 
-    fix_is : is_held past n ≡ true → fix_setting c.me past e n ≡ (if free now then option_map (fix_at c.me past) (asked_if asked from n) else None)
+    fix_is : is_held past n ≡ true → fix_basis_of c.me past e n ≡ (if free now then option_map (fix_at c.me past) (asked_if asked from n) else None)
     fix_is h =
         ap (λ b. if b && not (is_some (fix_running past n)) && not (held_off c.me past n e.moment) then option_map (fix_at c.me past) (asker n e) else None) h
         ∙ ap (λ k. if free k then option_map (fix_at c.me past) (asker n e) else None) at
@@ -107,17 +107,17 @@ request_setting c past e from asked fresh dist now n ask_is nothing at f near_fr
         ∙ ap (λ ns. if is_missing past n then (if among asked n then backs_off now (last_ask past n) else if among ns n then option_map next_exponent (last_ask past n) else None)
         else if is_missing (past ++ e ∷ []) n then Some (if among asked n then 1 else 0) else None) nothing
 
-    go : (b : Bool) → is_held past n ≡ b → or_else (if among asked n then (if is_held past n then to_fix else to_ask) else None) found ≡ (if is_held past n then fix_setting c.me past e n else ask_setting c.me past e n)
+    go : (b : Bool) → is_held past n ≡ b → or_else (if among asked n then (if is_held past n then to_fix else to_ask) else None) found ≡ (if is_held past n then fix_basis_of c.me past e n else ask_basis_of c.me past e n)
     go true h =
         ap (λ (b : Bool). or_else (if among asked n then (if b then to_fix else to_ask) else None) found) h
-        ∙ fix_case (among asked n) (among fresh n) (free now) (distance_to dist from) from (λ a. distance past c.me a) (asks.ask_setting (if among asked n then 1 else 0) (distance_to dist n.stream.source)) (unfresh h) near_from
+        ∙ fix_case (among asked n) (among fresh n) (free now) (distance_to dist from) from (λ a. distance past c.me a) (asks.ask_basis (if among asked n then 1 else 0) (distance_to dist n.stream.source)) (unfresh h) near_from
         ∙ sym (fix_is h)
-        ∙ sym (ap (λ (b : Bool). if b then fix_setting c.me past e n else ask_setting c.me past e n) h)
+        ∙ sym (ap (λ (b : Bool). if b then fix_basis_of c.me past e n else ask_basis_of c.me past e n) h)
     go false h =
         ap (λ (b : Bool). or_else (if among asked n then (if b then to_fix else to_ask) else None) found) h
-        ∙ ask_case (among asked n) (among fresh n) (is_missing past n) (is_missing (past ++ e ∷ []) n) (distance_to dist n.stream.source) now (ask_at c.me (past ++ e ∷ []) n) (last_ask past n) f (λ k i. ap (asks.ask_setting i) (near k))
+        ∙ ask_case (among asked n) (among fresh n) (is_missing past n) (is_missing (past ++ e ∷ []) n) (distance_to dist n.stream.source) now (ask_at c.me (past ++ e ∷ []) n) (last_ask past n) f (λ k i. ap (asks.ask_basis i) (near k))
         ∙ sym (ap (option_map (ask_at c.me (past ++ e ∷ []) n)) exponent_is)
-        ∙ sym (ap (λ (b : Bool). if b then fix_setting c.me past e n else ask_setting c.me past e n) h)
+        ∙ sym (ap (λ (b : Bool). if b then fix_basis_of c.me past e n else ask_basis_of c.me past e n) h)
 
 -- what is held or missing is known
 
@@ -145,9 +145,9 @@ wanted_known c past from dist now n some = go (is_held past n) refl (is_missing 
   where
     off : is_held past n ≡ false → is_missing past n ≡ false → is_some (wanted c past from dist now n) ≡ false
     off h m =
-        ap (λ (b : Bool). is_some (if b then (if not (is_some (fix_running past n)) && not (held_off c.me past n now) then Some (fixes.fix_setting (distance_to dist from)) else None)
-        else option_map (λ i. asks.ask_setting i (distance_to dist n.stream.source)) (backs_off now (ask_running past n)))) h
-        ∙ ap (λ b. is_some (option_map (λ i. asks.ask_setting i (distance_to dist n.stream.source)) (backs_off now (shown_if b (last_ask past n))))) m
+        ap (λ (b : Bool). is_some (if b then (if not (is_some (fix_running past n)) && not (held_off c.me past n now) then Some (fixes.fix_basis (distance_to dist from)) else None)
+        else option_map (λ i. asks.ask_basis i (distance_to dist n.stream.source)) (backs_off now (ask_running past n)))) h
+        ∙ ap (λ b. is_some (option_map (λ i. asks.ask_basis i (distance_to dist n.stream.source)) (backs_off now (only_if b (last_ask past n))))) m
 
     go : (h : Bool) → is_held past n ≡ h → (m : Bool) → is_missing past n ≡ m → n.number ≤ known past n.stream
     go true h m k = held_known past n h
@@ -157,9 +157,9 @@ wanted_known c past from dist now n some = go (is_held past n) refl (is_missing 
 -- a name that becomes missing wants no arm before
 pub fresh_unwanted : (c : Config) (past : List Entry) (e : Entry) (from : ℕ) (dist : List ℕ) (now : ℕ) (n : FullName) → is_missing past n ≡ false → is_missing (past ++ e ∷ []) n ≡ true → wanted c past from dist now n ≡ None
 fresh_unwanted c past e from dist now n m m' =
-    ap (λ (b : Bool). if b then (if not (is_some (fix_running past n)) && not (held_off c.me past n now) then Some (fixes.fix_setting (distance_to dist from)) else None)
-    else option_map (λ i. asks.ask_setting i (distance_to dist n.stream.source)) (backs_off now (ask_running past n))) (unheld (is_held past n) refl)
-    ∙ ap (λ b. option_map (λ i. asks.ask_setting i (distance_to dist n.stream.source)) (backs_off now (shown_if b (last_ask past n)))) m
+    ap (λ (b : Bool). if b then (if not (is_some (fix_running past n)) && not (held_off c.me past n now) then Some (fixes.fix_basis (distance_to dist from)) else None)
+    else option_map (λ i. asks.ask_basis i (distance_to dist n.stream.source)) (backs_off now (ask_running past n))) (unheld (is_held past n) refl)
+    ∙ ap (λ b. option_map (λ i. asks.ask_basis i (distance_to dist n.stream.source)) (backs_off now (only_if b (last_ask past n)))) m
   where
     unheld : (b : Bool) → is_held past n ≡ b → b ≡ false
     unheld true h = sym m' ∙ held_then past e n h
@@ -167,16 +167,16 @@ fresh_unwanted c past e from dist now n m m' =
 
 -- an arm for a request that is wanted is of a name that is missing
 pub ask_wanted : (h m free : Bool) (d d' now : ℕ) (last : Option Armed) (o : Option Arm)
-    → option_map setting o ≡ (if h then (if free then Some (fixes.fix_setting d) else None) else option_map (λ i. asks.ask_setting i d') (backs_off now (shown_if m last))) → is_some (of_kind Ask o) ≡ true → m ≡ true
+    → option_map wait_basis o ≡ (if h then (if free then Some (fixes.fix_basis d) else None) else option_map (λ i. asks.ask_basis i d') (backs_off now (only_if m last))) → is_some (of_kind Ask o) ≡ true → m ≡ true
 ask_wanted h true free d d' now last o e some = refl
 ask_wanted h false free d d' now last None e some = absurd (cc)
 ask_wanted true false true d d' now last (Some a) e some =
-    let s : setting a ≡ fixes.fix_setting d = cc in
-    let wrong : true ≡ false = sym some ∙ ap (λ (k : ArmKind). is_some (if same_kind Ask k then Some a else None)) (ap (λ (x : Setting). x.kind) s) in
+    let s : wait_basis a ≡ fixes.fix_basis d = cc in
+    let wrong : true ≡ false = sym some ∙ ap (λ (k : ArmKind). is_some (if same_kind Ask k then Some a else None)) (ap (λ (x : WaitBasis). x.kind) s) in
     absurd (cc)
 ask_wanted true false false d d' now last (Some a) e some = absurd (cc)
 ask_wanted false false free d d' now last (Some a) e some = absurd (cc)
 
-pub no_setting_no_arm : (o : Option Arm) → option_map setting o ≡ None → o ≡ None
+pub no_setting_no_arm : (o : Option Arm) → option_map wait_basis o ≡ None → o ≡ None
 no_setting_no_arm None e = refl
 no_setting_no_arm (Some a) e = absurd (cc)

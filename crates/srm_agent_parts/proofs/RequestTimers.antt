@@ -13,7 +13,7 @@ use Rattle.srm_codec.specs.Spelling.{is_name}
 use Rattle.srm_store.specs.Stores.{StoreContent}
 use Rattle.srm_timers.specs.declared.arm.Arm.{Arm}
 use Rattle.srm_timers.specs.declared.arm.ArmKind.TheVariants.{Ask, Fix}
-use Rattle.srm_timers.specs.Arms.{Setting, setting, arm_names, arm_of}
+use Rattle.srm_timers.specs.Arms.{WaitBasis, wait_basis, arm_names, arm_of}
 use Rattle.srm_timers.specs.Timers.{armed_at}
 use Rattle.srm_timers.specs.Distances.{distance_to}
 use Rattle.srm_timers.specs.AskCalls.{AskAdds, AskedFirst, ask_timer, sets, first_exponent}
@@ -50,9 +50,9 @@ request_adds : {W : Type 0} (draw : W → ℕ × W) (start to : W) (c : Config) 
 request_adds draw start to c past e g from asked fresh dist now answers found arms old mid new h with_ is says are d a adds same first drawn arms_are = record {
   arms = record {
     in_order = ap (λ as_. ascending name_below (arm_names as_)) (with_.arms ∙ arms_are) ∙ rising;
-    exact = λ n. ap (λ as_. option_map setting (arm_of n as_)) (with_.arms ∙ arms_are)
-        ∙ ap (option_map setting) (arm_of-append n answers found) ∙ setting_or (arm_of n answers) (arm_of n found)
-        ∙ ap (λ o. or_else o (option_map setting (arm_of n found))) (a.exact n) ∙ ap (or_else (if among asked n then wanted c past from dist now n else None)) (first.are.exact n)
+    exact = λ n. ap (λ as_. option_map wait_basis (arm_of n as_)) (with_.arms ∙ arms_are)
+        ∙ ap (option_map wait_basis) (arm_of-append n answers found) ∙ setting_or (arm_of n answers) (arm_of n found)
+        ∙ ap (λ o. or_else o (option_map wait_basis (arm_of n found))) (a.exact n) ∙ ap (or_else (if among asked n then wanted c past from dist now n else None)) (first.are.exact n)
         ∙ request_setting c past e from asked fresh dist now n (asker_is e g from asked n with_.heard is) with_.asks with_.moment (are.exact n)
         (d.each from says.member ∙ same_distance c.me past e g from with_.heard (says.far c.me e.moment)) (near n);
     waits = rw with_.arms (drawn_waits draw c start to arms (drawn.each c (settings_fit c past old h)));
@@ -98,7 +98,7 @@ request_adds draw start to c past e g from asked fresh dist now answers found ar
     fresh_is : (n : FullName) → among fresh n ≡ true → (is_missing past n ≡ false) × (is_missing (past ++ e ∷ []) n ≡ true)
     fresh_is n k = fresh_then past e n (sym (are.exact n) ∙ k)
 
-    if_none : (q : Bool) (w : Option Setting) → w ≡ None → (if q then w else None) ≡ None
+    if_none : (q : Bool) (w : Option WaitBasis) → w ≡ None → (if q then w else None) ≡ None
     if_none true w k = k
     if_none false w k = refl
 
@@ -126,7 +126,7 @@ request_adds draw start to c past e g from asked fresh dist now answers found ar
         some : (q : Bool) → among asked n ≡ q → is_some (if q then wanted c past from dist now n else None) ≡ true
         some q t = ap (λ (b : Bool). is_some (if b then wanted c past from dist now n else None)) (sym t) ∙ sym (ap is_some (a.exact n)) ∙ is_some_setting (arm_of n answers) ∙ arm_named n answers ∙ k
           where
-            is_some_setting : (o : Option Arm) → is_some (option_map setting o) ≡ is_some o
+            is_some_setting : (o : Option Arm) → is_some (option_map wait_basis o) ≡ is_some o
             is_some_setting None = refl
             is_some_setting (Some x) = refl
 
@@ -155,9 +155,9 @@ request_adds draw start to c past e g from asked fresh dist now answers found ar
       where
         go : (t : Bool) → among asked n ≡ t → is_missing past n ≡ true
         go true t = ask_wanted (is_held past n) (is_missing past n) (not (is_some (fix_running past n)) && not (held_off c.me past n now)) (distance_to dist from) (distance_to dist n.stream.source) now (last_ask past n) (Some x)
-            (ap (option_map setting) (sym p) ∙ a.exact n ∙ ap (λ (b : Bool). if b then wanted c past from dist now n else None) t) some
+            (ap (option_map wait_basis) (sym p) ∙ a.exact n ∙ ap (λ (b : Bool). if b then wanted c past from dist now n else None) t) some
         go false t =
-            let wrong : Some (setting x) ≡ None = ap (option_map setting) (sym p) ∙ a.exact n ∙ ap (λ (b : Bool). if b then wanted c past from dist now n else None) t in
+            let wrong : Some (wait_basis x) ≡ None = ap (option_map wait_basis) (sym p) ∙ a.exact n ∙ ap (λ (b : Bool). if b then wanted c past from dist now n else None) t in
             absurd (cc)
 
     unfresh : (n : FullName) (b : Bool) → among fresh n ≡ b → is_some (of_kind Ask (arm_of n (answers ++ found))) ≡ false → among fresh n ≡ false

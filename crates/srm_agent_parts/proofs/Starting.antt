@@ -4,9 +4,9 @@ use Rattle.srm_timers.specs.AskCalls.{AskContent, AskFits}
 use Rattle.srm_timers.specs.FixCalls.{FixContent, FixFits}
 use Rattle.srm_entries.specs.Configs.{Config}
 use Rattle.srm_entries.specs.Entries.{is_missing}
-use Rattle.srm_agent_parts.specs.TimersKept.{TimersContent, HaveSettings, TimersFit, shown_if}
+use Rattle.srm_agent_parts.specs.TimersKept.{TimersContent, HaveSettings, TimersFit, only_if}
 
-none_shown : (b : Bool) → None ≡ shown_if b None
+none_shown : (b : Bool) → None ≡ only_if b None
 none_shown true = refl
 none_shown false = refl
 

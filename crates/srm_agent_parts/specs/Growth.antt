@@ -15,9 +15,9 @@ use Rattle.srm_entries.specs.Distances.{calls_of}
 use Rattle.srm_entries.specs.Verdicts.{settling_of}
 
 -- these names are known to exist too
-pub record ShowsToo (names : List FullName) (old new : StoreContent) : Type 0 where
+pub record LearnsNames (names : List FullName) (old new : StoreContent) : Type 0 where
   pub finals : new.finals ≡ old.finals
-  pub each : (inserted : List Drawop) (shown : List FullName) (settled : List Settling) → store.Fits inserted shown settled old → store.Fits inserted (shown ++ names) settled new
+  pub each : (inserted : List Drawop) (evidence : List FullName) (settled : List Settling) → store.Fits inserted evidence settled old → store.Fits inserted (evidence ++ names) settled new
 
 -- what is known of the others after a datagram was heard
 pub record HearsToo (me now : ℕ) (g : Datagram) (old new : DistancesContent) : Type 0 where
@@ -25,13 +25,13 @@ pub record HearsToo (me now : ℕ) (g : Datagram) (old new : DistancesContent) :
 
 -- a member is settled with these rows, if it left
 pub record SettlesToo (leaver : Option ℕ) (rows : List FullName) (old new : StoreContent) : Type 0 where
-  pub each : (inserted : List Drawop) (shown : List FullName) (settled : List Settling) → store.Fits inserted shown settled old
-      → store.Fits inserted shown (settled ++ cons_option (option_map (λ m. record { member = m; rows = rows }) leaver) []) new
+  pub each : (inserted : List Drawop) (evidence : List FullName) (settled : List Settling) → store.Fits inserted evidence settled old
+      → store.Fits inserted evidence (settled ++ cons_option (option_map (λ m. record { member = m; rows = rows }) leaver) []) new
 
 -- the names of a datagram are known to exist too, and a farewell settles its sender
 pub record LearnsToo (g : Datagram) (old new : StoreContent) : Type 0 where
-  pub each : (inserted : List Drawop) (shown : List FullName) (settled : List Settling) → store.Fits inserted shown settled old → store.Fits inserted (shown ++ names_in g) (settled ++ cons_option (settling_of (Some g)) []) new
+  pub each : (inserted : List Drawop) (evidence : List FullName) (settled : List Settling) → store.Fits inserted evidence settled old → store.Fits inserted (evidence ++ names_in g) (settled ++ cons_option (settling_of (Some g)) []) new
 
 -- a drawop is held, and its name known of
 pub record HoldsToo (d : Drawop) (old new : StoreContent) : Type 0 where
-  pub each : (inserted : List Drawop) (shown : List FullName) (settled : List Settling) → store.Fits inserted shown settled old → store.Fits (inserted ++ d ∷ []) (shown ++ d.name ∷ []) settled new
+  pub each : (inserted : List Drawop) (evidence : List FullName) (settled : List Settling) → store.Fits inserted evidence settled old → store.Fits (inserted ++ d ∷ []) (evidence ++ d.name ∷ []) settled new

@@ -11,17 +11,17 @@ use Rattle.srm_store.specs.Stores.{StoreContent}
 use Rattle.srm_timers.specs.declared.arm.Arm.{Arm}
 use Rattle.srm_timers.specs.declared.arm.Armed.{Armed}
 use Rattle.srm_timers.specs.declared.arm.ArmKind.TheVariants.{Ask, Fix}
-use Rattle.srm_timers.specs.Arms.{AreDrawn, ran_out, plan_of, backs_off}
+use Rattle.srm_timers.specs.Arms.{AreChosen, ran_out, plan_of, backs_off}
 use Rattle.srm_timers.specs.AskCalls.{AskCall, AskFits, AskAdds, AskDue, AskTimersRun, ask_timer, ask_plan, sets}
 use Rattle.srm_timers.specs.FixCalls.{Asked, FixContent, FixAdds, FixAnswers, FixDue, FixRepairs, sets_fix}
 use Rattle.srm_timers.specs.Distances.{distance_to}
 use Rattle.srm_entries.specs.declared.entry.Entry.{Entry}
 use Rattle.srm_entries.specs.Configs.{Config}
-use Rattle.srm_entries.specs.Entries.{heard, ticked, state, is_gone, held, shown_to_exist, is_missing}
+use Rattle.srm_entries.specs.Entries.{accepted, ticked, state, is_gone, held, evidence_in, is_missing}
 use Rattle.srm_entries.specs.Distances.{distance}
 use Rattle.srm_entries.specs.Timers.{low_of, high_of, last_ask, fix_running, ArmsRight, TimersRight}
 use Rattle.srm_entries.specs.Verdicts.{settlings}
-use Rattle.srm_agent_parts.specs.TimersKept.{TimersFit, shown_if, TimersContent, HaveSettings}
+use Rattle.srm_agent_parts.specs.TimersKept.{TimersFit, only_if, TimersContent, HaveSettings}
 
 -- settings and words
 
@@ -31,7 +31,7 @@ pub record KeepSettings (old new : TimersContent) : Type 0 where
 
 -- the waits of the arms are by the next words, one word an arm, in order; no other word is drawn
 pub record WaitsAreDrawn {W : Type 0} (draw : W → ℕ × W) (t : TimersContent) (from : W) (arms : List Arm) (to : W) : Type 0 where
-  pub each : (c : Config) → HaveSettings c t → AreDrawn draw (low_of c) (high_of c) from arms to
+  pub each : (c : Config) → HaveSettings c t → AreChosen draw (low_of c) (high_of c) from arms to
 
 -- distances
 
@@ -47,7 +47,7 @@ AreFresh past e names = AreExactly (λ n. not (is_missing past n) && is_missing 
 
 -- a datagram was heard and taken at a moment, and these timers were set; nothing was handed out
 pub record HearsWith (g : Datagram) (now : ℕ) (set : List Arm) (e : Entry) : Type 0 where
-  pub heard : heard e ≡ Some g
+  pub heard : accepted e ≡ Some g
   pub read : IsSpellable g
   pub moment : e.moment ≡ now
   pub drawn : e.effects.drawn ≡ None
@@ -58,7 +58,7 @@ pub record HearsWith (g : Datagram) (now : ℕ) (set : List Arm) (e : Entry) : T
 -- a tick at a moment: what was handed out, and which timers were set
 pub record TicksWith (asked repaired : List FullName) (now : ℕ) (set : List Arm) (e : Entry) : Type 0 where
   pub ticked : ticked e ≡ true
-  pub heard : heard e ≡ None
+  pub heard : accepted e ≡ None
   pub moment : e.moment ≡ now
   pub drawn : e.effects.drawn ≡ None
   pub arms : e.effects.arms ≡ set
@@ -110,7 +110,7 @@ FixEnds true now dist name old new = FixRepairs now dist (name ∷ []) old new
 -- a request is heard, over the store as it is before
 pub record TimersHearRequest (s : StoreContent) (from : ℕ) (asked fresh : List FullName) (dist : List ℕ) (now : ℕ) (arms : List Arm) (old new : TimersContent) : Type 0 where
   pub each : (c : Config) (past : List Entry) (e : Entry) (g : Datagram) → IsRequestOf from asked g → HearsWith g now arms e → TimersFit c past old
-      → store.Fits (held past) (shown_to_exist past) (settlings past) s
+      → store.Fits (held past) (evidence_in past) (settlings past) s
       → AreFresh past e fresh → AreDistancesAfter c (past ++ e ∷ []) dist → TimersAdd c past e new
 
 -- the names are those whose request timers ran out, in order
@@ -121,10 +121,10 @@ AreToAsk now past names = AreExactly (λ n. is_missing past n && ran_out now (la
 abbrev pub AreToFix : ℕ → List Entry → List FullName → Type 0
 AreToFix now past names = AreExactly (λ n. ran_out now (fix_running past n)) names
 
-pub record AsksPending (now : ℕ) (t : TimersContent) (names : List FullName) : Type 0 where
+pub record AsksRanOut (now : ℕ) (t : TimersContent) (names : List FullName) : Type 0 where
   pub each : (c : Config) (past : List Entry) → TimersFit c past t → AreToAsk now past names
 
-pub record FixesPending (now : ℕ) (t : TimersContent) (names : List FullName) : Type 0 where
+pub record FixesRanOut (now : ℕ) (t : TimersContent) (names : List FullName) : Type 0 where
   pub each : (c : Config) (past : List Entry) → TimersFit c past t → AreToFix now past names
 
 -- these are the names whose request timers ran out, in order, and each has one
@@ -155,7 +155,7 @@ pub record TimersTick (asks fixes : List FullName) (dist : List ℕ) (now : ℕ)
 
 -- the request timer of a name that is missing
 abbrev pub ask_running : List Entry → FullName → Option Armed
-ask_running past n = shown_if (is_missing past n) (last_ask past n)
+ask_running past n = only_if (is_missing past n) (last_ask past n)
 
 abbrev pub IsBefore : ℕ → Option ℕ → Type 0
 IsBefore u None = Unit {0}

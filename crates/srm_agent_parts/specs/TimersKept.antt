@@ -25,14 +25,14 @@ pub record HaveSettings (c : Config) (t : TimersContent) : Type 0 where
   pub d1 : t.fixes.d1 ≡ c.d1
   pub d2 : t.fixes.d2 ≡ c.d2
 
-abbrev pub shown_if : Bool → Option Armed → Option Armed
-shown_if b o = if b then o else None
+abbrev pub only_if : Bool → Option Armed → Option Armed
+only_if b o = if b then o else None
 
 -- The timers are those of the names, by whatever calls they were set: a request timer runs exactly for each missing name.
 pub record TimersFit (c : Config) (past : List Entry) (t : TimersContent) : Type 0 where
   pub ask_calls : List AskCall
   pub asks : AskFits c.c1 c.c2 ask_calls t.asks
-  pub ask_timers : (n : FullName) → ask_timer ask_calls n ≡ shown_if (is_missing past n) (last_ask past n)
+  pub ask_timers : (n : FullName) → ask_timer ask_calls n ≡ only_if (is_missing past n) (last_ask past n)
   pub fix_calls : List FixCall
   pub fixes : FixFits c.d1 c.d2 fix_calls t.fixes
   pub fix_timers : (n : FullName) → fix_timer fix_calls n ≡ fix_running past n

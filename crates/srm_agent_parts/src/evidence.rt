@@ -5,15 +5,15 @@ ghost use Rattle.srm_names.specs.declared.limits.TheConstants.{DRAWOPS};
 ghost use Rattle.srm_names.specs.Names.{same_stream};
 ghost use Rattle.srm_store.specs.Held.{greatest_in};
 ghost use Rattle.srm_store.specs.Stores.{HavePlaces};
-ghost use Rattle.srm_agent_parts.specs.Growth.{ShowsToo};
+ghost use Rattle.srm_agent_parts.specs.Growth.{LearnsNames};
 
 use srm_names::{Name, Stream};
 use srm_store::Store;
 
 /// These names, for which there is room, are known to exist from now on. It takes no memory.
-pub fn show_all(store: &mut Store, names: &[Name])
+pub fn learn_all(store: &mut Store, names: &[Name])
     requires { HavePlaces names.now store.old }
-    ensures { ShowsToo names.now store.old store.new }
+    ensures { LearnsNames names.now store.old store.new }
 {
     for name in names {
         store.learn(*name).unwrap();

@@ -6,7 +6,7 @@
 //!
 //! ```
 //! let mut timers = Timers::new(alloc, &config);
-//! let (asks, fixes) = (timers.pending_asks(now)?, timers.pending_fixes(now)?);
+//! let (asks, fixes) = (timers.asks_that_ran_out(now)?, timers.fixes_that_ran_out(now)?);
 //! let arms = timers.tick(&asks, &fixes, &distances, now, &mut words)?;
 //! ```
 //!
@@ -24,7 +24,7 @@ mod roster;
 mod timers;
 
 pub use distances::distance_table;
-pub use evidence::{greatest_in, show_all};
+pub use evidence::{greatest_in, learn_all};
 pub use keeping::keep;
 pub use page_table::PageTable;
 pub use progress::Progress;

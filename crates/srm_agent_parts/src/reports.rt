@@ -7,7 +7,7 @@ ghost use Rattle.srm_entries.specs.Distances.{echo_for};
 ghost use Rattle.srm_entries.specs.Verdicts.{settling_of};
 ghost use Rattle.srm_agent_parts.specs.Growth.{HearsToo, LearnsToo, SettlesToo};
 
-use crate::evidence::show_all;
+use crate::evidence::learn_all;
 use srm_codec::Datagram;
 use srm_distance::Distances;
 use srm_names::{Echo, Member, Name};
@@ -48,7 +48,7 @@ pub fn learn(store: &mut Store, datagram: &Datagram, names: &[Name])
     requires ready { HavePlaces names.now store.old }
     ensures { LearnsToo datagram.now store.old store.new }
 {
-    show_all(store, names);
+    learn_all(store, names);
     settle(store, leaver(datagram), names);
 }
 

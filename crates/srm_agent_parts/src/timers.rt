@@ -1,13 +1,13 @@
 //! The request and repair timers of one member.
 
 ghost use Rattle.std.specs.Prelude.{◌≡◌, ◌≤◌, [], true, IfOk, IsOk, OnErr, length};
-ghost use Rattle.srm_names.specs.declared.limits.TheConstants.{MOMENT};
+ghost use Rattle.srm_names.specs.declared.limits.TheConstants.{LATEST_MOMENT};
 ghost use Rattle.srm_names.specs.Names.{ascending, name_below};
 ghost use Rattle.srm_timers.specs.AskCalls.{AskAdds, AskedFirst, AnswerReady, sets};
 ghost use Rattle.srm_deadlines.specs.Deadlines.{DueAmong};
 ghost use Rattle.srm_timers.specs.Distances.{AreDistances};
 ghost use Rattle.srm_agent_parts.specs.TimersKept.{TimersFit, HaveSettings};
-ghost use Rattle.srm_agent_parts.specs.TimerCalls.{AreDueAsks, AreDueFixes, AsksPending, FixesPending, KeepSettings, TimersNext, TimersStay, WaitsAreDrawn};
+ghost use Rattle.srm_agent_parts.specs.TimerCalls.{AreDueAsks, AreDueFixes, AsksRanOut, FixesRanOut, KeepSettings, TimersNext, TimersStay, WaitsAreDrawn};
 
 mod hearing;
 mod requests;
@@ -54,8 +54,8 @@ impl Timers {
     /// The missing names whose request timers have run out, in order of name: those that a tick asks for. Only want of
     /// memory refuses it.
     #[tactic(auto, using(crate::proofs::Midway::asks_pending, crate::proofs::Midway::asks_due))]
-    pub fn pending_asks(&self, now: u64) -> Result<Vec<Name>, AllocError>
-        ensures pending { IfOk result (λ names. AsksPending now self.now names.items) }
+    pub fn asks_that_ran_out(&self, now: u64) -> Result<Vec<Name>, AllocError>
+        ensures pending { IfOk result (λ names. AsksRanOut now self.now names.items) }
         ensures rising { IfOk result (λ names. ascending name_below names.items ≡ true) }
         ensures among { IfOk result (λ names. DueAmong now self.now.asks.ends.places names.items) }
         ensures due { IfOk result (λ names. AreDueAsks now self.now names.items) }
@@ -67,8 +67,8 @@ impl Timers {
     /// The names whose repair timers have run out, in order of name: those that a tick repairs. Only want of memory
     /// refuses it.
     #[tactic(auto, using(crate::proofs::Midway::fixes_pending, crate::proofs::Midway::fixes_due))]
-    pub fn pending_fixes(&self, now: u64) -> Result<Vec<Name>, AllocError>
-        ensures pending { IfOk result (λ names. FixesPending now self.now names.items) }
+    pub fn fixes_that_ran_out(&self, now: u64) -> Result<Vec<Name>, AllocError>
+        ensures pending { IfOk result (λ names. FixesRanOut now self.now names.items) }
         ensures among { IfOk result (λ names. DueAmong now self.now.fixes.ends.places names.items) }
         ensures due { IfOk result (λ names. AreDueFixes now self.now names.items) }
     {
@@ -89,14 +89,14 @@ impl Timers {
     ) -> Result<Vec<Arm>, AllocError>
         requires rising { ascending name_below fresh.now ≡ true }
         requires distances { AreDistances dist.now }
-        requires now { now ≤ MOMENT }
+        requires now { now ≤ LATEST_MOMENT }
         ensures fits { IfOk result (λ arms. AskAdds (sets now arms.items) self.old.asks self.new.asks) }
         ensures arms { IfOk result (λ arms. AskedFirst fresh.now asked.now dist.now arms.items) }
         ensures few { IfOk result (λ arms. length arms.items ≤ length fresh.now) }
-        ensures drawn { IfOk result (λ arms. WaitsAreDrawn W.draw self.old words.old arms.items words.new) }
+        ensures chosen { IfOk result (λ arms. WaitsAreDrawn W.draw self.old words.old arms.items words.new) }
         ensures fixes { self.new.fixes ≡ self.old.fixes }
         ensures kept { OnErr result (TimersStay self.old self.new) }
-        ensures undrawn { OnErr result (words.new ≡ words.old) }
+        ensures unchosen { OnErr result (words.new ≡ words.old) }
         ensures settings { KeepSettings self.old self.new }
         ensures room { AnswerReady fresh.now self.old.asks → IsOk result }
     {
@@ -106,7 +106,7 @@ impl Timers {
 
     /// The least moment at which a timer runs out. Takes no memory.
     #[tactic(auto, using(crate::proofs::Midway::first_of_both))]
-    pub fn next(&self) -> Option<u64>
+    pub fn next_moment(&self) -> Option<u64>
         ensures { TimersNext self.now result }
     {
         lesser(self.asks.next(), self.fixes.next())

@@ -5,7 +5,7 @@ use crate::datagrams::Sent;
 use crate::making::page;
 use bytes::Bytes;
 use srm_agent::{Agent, AgentFault, Heard, Ticked};
-use srm_names::{MOMENT, Name, PAGES, PageMsg};
+use srm_names::{LATEST_MOMENT, Name, PAGES, PageMsg};
 use srm_timers::Listed;
 use std::alloc::{AllocError, Global};
 use std::process::Abort;
@@ -34,7 +34,7 @@ pub(crate) fn draw(
     length: usize,
     now: u64,
 ) -> Result<Name, AgentFault> {
-    assert!(rt; now <= MOMENT);
+    assert!(rt; now <= LATEST_MOMENT);
     match agent.draw(page(rt, creator, number), body(rt, alloc, length), now) {
         Err(AgentFault::Memory) => {
             agent.draw(page(rt, creator, number), body(rt, alloc, length), now)
@@ -51,7 +51,7 @@ pub(crate) fn show_of(
     number: u16,
     now: u64,
 ) -> Result<(), AgentFault> {
-    assert!(rt; now <= MOMENT);
+    assert!(rt; now <= LATEST_MOMENT);
     agent.show(page(rt, creator, number), now)
 }
 
@@ -77,7 +77,7 @@ pub(crate) fn leave(
     agent: &mut Agent<Listed>,
     now: u64,
 ) -> Result<(), AgentFault> {
-    assert!(rt; now <= MOMENT);
+    assert!(rt; now <= LATEST_MOMENT);
     agent.leave(now)
 }
 
@@ -90,7 +90,7 @@ pub(crate) fn give(rt: &impl Abort, agent: &mut Agent<Listed>, slot: u8) -> Opti
 }
 
 pub(crate) fn tick(rt: &impl Abort, agent: &mut Agent<Listed>, now: u64) -> Ticked {
-    assert!(rt; now <= MOMENT);
+    assert!(rt; now <= LATEST_MOMENT);
     match agent.tick(now) {
         Ok(ticked) => ticked,
         Err(_) => agent.tick(now).expect(rt, "memory"),
@@ -124,7 +124,7 @@ pub(crate) fn hear_noise(rt: &impl Abort, agent: &mut Agent<Listed>, noise: Nois
 }
 
 fn hear_bytes(rt: &impl Abort, agent: &mut Agent<Listed>, bytes: &[u8], now: u64) -> Heard {
-    assert!(rt; now <= MOMENT);
+    assert!(rt; now <= LATEST_MOMENT);
     match agent.hear(bytes, now) {
         Ok(heard) => heard,
         Err(_) => agent.hear(bytes, now).expect(rt, "memory"),

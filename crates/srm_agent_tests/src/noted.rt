@@ -3,7 +3,7 @@
 use crate::calls::body;
 use crate::making::page;
 use srm_agent::{Agent, Entry};
-use srm_names::MOMENT;
+use srm_names::LATEST_MOMENT;
 use srm_timers::Listed;
 use std::alloc::Global;
 use std::process::Abort;
@@ -23,18 +23,18 @@ pub(crate) enum NotedCall {
 }
 
 fn show(rt: &impl Abort, agent: &mut Agent<Listed>, now: u64) -> Entry {
-    assert!(rt; now <= MOMENT);
+    assert!(rt; now <= LATEST_MOMENT);
     let noted = agent.show_noted(page(rt, 0, 9), now);
     noted.expect(rt, "memory").entry
 }
 
 fn leave(rt: &impl Abort, agent: &mut Agent<Listed>, now: u64) -> Entry {
-    assert!(rt; now <= MOMENT);
+    assert!(rt; now <= LATEST_MOMENT);
     agent.leave_noted(now).expect(rt, "memory").entry
 }
 
 fn draw(rt: &impl Abort, alloc: Global, agent: &mut Agent<Listed>, now: u64) -> Entry {
-    assert!(rt; now <= MOMENT);
+    assert!(rt; now <= LATEST_MOMENT);
     match agent.draw_noted(page(rt, 0, 0), body(rt, alloc, 2), now) {
         Ok(noted) => noted.entry,
         Err(_) => {
@@ -45,7 +45,7 @@ fn draw(rt: &impl Abort, alloc: Global, agent: &mut Agent<Listed>, now: u64) -> 
 }
 
 fn hear_noise(rt: &impl Abort, agent: &mut Agent<Listed>, now: u64) -> Entry {
-    assert!(rt; now <= MOMENT);
+    assert!(rt; now <= LATEST_MOMENT);
     let noted = agent.hear_noted(&[0x53, 0x53], now);
     noted.expect(rt, "memory").entry
 }

@@ -9,7 +9,7 @@ use Rattle.srm_names.specs.Histories.{Step}
 use Rattle.srm_names.proofs.Lists.{AllByRecursion-parts, AllByRecursion-snoc}
 use Rattle.srm_codec.specs.declared.datagram.Datagram.{Datagram}
 use Rattle.srm_entries.specs.declared.entry.Entry.{Entry}
-use Rattle.srm_entries.specs.Entries.{heard, sent}
+use Rattle.srm_entries.specs.Entries.{accepted, sent}
 use Rattle.srm_entries.proofs.Running.{steps_more}
 use Rattle.srm_world.specs.Traces.{Journal, of_member, IsHonest}
 use Rattle.srm_world.proofs.Laning.{get_set_same, get_set_other}
@@ -18,7 +18,7 @@ use Rattle.srm_world.proofs.Stepping.{sent-snoc}
 use Rattle.srm_audit.specs.Audits.{entries_at}
 use Rattle.srm_audit.specs.Texts.{Knows, Learns}
 use Rattle.srm_audit.specs.Queues.{HearsSent, MayGo, PopsReady}
-use Rattle.srm_audit.specs.Merging.{Content, left, Merges, Keeps, Advances, Waits, Moves, TriesMember, Tries}
+use Rattle.srm_audit.specs.Merging.{Content, entries_remaining, Merges, KeepsJournals, Advances, IsStalled, Moves, TriesMember, Tries}
 
 pub at_queue : {X : Type 0} (xs : List X) (k : ℕ) (x : X) → k < length xs → x ≡ get_or xs k x → slice_get xs k ≡ Some x
 at_queue xs k x l is = slice_get-get_or xs k x l ∙ ap Some (sym is)
@@ -38,7 +38,7 @@ parts m new e f g =
     ap one e ∙ ap two f ∙ ap three g
 
 pub waits_here : (m new : Content) (k : ℕ) (queue rest : List Entry) → k < length m.queues → queue ≡ get_or m.queues k queue → rest ≡ queue → new.queues ≡ slice_set m.queues k rest → new.entries ≡ m.entries → new.texts ≡ m.texts → MayGo m.texts queue false
-    → (new ≡ m) × Waits m k
+    → (new ≡ m) × IsStalled m k
 waits_here m new k queue rest l is same queues entries texts waits =
     let at : slice_get m.queues k ≡ Some queue = at_queue m.queues k queue l is in (
       parts m new (queues ∙ ap (slice_set m.queues k) same ∙ set_same m.queues k queue at) entries texts,
@@ -46,7 +46,7 @@ waits_here m new k queue rest l is same queues entries texts waits =
     )
 
 pub waits_after : (m new : Content) (k : ℕ) (queue rest : List Entry) (popped : Option Entry) → k < length m.queues → queue ≡ get_or m.queues k queue → PopsReady m.texts queue rest popped → popped ≡ None → new.queues ≡ slice_set m.queues k rest → new.entries ≡ m.entries
-    → new.texts ≡ m.texts → (new ≡ m) × Waits m k
+    → new.texts ≡ m.texts → (new ≡ m) × IsStalled m k
 waits_after m new k queue rest popped l is pops none queues entries texts =
     let (same, waits) : PopsReady m.texts queue rest None = subst (PopsReady m.texts queue rest) none pops in
     waits_here m new k queue rest l is same queues entries texts waits
@@ -85,7 +85,7 @@ advances_keeps k old new a q m = record {
   own = m.own;
   each = λ j rest at. which j rest at (cases_eq j k);
   inside = subst (AllByRecursion (λ (e : Entry). e.member < length q)) (sym a.entries) (AllByRecursion-snoc (λ (e : Entry). e.member < length q) old.entries a.entry m.inside (subst (λ n. n < length q) (sym mine) (subst (λ n. k < n) m.count (within old.queues k (a.entry ∷ a.rest) a.next))));
-  honest = subst IsHonest (sym a.entries) (steps_more (λ (s : Step Entry). IfSome (heard s.this) (Contains (sent s.before))) old.entries a.entry m.honest (a.hears (sent old.entries) m.knows));
+  honest = subst IsHonest (sym a.entries) (steps_more (λ (s : Step Entry). IfSome (accepted s.this) (Contains (sent s.before))) old.entries a.entry m.honest (a.hears (sent old.entries) m.knows));
   knows = subst (λ gs. Knows gs new.texts) (sym (ap sent a.entries ∙ sent-snoc old.entries a.entry)) (a.learns.each (sent old.entries) m.knows);
 }
   where
@@ -105,18 +105,18 @@ advances_keeps k old new a q m = record {
         ap (λ es. of_member j es ++ rest) a.entries ∙ ap (λ es. es ++ rest) (other_member j old.entries a.entry (λ (e : a.entry.member ≡ j). differ (sym e ∙ mine)))
         ∙ m.each j rest (sym (get_set_other old.queues k j a.rest differ) ∙ ap (λ xs. slice_get xs j) (sym a.queues) ∙ at)
 
-left_set : (queues : List (List Entry)) (k : ℕ) (e : Entry) (rest : List Entry) → slice_get queues k ≡ Some (e ∷ rest) → left (slice_set queues k rest) + 1 ≡ left queues
+left_set : (queues : List (List Entry)) (k : ℕ) (e : Entry) (rest : List Entry) → slice_get queues k ≡ Some (e ∷ rest) → entries_remaining (slice_set queues k rest) + 1 ≡ entries_remaining queues
 left_set [] k e rest at = absurd (none-some (e ∷ rest) at)
 left_set (x ∷ queues) zero e rest at = let is : length x ≡ suc (length rest) = ap length (same_Some x (e ∷ rest) at) in omega arith
 left_set (x ∷ queues) (suc k) e rest at = let h = left_set queues k e rest at in omega arith
 
-advances_less : (k : ℕ) (old new : Content) → Advances k old new → left new.queues + 1 ≡ left old.queues
-advances_less k old new a = ap (λ xs. left xs + 1) a.queues ∙ left_set old.queues k a.entry a.rest a.next
+advances_less : (k : ℕ) (old new : Content) → Advances k old new → entries_remaining new.queues + 1 ≡ entries_remaining old.queues
+advances_less k old new a = ap (λ xs. entries_remaining xs + 1) a.queues ∙ left_set old.queues k a.entry a.rest a.next
 
-pub keeps_on : (old mid new : Content) → Keeps old mid → Keeps mid new → Keeps old new
+pub keeps_on : (old mid new : Content) → KeepsJournals old mid → KeepsJournals mid new → KeepsJournals old new
 keeps_on old mid new a b = record { each = λ q h. b.each q (a.each q h); count = b.count ∙ a.count }
 
-advance_keeps : (k : ℕ) (old new : Content) → Advances k old new → Keeps old new
+advance_keeps : (k : ℕ) (old new : Content) → Advances k old new → KeepsJournals old new
 advance_keeps k old new a = record { each = advances_keeps k old new a; count = ap length a.queues ∙ length-set old.queues k a.rest }
 
 -- one member goes on as far as it can
@@ -131,16 +131,16 @@ goes_more k old mid new true h a = record {
   less = let l = advances_less k mid new a in let n = h.less in omega arith;
 }
 goes_more k old mid new false h a = record {
-  keeps = subst (λ (m : Content). Keeps m new) h (advance_keeps k mid new a);
-  less = subst (λ (m : Content). left new.queues + 1 ≤ left m.queues) h (let l = advances_less k mid new a in omega arith);
+  keeps = subst (λ (m : Content). KeepsJournals m new) h (advance_keeps k mid new a);
+  less = subst (λ (m : Content). entries_remaining new.queues + 1 ≤ entries_remaining m.queues) h (let l = advances_less k mid new a in omega arith);
 }
 
-pub goes_less : (k : ℕ) (mid new : Content) → Advances k mid new → left new.queues < left mid.queues
+pub goes_less : (k : ℕ) (mid new : Content) → Advances k mid new → entries_remaining new.queues < entries_remaining mid.queues
 goes_less k mid new a = let l = advances_less k mid new a in omega arith
 
-pub goes_end : (k : ℕ) (old mid new : Content) (moved : Bool) → GoesSo old mid moved → new ≡ mid → Waits mid k → TriesMember k old new moved
+pub goes_end : (k : ℕ) (old mid new : Content) (moved : Bool) → GoesSo old mid moved → new ≡ mid → IsStalled mid k → TriesMember k old new moved
 goes_end k old mid new true h same waits = subst (Moves old) (sym same) h
-goes_end k old mid new false h same waits = (same ∙ h, subst (λ (m : Content). Waits m k) h waits)
+goes_end k old mid new false h same waits = (same ∙ h, subst (λ (m : Content). IsStalled m k) h waits)
 
 pub goes_count : (k : ℕ) (old mid : Content) (moved : Bool) → k < length old.queues → GoesSo old mid moved → k < length mid.queues
 goes_count k old mid true l h = subst (λ n. k < n) (sym h.keeps.count) l
@@ -162,17 +162,17 @@ tries_more i old mid new false true h a = record {
   waits = λ e. absurd (cc);
 }
 tries_more i old mid new true false h (same, waits) = record {
-  keeps = subst (Keeps old) (sym same) h.keeps;
-  less = subst (λ (m : Content). left m.queues + 1 ≤ left old.queues) (sym same) h.less;
+  keeps = subst (KeepsJournals old) (sym same) h.keeps;
+  less = subst (λ (m : Content). entries_remaining m.queues + 1 ≤ entries_remaining old.queues) (sym same) h.less;
   still = λ e. absurd (cc);
   waits = λ e. absurd (cc);
 }
 tries_more i old mid new false false h (same, waits) = record {
-  keeps = subst (Keeps old) (sym same) h.keeps;
-  less = subst (λ (m : Content). left m.queues + 0 ≤ left old.queues) (sym same) h.less;
+  keeps = subst (KeepsJournals old) (sym same) h.keeps;
+  less = subst (λ (m : Content). entries_remaining m.queues + 0 ≤ entries_remaining old.queues) (sym same) h.less;
   still = λ e. same ∙ h.still refl;
   waits = λ e k l. elim (cases_eq k i) [
-    | inl is ↦ subst (Waits old) (sym is) (subst (λ (m : Content). Waits m i) (h.still refl) waits)
+    | inl is ↦ subst (IsStalled old) (sym is) (subst (λ (m : Content). IsStalled m i) (h.still refl) waits)
     | inr ne ↦ h.waits refl k (omega (arith, ne))
   ];
 }

@@ -15,10 +15,10 @@ use Rattle.srm_entries.specs.Runs.{EntryRight}
 use Rattle.srm_world.specs.declared.start.Start.{Start}
 use Rattle.srm_world.specs.Traces.{Journal, of_member, IsHonest, IsRoster}
 use Rattle.srm_world.specs.Claims.{IsLawfulJournal}
-use Rattle.srm_audit.specs.Audits.{entries_at, starts_of, next_of, ArePrefixes, AreStuck, IsUnsent, HearsUnsent, IsFound, AreFound}
+use Rattle.srm_audit.specs.Audits.{entries_at, starts_of, next_entry_of, ArePrefixes, AreStuck, IsUnsent, HearsUnsent, IsFound, AreFound}
 use Rattle.srm_audit.specs.Texts.{Knows, HearsOther}
 use Rattle.srm_audit.specs.Queues.{AreReadable}
-use Rattle.srm_audit.specs.Merging.{Content, Merges, Waits, Stops, IsEmptied, IsFirstLeft, Completes, Orders, Cuts, Refuses, IsUnsentAt, Opens}
+use Rattle.srm_audit.specs.Merging.{Content, Merges, IsStalled, Stops, IsEmptied, IsFirstNonEmpty, Completes, Orders, LeadNoFurther, Refuses, IsUnsentAt, Opens}
 use Rattle.srm_audit.specs.declared.got.Got.{Got}
 use Rattle.srm_audit.specs.declared.ending.Ending.{Ending}
 use Rattle.srm_audit.specs.declared.mismatch.Mismatch.{Mismatch}
@@ -115,17 +115,17 @@ prefixes q m h = record {
   ];
 }
 
-next_is : (q : List Journal) (m : Content) (k : ℕ) (rest : List Entry) → Merges q m → slice_get m.queues k ≡ Some rest → next_of q m.entries k ≡ slice_get rest 0
+next_is : (q : List Journal) (m : Content) (k : ℕ) (rest : List Entry) → Merges q m → slice_get m.queues k ≡ Some rest → next_entry_of q m.entries k ≡ slice_get rest 0
 next_is q m k rest h at = ap (λ xs. slice_get xs (length (of_member k m.entries))) (sym (h.each k rest at)) ∙ rest_first (of_member k m.entries) rest
 
-no_next : (q : List Journal) (es : List Entry) (k : ℕ) → length q ≤ k → next_of q es k ≡ None
+no_next : (q : List Journal) (es : List Entry) (k : ℕ) → length q ≤ k → next_entry_of q es k ≡ None
 no_next q es k l = ap (λ xs. slice_get xs (length (of_member k es))) (none_there q k l)
 
 some_of : (P Q : Entry → Type 0) (o : Option Entry) → ((e : Entry) → P e → Q e) → IfSome o P → IfSome o Q
 some_of P Q None f h = tt
 some_of P Q (Some e) f h = f e h
 
-stuck : (q : List Journal) (m : Content) → Merges q m → ((k : ℕ) → k < length m.queues → Waits m k) → AreStuck q m.entries
+stuck : (q : List Journal) (m : Content) → Merges q m → ((k : ℕ) → k < length m.queues → IsStalled m k) → AreStuck q m.entries
 stuck q m h waits = record {
   prefixes = prefixes q m h;
   honest = h.honest;
@@ -147,7 +147,7 @@ has_first : (queue : List Entry) → 0 < length queue → IsSome (slice_get queu
 has_first [] l = absurd (omega arith)
 has_first (e ∷ queue) l = refl
 
-pub cuts : (starts : List Start) (old new : Content) (place entry : ℕ) (a : Start) → Stops old new → IsFirstLeft new.queues place → slice_get starts place ≡ Some a → entry ≡ length (of_member place new.entries) → Cuts starts old a.config.me entry
+pub cuts : (starts : List Start) (old new : Content) (place entry : ℕ) (a : Start) → Stops old new → IsFirstNonEmpty new.queues place → slice_get starts place ≡ Some a → entry ≡ length (of_member place new.entries) → LeadNoFurther starts old a.config.me entry
 cuts starts old new place entry a stops first at count = record {
   each = λ q h same roster.
       let now = stops.keeps.each q h in
@@ -179,10 +179,10 @@ orders old new stops all = record {
       };
 }
 
-pub refuses : (starts : List Start) (old new : Content) (place : ℕ) (mismatch : Mismatch) → Stops old new → IsFirstLeft new.queues place → IsUnsentAt starts new.entries place mismatch → Refuses starts old mismatch
+pub refuses : (starts : List Start) (old new : Content) (place : ℕ) (mismatch : Mismatch) → Stops old new → IsFirstNonEmpty new.queues place → IsUnsentAt starts new.entries place mismatch → Refuses starts old mismatch
 refuses starts old new place mismatch stops first (a, at, is) = subst (Refuses starts old) (sym is) (cuts starts old new place (length (of_member place new.entries)) a stops first at refl)
 
-pub in_starts : (starts : List Start) (old new : Content) (place : ℕ) → length starts ≡ length old.queues → Stops old new → IsFirstLeft new.queues place → place < length starts
+pub in_starts : (starts : List Start) (old new : Content) (place : ℕ) → length starts ≡ length old.queues → Stops old new → IsFirstNonEmpty new.queues place → place < length starts
 in_starts starts old new place same stops first = let l = slice_get_within new.queues place first.queue first.at in let k = stops.keeps.count in omega (arith, l, k, same)
 
 -- what the parts answered

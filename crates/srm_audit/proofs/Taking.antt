@@ -14,9 +14,9 @@ use Rattle.srm_entries.specs.declared.entry.Entry.{Entry}
 use Rattle.srm_entries.specs.declared.entry.Input.{Input}
 use Rattle.srm_entries.specs.declared.entry.Input.TheVariants.{Took}
 use Rattle.srm_entries.specs.declared.entry.Verdict.TheVariants.{Done}
-use Rattle.srm_entries.specs.Entries.{heard, sent, last_moment, state}
+use Rattle.srm_entries.specs.Entries.{accepted, sent, last_moment, state}
 use Rattle.srm_entries.specs.Giving.{given, taken, taken_in}
-use Rattle.srm_entries.specs.Bucket.{Going, GoesRight, bucket_calls, BucketRight}
+use Rattle.srm_entries.specs.Bucket.{Going, GoesAsCharged, bucket_calls, BucketRight}
 use Rattle.srm_entries.specs.Runs.{EntryRight, IsMemberRun}
 use Rattle.srm_entries.specs.declared.state.AgentState.TheVariants.{Active}
 use Rattle.srm_entries.proofs.Adding.{flat_map-snoc}
@@ -60,7 +60,7 @@ bucket_more c es last slot m ending (gs, same, goes, law) =
     let x : Going = record { entry = e; goes = [] } in (
       gs ++ x ∷ [],
       map-append (λ (g : Going). g.entry) gs (x ∷ []) ∙ ap (λ xs. xs ++ e ∷ []) same,
-      steps_more GoesRight gs x goes (record { same = refl; at_ticks = refl }),
+      steps_more GoesAsCharged gs x goes (record { same = refl; at_ticks = refl }),
       subst (BucketLaw c.rate c.depth) (sym (bucket_calls-append c.me gs (x ∷ []) ∙ append-nil (bucket_calls c.me gs))) law,
     )
 
@@ -164,7 +164,7 @@ takes_one q gots got d m rest j ending es here me is found split h = record {
   each = λ k i at. own k i at (cases_eq k got.member);
   taken_is = λ k slot. took k slot (cases_eq k got.member);
   inside = AllByRecursion-snoc (λ (x : Entry). x.member < length q) es e h.inside found.member;
-  honest = steps_more (λ (s : Step Entry). IfSome (heard s.this) (Contains (sent s.before))) es e h.honest tt;
+  honest = steps_more (λ (s : Step Entry). IfSome (accepted s.this) (Contains (sent s.before))) es e h.honest tt;
 }
   where
     e : Entry

@@ -11,7 +11,7 @@ use Rattle.srm_names.proofs.Lists.{Has, Has-append, Has-front, Has-back, Has-con
 use Rattle.srm_codec.specs.declared.datagram.Datagram.{Datagram}
 use Rattle.srm_codec.specs.Spelling.{IsSpellable}
 use Rattle.srm_codec.proofs.JudgingLaws as judging
-use Rattle.srm_audit.specs.declared.texts.TheConstants.{SESSION}
+use Rattle.srm_audit.specs.declared.texts.TheConstants.{ANY_SESSION}
 use Rattle.srm_audit.specs.Texts.{text_of, is_text, Knows, Learns}
 use Rattle.srm_audit.proofs.Stuck.{Has-Contains}
 
@@ -58,7 +58,7 @@ learns_one g old new fits gains gs knows = record {
     sent_is h = gains.each (text_of h)
 
     same : (h : Datagram) → IsSpellable h → bytes_eq (text_of h) (text_of g) ≡ true → h ≡ g
-    same h is e = (judging.unique SESSION SESSION (text_of h) h g (lit< tt) (lit< tt) (record { fits = is; text = refl })
+    same h is e = (judging.unique ANY_SESSION ANY_SESSION (text_of h) h g (lit< tt) (lit< tt) (record { fits = is; text = refl })
         (record { fits = fits; text = (bytes_decides (text_of h) (text_of g)).0 e })).1
 
     to : (h : Datagram) → IsSpellable h → is_text new (text_of h) ≡ true → Contains (gs ++ g ∷ []) h

@@ -9,7 +9,7 @@ use Rattle.srm_codec.specs.declared.datagram.Datagram.{Datagram}
 use Rattle.srm_entries.specs.declared.entry.Entry.{Entry}
 use Rattle.srm_entries.specs.declared.entry.Input.{Input}
 use Rattle.srm_entries.specs.declared.entry.Input.TheVariants.{Took}
-use Rattle.srm_entries.specs.Entries.{heard, sent}
+use Rattle.srm_entries.specs.Entries.{accepted, sent}
 use Rattle.srm_entries.specs.Giving.{given}
 use Rattle.srm_world.specs.declared.start.Start.{Start}
 use Rattle.srm_world.specs.Traces.{Trace, Journal, of_member, taken_by, IsHonest, IsRoster}
@@ -34,26 +34,26 @@ pub record ArePrefixes (q : List Journal) (es : List Entry) : Type 0 where
   pub each : (m : ℕ) → IsPrefix (of_member m es) (entries_at q m)
 
 -- what comes next in a member's journal
-abbrev pub next_of : List Journal → List Entry → ℕ → Option Entry
-next_of q es m = slice_get (entries_at q m) (length (of_member m es))
+abbrev pub next_entry_of : List Journal → List Entry → ℕ → Option Entry
+next_entry_of q es m = slice_get (entries_at q m) (length (of_member m es))
 
 -- the entry hears a datagram that wasn't sent in these
 abbrev pub HearsUnsent : List Entry → Entry → Type 0
-HearsUnsent es e = (g : Datagram) × (heard e ≡ Some g) × ¬ (Contains (sent es) g)
+HearsUnsent es e = (g : Datagram) × (accepted e ≡ Some g) × ¬ (Contains (sent es) g)
 
 -- Prefixes of the journals, in an honest order, that lead no further: what comes next in each, if anything does, hears a datagram
 -- that they didn't send.
 pub record AreStuck (q : List Journal) (es : List Entry) : Type 0 where
   pub prefixes : ArePrefixes q es
   pub honest : IsHonest es
-  pub waits : (m : ℕ) → IfSome (next_of q es m) (HearsUnsent es)
+  pub waits : (m : ℕ) → IfSome (next_entry_of q es m) (HearsUnsent es)
 
 -- so it is where the smallest member of which an entry is left is this one, after so many
 pub record IsUnsent (q : List Journal) (member entry : ℕ) : Type 0 where
   pub es : List Entry
   pub stuck : AreStuck q es
-  pub left : IsSome (next_of q es member)
-  pub smallest : (m : ℕ) → m < member → next_of q es m ≡ None
+  pub left : IsSome (next_entry_of q es member)
+  pub smallest : (m : ℕ) → m < member → next_entry_of q es m ≡ None
   pub count : entry ≡ length (of_member member es)
 
 -- no honest order of prefixes of the journals has more than so many entries of a member
@@ -126,7 +126,7 @@ pub record Assembles (q : List Journal) (gots : List Got) (t : Trace) : Type 0 w
   pub taken : (m j : ℕ) → taken_by t.entries m j ≡ listed gots m j
 
 -- the journals, in order of member, and the lists are those of the trace
-pub record AreOf (js : List Journal) (gots : List Got) (t : Trace) : Type 0 where
+pub record AreAccountedBy (js : List Journal) (gots : List Got) (t : Trace) : Type 0 where
   pub order : List Journal
   pub in_order : InOrder js order
   pub found : AreFound order gots

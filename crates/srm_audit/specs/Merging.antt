@@ -22,9 +22,9 @@ abbrev pub content_of : Inside → Content
 content_of m = record { queues = m.queues.items; entries = m.entries.items; texts = m.texts }
 
 -- how many entries are left
-abbrev pub left : List (List Entry) → ℕ
-left [] = 0
-left (es ∷ rest) = length es + left rest
+abbrev pub entries_remaining : List (List Entry) → ℕ
+entries_remaining [] = 0
+entries_remaining (es ∷ rest) = length es + entries_remaining rest
 
 -- These are the journals: of each, the entries so far and then what is left. The order is honest, and what it sent is known.
 pub record Merges (q : List Journal) (m : Content) : Type 0 where
@@ -36,7 +36,7 @@ pub record Merges (q : List Journal) (m : Content) : Type 0 where
   pub knows : Knows (sent m.entries) m.texts
 
 -- whatever journals they were, they still are
-pub record Keeps (old new : Content) : Type 0 where
+pub record KeepsJournals (old new : Content) : Type 0 where
   pub each : (q : List Journal) → Merges q old → Merges q new
   pub count : length new.queues ≡ length old.queues
 
@@ -51,41 +51,41 @@ pub record Advances (member : ℕ) (old new : Content) : Type 0 where
   pub learns : Learns entry.effects.outs old.texts new.texts
 
 -- nothing is left of a member, or what comes next hears what wasn't sent
-pub record Waits (m : Content) (member : ℕ) : Type 0 where
+pub record IsStalled (m : Content) (member : ℕ) : Type 0 where
   pub queue : List Entry
   pub at : slice_get m.queues member ≡ Some queue
   pub next : IfSome (slice_get queue 0) (HearsUnknown m.texts)
 
 -- whether a member went on by one entry
 abbrev pub TriesOne : ℕ → Content → Content → Bool → Type 0
-TriesOne member old new went = MatchBool went (Advances member old new) ((new ≡ old) × Waits old member)
+TriesOne member old new went = MatchBool went (Advances member old new) ((new ≡ old) × IsStalled old member)
 
 -- a member went on, by one entry or more
 pub record Moves (old new : Content) : Type 0 where
-  pub keeps : Keeps old new
-  pub less : left new.queues + 1 ≤ left old.queues
+  pub keeps : KeepsJournals old new
+  pub less : entries_remaining new.queues + 1 ≤ entries_remaining old.queues
 
 -- whether a member went on
 abbrev pub TriesMember : ℕ → Content → Content → Bool → Type 0
-TriesMember member old new moved = MatchBool moved (Moves old new) ((new ≡ old) × Waits old member)
+TriesMember member old new moved = MatchBool moved (Moves old new) ((new ≡ old) × IsStalled old member)
 
 -- the members up to here were tried, and whether any of them went on
 pub record Tries (count : ℕ) (old new : Content) (moved : Bool) : Type 0 where
-  pub keeps : Keeps old new
-  pub less : left new.queues + (if moved then 1 else 0) ≤ left old.queues
+  pub keeps : KeepsJournals old new
+  pub less : entries_remaining new.queues + (if moved then 1 else 0) ≤ entries_remaining old.queues
   pub still : moved ≡ false → new ≡ old
-  pub waits : moved ≡ false → (k : ℕ) → k < count → Waits old k
+  pub waits : moved ≡ false → (k : ℕ) → k < count → IsStalled old k
 
 -- no member can go on
 pub record Stops (old new : Content) : Type 0 where
-  pub keeps : Keeps old new
-  pub waits : (k : ℕ) → k < length new.queues → Waits new k
+  pub keeps : KeepsJournals old new
+  pub waits : (k : ℕ) → k < length new.queues → IsStalled new k
 
 abbrev pub IsEmptied : List Entry → Type 0
 IsEmptied queue = queue ≡ []
 
 -- the queue at the place is the first in which something is left
-pub record IsFirstLeft (queues : List (List Entry)) (place : ℕ) : Type 0 where
+pub record IsFirstNonEmpty (queues : List (List Entry)) (place : ℕ) : Type 0 where
   pub queue : List Entry
   pub at : slice_get queues place ≡ Some queue
   pub left : 0 < length queue
@@ -102,11 +102,11 @@ pub record Orders (old : Content) (es : List Entry) : Type 0 where
   pub each : (q : List Journal) → Merges q old → Completes q es
 
 -- whatever journals they were, in order, they lead no further than here
-pub record Cuts (starts : List Start) (old : Content) (member entry : ℕ) : Type 0 where
+pub record LeadNoFurther (starts : List Start) (old : Content) (member entry : ℕ) : Type 0 where
   pub each : (q : List Journal) → Merges q old → starts ≡ starts_of q → IsRoster starts → IsUnsent q member entry
 
 abbrev pub Refuses : List Start → Content → Mismatch → Type 0
-Refuses starts old (Unsent member entry) = Cuts starts old member entry
+Refuses starts old (Unsent member entry) = LeadNoFurther starts old member entry
 Refuses starts old Memory = Unit {0}
 Refuses starts old _ = ⊥
 

@@ -4,20 +4,20 @@ use Rattle.std.specs.List.{AllByRecursion}
 use Rattle.srm_codec.specs.declared.datagram.Datagram.{Datagram}
 use Rattle.srm_codec.specs.Spelling.{IsSpellable}
 use Rattle.srm_entries.specs.declared.entry.Entry.{Entry}
-use Rattle.srm_entries.specs.Entries.{heard}
+use Rattle.srm_entries.specs.Entries.{accepted}
 use Rattle.srm_audit.specs.Texts.{text_of, Knows, HearsOther}
 
 -- what the entry sends and hears has a spelling
 pub record IsReadable (e : Entry) : Type 0 where
   pub outs : AllByRecursion IsSpellable e.effects.outs
-  pub read : IfSome (heard e) IsSpellable
+  pub read : IfSome (accepted e) IsSpellable
 
 abbrev pub AreReadable : List Entry → Type 0
 AreReadable es = AllByRecursion IsReadable es
 
 -- the entry hears the datagram that has this text
 abbrev pub HearsText : List ℕ → Entry → Type 0
-HearsText text e = (g : Datagram) × (heard e ≡ Some g) × (text ≡ text_of g)
+HearsText text e = (g : Datagram) × (accepted e ≡ Some g) × (text ≡ text_of g)
 
 -- all entries are readable, and a text that is kept is that of what the first one hears
 pub record IsQueue (entries : List Entry) (text : List ℕ) : Type 0 where
@@ -26,7 +26,7 @@ pub record IsQueue (entries : List Entry) (text : List ℕ) : Type 0 where
 
 -- whatever was sent of which these are the texts, the entry hears nothing, or what was sent
 abbrev pub HearsSent : List (List ℕ) → Entry → Type 0
-HearsSent texts e = (gs : List Datagram) → Knows gs texts → IfSome (heard e) (Contains gs)
+HearsSent texts e = (gs : List Datagram) → Knows gs texts → IfSome (accepted e) (Contains gs)
 
 -- it hears what wasn't
 abbrev pub HearsUnknown : List (List ℕ) → Entry → Type 0

@@ -5,12 +5,12 @@ use Rattle.std.specs.Str.{bytes_eq}
 use Rattle.srm_codec.specs.declared.datagram.Datagram.{Datagram}
 use Rattle.srm_codec.specs.Spelling.{IsSpellable, spelling}
 use Rattle.srm_entries.specs.declared.entry.Entry.{Entry}
-use Rattle.srm_entries.specs.Entries.{heard}
-use Rattle.srm_audit.specs.declared.texts.TheConstants.{SESSION}
+use Rattle.srm_entries.specs.Entries.{accepted}
+use Rattle.srm_audit.specs.declared.texts.TheConstants.{ANY_SESSION}
 
 -- the bytes by which a datagram is known
 abbrev pub text_of : Datagram → List ℕ
-text_of g = spelling SESSION g
+text_of g = spelling ANY_SESSION g
 
 -- these bytes are among the texts
 abbrev pub is_text : List (List ℕ) → List ℕ → Bool
@@ -26,4 +26,4 @@ pub record Learns (more : List Datagram) (old new : List (List ℕ)) : Type 0 wh
 
 -- the entry hears a datagram that isn't among these
 abbrev pub HearsOther : List Datagram → Entry → Type 0
-HearsOther gs e = (g : Datagram) × (heard e ≡ Some g) × ¬ (Contains gs g)
+HearsOther gs e = (g : Datagram) × (accepted e ≡ Some g) × ¬ (Contains gs g)

@@ -3,7 +3,7 @@
 ghost use Rattle.std.specs.Prelude.{◌≡◌, ◌<◌, ◌||◌, length, IfOk, IfErr, MatchOption, OnOk};
 ghost use Rattle.std.specs.List.{AllByRecursion};
 ghost use Rattle.srm_world.specs.Traces.{of_member};
-ghost use Rattle.srm_audit.specs.Merging.{IsEmptied, IsFirstLeft, IsUnsentAt, Orders, Refuses, Stops, Tries, TriesMember, TriesOne};
+ghost use Rattle.srm_audit.specs.Merging.{IsEmptied, IsFirstNonEmpty, IsUnsentAt, Orders, Refuses, Stops, Tries, TriesMember, TriesOne};
 
 use crate::mismatch::Mismatch;
 use crate::queue::Queue;
@@ -77,7 +77,7 @@ impl Merge {
     {
         let mut merge = self;
         merge.run(alloc)?;
-        let Some(place) = first_left(&merge.queues) else {
+        let Some(place) = first_non_empty(&merge.queues) else {
             return Ok(merge.entries);
         };
         Err(unsent_at(starts, &merge.entries, place))
@@ -93,8 +93,8 @@ impl Merge {
 }
 
 /// The place of the first queue in which something is left.
-fn first_left(queues: &[Queue]) -> Option<usize>
-    ensures { MatchOption result (AllByRecursion IsEmptied queues.now) (IsFirstLeft queues.now) }
+fn first_non_empty(queues: &[Queue]) -> Option<usize>
+    ensures { MatchOption result (AllByRecursion IsEmptied queues.now) (IsFirstNonEmpty queues.now) }
 {
     for (place, queue) in queues.iter().enumerate() {
         if !queue.is_empty() {

@@ -3,7 +3,7 @@
 ghost use Rattle.std.specs.Prelude.{◌≡◌, ◌<◌, ◌∷◌, ◌==◌, Some, length, IfOk, OnOk, OnErr};
 ghost use Rattle.std.specs.Option.{option_copied};
 ghost use Rattle.srm_codec.specs.Spelling.{IsSpellable};
-ghost use Rattle.srm_entries.specs.Entries.{heard};
+ghost use Rattle.srm_entries.specs.Entries.{accepted};
 ghost use Rattle.srm_audit.specs.Texts.{text_of};
 ghost use Rattle.srm_audit.specs.Queues.{AreReadable, IsReadable, MayGo, PopsReady};
 
@@ -90,7 +90,7 @@ impl Queue {
 
 /// The datagram that an entry hears and takes.
 fn heard_in(entry: &Entry) -> Option<&Datagram>
-    ensures { option_copied result ≡ heard entry.now }
+    ensures { option_copied result ≡ accepted entry.now }
 {
     match (&entry.verdict, &entry.input) {
         (Verdict::Done, Input::Heard(datagram)) => Some(datagram),

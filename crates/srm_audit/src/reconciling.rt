@@ -3,7 +3,7 @@
 ghost use Rattle.std.specs.Prelude.{◌<◌, length, IfErr, IfOk};
 ghost use Rattle.srm_world.specs.Traces.{IsHonest, IsRoster, IsRun};
 ghost use Rattle.srm_world.specs.Claims.{AgreesAtRest, TakesAreDrawn};
-ghost use Rattle.srm_audit.specs.Audits.{AreOf, IsRefused, starts_of};
+ghost use Rattle.srm_audit.specs.Audits.{AreAccountedBy, IsRefused, starts_of};
 ghost use Rattle.srm_audit.specs.Refusals.{IsForeignAt, IsReconciled, IsRefusedInOrder};
 
 use crate::ending::endings;
@@ -25,7 +25,7 @@ use std::alloc::Global;
 /// of it or no slot, is there a second time, or isn't what the journal gave there first; and journals of which an entry hears what nobody can have
 /// sent before. Want of memory may refuse anything but the roster and a foreign list. A refusal drops the journals and the lists.
 pub fn reconcile(alloc: Global, journals: Vec<Journal>, gots: Vec<Got>) -> Result<Trace, Mismatch>
-    ensures assembles { IfOk result (AreOf journals.items gots.items) }
+    ensures assembles { IfOk result (AreAccountedBy journals.items gots.items) }
     ensures run { IfOk result IsRun }
     ensures honest { IfOk result (λ t. IsHonest t.entries) }
     ensures takes { IfOk result (λ t. TakesAreDrawn t.entries) }

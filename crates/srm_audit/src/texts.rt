@@ -11,7 +11,7 @@ use std::collections::HashSet;
 use std::marker::Model;
 
 /// The session by which datagrams are written here. Those of all journals are of one session, so any number tells them apart.
-const SESSION: u32 = 0;
+const ANY_SESSION: u32 = 0;
 
 /// The datagrams that were sent. Contracts see their bytes, in some order.
 #[derive(Drop)]
@@ -71,5 +71,5 @@ pub fn text_of(alloc: Global, datagram: &Datagram) -> Result<Vec<u8>, AllocError
     requires { IsSpellable datagram.now }
     ensures { IfOk result (λ text. text.items ≡ bytes_of datagram.now) }
 {
-    encode(alloc, SESSION, datagram)
+    encode(alloc, ANY_SESSION, datagram)
 }

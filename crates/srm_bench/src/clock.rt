@@ -1,9 +1,9 @@
 //! The caller's clock.
 
 ghost use Rattle.std.specs.Prelude.{◌≤◌};
-ghost use Rattle.srm_names.specs.declared.limits.TheConstants.{MOMENT};
+ghost use Rattle.srm_names.specs.declared.limits.TheConstants.{LATEST_MOMENT};
 
-use srm_names::MOMENT;
+use srm_names::LATEST_MOMENT;
 
 /// Microseconds from 0, as far as the greatest moment.
 #[derive(Clone, Copy)]
@@ -18,9 +18,12 @@ impl Clock {
 
     /// The moment so many microseconds later.
     pub fn after(&mut self, micros: u32) -> u64
-        ensures { result ≤ MOMENT }
+        ensures { result ≤ LATEST_MOMENT }
     {
-        self.now = self.now.saturating_add(u64::from(micros)).min(MOMENT);
+        self.now = self
+            .now
+            .saturating_add(u64::from(micros))
+            .min(LATEST_MOMENT);
         self.now
     }
 }

@@ -3,7 +3,7 @@
 use bytes::Bytes;
 use srm_agent::{Agent, Config};
 use srm_codec::Datagram;
-use srm_names::{MOMENT, Member, Page, PageMsg};
+use srm_names::{LATEST_MOMENT, Member, Page, PageMsg};
 use srm_timers::{Pcg, Words};
 use std::alloc::Global;
 
@@ -124,7 +124,7 @@ impl Group {
             number: 0,
         };
         let body = Bytes::copy_from_slice(self.alloc, &[7; 64]).ok()?;
-        let now = self.now.min(MOMENT);
+        let now = self.now.min(LATEST_MOMENT);
         self.agents.get_mut(0)?.draw(first, body, now).ok()?;
         Some(())
     }
@@ -172,7 +172,7 @@ impl Group {
         }
         let copy = self.copies.swap_remove(index);
         self.now = copy.at;
-        let now = self.now.min(MOMENT);
+        let now = self.now.min(LATEST_MOMENT);
         let agent = self.agents.get_mut(copy.to)?;
         agent.hear(copy.bytes.as_slice(), now).ok()?;
         if take_given(agent)? {
@@ -183,7 +183,7 @@ impl Group {
 
     fn tick(&mut self, place: usize, at: u64) -> Option<()> {
         self.now = at;
-        let now = at.min(MOMENT);
+        let now = at.min(LATEST_MOMENT);
         let ticked = self.agents.get_mut(place)?.tick(now).ok()?;
         for out in ticked.outs.as_slice() {
             let lost = self.count(&out.datagram);

@@ -1,7 +1,7 @@
 //! Sessions of many members, whose journals are put together.
 
 ghost use Rattle.std.specs.Prelude.{◌≤◌};
-ghost use Rattle.srm_names.specs.declared.limits.TheConstants.{MOMENT};
+ghost use Rattle.srm_names.specs.declared.limits.TheConstants.{LATEST_MOMENT};
 
 use crate::clock::Clock;
 use crate::lists::Lists;
@@ -84,7 +84,7 @@ impl Session {
     }
 
     fn draw(&mut self, place: usize, page: u16, now: u64) -> Option<()>
-        requires { now ≤ MOMENT }
+        requires { now ≤ LATEST_MOMENT }
     {
         let page = Page {
             creator: Member::new(0)?,
@@ -99,7 +99,7 @@ impl Session {
     }
 
     fn tick(&mut self, place: usize, now: u64) -> Option<()>
-        requires { now ≤ MOMENT }
+        requires { now ≤ LATEST_MOMENT }
     {
         let ticked = self.recorders.get_mut(place)?.tick(now).ok()?;
         for out in ticked.outs.as_slice() {
@@ -110,7 +110,7 @@ impl Session {
 
     /// A datagram of a member comes to the others, is lost or comes twice.
     fn spread(&mut self, from: usize, bytes: &[u8], now: u64) -> Option<()>
-        requires { now ≤ MOMENT }
+        requires { now ≤ LATEST_MOMENT }
     {
         for place in 0..self.recorders.len() {
             if place != from {
@@ -122,7 +122,7 @@ impl Session {
     }
 
     fn come(&mut self, place: usize, bytes: &[u8], now: u64, copies: u8) -> Option<()>
-        requires { now ≤ MOMENT }
+        requires { now ≤ LATEST_MOMENT }
     {
         for _ in 0..copies {
             self.hear(place, bytes, now)?;
@@ -131,7 +131,7 @@ impl Session {
     }
 
     fn hear(&mut self, place: usize, bytes: &[u8], now: u64) -> Option<()>
-        requires { now ≤ MOMENT }
+        requires { now ≤ LATEST_MOMENT }
     {
         let recorder = self.recorders.get_mut(place)?;
         recorder.hear(bytes, now).ok().map(|_| ())

@@ -8,7 +8,7 @@ use Rattle.srm_bucket.specs.declared.class.Class.TheVariants.{Shown, New, Other}
 use Rattle.srm_bucket.specs.declared.item.Item.{Item}
 use Rattle.srm_bucket.specs.declared.tokens.Tokens.{Tokens}
 use Rattle.srm_bucket.specs.Calls.{Call}
-use Rattle.srm_bucket.specs.Classes.{left}
+use Rattle.srm_bucket.specs.Classes.{queued}
 use Rattle.srm_bucket.specs.Tokens.{IsFirstLevel, cost_of, refilled}
 use Rattle.srm_bucket.specs.Ticks.{last_moment}
 use Rattle.srm_bucket.specs.Law.{level_at}
@@ -31,7 +31,7 @@ ahead_in class b = ahead_of class (queue b.waiting)
 
 admits-kept : {T : Type 0} (b : Content T) (class : Class) (bytes now rate depth : ℕ) (calls : List (Call T)) → Fits rate depth calls b → admits rate depth calls class bytes now ≡ is_paid (ahead_in class b) bytes (refilled now b.tokens).level
 admits-kept b class bytes now rate depth calls f =
-    ap (λ xs. is_paid xs bytes (level_at rate depth calls now)) (ahead-same class (left calls) (queue b.waiting) (left-is calls b.waiting f.waiting_is))
+    ap (λ xs. is_paid xs bytes (level_at rate depth calls now)) (ahead-same class (queued calls) (queue b.waiting) (left-is calls b.waiting f.waiting_is))
     ∙ ap (λ (t : Tokens). is_paid (ahead_in class b) bytes t.level) (sym (refilled-is b rate depth calls now f))
 
 -- a moment

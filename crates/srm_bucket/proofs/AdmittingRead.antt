@@ -6,7 +6,7 @@ use Rattle.srm_bucket.specs.declared.class.Class.{Class}
 use Rattle.srm_bucket.specs.declared.class.Class.TheVariants.{Shown, New, Other}
 use Rattle.srm_bucket.specs.declared.item.Item.{Item}
 use Rattle.srm_bucket.specs.Calls.{Call}
-use Rattle.srm_bucket.specs.Classes.{left}
+use Rattle.srm_bucket.specs.Classes.{queued}
 use Rattle.srm_bucket.specs.Ticks.{last_moment, ticks, level}
 use Rattle.srm_bucket.specs.Tokens.{cost_of}
 use Rattle.srm_bucket.specs.Law.{level_at}
@@ -31,7 +31,7 @@ module _ {T U : Type 0} (f : T → U) where
 
   pub admits-read : (rate depth : ℕ) (calls : List (Call T)) (class : Class) (bytes now : ℕ) → admits rate depth (map (read_call f) calls) class bytes now ≡ admits rate depth calls class bytes now
   admits-read rate depth calls class bytes now =
-      ap (λ xs. is_paid xs bytes (level_at rate depth (map (read_call f) calls) now)) (ahead-map class (left (map (read_call f) calls)) (left calls) (λ k. left-read f k calls))
-      ∙ paid-map (ahead_of class (left calls)) bytes (level_at rate depth (map (read_call f) calls) now)
-      ∙ ap (λ m. is_paid (ahead_of class (left calls)) bytes (level rate depth (max m now) (ticks (map (read_call f) calls)))) (last_moment-read f calls)
-      ∙ ap (λ ts. is_paid (ahead_of class (left calls)) bytes (level rate depth (max (last_moment calls) now) ts)) (ticks-read f calls)
+      ap (λ xs. is_paid xs bytes (level_at rate depth (map (read_call f) calls) now)) (ahead-map class (queued (map (read_call f) calls)) (queued calls) (λ k. left-read f k calls))
+      ∙ paid-map (ahead_of class (queued calls)) bytes (level_at rate depth (map (read_call f) calls) now)
+      ∙ ap (λ m. is_paid (ahead_of class (queued calls)) bytes (level rate depth (max m now) (ticks (map (read_call f) calls)))) (last_moment-read f calls)
+      ∙ ap (λ ts. is_paid (ahead_of class (queued calls)) bytes (level rate depth (max (last_moment calls) now) ts)) (ticks-read f calls)

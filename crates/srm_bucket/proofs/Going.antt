@@ -9,23 +9,23 @@ use Rattle.srm_bucket.specs.declared.class.Class.{Class}
 use Rattle.srm_bucket.specs.declared.item.Item.{Item}
 use Rattle.srm_bucket.specs.declared.tokens.Tokens.{Tokens}
 use Rattle.srm_bucket.specs.Calls.{Classed, Call, Handed, Refilled, Popped}
-use Rattle.srm_bucket.specs.Classes.{in_class, handed, gone, left, next_of}
+use Rattle.srm_bucket.specs.Classes.{in_class, handed, departed, queued, next_queued}
 use Rattle.srm_bucket.specs.Tokens.{IsFirstMoment, refilled, spent}
 use Rattle.srm_bucket.specs.Ticks.{last_moment, ticks, cost, level, IsWithin}
 use Rattle.srm_bucket.specs.Law.{GoesRight, NoneHigher, lets_nothing_go, level_at, covered, may_go}
 use Rattle.srm_bucket.specs.Waiting.{Waiting, Gains, Loses, SameQueues, queue, next_in}
 use Rattle.srm_bucket.specs.Content.{Content}
-use Rattle.srm_bucket.specs.Fits.{Fits, Stays, Adds, Pops, Waits, tokens_at}
+use Rattle.srm_bucket.specs.Fits.{Fits, Stays, Adds, Pops, IsNextDeparture, tokens_at}
 use Rattle.srm_bucket.proofs.Steps.{last-snoc, ticks-same, waiting-snoc, law-snoc, level-at, within-at, level-popped, within-popped}
 use Rattle.srm_bucket.proofs.Highest.{next-same, next-highest}
 
-pub left-is : {T : Type 0} (calls : List (Call T)) (w : Waiting T) → ((k : Class) → gone k calls ++ queue w k ≡ handed k calls) → (k : Class) → left calls k ≡ queue w k
-left-is calls w are k = ap (drop (length (gone k calls))) (sym (are k)) ∙ drop-append_seam (gone k calls) (queue w k)
+pub left-is : {T : Type 0} (calls : List (Call T)) (w : Waiting T) → ((k : Class) → departed k calls ++ queue w k ≡ handed k calls) → (k : Class) → queued calls k ≡ queue w k
+left-is calls w are k = ap (drop (length (departed k calls))) (sym (are k)) ∙ drop-append_seam (departed k calls) (queue w k)
 
-next-is : {T : Type 0} (calls : List (Call T)) (w : Waiting T) → ((k : Class) → gone k calls ++ queue w k ≡ handed k calls) → next_of calls ≡ next_in w
-next-is calls w are = next-same (left calls) (queue w) (left-is calls w are)
+next-is : {T : Type 0} (calls : List (Call T)) (w : Waiting T) → ((k : Class) → departed k calls ++ queue w k ≡ handed k calls) → next_queued calls ≡ next_in w
+next-is calls w are = next-same (queued calls) (queue w) (left-is calls w are)
 
-pub waiting_left : {T : Type 0} (b : Content T) (k : Class) (rate depth : ℕ) (calls : List (Call T)) → Fits rate depth calls b → length (queue b.waiting k) ≡ length (left calls k)
+pub waiting_left : {T : Type 0} (b : Content T) (k : Class) (rate depth : ℕ) (calls : List (Call T)) → Fits rate depth calls b → length (queue b.waiting k) ≡ length (queued calls k)
 waiting_left b k rate depth calls f = ap length (sym (left-is calls b.waiting f.waiting_is k))
 
 -- what stays
@@ -33,7 +33,7 @@ pub stays : {T : Type 0} (old new : Content T) → new.tokens ≡ old.tokens →
 stays old new tokens queues = record {
   fits = λ rate depth calls f. record {
     tokens_are = tokens ∙ f.tokens_are;
-    waiting_is = λ k. ap (λ xs. gone k calls ++ xs) (queues k) ∙ f.waiting_is k;
+    waiting_is = λ k. ap (λ xs. departed k calls ++ xs) (queues k) ∙ f.waiting_is k;
     within = f.within;
     law = f.law;
   };
@@ -66,7 +66,7 @@ adds_handed c old new tokens gains = record {
       let at : last_moment (calls ++ Handed c ∷ []) ≡ last_moment calls = last-snoc calls (Handed c) ∙ omega arith in
       let same : ticks (calls ++ Handed c ∷ []) ≡ ticks calls = ticks-same calls (Handed c) refl in
       let within : IsWithin rate depth (last_moment (calls ++ Handed c ∷ [])) (ticks (calls ++ Handed c ∷ [])) = quiet-within rate depth calls (Handed c) (last_moment calls) same at f.within in
-      let are : (k : Class) → gone k (calls ++ Handed c ∷ []) ++ queue new.waiting k ≡ handed k (calls ++ Handed c ∷ []) = waiting-snoc calls (Handed c) old.waiting new.waiting gains f.waiting_is in
+      let are : (k : Class) → departed k (calls ++ Handed c ∷ []) ++ queue new.waiting k ≡ handed k (calls ++ Handed c ∷ []) = waiting-snoc calls (Handed c) old.waiting new.waiting gains f.waiting_is in
       record {
         tokens_are = tokens ∙ f.tokens_are ∙ quiet-tokens rate depth calls (Handed c) (last_moment calls) same at;
         waiting_is = are;
@@ -83,7 +83,7 @@ adds_refilled {T = T} now old new tokens queues = record {
       let at : last_moment (calls ++ c ∷ []) ≡ max (last_moment calls) now = last-snoc calls c in
       let same : ticks (calls ++ c ∷ []) ≡ ticks calls = ticks-same calls c refl in
       let within : IsWithin rate depth (last_moment (calls ++ c ∷ [])) (ticks (calls ++ c ∷ [])) = quiet-within rate depth calls c (max (last_moment calls) now) same at (within-at rate depth (last_moment calls) now (ticks calls) f.within) in
-      let are : (k : Class) → gone k (calls ++ c ∷ []) ++ queue new.waiting k ≡ handed k (calls ++ c ∷ []) = waiting-snoc calls c old.waiting new.waiting (λ k. queues k ∙ sym (append-nil (queue old.waiting k))) f.waiting_is in
+      let are : (k : Class) → departed k (calls ++ c ∷ []) ++ queue new.waiting k ≡ handed k (calls ++ c ∷ []) = waiting-snoc calls c old.waiting new.waiting (λ k. queues k ∙ sym (append-nil (queue old.waiting k))) f.waiting_is in
       record {
         tokens_are = tokens ∙ refilled-is old rate depth calls now f ∙ quiet-tokens rate depth calls c (max (last_moment calls) now) same at;
         waiting_is = are;
@@ -142,27 +142,27 @@ paid-is (Some c) t = refl
 
 -- a pop right in each part of the law
 pub pop-right : {T : Type 0} (rate depth : ℕ) (calls : List (Call T)) (now : ℕ) (went : Option (Classed T)) (old new : Waiting T)
-    → IsWithin rate depth (last_moment calls) (ticks calls) → ((k : Class) → gone k calls ++ queue old k ≡ handed k calls)
+    → IsWithin rate depth (last_moment calls) (ticks calls) → ((k : Class) → departed k calls ++ queue old k ≡ handed k calls)
     → went ≡ may_go rate depth calls now → Loses went old new
     → GoesRight rate depth calls (calls ++ Popped now went ∷ []) (Popped now went)
 pop-right {T = T} rate depth calls now went old new within are is loses =
     let c : Call T = Popped now went in
     let at : last_moment (calls ++ c ∷ []) ≡ max (last_moment calls) now = last-snoc calls c in
-    let are_new : (k : Class) → gone k (calls ++ c ∷ []) ++ queue new k ≡ handed k (calls ++ c ∷ []) = waiting-snoc calls c old new (λ k. sym (loses k) ∙ sym (append-nil (queue old k))) are in
-    let le : cost went ≤ level_at rate depth calls now = subst (λ (g : Option (Classed T)). cost g ≤ level_at rate depth calls now) (sym is) (cost-covered (level_at rate depth calls now) (next_of calls)) in
+    let are_new : (k : Class) → departed k (calls ++ c ∷ []) ++ queue new k ≡ handed k (calls ++ c ∷ []) = waiting-snoc calls c old new (λ k. sym (loses k) ∙ sym (append-nil (queue old k))) are in
+    let le : cost went ≤ level_at rate depth calls now = subst (λ (g : Option (Classed T)). cost g ≤ level_at rate depth calls now) (sym is) (cost-covered (level_at rate depth calls now) (next_queued calls)) in
     record {
       in_order = λ k. (queue new k, are_new k);
       highest_first = each_higher calls went (λ d e k lt.
-          let next : next_in old ≡ Some d = sym (next-is calls old are) ∙ covered-is (level_at rate depth calls now) (next_of calls) d (sym is ∙ e) in
-          sym (append-nil (gone k calls)) ∙ ap (λ xs. gone k calls ++ xs) (sym (next-highest (queue old) d next k lt)) ∙ are k);
+          let next : next_in old ≡ Some d = sym (next-is calls old are) ∙ covered-is (level_at rate depth calls now) (next_queued calls) d (sym is ∙ e) in
+          sym (append-nil (departed k calls)) ∙ ap (λ xs. departed k calls ++ xs) (sym (next-highest (queue old) d next k lt)) ∙ are k);
       not_too_much = subst (λ m. IsWithin rate depth m (ticks (calls ++ c ∷ []))) (sym at) (within-popped rate depth calls now went within le);
       all_that_may = at_the_end went _ (λ none.
           let waits : (k : Class) → queue new k ≡ queue old k = λ k. sym (loses k ∙ ap (λ g. in_class k g ++ queue new k) none) in
-          let next : next_of calls ≡ next_of (calls ++ c ∷ []) = next-is calls old are ∙ sym (next-same (queue new) (queue old) waits) ∙ sym (next-is (calls ++ c ∷ []) new are_new) in
+          let next : next_queued calls ≡ next_queued (calls ++ c ∷ []) = next-is calls old are ∙ sym (next-same (queue new) (queue old) waits) ∙ sym (next-is (calls ++ c ∷ []) new are_new) in
           let levels : level_at rate depth calls now ≡ level_at rate depth (calls ++ c ∷ []) (last_moment (calls ++ c ∷ [])) = end_level rate depth calls now went none at in
-          subst (λ n. IfSome (next_of (calls ++ c ∷ [])) (λ d. n < cost (Some d))) levels
+          subst (λ n. IfSome (next_queued (calls ++ c ∷ [])) (λ d. n < cost (Some d))) levels
           (subst (λ (o : Option (Classed T)). IfSome o (λ d. level_at rate depth calls now < cost (Some d))) next
-          (not-covered (level_at rate depth calls now) (next_of calls) (sym is ∙ none))));
+          (not-covered (level_at rate depth calls now) (next_queued calls) (sym is ∙ none))));
     }
   where
     end_level : {T : Type 0} (rate depth : ℕ) (calls : List (Call T)) (now : ℕ) (went : Option (Classed T)) → went ≡ None
@@ -204,11 +204,11 @@ pops_right {T = T} now old new answer went is answers tokens loses = record {
         }
 
 -- the first moment at which an item can go
-pub waits_for : {T : Type 0} (b : Content T) (c : Classed T) (moment : ℕ) → next_in b.waiting ≡ Some c → IsFirstMoment b.tokens c.item.length moment → Waits b (Some moment)
+pub waits_for : {T : Type 0} (b : Content T) (c : Classed T) (moment : ℕ) → next_in b.waiting ≡ Some c → IsFirstMoment b.tokens c.item.length moment → IsNextDeparture b (Some moment)
 waits_for {T = T} b c moment next first = record {
   until = λ rate depth calls f.
       let last : b.tokens.last ≡ last_moment calls = ap (λ (t : Tokens). t.last) f.tokens_are in
-      let next_is : next_of calls ≡ Some c = next-is calls b.waiting f.waiting_is ∙ next in
+      let next_is : next_queued calls ≡ Some c = next-is calls b.waiting f.waiting_is ∙ next in
       record {
         not_before = subst (λ m. m ≤ moment) last first.not_before;
         goes = subst IsSome (sym (at rate depth calls f next_is moment ∙ covers (refilled moment b.tokens).level c first.covered)) refl;
@@ -216,11 +216,11 @@ waits_for {T = T} b c moment next first = record {
       };
 }
   where
-    at : (rate depth : ℕ) (calls : List (Call T)) → Fits rate depth calls b → next_of calls ≡ Some c → (m : ℕ)
+    at : (rate depth : ℕ) (calls : List (Call T)) → Fits rate depth calls b → next_queued calls ≡ Some c → (m : ℕ)
         → may_go rate depth calls m ≡ covered (refilled m b.tokens).level (Some c)
     at rate depth calls f next_is m =
         ap (covered (level_at rate depth calls m)) next_is
         ∙ ap (λ (t : Tokens). covered t.level (Some c)) (sym (refilled-is b rate depth calls m f))
 
-pub waits_for_nothing : {T : Type 0} (b : Content T) → next_in b.waiting ≡ None → Waits b None
+pub waits_for_nothing : {T : Type 0} (b : Content T) → next_in b.waiting ≡ None → IsNextDeparture b None
 waits_for_nothing b next = record { until = λ rate depth calls f. next-is calls b.waiting f.waiting_is ∙ next }

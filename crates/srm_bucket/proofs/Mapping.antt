@@ -10,7 +10,7 @@ use Rattle.srm_bucket.specs.declared.class.Class.TheVariants.{Shown, New, Other}
 use Rattle.srm_bucket.specs.declared.item.Item.{Item}
 use Rattle.srm_bucket.specs.Calls.{Classed, Call, Handed, Refilled, Popped}
 use Rattle.srm_bucket.specs.Mapping.{read_item, read_classed, read_call}
-use Rattle.srm_bucket.specs.Classes.{rank, in_class, handed_in, gone_in, handed, gone, left, first_in, next_of}
+use Rattle.srm_bucket.specs.Classes.{rank, in_class, handed_in, departed_in, handed, departed, queued, first_in, next_queued}
 use Rattle.srm_bucket.specs.Ticks.{Tick, moment_of, last_moment, Pop, popped_in, popped_at, pops, cost, joined, parted, ticks, level}
 use Rattle.srm_bucket.specs.Law.{went_in, ends_tick, NoneHigher, level_at, GoesRight, BucketLaw, covered, may_go}
 
@@ -31,10 +31,10 @@ module _ {T U : Type 0} (f : T → U) where
   handed_in-read class (Refilled now) = refl
   handed_in-read class (Popped now went) = refl
 
-  gone_in-read : (class : Class) (call : Call T) → gone_in class (read_call f call) ≡ map (read_item f) (gone_in class call)
-  gone_in-read class (Handed c) = refl
-  gone_in-read class (Refilled now) = refl
-  gone_in-read class (Popped now went) = in_class-read class went
+  departed_in-read : (class : Class) (call : Call T) → departed_in class (read_call f call) ≡ map (read_item f) (departed_in class call)
+  departed_in-read class (Handed c) = refl
+  departed_in-read class (Refilled now) = refl
+  departed_in-read class (Popped now went) = in_class-read class went
 
   flat_map-read : (h : Call U → List (Item U)) (k : Call T → List (Item T)) → ((call : Call T) → h (read_call f call) ≡ map (read_item f) (k call)) → (calls : List (Call T)) → flat_map h (map (read_call f) calls) ≡ map (read_item f) (flat_map k calls)
   flat_map-read h k same [] = refl
@@ -45,8 +45,8 @@ module _ {T U : Type 0} (f : T → U) where
   pub handed-read : (class : Class) (calls : List (Call T)) → handed class (map (read_call f) calls) ≡ map (read_item f) (handed class calls)
   handed-read class calls = flat_map-read (handed_in class) (handed_in class) (handed_in-read class) calls
 
-  pub gone-read : (class : Class) (calls : List (Call T)) → gone class (map (read_call f) calls) ≡ map (read_item f) (gone class calls)
-  gone-read class calls = flat_map-read (gone_in class) (gone_in class) (gone_in-read class) calls
+  pub gone-read : (class : Class) (calls : List (Call T)) → departed class (map (read_call f) calls) ≡ map (read_item f) (departed class calls)
+  gone-read class calls = flat_map-read (departed_in class) (departed_in class) (departed_in-read class) calls
 
   pub length-read : (xs : List (Item T)) → length (map (read_item f) xs) ≡ length xs
   length-read [] = refl
@@ -57,10 +57,10 @@ module _ {T U : Type 0} (f : T → U) where
   drop-read (suc n) [] = refl
   drop-read (suc n) (x ∷ xs) = drop-read n xs
 
-  pub left-read : (class : Class) (calls : List (Call T)) → left (map (read_call f) calls) class ≡ map (read_item f) (left calls class)
+  pub left-read : (class : Class) (calls : List (Call T)) → queued (map (read_call f) calls) class ≡ map (read_item f) (queued calls class)
   left-read class calls =
-      ap (λ n. drop n (handed class (map (read_call f) calls))) (ap length (gone-read class calls) ∙ length-read (gone class calls))
-      ∙ ap (drop (length (gone class calls))) (handed-read class calls) ∙ drop-read (length (gone class calls)) (handed class calls)
+      ap (λ n. drop n (handed class (map (read_call f) calls))) (ap length (gone-read class calls) ∙ length-read (departed class calls))
+      ∙ ap (drop (length (departed class calls))) (handed-read class calls) ∙ drop-read (length (departed class calls)) (handed class calls)
 
   first_in-read : (class : Class) (xs : List (Item T)) → first_in class (map (read_item f) xs) ≡ option_map (read_classed f) (first_in class xs)
   first_in-read class [] = refl
@@ -70,16 +70,16 @@ module _ {T U : Type 0} (f : T → U) where
   else-read None b = refl
   else-read (Some c) b = refl
 
-  next_of-read : (calls : List (Call T)) → next_of (map (read_call f) calls) ≡ option_map (read_classed f) (next_of calls)
+  next_of-read : (calls : List (Call T)) → next_queued (map (read_call f) calls) ≡ option_map (read_classed f) (next_queued calls)
   next_of-read calls =
-      ap (λ xs. or_else (first_in Shown xs) (or_else (first_in New (left (map (read_call f) calls) New)) (first_in Other (left (map (read_call f) calls) Other)))) (left-read Shown calls)
-      ∙ ap (λ xs. or_else (first_in Shown (map (read_item f) (left calls Shown))) (or_else (first_in New xs) (first_in Other (left (map (read_call f) calls) Other)))) (left-read New calls)
-      ∙ ap (λ xs. or_else (first_in Shown (map (read_item f) (left calls Shown))) (or_else (first_in New (map (read_item f) (left calls New))) (first_in Other xs))) (left-read Other calls)
-      ∙ ap (λ o. or_else o (or_else (first_in New (map (read_item f) (left calls New))) (first_in Other (map (read_item f) (left calls Other))))) (first_in-read Shown (left calls Shown))
-      ∙ ap (λ o. or_else (option_map (read_classed f) (first_in Shown (left calls Shown))) (or_else o (first_in Other (map (read_item f) (left calls Other))))) (first_in-read New (left calls New))
-      ∙ ap (λ o. or_else (option_map (read_classed f) (first_in Shown (left calls Shown))) (or_else (option_map (read_classed f) (first_in New (left calls New))) o)) (first_in-read Other (left calls Other))
-      ∙ ap (or_else (option_map (read_classed f) (first_in Shown (left calls Shown)))) (else-read (first_in New (left calls New)) (first_in Other (left calls Other)))
-      ∙ else-read (first_in Shown (left calls Shown)) (or_else (first_in New (left calls New)) (first_in Other (left calls Other)))
+      ap (λ xs. or_else (first_in Shown xs) (or_else (first_in New (queued (map (read_call f) calls) New)) (first_in Other (queued (map (read_call f) calls) Other)))) (left-read Shown calls)
+      ∙ ap (λ xs. or_else (first_in Shown (map (read_item f) (queued calls Shown))) (or_else (first_in New xs) (first_in Other (queued (map (read_call f) calls) Other)))) (left-read New calls)
+      ∙ ap (λ xs. or_else (first_in Shown (map (read_item f) (queued calls Shown))) (or_else (first_in New (map (read_item f) (queued calls New))) (first_in Other xs))) (left-read Other calls)
+      ∙ ap (λ o. or_else o (or_else (first_in New (map (read_item f) (queued calls New))) (first_in Other (map (read_item f) (queued calls Other))))) (first_in-read Shown (queued calls Shown))
+      ∙ ap (λ o. or_else (option_map (read_classed f) (first_in Shown (queued calls Shown))) (or_else o (first_in Other (map (read_item f) (queued calls Other))))) (first_in-read New (queued calls New))
+      ∙ ap (λ o. or_else (option_map (read_classed f) (first_in Shown (queued calls Shown))) (or_else (option_map (read_classed f) (first_in New (queued calls New))) o)) (first_in-read Other (queued calls Other))
+      ∙ ap (or_else (option_map (read_classed f) (first_in Shown (queued calls Shown)))) (else-read (first_in New (queued calls New)) (first_in Other (queued calls Other)))
+      ∙ else-read (first_in Shown (queued calls Shown)) (or_else (first_in New (queued calls New)) (first_in Other (queued calls Other)))
 
   moment_of-read : (call : Call T) → moment_of (read_call f call) ≡ moment_of call
   moment_of-read (Handed c) = refl
@@ -132,9 +132,9 @@ module _ {T U : Type 0} (f : T → U) where
 
   pub may_go-read : (rate depth : ℕ) (calls : List (Call T)) (now : ℕ) → may_go rate depth (map (read_call f) calls) now ≡ option_map (read_classed f) (may_go rate depth calls now)
   may_go-read rate depth calls now =
-      ap (λ ts. covered (level rate depth (max (last_moment (map (read_call f) calls)) now) ts) (next_of (map (read_call f) calls))) (ticks-read calls)
-      ∙ ap (λ n. covered (level rate depth (max n now) (ticks calls)) (next_of (map (read_call f) calls))) (last_moment-read calls)
-      ∙ ap (covered (level_at rate depth calls now)) (next_of-read calls) ∙ covered-read (level_at rate depth calls now) (next_of calls)
+      ap (λ ts. covered (level rate depth (max (last_moment (map (read_call f) calls)) now) ts) (next_queued (map (read_call f) calls))) (ticks-read calls)
+      ∙ ap (λ n. covered (level rate depth (max n now) (ticks calls)) (next_queued (map (read_call f) calls))) (last_moment-read calls)
+      ∙ ap (covered (level_at rate depth calls now)) (next_of-read calls) ∙ covered-read (level_at rate depth calls now) (next_queued calls)
 
   ends-read : (call : Call T) → ends_tick (read_call f call) ≡ ends_tick call
   ends-read (Handed c) = refl
@@ -166,13 +166,13 @@ module _ {T U : Type 0} (f : T → U) where
   goes-read rate depth before upto call right = record {
     in_order = λ class. (let (rest, e) = right.in_order class in (
       map (read_item f) rest,
-      ap (λ xs. xs ++ map (read_item f) rest) (gone-read class upto) ∙ sym (map-append (read_item f) (gone class upto) rest) ∙ ap (map (read_item f)) e ∙ sym (handed-read class upto),
+      ap (λ xs. xs ++ map (read_item f) rest) (gone-read class upto) ∙ sym (map-append (read_item f) (departed class upto) rest) ∙ ap (map (read_item f)) e ∙ sym (handed-read class upto),
     ));
     highest_first = subst (λ o. IfSome o (NoneHigher (map (read_call f) before))) (sym (went-read call)) (highest-read before (went_in call) right.highest_first);
     not_too_much = rw (last_moment-read upto, ticks-read upto) right.not_too_much;
-    all_that_may = subst (λ b. OnTrue b (IfSome (next_of (map (read_call f) upto)) (λ c. level_at rate depth (map (read_call f) upto) (last_moment (map (read_call f) upto)) < cost (Some c)))) (sym (ends-read call))
+    all_that_may = subst (λ b. OnTrue b (IfSome (next_queued (map (read_call f) upto)) (λ c. level_at rate depth (map (read_call f) upto) (last_moment (map (read_call f) upto)) < cost (Some c)))) (sym (ends-read call))
         (on_true (ends_tick call) _ _ (λ l. subst (λ o. IfSome o (λ c. level_at rate depth (map (read_call f) upto) (last_moment (map (read_call f) upto)) < cost (Some c))) (sym (next_of-read upto))
-        (subst (λ n. IfSome (option_map (read_classed f) (next_of upto)) (λ c. n < cost (Some c))) (sym (level-read rate depth upto)) (less-read (level_at rate depth upto (last_moment upto)) (next_of upto) l))) right.all_that_may);
+        (subst (λ n. IfSome (option_map (read_classed f) (next_queued upto)) (λ c. n < cost (Some c))) (sym (level-read rate depth upto)) (less-read (level_at rate depth upto (last_moment upto)) (next_queued upto) l))) right.all_that_may);
   }
     where
       level-read : (rate depth : ℕ) (cs : List (Call T)) → level_at rate depth (map (read_call f) cs) (last_moment (map (read_call f) cs)) ≡ level_at rate depth cs (last_moment cs)

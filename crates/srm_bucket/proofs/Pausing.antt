@@ -5,7 +5,7 @@ use Rattle.std.proofs.lemmas.List.{append-nil}
 use Rattle.std.proofs.lemmas.Bool.Decides.{nat_tests}
 use Rattle.std.proofs.lemmas.Grind.{flat_map-append}
 use Rattle.srm_bucket.specs.Calls.{Classed, Call, Popped}
-use Rattle.srm_bucket.specs.Classes.{handed_in, gone_in, handed, gone, left, next_of}
+use Rattle.srm_bucket.specs.Classes.{handed_in, departed_in, handed, departed, queued, next_queued}
 use Rattle.srm_bucket.specs.Tokens.{cost_of}
 use Rattle.srm_bucket.specs.Ticks.{Tick, last_moment, ticks, cost, level, IsWithin}
 use Rattle.srm_bucket.specs.Law.{GoesRight, BucketLaw, level_at, covered, may_go}
@@ -22,12 +22,12 @@ law-paused rate depth calls b now f none =
     law-snoc rate depth calls (Popped now None) f.law (pop-right rate depth calls now None b.waiting b.waiting f.within f.waiting_is (sym none) (λ k. refl))
 
 -- what is next stays
-next-paused : {T : Type 0} (calls : List (Call T)) (now : ℕ) → next_of (calls ++ Popped now None ∷ []) ≡ next_of calls
+next-paused : {T : Type 0} (calls : List (Call T)) (now : ℕ) → next_queued (calls ++ Popped now None ∷ []) ≡ next_queued calls
 next-paused {T = T} calls now =
     let c : Call T = Popped now None in
-    next-same (left (calls ++ c ∷ [])) (left calls) (λ k.
-    ap (λ xs. drop (length xs) (handed k (calls ++ c ∷ []))) (flat_map-append (gone_in k) calls (c ∷ []) ∙ append-nil (gone k calls))
-    ∙ ap (drop (length (gone k calls))) (flat_map-append (handed_in k) calls (c ∷ []) ∙ append-nil (handed k calls)))
+    next-same (queued (calls ++ c ∷ [])) (queued calls) (λ k.
+    ap (λ xs. drop (length xs) (handed k (calls ++ c ∷ []))) (flat_map-append (departed_in k) calls (c ∷ []) ∙ append-nil (departed k calls))
+    ∙ ap (drop (length (departed k calls))) (flat_map-append (handed_in k) calls (c ∷ []) ∙ append-nil (handed k calls)))
 
 none_covered : {T : Type 0} (tokens : ℕ) (next : Option (Classed T)) → IfSome next (λ c. tokens < cost (Some c)) → covered tokens next ≡ None
 none_covered tokens None h = refl
@@ -42,12 +42,12 @@ paused-none {T = T} rate depth calls now right =
     let twice : max (last_moment (calls ++ c ∷ [])) (last_moment (calls ++ c ∷ [])) ≡ max (last_moment calls) now = omega (arith, at) in
     let spent : level rate depth (max (last_moment calls) now) (ticks (calls ++ c ∷ [])) ≡ level_at rate depth calls now - 0 = level-popped rate depth calls now nothing in
     let same : level_at rate depth (calls ++ c ∷ []) (last_moment (calls ++ c ∷ [])) ≡ level_at rate depth calls now = ap (λ m. level rate depth m (ticks (calls ++ c ∷ []))) twice ∙ omega (arith, spent) in
-    none_covered (level_at rate depth calls now) (next_of calls)
-    (subst (λ n. IfSome (next_of calls) (λ d. n < cost (Some d))) same
+    none_covered (level_at rate depth calls now) (next_queued calls)
+    (subst (λ n. IfSome (next_queued calls) (λ d. n < cost (Some d))) same
     (subst (λ (o : Option (Classed T)). IfSome o (λ d. level_at rate depth (calls ++ c ∷ []) (last_moment (calls ++ c ∷ [])) < cost (Some d))) (next-paused calls now) right.all_that_may))
 
 -- and what goes in a right pop may go
-pub popped-may_go : {T : Type 0} (rate depth : ℕ) (calls : List (Call T)) (now : ℕ) (i : Classed T) → GoesRight rate depth calls (calls ++ Popped now (Some i) ∷ []) (Popped now (Some i)) → next_of calls ≡ Some i
+pub popped-may_go : {T : Type 0} (rate depth : ℕ) (calls : List (Call T)) (now : ℕ) (i : Classed T) → GoesRight rate depth calls (calls ++ Popped now (Some i) ∷ []) (Popped now (Some i)) → next_queued calls ≡ Some i
     → may_go rate depth calls now ≡ Some i
 popped-may_go rate depth calls now i right next =
     ap (covered (level_at rate depth calls now)) next
@@ -77,5 +77,5 @@ covered_too less more (Some c) l none = go (nat_le (cost (Some c)) more) refl no
 
 pub none-before : {T : Type 0} (rate depth : ℕ) (calls : List (Call T)) (now later : ℕ) → IsWithin rate depth (last_moment calls) (ticks calls) → now ≤ later → may_go rate depth calls later ≡ None → may_go rate depth calls now ≡ None
 none-before rate depth calls now later within l none =
-    covered_too (level_at rate depth calls now) (level_at rate depth calls later) (next_of calls)
+    covered_too (level_at rate depth calls now) (level_at rate depth calls later) (next_queued calls)
     (level-grows rate depth (max (last_moment calls) now) (max (last_moment calls) later) (ticks calls) (omega arith) (within-at rate depth (last_moment calls) now (ticks calls) within)) none

@@ -13,7 +13,7 @@ use Rattle.srm_bucket.specs.Ticks.{cost}
 use Rattle.srm_bucket.specs.Waiting.{Waiting, HasLength, Loses, SameQueues, queue, next_in, count_of}
 use Rattle.srm_bucket.specs.Law.{covered}
 use Rattle.srm_bucket.specs.Content.{Content}
-use Rattle.srm_bucket.specs.Fits.{Pops, Waits}
+use Rattle.srm_bucket.specs.Fits.{Pops, IsNextDeparture}
 use Rattle.srm_bucket.proofs.Highest.{next-length, count-lost}
 use Rattle.srm_bucket.proofs.Going.{covers, covers_not, pops_right, waits_for, waits_for_nothing}
 
@@ -49,10 +49,10 @@ short (Some c) bytes e h = let same : c.item.length ≡ bytes = cc in omega (ari
 pub next_is_short : {T : Type 0} (w : Waiting T) (bytes : ℕ) → ((k : Class) → All HasLength (queue w k)) → next_bytes w ≡ Some bytes → bytes ≤ GREATEST_LENGTH
 next_is_short w bytes all e = short (next_in w) bytes e (next-length (queue w) all)
 
-pub waits_nothing : {T : Type 0} (b : Content T) → next_bytes b.waiting ≡ None → Waits b None
+pub waits_nothing : {T : Type 0} (b : Content T) → next_bytes b.waiting ≡ None → IsNextDeparture b None
 waits_nothing b e = waits_for_nothing b (nothing_next (next_in b.waiting) e)
 
-pub waits_something : {T : Type 0} (b : Content T) (bytes moment : ℕ) → next_bytes b.waiting ≡ Some bytes → IsFirstMoment b.tokens bytes moment → Waits b (Some moment)
+pub waits_something : {T : Type 0} (b : Content T) (bytes moment : ℕ) → next_bytes b.waiting ≡ Some bytes → IsFirstMoment b.tokens bytes moment → IsNextDeparture b (Some moment)
 waits_something b bytes moment e first =
     let n : IsNext (next_in b.waiting) bytes = something_next (next_in b.waiting) bytes e in
     waits_for b n.entry moment n.is (subst (λ k. IsFirstMoment b.tokens k moment) n.bytes_are first)

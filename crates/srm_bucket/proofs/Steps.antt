@@ -8,7 +8,7 @@ use Rattle.srm_names.proofs.Snoc.{steps-snoc, greatest-snoc}
 use Rattle.srm_names.proofs.Lists.{AllByRecursion-snoc}
 use Rattle.srm_bucket.specs.declared.class.Class.{Class}
 use Rattle.srm_bucket.specs.Calls.{Classed, Call, Popped}
-use Rattle.srm_bucket.specs.Classes.{handed_in, gone_in, handed, gone}
+use Rattle.srm_bucket.specs.Classes.{handed_in, departed_in, handed, departed}
 use Rattle.srm_bucket.specs.Tokens.{cost_of}
 use Rattle.srm_bucket.specs.Ticks.{Pop, Tick, moment_of, last_moment, popped_in, popped_at, pops, cost, alone, parted, ticks, level, IsWithin}
 use Rattle.srm_bucket.specs.Law.{GoesRight, BucketLaw, level_at}
@@ -28,24 +28,24 @@ pops-snoc calls c =
 pub ticks-same : {T : Type 0} (calls : List (Call T)) (c : Call T) → popped_in calls c ≡ [] → ticks (calls ++ c ∷ []) ≡ ticks calls
 ticks-same calls c none = ap parted (pops-snoc calls c ∙ ap (λ ps. pops calls ++ ps) none ∙ append-nil (pops calls))
 
-gone-snoc : {T : Type 0} (k : Class) (calls : List (Call T)) (c : Call T) → gone k (calls ++ c ∷ []) ≡ gone k calls ++ gone_in k c
-gone-snoc k calls c = flat_map-append (gone_in k) calls (c ∷ []) ∙ ap (λ xs. gone k calls ++ xs) (append-nil (gone_in k c))
+departed-snoc : {T : Type 0} (k : Class) (calls : List (Call T)) (c : Call T) → departed k (calls ++ c ∷ []) ≡ departed k calls ++ departed_in k c
+departed-snoc k calls c = flat_map-append (departed_in k) calls (c ∷ []) ∙ ap (λ xs. departed k calls ++ xs) (append-nil (departed_in k c))
 
 handed-snoc : {T : Type 0} (k : Class) (calls : List (Call T)) (c : Call T) → handed k (calls ++ c ∷ []) ≡ handed k calls ++ handed_in k c
 handed-snoc k calls c = flat_map-append (handed_in k) calls (c ∷ []) ∙ ap (λ xs. handed k calls ++ xs) (append-nil (handed_in k c))
 
 -- what a call hands in and lets go ties what waits before it to what waits after it
 abbrev pub Moves : {T : Type 0} → Call T → Waiting T → Waiting T → Type 0
-Moves c old new = (k : Class) → gone_in k c ++ queue new k ≡ queue old k ++ handed_in k c
+Moves c old new = (k : Class) → departed_in k c ++ queue new k ≡ queue old k ++ handed_in k c
 
 pub waiting-snoc : {T : Type 0} (calls : List (Call T)) (c : Call T) (old new : Waiting T) → Moves c old new
-    → ((k : Class) → gone k calls ++ queue old k ≡ handed k calls)
-    → (k : Class) → gone k (calls ++ c ∷ []) ++ queue new k ≡ handed k (calls ++ c ∷ [])
+    → ((k : Class) → departed k calls ++ queue old k ≡ handed k calls)
+    → (k : Class) → departed k (calls ++ c ∷ []) ++ queue new k ≡ handed k (calls ++ c ∷ [])
 waiting-snoc calls c old new moves are k =
-    ap (λ xs. xs ++ queue new k) (gone-snoc k calls c)
-    ∙ append_assoc (gone k calls) (gone_in k c) (queue new k)
-    ∙ ap (λ xs. gone k calls ++ xs) (moves k)
-    ∙ sym (append_assoc (gone k calls) (queue old k) (handed_in k c))
+    ap (λ xs. xs ++ queue new k) (departed-snoc k calls c)
+    ∙ append_assoc (departed k calls) (departed_in k c) (queue new k)
+    ∙ ap (λ xs. departed k calls ++ xs) (moves k)
+    ∙ sym (append_assoc (departed k calls) (queue old k) (handed_in k c))
     ∙ ap (λ xs. xs ++ handed_in k c) (are k)
     ∙ sym (handed-snoc k calls c)
 

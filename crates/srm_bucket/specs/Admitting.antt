@@ -4,7 +4,7 @@ use Rattle.srm_bucket.specs.declared.class.Class.{Class}
 use Rattle.srm_bucket.specs.declared.class.Class.TheVariants.{Shown, New, Other}
 use Rattle.srm_bucket.specs.declared.item.Item.{Item}
 use Rattle.srm_bucket.specs.Calls.{Call}
-use Rattle.srm_bucket.specs.Classes.{left}
+use Rattle.srm_bucket.specs.Classes.{queued}
 use Rattle.srm_bucket.specs.Ticks.{last_moment}
 use Rattle.srm_bucket.specs.Tokens.{cost_of}
 use Rattle.srm_bucket.specs.Law.{level_at}
@@ -28,7 +28,7 @@ is_paid ahead bytes tokens = (length ahead == 0) || nat_le (cost_of_all ahead + 
 
 -- after the calls so far, an item of a class and so many bytes is admitted at a moment
 abbrev pub admits : {T : Type 0} → (rate depth : ℕ) → List (Call T) → Class → (bytes now : ℕ) → Bool
-admits rate depth calls class bytes now = is_paid (ahead_of class (left calls)) bytes (level_at rate depth calls now)
+admits rate depth calls class bytes now = is_paid (ahead_of class (queued calls)) bytes (level_at rate depth calls now)
 
 -- whether a moment is at or after the first, if there is one
 abbrev pub is_from : Option ℕ → ℕ → Bool

@@ -3,7 +3,7 @@ use Rattle.std.specs.Prelude.{◌≡◌, ℕ, Bool, true, false, List, [], ◌�
 use Rattle.srm_bucket.specs.declared.class.Class.{Class}
 use Rattle.srm_bucket.specs.declared.class.Class.TheVariants.{Shown, New, Other}
 use Rattle.srm_bucket.specs.Calls.{Call, Handed, Popped}
-use Rattle.srm_bucket.specs.Classes.{left}
+use Rattle.srm_bucket.specs.Classes.{queued}
 use Rattle.srm_bucket.specs.Admitting.{ahead_of, cost_of_all, admits}
 use Rattle.srm_bucket.specs.Examples.{entry, full, five, four_gone, emptied}
 
@@ -32,7 +32,7 @@ nothing_ahead : admits 8000 1051 empty New 1051 0 ≡ true
 nothing_ahead = refl
 
 -- of 17 bytes of the lowest class, 28 of new data and 29 of the highest, those of the class and of higher ones are ahead
-costs : map (λ (class : Class). cost_of_all (ahead_of class (left emptied))) (Shown ∷ New ∷ Other ∷ []) ≡ 29000000 ∷ 57000000 ∷ 74000000 ∷ []
+costs : map (λ (class : Class). cost_of_all (ahead_of class (queued emptied))) (Shown ∷ New ∷ Other ∷ []) ≡ 29000000 ∷ 57000000 ∷ 74000000 ∷ []
 costs = refl
 
 by_class : map (λ (class : Class). admits 8000 1051 emptied class 28 10624) (Shown ∷ New ∷ Other ∷ []) ≡ true ∷ false ∷ false ∷ []

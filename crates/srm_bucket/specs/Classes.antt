@@ -23,21 +23,21 @@ handed_in class (Handed c) = in_class class (Some c)
 handed_in class (Refilled now) = []
 handed_in class (Popped now went) = []
 
-abbrev pub gone_in : {T : Type 0} → Class → Call T → List (Item T)
-gone_in class (Handed c) = []
-gone_in class (Refilled now) = []
-gone_in class (Popped now went) = in_class class went
+abbrev pub departed_in : {T : Type 0} → Class → Call T → List (Item T)
+departed_in class (Handed c) = []
+departed_in class (Refilled now) = []
+departed_in class (Popped now went) = in_class class went
 
 -- the items of a class that were handed in, and those that went, in order
 abbrev pub handed : {T : Type 0} → Class → List (Call T) → List (Item T)
 handed class calls = flat_map (handed_in class) calls
 
-abbrev pub gone : {T : Type 0} → Class → List (Call T) → List (Item T)
-gone class calls = flat_map (gone_in class) calls
+abbrev pub departed : {T : Type 0} → Class → List (Call T) → List (Item T)
+departed class calls = flat_map (departed_in class) calls
 
 -- those that are left
-abbrev pub left : {T : Type 0} → List (Call T) → Class → List (Item T)
-left calls class = drop (length (gone class calls)) (handed class calls)
+abbrev pub queued : {T : Type 0} → List (Call T) → Class → List (Item T)
+queued calls class = drop (length (departed class calls)) (handed class calls)
 
 abbrev pub first_in : {T : Type 0} → Class → List (Item T) → Option (Classed T)
 first_in class [] = None
@@ -47,5 +47,5 @@ first_in class (item ∷ items) = Some (record { class = class; item = item })
 abbrev pub first_of_highest : {T : Type 0} → (Class → List (Item T)) → Option (Classed T)
 first_of_highest items = or_else (first_in Shown (items Shown)) (or_else (first_in New (items New)) (first_in Other (items Other)))
 
-abbrev pub next_of : {T : Type 0} → List (Call T) → Option (Classed T)
-next_of calls = first_of_highest (left calls)
+abbrev pub next_queued : {T : Type 0} → List (Call T) → Option (Classed T)
+next_queued calls = first_of_highest (queued calls)

@@ -4,7 +4,7 @@ use Rattle.srm_bucket.specs.declared.class.Class.{Class}
 use Rattle.srm_bucket.specs.declared.class.Class.TheVariants.{Shown, New, Other}
 use Rattle.srm_bucket.specs.declared.item.Item.{Item}
 use Rattle.srm_bucket.specs.Calls.{Classed, Call, Handed, Refilled, Popped}
-use Rattle.srm_bucket.specs.Classes.{handed, gone, left, next_of}
+use Rattle.srm_bucket.specs.Classes.{handed, departed, queued, next_queued}
 use Rattle.srm_bucket.specs.Ticks.{Tick, last_moment, ticks, charge, allowance, level}
 use Rattle.srm_bucket.specs.Law.{level_at, may_go}
 
@@ -43,7 +43,7 @@ not_yet = refl
 then_the_fifth : may_go 8000 4204 four_gone 7131375 ≡ Some (full 5)
 then_the_fifth = refl
 
-fifth_is_left : left four_gone New ≡ item 5 1051 ∷ []
+fifth_is_left : queued four_gone New ≡ item 5 1051 ∷ []
 fifth_is_left = refl
 
 full_at_first : level_at 8000 4204 five 0 ≡ 4204000000
@@ -56,7 +56,7 @@ never_past_the_depth = refl
 abbrev pub emptied : List (Call ℕ)
 emptied = Handed (full 0) ∷ Popped 0 (Some (full 0)) ∷ Handed (entry Other 1 17) ∷ Handed (entry New 2 28) ∷ Handed (entry Shown 3 29) ∷ []
 
-highest_first : next_of emptied ≡ Some (entry Shown 3 29)
+highest_first : next_queued emptied ≡ Some (entry Shown 3 29)
 highest_first = refl
 
 nothing_goes_that_would_fit : may_go 8000 1051 emptied 2125 ≡ None
@@ -111,5 +111,5 @@ least_of_all = refl
 handed_by_class : handed New emptied ≡ item 0 1051 ∷ item 2 28 ∷ []
 handed_by_class = refl
 
-gone_by_class : gone New emptied ≡ item 0 1051 ∷ []
+gone_by_class : departed New emptied ≡ item 0 1051 ∷ []
 gone_by_class = refl

@@ -4,7 +4,7 @@ use Rattle.srm_bucket.specs.declared.class.Class.{Class}
 use Rattle.srm_bucket.specs.declared.item.Item.{Item}
 use Rattle.srm_bucket.specs.declared.tokens.Tokens.{Tokens}
 use Rattle.srm_bucket.specs.Calls.{Call, Popped}
-use Rattle.srm_bucket.specs.Classes.{handed, gone, next_of}
+use Rattle.srm_bucket.specs.Classes.{handed, departed, next_queued}
 use Rattle.srm_bucket.specs.Ticks.{last_moment, ticks, level, IsWithin}
 use Rattle.srm_bucket.specs.Law.{BucketLaw, may_go, IsFirstToGo}
 use Rattle.srm_bucket.specs.Waiting.{queue}
@@ -16,7 +16,7 @@ tokens_at rate depth calls now = record { rate = rate; depth = depth; level = le
 
 pub record Fits {T : Type 0} (rate depth : ℕ) (calls : List (Call T)) (b : Content T) : Type 0 where
   pub tokens_are : b.tokens ≡ tokens_at rate depth calls (last_moment calls)
-  pub waiting_is : (class : Class) → gone class calls ++ queue b.waiting class ≡ handed class calls
+  pub waiting_is : (class : Class) → departed class calls ++ queue b.waiting class ≡ handed class calls
   pub within : IsWithin rate depth (last_moment calls) (ticks calls)
   pub law : BucketLaw rate depth calls
 
@@ -36,6 +36,6 @@ pub record Pops {T : Type 0} (now : ℕ) (old : Content T) (answer : Option (Ite
       → Fits rate depth (calls ++ Popped now (may_go rate depth calls now) ∷ []) new
 
 -- the first moment at which an item can go, and None where nothing is left
-pub record Waits {T : Type 0} (b : Content T) (answer : Option ℕ) : Type 0 where
+pub record IsNextDeparture {T : Type 0} (b : Content T) (answer : Option ℕ) : Type 0 where
   pub until : (rate depth : ℕ) (calls : List (Call T)) → Fits rate depth calls b
-      → MatchOption answer (next_of calls ≡ None) (IsFirstToGo rate depth calls)
+      → MatchOption answer (next_queued calls ≡ None) (IsFirstToGo rate depth calls)

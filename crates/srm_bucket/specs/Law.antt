@@ -6,7 +6,7 @@ use Rattle.srm_names.specs.Histories.{IsPrefix, steps}
 use Rattle.srm_bucket.specs.declared.class.Class.{Class}
 use Rattle.srm_bucket.specs.declared.item.Item.{Item}
 use Rattle.srm_bucket.specs.Calls.{Classed, Call, Handed, Refilled, Popped}
-use Rattle.srm_bucket.specs.Classes.{rank, handed, gone, next_of}
+use Rattle.srm_bucket.specs.Classes.{rank, handed, departed, next_queued}
 use Rattle.srm_bucket.specs.Ticks.{last_moment, ticks, cost, level, IsWithin}
 
 abbrev pub went_in : {T : Type 0} → Call T → Option (Classed T)
@@ -26,7 +26,7 @@ ends_tick (Popped now went) = lets_nothing_go went
 
 -- nothing that was handed in of a higher class is left
 abbrev pub NoneHigher : {T : Type 0} → List (Call T) → Classed T → Type 0
-NoneHigher before c = (class : Class) → rank class < rank c.class → gone class before ≡ handed class before
+NoneHigher before c = (class : Class) → rank class < rank c.class → departed class before ≡ handed class before
 
 -- how much may go at a moment, after the calls so far; a moment below the last one counts as the last
 abbrev pub level_at : {T : Type 0} → ℕ → ℕ → List (Call T) → ℕ → ℕ
@@ -38,10 +38,10 @@ level_at rate depth calls now = level rate depth (max (last_moment calls) now) (
 --     not_too_much     from each tick on, no more went than the depth, and the rate times the time
 --     all_that_may     where the call ends a tick, nothing is left, or what would go next costs more than the level
 pub record GoesRight {T : Type 0} (rate depth : ℕ) (before upto : List (Call T)) (call : Call T) : Type 0 where
-  pub in_order : (class : Class) → IsPrefix (gone class upto) (handed class upto)
+  pub in_order : (class : Class) → IsPrefix (departed class upto) (handed class upto)
   pub highest_first : IfSome (went_in call) (NoneHigher before)
   pub not_too_much : IsWithin rate depth (last_moment upto) (ticks upto)
-  pub all_that_may : OnTrue (ends_tick call) (IfSome (next_of upto) (λ c. level_at rate depth upto (last_moment upto) < cost (Some c)))
+  pub all_that_may : OnTrue (ends_tick call) (IfSome (next_queued upto) (λ c. level_at rate depth upto (last_moment upto) < cost (Some c)))
 
 abbrev pub BucketLaw : {T : Type 0} → ℕ → ℕ → List (Call T) → Type 0
 BucketLaw rate depth calls = AllByRecursion (λ s. GoesRight rate depth s.before (s.before ++ s.this ∷ []) s.this) (steps calls)
@@ -53,7 +53,7 @@ covered tokens (Some c) = if nat_le (cost (Some c)) tokens then Some c else None
 
 -- what a pop lets go at a moment: the first item of the highest class, where the level covers it
 abbrev pub may_go : {T : Type 0} → ℕ → ℕ → List (Call T) → ℕ → Option (Classed T)
-may_go rate depth calls now = covered (level_at rate depth calls now) (next_of calls)
+may_go rate depth calls now = covered (level_at rate depth calls now) (next_queued calls)
 
 -- the first moment, from the last one on, at which an item can go
 pub record IsFirstToGo {T : Type 0} (rate depth : ℕ) (calls : List (Call T)) (moment : ℕ) : Type 0 where

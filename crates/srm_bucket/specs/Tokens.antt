@@ -1,6 +1,6 @@
 -- The tokens that are kept.
 use Rattle.std.specs.Prelude.{ℕ, ◌+◌, ◌*◌, ◌-◌, ◌≤◌, ◌<◌, min, max}
-use Rattle.srm_names.specs.declared.limits.TheConstants.{MOMENT}
+use Rattle.srm_names.specs.declared.limits.TheConstants.{LATEST_MOMENT}
 use Rattle.srm_bucket.specs.declared.limits.TheConstants.{MILLIONTHS, LEAST_RATE, GREATEST_RATE, LEAST_DEPTH, GREATEST_DEPTH}
 use Rattle.srm_bucket.specs.declared.tokens.Tokens.{Tokens}
 
@@ -21,7 +21,7 @@ pub record AreInRange (t : Tokens) : Type 0 where
   pub least_depth : LEAST_DEPTH ≤ t.depth
   pub greatest_depth : t.depth ≤ GREATEST_DEPTH
   pub level : t.level ≤ cost_of t.depth
-  pub last : t.last ≤ MOMENT
+  pub last : t.last ≤ LATEST_MOMENT
 
 -- the first moment, from the last one on, at which there are so many tokens
 pub record IsFirstLevel (t : Tokens) (tokens moment : ℕ) : Type 0 where

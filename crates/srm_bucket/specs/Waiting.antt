@@ -10,20 +10,20 @@ use Rattle.srm_bucket.specs.Classes.{in_class, first_of_highest}
 -- what waits in each class, and how many more items of any class there is room for
 pub record Waiting (T : Type 0) : Type 0 where
   pub shown : List (Item T)
-  pub fresh : List (Item T)
+  pub new_data : List (Item T)
   pub other : List (Item T)
   pub room : ℕ
 
 abbrev pub queue : {T : Type 0} → Waiting T → Class → List (Item T)
 queue w Shown = w.shown
-queue w New = w.fresh
+queue w New = w.new_data
 queue w Other = w.other
 
 abbrev pub next_in : {T : Type 0} → Waiting T → Option (Classed T)
 next_in w = first_of_highest (queue w)
 
 abbrev pub count_of : {T : Type 0} → Waiting T → ℕ
-count_of w = length w.shown + length w.fresh + length w.other
+count_of w = length w.shown + length w.new_data + length w.other
 
 -- an item is behind those of its class, and nothing else has changed
 abbrev pub Gains : {T : Type 0} → Classed T → Waiting T → Waiting T → Type 0

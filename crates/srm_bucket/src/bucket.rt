@@ -2,9 +2,9 @@
 
 ghost use Rattle.std.specs.Prelude.{◌≡◌, ◌≤◌, ◌<◌, ◌+◌, ℕ, List, [], length, OnOk, OnErr, IsOk, OnSome, IfSome};
 ghost use Rattle.srm_bucket.specs.Calls.{Call, Handed, Refilled};
-ghost use Rattle.srm_bucket.specs.Classes.{left};
+ghost use Rattle.srm_bucket.specs.Classes.{queued};
 ghost use Rattle.srm_bucket.specs.Waiting.{HasLength, Gains, SameQueues, TakesNext, queue, count_of};
-ghost use Rattle.srm_bucket.specs.Fits.{Fits, Stays, Adds, Pops, Waits};
+ghost use Rattle.srm_bucket.specs.Fits.{Fits, Stays, Adds, Pops, IsNextDeparture};
 ghost use Rattle.srm_bucket.specs.Admitting.{Admits, AdmitsFrom};
 
 use crate::class::Class;
@@ -14,12 +14,12 @@ use crate::limits::{
 };
 use crate::queues::Queues;
 use crate::tokens::{Tokens, cost};
-use srm_names::MOMENT;
+use srm_names::LATEST_MOMENT;
 use std::alloc::{AllocError, Global};
 use std::marker::Model;
 
 /// What a member may send at a moment, by its rate, and the items that wait. Moments are in microseconds, at most
-/// [`MOMENT`]; one below the last of [`refill`](Bucket::refill) and [`pop`](Bucket::pop) counts as the last.
+/// [`LATEST_MOMENT`]; one below the last of [`refill`](Bucket::refill) and [`pop`](Bucket::pop) counts as the last.
 #[derive(Debug, Drop)]
 pub struct Bucket<T> {
     tokens: Tokens,
@@ -83,7 +83,7 @@ impl<T> Bucket<T> {
 
     /// A moment has come: the time since the last one brings tokens, up to the depth.
     pub fn refill(&mut self, now: u64)
-        requires { now ≤ MOMENT }
+        requires { now ≤ LATEST_MOMENT }
         ensures adds { Adds (Refilled now) self.old self.new }
         ensures room { self.old.waiting.room ≤ self.new.waiting.room }
     {
@@ -93,7 +93,7 @@ impl<T> Bucket<T> {
     /// What goes at a moment, after a refill: the first item of the highest class that waits, where there are tokens
     /// for it, and else nothing, even if an item of a lower class would fit. What goes costs its length.
     pub fn pop(&mut self, now: u64) -> Option<Item<T>>
-        requires { now ≤ MOMENT }
+        requires { now ≤ LATEST_MOMENT }
         ensures pops { Pops now self.old result self.new }
         ensures takes { TakesNext self.old.waiting result self.new.waiting }
         ensures range { IfSome result HasLength }
@@ -110,7 +110,7 @@ impl<T> Bucket<T> {
 
     /// The first moment, from the last one on, at which the next item can go; `None` where nothing waits.
     pub fn wait_until(&self) -> Option<u64>
-        ensures { Waits self.now result }
+        ensures { IsNextDeparture self.now result }
     {
         let length = self.queues.next_length()?;
         Some(self.tokens.first_moment(length))
@@ -154,7 +154,7 @@ impl<T> Bucket<T> {
 
     /// How many items of a class wait.
     pub fn waiting(&self, class: Class) -> usize
-        ensures value { (rate depth : ℕ) (calls : List (Call T)) → Fits rate depth calls self.now → result ≡ length (left calls class) }
+        ensures value { (rate depth : ℕ) (calls : List (Call T)) → Fits rate depth calls self.now → result ≡ length (queued calls class) }
         ensures counts { result ≡ length (queue self.now.waiting class) }
     {
         self.queues.len(class)

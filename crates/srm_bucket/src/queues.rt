@@ -16,7 +16,7 @@ use std::marker::Model;
 #[derive(Debug, Drop)]
 pub(crate) struct Queues<T> {
     shown: VecDeque<Item<T>>,
-    fresh: VecDeque<Item<T>>,
+    new_data: VecDeque<Item<T>>,
     other: VecDeque<Item<T>>,
 }
 
@@ -29,10 +29,10 @@ impl<T> Model for Queues<T> {
 
     ghost view = { λ q. record {
       shown = q.shown.items;
-      fresh = q.fresh.items;
+      new_data = q.new_data.items;
       other = q.other.items;
       room = min (deque_capacity q.shown - deque_len q.shown)
-          (min (deque_capacity q.fresh - deque_len q.fresh) (deque_capacity q.other - deque_len q.other));
+          (min (deque_capacity q.new_data - deque_len q.new_data) (deque_capacity q.other - deque_len q.other));
     } };
 }
 
@@ -43,7 +43,7 @@ impl<T> Queues<T> {
     {
         Queues {
             shown: VecDeque::new(alloc),
-            fresh: VecDeque::new(alloc),
+            new_data: VecDeque::new(alloc),
             other: VecDeque::new(alloc),
         }
     }
@@ -56,7 +56,7 @@ impl<T> Queues<T> {
         ensures room { self.old.room ≤ self.new.room }
     {
         self.shown.reserve(items)?;
-        self.fresh.reserve(items)?;
+        self.new_data.reserve(items)?;
         self.other.reserve(items)?;
         Ok(())
     }
@@ -72,7 +72,7 @@ impl<T> Queues<T> {
     {
         match class {
             Class::Shown => self.shown.push_back(item)?,
-            Class::New => self.fresh.push_back(item)?,
+            Class::New => self.new_data.push_back(item)?,
             Class::Other => self.other.push_back(item)?,
         }
         Ok(())
@@ -84,7 +84,7 @@ impl<T> Queues<T> {
     {
         match class {
             Class::Shown => self.shown.len(),
-            Class::New => self.fresh.len(),
+            Class::New => self.new_data.len(),
             Class::Other => self.other.len(),
         }
     }
@@ -96,7 +96,7 @@ impl<T> Queues<T> {
         if let Some(item) = self.shown.front() {
             return Some(item.length);
         }
-        if let Some(item) = self.fresh.front() {
+        if let Some(item) = self.new_data.front() {
             return Some(item.length);
         }
         Some(self.other.front()?.length)
@@ -109,7 +109,7 @@ impl<T> Queues<T> {
         let higher = match class {
             Class::Shown => true,
             Class::New => self.shown.is_empty(),
-            Class::Other => self.shown.is_empty() && self.fresh.is_empty(),
+            Class::Other => self.shown.is_empty() && self.new_data.is_empty(),
         };
         higher && self.len(class) == 0
     }
@@ -122,10 +122,10 @@ impl<T> Queues<T> {
     {
         match class {
             Class::Shown => rest_after(&self.shown, tokens),
-            Class::New => rest_after(&self.fresh, rest_after(&self.shown, tokens)?),
+            Class::New => rest_after(&self.new_data, rest_after(&self.shown, tokens)?),
             Class::Other => {
                 let rest = rest_after(&self.shown, tokens)?;
-                rest_after(&self.other, rest_after(&self.fresh, rest)?)
+                rest_after(&self.other, rest_after(&self.new_data, rest)?)
             }
         }
     }
@@ -139,7 +139,7 @@ impl<T> Queues<T> {
         if let Some(item) = self.shown.pop_front() {
             return Some(item);
         }
-        if let Some(item) = self.fresh.pop_front() {
+        if let Some(item) = self.new_data.pop_front() {
             return Some(item);
         }
         self.other.pop_front()

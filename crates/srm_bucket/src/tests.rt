@@ -3,7 +3,7 @@
 ghost use Rattle.std.specs.Prelude.{◌≡◌};
 
 use crate::{Bucket, Class, Item};
-use srm_names::MOMENT;
+use srm_names::LATEST_MOMENT;
 use std::test::Fail;
 
 fn item(value: u8, length: u32) -> Item<u8>
@@ -71,9 +71,9 @@ fn the_last_moment_at_the_highest_rate(rt: HostRuntime) -> Result<(), Fail> {
     let mut bucket = Bucket::new(rt.alloc(), 100_000_000, 1_000_000);
     bucket.hand(Class::Shown, item(1, 1_051))?;
     bucket.hand(Class::Shown, item(2, 1_051))?;
-    assert_eq!(rt; bucket.pop(MOMENT), Some(item(1, 1_051)));
+    assert_eq!(rt; bucket.pop(LATEST_MOMENT), Some(item(1, 1_051)));
     bucket.refill(5);
-    assert_eq!(rt; bucket.wait_until(), Some(MOMENT));
+    assert_eq!(rt; bucket.wait_until(), Some(LATEST_MOMENT));
     assert_eq!(rt; bucket.pop(3), Some(item(2, 1_051)));
     Ok(())
 }

@@ -5,7 +5,7 @@ ghost use Rattle.std.specs.Prelude.{◌≡◌, ◌≤◌, ◌*◌, if◌then◌e
 use crate::limits::{
     GREATEST_DEPTH, GREATEST_LENGTH, GREATEST_RATE, LEAST_DEPTH, LEAST_RATE, MILLIONTHS,
 };
-use srm_names::MOMENT;
+use srm_names::LATEST_MOMENT;
 
 /// Tokens in millionths of a byte, as of the last moment, in microseconds.
 #[derive(Clone, Copy, Debug)]
@@ -40,7 +40,7 @@ impl Tokens {
 
     /// The time since the last moment brings tokens, up to the depth.
     pub(crate) fn refill(&mut self, now: u64)
-        requires moment { now ≤ MOMENT }
+        requires moment { now ≤ LATEST_MOMENT }
         requires range { AreInRange self.old }
         ensures value { self.new ≡ refilled now self.old }
         ensures range { AreInRange self.new }

@@ -17,7 +17,7 @@ use Rattle.srm_codec.specs.declared.datagram.Datagram.TheVariants.{Data, Request
 use Rattle.srm_codec.specs.declared.fault.DecodeFault.{DecodeFault}
 use Rattle.srm_codec.specs.declared.fault.DecodeFault.TheVariants.{Length}
 use Rattle.srm_codec.specs.Spelling.{bits_set, asked_by, is_name, is_drawop, IsSpellable, head, page_bytes, name_bytes, drawop_bytes, echo_bytes, request_bytes, spelling}
-use Rattle.srm_codec.specs.Judging.{◌>>=◌, Read, ended, moment_at, flag_at, page_at, name_at, mask_at, list_at, echo_at, drawop_at, only_drawop, data_of, request_of, packed_of, repair_of, session_of}
+use Rattle.srm_codec.specs.Judging.{◌>>=◌, Read, nothing_after, moment_at, flag_at, page_at, name_at, mask_at, list_at, echo_at, drawop_at, only_drawop, data_of, request_of, packed_of, repair_of, session_of}
 use Rattle.srm_codec.proofs.Readers.{IsBytes, bind_ok, check_ok, ok_is, Takes, Takes-then, ReadsAll, closed}
 use Rattle.srm_codec.proofs.FieldLaws.{moment_reads, page_reads, name_reads, drawop_reads, IsWanted, flag_bytes, flag_reads, mask_reads}
 use Rattle.srm_codec.proofs.ListLaws.{list_bytes, wanted_in, rows_reads, echoes_reads}
@@ -99,7 +99,7 @@ asking sender name mask = Request sender name mask
 pub request_taken : (sender : ℕ) (bytes : List ℕ) (g : Datagram) → IsBytes bytes → sender < MEMBERS → request_of sender bytes ≡ Ok g → Completes 1 2 sender bytes g
 unfolding request_of spelling request_bytes
 request_taken sender bytes g fits member e =
-    let a = bind_ok (name_at None None bytes) (λ name. ended (asking sender name.0 0, name.1)) g e in
+    let a = bind_ok (name_at None None bytes) (λ name. nothing_after (asking sender name.0 0, name.1)) g e in
     let b = check_ok (length a.0.1 == 0) Length (asking sender a.0.0 0) g a.2 in
     let t = (name_reads None None).takes bytes a.0.0 a.0.1 fits a.1 in
     subst (λ (h : Datagram). Completes 1 2 sender bytes h) b.1 (record {
@@ -110,11 +110,11 @@ request_taken sender bytes g fits member e =
 pub request_again : (sender : ℕ) (name : FullName) → is_name name → request_of sender (name_bytes name) ≡ Ok (Request sender name 0)
 unfolding request_of
 request_again sender name fits =
-    ap (λ (b : List ℕ). name_at None None b >>= λ name. ended (asking sender name.0 0, name.1)) (sym (append-nil (name_bytes name)))
-    ∙ ap (λ (r : Read FullName). r >>= λ name. ended (asking sender name.0 0, name.1)) ((name_reads None None).again name [] (record { named = fits; from = refl; above = refl }))
+    ap (λ (b : List ℕ). name_at None None b >>= λ name. nothing_after (asking sender name.0 0, name.1)) (sym (append-nil (name_bytes name)))
+    ∙ ap (λ (r : Read FullName). r >>= λ name. nothing_after (asking sender name.0 0, name.1)) ((name_reads None None).again name [] (record { named = fits; from = refl; above = refl }))
 
 abbrev behind_mask : ℕ → FullName → ℕ × List ℕ → Result Datagram DecodeFault
-behind_mask sender name mask = ended (asking sender name mask.0, mask.1)
+behind_mask sender name mask = nothing_after (asking sender name mask.0, mask.1)
 
 abbrev behind_name : ℕ → FullName × List ℕ → Result Datagram DecodeFault
 behind_name sender name = mask_at name.0 name.1 >>= behind_mask sender name.0
@@ -150,7 +150,7 @@ abbrev told : ℕ → ℕ → Bool → Page → List FullName → List Echo → 
 told sender sent farewell shown rows echoes = Session sender sent farewell shown rows echoes
 
 abbrev behind_echoes : ℕ → ℕ → Bool → Page → List FullName → List Echo × List ℕ → Result Datagram DecodeFault
-behind_echoes sender sent farewell shown rows echoes = ended (told sender sent farewell shown rows echoes.0, echoes.1)
+behind_echoes sender sent farewell shown rows echoes = nothing_after (told sender sent farewell shown rows echoes.0, echoes.1)
 
 abbrev behind_rows : ℕ → ℕ → Bool → Page → List FullName × List ℕ → Result Datagram DecodeFault
 behind_rows sender sent farewell shown rows = list_at echo_at rows.1 >>= behind_echoes sender sent farewell shown rows.0

@@ -3,7 +3,7 @@ use Rattle.std.proofs.Common.{◌≡◌, ◌≢◌, ℕ, zero, suc, Bool, true, 
 use Rattle.std.specs.Prelude.{◌==◌, ◌||◌, ◌&&◌, not, ⊤, nat_lt, nat_le, take, drop, if◌then◌else◌}
 use Rattle.std.specs.List.{list_all}
 use Rattle.std.specs.Int.{Width, w8, w16, w32, w64, byte_len, from_be_bytes}
-use Rattle.srm_names.specs.declared.limits.TheConstants.{MEMBERS, DRAWOPS, BODY, MOMENT}
+use Rattle.srm_names.specs.declared.limits.TheConstants.{MEMBERS, DRAWOPS, LONGEST_BODY, LATEST_MOMENT}
 use Rattle.srm_names.specs.declared.echo.Echo.{Echo}
 use Rattle.srm_names.specs.FullName.{FullName}
 use Rattle.srm_codec.specs.declared.datagram.Datagram.{Datagram}
@@ -12,7 +12,7 @@ use Rattle.srm_codec.specs.declared.fault.DecodeFault.{DecodeFault}
 use Rattle.srm_codec.specs.declared.fault.DecodeFault.TheVariants.{Short, Magic, Version, Kind, Member, Number, Length, Order, Flags, Source, Memory}
 use Rattle.srm_codec.specs.declared.fault.DecodeFault.TheVariants as faults
 use Rattle.srm_codec.specs.Spelling.{asked_by}
-use Rattle.srm_codec.specs.Judging.{◌>>=◌, Read, check, ended, is_kind, is_wanted, is_above, follows, front_at, number_at, judged, magic_at, version_at, kind_at, session_at, member_at, moment_at, page_at, source_at, any_stream_at, stream_at, number_in_stream_at, name_at, size_at, body_at, drawop_at, mask_at, flag_at, echo_member_at, echo_at, items_at, list_at, only_drawop, data_of, request_of, packed_of, repair_of, session_of, contents_of, judge}
+use Rattle.srm_codec.specs.Judging.{◌>>=◌, Read, check, nothing_after, is_kind, is_wanted, is_above, is_later_echo, front_at, number_at, judged, magic_at, version_at, kind_at, session_at, member_at, moment_at, page_at, source_at, any_stream_at, stream_at, number_in_stream_at, name_at, size_at, body_at, drawop_at, mask_at, flag_at, echo_member_at, echo_at, items_at, list_at, only_drawop, data_of, request_of, packed_of, repair_of, session_of, contents_of, judge}
 
 abbrev HasNone : {A : Type 0} → Result A DecodeFault → Type 0
 HasNone (Ok x) = ⊤
@@ -46,7 +46,7 @@ member bytes = value w8 (λ n. nat_lt n MEMBERS) Member bytes (λ e. absurd cc)
 
 moment : (bytes : List ℕ) → HasNone (moment_at bytes)
 unfolding moment_at
-moment bytes = value w64 (λ n. nat_le n MOMENT) Number bytes (λ e. absurd cc)
+moment bytes = value w64 (λ n. nat_le n LATEST_MOMENT) Number bytes (λ e. absurd cc)
 
 page : (bytes : List ℕ) → HasNone (page_at bytes)
 unfolding page_at
@@ -74,7 +74,7 @@ name wanted last bytes = bind (stream_at wanted last bytes) _ (stream wanted las
 
 size : (bytes : List ℕ) → HasNone (size_at bytes)
 unfolding size_at
-size bytes = value w16 (λ n. nat_le n BODY) Length bytes (λ e. absurd cc)
+size bytes = value w16 (λ n. nat_le n LONGEST_BODY) Length bytes (λ e. absurd cc)
 
 body : (bytes : List ℕ) → HasNone (body_at bytes)
 unfolding body_at
@@ -84,7 +84,7 @@ drawop : (wanted : Option ℕ) (bytes : List ℕ) → HasNone (drawop_at wanted 
 unfolding drawop_at
 drawop wanted bytes = bind (name_at wanted None bytes) _ (name wanted None bytes) (λ n. bind (moment_at n.1) _ (moment n.1) (λ s. bind (body_at s.1) _ (body s.1) (λ x. tt)))
 
-end : {A : Type 0} (read : A × List ℕ) → HasNone (ended read)
+end : {A : Type 0} (read : A × List ℕ) → HasNone (nothing_after read)
 end read = tested (length read.1 == 0) Length read.0 (λ e. absurd cc)
 
 mask : (n : FullName) (bytes : List ℕ) → HasNone (mask_at n bytes)
@@ -97,7 +97,7 @@ flag bytes = bind (judged w8 (λ n. nat_le n 1) Flags bytes) _ (value w8 (λ n. 
 
 echo_member : (last : Option Echo) (bytes : List ℕ) → HasNone (echo_member_at last bytes)
 unfolding echo_member_at
-echo_member last bytes = bind (member_at bytes) _ (member bytes) (λ x. tested (follows last x.0) Order x (λ e. absurd cc))
+echo_member last bytes = bind (member_at bytes) _ (member bytes) (λ x. tested (is_later_echo last x.0) Order x (λ e. absurd cc))
 
 echo : (last : Option Echo) (bytes : List ℕ) → HasNone (echo_at last bytes)
 unfolding echo_at

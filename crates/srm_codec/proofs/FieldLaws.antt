@@ -7,7 +7,7 @@ use Rattle.std.proofs.lemmas.Bool.{ltb-false, le-ltb, and_parts, and_from}
 use Rattle.std.proofs.lemmas.Bool.Decides.{nat_tests}
 use Rattle.std.proofs.lemmas.List.{take_at, drop_at, take-append-drop, length-append, length-take}
 use Rattle.std.proofs.lemmas.Nat.{be_bytes_2, be_bytes_4, be_bytes_8, from_be_bytes-to_be_bytes_2, from_be_bytes-to_be_bytes_4, from_be_bytes-to_be_bytes_8}
-use Rattle.srm_names.specs.declared.limits.TheConstants.{MEMBERS, DRAWOPS, BODY, MOMENT}
+use Rattle.srm_names.specs.declared.limits.TheConstants.{MEMBERS, DRAWOPS, LONGEST_BODY, LATEST_MOMENT}
 use Rattle.srm_names.specs.declared.page.Page.{Page}
 use Rattle.srm_names.specs.declared.stream.Stream.{Stream}
 use Rattle.srm_names.specs.declared.drawop.Drawop.{Drawop}
@@ -17,7 +17,7 @@ use Rattle.srm_codec.specs.declared.fault.DecodeFault.{DecodeFault}
 use Rattle.srm_codec.specs.declared.fault.DecodeFault.TheVariants.{Short, Member, Number, Order, Source, Flags}
 use Rattle.srm_codec.specs.declared.fault.DecodeFault.TheVariants as faults
 use Rattle.srm_codec.specs.Spelling.{asked_by, is_page, is_name, is_drawop, is_echo, flag, page_bytes, name_bytes, drawop_bytes, echo_bytes}
-use Rattle.srm_codec.specs.Judging.{◌>>=◌, Read, front_at, number_at, judged, member_at, moment_at, page_at, is_wanted, source_at, is_above, any_stream_at, stream_at, number_in_stream_at, name_at, size_at, body_at, drawop_at, mask_at, flag_at, follows, echo_member_at, echo_at}
+use Rattle.srm_codec.specs.Judging.{◌>>=◌, Read, front_at, number_at, judged, member_at, moment_at, page_at, is_wanted, source_at, is_above, any_stream_at, stream_at, number_in_stream_at, name_at, size_at, body_at, drawop_at, mask_at, flag_at, is_later_echo, echo_member_at, echo_at}
 use Rattle.srm_codec.proofs.Readers.{IsBytes, IsBytes-drop, IsBytes-take, bind_ok, ok_is, Takes, Takes-then, Reads, renamed, checked, joined, three, respelled}
 
 -- ---- numbers
@@ -116,13 +116,13 @@ pub member_reads : Reads member_at one_byte (λ n. n < MEMBERS)
 unfolding member_at
 member_reads = tested w8 256 one_byte (λ n. nat_lt n MEMBERS) Member (λ n. n < MEMBERS) wide8 (λ n lt good. grind (arith, nat_tests)) (λ n lt. (omega arith, grind (arith, nat_tests)))
 
-pub moment_reads : Reads moment_at (to_be_bytes w64) (λ n. n ≤ MOMENT)
+pub moment_reads : Reads moment_at (to_be_bytes w64) (λ n. n ≤ LATEST_MOMENT)
 unfolding moment_at
-moment_reads = tested w64 (2 ^ 64) (to_be_bytes w64) (λ n. nat_le n MOMENT) Number (λ n. n ≤ MOMENT) wide64 (λ n lt good. grind (arith, nat_tests)) (λ n le. (omega arith, grind (arith, nat_tests)))
+moment_reads = tested w64 (2 ^ 64) (to_be_bytes w64) (λ n. nat_le n LATEST_MOMENT) Number (λ n. n ≤ LATEST_MOMENT) wide64 (λ n lt good. grind (arith, nat_tests)) (λ n le. (omega arith, grind (arith, nat_tests)))
 
-pub size_reads : Reads size_at (to_be_bytes w16) (λ n. n ≤ BODY)
+pub size_reads : Reads size_at (to_be_bytes w16) (λ n. n ≤ LONGEST_BODY)
 unfolding size_at
-size_reads = tested w16 (2 ^ 16) (to_be_bytes w16) (λ n. nat_le n BODY) faults.Length (λ n. n ≤ BODY) wide16 (λ n lt good. grind (arith, nat_tests)) (λ n le. (omega arith, grind (arith, nat_tests)))
+size_reads = tested w16 (2 ^ 16) (to_be_bytes w16) (λ n. nat_le n LONGEST_BODY) faults.Length (λ n. n ≤ LONGEST_BODY) wide16 (λ n lt good. grind (arith, nat_tests)) (λ n le. (omega arith, grind (arith, nat_tests)))
 
 pub number_in_stream_reads : Reads number_in_stream_at (to_be_bytes w32) (λ n. (1 ≤ n) × (n ≤ DRAWOPS))
 unfolding number_in_stream_at
@@ -186,18 +186,18 @@ name_reads wanted last =
 body_bytes : List ℕ → List ℕ
 body_bytes body = to_be_bytes w16 (length body) ++ body
 
-body_reads : Reads body_at body_bytes (λ body. length body ≤ BODY)
+body_reads : Reads body_at body_bytes (λ body. length body ≤ LONGEST_BODY)
 unfolding body_at body_bytes
 body_reads = record { takes = taking; again = reading }
   where
-    taking : (bytes body rest : List ℕ) → IsBytes bytes → body_at bytes ≡ Ok (body, rest) → Takes bytes (body_bytes body) rest × (length body ≤ BODY)
+    taking : (bytes body rest : List ℕ) → IsBytes bytes → body_at bytes ≡ Ok (body, rest) → Takes bytes (body_bytes body) rest × (length body ≤ LONGEST_BODY)
     taking bytes body rest fits e =
         let a = bind_ok (size_at bytes) (λ size. front_at size.0 size.1) (body, rest) e in
         let t = size_reads.takes bytes a.0.0 a.0.1 fits a.1 in
         let f = front_takes a.0.0 a.0.1 body rest t.0.rest_fits a.2 in
         (Takes-then bytes (to_be_bytes w16 (length body)) a.0.1 body rest (subst (λ (n : ℕ). Takes bytes (to_be_bytes w16 n) a.0.1) (sym f.1.0) t.0) f.0, omega (arith, t.1, f.1.0))
 
-    reading : (body rest : List ℕ) → length body ≤ BODY → body_at (body_bytes body ++ rest) ≡ Ok (body, rest)
+    reading : (body rest : List ℕ) → length body ≤ LONGEST_BODY → body_at (body_bytes body ++ rest) ≡ Ok (body, rest)
     reading body rest le =
         ap (λ (bytes : List ℕ). size_at bytes >>= λ size. front_at size.0 size.1) (append_assoc (to_be_bytes w16 (length body)) body rest)
         ∙ ap (λ (read : Read ℕ). read >>= λ size. front_at size.0 size.1) (size_reads.again (length body) (body ++ rest) le)
@@ -222,16 +222,16 @@ pub drawop_reads : (wanted : Option ℕ) → Reads (drawop_at wanted) drawop_byt
 unfolding drawop_at
 drawop_reads wanted =
     respelled (drawop_at wanted) (λ d. name_bytes d.name ++ (to_be_bytes w64 d.stamp ++ body_bytes d.body)) drawop_bytes (IsWanted wanted) drawop_spelled
-    (renamed (drawop_at wanted) (λ d. name_bytes d.name ++ (to_be_bytes w64 d.stamp ++ body_bytes d.body)) (λ d. IsNext wanted None d.name × ((d.stamp ≤ MOMENT) × (length d.body ≤ BODY))) (IsWanted wanted)
+    (renamed (drawop_at wanted) (λ d. name_bytes d.name ++ (to_be_bytes w64 d.stamp ++ body_bytes d.body)) (λ d. IsNext wanted None d.name × ((d.stamp ≤ LATEST_MOMENT) × (length d.body ≤ LONGEST_BODY))) (IsWanted wanted)
     (λ d h. record { fits = (h.0.named, h.1.0, h.1.1); from = h.0.from })
     (λ d h. (record { named = h.fits.0; from = h.from; above = refl }, (h.fits.1, h.fits.2)))
-    (three (name_at wanted None) name_bytes (IsNext wanted None) moment_at (to_be_bytes w64) (λ n. n ≤ MOMENT) body_at body_bytes (λ body. length body ≤ BODY) drawop_of (λ d. d.name) (λ d. d.stamp) (λ d. d.body)
+    (three (name_at wanted None) name_bytes (IsNext wanted None) moment_at (to_be_bytes w64) (λ n. n ≤ LATEST_MOMENT) body_at body_bytes (λ body. length body ≤ LONGEST_BODY) drawop_of (λ d. d.name) (λ d. d.stamp) (λ d. d.body)
     (record { whole = λ d. refl; first_of = λ a b. refl; second_of = λ a b. refl }) (name_reads wanted None) moment_reads body_reads))
 
 -- an echo of a member after that of the last one
 pub record IsNextEcho (last : Option Echo) (echo : Echo) : Type 0 where
   pub fits : is_echo echo
-  pub above : follows last echo.member ≡ true
+  pub above : is_later_echo last echo.member ≡ true
 
 abbrev echo_of : ℕ → ℕ → ℕ → Echo
 echo_of member t1 delay = record { member = member; t1 = t1; delay = delay }
@@ -239,12 +239,12 @@ echo_of member t1 delay = record { member = member; t1 = t1; delay = delay }
 pub echo_reads : (last : Option Echo) → Reads (echo_at last) echo_bytes (IsNextEcho last)
 unfolding echo_at echo_member_at echo_bytes
 echo_reads last =
-    renamed (echo_at last) echo_bytes (λ e. ((e.member < MEMBERS) × (follows last e.member ≡ true)) × ((e.t1 ≤ MOMENT) × (e.delay ≤ MOMENT))) (IsNextEcho last)
+    renamed (echo_at last) echo_bytes (λ e. ((e.member < MEMBERS) × (is_later_echo last e.member ≡ true)) × ((e.t1 ≤ LATEST_MOMENT) × (e.delay ≤ LATEST_MOMENT))) (IsNextEcho last)
     (λ e h. record { fits = (h.0.0, h.1.0, h.1.1); above = h.0.1 })
     (λ e h. ((h.fits.0, h.above), (h.fits.1, h.fits.2)))
-    (three (echo_member_at last) one_byte (λ n. (n < MEMBERS) × (follows last n ≡ true)) moment_at (to_be_bytes w64) (λ n. n ≤ MOMENT) moment_at (to_be_bytes w64) (λ n. n ≤ MOMENT) echo_of (λ e. e.member) (λ e. e.t1) (λ e. e.delay)
+    (three (echo_member_at last) one_byte (λ n. (n < MEMBERS) × (is_later_echo last n ≡ true)) moment_at (to_be_bytes w64) (λ n. n ≤ LATEST_MOMENT) moment_at (to_be_bytes w64) (λ n. n ≤ LATEST_MOMENT) echo_of (λ e. e.member) (λ e. e.t1) (λ e. e.delay)
     (record { whole = λ e. refl; first_of = λ a b. refl; second_of = λ a b. refl })
-    (checked member_at one_byte (λ n. n < MEMBERS) (follows last) Order member_reads) moment_reads moment_reads)
+    (checked member_at one_byte (λ n. n < MEMBERS) (is_later_echo last) Order member_reads) moment_reads moment_reads)
 
 -- ---- flags and masks
 

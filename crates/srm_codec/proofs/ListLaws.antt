@@ -8,7 +8,7 @@ use Rattle.srm_names.specs.declared.echo.Echo.{Echo}
 use Rattle.srm_names.specs.FullName.{FullName}
 use Rattle.srm_names.specs.Names.{ascending, echo_below}
 use Rattle.srm_codec.specs.Spelling.{AreRows, AreEchoes, is_name, is_echo, row_below, name_bytes, echo_bytes}
-use Rattle.srm_codec.specs.Judging.{◌>>=◌, Read, number_at, is_wanted, is_above, name_at, follows, echo_at, items_at, list_at}
+use Rattle.srm_codec.specs.Judging.{◌>>=◌, Read, number_at, is_wanted, is_above, name_at, is_later_echo, echo_at, items_at, list_at}
 use Rattle.srm_codec.proofs.Readers.{IsBytes, bind_ok, ok_is, Takes, Takes-then, Reads, renamed}
 use Rattle.srm_codec.proofs.FieldLaws.{one_byte, wide8, number_reads, IsNext, name_reads, IsNextEcho, echo_reads}
 
@@ -135,7 +135,7 @@ abbrev pub row_above : Option FullName → FullName → Bool
 row_above last row = is_above last row.stream
 
 abbrev pub echo_above : Option Echo → Echo → Bool
-echo_above last echo = follows last echo.member
+echo_above last echo = is_later_echo last echo.member
 
 wanted_there : (farewell : Bool) (sender : ℕ) (row : FullName) → is_wanted (wanted_in farewell sender) row.stream.source ≡ true → farewell ≡ true → row.stream.source ≡ sender
 wanted_there true sender row e _ = eqb-true _ _ e

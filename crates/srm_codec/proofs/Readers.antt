@@ -5,7 +5,7 @@ use Rattle.std.proofs.lemmas.Bool.{eqb-true, cases_lt}
 use Rattle.std.proofs.lemmas.List.{append-nil, nil_from_length, length-take, get_or-drop, get_or-take, get_or_past}
 use Rattle.srm_codec.specs.declared.fault.DecodeFault.{DecodeFault}
 use Rattle.srm_codec.specs.declared.fault.DecodeFault.TheVariants.{Length}
-use Rattle.srm_codec.specs.Judging.{◌>>=◌, Read, check, ended}
+use Rattle.srm_codec.specs.Judging.{◌>>=◌, Read, check, nothing_after}
 
 abbrev pub IsBytes : List ℕ → Type 0
 IsBytes bytes = (i : ℕ) → get_or bytes i 0 < 256
@@ -120,19 +120,19 @@ joined {A} {B} {C} r w F s v G make first second pair one other = record { takes
         ∙ ap (λ d. done (d, rest)) (pair.whole c)
 
 -- a reader behind which nothing may follow
-pub closed : {A : Type 0} (read : List ℕ → Read A) (write : A → List ℕ) (F : A → Type 0) → Reads read write F → ReadsAll (λ bytes. read bytes >>= ended) write F
+pub closed : {A : Type 0} (read : List ℕ → Read A) (write : A → List ℕ) (F : A → Type 0) → Reads read write F → ReadsAll (λ bytes. read bytes >>= nothing_after) write F
 closed {A} read write F reads = record { takes = taking; again = reading }
   where
-    taking : (bytes : List ℕ) (x : A) → IsBytes bytes → (read bytes >>= ended) ≡ Ok x → (bytes ≡ write x) × F x
+    taking : (bytes : List ℕ) (x : A) → IsBytes bytes → (read bytes >>= nothing_after) ≡ Ok x → (bytes ≡ write x) × F x
     taking bytes x fits e =
-        let a = bind_ok (read bytes) ended x e in
+        let a = bind_ok (read bytes) nothing_after x e in
         let b = check_ok (length a.0.1 == 0) Length a.0.0 x a.2 in
         let t = reads.takes bytes a.0.0 a.0.1 fits a.1 in
         let none : a.0.1 ≡ [] = nil_from_length a.0.1 (eqb-true _ _ b.0) in
         subst (λ (y : A). (bytes ≡ write y) × F y) b.1 (t.0.parts ∙ ap (λ (rest : List ℕ). write a.0.0 ++ rest) none ∙ append-nil (write a.0.0), t.1)
 
-    reading : (x : A) → F x → (read (write x) >>= ended) ≡ Ok x
-    reading x f = ap (λ bytes. read bytes >>= ended) (sym (append-nil (write x))) ∙ ap (λ r. r >>= ended) (reads.again x [] f)
+    reading : (x : A) → F x → (read (write x) >>= nothing_after) ≡ Ok x
+    reading x f = ap (λ bytes. read bytes >>= nothing_after) (sym (append-nil (write x))) ∙ ap (λ r. r >>= nothing_after) (reads.again x [] f)
 
 -- the same reader, said in another way
 pub reworded : {A : Type 0} (r s : List ℕ → Read A) (write : A → List ℕ) (F : A → Type 0) → ((bytes : List ℕ) → s bytes ≡ r bytes) → Reads r write F → Reads s write F

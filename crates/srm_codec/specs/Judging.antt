@@ -2,7 +2,7 @@
 use Rattle.std.specs.Prelude.{ℕ, zero, suc, ◌==◌, nat_lt, nat_le, Bool, true, not, ◌&&◌, ◌||◌, List, [], ◌∷◌, length, take, drop, Option, Some, None, Result, Ok, Err, if◌then◌else◌}
 use Rattle.std.specs.List.{list_all}
 use Rattle.std.specs.Int.{Width, w8, w16, w32, w64, byte_len, from_be_bytes}
-use Rattle.srm_names.specs.declared.limits.TheConstants.{MEMBERS, DRAWOPS, BODY, MOMENT}
+use Rattle.srm_names.specs.declared.limits.TheConstants.{MEMBERS, DRAWOPS, LONGEST_BODY, LATEST_MOMENT}
 use Rattle.srm_names.specs.declared.page.Page.{Page}
 use Rattle.srm_names.specs.declared.stream.Stream.{Stream}
 use Rattle.srm_names.specs.declared.drawop.Drawop.{Drawop}
@@ -10,7 +10,7 @@ use Rattle.srm_names.specs.declared.echo.Echo.{Echo}
 use Rattle.srm_names.specs.FullName.{FullName}
 use Rattle.srm_names.specs.Names.{stream_below}
 use Rattle.srm_codec.specs.Spelling.{asked_by}
-use Rattle.srm_codec.specs.declared.format.TheConstants.{MAGIC, PLAIN, PACKED, DATA, REQUEST, REPAIR, SESSION}
+use Rattle.srm_codec.specs.declared.format.TheConstants.{MAGIC, PLAIN, PACKED, DATA, REQUEST, REPAIR, SESSION_MESSAGE}
 use Rattle.srm_codec.specs.declared.datagram.Datagram.{Datagram}
 use Rattle.srm_codec.specs.declared.datagram.Datagram.TheVariants.{Data, Request, Repair, Session}
 use Rattle.srm_codec.specs.declared.fault.DecodeFault.{DecodeFault}
@@ -53,7 +53,7 @@ version_at bytes = judged w8 (λ n. (n == PLAIN) || (n == PACKED)) Version bytes
 
 -- the packed version has requests alone
 abbrev pub is_kind : ℕ → ℕ → Bool
-is_kind version kind = (kind == REQUEST) || (version == PLAIN) && nat_le DATA kind && nat_le kind SESSION
+is_kind version kind = (kind == REQUEST) || (version == PLAIN) && nat_le DATA kind && nat_le kind SESSION_MESSAGE
 
 unfoldable pub kind_at : ℕ → List ℕ → Read ℕ
 kind_at version bytes = judged w8 (is_kind version) Kind bytes
@@ -65,7 +65,7 @@ unfoldable pub member_at : List ℕ → Read ℕ
 member_at bytes = judged w8 (λ n. nat_lt n MEMBERS) Member bytes
 
 unfoldable pub moment_at : List ℕ → Read ℕ
-moment_at bytes = judged w64 (λ n. nat_le n MOMENT) Number bytes
+moment_at bytes = judged w64 (λ n. nat_le n LATEST_MOMENT) Number bytes
 
 unfoldable pub page_at : List ℕ → Read Page
 page_at bytes = do
@@ -109,7 +109,7 @@ name_at wanted last bytes = do
   Ok (record { stream = stream.0; number = number.0 }, number.1)
 
 unfoldable pub size_at : List ℕ → Read ℕ
-size_at bytes = judged w16 (λ n. nat_le n BODY) Length bytes
+size_at bytes = judged w16 (λ n. nat_le n LONGEST_BODY) Length bytes
 
 unfoldable pub body_at : List ℕ → Read (List ℕ)
 body_at bytes = do
@@ -133,14 +133,14 @@ flag_at bytes = do
   Ok (flags.0 == 1, flags.1)
 
 -- a member above that of the last echo, where there is one
-abbrev pub follows : Option Echo → ℕ → Bool
-follows None member = true
-follows (Some echo) member = nat_lt echo.member member
+abbrev pub is_later_echo : Option Echo → ℕ → Bool
+is_later_echo None member = true
+is_later_echo (Some echo) member = nat_lt echo.member member
 
 unfoldable pub echo_member_at : Option Echo → List ℕ → Read ℕ
 echo_member_at last bytes = do
   member ← member_at bytes
-  check (follows last member.0) Order member
+  check (is_later_echo last member.0) Order member
 
 unfoldable pub echo_at : Option Echo → List ℕ → Read Echo
 echo_at last bytes = do
@@ -164,14 +164,14 @@ list_at item bytes = do
   items_at item count.0 None count.1
 
 -- nothing after the last field
-abbrev pub ended : {A : Type 0} → A × List ℕ → Result A DecodeFault
-ended read = check (length read.1 == 0) Length read.0
+abbrev pub nothing_after : {A : Type 0} → A × List ℕ → Result A DecodeFault
+nothing_after read = check (length read.1 == 0) Length read.0
 
 -- a drawop, and nothing more
 unfoldable pub only_drawop : Option ℕ → List ℕ → Result Drawop DecodeFault
 only_drawop wanted bytes = do
   drawop ← drawop_at wanted bytes
-  ended drawop
+  nothing_after drawop
 
 unfoldable pub data_of : ℕ → List ℕ → Result Datagram DecodeFault
 data_of sender bytes = do
@@ -181,13 +181,13 @@ data_of sender bytes = do
 unfoldable pub request_of : ℕ → List ℕ → Result Datagram DecodeFault
 request_of sender bytes = do
   name ← name_at None None bytes
-  ended (Request sender name.0 0, name.1)
+  nothing_after (Request sender name.0 0, name.1)
 
 unfoldable pub packed_of : ℕ → List ℕ → Result Datagram DecodeFault
 packed_of sender bytes = do
   name ← name_at None None bytes
   mask ← mask_at name.0 name.1
-  ended (Request sender name.0 mask.0, mask.1)
+  nothing_after (Request sender name.0 mask.0, mask.1)
 
 unfoldable pub repair_of : ℕ → List ℕ → Result Datagram DecodeFault
 repair_of sender bytes = do
@@ -201,7 +201,7 @@ session_of sender bytes = do
   shown ← page_at farewell.1
   rows ← list_at (name_at (if farewell.0 then Some sender else None)) shown.1
   echoes ← list_at echo_at rows.1
-  ended (Session sender sent.0 farewell.0 shown.0 rows.0 echoes.0, echoes.1)
+  nothing_after (Session sender sent.0 farewell.0 shown.0 rows.0 echoes.0, echoes.1)
 
 -- what stands behind the head
 unfoldable pub contents_of : ℕ → ℕ → ℕ → List ℕ → Result Datagram DecodeFault

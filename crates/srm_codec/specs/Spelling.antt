@@ -2,13 +2,13 @@
 use Rattle.std.specs.Prelude.{◌≡◌, ℕ, zero, suc, ◌+◌, ◌*◌, ◌^◌, ◌<◌, ◌≤◌, ◌/◌, ◌%◌, ◌==◌, Bool, true, false, List, [], ◌∷◌, ◌++◌, length, map, nat_lt, slice_index, if◌then◌else◌}
 use Rattle.std.specs.List.{flat_map, AllByRecursion}
 use Rattle.std.specs.Int.{w16, w32, w64, to_be_bytes}
-use Rattle.srm_names.specs.declared.limits.TheConstants.{MEMBERS, DRAWOPS, BODY, MOMENT}
+use Rattle.srm_names.specs.declared.limits.TheConstants.{MEMBERS, DRAWOPS, LONGEST_BODY, LATEST_MOMENT}
 use Rattle.srm_names.specs.declared.page.Page.{Page}
 use Rattle.srm_names.specs.declared.drawop.Drawop.{Drawop}
 use Rattle.srm_names.specs.declared.echo.Echo.{Echo}
 use Rattle.srm_names.specs.FullName.{FullName}
 use Rattle.srm_names.specs.Names.{named, ascending, stream_below, echo_below}
-use Rattle.srm_codec.specs.declared.format.TheConstants.{PLAIN, PACKED, DATA, REQUEST, REPAIR, SESSION, HEAD_BYTES, NAME_BYTES, MASK_BYTES, DRAWOP_BYTES, REPORT_BYTES, ECHO_BYTES}
+use Rattle.srm_codec.specs.declared.format.TheConstants.{PLAIN, PACKED, DATA, REQUEST, REPAIR, SESSION_MESSAGE, HEAD_BYTES, NAME_BYTES, MASK_BYTES, DRAWOP_BYTES, REPORT_BYTES, ECHO_BYTES}
 use Rattle.srm_codec.specs.declared.datagram.Datagram.{Datagram}
 use Rattle.srm_codec.specs.declared.datagram.Datagram.TheVariants.{Data, Request, Repair, Session}
 
@@ -42,10 +42,10 @@ abbrev pub is_name : FullName → Type 0
 is_name n = (n.stream.source < MEMBERS) × is_page n.stream.page × (1 ≤ n.number) × (n.number ≤ DRAWOPS)
 
 abbrev pub is_drawop : Drawop → Type 0
-is_drawop d = is_name d.name × (d.stamp ≤ MOMENT) × (length d.body ≤ BODY)
+is_drawop d = is_name d.name × (d.stamp ≤ LATEST_MOMENT) × (length d.body ≤ LONGEST_BODY)
 
 abbrev pub is_echo : Echo → Type 0
-is_echo e = (e.member < MEMBERS) × (e.t1 ≤ MOMENT) × (e.delay ≤ MOMENT)
+is_echo e = (e.member < MEMBERS) × (e.t1 ≤ LATEST_MOMENT) × (e.delay ≤ LATEST_MOMENT)
 
 abbrev pub row_below : FullName → FullName → Bool
 row_below a b = stream_below a.stream b.stream
@@ -68,7 +68,7 @@ IsSpellable (Data drawop) = is_drawop drawop
 IsSpellable (Request sender name mask) = (sender < MEMBERS) × (mask < 2 ^ 32) × AllByRecursion is_name (asked_by name mask)
 IsSpellable (Repair sender drawop) = (sender < MEMBERS) × is_drawop drawop
 IsSpellable (Session sender sent farewell shown rows echoes) =
-    (sender < MEMBERS) × (sent ≤ MOMENT) × is_page shown × AreRows farewell sender rows × AreEchoes echoes
+    (sender < MEMBERS) × (sent ≤ LATEST_MOMENT) × is_page shown × AreRows farewell sender rows × AreEchoes echoes
 
 -- the fields
 unfoldable pub head : ℕ → ℕ → ℕ → ℕ → List ℕ
@@ -101,7 +101,7 @@ spelling session (Data drawop) = head PLAIN DATA session drawop.name.stream.sour
 spelling session (Request sender name mask) = request_bytes session sender name mask
 spelling session (Repair sender drawop) = head PLAIN REPAIR session sender ++ drawop_bytes drawop
 spelling session (Session sender sent farewell shown rows echoes) =
-    head PLAIN SESSION session sender ++ to_be_bytes w64 sent ++ flag farewell ∷ page_bytes shown
+    head PLAIN SESSION_MESSAGE session sender ++ to_be_bytes w64 sent ++ flag farewell ∷ page_bytes shown
     ++ length rows ∷ flat_map name_bytes rows ++ length echoes ∷ flat_map echo_bytes echoes
 
 -- each is a byte

@@ -3,7 +3,7 @@
 ghost use Rattle.std.specs.Prelude.{ℕ, Ok, vec_len, ◌≡◌, ◌≤◌, ◌<◌, ◌^◌, ◌++◌, ◌∷◌, length, OnOk, IfOk};
 ghost use Rattle.std.specs.List.{flat_map};
 ghost use Rattle.std.specs.Int.{w16, w32, w64, to_be_bytes};
-ghost use Rattle.srm_names.specs.declared.limits.TheConstants.{BODY};
+ghost use Rattle.srm_names.specs.declared.limits.TheConstants.{LONGEST_BODY};
 ghost use Rattle.srm_codec.specs.Judging.{judge};
 ghost use Rattle.srm_codec.specs.Spelling.{IsSpellable, Spells, spelling, length_of, drawop_bytes, name_bytes, echo_bytes, request_bytes};
 
@@ -11,7 +11,7 @@ use crate::datagram::Datagram;
 use crate::fields::{head_field, name_field, page_field};
 use crate::format::{
     DATA, DRAWOP_BYTES, ECHO_BYTES, HEAD_BYTES, MASK_BYTES, NAME_BYTES, PACKED, PLAIN, REPAIR,
-    REPORT_BYTES, REQUEST, SESSION,
+    REPORT_BYTES, REQUEST, SESSION_MESSAGE,
 };
 use srm_names::{Drawop, Echo, Member, Name};
 use std::alloc::{AllocError, Global};
@@ -75,7 +75,7 @@ fn put_datagram(out: &mut Vec<u8>, session: u32, datagram: &Datagram) -> Result<
             rows,
             echoes,
         } => {
-            out.extend_from_slice(&head_field(PLAIN, SESSION, session, *sender))?;
+            out.extend_from_slice(&head_field(PLAIN, SESSION_MESSAGE, session, *sender))?;
             out.extend_from_slice(&sent.to_be_bytes())?;
             out.push(u8::from(*farewell))?;
             out.extend_from_slice(&page_field(*shown))?;
@@ -87,7 +87,7 @@ fn put_datagram(out: &mut Vec<u8>, session: u32, datagram: &Datagram) -> Result<
 
 #[tactic(auto, unfolding(crate::specs::Spelling::drawop_bytes))]
 fn put_drawop(out: &mut Vec<u8>, drawop: &Drawop) -> Result<(), AllocError>
-    requires { length drawop.now.body ≤ BODY }
+    requires { length drawop.now.body ≤ LONGEST_BODY }
     ensures { OnOk result (out.new.items ≡ out.old.items ++ drawop_bytes drawop.now) }
 {
     out.extend_from_slice(&name_field(drawop.name))?;

@@ -19,7 +19,7 @@ pub const REQUEST: u8 = 2;
 pub const REPAIR: u8 = 3;
 
 /// The kind of a session message.
-pub const SESSION: u8 = 4;
+pub const SESSION_MESSAGE: u8 = 4;
 
 /// Bytes of the head: magic, version, kind, session and sender.
 pub const HEAD_BYTES: usize = 9;

@@ -7,8 +7,8 @@ ghost use Rattle.srm_codec.specs.Judging.{front_at, number_at, magic_at, version
 ghost use Rattle.srm_codec.specs.Reading.{IsRead, IsReadBy};
 
 use crate::fault::DecodeFault;
-use crate::format::{DATA, MAGIC, PACKED, PLAIN, REQUEST, SESSION};
-use srm_names::{BODY, MOMENT, Member, Name, Page, Stream};
+use crate::format::{DATA, MAGIC, PACKED, PLAIN, REQUEST, SESSION_MESSAGE};
+use srm_names::{LATEST_MOMENT, LONGEST_BODY, Member, Name, Page, Stream};
 use std::marker::Model;
 
 /// The bytes that are still to be read. Contracts see them.
@@ -107,7 +107,7 @@ impl<'a> Reader<'a> {
         ensures { IsRead result self.new (kind_at version self.old) }
     {
         let kind = self.u8()?;
-        if kind == REQUEST || version == PLAIN && DATA <= kind && kind <= SESSION {
+        if kind == REQUEST || version == PLAIN && DATA <= kind && kind <= SESSION_MESSAGE {
             Ok(kind)
         } else {
             Err(DecodeFault::Kind)
@@ -139,7 +139,7 @@ impl<'a> Reader<'a> {
         ensures { IsRead result self.new (moment_at self.old) }
     {
         let moment = self.u64()?;
-        if moment <= MOMENT {
+        if moment <= LATEST_MOMENT {
             Ok(moment)
         } else {
             Err(DecodeFault::Number)
@@ -196,7 +196,7 @@ impl<'a> Reader<'a> {
         ensures { IsReadBy (λ body. body.now) result self.new (body_at self.old) }
     {
         let size = self.u16()?;
-        if BODY < size {
+        if LONGEST_BODY < size {
             return Err(DecodeFault::Length);
         }
         let size = usize::from(size);

@@ -8,7 +8,7 @@ ghost use Rattle.srm_codec.specs.Spelling.{IsSpellable, asked_by, AreRows, AreEc
 
 use crate::datagram::Datagram;
 use crate::mask::is_within;
-use srm_names::{BODY, DRAWOPS, Drawop, Echo, MEMBERS, MOMENT, Member, Name, Page};
+use srm_names::{DRAWOPS, Drawop, Echo, LATEST_MOMENT, LONGEST_BODY, MEMBERS, Member, Name, Page};
 
 /// Whether the datagram has a spelling, so that it can be encoded.
 ///
@@ -32,7 +32,7 @@ pub fn encodable(datagram: &Datagram) -> bool
             echoes,
         } => {
             is_member(*sender)
-                && *sent <= MOMENT
+                && *sent <= LATEST_MOMENT
                 && is_page(*shown)
                 && are_rows(*farewell, *sender, rows.as_slice())
                 && are_echoes(echoes.as_slice())
@@ -72,13 +72,15 @@ fn are_asked(name: Name, mask: u32) -> bool
 fn is_drawop(drawop: &Drawop) -> bool
     ensures { IsTrue result ↔ is_drawop drawop.now }
 {
-    is_name(drawop.name) && drawop.stamp <= MOMENT && drawop.body.len() <= usize::from(BODY)
+    is_name(drawop.name)
+        && drawop.stamp <= LATEST_MOMENT
+        && drawop.body.len() <= usize::from(LONGEST_BODY)
 }
 
 fn is_echo(echo: Echo) -> bool
     ensures { IsTrue result ↔ is_echo echo }
 {
-    is_member(echo.member) && echo.t1 <= MOMENT && echo.delay <= MOMENT
+    is_member(echo.member) && echo.t1 <= LATEST_MOMENT && echo.delay <= LATEST_MOMENT
 }
 
 fn are_rows(farewell: bool, sender: Member, rows: &[Name]) -> bool

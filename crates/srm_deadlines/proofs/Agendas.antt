@@ -13,7 +13,7 @@ use Rattle.srm_names.specs.Names.{same_name, name_below, ascending, among}
 use Rattle.srm_names.proofs.Lists.{Has, Has-passes, Has-kept, Has-contained}
 use Rattle.srm_names.proofs.Same.{same_name-is}
 use Rattle.srm_names.proofs.Orders.{stands_once}
-use Rattle.srm_deadlines.specs.declared.by_name.Place.{Place}
+use Rattle.srm_deadlines.specs.declared.by_name.NamedValue.{NamedValue}
 use Rattle.srm_deadlines.specs.declared.timed.Timed.{Timed}
 use Rattle.srm_deadlines.specs.Places.{is_timed, names_of, has_place}
 use Rattle.srm_deadlines.specs.Agenda.{of_name, timed_or, timed_among}
@@ -188,7 +188,7 @@ none_if true b xs h k = ap (λ c. if c then xs else []) (h refl)
 none_if false true xs h k = k refl
 none_if false false xs h k = refl
 
-pub there_is_room : (places : List (Place ℕ)) (pairs : List Timed) → ((n : FullName) → length (of_name n pairs) ≤ 1) → ((n : FullName) → has_place places n ≡ false → of_name n pairs ≡ []) → length pairs ≤ length places
+pub there_is_room : (places : List (NamedValue ℕ)) (pairs : List Timed) → ((n : FullName) → length (of_name n pairs) ≤ 1) → ((n : FullName) → has_place places n ≡ false → of_name n pairs ≡ []) → length pairs ≤ length places
 there_is_room [] pairs once outside = omega (arith, ap length (no_pairs pairs (λ n. outside n refl)))
 there_is_room (p ∷ places) pairs once outside =
     let rest : List Timed = filter (λ t. not (same_name p.name t.name)) pairs in

@@ -9,7 +9,7 @@ use Rattle.srm_names.specs.FullName.{FullName}
 use Rattle.srm_names.specs.Names.{same_name, name_below, ascending, among, AreExactly}
 use Rattle.srm_names.proofs.Orders.{name_order}
 use Rattle.srm_names.proofs.Same.{same_name-is}
-use Rattle.srm_deadlines.specs.declared.by_name.Place.{Place}
+use Rattle.srm_deadlines.specs.declared.by_name.NamedValue.{NamedValue}
 use Rattle.srm_deadlines.specs.declared.timed.Timed.{Timed}
 use Rattle.srm_deadlines.specs.Places.{is_timed, is_at, names_of, has_place, value_at}
 use Rattle.srm_deadlines.specs.Deadlines.{has_come, DueAmong, DueFit}
@@ -19,7 +19,7 @@ use Rattle.srm_deadlines.proofs.Dues.{front_passes, any_both, among_names, names
 use Rattle.srm_deadlines.proofs.Looking.{DueSoFar}
 use Rattle.srm_deadlines.proofs.Order.{take_drop}
 
-abbrev as_place : FullName → Place ℕ
+abbrev as_place : FullName → NamedValue ℕ
 as_place n = record { name = n; value = None }
 
 abbrev as_timed : FullName → Timed
@@ -68,7 +68,7 @@ once_timed : (names : List FullName) → ascending name_below names ≡ true →
 once_timed names rising n = subst (λ xs. length xs ≤ 1) (sym (rising_once (map as_timed names) (ap (ascending name_below) (named names) ∙ rising) n)) (short_of (find (is_timed n) (map as_timed names)) [] (omega arith))
 
 -- one more name that is due fits among them all
-pub another_fits : (now room : ℕ) (seen places : List (Place ℕ)) (names : List FullName) (name : FullName) → DueSoFar now seen places names → among names name ≡ false
+pub another_fits : (now room : ℕ) (seen places : List (NamedValue ℕ)) (names : List FullName) (name : FullName) → DueSoFar now seen places names → among names name ≡ false
     → has_come now (value_at places name) ≡ true → DueFit now places room → length names < room
 another_fits now room seen places names name so_far new come fit =
     let k : length (as_timed name ∷ map as_timed names) ≤ length fit.names = no_more (as_timed name ∷ map as_timed names) fit.names (λ n. once n (same_name n name) refl) (λ n at. inside n (same_name n name) refl at) in
@@ -102,7 +102,7 @@ between_new names i name before after =
     neither false false p q = refl
 
 -- what is due is no more than the names among which all of it is
-pub due_no_more : (now : ℕ) (places : List (Place ℕ)) (due all : List FullName) → AreExactly (λ n. has_come now (value_at places n)) due → DueAmong now places all → length due ≤ length all
+pub due_no_more : (now : ℕ) (places : List (NamedValue ℕ)) (due all : List FullName) → AreExactly (λ n. has_come now (value_at places n)) due → DueAmong now places all → length due ≤ length all
 due_no_more now places due all exactly among_all =
     let k : length (map as_timed due) ≤ length all = no_more (map as_timed due) all (once_timed due exactly.in_order)
     (λ n at. among_all.each n (sym (exactly.exact n) ∙ ap (λ ns. among ns n) (sym (named due)) ∙ at)) in

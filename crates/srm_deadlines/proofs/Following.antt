@@ -7,10 +7,10 @@ use Rattle.srm_names.specs.FullName.{FullName}
 use Rattle.srm_names.specs.Histories.{or_else}
 use Rattle.srm_names.specs.Names.{same_name, name_below, ascending, among}
 use Rattle.srm_names.proofs.Same.{same_name-is}
-use Rattle.srm_deadlines.specs.declared.by_name.Place.{Place}
+use Rattle.srm_deadlines.specs.declared.by_name.NamedValue.{NamedValue}
 use Rattle.srm_deadlines.specs.declared.timed.Timed.{Timed}
 use Rattle.srm_deadlines.specs.Places.{is_timed, is_at, names_of, moment_among, value_in, value_at, has_place, SetsAll, ClearsAll, HasPlaces, IsLeast}
-use Rattle.srm_deadlines.specs.Agenda.{Agenda, Follows, of_name, timed_for, timed_or, timed_among}
+use Rattle.srm_deadlines.specs.Agenda.{Agenda, AgendaFits, of_name, timed_for, timed_or, timed_among}
 use Rattle.srm_deadlines.proofs.Agendas.{there_is_room, appended, absent_found, short_of, none_among}
 use Rattle.srm_deadlines.proofs.Looking.{none_without}
 use Rattle.srm_deadlines.proofs.Same.{same_itself}
@@ -19,15 +19,15 @@ one_at_most : (n : FullName) (o : Option ℕ) → length (timed_for n o) ≤ 1
 one_at_most n None = omega arith
 one_at_most n (Some t) = omega arith
 
-pub once_each : (a : Agenda) (places : List (Place ℕ)) → Follows a places → (n : FullName) → length (of_name n a.pairs) ≤ 1
+pub once_each : (a : Agenda) (places : List (NamedValue ℕ)) → AgendaFits a places → (n : FullName) → length (of_name n a.pairs) ≤ 1
 once_each a places f n = subst (λ xs. length xs ≤ 1) (sym (f.each n)) (one_at_most n (value_at places n))
 
-nothing_without : (a : Agenda) (places : List (Place ℕ)) → Follows a places → (n : FullName) → has_place places n ≡ false → of_name n a.pairs ≡ []
+nothing_without : (a : Agenda) (places : List (NamedValue ℕ)) → AgendaFits a places → (n : FullName) → has_place places n ≡ false → of_name n a.pairs ≡ []
 nothing_without a places f n e = f.each n ∙ ap (timed_for n) (none_without places n e)
 
 -- ---- room
 
-pub room_for_one : (a : Agenda) (places : List (Place ℕ)) (pairs : List Timed) (name : FullName) → Follows a places → has_place places name ≡ true
+pub room_for_one : (a : Agenda) (places : List (NamedValue ℕ)) (pairs : List Timed) (name : FullName) → AgendaFits a places → has_place places name ≡ true
     → ((n : FullName) → of_name n pairs ≡ (if same_name n name then [] else of_name n a.pairs)) → length pairs < length places
 room_for_one a places pairs name f has left =
     let t : Timed = record { moment = 0; name = name } in
@@ -42,7 +42,7 @@ room_for_one a places pairs name f has left =
     outside n without true e = absurd (let k : true ≡ false = sym has ∙ ap (has_place places) (sym (same_name-is n name e)) ∙ without in cc)
     outside n without false e = left n ∙ ap (λ c. if c then [] else of_name n a.pairs) e ∙ nothing_without a places f n without
 
-pub room_for_all : (a : Agenda) (places : List (Place ℕ)) (pairs moments : List Timed) → Follows a places → HasPlaces (names_of moments) places → ascending name_below (names_of moments) ≡ true
+pub room_for_all : (a : Agenda) (places : List (NamedValue ℕ)) (pairs moments : List Timed) → AgendaFits a places → HasPlaces (names_of moments) places → ascending name_below (names_of moments) ≡ true
     → ((n : FullName) → of_name n pairs ≡ (if among (names_of moments) n then [] else of_name n a.pairs)) → length pairs + length moments ≤ length places
 room_for_all a places pairs moments f has asc left =
     let k : length (pairs ++ moments) ≤ length places = there_is_room places (pairs ++ moments) once outside in
@@ -79,9 +79,9 @@ found_passes n (x ∷ xs) t e = go (found_passes n xs t) (same_name n x.name) re
     go later true f h = let same : x ≡ t = cc in ap (λ (y : Timed). same_name n y.name) (sym same) ∙ f
     go later false f h = later h
 
-pub follows_all : (a b new : Agenda) (places now : List (Place ℕ)) (moments : List Timed) → Follows a places
+pub follows_all : (a b new : Agenda) (places now : List (NamedValue ℕ)) (moments : List Timed) → AgendaFits a places
     → ((n : FullName) → of_name n b.pairs ≡ (if among (names_of moments) n then [] else of_name n a.pairs)) → ((n : FullName) → of_name n new.pairs ≡ timed_among moments n (of_name n b.pairs))
-    → SetsAll moments places now → length now ≡ length places → a.capacity ≤ b.capacity → b.capacity ≤ new.capacity → Follows new now
+    → SetsAll moments places now → length now ≡ length places → a.capacity ≤ b.capacity → b.capacity ≤ new.capacity → AgendaFits new now
 follows_all a b new places now moments f left put sets len room more = record {
   each = λ n. put n ∙ go n (find (is_timed n) moments) refl ∙ ap (timed_for n) (sym (sets.each n));
   room = let k = f.room in omega arith;
@@ -93,8 +93,8 @@ follows_all a b new places now moments f left put sets len room more = record {
 
 -- ---- many moments are taken away
 
-pub follows_none : (a new : Agenda) (places now : List (Place ℕ)) (names : List FullName) → Follows a places → ((n : FullName) → of_name n new.pairs ≡ (if among names n then [] else of_name n a.pairs))
-    → ClearsAll names places now → length now ≡ length places → a.capacity ≤ new.capacity → Follows new now
+pub follows_none : (a new : Agenda) (places now : List (NamedValue ℕ)) (names : List FullName) → AgendaFits a places → ((n : FullName) → of_name n new.pairs ≡ (if among names n then [] else of_name n a.pairs))
+    → ClearsAll names places now → length now ≡ length places → a.capacity ≤ new.capacity → AgendaFits new now
 follows_none a new places now names f left clears len more = record {
   each = λ n. left n ∙ ap (λ xs. if among names n then [] else xs) (f.each n) ∙ go n (among names n) (value_at places n) ∙ ap (timed_for n) (sym (clears.each n));
   room = let k = f.room in omega arith;
@@ -110,7 +110,7 @@ the_moment : (n : FullName) (o : Option ℕ) (t : Timed) (xs : List Timed) → t
 the_moment n None t xs e = absurd (cc)
 the_moment n (Some m) t xs e = ap Some (let k : record { moment = m; name = n } ≡ t = cc in ap (λ (u : Timed). u.moment) k)
 
-pub none_least : (a : Agenda) (places : List (Place ℕ)) → Follows a places → slice_get a.pairs 0 ≡ None → IsLeast places None
+pub none_least : (a : Agenda) (places : List (NamedValue ℕ)) → AgendaFits a places → slice_get a.pairs 0 ≡ None → IsLeast places None
 none_least a places f e = record { none = λ h n. go n (value_at places n) (sym (f.each n) ∙ ap (of_name n) (empty a.pairs e)); is_one = tt; least = tt }
   where
     empty : (xs : List Timed) → slice_get xs 0 ≡ None → xs ≡ []
@@ -121,7 +121,7 @@ none_least a places f e = record { none = λ h n. go n (value_at places n) (sym 
     go n None h = refl
     go n (Some t) h = absurd (cc)
 
-pub first_is_least : (a : Agenda) (places : List (Place ℕ)) (t : Timed) → Follows a places → slice_get a.pairs 0 ≡ Some t → All (λ (u : Timed). t.moment ≤ u.moment) a.pairs → IsLeast places (Some t.moment)
+pub first_is_least : (a : Agenda) (places : List (NamedValue ℕ)) (t : Timed) → AgendaFits a places → slice_get a.pairs 0 ≡ Some t → All (λ (u : Timed). t.moment ≤ u.moment) a.pairs → IsLeast places (Some t.moment)
 first_is_least a places t f e all = record {
   none = λ h. absurd (let k : true ≡ false = h in cc);
   is_one = (t.name, is_its a.pairs e (f.each t.name));

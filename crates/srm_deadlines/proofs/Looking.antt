@@ -6,7 +6,7 @@ use Rattle.std.proofs.lemmas.List.Folds.{list_any_more}
 use Rattle.srm_names.specs.FullName.{FullName}
 use Rattle.srm_names.specs.Names.{same_name, name_below, ascending, among, AreExactly}
 use Rattle.srm_names.proofs.Same.{same_name-is}
-use Rattle.srm_deadlines.specs.declared.by_name.Place.{Place}
+use Rattle.srm_deadlines.specs.declared.by_name.NamedValue.{NamedValue}
 use Rattle.srm_deadlines.specs.Deadlines.{has_come}
 use Rattle.srm_deadlines.specs.Least.{lesser}
 use Rattle.srm_deadlines.specs.Places.{is_at, value_in, value_at, IsLeast}
@@ -15,11 +15,11 @@ use Rattle.srm_deadlines.proofs.Rows.{under_lesser, lesser_under, lesser_is}
 use Rattle.srm_deadlines.proofs.Tables.{any_find, either}
 
 -- the names that came, so far
-pub record DueSoFar (now : ℕ) (seen places : List (Place ℕ)) (names : List FullName) : Type 0 where
+pub record DueSoFar (now : ℕ) (seen places : List (NamedValue ℕ)) (names : List FullName) : Type 0 where
   pub order : ascending name_below names ≡ true
   pub exact : (n : FullName) → among names n ≡ list_any (is_at n) seen && has_come now (value_at places n)
 
-pub due_more : (now : ℕ) (places : List (Place ℕ)) (i : ℕ) (p : Place ℕ) (names names' : List FullName) → i < length places → p ≡ get_or places i p → has_come now (value_at places p.name) ≡ true
+pub due_more : (now : ℕ) (places : List (NamedValue ℕ)) (i : ℕ) (p : NamedValue ℕ) (names names' : List FullName) → i < length places → p ≡ get_or places i p → has_come now (value_at places p.name) ≡ true
     → DueSoFar now (take i places) places names → ascending name_below names' ≡ true → ((m : FullName) → among names' m ≡ among names m || same_name m p.name) → DueSoFar now (take (i + 1) places) places names'
 due_more now places i p names names' lt is come h asc added = record {
   order = asc;
@@ -35,7 +35,7 @@ due_more now places i p names names' lt is come h asc added = record {
     go false k true e = sym (e refl)
     go false k false e = refl
 
-pub due_missed : (now : ℕ) (places : List (Place ℕ)) (i : ℕ) (p : Place ℕ) (names : List FullName) → i < length places → p ≡ get_or places i p → has_come now (value_at places p.name) ≡ false
+pub due_missed : (now : ℕ) (places : List (NamedValue ℕ)) (i : ℕ) (p : NamedValue ℕ) (names : List FullName) → i < length places → p ≡ get_or places i p → has_come now (value_at places p.name) ≡ false
     → DueSoFar now (take i places) places names → DueSoFar now (take (i + 1) places) places names
 due_missed now places i p names lt is come h = record {
   order = h.order;
@@ -49,26 +49,26 @@ due_missed now places i p names lt is come h = record {
     go false k true e = sym (e refl)
     go false k false e = refl
 
-pub due_all : (now : ℕ) (places : List (Place ℕ)) (names : List FullName) → DueSoFar now places places names → AreExactly (λ n. has_come now (value_at places n)) names
+pub due_all : (now : ℕ) (places : List (NamedValue ℕ)) (names : List FullName) → DueSoFar now places places names → AreExactly (λ n. has_come now (value_at places n)) names
 due_all now places names h = record { in_order = h.order; exact = λ n. h.exact n ∙ ap (λ b. b && has_come now (value_at places n)) (any_find (is_at n) places) ∙ go (find (is_at n) places) }
   where
-    go : (o : Option (Place ℕ)) → (is_some o && has_come now (value_in o)) ≡ has_come now (value_in o)
+    go : (o : Option (NamedValue ℕ)) → (is_some o && has_come now (value_in o)) ≡ has_come now (value_in o)
     go None = refl
     go (Some p) = refl
 
 -- the least of the moments of the first places
-pub record LeastSoFar (seen places : List (Place ℕ)) (found : Option ℕ) : Type 0 where
+pub record LeastSoFar (seen places : List (NamedValue ℕ)) (found : Option ℕ) : Type 0 where
   pub is_one : (t : ℕ) → found ≡ Some t → (n : FullName) × (value_at places n ≡ Some t)
   pub under : (n : FullName) → list_any (is_at n) seen ≡ true → IsUnder found (value_at places n)
 
-one_of : (places : List (Place ℕ)) (n : FullName) (a b : Option ℕ) → value_at places n ≡ b → ((t : ℕ) → a ≡ Some t → (n : FullName) × (value_at places n ≡ Some t))
+one_of : (places : List (NamedValue ℕ)) (n : FullName) (a b : Option ℕ) → value_at places n ≡ b → ((t : ℕ) → a ≡ Some t → (n : FullName) × (value_at places n ≡ Some t))
     → (t : ℕ) → lesser a b ≡ Some t → (n : FullName) × (value_at places n ≡ Some t)
 one_of places n a b v h t e = elim (lesser_is a b) [
   | inl first ↦ h t (sym first ∙ e)
   | inr second ↦ (n, v ∙ sym second ∙ e)
 ]
 
-pub least_more : (places : List (Place ℕ)) (i : ℕ) (p : Place ℕ) (found : Option ℕ) → i < length places → p ≡ get_or places i p
+pub least_more : (places : List (NamedValue ℕ)) (i : ℕ) (p : NamedValue ℕ) (found : Option ℕ) → i < length places → p ≡ get_or places i p
     → LeastSoFar (take i places) places found → LeastSoFar (take (i + 1) places) places (lesser found (value_at places p.name))
 least_more places i p found lt is h = record {
   is_one = one_of places p.name found (value_at places p.name) refl h.is_one;
@@ -78,21 +78,21 @@ least_more places i p found lt is h = record {
   ];
 }
 
-pub none_without : (places : List (Place ℕ)) (n : FullName) → list_any (is_at n) places ≡ false → value_at places n ≡ None
+pub none_without : (places : List (NamedValue ℕ)) (n : FullName) → list_any (is_at n) places ≡ false → value_at places n ≡ None
 none_without places n e = go (find (is_at n) places) (sym (any_find (is_at n) places) ∙ e)
   where
-    go : (o : Option (Place ℕ)) → is_some o ≡ false → value_in o ≡ None
+    go : (o : Option (NamedValue ℕ)) → is_some o ≡ false → value_in o ≡ None
     go None h = refl
     go (Some p) h = absurd (let k : true ≡ false = h in cc)
 
-always_under : (places : List (Place ℕ)) (found : Option ℕ) → LeastSoFar places places found → (n : FullName) → IsUnder found (value_at places n)
+always_under : (places : List (NamedValue ℕ)) (found : Option ℕ) → LeastSoFar places places found → (n : FullName) → IsUnder found (value_at places n)
 always_under places found h n = go (list_any (is_at n) places) refl
   where
     go : (b : Bool) → list_any (is_at n) places ≡ b → IsUnder found (value_at places n)
     go true e = h.under n e
     go false e = subst (IsUnder found) (sym (none_without places n e)) tt
 
-pub least_all : (places : List (Place ℕ)) (found : Option ℕ) → LeastSoFar places places found → IsLeast places found
+pub least_all : (places : List (NamedValue ℕ)) (found : Option ℕ) → LeastSoFar places places found → IsLeast places found
 least_all places None h = record { none = λ e n. go (value_at places n) (always_under places None h n); is_one = tt; least = tt }
   where
     go : (o : Option ℕ) → IsUnder None o → o ≡ None

@@ -7,9 +7,9 @@ use Rattle.srm_names.specs.Histories.{or_else}
 use Rattle.srm_names.specs.Names.{same_name, name_below, ascending, among}
 use Rattle.srm_names.proofs.Same.{same_name-is}
 use Rattle.srm_names.proofs.Orders.{stands_once}
-use Rattle.srm_deadlines.specs.declared.by_name.Place.{Place}
+use Rattle.srm_deadlines.specs.declared.by_name.NamedValue.{NamedValue}
 use Rattle.srm_deadlines.specs.declared.timed.Timed.{Timed}
-use Rattle.srm_deadlines.specs.Places.{names_of, is_timed, moment_among, value_at, has_place, Holds, GivesPlaces, Sets, SetsAll, HasPlaces}
+use Rattle.srm_deadlines.specs.Places.{names_of, is_timed, moment_among, value_at, has_place, KeepsPlaces, GivesPlaces, Sets, SetsAll, HasPlaces}
 use Rattle.srm_deadlines.proofs.Same.{same_itself}
 use Rattle.srm_deadlines.proofs.Order.{ascending_tail}
 use Rattle.srm_deadlines.proofs.Tables.{given_on}
@@ -45,21 +45,21 @@ more (x ∷ xs) (suc i) t n o asc lt is = go (more xs i t n o (ascending_tail x.
     go later false e b f = later ∙ ap (λ c. if c then Some t.moment else given (find (is_timed n) (take i xs)) o) f
 
 -- what a loop has set so far
-pub record SetSoFar (moments : List Timed) (old new : List (Place ℕ)) : Type 0 where
+pub record SetSoFar (moments : List Timed) (old new : List (NamedValue ℕ)) : Type 0 where
   pub sets : SetsAll moments old new
-  pub held : Holds old new
+  pub held : KeepsPlaces old new
   pub only : GivesPlaces [] old new
   pub length : length new ≡ length old
 
-pub more_sets : (moments : List Timed) (i : ℕ) (t : Timed) (old now new : List (Place ℕ)) → ascending name_below (names_of moments) ≡ true → i < length moments → t ≡ get_or moments i t
+pub more_sets : (moments : List Timed) (i : ℕ) (t : Timed) (old now new : List (NamedValue ℕ)) → ascending name_below (names_of moments) ≡ true → i < length moments → t ≡ get_or moments i t
     → SetsAll (take i moments) old now → Sets t.name (Some t.moment) now new → SetsAll (take (i + 1) moments) old new
 more_sets moments i t old now new asc lt is so sets = record {
   each = λ n. sets.each n ∙ ap (λ v. if same_name n t.name then Some t.moment else v) (so.each n)
       ∙ sym (ap (λ k. given (find (is_timed n) (take k moments)) (value_at old n)) (add-one i) ∙ more moments i t n (value_at old n) asc lt is);
 }
 
-pub one_more : (moments : List Timed) (i : ℕ) (t : Timed) (old now new : List (Place ℕ)) → ascending name_below (names_of moments) ≡ true → i < length moments → t ≡ get_or moments i t
-    → SetSoFar (take i moments) old now → Sets t.name (Some t.moment) now new → Holds now new → GivesPlaces [] now new → length new ≡ length now → SetSoFar (take (i + 1) moments) old new
+pub one_more : (moments : List Timed) (i : ℕ) (t : Timed) (old now new : List (NamedValue ℕ)) → ascending name_below (names_of moments) ≡ true → i < length moments → t ≡ get_or moments i t
+    → SetSoFar (take i moments) old now → Sets t.name (Some t.moment) now new → KeepsPlaces now new → GivesPlaces [] now new → length new ≡ length now → SetSoFar (take (i + 1) moments) old new
 one_more moments i t old now new asc lt is so sets held only len = record {
   sets = more_sets moments i t old now new asc lt is so.sets sets;
   held = record { each = λ n h. held.each n (so.held.each n h) };
@@ -68,5 +68,5 @@ one_more moments i t old now new asc lt is so sets held only len = record {
 }
 
 -- each name has its place when its turn comes
-pub place_of_turn : (moments : List Timed) (i : ℕ) (t : Timed) (old now : List (Place ℕ)) → i < length moments → t ≡ get_or moments i t → HasPlaces (names_of moments) old → Holds old now → has_place now t.name ≡ true
+pub place_of_turn : (moments : List Timed) (i : ℕ) (t : Timed) (old now : List (NamedValue ℕ)) → i < length moments → t ≡ get_or moments i t → HasPlaces (names_of moments) old → KeepsPlaces old now → has_place now t.name ≡ true
 place_of_turn moments i t old now lt is places held = held.each t.name (places.each t.name (named_at moments i t lt is))

@@ -8,8 +8,8 @@ use Rattle.std.specs.Map.{keys_of, lookup}
 use Rattle.srm_names.specs.FullName.{FullName}
 use Rattle.srm_names.specs.Names.{same_name, among}
 use Rattle.srm_names.proofs.Same.{same_name-is}
-use Rattle.srm_deadlines.specs.declared.by_name.Place.{Place}
-use Rattle.srm_deadlines.specs.Places.{value_in, value_at, place_names, is_at, has_place, Holds, GivesPlaces, Keeps, Sets, ClearsAll, HasPlaces}
+use Rattle.srm_deadlines.specs.declared.by_name.NamedValue.{NamedValue}
+use Rattle.srm_deadlines.specs.Places.{value_in, value_at, place_names, is_at, has_place, KeepsPlaces, GivesPlaces, KeepsValues, Sets, ClearsAll, HasPlaces}
 use Rattle.srm_deadlines.specs.PlacesOf.{place_of, places_of}
 use Rattle.srm_deadlines.proofs.Same.{same_itself, same_flip}
 
@@ -77,14 +77,14 @@ module _ {V : Type 0} where
   some_if true v o h = refl
   some_if false v o h = h
 
-  pub sets_from : (xs : List (Place V)) (name : FullName) (v : Option V) (old new : Entries V) → places_of old ≡ xs → Puts name v old new → Sets name v xs (places_of new)
+  pub sets_from : (xs : List (NamedValue V)) (name : FullName) (v : Option V) (old new : Entries V) → places_of old ≡ xs → Puts name v old new → Sets name v xs (places_of new)
   sets_from xs name v old new is puts = record {
     each = λ n. value_found new n ∙ ap flat (puts.each n) ∙ flat_if (same_name name n) v (lookup (same_name n) old)
         ∙ ap (λ b. if b then v else flat (lookup (same_name n) old)) (same_flip name n)
         ∙ ap (λ o. if same_name n name then v else o) (sym (value_found old n) ∙ ap (λ ys. value_at ys n) is);
   }
 
-  pub holds_from : (xs : List (Place V)) (name : FullName) (v : Option V) (old new : Entries V) → places_of old ≡ xs → Puts name v old new → Holds xs (places_of new)
+  pub holds_from : (xs : List (NamedValue V)) (name : FullName) (v : Option V) (old new : Entries V) → places_of old ≡ xs → Puts name v old new → KeepsPlaces xs (places_of new)
   holds_from xs name v old new is puts = record {
     each = λ n h. place_found new n ∙ ap is_some (puts.each n)
         ∙ some_if (same_name name n) v (lookup (same_name n) old) (sym (place_found old n) ∙ ap (λ ys. has_place ys n) is ∙ h);
@@ -100,7 +100,7 @@ module _ {V : Type 0} where
   keep_if true (Some o) h = absurd (let k : true ≡ false = h refl in cc)
 
   -- a new place without a value changes none
-  pub keeps_from : (xs : List (Place V)) (name : FullName) (old new : Entries V) → places_of old ≡ xs → is_some (lookup (same_name name) old) ≡ false → Puts name None old new → Keeps xs (places_of new)
+  pub keeps_from : (xs : List (NamedValue V)) (name : FullName) (old new : Entries V) → places_of old ≡ xs → is_some (lookup (same_name name) old) ≡ false → Puts name None old new → KeepsValues xs (places_of new)
   keeps_from xs name old new is absent puts = record {
     each = λ n. value_found new n ∙ ap flat (puts.each n)
         ∙ keep_if (same_name name n) (lookup (same_name n) old) (λ e. ap (λ m. is_some (lookup (same_name m) old)) (sym (same_name-is name n e)) ∙ absent)
@@ -108,16 +108,16 @@ module _ {V : Type 0} where
   }
 
   -- an insert where the name has a place is not refused
-  no_place : (xs : List (Place V)) (name : FullName) (old : Entries V) → places_of old ≡ xs → lookup (same_name name) old ≡ None → has_place xs name ≡ true → ⊥
+  no_place : (xs : List (NamedValue V)) (name : FullName) (old : Entries V) → places_of old ≡ xs → lookup (same_name name) old ≡ None → has_place xs name ≡ true → ⊥
   no_place xs name old is none has = let k : true ≡ false = sym has ∙ ap (λ ys. has_place ys name) (sym is) ∙ place_found old name ∙ ap is_some none in cc
 
-  pub not_refused : {X Y : Type 0} (r : Result X Y) (P : Type 0) (xs : List (Place V)) (name : FullName) (old : Entries V) → places_of old ≡ xs → has_place xs name ≡ true
+  pub not_refused : {X Y : Type 0} (r : Result X Y) (P : Type 0) (xs : List (NamedValue V)) (name : FullName) (old : Entries V) → places_of old ≡ xs → has_place xs name ≡ true
       → OnErr r (lookup (same_name name) old ≡ None) → OnOk r P → P
   not_refused (Ok x) P xs name old is has none ok = ok
   not_refused (Err y) P xs name old is has none ok =
       absurd (no_place xs name old is none has)
 
-  pub same_length : {Y : Type 0} (r : Result (Option (Option V)) Y) (xs : List (Place V)) (name : FullName) (old new : Entries V) → places_of old ≡ xs → has_place xs name ≡ true
+  pub same_length : {Y : Type 0} (r : Result (Option (Option V)) Y) (xs : List (NamedValue V)) (name : FullName) (old new : Entries V) → places_of old ≡ xs → has_place xs name ≡ true
       → OnErr r (lookup (same_name name) old ≡ None) → IfOk r (λ o. o ≡ lookup (same_name name) old) → IfOk r (λ o. length new ≡ length old + (if is_some o then 0 else 1)) → length (places_of new) ≡ length xs
   same_length (Err y) xs name old new is has none was len = absurd (no_place xs name old is none has)
   same_length (Ok o) xs name old new is has none was len =
@@ -125,14 +125,14 @@ module _ {V : Type 0} where
       let same : length new ≡ length old = len ∙ ap (λ b. length old + (if b then 0 else 1)) some ∙ add-zero (length old) in
       length-map new place_of ∙ same ∙ sym (length-map old place_of) ∙ ap length is
 
-  pub refused : (xs : List (Place V)) (name : FullName) (old : Entries V) → places_of old ≡ xs → is_some (lookup (same_name name) old) ≡ false → has_place xs name ≡ true → ⊥
+  pub refused : (xs : List (NamedValue V)) (name : FullName) (old : Entries V) → places_of old ≡ xs → is_some (lookup (same_name name) old) ≡ false → has_place xs name ≡ true → ⊥
   refused xs name old is absent has = let k : true ≡ false = sym has ∙ ap (λ ys. has_place ys name) (sym is) ∙ place_found old name ∙ absent in cc
 
   -- no name without a place has a value
-  pub sets_nothing : (xs : List (Place V)) (name : FullName) → has_place xs name ≡ false → Sets name None xs xs
+  pub sets_nothing : (xs : List (NamedValue V)) (name : FullName) → has_place xs name ≡ false → Sets name None xs xs
   sets_nothing xs name e = record { each = λ n. go n (same_name n name) refl }
     where
-      none : (o : Option (Place V)) → is_some o ≡ false → value_in o ≡ None
+      none : (o : Option (NamedValue V)) → is_some o ≡ false → value_in o ≡ None
       none None h = refl
       none (Some p) h = absurd (let k : true ≡ false = h in cc)
 
@@ -148,7 +148,7 @@ module _ {V : Type 0} where
   some_of false v None h = h
   some_of false v (Some x) h = refl
 
-  pub given_from : (xs : List (Place V)) (name : FullName) (v : Option V) (old new : Entries V) → places_of old ≡ xs → Puts name v old new → GivesPlaces (name ∷ []) xs (places_of new)
+  pub given_from : (xs : List (NamedValue V)) (name : FullName) (v : Option V) (old new : Entries V) → places_of old ≡ xs → Puts name v old new → GivesPlaces (name ∷ []) xs (places_of new)
   given_from xs name v old new is puts = record {
     only = λ n h. ap (λ b. b || (same_name n name || false)) (sym (ap (λ ys. has_place ys n) is) ∙ place_found old n)
         ∙ ap (λ b. is_some (lookup (same_name n) old) || (b || false)) (same_flip n name)
@@ -156,21 +156,21 @@ module _ {V : Type 0} where
   }
 
   -- one that has a place already is given none
-  pub none_given : (name : FullName) (xs ys : List (Place V)) → has_place xs name ≡ true → GivesPlaces (name ∷ []) xs ys → GivesPlaces [] xs ys
+  pub none_given : (name : FullName) (xs ys : List (NamedValue V)) → has_place xs name ≡ true → GivesPlaces (name ∷ []) xs ys → GivesPlaces [] xs ys
   none_given name xs ys has given = record { only = λ n h. go n (same_name n name) refl (given.only n h) }
     where
       go : (n : FullName) (b : Bool) → same_name n name ≡ b → (has_place xs n || (same_name n name || false)) ≡ true → (has_place xs n || false) ≡ true
       go n true e h = ap (λ b. b || false) (ap (has_place xs) (same_name-is n name e) ∙ has)
       go n false e h = ap (λ b. has_place xs n || (b || false)) (sym e) ∙ h
 
-  pub gives_none : (names : List FullName) (xs ys : List (Place V)) → ys ≡ xs → GivesPlaces names xs ys
+  pub gives_none : (names : List FullName) (xs ys : List (NamedValue V)) → ys ≡ xs → GivesPlaces names xs ys
   gives_none names xs ys same = record { only = λ n h. ap (λ b. b || among names n) (ap (λ zs. has_place zs n) (sym same) ∙ h) }
 
-  pub given_on : (xs ys zs : List (Place V)) → GivesPlaces [] xs ys → GivesPlaces [] ys zs → GivesPlaces [] xs zs
+  pub given_on : (xs ys zs : List (NamedValue V)) → GivesPlaces [] xs ys → GivesPlaces [] ys zs → GivesPlaces [] xs zs
   given_on xs ys zs p q = record { only = λ n h. p.only n (left_of (has_place ys n) (q.only n h)) }
 
   -- the loop over names that are given places
-  pub given_more : (names : List FullName) (name : FullName) (xs ys zs : List (Place V)) → among names name ≡ true → GivesPlaces names xs ys → GivesPlaces (name ∷ []) ys zs → GivesPlaces names xs zs
+  pub given_more : (names : List FullName) (name : FullName) (xs ys zs : List (NamedValue V)) → among names name ≡ true → GivesPlaces names xs ys → GivesPlaces (name ∷ []) ys zs → GivesPlaces names xs zs
   given_more names name xs ys zs at p q = record {
     only = λ n h. elim (either (has_place ys n) (same_name n name || false) (q.only n h)) [
       | inl old ↦ p.only n old
@@ -178,7 +178,7 @@ module _ {V : Type 0} where
     ];
   }
 
-  pub more_places : (names : List FullName) (i : ℕ) (d : FullName) (xs ys : List (Place V)) → i < length names → HasPlaces (take i names) xs → Holds xs ys → has_place ys (get_or names i d) ≡ true → HasPlaces (take (i + 1) names) ys
+  pub more_places : (names : List FullName) (i : ℕ) (d : FullName) (xs ys : List (NamedValue V)) → i < length names → HasPlaces (take i names) xs → KeepsPlaces xs ys → has_place ys (get_or names i d) ≡ true → HasPlaces (take (i + 1) names) ys
   more_places names i d xs ys lt h hold here = record {
     each = λ n at. elim (either (among (take i names) n) (same_name n (get_or names i d)) (sym (list_any_more (same_name n) names i d lt) ∙ at)) [
       | inl old ↦ hold.each n (h.each n old)
@@ -186,14 +186,14 @@ module _ {V : Type 0} where
     ];
   }
 
-  pub keeps_on : (xs ys zs : List (Place V)) → Keeps xs ys → Keeps ys zs → Keeps xs zs
+  pub keeps_on : (xs ys zs : List (NamedValue V)) → KeepsValues xs ys → KeepsValues ys zs → KeepsValues xs zs
   keeps_on xs ys zs p q = record { each = λ n. q.each n ∙ p.each n }
 
-  pub holds_on : (xs ys zs : List (Place V)) → Holds xs ys → Holds ys zs → Holds xs zs
+  pub holds_on : (xs ys zs : List (NamedValue V)) → KeepsPlaces xs ys → KeepsPlaces ys zs → KeepsPlaces xs zs
   holds_on xs ys zs p q = record { each = λ n h. q.each n (p.each n h) }
 
   -- one more name whose value is taken away
-  pub clears_more : (names : List FullName) (i : ℕ) (name : FullName) (old mid new : List (Place V)) → i < length names → name ≡ get_or names i name → ClearsAll (take i names) old mid → Sets name None mid new
+  pub clears_more : (names : List FullName) (i : ℕ) (name : FullName) (old mid new : List (NamedValue V)) → i < length names → name ≡ get_or names i name → ClearsAll (take i names) old mid → Sets name None mid new
       → ClearsAll (take (i + 1) names) old new
   clears_more names i name old mid new lt is so_far sets = record {
     each = λ n. sets.each n ∙ ap (λ v. if same_name n name then None else v) (so_far.each n) ∙ go (same_name n name) (among (take i names) n) (value_at old n)

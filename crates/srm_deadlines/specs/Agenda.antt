@@ -7,7 +7,7 @@ use Rattle.srm_names.specs.declared.page.Page.{Page}
 use Rattle.srm_names.specs.declared.stream.Stream.{Stream}
 use Rattle.srm_names.specs.FullName.{FullName}
 use Rattle.srm_names.specs.Names.{among}
-use Rattle.srm_deadlines.specs.declared.by_name.Place.{Place}
+use Rattle.srm_deadlines.specs.declared.by_name.NamedValue.{NamedValue}
 use Rattle.srm_deadlines.specs.declared.timed.Timed.{Timed}
 use Rattle.srm_deadlines.specs.Places.{is_timed, value_at}
 
@@ -55,6 +55,6 @@ pub record PairsFit (now : ℕ) (pairs : List Timed) (room : ℕ) : Type 0 where
   pub few : length names ≤ room
 
 -- each name stands there with its moment, and there is room for one of each place
-pub record Follows (a : Agenda) (places : List (Place ℕ)) : Type 0 where
+pub record AgendaFits (a : Agenda) (places : List (NamedValue ℕ)) : Type 0 where
   pub each : (n : FullName) → of_name n a.pairs ≡ timed_for n (value_at places n)
   pub room : length places ≤ a.capacity

@@ -2,7 +2,7 @@
 use Rattle.std.specs.Prelude.{◌≡◌, ℕ, ◌≤◌, nat_le, Bool, true, false, List, length, Option, Some, None}
 use Rattle.srm_names.specs.FullName.{FullName}
 use Rattle.srm_names.specs.Names.{among}
-use Rattle.srm_deadlines.specs.declared.by_name.Place.{Place}
+use Rattle.srm_deadlines.specs.declared.by_name.NamedValue.{NamedValue}
 use Rattle.srm_deadlines.specs.Places.{value_at}
 
 -- the moment has come
@@ -11,11 +11,11 @@ has_come now None = false
 has_come now (Some moment) = nat_le moment now
 
 -- whatever is due is among these names
-pub record DueAmong (now : ℕ) (places : List (Place ℕ)) (names : List FullName) : Type 0 where
+pub record DueAmong (now : ℕ) (places : List (NamedValue ℕ)) (names : List FullName) : Type 0 where
   pub each : (n : FullName) → has_come now (value_at places n) ≡ true → among names n ≡ true
 
 -- what is due are at most so many names
-pub record DueFit (now : ℕ) (places : List (Place ℕ)) (room : ℕ) : Type 0 where
+pub record DueFit (now : ℕ) (places : List (NamedValue ℕ)) (room : ℕ) : Type 0 where
   pub names : List FullName
   pub due : DueAmong now places names
   pub few : length names ≤ room

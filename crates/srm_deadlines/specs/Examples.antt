@@ -5,20 +5,20 @@ use Rattle.std.specs.declared.cmp.Ordering.TheVariants.{Less, Equal, Greater}
 use Rattle.srm_names.specs.FullName.{FullName}
 use Rattle.srm_names.specs.Histories.{or_else}
 use Rattle.srm_names.specs.Names.{first_page, named, same_name}
-use Rattle.srm_deadlines.specs.declared.by_name.Place.{Place}
+use Rattle.srm_deadlines.specs.declared.by_name.NamedValue.{NamedValue}
 use Rattle.srm_deadlines.specs.declared.timed.Timed.{Timed}
 use Rattle.srm_deadlines.specs.Agenda.{timed_order, of_name, timed_for, timed_among, is_due}
 use Rattle.srm_deadlines.specs.Deadlines.{has_come, DueAmong, DueFit}
 use Rattle.srm_deadlines.specs.Least.{lesser}
 use Rattle.srm_deadlines.specs.Rows.{item_at, values_of, due_in, IsUnder, IsLeastIn, IsFirstIn, AreLeasts, Stands}
-use Rattle.srm_deadlines.specs.Places.{value_in, value_at, has_place, moment_among, Holds, GivesPlaces, Keeps, Sets, SetsAll, ClearsAll, HasPlaces, IsLeast, place_names}
+use Rattle.srm_deadlines.specs.Places.{value_in, value_at, has_place, moment_among, KeepsPlaces, GivesPlaces, KeepsValues, Sets, SetsAll, ClearsAll, HasPlaces, IsLeast, place_names}
 
 -- ---- places: three names, of which the second has no moment, and a fourth without a place
 
 abbrev name : (source number : ℕ) → FullName
 name source number = named (record { source = source; page = first_page }) number
 
-abbrev places : List (Place ℕ)
+abbrev places : List (NamedValue ℕ)
 places = record { name = name 0 1; value = Some 40 } ∷ record { name = name 0 2; value = None } ∷ record { name = name 1 1; value = Some 30 } ∷ []
 
 value_of_the_third : value_at places (name 1 1) ≡ Some 30
@@ -109,16 +109,16 @@ due_at_its_moment = refl
 abbrev one : FullName
 one = name 0 1
 
-abbrev empty : Place ℕ
+abbrev empty : NamedValue ℕ
 empty = record { name = one; value = None }
 
-abbrev filled : Place ℕ
+abbrev filled : NamedValue ℕ
 filled = record { name = one; value = Some 5 }
 
-abbrev before : List (Place ℕ)
+abbrev before : List (NamedValue ℕ)
 before = empty ∷ []
 
-abbrev after : List (Place ℕ)
+abbrev after : List (NamedValue ℕ)
 after = filled ∷ []
 
 is_set : Sets one (Some 5) before after
@@ -152,14 +152,14 @@ are_cleared = record { each = λ n. go (same_name n one) }
 none_is_cleared : ClearsAll [] after before → ⊥
 none_is_cleared h = absurd (let k : None ≡ Some 5 = h.each one in cc)
 
-a_new_place_changes_none : Keeps [] before
+a_new_place_changes_none : KeepsValues [] before
 a_new_place_changes_none = record { each = λ n. go (same_name n one) }
   where
     go : (b : Bool) → value_in (cond b (Some empty) None) ≡ None
     go true = refl
     go false = refl
 
-a_value_is_a_change : Keeps before after → ⊥
+a_value_is_a_change : KeepsValues before after → ⊥
 a_value_is_a_change h = absurd (let k : Some 5 ≡ None = h.each one in cc)
 
 its_place_is_given : GivesPlaces (one ∷ []) [] before
@@ -168,7 +168,7 @@ its_place_is_given = record { only = λ n h. h }
 not_unasked : GivesPlaces (name 0 2 ∷ []) [] before → ⊥
 not_unasked h = absurd (let k : false ≡ true = h.only one refl in cc)
 
-not_taken_away : Holds before [] → ⊥
+not_taken_away : KeepsPlaces before [] → ⊥
 not_taken_away h = absurd (let k : false ≡ true = h.each one refl in cc)
 
 has_its_place : HasPlaces (one ∷ []) before
@@ -217,16 +217,16 @@ none_is_least_of_none = record { none = λ h n. go (same_name n one); is_one = t
 
 -- ---- moments in a row
 
-abbrev row : List (Option ℕ)
-row = Some 40 ∷ None ∷ Some 30 ∷ []
+abbrev moments : List (Option ℕ)
+moments = Some 40 ∷ None ∷ Some 30 ∷ []
 
-stands_there : item_at row 2 ≡ Some 30
+stands_there : item_at moments 2 ≡ Some 30
 stands_there = refl
 
-nothing_past_the_end : item_at row 3 ≡ None
+nothing_past_the_end : item_at moments 3 ≡ None
 nothing_past_the_end = refl
 
-values_in_their_order : values_of places ≡ row
+values_in_their_order : values_of places ≡ moments
 values_in_their_order = refl
 
 due_of_the_row : due_in 30 places ≡ name 1 1 ∷ []
@@ -245,22 +245,22 @@ none_is_under_none_alone : IsUnder None (Some 30) → ⊥
 none_is_under_none_alone h = h
 
 -- from the second on the third is the least and the first that has come
-least_of_two : IsLeastIn row 1 3 (Some 30)
+least_of_two : IsLeastIn moments 1 3 (Some 30)
 least_of_two = record { under = λ i from below. go i from below; is_one = λ t e. (2, omega arith, omega arith, e) }
   where
-    go : (i : ℕ) → 1 ≤ i → i < 3 → IsUnder (Some 30) (item_at row i)
+    go : (i : ℕ) → 1 ≤ i → i < 3 → IsUnder (Some 30) (item_at moments i)
     go zero from below = absurd (omega arith)
     go (suc zero) from below = tt
     go (suc (suc zero)) from below = omega arith
     go (suc (suc (suc i))) from below = absurd (omega arith)
 
-not_the_first_of_all : IsFirstIn 40 row 0 3 (Some 2) → ⊥
+not_the_first_of_all : IsFirstIn 40 moments 0 3 (Some 2) → ⊥
 not_the_first_of_all h = absurd (let k : true ≡ false = h.before 2 refl 0 (omega arith) (omega arith) in cc)
 
 longer_row_stands : Stands (Some 40 ∷ None ∷ Some 30 ∷ None ∷ []) places
 longer_row_stands = record { each = go; long = omega arith }
   where
-    go : (i : ℕ) → item_at (Some 40 ∷ None ∷ Some 30 ∷ None ∷ []) i ≡ item_at row i
+    go : (i : ℕ) → item_at (Some 40 ∷ None ∷ Some 30 ∷ None ∷ []) i ≡ item_at moments i
     go zero = refl
     go (suc zero) = refl
     go (suc (suc zero)) = refl
@@ -271,24 +271,24 @@ another_moment_does_not : Stands (Some 41 ∷ None ∷ Some 30 ∷ []) places �
 another_moment_does_not h = absurd (let k : Some 41 ≡ Some 40 = h.each 0 in cc)
 
 -- three moments make one block, and its least stands above
-one_block : AreLeasts (Some 30 ∷ []) row
+one_block : AreLeasts (Some 30 ∷ []) moments
 one_block = record { covers = omega arith; each = go }
   where
-    first : (i : ℕ) → IsUnder (Some 30) (item_at row i)
+    first : (i : ℕ) → IsUnder (Some 30) (item_at moments i)
     first zero = omega arith
     first (suc zero) = tt
     first (suc (suc zero)) = omega arith
     first (suc (suc (suc i))) = tt
 
-    later : (j i : ℕ) → 16 * suc j ≤ i → IsUnder None (item_at row i)
+    later : (j i : ℕ) → 16 * suc j ≤ i → IsUnder None (item_at moments i)
     later j zero from = absurd (omega arith)
     later j (suc zero) from = tt
     later j (suc (suc zero)) from = absurd (omega arith)
     later j (suc (suc (suc i))) from = tt
 
-    go : (j : ℕ) → IsLeastIn row (16 * j) (16 * j + 16) (item_at (Some 30 ∷ []) j)
+    go : (j : ℕ) → IsLeastIn moments (16 * j) (16 * j + 16) (item_at (Some 30 ∷ []) j)
     go zero = record { under = λ i from below. first i; is_one = λ t e. (2, omega arith, omega arith, e) }
     go (suc j) = record { under = λ i from below. later j i from; is_one = λ t e. absurd (let k : None ≡ Some t = e in cc) }
 
-not_a_greater : AreLeasts (Some 40 ∷ []) row → ⊥
+not_a_greater : AreLeasts (Some 40 ∷ []) moments → ⊥
 not_a_greater h = let k : 40 ≤ 30 = (h.each 0).under 2 (omega arith) (omega arith) in absurd (omega arith)

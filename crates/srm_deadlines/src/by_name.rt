@@ -5,7 +5,7 @@ ghost use Rattle.std.specs.List.{IsDistinct};
 ghost use Rattle.srm_names.specs.FullName.{FullName};
 ghost use Rattle.srm_names.specs.Names.{among, ascending, name_below, same_name};
 ghost use Rattle.srm_deadlines.specs.Rows.{item_at, values_of};
-ghost use Rattle.srm_deadlines.specs.Places.{value_at, has_place, names_of, place_names, Holds, GivesPlaces, Keeps, Sets, SetsAll, ClearsAll, HasPlaces};
+ghost use Rattle.srm_deadlines.specs.Places.{value_at, has_place, names_of, place_names, KeepsPlaces, GivesPlaces, KeepsValues, Sets, SetsAll, ClearsAll, HasPlaces};
 
 use crate::timed::Timed;
 use indexmap::IndexMap;
@@ -15,7 +15,7 @@ use std::marker::Model;
 
 /// A name that may have a value.
 #[derive(Clone, Copy, Debug)]
-pub struct Place<V> {
+pub struct NamedValue<V> {
     pub name: Name,
     pub value: Option<V>,
 }
@@ -28,10 +28,10 @@ pub struct ByName<V> {
 
 impl<V> Model for ByName<V> {
     ghost use Rattle.std.specs.Prelude.{List};
-    ghost use Rattle.srm_deadlines.specs.declared.by_name.Place.{Place};
+    ghost use Rattle.srm_deadlines.specs.declared.by_name.NamedValue.{NamedValue};
     ghost use Rattle.srm_deadlines.specs.PlacesOf.{places_of};
 
-    ghost Value = { List (Place V) };
+    ghost Value = { List (NamedValue V) };
 
     ghost view = { λ m. places_of m.places.entries };
 }
@@ -56,13 +56,13 @@ impl<V: Copy> ByName<V> {
     }
 
     /// The place at an index below [`len`](ByName::len), in an order that any changing call may change.
-    pub fn place(&self, index: usize) -> Place<V>
+    pub fn place(&self, index: usize) -> NamedValue<V>
         requires { index < length self.now }
         ensures place { result ≡ slice_index_or self.now index result }
         ensures value { value_at self.now result.name ≡ result.value }
     {
         let (name, value) = self.places.get_index(index).unwrap();
-        Place {
+        NamedValue {
             name: *name,
             value: *value,
         }
@@ -84,8 +84,8 @@ impl<V: Copy> ByName<V> {
 
     /// Makes a place for a name, unless it has one. No value changes. Only want of memory refuses it.
     pub fn make_place(&mut self, name: Name) -> Result<(), AllocError>
-        ensures kept { Keeps self.old self.new }
-        ensures held { Holds self.old self.new }
+        ensures kept { KeepsValues self.old self.new }
+        ensures held { KeepsPlaces self.old self.new }
         ensures only { GivesPlaces (name ∷ []) self.old self.new }
         ensures ok { OnOk result (has_place self.new name ≡ true) }
         ensures again { has_place self.old name ≡ true → IsOk result }
@@ -101,8 +101,8 @@ impl<V: Copy> ByName<V> {
 
     /// Makes places for names. No value changes. Only want of memory refuses it, and then some of the names may have got one.
     pub fn room(&mut self, names: &[Name]) -> Result<(), AllocError>
-        ensures kept { Keeps self.old self.new }
-        ensures held { Holds self.old self.new }
+        ensures kept { KeepsValues self.old self.new }
+        ensures held { KeepsPlaces self.old self.new }
         ensures only { GivesPlaces names.now self.old self.new }
         ensures ok { OnOk result (HasPlaces names.now self.new) }
         ensures again { HasPlaces names.now self.old → IsOk result }
@@ -117,7 +117,7 @@ impl<V: Copy> ByName<V> {
     pub fn set(&mut self, name: Name, value: Option<V>)
         requires { has_place self.old name ≡ true }
         ensures sets { Sets name value self.old self.new }
-        ensures held { Holds self.old self.new }
+        ensures held { KeepsPlaces self.old self.new }
         ensures only { GivesPlaces [] self.old self.new }
         ensures length { length self.new ≡ length self.old }
     {
@@ -129,7 +129,7 @@ impl<V: Copy> ByName<V> {
     pub fn put(&mut self, name: Name, value: Option<V>) -> usize
         requires { has_place self.old name ≡ true }
         ensures sets { Sets name value self.old self.new }
-        ensures held { Holds self.old self.new }
+        ensures held { KeepsPlaces self.old self.new }
         ensures only { GivesPlaces [] self.old self.new }
         ensures length { length self.new ≡ length self.old }
         ensures within { result < length self.old }
@@ -142,7 +142,7 @@ impl<V: Copy> ByName<V> {
     /// Takes a name's value away, if it has one.
     pub fn clear(&mut self, name: Name)
         ensures sets { Sets name None self.old self.new }
-        ensures held { Holds self.old self.new }
+        ensures held { KeepsPlaces self.old self.new }
         ensures only { GivesPlaces [] self.old self.new }
         ensures length { length self.new ≡ length self.old }
     {
@@ -155,7 +155,7 @@ impl<V: Copy> ByName<V> {
     #[tactic(auto, using(crate::proofs::Tables::clears_more, crate::proofs::Tables::holds_on, crate::proofs::Tables::given_on))]
     pub fn clear_all(&mut self, names: &[Name])
         ensures sets { ClearsAll names.now self.old self.new }
-        ensures held { Holds self.old self.new }
+        ensures held { KeepsPlaces self.old self.new }
         ensures only { GivesPlaces [] self.old self.new }
         ensures length { length self.new ≡ length self.old }
     {
@@ -171,7 +171,7 @@ impl ByName<u64> {
         requires rising { ascending name_below (names_of moments.now) ≡ true }
         requires places { HasPlaces (names_of moments.now) self.old }
         ensures sets { SetsAll moments.now self.old self.new }
-        ensures held { Holds self.old self.new }
+        ensures held { KeepsPlaces self.old self.new }
         ensures only { GivesPlaces [] self.old self.new }
         ensures length { length self.new ≡ length self.old }
     {

@@ -2,9 +2,9 @@
 
 ghost use Rattle.std.specs.Prelude.{◌≡◌, ℕ, ◌≤◌, List, [], true, vec_capacity, OnOk, IsOk, Some, None};
 ghost use Rattle.srm_names.specs.Names.{AreExactly, ascending, name_below};
-ghost use Rattle.srm_deadlines.specs.declared.by_name.Place.{Place as APlace};
+ghost use Rattle.srm_deadlines.specs.declared.by_name.NamedValue.{NamedValue as APlace};
 ghost use Rattle.srm_deadlines.specs.Deadlines.{has_come, DueFit};
-ghost use Rattle.srm_deadlines.specs.Places.{value_at, has_place, names_of, Holds, GivesPlaces, Keeps, Sets, SetsAll, ClearsAll, HasPlaces, IsLeast};
+ghost use Rattle.srm_deadlines.specs.Places.{value_at, has_place, names_of, KeepsPlaces, GivesPlaces, KeepsValues, Sets, SetsAll, ClearsAll, HasPlaces, IsLeast};
 
 use crate::timed::Timed;
 use srm_names::Name;
@@ -20,8 +20,8 @@ pub trait Deadlines {
 
     /// Makes places for names. No moment changes. Only want of memory refuses it, and then no place is lost.
     fn room(&mut self, names: &[Name]) -> Result<(), AllocError>
-        ensures kept { Keeps (places self.old) (places self.new) }
-        ensures held { Holds (places self.old) (places self.new) }
+        ensures kept { KeepsValues (places self.old) (places self.new) }
+        ensures held { KeepsPlaces (places self.old) (places self.new) }
         ensures only { GivesPlaces names.now (places self.old) (places self.new) }
         ensures ok { OnOk result (HasPlaces names.now (places self.new)) }
         ensures again { HasPlaces names.now (places self.old) → IsOk result };
@@ -30,7 +30,7 @@ pub trait Deadlines {
     fn set(&mut self, name: Name, moment: u64)
         requires { has_place (places self.old) name ≡ true }
         ensures sets { Sets name (Some moment) (places self.old) (places self.new) }
-        ensures held { Holds (places self.old) (places self.new) }
+        ensures held { KeepsPlaces (places self.old) (places self.new) }
         ensures only { GivesPlaces [] (places self.old) (places self.new) };
 
     /// Sets the moments of names that have places and stand in rising order.
@@ -38,20 +38,20 @@ pub trait Deadlines {
         requires rising { ascending name_below (names_of moments.now) ≡ true }
         requires places { HasPlaces (names_of moments.now) (places self.old) }
         ensures sets { SetsAll moments.now (places self.old) (places self.new) }
-        ensures held { Holds (places self.old) (places self.new) }
+        ensures held { KeepsPlaces (places self.old) (places self.new) }
         ensures only { GivesPlaces [] (places self.old) (places self.new) };
 
     /// Takes a name's moment away, if it has one. Its place stays.
     fn clear(&mut self, name: Name)
         ensures sets { Sets name None (places self.old) (places self.new) }
-        ensures held { Holds (places self.old) (places self.new) }
+        ensures held { KeepsPlaces (places self.old) (places self.new) }
         ensures only { GivesPlaces [] (places self.old) (places self.new) };
 
     /// Takes the moments of names away, where they have one, that stand in rising order. Their places stay.
     fn clear_all(&mut self, names: &[Name])
         requires { ascending name_below names.now ≡ true }
         ensures sets { ClearsAll names.now (places self.old) (places self.new) }
-        ensures held { Holds (places self.old) (places self.new) }
+        ensures held { KeepsPlaces (places self.old) (places self.new) }
         ensures only { GivesPlaces [] (places self.old) (places self.new) };
 
     /// The moment of a name, in microseconds.

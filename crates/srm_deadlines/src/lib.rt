@@ -28,7 +28,7 @@ mod timed;
 mod tree;
 
 pub use agenda::put_names;
-pub use by_name::{ByName, Place};
+pub use by_name::{ByName, NamedValue};
 pub use deadlines::Deadlines;
 pub use ordered::Ordered;
 pub use scanned::{Scanned, lesser};

@@ -2,7 +2,7 @@
 
 ghost use Rattle.std.specs.Prelude.{◌≡◌, [], ◌∷◌, true, OnOk, IsOk};
 ghost use Rattle.srm_names.specs.Names.{ascending, name_below};
-ghost use Rattle.srm_deadlines.specs.Places.{has_place, names_of, Holds, GivesPlaces, Keeps, SetsAll, ClearsAll, HasPlaces};
+ghost use Rattle.srm_deadlines.specs.Places.{has_place, names_of, KeepsPlaces, GivesPlaces, KeepsValues, SetsAll, ClearsAll, HasPlaces};
 
 use crate::agenda::Agenda;
 use crate::by_name::ByName;
@@ -27,14 +27,14 @@ pub struct Ordered {
 
 impl Model for Ordered {
     ghost use Rattle.std.specs.Prelude.{ℕ, List};
-    ghost use Rattle.srm_deadlines.specs.declared.by_name.Place.{Place};
-    ghost use Rattle.srm_deadlines.specs.Agenda.{Follows};
+    ghost use Rattle.srm_deadlines.specs.declared.by_name.NamedValue.{NamedValue};
+    ghost use Rattle.srm_deadlines.specs.Agenda.{AgendaFits};
 
-    ghost Value = { List (Place ℕ) };
+    ghost Value = { List (NamedValue ℕ) };
 
     ghost view = { λ o. o.moments };
 
-    ghost invariant = { λ o. Follows o.agenda o.moments };
+    ghost invariant = { λ o. AgendaFits o.agenda o.moments };
 }
 
 impl Ordered {
@@ -50,8 +50,8 @@ impl Ordered {
 
     /// Makes a place for a name, unless it has one: room in the order, and then a place by name.
     fn make_place(&mut self, name: Name) -> Result<(), AllocError>
-        ensures kept { Keeps self.old self.new }
-        ensures held { Holds self.old self.new }
+        ensures kept { KeepsValues self.old self.new }
+        ensures held { KeepsPlaces self.old self.new }
         ensures only { GivesPlaces (name ∷ []) self.old self.new }
         ensures ok { OnOk result (has_place self.new name ≡ true) }
         ensures again { has_place self.old name ≡ true → IsOk result }
@@ -68,7 +68,7 @@ impl Ordered {
         requires rising { ascending name_below (names_of moments.now) ≡ true }
         requires places { HasPlaces (names_of moments.now) self.old }
         ensures sets { SetsAll moments.now self.old self.new }
-        ensures held { Holds self.old self.new }
+        ensures held { KeepsPlaces self.old self.new }
         ensures only { GivesPlaces [] self.old self.new }
     {
         for timed in moments {
@@ -81,7 +81,7 @@ impl Ordered {
         requires rising { ascending name_below (names_of moments.now) ≡ true }
         requires places { HasPlaces (names_of moments.now) self.old }
         ensures sets { SetsAll moments.now self.old self.new }
-        ensures held { Holds self.old self.new }
+        ensures held { KeepsPlaces self.old self.new }
         ensures only { GivesPlaces [] self.old self.new }
     {
         self.agenda.remove_timed(moments);
@@ -93,7 +93,7 @@ impl Ordered {
     fn clear_many(&mut self, names: &[Name])
         requires { ascending name_below names.now ≡ true }
         ensures sets { ClearsAll names.now self.old self.new }
-        ensures held { Holds self.old self.new }
+        ensures held { KeepsPlaces self.old self.new }
         ensures only { GivesPlaces [] self.old self.new }
     {
         self.agenda.remove_all(names);

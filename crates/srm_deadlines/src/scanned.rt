@@ -22,9 +22,9 @@ pub struct Scanned {
 
 impl Model for Scanned {
     ghost use Rattle.std.specs.Prelude.{ℕ, List};
-    ghost use Rattle.srm_deadlines.specs.declared.by_name.Place.{Place};
+    ghost use Rattle.srm_deadlines.specs.declared.by_name.NamedValue.{NamedValue};
 
-    ghost Value = { List (Place ℕ) };
+    ghost Value = { List (NamedValue ℕ) };
 
     ghost view = { λ s. s.moments };
 }

@@ -2,7 +2,7 @@
 use Rattle.std.specs.Prelude.{◌≡◌, ◌≢◌, ℕ, ◌==◌, ◌-◌, ◌<◌, ◌≤◌, nat_lt, Bool, true, false, ◌||◌, List, length, if◌then◌else◌, Option, Some, None, IfSome, option_map}
 use Rattle.std.specs.List.{filter_map, list_any, All}
 use Rattle.srm_names.specs.declared.echo.Echo.{Echo}
-use Rattle.srm_names.specs.declared.limits.TheConstants.{MEMBERS, MOMENT}
+use Rattle.srm_names.specs.declared.limits.TheConstants.{MEMBERS, LATEST_MOMENT}
 use Rattle.srm_names.specs.Histories.{first_best, count_up}
 use Rattle.srm_names.specs.Names.{ascending, echo_below}
 use Rattle.srm_distance.specs.declared.report.Report.{Report}
@@ -32,17 +32,17 @@ abbrev pub echo_to : List Call → ℕ → ℕ → ℕ → Option Echo
 echo_to calls me now b = if (b == me) || is_forgotten calls b then None else option_map (echo_of now b) (latest calls b)
 
 -- the echoes that are owed, in order of member
-abbrev pub echoes_due : List Call → ℕ → ℕ → List Echo
-echoes_due calls me now = filter_map (echo_to calls me now) (count_up 0 MEMBERS)
+abbrev pub echoes_owed : List Call → ℕ → ℕ → List Echo
+echoes_owed calls me now = filter_map (echo_to calls me now) (count_up 0 MEMBERS)
 
 abbrev pub SentWithin : Option Report → Type 0
-SentWithin report = IfSome report (λ r. r.sent ≤ MOMENT)
+SentWithin report = IfSome report (λ r. r.sent ≤ LATEST_MOMENT)
 
 -- an echo to another member, of a moment and with a delay that a session message can hold
 pub record CanBeSent (me now : ℕ) (echo : Echo) : Type 0 where
   pub member : echo.member < MEMBERS
   pub other : echo.member ≢ me
-  pub t1 : echo.t1 ≤ MOMENT
+  pub t1 : echo.t1 ≤ LATEST_MOMENT
   pub delay : echo.delay ≤ now
 
 -- Echoes as a session message can hold them: they rise strictly by member, each can be sent, and there is at most one

@@ -3,7 +3,7 @@ use Rattle.std.specs.Prelude.{◌≡◌, ℕ, [], ◌∷◌, Some, None, refl}
 use Rattle.srm_names.specs.declared.echo.Echo.{Echo}
 use Rattle.srm_distance.specs.Calls.{Call, Heard, Forgot}
 use Rattle.srm_distance.specs.Distance.{distance}
-use Rattle.srm_distance.specs.Echoes.{echoes_due}
+use Rattle.srm_distance.specs.Echoes.{echoes_owed}
 
 -- member 1 echoes the message sent at t1, having had it for some time, and this is heard at a moment
 abbrev echoed : (t1 delay now : ℕ) → Call
@@ -63,23 +63,23 @@ forgotten_is_still_there = refl
 abbrev echo : (member t1 delay : ℕ) → Echo
 echo member t1 delay = record { member = member; t1 = t1; delay = delay }
 
-nothing_heard : echoes_due [] 0 800000 ≡ []
+nothing_heard : echoes_owed [] 0 800000 ≡ []
 nothing_heard = refl
 
-newest_by_sending : echoes_due (silent 1 500000 600000 ∷ silent 1 400000 700000 ∷ []) 0 800000 ≡ echo 1 500000 200000 ∷ []
+newest_by_sending : echoes_owed (silent 1 500000 600000 ∷ silent 1 400000 700000 ∷ []) 0 800000 ≡ echo 1 500000 200000 ∷ []
 newest_by_sending = refl
 
-first_of_equals : echoes_due (silent 1 500000 600000 ∷ silent 1 500000 700000 ∷ []) 0 800000 ≡ echo 1 500000 200000 ∷ []
+first_of_equals : echoes_owed (silent 1 500000 600000 ∷ silent 1 500000 700000 ∷ []) 0 800000 ≡ echo 1 500000 200000 ∷ []
 first_of_equals = refl
 
-in_order_of_member : echoes_due (silent 31 7 10 ∷ silent 2 5 11 ∷ []) 0 20 ≡ echo 2 5 9 ∷ echo 31 7 10 ∷ []
+in_order_of_member : echoes_owed (silent 31 7 10 ∷ silent 2 5 11 ∷ []) 0 20 ≡ echo 2 5 9 ∷ echo 31 7 10 ∷ []
 in_order_of_member = refl
 
-none_to_oneself : echoes_due (silent 0 5 10 ∷ silent 1 5 10 ∷ []) 0 20 ≡ echo 1 5 10 ∷ []
+none_to_oneself : echoes_owed (silent 0 5 10 ∷ silent 1 5 10 ∷ []) 0 20 ≡ echo 1 5 10 ∷ []
 none_to_oneself = refl
 
-message_sent_at_zero : echoes_due (silent 1 0 10 ∷ []) 0 20 ≡ echo 1 0 10 ∷ []
+message_sent_at_zero : echoes_owed (silent 1 0 10 ∷ []) 0 20 ≡ echo 1 0 10 ∷ []
 message_sent_at_zero = refl
 
-none_to_the_forgotten : echoes_due (silent 1 5 10 ∷ Forgot 1 ∷ silent 1 6 11 ∷ silent 2 5 10 ∷ []) 0 20 ≡ echo 2 5 10 ∷ []
+none_to_the_forgotten : echoes_owed (silent 1 5 10 ∷ Forgot 1 ∷ silent 1 6 11 ∷ silent 2 5 10 ∷ []) 0 20 ≡ echo 2 5 10 ∷ []
 none_to_the_forgotten = refl

@@ -5,12 +5,12 @@ ghost use Rattle.srm_names.specs.declared.limits.TheConstants.{MEMBERS};
 ghost use Rattle.srm_distance.specs.Calls.{Call, Heard, Forgot};
 ghost use Rattle.srm_distance.specs.Content.{distance_by};
 ghost use Rattle.srm_distance.specs.Distance.{distance};
-ghost use Rattle.srm_distance.specs.Echoes.{echo_to, echoes_due, AreSpellable, CanBeSent, SentWithin};
+ghost use Rattle.srm_distance.specs.Echoes.{echo_to, echoes_owed, AreSpellable, CanBeSent, SentWithin};
 ghost use Rattle.srm_distance.specs.Fits.{Fits, Adds, IsTableOf};
 
 use crate::limits::FIRST_DISTANCE;
 use crate::peer::Peer;
-use srm_names::{Echo, LONGEST_DISTANCE, MEMBERS, MOMENT, Member};
+use srm_names::{Echo, LATEST_MOMENT, LONGEST_DISTANCE, MEMBERS, Member};
 use std::alloc::{AllocError, Global};
 use std::marker::Model;
 
@@ -60,14 +60,14 @@ impl Distances {
     }
 
     /// A session message of `from` was heard at `now`. It was sent at `sent`, by its sender's clock, at most
-    /// [`MOMENT`]. `echo` is its echo for this member, if it has one: when the echoed message was sent, and how long
+    /// [`LATEST_MOMENT`]. `echo` is its echo for this member, if it has one: when the echoed message was sent, and how long
     /// `from` had it by then.
     ///
     /// The echo counts, and the distance is then by it, where it is of a newer message than each that counted before
     /// and not of a moment after `now`. The message is the one to echo where it is newer than each of `from` before. A
     /// message that was sent at 0 is a message like any other.
     pub fn heard_session(&mut self, from: Member, sent: u64, echo: Option<(u64, u64)>, now: u64)
-        requires { sent ≤ MOMENT }
+        requires { sent ≤ LATEST_MOMENT }
         ensures { Adds (Heard from sent echo now) self.old self.new }
     {
         let peer = self.peers[from.index()].after_session(sent, echo, now);
@@ -98,7 +98,7 @@ impl Distances {
     /// They are at most 31. Only want of memory refuses it.
     pub fn echoes(&self, alloc: Global, now: u64) -> Result<Vec<Echo>, AllocError>
         ensures value { IfOk result (λ echoes. (me : ℕ) (calls : List Call) → Fits me calls self.now
-            → echoes.items ≡ echoes_due calls me now) }
+            → echoes.items ≡ echoes_owed calls me now) }
         ensures range { IfOk result (λ echoes. AreSpellable self.now.me now echoes.items) }
     {
         let me = self.me.number();

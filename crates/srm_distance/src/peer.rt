@@ -6,7 +6,7 @@ ghost use Rattle.srm_distance.specs.Calls.{Call, Heard, Forgot};
 use crate::limits::FIRST_DISTANCE;
 use crate::report::Report;
 use crate::returned::Returned;
-use srm_names::{Echo, MOMENT, Member};
+use srm_names::{Echo, LATEST_MOMENT, Member};
 
 /// What is kept of one member: the echo that tells its distance, the session message to echo, and whether it was
 /// forgotten.
@@ -20,7 +20,7 @@ pub(crate) struct Peer {
 impl Peer {
     ghost use Rattle.srm_distance.specs.Distance.{newest, estimate};
     ghost use Rattle.srm_distance.specs.Echoes.{SentWithin};
-    ghost use Rattle.srm_distance.specs.Peers.{peer_of, echo_at};
+    ghost use Rattle.srm_distance.specs.Peers.{peer_of, echo_owed_by};
 
     /// A member of which nothing was heard.
     pub(crate) fn unknown() -> Peer
@@ -36,7 +36,7 @@ impl Peer {
 
     /// What is kept after one more session message of the member.
     pub(crate) fn after_session(self, sent: u64, echo: Option<(u64, u64)>, now: u64) -> Peer
-        requires { sent ≤ MOMENT }
+        requires { sent ≤ LATEST_MOMENT }
         ensures fits { (calls : List Call) (b : ℕ) → self ≡ peer_of calls b
             → result ≡ peer_of (calls ++ Heard b sent echo now ∷ []) b }
         ensures range { SentWithin self.report → SentWithin result.report }
@@ -64,7 +64,7 @@ impl Peer {
 
     /// The echo that is owed to the member at a moment.
     pub(crate) fn echo(self, member: Member, now: u64) -> Option<Echo>
-        ensures { result ≡ echo_at now member self }
+        ensures { result ≡ echo_owed_by now member self }
     {
         if self.forgotten {
             return None;

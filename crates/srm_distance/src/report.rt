@@ -3,7 +3,7 @@
 ghost use Rattle.std.specs.Prelude.{◌≡◌, ◌≤◌, ℕ, Option, List, [], ◌∷◌, ◌++◌};
 ghost use Rattle.srm_distance.specs.Calls.{Call, Heard};
 
-use srm_names::{Echo, MOMENT, Member};
+use srm_names::{Echo, LATEST_MOMENT, Member};
 
 /// A session message of a member. Moments are in microseconds.
 #[derive(Clone, Copy, Debug)]
@@ -20,7 +20,7 @@ impl Report {
     /// The session message to echo after one more was heard: the newest, as it was heard first.
     #[tactic(auto, using(crate::proofs::Steps::latest_heard, std::proofs::lemmas::Bool::Decides::nat_tests))]
     pub(crate) fn newer(kept: Option<Report>, sent: u64, now: u64) -> Option<Report>
-        requires { sent ≤ MOMENT }
+        requires { sent ≤ LATEST_MOMENT }
         ensures value { (calls : List Call) (b : ℕ) (echo : Option (ℕ × ℕ)) → kept ≡ latest calls b
             → result ≡ latest (calls ++ Heard b sent echo now ∷ []) b }
         ensures range { SentWithin kept → SentWithin result }

@@ -10,7 +10,7 @@ use Rattle.srm_names.proofs.Snoc.{steps-snoc, last_of-snoc, since-snoc, list_any
 use Rattle.srm_entries.specs.declared.entry.Entry.{Entry}
 use Rattle.srm_timers.specs.declared.arm.ArmKind.TheVariants.{Ask, Fix}
 use Rattle.srm_store.specs.Held.{number_in, has_name}
-use Rattle.srm_entries.specs.Entries.{held, held_by, shown_by, is_held, known, is_missing, shown_to_exist}
+use Rattle.srm_entries.specs.Entries.{held, held_by, evidence_by, is_held, known, is_missing, evidence_in}
 use Rattle.srm_entries.specs.Timers.{arm_in, last_ask, fix_running, repaired, held_off, holds_off}
 
 pub flat_map-append : {X Y : Type 0} (f : X → List Y) (xs ys : List X) → flat_map f (xs ++ ys) ≡ flat_map f xs ++ flat_map f ys
@@ -26,13 +26,13 @@ greatest-append (m ∷ ms) ns = rw (greatest-append ms ns) (omega arith)
 
 -- what an entry shows of a stream
 abbrev pub shows : Entry → Stream → ℕ
-shows e s = greatest (flat_map (number_in s) (shown_to_exist (e ∷ [])))
+shows e s = greatest (flat_map (number_in s) (evidence_in (e ∷ [])))
 
 pub known-snoc : (es : List Entry) (e : Entry) (s : Stream) → known (es ++ e ∷ []) s ≡ max (known es s) (shows e s)
 known-snoc es e s =
-    ap (λ ns. greatest (flat_map (number_in s) ns)) (flat_map-append shown_by es (e ∷ []))
-    ∙ ap greatest (flat_map-append (number_in s) (shown_to_exist es) (shown_to_exist (e ∷ [])))
-    ∙ greatest-append (flat_map (number_in s) (shown_to_exist es)) (flat_map (number_in s) (shown_to_exist (e ∷ [])))
+    ap (λ ns. greatest (flat_map (number_in s) ns)) (flat_map-append evidence_by es (e ∷ []))
+    ∙ ap greatest (flat_map-append (number_in s) (evidence_in es) (evidence_in (e ∷ [])))
+    ∙ greatest-append (flat_map (number_in s) (evidence_in es)) (flat_map (number_in s) (evidence_in (e ∷ [])))
 
 -- whether an entry gains the name
 abbrev pub gains : Entry → FullName → Bool
@@ -70,9 +70,9 @@ held_off-snoc me es e n now = ap (list_any (holds_off me n now)) (steps-snoc es 
 
 pub known-append : (es more : List Entry) (s : Stream) → known (es ++ more) s ≡ max (known es s) (known more s)
 known-append es more s =
-    ap (λ ns. greatest (flat_map (number_in s) ns)) (flat_map-append shown_by es more)
-    ∙ ap greatest (flat_map-append (number_in s) (shown_to_exist es) (shown_to_exist more))
-    ∙ greatest-append (flat_map (number_in s) (shown_to_exist es)) (flat_map (number_in s) (shown_to_exist more))
+    ap (λ ns. greatest (flat_map (number_in s) ns)) (flat_map-append evidence_by es more)
+    ∙ ap greatest (flat_map-append (number_in s) (evidence_in es) (evidence_in more))
+    ∙ greatest-append (flat_map (number_in s) (evidence_in es)) (flat_map (number_in s) (evidence_in more))
 
 pub is_held-append : (es more : List Entry) (n : FullName) → is_held (es ++ more) n ≡ is_held es n || is_held more n
 is_held-append es more n = ap (list_any (has_name n)) (flat_map-append held_by es more) ∙ list_any-append (has_name n) (held es) (held more)

@@ -13,8 +13,8 @@ use Rattle.srm_timers.specs.declared.arm.ArmKind.{ArmKind}
 use Rattle.srm_timers.specs.declared.arm.ArmKind.TheVariants.{Ask, Fix}
 use Rattle.srm_entries.specs.Distances.{distance}
 use Rattle.srm_timers.specs.declared.arm.Armed.{Armed}
-use Rattle.srm_timers.specs.Arms.{Setting, setting, same_kind, arm_of}
-use Rattle.srm_entries.specs.Timers.{arm_in, setting_of, low_of, high_of, ArmsRight}
+use Rattle.srm_timers.specs.Arms.{WaitBasis, wait_basis, same_kind, arm_of}
+use Rattle.srm_entries.specs.Timers.{arm_in, basis_of, low_of, high_of, ArmsRight}
 
 -- finding by one test and by two
 
@@ -59,10 +59,10 @@ find-holds P p (y ∷ ys) x all e = holds_at P x y (p y) (find p ys) all.0 (find
 
 -- the settings that the law asks for: an ask with an exponent, where these are all entries with this one,
 -- and a fix for who asked, where these are the entries before
-abbrev pub ask_at : ℕ → List Entry → FullName → ℕ → Setting
+abbrev pub ask_at : ℕ → List Entry → FullName → ℕ → WaitBasis
 ask_at me entries n i = record { kind = Ask; exponent = i; distance = distance entries me n.stream.source }
 
-abbrev pub fix_at : ℕ → List Entry → ℕ → Setting
+abbrev pub fix_at : ℕ → List Entry → ℕ → WaitBasis
 fix_at me before who = record { kind = Fix; exponent = 0; distance = distance before me who }
 
 abbrev pub kind_and_name : ArmKind → FullName → Arm → Bool
@@ -91,16 +91,16 @@ found_of now a (Some x) e =
 pub arm_found : (kind : ArmKind) (n : FullName) (e : Entry) (a : Armed) → arm_in kind n e ≡ Some a → (find (kind_and_name kind n) e.effects.arms ≡ Some a.arm) × (a.set ≡ e.moment)
 arm_found kind n e a h = found_of e.moment a (find (kind_and_name kind n) e.effects.arms) h
 
-setting_found : (s : Setting) (o : Option Arm) → option_map setting o ≡ Some s → (a : Arm) × (o ≡ Some a) × (setting a ≡ s)
+setting_found : (s : WaitBasis) (o : Option Arm) → option_map wait_basis o ≡ Some s → (a : Arm) × (o ≡ Some a) × (wait_basis a ≡ s)
 setting_found s None e = absurd (cc)
 setting_found s (Some a) e = (a, refl, cc)
 
 -- where the law sets an arm, the entry has it
-pub armed_by : (kind : ArmKind) (n : FullName) (c : Config) (before : List Entry) (e : Entry) (s : Setting) → ArmsRight c before e
-    → setting_of c.me before e n ≡ Some s → s.kind ≡ kind → is_some (arm_in kind n e) ≡ true
+pub armed_by : (kind : ArmKind) (n : FullName) (c : Config) (before : List Entry) (e : Entry) (s : WaitBasis) → ArmsRight c before e
+    → basis_of c.me before e n ≡ Some s → s.kind ≡ kind → is_some (arm_in kind n e) ≡ true
 armed_by kind n c before e s r h k =
     let (a, found, is) = setting_found s (arm_of n e.effects.arms) (r.exact n ∙ h) in
-    let test : same_kind kind a.kind ≡ true = subst (λ j. same_kind kind j ≡ true) (sym k ∙ ap (λ (t : Setting). t.kind) (sym is)) (same_kind_itself kind) in
+    let test : same_kind kind a.kind ≡ true = subst (λ j. same_kind kind j ≡ true) (sym k ∙ ap (λ (t : WaitBasis). t.kind) (sym is)) (same_kind_itself kind) in
     let f = find-refined (λ (x : Arm). same_name n x.name) (λ (x : Arm). same_kind kind x.kind) e.effects.arms a found test in
     ap (λ o. is_some (option_map (armed_at e.moment) o)) f
 
@@ -110,14 +110,14 @@ some_of (Some x) e = (x, refl)
 
 -- where the entry has an arm, the law sets one
 pub set_by : (kind : ArmKind) (n : FullName) (c : Config) (before : List Entry) (e : Entry) (a : Armed) → ArmsRight c before e
-    → arm_in kind n e ≡ Some a → is_some (setting_of c.me before e n) ≡ true
+    → arm_in kind n e ≡ Some a → is_some (basis_of c.me before e n) ≡ true
 set_by kind n c before e a r h =
     let (x, found) = some_of (arm_of n e.effects.arms) (find-coarser (λ (x : Arm). same_name n x.name) (λ (x : Arm). same_kind kind x.kind) e.effects.arms a.arm (arm_found kind n e a h).0) in
-    ap is_some (sym (r.exact n) ∙ ap (option_map setting) found)
+    ap is_some (sym (r.exact n) ∙ ap (option_map wait_basis) found)
 
 -- where the law sets none, the entry has none
 pub unset_by : (kind : ArmKind) (n : FullName) (c : Config) (before : List Entry) (e : Entry) → ArmsRight c before e
-    → setting_of c.me before e n ≡ None → arm_in kind n e ≡ None
+    → basis_of c.me before e n ≡ None → arm_in kind n e ≡ None
 unset_by kind n c before e r h = go (arm_in kind n e) refl
   where
     go : (o : Option Armed) → arm_in kind n e ≡ o → o ≡ None
@@ -166,12 +166,12 @@ only_arm n q (y ∷ ys) x o e =
     (only_arm n q ys x (ascending_rest y.name (map (λ (z : Arm). z.name) ys) o)) (among_names n q x ys) e
 
 -- the arm of a kind and a name in an entry is the one that the law sets
-pub kind_set : (kind : ArmKind) (n : FullName) (c : Config) (before : List Entry) (e : Entry) (a : Armed) (s : Setting) → ArmsRight c before e
-    → arm_in kind n e ≡ Some a → setting_of c.me before e n ≡ Some s → s.kind ≡ kind
+pub kind_set : (kind : ArmKind) (n : FullName) (c : Config) (before : List Entry) (e : Entry) (a : Armed) (s : WaitBasis) → ArmsRight c before e
+    → arm_in kind n e ≡ Some a → basis_of c.me before e n ≡ Some s → s.kind ≡ kind
 kind_set kind n c before e a s r h k =
     let found = (arm_found kind n e a h).0 in
     let one = only_arm n (λ (x : Arm). same_kind kind x.kind) e.effects.arms a.arm r.in_order found in
-    let is : Some (setting a.arm) ≡ Some s = sym (ap (option_map setting) one) ∙ r.exact n ∙ k in
-    let same : setting a.arm ≡ s = cc in
+    let is : Some (wait_basis a.arm) ≡ Some s = sym (ap (option_map wait_basis) one) ∙ r.exact n ∙ k in
+    let same : wait_basis a.arm ≡ s = cc in
     let test : same_kind kind a.arm.kind ≡ true = and_left (same_kind kind a.arm.kind) (same_name n a.arm.name) (find-passed (kind_and_name kind n) e.effects.arms a.arm found) in
-    ap (λ (t : Setting). t.kind) (sym same) ∙ sym (same_kind_tells kind a.arm.kind test)
+    ap (λ (t : WaitBasis). t.kind) (sym same) ∙ sym (same_kind_tells kind a.arm.kind test)

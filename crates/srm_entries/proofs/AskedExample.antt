@@ -14,14 +14,14 @@ use Rattle.srm_bucket.specs.Calls.{Classed}
 use Rattle.srm_bucket.specs.Law.{BucketLaw}
 use Rattle.srm_timers.specs.declared.arm.Arm.{Arm}
 use Rattle.srm_timers.specs.declared.arm.ArmKind.TheVariants.{Ask}
-use Rattle.srm_timers.specs.Arms.{Setting, setting, next_exponent, ran_out, arm_of}
+use Rattle.srm_timers.specs.Arms.{WaitBasis, wait_basis, next_exponent, ran_out, arm_of}
 use Rattle.srm_entries.specs.Configs.{Config}
 use Rattle.srm_entries.specs.declared.entry.Entry.{Entry}
 use Rattle.srm_entries.specs.Entries.{is_held, is_missing, ticked}
-use Rattle.srm_entries.specs.Timers.{arm_in, ask_due, held_off, setting_of}
+use Rattle.srm_entries.specs.Timers.{arm_in, ask_due, held_off, basis_of}
 use Rattle.srm_entries.specs.Bucket.{Going, classed, bucket_calls}
 use Rattle.srm_entries.specs.Runs.{EntryRight, IsMemberRun}
-use Rattle.srm_entries.specs.Sample.{in_roster, zeros, drawop_of, hears, ticks, ask_arm, idle}
+use Rattle.srm_entries.specs.Sample.{in_roster, first_stream, drawop_of, hears, ticks, ask_arm, idle}
 use Rattle.srm_entries.proofs.Plain.{idle_right, of_all, neither, missing_none, unknown_unmissed, one_goes}
 use Rattle.srm_entries.proofs.Responding.{response_law}
 
@@ -32,27 +32,27 @@ abbrev gap : Entry
 gap = hears 1 1000000 (Data (drawop_of 2 0 [])) (ask_arm 1 0 200000 ∷ [])
 
 abbrev request : Datagram
-request = Request 1 (named zeros 1) 0
+request = Request 1 (named first_stream 1) 0
 
 abbrev asks : Entry
-asks = ticks 1 1400000 (named zeros 1 ∷ []) [] (ask_arm 1 1 400000 ∷ []) (request ∷ [])
+asks = ticks 1 1400000 (named first_stream 1 ∷ []) [] (ask_arm 1 1 400000 ∷ []) (request ∷ [])
 
 -- the first name is missing, and no other
 
 only_first : (k : ℕ) → (nat_le 1 k && nat_le k 2 && not ((2 == k) || false)) ≡ (k == 1)
 only_first k = grind (arith, nat_tests)
 
-nothing_else : (n : FullName) → same_stream n.stream zeros ≡ false → is_missing (gap ∷ []) n ≡ false
+nothing_else : (n : FullName) → same_stream n.stream first_stream ≡ false → is_missing (gap ∷ []) n ≡ false
 nothing_else n e = unknown_unmissed (gap ∷ []) n (ap (λ b. greatest ((if b then 2 ∷ [] else []) ++ [])) e)
 
 -- the arms of the gap
 
-gap_armed : (n : FullName) → option_map setting (arm_of n gap.effects.arms) ≡ setting_of 1 [] gap n
-gap_armed = of_all (λ n. option_map setting (arm_of n gap.effects.arms) ≡ setting_of 1 [] gap n)
-    (λ k. rw (missing_none (named zeros k), only_first k) (which (k == 1)))
-    (λ n e. rw (missing_none n, nothing_else n e) (ap (λ b. option_map setting (if b && (n.number == 1) then Some (ask_arm 1 0 200000) else None)) e))
+gap_armed : (n : FullName) → option_map wait_basis (arm_of n gap.effects.arms) ≡ basis_of 1 [] gap n
+gap_armed = of_all (λ n. option_map wait_basis (arm_of n gap.effects.arms) ≡ basis_of 1 [] gap n)
+    (λ k. rw (missing_none (named first_stream k), only_first k) (which (k == 1)))
+    (λ n e. rw (missing_none n, nothing_else n e) (ap (λ b. option_map wait_basis (if b && (n.number == 1) then Some (ask_arm 1 0 200000) else None)) e))
   where
-    which : (b : Bool) → option_map setting (if b then Some (ask_arm 1 0 200000) else None)
+    which : (b : Bool) → option_map wait_basis (if b then Some (ask_arm 1 0 200000) else None)
         ≡ option_map (λ i. record { kind = Ask; exponent = i; distance = 100000 }) (if b then Some 0 else None)
     which true = refl
     which false = refl
@@ -78,14 +78,14 @@ gap_right = record {
 never_held : (k : ℕ) → (k == 1) ≡ true → ((2 == k) || false) ≡ false
 never_held k e = grind (arith, nat_tests)
 
-armed_again : (n : FullName) → option_map setting (arm_of n asks.effects.arms) ≡ setting_of 1 (gap ∷ []) asks n
-armed_again = of_all (λ n. option_map setting (arm_of n asks.effects.arms) ≡ setting_of 1 (gap ∷ []) asks n)
-    (λ k. rw (only_first k) (here ((2 == k) || false) (not (held_off 1 (gap ∷ []) (named zeros k) 1400000)) (k == 1) (never_held k)))
+armed_again : (n : FullName) → option_map wait_basis (arm_of n asks.effects.arms) ≡ basis_of 1 (gap ∷ []) asks n
+armed_again = of_all (λ n. option_map wait_basis (arm_of n asks.effects.arms) ≡ basis_of 1 (gap ∷ []) asks n)
+    (λ k. rw (only_first k) (here ((2 == k) || false) (not (held_off 1 (gap ∷ []) (named first_stream k) 1400000)) (k == 1) (never_held k)))
     (λ n e. rw (nothing_else n e)
-    (ap (λ b. option_map setting (if b && (n.number == 1) then Some (ask_arm 1 1 400000) else None)) e
+    (ap (λ b. option_map wait_basis (if b && (n.number == 1) then Some (ask_arm 1 1 400000) else None)) e
     ∙ there (is_held (gap ∷ []) n) (not (held_off 1 (gap ∷ []) n 1400000))))
   where
-    here : (held free first : Bool) → (first ≡ true → held ≡ false) → option_map setting (if first then Some (ask_arm 1 1 400000) else None)
+    here : (held free first : Bool) → (first ≡ true → held ≡ false) → option_map wait_basis (if first then Some (ask_arm 1 1 400000) else None)
         ≡ (if held then (if held && true && free then None else None)
         else option_map (λ i. record { kind = Ask; exponent = i; distance = 100000 })
         (if first then (if first || false then option_map next_exponent (option_map (λ (a : Arm). record { set = 1000000; arm = a }) (if first then Some (ask_arm 1 0 200000) else None)) else None) else if first then Some 0 else None))
@@ -94,12 +94,12 @@ armed_again = of_all (λ n. option_map setting (arm_of n asks.effects.arms) ≡ 
     here true free true p = absurd (let q : true ≡ false = p refl in cc)
     here true free false p = neither free
 
-    there : (held free : Bool) → ◌≡◌ {A = Option Setting} None (if held then (if held && true && free then None else None) else None)
+    there : (held free : Bool) → ◌≡◌ {A = Option WaitBasis} None (if held then (if held && true && free then None else None) else None)
     there true free = neither free
     there false free = refl
 
-asked_exactly : (n : FullName) → ((same_name n (named zeros 1)) || false) ≡ (ticked asks && ask_due (gap ∷ []) n 1400000)
-asked_exactly = of_all (λ n. ((same_name n (named zeros 1)) || false) ≡ (ticked asks && ask_due (gap ∷ []) n 1400000))
+asked_exactly : (n : FullName) → ((same_name n (named first_stream 1)) || false) ≡ (ticked asks && ask_due (gap ∷ []) n 1400000)
+asked_exactly = of_all (λ n. ((same_name n (named first_stream 1)) || false) ≡ (ticked asks && ask_due (gap ∷ []) n 1400000))
     (λ k. rw (only_first k) (which (k == 1)))
     (λ n e. rw (nothing_else n e) (ap (λ b. (b && (n.number == 1)) || false) e))
   where
@@ -142,5 +142,5 @@ pub run : IsMemberRun one_of_four 1000000 (gap ∷ asks ∷ [])
 run = record { each = (gap_right, (asks_right, tt)); bucket = (goings, refl, (idle_right refl, (record { same = refl; at_ticks = tt }, tt)), law) }
 
 -- the law says that by this tick the name is held or asked for again
-pub answered : (is_held (gap ∷ asks ∷ []) (named zeros 1) ≡ true) ⊎ (is_some (last_of (arm_in Ask (named zeros 1)) (asks ∷ [])) ≡ true)
-answered = (response_law one_of_four 1000000 (gap ∷ asks ∷ []) run).asked [] [] [] gap asks (named zeros 1) (record { set = 1000000; arm = ask_arm 1 0 200000 }) refl refl refl refl (lit≤ tt)
+pub answered : (is_held (gap ∷ asks ∷ []) (named first_stream 1) ≡ true) ⊎ (is_some (last_of (arm_in Ask (named first_stream 1)) (asks ∷ [])) ≡ true)
+answered = (response_law one_of_four 1000000 (gap ∷ asks ∷ []) run).asked [] [] [] gap asks (named first_stream 1) (record { set = 1000000; arm = ask_arm 1 0 200000 }) refl refl refl refl (lit≤ tt)

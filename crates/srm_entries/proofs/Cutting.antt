@@ -8,7 +8,7 @@ use Rattle.srm_bucket.specs.Calls.{Call}
 use Rattle.srm_bucket.specs.Law.{BucketLaw, GoesRight as CallRight}
 use Rattle.srm_entries.specs.Configs.{Config}
 use Rattle.srm_entries.specs.declared.entry.Entry.{Entry}
-use Rattle.srm_entries.specs.Bucket.{Going, GoesRight, BucketRight, calls_by, bucket_calls}
+use Rattle.srm_entries.specs.Bucket.{Going, GoesAsCharged, BucketRight, calls_by, bucket_calls}
 use Rattle.srm_entries.specs.Runs.{EntryRight, IsMemberRun}
 use Rattle.srm_entries.proofs.Adding.{flat_map-append}
 
@@ -24,7 +24,7 @@ bucket_part c xs ys (gs, e, all, law) =
     let (us, vs, p, q, r) = map-split (λ (g : Going). g.entry) gs xs ys e in (
       us,
       q,
-      (at_parts GoesRight us vs (subst (λ w. AllByRecursion GoesRight (steps w)) p all)).0,
+      (at_parts GoesAsCharged us vs (subst (λ w. AllByRecursion GoesAsCharged (steps w)) p all)).0,
       law_part c.rate c.depth (bucket_calls c.me us) (flat_map (calls_by c.me) (steps_after us vs))
           (subst (λ w. BucketLaw c.rate c.depth w) (ap (bucket_calls c.me) p ∙ bucket_calls-append c.me us vs) law),
     )

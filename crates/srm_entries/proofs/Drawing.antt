@@ -15,7 +15,7 @@ use Rattle.srm_names.proofs.Snoc.{along}
 use Rattle.srm_names.proofs.Same.{same_page-is, same_page-itself}
 use Rattle.srm_entries.specs.Configs.{Config}
 use Rattle.srm_entries.specs.declared.entry.Entry.{Entry}
-use Rattle.srm_entries.specs.Entries.{heard, drawn, drawn_on, shown_to_exist, known}
+use Rattle.srm_entries.specs.Entries.{accepted, drawn, drawn_on, evidence_in, known}
 use Rattle.srm_entries.specs.Verdicts.{drawn_in, stream_on}
 use Rattle.srm_entries.specs.Runs.{EntryRight}
 use Rattle.srm_entries.proofs.Adding.{known-snoc}
@@ -72,8 +72,8 @@ one_more c es e drew right = record { own = own; placed = λ page i d h. placed 
     placed page i d true f h = at_end page i d (same_page-is page drew.0 f) (slice_get-snoc (drawn_on page es) x i d (subst (λ w. slice_get w i ≡ Some d) (drawn_on-snoc page es e x true drew.3 f) h))
     placed page i d false f h = right.placed page i d (subst (λ w. slice_get w i ≡ Some d) (drawn_on-snoc page es e x false drew.3 f ∙ append-nil (drawn_on page es)) h)
 
-    there : Has x.name (shown_to_exist (es ++ e ∷ []))
-    there = subst (λ w. Has x.name w) (sym (shown-snoc es e ∙ ap (λ w. shown_to_exist es ++ w) (shown_drawing c es e drew))) (Has-back x.name (shown_to_exist es) (x.name ∷ []) (inl refl))
+    there : Has x.name (evidence_in (es ++ e ∷ []))
+    there = subst (λ w. Has x.name w) (sym (shown-snoc es e ∙ ap (λ w. evidence_in es ++ w) (shown_drawing c es e drew))) (Has-back x.name (evidence_in es) (x.name ∷ []) (inl refl))
 
     shown : (page : Page) (b : Bool) → same_page page drew.0 ≡ b → length (drawn_on page (es ++ e ∷ [])) ≤ known (es ++ e ∷ []) (stream_on c.me page)
     shown page true f =
@@ -90,7 +90,7 @@ one_more c es e drew right = record { own = own; placed = λ page i d h. placed 
 step : (c : Config) (made : ℕ) (es : List Entry) (e : Entry) → DrawsRight c es → EntryRight c made (record { before = es; this = e }) → DrawsRight c (es ++ e ∷ [])
 step c made es e before right = elim (kind c made es e right) [
   | inl drew ↦ one_more c es e drew before
-  | inr k ↦ elim k [ inl heard ↦ same_drawn c es e heard.2 before | inr quiet ↦ same_drawn c es e quiet.1 before ]
+  | inr k ↦ elim k [ inl accepted ↦ same_drawn c es e accepted.2 before | inr quiet ↦ same_drawn c es e quiet.1 before ]
 ]
 
 pub draws_right : (c : Config) (made : ℕ) (es : List Entry) → AllByRecursion (EntryRight c made) (steps es) → DrawsRight c es

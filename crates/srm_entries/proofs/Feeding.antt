@@ -24,7 +24,7 @@ use Rattle.srm_entries.specs.declared.entry.Input.{Input}
 use Rattle.srm_entries.specs.declared.entry.Input.TheVariants.{Drew, Heard, Noise, Ticked, Showed, AskedLeave, Gave, Took}
 use Rattle.srm_store.specs.Held.{has_name, greatest_in}
 use Rattle.srm_entries.specs.Entries.{done, held, held_at, released, slots, pages_in}
-use Rattle.srm_store.specs.Finals.{final_in, row_of}
+use Rattle.srm_store.specs.Finals.{final_in, row_number}
 use Rattle.srm_entries.specs.Verdicts.{told, final, stream_on}
 use Rattle.srm_entries.specs.Giving.{given, given_in, taken, taken_in, next_taken, next_drawop, may_leave, is_some_of, GivesAfter, GiveRight, MessageRight}
 use Rattle.srm_entries.specs.Runs.{EntryRight}
@@ -41,12 +41,12 @@ pub record FedRight (es : List Entry) (page : Option Page) (g : List PageMsg) : 
   pub unopened : opened g ≡ None → (source : ℕ) → (drawops_of source g ≡ []) × (list_any (leaves source) g ≡ false)
 
 -- where there is a final, the source was told
-pub final_told : (es : List Entry) (s : Stream) (n : ℕ) → final es s ≡ Some n → (rows : List FullName) × (told es s.source ≡ Some rows) × (row_of rows s ≡ n)
+pub final_told : (es : List Entry) (s : Stream) (n : ℕ) → final es s ≡ Some n → (rows : List FullName) × (told es s.source ≡ Some rows) × (row_number rows s ≡ n)
 final_told es s n e = which (told es s.source) refl e
   where
-    which : (o : Option (List FullName)) → told es s.source ≡ o → final_in o s ≡ Some n → (rows : List FullName) × (told es s.source ≡ Some rows) × (row_of rows s ≡ n)
+    which : (o : Option (List FullName)) → told es s.source ≡ o → final_in o s ≡ Some n → (rows : List FullName) × (told es s.source ≡ Some rows) × (row_number rows s ≡ n)
     which None q k = absurd (none-some n k)
-    which (Some rows) q k = (rows, q, same_Some (row_of rows s) n k)
+    which (Some rows) q k = (rows, q, same_Some (row_number rows s) n k)
 
 final_stays : (es : List Entry) (e : Entry) (s : Stream) (n : ℕ) → final es s ≡ Some n → final (es ++ e ∷ []) s ≡ Some n
 final_stays es e s n f = let (rows, t, q) = final_told es s n f in ap (λ o. final_in o s) (told_stays es e s.source rows t) ∙ ap Some q
@@ -134,8 +134,8 @@ next_of c es page g d told_right right e next = record {
     never : list_any (leaves d.name.stream.source) g ≡ true → ⊥
     never l =
         let (rows, t, q) = final_told es (stream_on d.name.stream.source page) (length (drawops_of d.name.stream.source g)) (right.left d.name.stream.source page o l) in
-        let b : d.name.number ≤ row_of rows d.name.stream = told_right.bounded d rows name.1 t in
-        let s : row_of rows d.name.stream ≡ row_of rows (stream_on d.name.stream.source page) = ap (λ (n : FullName). row_of rows n.stream) name.0 in
+        let b : d.name.number ≤ row_number rows d.name.stream = told_right.bounded d rows name.1 t in
+        let s : row_number rows d.name.stream ≡ row_number rows (stream_on d.name.stream.source page) = ap (λ (n : FullName). row_number rows n.stream) name.0 in
         let n : d.name.number ≡ 1 + length (drawops_of d.name.stream.source g) = ap (λ (n : FullName). n.number) name.0 in
         omega arith
 

@@ -13,14 +13,14 @@ use Rattle.srm_names.proofs.Same.{same_stream-is}
 use Rattle.srm_entries.specs.Configs.{Config}
 use Rattle.srm_entries.specs.declared.entry.Entry.{Entry}
 use Rattle.srm_store.specs.Held.{number_in}
-use Rattle.srm_entries.specs.Entries.{known, shown_by}
+use Rattle.srm_entries.specs.Entries.{known, evidence_by}
 use Rattle.srm_entries.specs.Runs.{EntryRight}
 use Rattle.srm_entries.proofs.Adding.{known-snoc, shows}
 use Rattle.srm_entries.proofs.Showing.{kind, hearing_fine, known_has, shown_drawing, shown_hearing, shown_quiet}
 
 -- at least what was named
-pub known_at_least : (es : List Entry) (e : Entry) (n : FullName) (s : Stream) → Has e es → Has n (shown_by e) → same_stream s n.stream ≡ true → n.number ≤ known es s
-known_at_least es e n s h k t = subst (λ (x : Stream). n.number ≤ known es x) (sym (same_stream-is s n.stream t)) (known_has es n (flat_map-Has shown_by n e es h k))
+pub known_at_least : (es : List Entry) (e : Entry) (n : FullName) (s : Stream) → Has e es → Has n (evidence_by e) → same_stream s n.stream ≡ true → n.number ≤ known es s
+known_at_least es e n s h k t = subst (λ (x : Stream). n.number ≤ known es x) (sym (same_stream-is s n.stream t)) (known_has es n (flat_map-Has evidence_by n e es h k))
 
 -- nothing outside the roster
 
@@ -28,7 +28,7 @@ abbrev is_outside : ℕ → FullName → Bool
 is_outside members n = nat_le members n.stream.source
 
 outside_shown : (c : Config) (made : ℕ) (before : List Entry) (e : Entry) → nat_le c.members c.me ≡ false → EntryRight c made (record { before = before; this = e })
-    → list_any (is_outside c.members) (shown_by e) ≡ false
+    → list_any (is_outside c.members) (evidence_by e) ≡ false
 outside_shown c made before e m r = elim (kind c made before e r) [
   | inl drew ↦ ap (list_any (is_outside c.members)) (shown_drawing c before e drew) ∙ ap (λ b. b || false) m
   | inr k ↦ elim k [
@@ -55,7 +55,7 @@ pub known_inside : (c : Config) (made : ℕ) (es : List Entry) (s : Stream) → 
     → AllByRecursion (EntryRight c made) (steps es) → known es s ≡ 0
 known_inside c made es s m o all =
     along (EntryRight c made) (λ xs. known xs s ≡ 0)
-    (λ before e p r. known-snoc before e s ∙ both (known before s) (shows e s) p (ap (λ ns. greatest (flat_map (number_in s) ns)) (append-nil (shown_by e)) ∙ none_numbered c.members s (shown_by e) o (outside_shown c made before e m r)))
+    (λ before e p r. known-snoc before e s ∙ both (known before s) (shows e s) p (ap (λ ns. greatest (flat_map (number_in s) ns)) (append-nil (evidence_by e)) ∙ none_numbered c.members s (evidence_by e) o (outside_shown c made before e m r)))
     [] es refl all
   where
     both : (a b : ℕ) → a ≡ 0 → b ≡ 0 → max a b ≡ 0

@@ -13,13 +13,13 @@ use Rattle.srm_codec.specs.Spelling.{length_of}
 use Rattle.srm_bucket.specs.declared.class.Class.{Class}
 use Rattle.srm_bucket.specs.declared.item.Item.{Item}
 use Rattle.srm_bucket.specs.Calls.{Classed, Call, Handed, Popped}
-use Rattle.srm_bucket.specs.Classes.{handed_in, gone_in, handed, gone}
+use Rattle.srm_bucket.specs.Classes.{handed_in, departed_in, handed, departed}
 use Rattle.srm_bucket.specs.Law.{BucketLaw}
 use Rattle.srm_entries.specs.Configs.{Config}
 use Rattle.srm_entries.specs.declared.entry.Entry.{Entry}
 use Rattle.srm_entries.specs.Entries.{shown}
-use Rattle.srm_entries.specs.Bucket.{Going, GoesRight, data_item, answer_item, answers_in, handed_by, entries_of, lets_go, pops, calls_by, bucket_calls}
-use Rattle.srm_entries.specs.Rates.{one_of_class, of_class, handed_so_far, gone_so_far}
+use Rattle.srm_entries.specs.Bucket.{Going, GoesAsCharged, data_item, answer_item, answers_in, handed_by, entries_of, lets_go, pops, calls_by, bucket_calls}
+use Rattle.srm_entries.specs.Rates.{one_of_class, of_class, handed_so_far, departed_so_far}
 use Rattle.srm_entries.proofs.Adding.{flat_map-append, flat_map-snoc}
 use Rattle.srm_entries.proofs.Sending.{went_first, handed_in_entry, popped}
 
@@ -42,7 +42,7 @@ handed_so_far-snoc me before x =
 
 -- by class
 
-gone_handed : (class : Class) (items : List (Classed Datagram)) → flat_map (gone_in class) (map Handed items) ≡ []
+gone_handed : (class : Class) (items : List (Classed Datagram)) → flat_map (departed_in class) (map Handed items) ≡ []
 gone_handed class [] = refl
 gone_handed class (i ∷ items) = gone_handed class items
 
@@ -54,7 +54,7 @@ handed_handed class (i ∷ items) = ap (λ xs. one_of_class class i ++ xs) (hand
 abbrev pub popping : ℕ → List (Classed Datagram) → List (Call Datagram)
 popping now goes = map (λ i. Popped now (Some i)) goes
 
-gone_popping : (class : Class) (now : ℕ) (goes : List (Classed Datagram)) → flat_map (gone_in class) (popping now goes) ≡ of_class class goes
+gone_popping : (class : Class) (now : ℕ) (goes : List (Classed Datagram)) → flat_map (departed_in class) (popping now goes) ≡ of_class class goes
 gone_popping class now [] = refl
 gone_popping class now (i ∷ goes) = ap (λ xs. one_of_class class i ++ xs) (gone_popping class now goes)
 
@@ -62,19 +62,19 @@ handed_popping : (class : Class) (now : ℕ) (goes : List (Classed Datagram)) �
 handed_popping class now [] = refl
 handed_popping class now (i ∷ goes) = handed_popping class now goes
 
-gone_pops : (class : Class) (now : ℕ) (goes : List (Classed Datagram)) → gone class (pops now goes) ≡ of_class class goes
-gone_pops class now goes = flat_map-append (gone_in class) (popping now goes) (Popped now None ∷ []) ∙ append-nil (flat_map (gone_in class) (popping now goes)) ∙ gone_popping class now goes
+gone_pops : (class : Class) (now : ℕ) (goes : List (Classed Datagram)) → departed class (pops now goes) ≡ of_class class goes
+gone_pops class now goes = flat_map-append (departed_in class) (popping now goes) (Popped now None ∷ []) ∙ append-nil (flat_map (departed_in class) (popping now goes)) ∙ gone_popping class now goes
 
 handed_pops : (class : Class) (now : ℕ) (goes : List (Classed Datagram)) → handed class (pops now goes) ≡ []
 handed_pops class now goes = flat_map-append (handed_in class) (popping now goes) (Popped now None ∷ []) ∙ append-nil (flat_map (handed_in class) (popping now goes)) ∙ handed_popping class now goes
 
-calls_gone : (me : ℕ) (class : Class) (before : List Going) (x : Going) → GoesRight (record { before = before; this = x }) → gone class (calls_by me (record { before = before; this = x })) ≡ of_class class x.goes
+calls_gone : (me : ℕ) (class : Class) (before : List Going) (x : Going) → GoesAsCharged (record { before = before; this = x }) → departed class (calls_by me (record { before = before; this = x })) ≡ of_class class x.goes
 calls_gone me class before x right =
-    flat_map-append (gone_in class) (map Handed (hands me before x)) (if lets_go (record { before = before; this = x }) then pops x.entry.moment x.goes else [])
-    ∙ ap (λ xs. xs ++ gone class (if lets_go (record { before = before; this = x }) then pops x.entry.moment x.goes else [])) (gone_handed class (hands me before x))
+    flat_map-append (departed_in class) (map Handed (hands me before x)) (if lets_go (record { before = before; this = x }) then pops x.entry.moment x.goes else [])
+    ∙ ap (λ xs. xs ++ departed class (if lets_go (record { before = before; this = x }) then pops x.entry.moment x.goes else [])) (gone_handed class (hands me before x))
     ∙ which (lets_go (record { before = before; this = x })) refl
   where
-    which : (b : Bool) → lets_go (record { before = before; this = x }) ≡ b → gone class (if b then pops x.entry.moment x.goes else []) ≡ of_class class x.goes
+    which : (b : Bool) → lets_go (record { before = before; this = x }) ≡ b → departed class (if b then pops x.entry.moment x.goes else []) ≡ of_class class x.goes
     which true q = gone_pops class x.entry.moment x.goes
     which false q = sym (ap (of_class class) (OnTrue_at (ap not q) right.at_ticks))
 
@@ -88,19 +88,19 @@ calls_handed me class before x =
     which true = handed_pops class x.entry.moment x.goes
     which false = refl
 
-pub gone_is : (me : ℕ) (class : Class) (gs : List Going) → AllByRecursion GoesRight (steps gs) → gone class (bucket_calls me gs) ≡ of_class class (gone_so_far gs)
+pub gone_is : (me : ℕ) (class : Class) (gs : List Going) → AllByRecursion GoesAsCharged (steps gs) → departed class (bucket_calls me gs) ≡ of_class class (departed_so_far gs)
 gone_is me class gs all =
-    along GoesRight (λ hs. gone class (bucket_calls me hs) ≡ of_class class (gone_so_far hs))
+    along GoesAsCharged (λ hs. departed class (bucket_calls me hs) ≡ of_class class (departed_so_far hs))
     (λ before x p right.
-    ap (gone class) (bucket_calls-snoc me before x)
-    ∙ flat_map-append (gone_in class) (bucket_calls me before) (calls_by me (record { before = before; this = x }))
+    ap (departed class) (bucket_calls-snoc me before x)
+    ∙ flat_map-append (departed_in class) (bucket_calls me before) (calls_by me (record { before = before; this = x }))
     ∙ rw (p, calls_gone me class before x right)
-    (sym (ap (of_class class) (flat_map-snoc (λ (g : Going). g.goes) before x) ∙ flat_map-append (one_of_class class) (gone_so_far before) x.goes)))
+    (sym (ap (of_class class) (flat_map-snoc (λ (g : Going). g.goes) before x) ∙ flat_map-append (one_of_class class) (departed_so_far before) x.goes)))
     [] gs refl all
 
-pub handed_is : (me : ℕ) (class : Class) (gs : List Going) → AllByRecursion GoesRight (steps gs) → handed class (bucket_calls me gs) ≡ of_class class (handed_so_far me (entries_of gs))
+pub handed_is : (me : ℕ) (class : Class) (gs : List Going) → AllByRecursion GoesAsCharged (steps gs) → handed class (bucket_calls me gs) ≡ of_class class (handed_so_far me (entries_of gs))
 handed_is me class gs all =
-    along GoesRight (λ hs. handed class (bucket_calls me hs) ≡ of_class class (handed_so_far me (entries_of hs)))
+    along GoesAsCharged (λ hs. handed class (bucket_calls me hs) ≡ of_class class (handed_so_far me (entries_of hs)))
     (λ before x p right.
     ap (handed class) (bucket_calls-snoc me before x)
     ∙ flat_map-append (handed_in class) (bucket_calls me before) (calls_by me (record { before = before; this = x }))
@@ -112,17 +112,17 @@ handed_is me class gs all =
 abbrev pub calls_until : ℕ → List Going → Going → List (Classed Datagram) → List (Call Datagram)
 calls_until me before x first = bucket_calls me before ++ (map Handed (hands me before x) ++ popping x.entry.moment first)
 
-pub gone_until : (me : ℕ) (class : Class) (before : List Going) (x : Going) (first : List (Classed Datagram)) → AllByRecursion GoesRight (steps before)
-    → gone class (calls_until me before x first) ≡ of_class class (gone_so_far before ++ first)
+pub gone_until : (me : ℕ) (class : Class) (before : List Going) (x : Going) (first : List (Classed Datagram)) → AllByRecursion GoesAsCharged (steps before)
+    → departed class (calls_until me before x first) ≡ of_class class (departed_so_far before ++ first)
 gone_until me class before x first all =
-    flat_map-append (gone_in class) (bucket_calls me before) (map Handed (hands me before x) ++ popping x.entry.moment first)
-    ∙ ap (λ xs. gone class (bucket_calls me before) ++ xs)
-    (flat_map-append (gone_in class) (map Handed (hands me before x)) (popping x.entry.moment first)
-    ∙ ap (λ xs. xs ++ flat_map (gone_in class) (popping x.entry.moment first)) (gone_handed class (hands me before x)) ∙ gone_popping class x.entry.moment first)
+    flat_map-append (departed_in class) (bucket_calls me before) (map Handed (hands me before x) ++ popping x.entry.moment first)
+    ∙ ap (λ xs. departed class (bucket_calls me before) ++ xs)
+    (flat_map-append (departed_in class) (map Handed (hands me before x)) (popping x.entry.moment first)
+    ∙ ap (λ xs. xs ++ flat_map (departed_in class) (popping x.entry.moment first)) (gone_handed class (hands me before x)) ∙ gone_popping class x.entry.moment first)
     ∙ ap (λ xs. xs ++ of_class class first) (gone_is me class before all)
-    ∙ sym (flat_map-append (one_of_class class) (gone_so_far before) first)
+    ∙ sym (flat_map-append (one_of_class class) (departed_so_far before) first)
 
-pub handed_until : (me : ℕ) (class : Class) (before : List Going) (x : Going) (first : List (Classed Datagram)) → AllByRecursion GoesRight (steps before)
+pub handed_until : (me : ℕ) (class : Class) (before : List Going) (x : Going) (first : List (Classed Datagram)) → AllByRecursion GoesAsCharged (steps before)
     → handed class (calls_until me before x first) ≡ of_class class (handed_so_far me (entries_of (before ++ x ∷ [])))
 handed_until me class before x first all =
     flat_map-append (handed_in class) (bucket_calls me before) (map Handed (hands me before x) ++ popping x.entry.moment first)
@@ -149,11 +149,11 @@ handed_length me s j h = elim (Has-append j (data_item s.this.effects.drawn) (ma
     of_data (Some d) (inl e) = subst HasItsLength (sym e) refl
     of_data (Some d) (inr h) = absurd h
 
-pub went_length : (c : Config) (gs : List Going) → AllByRecursion GoesRight (steps gs) → BucketLaw c.rate c.depth (bucket_calls c.me gs)
-    → (i : Classed Datagram) → Has i (gone_so_far gs) → i.item.length ≡ length_of i.item.value
+pub went_length : (c : Config) (gs : List Going) → AllByRecursion GoesAsCharged (steps gs) → BucketLaw c.rate c.depth (bucket_calls c.me gs)
+    → (i : Classed Datagram) → Has i (departed_so_far gs) → i.item.length ≡ length_of i.item.value
 went_length c gs all law i h =
     let (rest, e) = went_first c.rate c.depth (bucket_calls c.me gs) law i.class in
-    let inside : Has i.item (handed i.class (bucket_calls c.me gs)) = subst (λ w. Has i.item w) e (Has-front i.item (gone i.class (bucket_calls c.me gs)) rest (popped gs i c.me all h)) in
+    let inside : Has i.item (handed i.class (bucket_calls c.me gs)) = subst (λ w. Has i.item w) e (Has-front i.item (departed i.class (bucket_calls c.me gs)) rest (popped gs i c.me all h)) in
     let (j, k, q) = handed_in_entry c.me gs i.class i.item inside in
     let (s, there, m) = Has-flat_map (handed_by c.me) j (steps (entries_of gs)) k in
     subst (λ (x : Item Datagram). x.length ≡ length_of x.value) q (handed_length c.me s j m)

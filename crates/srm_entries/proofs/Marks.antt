@@ -11,11 +11,11 @@ use Rattle.srm_bucket.specs.declared.class.Class.{Class}
 use Rattle.srm_bucket.specs.declared.class.Class.TheVariants.{Shown, New, Other}
 use Rattle.srm_bucket.specs.declared.item.Item.{Item}
 use Rattle.srm_bucket.specs.Calls.{Classed, Call, Handed, Popped}
-use Rattle.srm_bucket.specs.Classes.{rank, in_class, handed_in, gone_in, handed, gone, left, first_of_highest, next_of}
+use Rattle.srm_bucket.specs.Classes.{rank, in_class, handed_in, departed_in, handed, departed, queued, first_of_highest, next_queued}
 use Rattle.srm_bucket.specs.Law.{BucketLaw, GoesRight as CallRight}
 use Rattle.srm_entries.specs.Configs.{Config}
 use Rattle.srm_entries.specs.declared.entry.Entry.{Entry}
-use Rattle.srm_entries.specs.Bucket.{Going, GoesRight, handed_by, entries_of, datagrams_of, lets_go, pops, calls_by, bucket_calls}
+use Rattle.srm_entries.specs.Bucket.{Going, GoesAsCharged, handed_by, entries_of, datagrams_of, lets_go, pops, calls_by, bucket_calls}
 use Rattle.srm_entries.proofs.Adding.{flat_map-snoc}
 use Rattle.srm_entries.proofs.Charging.{law_at}
 use Rattle.srm_entries.proofs.Cutting.{bucket_calls-append}
@@ -40,20 +40,20 @@ in_its_own i New e = rw e refl
 in_its_own i Other e = rw e refl
 
 module _ (rate depth now : ℕ) (before : List (Call Datagram)) (i : Classed Datagram) (right : CallRight rate depth before (before ++ Popped now (Some i) ∷ []) (Popped now (Some i))) where
-  left_here : (k : Class) → i.class ≡ k → (rest : List (Item Datagram)) × (left before k ≡ i.item ∷ rest)
+  left_here : (k : Class) → i.class ≡ k → (rest : List (Item Datagram)) × (queued before k ≡ i.item ∷ rest)
   left_here k e =
       let (rest, whole) = right.in_order k in
-      let went : gone k (before ++ Popped now (Some i) ∷ []) ≡ gone k before ++ i.item ∷ [] = flat_map-snoc (gone_in k) before (Popped now (Some i)) ∙ ap (λ xs. gone k before ++ xs) (in_its_own i k e) in
+      let went : departed k (before ++ Popped now (Some i) ∷ []) ≡ departed k before ++ i.item ∷ [] = flat_map-snoc (departed_in k) before (Popped now (Some i)) ∙ ap (λ xs. departed k before ++ xs) (in_its_own i k e) in
       let came : handed k (before ++ Popped now (Some i) ∷ []) ≡ handed k before = flat_map-snoc (handed_in k) before (Popped now (Some i)) ∙ append-nil (handed k before) in
-      let all : handed k before ≡ gone k before ++ (i.item ∷ rest) = sym came ∙ sym whole ∙ ap (λ xs. xs ++ rest) went ∙ append_assoc (gone k before) (i.item ∷ []) rest in
-      (rest, ap (drop (length (gone k before))) all ∙ drop_front (gone k before) (i.item ∷ rest))
+      let all : handed k before ≡ departed k before ++ (i.item ∷ rest) = sym came ∙ sym whole ∙ ap (λ xs. xs ++ rest) went ∙ append_assoc (departed k before) (i.item ∷ []) rest in
+      (rest, ap (drop (length (departed k before))) all ∙ drop_front (departed k before) (i.item ∷ rest))
 
-  none_higher : (k : Class) → rank k < rank i.class → left before k ≡ []
+  none_higher : (k : Class) → rank k < rank i.class → queued before k ≡ []
   none_higher k higher =
       let same = right.highest_first k higher in
-      ap (drop (length (gone k before))) (sym same ∙ sym (append-nil (gone k before))) ∙ drop_front (gone k before) []
+      ap (drop (length (departed k before))) (sym same ∙ sym (append-nil (departed k before))) ∙ drop_front (departed k before) []
 
-  pub pop_is_next : next_of before ≡ Some i
+  pub pop_is_next : next_queued before ≡ Some i
   pop_is_next = go i.class refl
     where
       below : (j k : Class) → i.class ≡ k → rank j < rank k → rank j < rank i.class
@@ -62,10 +62,10 @@ module _ (rate depth now : ℕ) (before : List (Call Datagram)) (i : Classed Dat
       classed_so : (k : Class) → i.class ≡ k → ◌≡◌ {A = Option (Classed Datagram)} (Some (record { class = k; item = i.item })) (Some i)
       classed_so k e = ap (λ c. let x : Classed Datagram = record { class = c; item = i.item } in Some x) (sym e)
 
-      go : (k : Class) → i.class ≡ k → next_of before ≡ Some i
-      go Shown e = let (rest, is) = left_here Shown e in shown_first (left before) i.item rest is ∙ classed_so Shown e
-      go New e = let (rest, is) = left_here New e in new_first (left before) i.item rest (none_higher Shown (below Shown New e (omega arith))) is ∙ classed_so New e
-      go Other e = let (rest, is) = left_here Other e in other_first (left before) i.item rest (none_higher Shown (below Shown Other e (omega arith))) (none_higher New (below New Other e (omega arith))) is ∙ classed_so Other e
+      go : (k : Class) → i.class ≡ k → next_queued before ≡ Some i
+      go Shown e = let (rest, is) = left_here Shown e in shown_first (queued before) i.item rest is ∙ classed_so Shown e
+      go New e = let (rest, is) = left_here New e in new_first (queued before) i.item rest (none_higher Shown (below Shown New e (omega arith))) is ∙ classed_so New e
+      go Other e = let (rest, is) = left_here Other e in other_first (queued before) i.item rest (none_higher Shown (below Shown Other e (omega arith))) (none_higher New (below New Other e (omega arith))) is ∙ classed_so Other e
 
 -- as many pops after the same calls let the same go
 same_goes : (rate depth now : ℕ) (before : List (Call Datagram)) (xs ys : List (Classed Datagram)) (more others : List (Call Datagram)) → length xs ≡ length ys
@@ -89,7 +89,7 @@ length-datagrams (x ∷ xs) = ap suc (length-datagrams xs)
 
 -- one entry
 module _ (c : Config) (before : List Going) (e : Entry) (xs ys : List (Classed Datagram)) (more others : List (Call Datagram))
-    (right : GoesRight (record { before = before; this = record { entry = e; goes = xs } })) (also : GoesRight (record { before = before; this = record { entry = e; goes = ys } }))
+    (right : GoesAsCharged (record { before = before; this = record { entry = e; goes = xs } })) (also : GoesAsCharged (record { before = before; this = record { entry = e; goes = ys } }))
     (law : BucketLaw c.rate c.depth (bucket_calls c.me before ++ (calls_by c.me (record { before = before; this = record { entry = e; goes = xs } }) ++ more)))
     (other : BucketLaw c.rate c.depth (bucket_calls c.me before ++ (calls_by c.me (record { before = before; this = record { entry = e; goes = ys } }) ++ others))) where
   in_tick : (zs : List (Classed Datagram)) (rest : List (Call Datagram)) (b : Bool) → lets_go (record { before = before; this = record { entry = e; goes = zs } }) ≡ b → b ≡ true
@@ -111,7 +111,7 @@ module _ (c : Config) (before : List Going) (e : Entry) (xs ys : List (Classed D
       go false q = OnTrue_at (ap not q) right.at_ticks ∙ sym (OnTrue_at (ap not q) also.at_ticks)
 
 -- two ways to mark the same entries are one
-marks_after : (c : Config) (before gs hs : List Going) → entries_of gs ≡ entries_of hs → AllByRecursion GoesRight (steps_after before gs) → AllByRecursion GoesRight (steps_after before hs)
+marks_after : (c : Config) (before gs hs : List Going) → entries_of gs ≡ entries_of hs → AllByRecursion GoesAsCharged (steps_after before gs) → AllByRecursion GoesAsCharged (steps_after before hs)
     → BucketLaw c.rate c.depth (bucket_calls c.me (before ++ gs)) → BucketLaw c.rate c.depth (bucket_calls c.me (before ++ hs)) → gs ≡ hs
 marks_after c before [] [] same all also law other = refl
 marks_after c before [] (y ∷ hs) same all also law other = absurd (cc)
@@ -121,16 +121,16 @@ marks_after c before (x ∷ gs) (y ∷ hs) same all also law other =
     let tails : entries_of gs ≡ entries_of hs = cc in
     let y_is : y ≡ record { entry = x.entry; goes = y.goes } = ap (λ e. let z : Going = record { entry = e; goes = y.goes } in z) entry in
     let goes : x.goes ≡ y.goes = same_marks_here c before x.entry x.goes y.goes (flat_map (calls_by c.me) (steps_after (before ++ x ∷ []) gs)) (flat_map (calls_by c.me) (steps_after (before ++ y ∷ []) hs))
-    all.0 (subst (λ z. GoesRight (record { before = before; this = z })) y_is also.0)
+    all.0 (subst (λ z. GoesAsCharged (record { before = before; this = z })) y_is also.0)
     (subst (BucketLaw c.rate c.depth) (bucket_calls-append c.me before (x ∷ gs)) law)
     (subst (λ z. BucketLaw c.rate c.depth (bucket_calls c.me before ++ (calls_by c.me (record { before = before; this = z }) ++ flat_map (calls_by c.me) (steps_after (before ++ y ∷ []) hs)))) y_is
     (subst (BucketLaw c.rate c.depth) (bucket_calls-append c.me before (y ∷ hs)) other)) in
     let head : x ≡ y = ap (λ g. let z : Going = record { entry = x.entry; goes = g } in z) goes ∙ sym y_is in
-    let rest = marks_after c (before ++ x ∷ []) gs hs tails all.1 (subst (λ z. AllByRecursion GoesRight (steps_after (before ++ z ∷ []) hs)) (sym head) also.1)
+    let rest = marks_after c (before ++ x ∷ []) gs hs tails all.1 (subst (λ z. AllByRecursion GoesAsCharged (steps_after (before ++ z ∷ []) hs)) (sym head) also.1)
     (subst (λ zs. BucketLaw c.rate c.depth (bucket_calls c.me zs)) (sym (append_assoc before (x ∷ []) gs)) law)
     (subst (λ z. BucketLaw c.rate c.depth (bucket_calls c.me ((before ++ z ∷ []) ++ hs))) (sym head) (subst (λ zs. BucketLaw c.rate c.depth (bucket_calls c.me zs)) (sym (append_assoc before (y ∷ []) hs)) other)) in
     ap (λ z. z ∷ gs) head ∙ ap (λ zs. y ∷ zs) rest
 
-pub marks_same : (c : Config) (gs hs : List Going) → entries_of gs ≡ entries_of hs → AllByRecursion GoesRight (steps gs) → AllByRecursion GoesRight (steps hs)
+pub marks_same : (c : Config) (gs hs : List Going) → entries_of gs ≡ entries_of hs → AllByRecursion GoesAsCharged (steps gs) → AllByRecursion GoesAsCharged (steps hs)
     → BucketLaw c.rate c.depth (bucket_calls c.me gs) → BucketLaw c.rate c.depth (bucket_calls c.me hs) → gs ≡ hs
 marks_same c gs hs same all also law other = marks_after c [] gs hs same all also law other

@@ -22,10 +22,10 @@ use Rattle.srm_entries.specs.declared.state.AgentState.TheVariants.{Gone}
 use Rattle.srm_entries.specs.declared.entry.Input.{Input}
 use Rattle.srm_entries.specs.declared.entry.Input.TheVariants.{Drew, Heard, Noise, Ticked, Showed, AskedLeave, Gave, Took}
 use Rattle.srm_entries.specs.Entries.{done, ticked, is_tick, state, is_gone, is_leaving, sent, drawn, drawn_on, known}
-use Rattle.srm_store.specs.Finals.{row_of, number_of}
+use Rattle.srm_store.specs.Finals.{row_number, number_or_zero}
 use Rattle.srm_entries.specs.Verdicts.{stream_on}
-use Rattle.srm_entries.specs.Sessions.{is_session, is_farewell, charged, all_data_sent, session_due, ending, EndsWith, IsReport, row_at, if_positive}
-use Rattle.srm_entries.specs.Runs.{EntryRight, state_due}
+use Rattle.srm_entries.specs.Sessions.{is_session, is_farewell, charged, all_data_sent, session_due, ending, EndsWith, IsReport, number_in_rows, if_positive}
+use Rattle.srm_entries.specs.Runs.{EntryRight, expected_state}
 use Rattle.srm_entries.proofs.Showing.{IsDrawing, kind, drawing_not_gone, leaving_not_gone, state-snoc, drawn-snoc, done_is}
 use Rattle.srm_entries.proofs.Drawing.{draws_right}
 
@@ -81,7 +81,7 @@ not_drawing c made before e right never = elim (kind c made before e right) [ in
 pub tick_draws_nothing : (c : Config) (made : ℕ) (before : List Entry) (e : Entry) → EntryRight c made (record { before = before; this = e }) → ticked e ≡ true → e.effects.drawn ≡ None
 tick_draws_nothing c made before e right t = not_drawing c made before e right (λ drew. both_ways (ticked e) (ap is_tick (done_is e.verdict e.input (Drew drew.0 drew.1) drew.2).1) t)
 
-stays_gone : (b : Bool) (o : Option Input) → (o ≡ Some AskedLeave → ⊥) → state_due Gone b o ≡ Gone
+stays_gone : (b : Bool) (o : Option Input) → (o ≡ Some AskedLeave → ⊥) → expected_state Gone b o ≡ Gone
 stays_gone true o never = refl
 stays_gone false None never = refl
 stays_gone false (Some (Drew page body)) never = refl
@@ -101,15 +101,15 @@ gone_draws_nothing c made xs ys gone all =
     step : (zs : List Entry) (e : Entry) → (state zs ≡ Gone) × (drawn zs ≡ drawn xs) → EntryRight c made (record { before = zs; this = e }) → (state (zs ++ e ∷ []) ≡ Gone) × (drawn (zs ++ e ∷ []) ≡ drawn xs)
     step zs e (g, same) right =
         let none : e.effects.drawn ≡ None = not_drawing c made zs e right (λ drew. both_ways (is_gone (state zs)) (drawing_not_gone c made zs e drew.0 drew.1 right drew.2) (ap is_gone g)) in (
-          state-snoc zs e ∙ right.state ∙ ap (λ s. state_due s (list_any is_farewell e.effects.outs) (done e)) g
+          state-snoc zs e ∙ right.state ∙ ap (λ s. expected_state s (list_any is_farewell e.effects.outs) (done e)) g
               ∙ stays_gone (list_any is_farewell e.effects.outs) (done e) (λ d. both_ways (is_gone (state zs)) (leaving_not_gone c made zs e right d) (ap is_gone g)),
           drawn-snoc zs e ∙ ap (λ o. drawn zs ++ option_to_list o) none ∙ append-nil (drawn zs) ∙ same,
         )
 
-positive_row : (n : ℕ) (rows : List FullName) (s : Stream) → row_at rows s ≡ if_positive n → row_of rows s ≡ n
+positive_row : (n : ℕ) (rows : List FullName) (s : Stream) → number_in_rows rows s ≡ if_positive n → row_number rows s ≡ n
 positive_row n rows s e = found (find (λ (row : FullName). same_stream s row.stream) rows) (nat_lt 0 n) refl e
   where
-    found : (o : Option FullName) (b : Bool) → nat_lt 0 n ≡ b → option_map (λ (m : FullName). m.number) o ≡ (if b then Some n else None) → number_of o ≡ n
+    found : (o : Option FullName) (b : Bool) → nat_lt 0 n ≡ b → option_map (λ (m : FullName). m.number) o ≡ (if b then Some n else None) → number_or_zero o ≡ n
     found None true q k = absurd (none-some n k)
     found None false q k = let l : n ≤ 0 = ltb-false 0 n q in omega arith
     found (Some m) true q k = same_Some m.number n k
@@ -117,16 +117,16 @@ positive_row n rows s e = found (find (λ (row : FullName). same_stream s row.st
 
 -- a farewell says how much its sender drew, and ever will have drawn
 pub farewell_sent : (c : Config) (made : ℕ) (es : List Entry) (sender at : ℕ) (shown : Page) (rows : List FullName) (echoes : List Echo) → AllByRecursion (EntryRight c made) (steps es)
-    → Has (Session sender at true shown rows echoes) (sent es) → (page : Page) → length (drawn_on page es) ≤ row_of rows (stream_on c.me page)
+    → Has (Session sender at true shown rows echoes) (sent es) → (page : Page) → length (drawn_on page es) ≤ row_number rows (stream_on c.me page)
 farewell_sent c made es sender at shown rows echoes all h page =
     let s = session_sent c made es (Session sender at true shown rows echoes) all refl h in
     let gone : state (s.before ++ s.this ∷ []) ≡ Gone = state-snoc s.before s.this ∙ s.right.state
-    ∙ ap (λ b. state_due (state s.before) b (done s.this)) (list_any-Has is_farewell (Session sender at true shown rows echoes) s.this.effects.outs s.out refl) in
+    ∙ ap (λ b. expected_state (state s.before) b (done s.this)) (list_any-Has is_farewell (Session sender at true shown rows echoes) s.this.effects.outs s.out refl) in
     let none : s.this.effects.drawn ≡ None = tick_draws_nothing c made s.before s.this s.right (ending_ticks c made s.before s.this s.farewell s.due) in
     let same : drawn es ≡ drawn s.before =
     ap drawn (s.split ∙ sym (append_assoc s.before (s.this ∷ []) s.after)) ∙ gone_draws_nothing c made (s.before ++ s.this ∷ []) s.after gone s.later
     ∙ drawn-snoc s.before s.this ∙ ap (λ o. drawn s.before ++ option_to_list o) none ∙ append-nil (drawn s.before) in
-    let row : row_of rows (stream_on c.me page) ≡ known s.before (stream_on c.me page) = positive_row (known s.before (stream_on c.me page)) rows (stream_on c.me page)
+    let row : row_number rows (stream_on c.me page) ≡ known s.before (stream_on c.me page) = positive_row (known s.before (stream_on c.me page)) rows (stream_on c.me page)
     (s.report.5.exact (stream_on c.me page) ∙ ap (λ b. if b then if_positive (known s.before (stream_on c.me page)) else None) (eq-eqb c.me c.me refl)) in
     let l : length (drawn_on page s.before) ≤ known s.before (stream_on c.me page) = (draws_right c made s.before s.earlier).shown page in
     let m : length (drawn_on page es) ≡ length (drawn_on page s.before) = ap (λ w. length (filter (λ (d : Drawop). same_page page d.name.stream.page) w)) same in

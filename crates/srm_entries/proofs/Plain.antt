@@ -18,7 +18,7 @@ use Rattle.srm_bucket.specs.declared.class.Class.{Class}
 use Rattle.srm_bucket.specs.declared.class.Class.TheVariants.{Shown, New, Other}
 use Rattle.srm_bucket.specs.declared.item.Item.{Item}
 use Rattle.srm_bucket.specs.Calls.{Classed, Call, Handed, Popped}
-use Rattle.srm_bucket.specs.Classes.{rank, handed, gone, next_of}
+use Rattle.srm_bucket.specs.Classes.{rank, handed, departed, next_queued}
 use Rattle.srm_bucket.specs.Ticks.{last_moment, ticks, cost, IsWithin}
 use Rattle.srm_bucket.specs.Law.{BucketLaw, level_at, GoesRight as CallRight}
 use Rattle.srm_entries.specs.Configs.{Config}
@@ -27,14 +27,14 @@ use Rattle.srm_entries.specs.declared.state.AgentState.{AgentState}
 use Rattle.srm_entries.specs.declared.entry.Input.{Input}
 use Rattle.srm_entries.specs.declared.entry.Verdict.TheVariants.{Done}
 use Rattle.srm_entries.specs.Entries.{heard_in, state, is_gone, is_missing, is_held, known, ticked}
-use Rattle.srm_entries.specs.Timers.{asker, fix_running, held_off, ask_setting, fix_setting, setting_of, last_ask}
+use Rattle.srm_entries.specs.Timers.{asker, fix_running, held_off, ask_basis_of, fix_basis_of, basis_of, last_ask}
 use Rattle.srm_timers.specs.Arms.{ran_out}
 use Rattle.srm_entries.specs.Verdicts.{VerdictRight}
 use Rattle.srm_entries.specs.Sessions.{SessionRight, charged, is_farewell}
-use Rattle.srm_entries.specs.Bucket.{Going, GoesRight, lets_go}
+use Rattle.srm_entries.specs.Bucket.{Going, GoesAsCharged, lets_go}
 use Rattle.srm_entries.specs.Giving.{MessageRight}
-use Rattle.srm_entries.specs.Runs.{EntryRight, MomentRight, drawop_due, state_due}
-use Rattle.srm_entries.specs.Sample.{in_roster, zeros, drawop_of, quiet, entry, idle}
+use Rattle.srm_entries.specs.Runs.{EntryRight, MomentRight, expected_drawop, expected_state}
+use Rattle.srm_entries.specs.Sample.{in_roster, first_stream, drawop_of, quiet, entry, idle}
 
 -- the one drawop of the examples
 abbrev pub one : Drawop
@@ -48,7 +48,7 @@ config me = in_roster me 2 4204
 abbrev pub plain : ℕ → ℕ → Input → Option Drawop → List Datagram → Option PageMsg → AgentState → Entry
 plain m now input drawn outs message after = entry m now input (record (quiet after) { drawn = drawn; outs = outs; message = message })
 
-pub idle_right : {before : List Going} {e : Entry} → charged e ≡ [] → GoesRight (record { before = before; this = idle e })
+pub idle_right : {before : List Going} {e : Entry} → charged e ≡ [] → GoesAsCharged (record { before = before; this = idle e })
 idle_right {before} {e} q = record { same = sym q; at_ticks = whenever (not (lets_go (record { before = before; this = idle e }))) }
   where
     whenever : (b : Bool) → OnTrue b (◌≡◌ {A = List (Classed Datagram)} [] [])
@@ -63,7 +63,7 @@ handed_one k item = Handed (record { class = k; item = item }) ∷ []
 abbrev pub went_one : ℕ → Class → Item Datagram → List (Call Datagram)
 went_one now k item = handed_one k item ++ Popped now (Some (record { class = k; item = item })) ∷ []
 
-pub all_gone : (now : ℕ) (k : Class) (item : Item Datagram) (class : Class) → IsPrefix (gone class (went_one now k item)) (handed class (went_one now k item))
+pub all_gone : (now : ℕ) (k : Class) (item : Item Datagram) (class : Class) → IsPrefix (departed class (went_one now k item)) (handed class (went_one now k item))
 all_gone now Shown item Shown = ([], refl)
 all_gone now Shown item New = ([], refl)
 all_gone now Shown item Other = ([], refl)
@@ -74,7 +74,7 @@ all_gone now Other item Shown = ([], refl)
 all_gone now Other item New = ([], refl)
 all_gone now Other item Other = ([], refl)
 
-none_higher : (k : Class) (item : Item Datagram) (class : Class) → rank class < rank k → gone class (handed_one k item) ≡ handed class (handed_one k item)
+none_higher : (k : Class) (item : Item Datagram) (class : Class) → rank class < rank k → departed class (handed_one k item) ≡ handed class (handed_one k item)
 none_higher Shown item Shown l = absurd (omega arith)
 none_higher Shown item New l = absurd (omega arith)
 none_higher Shown item Other l = absurd (omega arith)
@@ -85,7 +85,7 @@ none_higher Other item Shown l = refl
 none_higher Other item New l = refl
 none_higher Other item Other l = absurd (omega arith)
 
-none_next : (now : ℕ) (k : Class) (item : Item Datagram) → next_of (went_one now k item ++ Popped now None ∷ []) ≡ None
+none_next : (now : ℕ) (k : Class) (item : Item Datagram) → next_queued (went_one now k item ++ Popped now None ∷ []) ≡ None
 none_next now Shown item = refl
 none_next now New item = refl
 none_next now Other item = refl
@@ -111,7 +111,7 @@ one_goes rate depth now k item within within_then = (hands, (goes, (ends, tt)))
 pub one_spelled : IsSpellable (Data one)
 one_spelled = ((lit< tt, (lit< tt, lit< tt), lit≤ tt, lit≤ tt), lit≤ tt, lit≤ tt)
 
-pub row_spelled : is_name (named zeros 1)
+pub row_spelled : is_name (named first_stream 1)
 row_spelled = (lit< tt, (lit< tt, lit< tt), lit≤ tt, lit≤ tt)
 
 -- Where nothing is missing, nobody asks and no repair runs, no timer is set or runs out.
@@ -126,20 +126,20 @@ pub neither : {X : Type 0} (b : Bool) → ◌≡◌ {A = Option X} None (if b th
 neither true = refl
 neither false = refl
 
-pub no_setting : (me : ℕ) (before : List Entry) (e : Entry) (n : FullName) → asker n e ≡ None → is_missing before n ≡ false → is_missing (before ++ e ∷ []) n ≡ false → None ≡ setting_of me before e n
+pub no_setting : (me : ℕ) (before : List Entry) (e : Entry) (n : FullName) → asker n e ≡ None → is_missing before n ≡ false → is_missing (before ++ e ∷ []) n ≡ false → None ≡ basis_of me before e n
 no_setting me before e n ask here next = which (is_held before n)
   where
-    which : (b : Bool) → None ≡ (if b then fix_setting me before e n else ask_setting me before e n)
+    which : (b : Bool) → None ≡ (if b then fix_basis_of me before e n else ask_basis_of me before e n)
     which true = rw ask (neither (is_held before n && not (is_some (fix_running before n)) && not (held_off me before n e.moment)))
     which false = rw (here, next) refl
 
 pub right : (c : Config) (made : ℕ) (before : List Entry) (m now : ℕ) (input : Input) (drawn : Option Drawop) (outs : List Datagram) (message : Option PageMsg) (after : AgentState)
     → ((n : FullName) → is_missing before n ≡ false) → ((n : FullName) → is_missing (before ++ plain m now input drawn outs message after ∷ []) n ≡ false)
     → ((n : FullName) → asker n (plain m now input drawn outs message after) ≡ None) → ((n : FullName) → fix_running before n ≡ None)
-    → m ≡ c.me → MomentRight c made before (plain m now input drawn outs message after) → VerdictRight c before input Done → drawn ≡ drawop_due c before now (Some input)
+    → m ≡ c.me → MomentRight c made before (plain m now input drawn outs message after) → VerdictRight c before input Done → drawn ≡ expected_drawop c before now (Some input)
     → AllByRecursion (λ g. sender_of g ≡ c.me) outs → AllByRecursion IsSpellable outs → IfSome (heard_in (Some input)) IsSpellable
     → SessionRight c made before (plain m now input drawn outs message after) → MessageRight c before input message
-    → after ≡ state_due (state before) (list_any is_farewell outs) (Some input)
+    → after ≡ expected_state (state before) (list_any is_farewell outs) (Some input)
     → EntryRight c made (record { before = before; this = plain m now input drawn outs message after })
 right c made before m now input drawn outs message after here next ask fix p1 p2 p3 p4 p5 spelled read p6 p7 p8 = record {
   member = p1;
@@ -174,12 +174,12 @@ unknown_unmissed es n e = go n.number (known es n.stream) (is_held es n) e
 pub one_held : (a : ℕ) → (nat_le 1 a && nat_le a 1 && not ((1 == a) || false)) ≡ false
 one_held a = grind (arith, nat_tests)
 
-pub none_missing_in : (es : List Entry) → ((a : ℕ) → is_missing es (named zeros a) ≡ false) → ((n : FullName) → same_stream n.stream zeros ≡ false → known es n.stream ≡ 0)
+pub none_missing_in : (es : List Entry) → ((a : ℕ) → is_missing es (named first_stream a) ≡ false) → ((n : FullName) → same_stream n.stream first_stream ≡ false → known es n.stream ≡ 0)
     → (n : FullName) → is_missing es n ≡ false
-none_missing_in es here there n = go (same_stream n.stream zeros) refl
+none_missing_in es here there n = go (same_stream n.stream first_stream) refl
   where
-    go : (b : Bool) → same_stream n.stream zeros ≡ b → is_missing es n ≡ false
-    go true e = subst (λ (s : Stream). is_missing es (named s n.number) ≡ false) (sym (same_stream-is n.stream zeros e)) (here n.number)
+    go : (b : Bool) → same_stream n.stream first_stream ≡ b → is_missing es n ≡ false
+    go true e = subst (λ (s : Stream). is_missing es (named s n.number) ≡ false) (sym (same_stream-is n.stream first_stream e)) (here n.number)
     go false e = unknown_unmissed es n (there n e)
 
 pub missing_none : (n : FullName) → is_missing [] n ≡ false
@@ -189,9 +189,9 @@ abbrev pub one_of : Bool → List ℕ
 one_of b = if b then 1 ∷ [] else []
 
 -- what holds of each name of the one stream and of every other name holds of all
-pub of_all : (P : FullName → Type 0) → ((k : ℕ) → P (named zeros k)) → ((n : FullName) → same_stream n.stream zeros ≡ false → P n) → (n : FullName) → P n
-of_all P here there n = go (same_stream n.stream zeros) refl
+pub of_all : (P : FullName → Type 0) → ((k : ℕ) → P (named first_stream k)) → ((n : FullName) → same_stream n.stream first_stream ≡ false → P n) → (n : FullName) → P n
+of_all P here there n = go (same_stream n.stream first_stream) refl
   where
-    go : (b : Bool) → same_stream n.stream zeros ≡ b → P n
-    go true e = subst (λ (s : Stream). P (named s n.number)) (sym (same_stream-is n.stream zeros e)) (here n.number)
+    go : (b : Bool) → same_stream n.stream first_stream ≡ b → P n
+    go true e = subst (λ (s : Stream). P (named s n.number)) (sym (same_stream-is n.stream first_stream e)) (here n.number)
     go false e = there n e

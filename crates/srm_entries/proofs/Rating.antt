@@ -10,7 +10,7 @@ use Rattle.srm_names.proofs.Lists.{at_parts}
 use Rattle.srm_codec.specs.declared.datagram.Datagram.{Datagram}
 use Rattle.srm_bucket.specs.declared.class.Class.{Class}
 use Rattle.srm_bucket.specs.Calls.{Classed, Call, Handed, Popped}
-use Rattle.srm_bucket.specs.Classes.{rank, handed, left, next_of, first_of_highest}
+use Rattle.srm_bucket.specs.Classes.{rank, handed, queued, next_queued, first_of_highest}
 use Rattle.srm_bucket.specs.Ticks.{Tick, last_moment as last_of_calls, ticks, cost, charge, allowance, level, IsWithin}
 use Rattle.srm_bucket.specs.Law.{BucketLaw, level_at}
 use Rattle.srm_bucket.proofs.Highest.{next-same}
@@ -18,8 +18,8 @@ use Rattle.srm_entries.specs.Configs.{Config}
 use Rattle.srm_entries.specs.declared.entry.Entry.{Entry}
 use Rattle.srm_entries.specs.Entries.{ticked, last_moment}
 use Rattle.srm_entries.specs.Sessions.{charged}
-use Rattle.srm_entries.specs.Bucket.{Going, GoesRight, entries_of, lets_go, pops, bucket_calls}
-use Rattle.srm_entries.specs.Rates.{of_class, handed_so_far, gone_so_far, left_of, cost_all, tick_in, ticks_of, RightAt, RateLaw}
+use Rattle.srm_entries.specs.Bucket.{Going, GoesAsCharged, entries_of, lets_go, pops, bucket_calls}
+use Rattle.srm_entries.specs.Rates.{of_class, handed_so_far, departed_so_far, queued_of, cost_all, tick_in, ticks_of, RightAt, RateLaw}
 use Rattle.srm_entries.specs.Runs.{EntryRight, IsMemberRun}
 use Rattle.srm_entries.proofs.Adding.{flat_map-append}
 use Rattle.srm_entries.proofs.Cutting.{run_part}
@@ -30,13 +30,13 @@ use Rattle.srm_entries.proofs.Spending.{Charged, charged_along, charged_start, l
 
 -- a run of a member, marked with what went
 record Marked (c : Config) (made : ℕ) (gs : List Going) : Type 0 where
-  pub all : AllByRecursion GoesRight (steps gs)
+  pub all : AllByRecursion GoesAsCharged (steps gs)
   pub each : AllByRecursion (EntryRight c made) (steps (entries_of gs))
   pub law : BucketLaw c.rate c.depth (bucket_calls c.me gs)
 
 marked_front : (c : Config) (made : ℕ) (before more : List Going) → Marked c made (before ++ more) → Marked c made before
 marked_front c made before more m = record {
-  all = (at_parts GoesRight before more m.all).0;
+  all = (at_parts GoesAsCharged before more m.all).0;
   each = (at_parts (EntryRight c made) (entries_of before) (entries_of more) (subst (λ ys. AllByRecursion (EntryRight c made) (steps ys)) (map-append (λ (g : Going). g.entry) before more) m.each)).0;
   law = law_to c before more m.law;
 }
@@ -101,31 +101,31 @@ right_at c made before x m = record {
   all_that_may = may (lets_go (record { before = before; this = x })) refl;
 }
   where
-    parts : AllByRecursion GoesRight (steps before) × GoesRight (record { before = before; this = x })
-    parts = let k = at_parts GoesRight before (x ∷ []) m.all in (k.0, k.1.0)
+    parts : AllByRecursion GoesAsCharged (steps before) × GoesAsCharged (record { before = before; this = x })
+    parts = let k = at_parts GoesAsCharged before (x ∷ []) m.all in (k.0, k.1.0)
 
     highest : (first rest : List (Classed Datagram)) (i : Classed Datagram) → x.goes ≡ first ++ i ∷ rest → (class : Class) → rank class < rank i.class → (b : Bool) → lets_go (record { before = before; this = x }) ≡ b
-        → of_class class (gone_so_far before ++ first) ≡ of_class class (handed_so_far c.me (entries_of (before ++ x ∷ [])))
+        → of_class class (departed_so_far before ++ first) ≡ of_class class (handed_so_far c.me (entries_of (before ++ x ∷ [])))
     highest first rest i e class l true q =
         let here = law_at c.rate c.depth (calls_until c.me before x first) (popping x.entry.moment rest ++ Popped x.entry.moment None ∷ []) (Popped x.entry.moment (Some i))
         (subst (BucketLaw c.rate c.depth) (calls_at c.me before x first rest i q e) m.law) in
         sym (gone_until c.me class before x first parts.0) ∙ here.highest_first class l ∙ handed_until c.me class before x first parts.0
     highest first rest i e class l false q = absurd (not_nil first rest i (sym (OnTrue_at (ap not q) parts.1.at_ticks) ∙ e))
 
-    next_is : next_of (bucket_calls c.me (before ++ x ∷ [])) ≡ first_of_highest (left_of c.me (before ++ x ∷ []))
-    next_is = next-same (left (bucket_calls c.me (before ++ x ∷ []))) (left_of c.me (before ++ x ∷ []))
+    next_is : next_queued (bucket_calls c.me (before ++ x ∷ [])) ≡ first_of_highest (queued_of c.me (before ++ x ∷ []))
+    next_is = next-same (queued (bucket_calls c.me (before ++ x ∷ []))) (queued_of c.me (before ++ x ∷ []))
         (λ class. ap (λ ys. drop (length ys) (handed class (bucket_calls c.me (before ++ x ∷ [])))) (gone_is c.me class (before ++ x ∷ []) m.all)
-        ∙ ap (drop (length (of_class class (gone_so_far (before ++ x ∷ []))))) (handed_is c.me class (before ++ x ∷ []) m.all))
+        ∙ ap (drop (length (of_class class (departed_so_far (before ++ x ∷ []))))) (handed_is c.me class (before ++ x ∷ []) m.all))
 
     may : (b : Bool) → lets_go (record { before = before; this = x }) ≡ b
-        → OnTrue b (IfSome (first_of_highest (left_of c.me (before ++ x ∷ []))) (λ i. level c.rate c.depth x.entry.moment (ticks_of (entries_of (before ++ x ∷ []))) < cost (Some i)))
+        → OnTrue b (IfSome (first_of_highest (queued_of c.me (before ++ x ∷ []))) (λ i. level c.rate c.depth x.entry.moment (ticks_of (entries_of (before ++ x ∷ []))) < cost (Some i)))
     may false q = tt
     may true q =
         let here = law_at c.rate c.depth (calls_until c.me before x x.goes) [] (Popped x.entry.moment None) (subst (BucketLaw c.rate c.depth) (calls_at_end c.me before x q) m.law) in
-        let ends : IfSome (next_of (bucket_calls c.me (before ++ x ∷ []))) (λ i. level_at c.rate c.depth (bucket_calls c.me (before ++ x ∷ [])) (last_of_calls (bucket_calls c.me (before ++ x ∷ []))) < cost (Some i)) =
-        subst (λ cs. IfSome (next_of cs) (λ i. level_at c.rate c.depth cs (last_of_calls cs) < cost (Some i))) (sym (calls_at_end c.me before x q)) here.all_that_may in
+        let ends : IfSome (next_queued (bucket_calls c.me (before ++ x ∷ []))) (λ i. level_at c.rate c.depth (bucket_calls c.me (before ++ x ∷ [])) (last_of_calls (bucket_calls c.me (before ++ x ∷ []))) < cost (Some i)) =
+        subst (λ cs. IfSome (next_queued cs) (λ i. level_at c.rate c.depth cs (last_of_calls cs) < cost (Some i))) (sym (calls_at_end c.me before x q)) here.all_that_may in
         subst (λ o. IfSome o (λ i. level c.rate c.depth x.entry.moment (ticks_of (entries_of (before ++ x ∷ []))) < cost (Some i))) next_is
-        (subst (λ n. IfSome (next_of (bucket_calls c.me (before ++ x ∷ []))) (λ i. n < cost (Some i))) (level_is c made before x m q) ends)
+        (subst (λ n. IfSome (next_queued (bucket_calls c.me (before ++ x ∷ []))) (λ i. n < cost (Some i))) (level_is c made before x m q) ends)
 
 -- from a tick on
 
@@ -133,7 +133,7 @@ within_back : (rate depth now : ℕ) (ts us : List Tick) → IsWithin rate depth
 within_back rate depth now [] us w = w
 within_back rate depth now (t ∷ ts) us w = within_back rate depth now ts us w.2
 
-marked_run : (c : Config) (made : ℕ) (es : List Entry) (gs : List Going) → entries_of gs ≡ es → AllByRecursion GoesRight (steps gs) → BucketLaw c.rate c.depth (bucket_calls c.me gs)
+marked_run : (c : Config) (made : ℕ) (es : List Entry) (gs : List Going) → entries_of gs ≡ es → AllByRecursion GoesAsCharged (steps gs) → BucketLaw c.rate c.depth (bucket_calls c.me gs)
     → IsMemberRun c made es → Marked c made gs
 marked_run c made es gs q all law run = record { all = all; each = subst (λ ys. AllByRecursion (EntryRight c made) (steps ys)) (sym q) run.each; law = law }
 
@@ -171,7 +171,7 @@ rate_law c made es run =
     let (gs, q, all, law) = run.bucket in
     let m = marked_run c made es gs q all law run in
     record {
-      marks = gs;
+      goings = gs;
       entries = q;
       outs = all;
       each = λ before after this e. right_at c made before this (marked_front c made (before ++ this ∷ []) after (subst (Marked c made) (e ∙ sym (append_assoc before (this ∷ []) after)) m));

@@ -15,15 +15,15 @@ use Rattle.srm_bucket.specs.Calls.{Classed}
 use Rattle.srm_bucket.specs.Law.{BucketLaw}
 use Rattle.srm_timers.specs.declared.arm.Arm.{Arm}
 use Rattle.srm_timers.specs.declared.arm.ArmKind.TheVariants.{Fix}
-use Rattle.srm_timers.specs.Arms.{Setting, setting, ran_out, arm_of}
+use Rattle.srm_timers.specs.Arms.{WaitBasis, wait_basis, ran_out, arm_of}
 use Rattle.srm_entries.specs.Configs.{Config}
 use Rattle.srm_entries.specs.declared.entry.Entry.{Entry}
 use Rattle.srm_entries.specs.Entries.{is_held, is_missing, ticked}
 use Rattle.srm_entries.specs.Distances.{distance}
-use Rattle.srm_entries.specs.Timers.{repaired, ask_due, fix_due, asker, setting_of}
+use Rattle.srm_entries.specs.Timers.{repaired, ask_due, fix_due, asker, basis_of}
 use Rattle.srm_entries.specs.Bucket.{Going, classed, bucket_calls}
 use Rattle.srm_entries.specs.Runs.{EntryRight, IsMemberRun}
-use Rattle.srm_entries.specs.Sample.{in_roster, zeros, hears, ticks, fix_arm, idle}
+use Rattle.srm_entries.specs.Sample.{in_roster, first_stream, hears, ticks, fix_arm, idle}
 use Rattle.srm_entries.proofs.Plain.{idle_right, of_all, no_setting, missing_none, unknown_unmissed, one_held, one, one_spelled, one_goes}
 use Rattle.srm_entries.proofs.Responding.{response_law}
 
@@ -34,10 +34,10 @@ abbrev holds : Entry
 holds = hears 2 5000000 (Data one) []
 
 abbrev asked : Entry
-asked = hears 2 5000000 (Request 1 (named zeros 1) 0) (fix_arm 1 100000 ∷ [])
+asked = hears 2 5000000 (Request 1 (named first_stream 1) 0) (fix_arm 1 100000 ∷ [])
 
 abbrev repairs : Entry
-repairs = ticks 2 5200000 [] (named zeros 1 ∷ []) [] (Repair 2 one ∷ [])
+repairs = ticks 2 5200000 [] (named first_stream 1 ∷ []) [] (Repair 2 one ∷ [])
 
 -- nothing is missing at any time
 
@@ -57,31 +57,31 @@ none_missing_last = of_all (λ n. is_missing (holds ∷ asked ∷ repairs ∷ []
 
 -- the arm of the request
 
-fixes_set : (n : FullName) → option_map setting (arm_of n asked.effects.arms) ≡ setting_of 2 (holds ∷ []) asked n
+fixes_set : (n : FullName) → option_map wait_basis (arm_of n asked.effects.arms) ≡ basis_of 2 (holds ∷ []) asked n
 unfolding bits_set
-fixes_set = of_all (λ n. option_map setting (arm_of n asked.effects.arms) ≡ setting_of 2 (holds ∷ []) asked n)
-    (λ k. rw (none_missing (named zeros k)) (here (k == 1) ((1 == k) || false) (turned k)))
+fixes_set = of_all (λ n. option_map wait_basis (arm_of n asked.effects.arms) ≡ basis_of 2 (holds ∷ []) asked n)
+    (λ k. rw (none_missing (named first_stream k)) (here (k == 1) ((1 == k) || false) (turned k)))
     (λ n e. rw (none_missing n, none_missing_later n)
-    (ap (λ b. option_map setting (if b && (n.number == 1) then Some (fix_arm 1 100000) else None)) e
+    (ap (λ b. option_map wait_basis (if b && (n.number == 1) then Some (fix_arm 1 100000) else None)) e
     ∙ there (is_held (holds ∷ []) n) (asker n asked) (ap (λ b. if (b && (n.number == 1)) || false then Some 1 else None) e)))
   where
     turned : (k : ℕ) → (k == 1) ≡ ((1 == k) || false)
     turned k = grind (arith, nat_tests)
 
-    here : (first held : Bool) → first ≡ held → option_map setting (if first then Some (fix_arm 1 100000) else None)
+    here : (first held : Bool) → first ≡ held → option_map wait_basis (if first then Some (fix_arm 1 100000) else None)
         ≡ (if held then (if held && true && true then option_map (λ (a : ℕ). record { kind = Fix; exponent = 0; distance = distance (holds ∷ []) 2 a }) (if first || false then Some 1 else None) else None) else None)
     here true true p = refl
     here false false p = refl
     here true false p = absurd (cc)
     here false true p = absurd (cc)
 
-    there : (held : Bool) (o : Option ℕ) → o ≡ None → ◌≡◌ {A = Option Setting} None (if held then (if held && true && true then option_map (λ (a : ℕ). record { kind = Fix; exponent = 0; distance = distance (holds ∷ []) 2 a }) o else None) else None)
+    there : (held : Bool) (o : Option ℕ) → o ≡ None → ◌≡◌ {A = Option WaitBasis} None (if held then (if held && true && true then option_map (λ (a : ℕ). record { kind = Fix; exponent = 0; distance = distance (holds ∷ []) 2 a }) o else None) else None)
     there true o p = ap (option_map (λ (a : ℕ). record { kind = Fix; exponent = 0; distance = distance (holds ∷ []) 2 a })) (sym p)
     there false o p = refl
 
 -- the entries
 
-request_spelled : IsSpellable (Request 1 (named zeros 1) 0)
+request_spelled : IsSpellable (Request 1 (named first_stream 1) 0)
 unfolding bits_set
 request_spelled = (lit< tt, lit< tt, ((lit< tt, (lit< tt, lit< tt), lit≤ tt, lit≤ tt), tt))
 
@@ -118,8 +118,8 @@ asked_right = record {
   state = refl;
 }
 
-fixed_exactly : (n : FullName) → ((same_name n (named zeros 1)) || false) ≡ (ticked repairs && fix_due (holds ∷ asked ∷ []) n 5200000)
-fixed_exactly n = which (same_name n (named zeros 1))
+fixed_exactly : (n : FullName) → ((same_name n (named first_stream 1)) || false) ≡ (ticked repairs && fix_due (holds ∷ asked ∷ []) n 5200000)
+fixed_exactly n = which (same_name n (named first_stream 1))
   where
     which : (b : Bool) → (b || false) ≡ ran_out 5200000 (or_else (option_map (λ (a : Arm). record { set = 5000000; arm = a }) (if b then Some (fix_arm 1 100000) else None)) None)
     which true = refl
@@ -162,5 +162,5 @@ run = record {
 }
 
 -- the law says that by this tick a repair was heard or handed out
-pub answered : list_any (repaired (named zeros 1)) (repairs ∷ []) ≡ true
-answered = (response_law two_of_four 5000000 (holds ∷ asked ∷ repairs ∷ []) run).fixed (holds ∷ []) [] [] asked repairs (named zeros 1) (record { set = 5000000; arm = fix_arm 1 100000 }) refl refl refl refl (lit≤ tt)
+pub answered : list_any (repaired (named first_stream 1)) (repairs ∷ []) ≡ true
+answered = (response_law two_of_four 5000000 (holds ∷ asked ∷ repairs ∷ []) run).fixed (holds ∷ []) [] [] asked repairs (named first_stream 1) (record { set = 5000000; arm = fix_arm 1 100000 }) refl refl refl refl (lit≤ tt)

@@ -16,8 +16,8 @@ use Rattle.srm_codec.specs.declared.datagram.Datagram.TheVariants.{Session}
 use Rattle.srm_entries.specs.Configs.{Config}
 use Rattle.srm_entries.specs.declared.entry.Entry.{Entry}
 use Rattle.srm_store.specs.Held.{number_in}
-use Rattle.srm_entries.specs.Entries.{heard, ticked, shown, known, shown_by, names_heard}
-use Rattle.srm_entries.specs.Sessions.{row_at, if_positive, ReportRight, ending}
+use Rattle.srm_entries.specs.Entries.{accepted, ticked, shown, known, evidence_by, names_heard}
+use Rattle.srm_entries.specs.Sessions.{number_in_rows, if_positive, ReportRight, ending}
 use Rattle.srm_entries.specs.Verdicts.{stream_on}
 use Rattle.srm_entries.specs.Runs.{EntryRight}
 use Rattle.srm_entries.proofs.Adding.{known-snoc}
@@ -43,7 +43,7 @@ report_sent c made before e sender sent page rows echoes r h =
 pub known_after_tick : (c : Config) (made : ℕ) (before : List Entry) (e : Entry) (s : Stream) → EntryRight c made (record { before = before; this = e }) → ticked e ≡ true
     → known (before ++ e ∷ []) s ≡ known before s
 known_after_tick c made before e s r t =
-    let none : shown_by e ≡ [] = shown_quiet e (tick_hears_nothing e t, tick_draws_nothing c made before e r t) in
+    let none : evidence_by e ≡ [] = shown_quiet e (tick_hears_nothing e t, tick_draws_nothing c made before e r t) in
     known-snoc before e s ∙ ap (max (known before s)) (ap (λ ns. greatest (flat_map (number_in s) (ns ++ []))) none) ∙ none_more (known before s)
   where
     none_more : (k : ℕ) → max k 0 ≡ k
@@ -51,7 +51,7 @@ known_after_tick c made before e s r t =
 
 -- whoever hears a report knows at least as much
 
-row_of_number : (rows : List FullName) (s : Stream) (k : ℕ) → row_at rows s ≡ Some k → (n : FullName) × Has n rows × (same_stream s n.stream ≡ true) × (n.number ≡ k)
+row_of_number : (rows : List FullName) (s : Stream) (k : ℕ) → number_in_rows rows s ≡ Some k → (n : FullName) × Has n rows × (same_stream s n.stream ≡ true) × (n.number ≡ k)
 row_of_number rows s k e = go (find (λ (n : FullName). same_stream s n.stream) rows) refl e
   where
     go : (o : Option FullName) → find (λ (n : FullName). same_stream s n.stream) rows ≡ o → option_map (λ (n : FullName). n.number) o ≡ Some k
@@ -61,7 +61,7 @@ row_of_number rows s k e = go (find (λ (n : FullName). same_stream s n.stream) 
 
 -- the report names each stream of the page of which its sender knew
 row_reported : (c : Config) (before : List Entry) (e : Entry) (source : ℕ) (page : Page) (rows : List FullName) → Reports c before e page rows
-    → nat_lt source c.members ≡ true → 1 ≤ known before (stream_on source page) → row_at rows (stream_on source page) ≡ Some (known before (stream_on source page))
+    → nat_lt source c.members ≡ true → 1 ≤ known before (stream_on source page) → number_in_rows rows (stream_on source page) ≡ Some (known before (stream_on source page))
 row_reported c before e source page rows r m k =
     r.right.exact (stream_on source page)
     ∙ ap (λ (b : Bool). if b && nat_lt source c.members then if_positive (known before (stream_on source page)) else None) (subst (λ p. same_page page p ≡ true) r.on_page (same_page-itself page))
@@ -76,7 +76,7 @@ row_reported c before e source page rows r m k =
 
 pub hearer_knows : (c : Config) (made : ℕ) (before : List Entry) (e : Entry) (source sender sent : ℕ) (page : Page) (rows : List FullName) (echoes : List Echo) (other : List Entry) (h : Entry)
     → nat_le c.members c.me ≡ false → AllByRecursion (EntryRight c made) (steps before) → Reports c before e page rows
-    → Has h other → heard h ≡ Some (Session sender sent false page rows echoes) → known before (stream_on source page) ≤ known other (stream_on source page)
+    → Has h other → accepted h ≡ Some (Session sender sent false page rows echoes) → known before (stream_on source page) ≤ known other (stream_on source page)
 hearer_knows c made before e source sender sent page rows echoes other h inside all r k q = go (nat_le c.members source) refl
   where
     go : (b : Bool) → nat_le c.members source ≡ b → known before (stream_on source page) ≤ known other (stream_on source page)
@@ -106,5 +106,5 @@ hearer_knows c made before e source sender sent page rows echoes other h inside 
             some : (a : ℕ) → nat_le 1 a ≡ true → 1 ≤ a
             some a e = grind (arith, nat_tests)
 
-            named : (n : FullName) → Has n rows → Has n (shown_by h)
-            named n has = Has-back n (map (λ (d : Drawop). d.name) (option_to_list h.effects.drawn)) (names_heard (heard h)) (subst (λ o. Has n (names_heard o)) (sym q) has)
+            named : (n : FullName) → Has n rows → Has n (evidence_by h)
+            named n has = Has-back n (map (λ (d : Drawop). d.name) (option_to_list h.effects.drawn)) (names_heard (accepted h)) (subst (λ o. Has n (names_heard o)) (sym q) has)

@@ -19,10 +19,10 @@ use Rattle.srm_entries.specs.declared.entry.Input.{Input}
 use Rattle.srm_entries.specs.declared.entry.Input.TheVariants.{Drew, Heard, Noise, Ticked, Showed, AskedLeave, Gave, Took}
 use Rattle.srm_entries.specs.declared.entry.Verdict.{Verdict}
 use Rattle.srm_entries.specs.declared.entry.Verdict.TheVariants.{Done, Ignored, Refused}
-use Rattle.srm_entries.specs.Entries.{heard_in, done_input, heard, is_tick, ticked, state, is_gone, is_held, is_missing, known}
+use Rattle.srm_entries.specs.Entries.{heard_in, done_input, accepted, is_tick, ticked, state, is_gone, is_held, is_missing, known}
 use Rattle.srm_timers.specs.declared.arm.Armed.{Armed}
-use Rattle.srm_timers.specs.Arms.{Setting, end_of, ran_out, next_exponent, backs_off}
-use Rattle.srm_entries.specs.Timers.{arm_in, asker_in, asker, asks_for, repairs_in, repaired, last_ask, ask_due, held_off, fix_running, fix_due, ask_exponent, ask_setting, fix_setting, setting_of, high_of, ArmsRight, TimersRight}
+use Rattle.srm_timers.specs.Arms.{WaitBasis, runs_out_at, ran_out, next_exponent, backs_off}
+use Rattle.srm_entries.specs.Timers.{arm_in, asker_in, asker, asks_for, repairs_in, repaired, last_ask, ask_due, held_off, fix_running, fix_due, ask_exponent, ask_basis_of, fix_basis_of, basis_of, high_of, ArmsRight, TimersRight}
 use Rattle.srm_entries.specs.Runs.{EntryRight, ResponseLaw}
 use Rattle.srm_entries.proofs.Adding.{known-append, is_held-append, last_ask-snoc, fix_running-snoc}
 use Rattle.srm_entries.proofs.Arming.{ask_at, fix_at, some_of, armed_by, set_by, unset_by, kind_set, waits_at_most}
@@ -41,7 +41,7 @@ tick_hears Done (Took slot) e = absurd (cc)
 tick_hears (Ignored cause) i e = refl
 tick_hears (Refused fault) i e = refl
 
-pub tick_hears_nothing : (e : Entry) → ticked e ≡ true → heard e ≡ None
+pub tick_hears_nothing : (e : Entry) → ticked e ≡ true → accepted e ≡ None
 tick_hears_nothing e t = tick_hears e.verdict e.input t
 
 tick_asks_nothing : (e : Entry) (n : FullName) → ticked e ≡ true → asks_for n e ≡ false
@@ -64,7 +64,7 @@ request_repairs_nothing n (Some (Session sender sent farewell shown rows echoes)
 -- an entry that hears a request for the name doesn't repair it
 asked_unrepaired : (before : List Entry) (e : Entry) (n : FullName) → TimersRight before e → asks_for n e ≡ true → repaired n e ≡ false
 asked_unrepaired before e n r h =
-    ap (λ b. b || among e.effects.fixes n) (request_repairs_nothing n (heard e) h)
+    ap (λ b. b || among e.effects.fixes n) (request_repairs_nothing n (accepted e) h)
     ∙ r.fixes.exact n ∙ ap (λ b. b && fix_due before n e.moment) (asks_unticked e n h)
 
 -- names that exist: held or missing
@@ -123,7 +123,7 @@ ask_armed : (c : Config) (before : List Entry) (e : Entry) (n : FullName) (i : �
     → ask_exponent before e n ≡ Some i → is_some (arm_in Ask n e) ≡ true
 ask_armed c before e n i r h x =
     armed_by Ask n c before e (ask_at c.me (before ++ e ∷ []) n i) r
-    (ap (λ b. if b then fix_setting c.me before e n else ask_setting c.me before e n) h
+    (ap (λ b. if b then fix_basis_of c.me before e n else ask_basis_of c.me before e n) h
     ∙ ap (option_map (ask_at c.me (before ++ e ∷ []) n)) x)
     refl
 
@@ -165,7 +165,7 @@ fix_armed c made before e n r h o a =
     go None k None q = absurd (cc (a, q))
     go None k (Some b) q = some_first (arm_in Fix n e) None
         (armed_by Fix n c before e (fix_at c.me before b) r.arms
-        (ap (λ t. if t then fix_setting c.me before e n else ask_setting c.me before e n) h
+        (ap (λ t. if t then fix_basis_of c.me before e n else ask_basis_of c.me before e n) h
         ∙ ap (λ t. if t && not (is_some (fix_running before n)) && not (held_off c.me before n e.moment) then option_map (fix_at c.me before) (asker n e) else None) h
         ∙ ap (λ t. if not (is_some t) && not (held_off c.me before n e.moment) then option_map (fix_at c.me before) (asker n e) else None) k
         ∙ ap (λ t. if not t then option_map (fix_at c.me before) (asker n e) else None) o
@@ -197,19 +197,19 @@ ask_exists c before e n a r k h = go (ask_exponent before e n) refl
     go : (o : Option ℕ) → ask_exponent before e n ≡ o → exists (before ++ e ∷ []) n ≡ true
     go (Some i) x = exponent_exists before e n i x
     go None x =
-        let none : setting_of c.me before e n ≡ None =
-        ap (λ b. if b then fix_setting c.me before e n else ask_setting c.me before e n) h
+        let none : basis_of c.me before e n ≡ None =
+        ap (λ b. if b then fix_basis_of c.me before e n else ask_basis_of c.me before e n) h
         ∙ ap (option_map (ask_at c.me (before ++ e ∷ []) n)) x in
         let bad : false ≡ true = ap is_some (sym none) ∙ set_by Ask n c before e a r k in
         absurd (cc)
 
 asks_again : (c : Config) (made : ℕ) (past : List Entry) (tick : Entry) (n : FullName) (a : Armed) → EntryRight c made (record { before = past; this = tick })
-    → ticked tick ≡ true → is_gone (state past) ≡ false → is_missing past n ≡ true → last_ask past n ≡ Some a → end_of a ≤ tick.moment → is_some (arm_in Ask n tick) ≡ true
+    → ticked tick ≡ true → is_gone (state past) ≡ false → is_missing past n ≡ true → last_ask past n ≡ Some a → runs_out_at a ≤ tick.moment → is_some (arm_in Ask n tick) ≡ true
 asks_again c made past tick n a r t g m l w =
     let due : ask_due past n tick.moment ≡ true =
     ap (λ b. not b && is_missing past n && ran_out tick.moment (last_ask past n)) g
     ∙ ap (λ b. b && ran_out tick.moment (last_ask past n)) m
-    ∙ ap (ran_out tick.moment) l ∙ le-leb (end_of a) tick.moment w in
+    ∙ ap (ran_out tick.moment) l ∙ le-leb (runs_out_at a) tick.moment w in
     let handed : among tick.effects.asks n ≡ true = r.timers.asks.exact n ∙ ap (λ b. b && ask_due past n tick.moment) t ∙ due in
     ask_armed c past tick n (next_exponent a) r.arms (missing_unheld past n m)
     (ap (λ b. if b then (if asks_for n tick then backs_off tick.moment (last_ask past n) else if among tick.effects.asks n then option_map next_exponent (last_ask past n) else None)
@@ -218,7 +218,7 @@ asks_again c made past tick n a r t g m l w =
     ∙ ap (λ b. if b then option_map next_exponent (last_ask past n) else None) handed
     ∙ ap (option_map next_exponent) l)
 
-over_by : (c : Config) (tick : Entry) (a : Armed) → a.arm.wait ≤ high_of c a.arm → a.set + high_of c a.arm ≤ tick.moment → end_of a ≤ tick.moment
+over_by : (c : Config) (tick : Entry) (a : Armed) → a.arm.wait ≤ high_of c a.arm → a.set + high_of c a.arm ≤ tick.moment → runs_out_at a ≤ tick.moment
 over_by c tick a w l = go a.set a.arm.wait (high_of c a.arm) tick.moment w l
   where
     go : (s x y t : ℕ) → x ≤ y → s + y ≤ t → s + x ≤ t
@@ -249,18 +249,18 @@ ask_answered c made before between e tick n a r rt k t g w = go (is_held (before
 
 -- a repair timer that ran out is answered by a repair
 
-ask_kind : (f : ℕ → Setting) (s : Setting) (o : Option ℕ) → ((i : ℕ) → (f i).kind ≡ Ask) → option_map f o ≡ Some s → s.kind ≡ Ask
+ask_kind : (f : ℕ → WaitBasis) (s : WaitBasis) (o : Option ℕ) → ((i : ℕ) → (f i).kind ≡ Ask) → option_map f o ≡ Some s → s.kind ≡ Ask
 ask_kind f s None k e = absurd (cc)
-ask_kind f s (Some i) k e = let h : f i ≡ s = cc in ap (λ (t : Setting). t.kind) (sym h) ∙ k i
+ask_kind f s (Some i) k e = let h : f i ≡ s = cc in ap (λ (t : WaitBasis). t.kind) (sym h) ∙ k i
 
 -- a repair arm is of a held name, for a request
 fix_of_held : (c : Config) (before : List Entry) (e : Entry) (n : FullName) (a : Armed) → ArmsRight c before e → arm_in Fix n e ≡ Some a → (is_held before n ≡ true) × (asks_for n e ≡ true)
 fix_of_held c before e n a r k = go (is_held before n) refl
   where
-    some : is_some (setting_of c.me before e n) ≡ true
+    some : is_some (basis_of c.me before e n) ≡ true
     some = set_by Fix n c before e a r k
 
-    asks : (b : Bool) (f : ℕ → Setting) (o : Option ℕ) → is_some (if b then option_map f o else None) ≡ true → is_some o ≡ true
+    asks : (b : Bool) (f : ℕ → WaitBasis) (o : Option ℕ) → is_some (if b then option_map f o else None) ≡ true → is_some o ≡ true
     asks true f (Some x) s = refl
     asks true f None s = s
     asks false f o s = absurd (cc)
@@ -269,13 +269,13 @@ fix_of_held c before e n a r k = go (is_held before n) refl
     go true h = (
       h,
       asks (is_held before n && not (is_some (fix_running before n)) && not (held_off c.me before n e.moment)) (fix_at c.me before) (asker n e)
-          (ap (λ b. is_some (if b then fix_setting c.me before e n else ask_setting c.me before e n)) (sym h) ∙ some),
+          (ap (λ b. is_some (if b then fix_basis_of c.me before e n else ask_basis_of c.me before e n)) (sym h) ∙ some),
     )
     go false h =
-        let (s, q) = some_of (setting_of c.me before e n) some in
+        let (s, q) = some_of (basis_of c.me before e n) some in
         let fix : s.kind ≡ Fix = kind_set Fix n c before e a s r k q in
         let ask : s.kind ≡ Ask = ask_kind (ask_at c.me (before ++ e ∷ []) n) s (ask_exponent before e n) (λ i. refl)
-        (ap (λ b. if b then fix_setting c.me before e n else ask_setting c.me before e n) (sym h) ∙ q) in
+        (ap (λ b. if b then fix_basis_of c.me before e n else ask_basis_of c.me before e n) (sym h) ∙ q) in
         absurd (cc)
 
 fix_begins : (c : Config) (made : ℕ) (before : List Entry) (e : Entry) (n : FullName) (a : Armed) → EntryRight c made (record { before = before; this = e })
@@ -295,7 +295,7 @@ fix_stays c made before e n a r f h p =
     ∙ ap (λ b. if b then None else or_else (arm_in Fix n e) (fix_running before n)) p
     ∙ ap (λ o. or_else o (fix_running before n))
     (unset_by Fix n c before e r.arms
-    (ap (λ b. if b then fix_setting c.me before e n else ask_setting c.me before e n) h
+    (ap (λ b. if b then fix_basis_of c.me before e n else ask_basis_of c.me before e n) h
     ∙ ap (λ t. if t && not (is_some (fix_running before n)) && not (held_off c.me before n e.moment) then option_map (fix_at c.me before) (asker n e) else None) h
     ∙ ap (λ t. if not (is_some t) && not (held_off c.me before n e.moment) then option_map (fix_at c.me before) (asker n e) else None) f))
     ∙ f
@@ -316,12 +316,12 @@ fix_runs_on c made n a before (x ∷ xs) f h all =
     ]
 
 repairs_at : (past : List Entry) (tick : Entry) (n : FullName) (a : Armed) → TimersRight past tick → ticked tick ≡ true → is_gone (state past) ≡ false
-    → fix_running past n ≡ Some a → end_of a ≤ tick.moment → repaired n tick ≡ true
+    → fix_running past n ≡ Some a → runs_out_at a ≤ tick.moment → repaired n tick ≡ true
 repairs_at past tick n a r t g f w =
     let due : fix_due past n tick.moment ≡ true =
-    ap (λ b. not b && ran_out tick.moment (fix_running past n)) g ∙ ap (ran_out tick.moment) f ∙ le-leb (end_of a) tick.moment w in
+    ap (λ b. not b && ran_out tick.moment (fix_running past n)) g ∙ ap (ran_out tick.moment) f ∙ le-leb (runs_out_at a) tick.moment w in
     let handed : among tick.effects.fixes n ≡ true = r.fixes.exact n ∙ ap (λ b. b && fix_due past n tick.moment) t ∙ due in
-    ap (λ b. repairs_in n (heard tick) || b) handed ∙ or-true (repairs_in n (heard tick))
+    ap (λ b. repairs_in n (accepted tick) || b) handed ∙ or-true (repairs_in n (accepted tick))
 
 fix_answered : (c : Config) (made : ℕ) (before between : List Entry) (e tick : Entry) (n : FullName) (a : Armed)
     → EntryRight c made (record { before = before; this = e }) → AllByRecursion (EntryRight c made) (steps_after (before ++ e ∷ []) between)

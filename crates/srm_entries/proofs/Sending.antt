@@ -13,7 +13,7 @@ use Rattle.srm_bucket.specs.declared.class.Class.{Class}
 use Rattle.srm_bucket.specs.declared.class.Class.TheVariants.{Shown, New, Other}
 use Rattle.srm_bucket.specs.declared.item.Item.{Item}
 use Rattle.srm_bucket.specs.Calls.{Classed, Call, Handed, Popped}
-use Rattle.srm_bucket.specs.Classes.{rank, in_class, handed_in, gone_in, gone}
+use Rattle.srm_bucket.specs.Classes.{rank, in_class, handed_in, departed_in, departed}
 use Rattle.srm_bucket.specs.Classes as bucket
 use Rattle.srm_bucket.specs.Law.{BucketLaw, GoesRight as CallRight}
 use Rattle.srm_entries.specs.Configs.{Config}
@@ -22,7 +22,7 @@ use Rattle.srm_store.specs.Held.{has_name}
 use Rattle.srm_entries.specs.Entries.{drawn, held, held_by, held_at, shown}
 use Rattle.srm_entries.specs.Sessions.{charged}
 use Rattle.srm_entries.specs.Packing.{is_covered_by, packed_after, packed, mask_of}
-use Rattle.srm_entries.specs.Bucket.{Going, GoesRight, BucketRight, repair_of, answers_in, answer_item, data_item, handed_by, entries_of, lets_go, pops, calls_by, bucket_calls, datagrams_of}
+use Rattle.srm_entries.specs.Bucket.{Going, GoesAsCharged, BucketRight, repair_for, answers_in, answer_item, data_item, handed_by, entries_of, lets_go, pops, calls_by, bucket_calls, datagrams_of}
 use Rattle.std.proofs.lemmas.List.{map-append}
 use Rattle.std.proofs.lemmas.Bool.{OnTrue_at}
 use Rattle.srm_entries.proofs.Adding.{flat_map-append, flat_map-snoc}
@@ -41,9 +41,9 @@ no_data_repair me d others None p h = p h
 no_data_repair me d others (Some x) p (inl e) = cc
 no_data_repair me d others (Some x) p (inr h) = p h
 
-no_data_repairs : (me : ℕ) (before : List Entry) (d : Drawop) (fixes : List FullName) → Has (Data d) (filter_map (repair_of me before) fixes) → ⊥
+no_data_repairs : (me : ℕ) (before : List Entry) (d : Drawop) (fixes : List FullName) → Has (Data d) (filter_map (repair_for me before) fixes) → ⊥
 no_data_repairs me before d [] h = h
-no_data_repairs me before d (n ∷ ns) h = no_data_repair me d (filter_map (repair_of me before) ns) (held_at before n) (no_data_repairs me before d ns) h
+no_data_repairs me before d (n ∷ ns) h = no_data_repair me d (filter_map (repair_for me before) ns) (held_at before n) (no_data_repairs me before d ns) h
 
 from_data : (d : Drawop) (i : Classed Datagram) (o : Option Drawop) → Has i (data_item o) → i.item.value ≡ Data d → Has d (option_to_list o)
 from_data d i None h e = absurd h
@@ -60,7 +60,7 @@ from_step me d s i h e = elim (Has-append i (data_item s.this.effects.drawn) (ma
     none : ((g : Datagram) × Has g (answers_in me s) × (i ≡ answer_item (shown s.before) g)) → ⊥
     none (g, k, q) =
         let same : g ≡ Data d = sym (ap (λ (j : Classed Datagram). j.item.value) q) ∙ e in
-        elim (Has-append (Data d) (packed me s.this.effects.asks) (filter_map (repair_of me s.before) s.this.effects.fixes) (subst (λ w. Has w (answers_in me s)) same k)) [
+        elim (Has-append (Data d) (packed me s.this.effects.asks) (filter_map (repair_for me s.before) s.this.effects.fixes) (subst (λ w. Has w (answers_in me s)) same k)) [
           | inl l ↦ no_data_packed me d None s.this.effects.asks l
           | inr r ↦ no_data_repairs me s.before d s.this.effects.fixes r
         ]
@@ -78,9 +78,9 @@ handed_data me d es i h e =
     flat_map-Has (λ (x : Entry). option_to_list x.effects.drawn) d s.this es (Has-steps s [] es k) (from_step me d s i m e)
 
 -- what went, by class, was handed in
-pub went_first : (rate depth : ℕ) (calls : List (Call Datagram)) → BucketLaw rate depth calls → (class : Class) → IsPrefix (gone class calls) (bucket.handed class calls)
+pub went_first : (rate depth : ℕ) (calls : List (Call Datagram)) → BucketLaw rate depth calls → (class : Class) → IsPrefix (departed class calls) (bucket.handed class calls)
 went_first rate depth calls law =
-    along (λ s. CallRight rate depth s.before (s.before ++ s.this ∷ []) s.this) (λ cs. (class : Class) → IsPrefix (gone class cs) (bucket.handed class cs))
+    along (λ s. CallRight rate depth s.before (s.before ++ s.this ∷ []) s.this) (λ cs. (class : Class) → IsPrefix (departed class cs) (bucket.handed class cs))
     (λ before call p right. right.in_order) [] calls (λ class. ([], refl)) law
 
 same_rank : (c : Class) → (rank c == rank c) ≡ true
@@ -100,18 +100,18 @@ class_of_one class x i h = go (rank i.class == rank class) h
     go false e = absurd e
 
 -- what goes in an entry was popped
-pub popped : (gs : List Going) (i : Classed Datagram) (me : ℕ) → AllByRecursion GoesRight (steps gs) → Has i (gone_of gs) → Has i.item (gone i.class (bucket_calls me gs))
+pub popped : (gs : List Going) (i : Classed Datagram) (me : ℕ) → AllByRecursion GoesAsCharged (steps gs) → Has i (gone_of gs) → Has i.item (departed i.class (bucket_calls me gs))
 popped gs i me all h =
     let (g, k, m) = Has-flat_map (λ (x : Going). x.goes) i gs h in
     let (before, after, q) = Has-split g gs k in
-    let right : GoesRight (record { before = before; this = g }) = (at_parts GoesRight before (g ∷ after) (subst (λ w. AllByRecursion GoesRight (steps w)) q all)).1.0 in
+    let right : GoesAsCharged (record { before = before; this = g }) = (at_parts GoesAsCharged before (g ∷ after) (subst (λ w. AllByRecursion GoesAsCharged (steps w)) q all)).1.0 in
     let there : Has (record { before = before; this = g }) (steps gs) = subst (λ w. Has (record { before = before; this = g }) (steps w)) (sym q)
     (subst (λ w. Has (record { before = before; this = g }) w) (sym (steps-append before (g ∷ after))) (Has-back (record { before = before; this = g }) (steps before) (steps_after before (g ∷ after)) (inl refl))) in
-    flat_map-Has (gone_in i.class) i.item (Popped g.entry.moment (Some i)) (bucket_calls me gs)
+    flat_map-Has (departed_in i.class) i.item (Popped g.entry.moment (Some i)) (bucket_calls me gs)
     (flat_map-Has (calls_by me) (Popped g.entry.moment (Some i)) (record { before = before; this = g }) (steps gs) there (at before g right m (lets_go (record { before = before; this = g })) refl))
     (in_its_class i)
   where
-    at : (before : List Going) (g : Going) → GoesRight (record { before = before; this = g }) → Has i g.goes → (b : Bool) → lets_go (record { before = before; this = g }) ≡ b
+    at : (before : List Going) (g : Going) → GoesAsCharged (record { before = before; this = g }) → Has i g.goes → (b : Bool) → lets_go (record { before = before; this = g }) ≡ b
         → Has (Popped g.entry.moment (Some i)) (calls_by me (record { before = before; this = g }))
     at before g right m true e =
         Has-back (Popped g.entry.moment (Some i)) (map Handed (handed_by me (record { before = entries_of before; this = g.entry }))) (if lets_go (record { before = before; this = g }) then pops g.entry.moment g.goes else [])
@@ -149,18 +149,18 @@ handed_in_entry me gs class x h =
         (j, flat_map-Has (handed_by me) j (record { before = entries_of s.before; this = s.this.entry }) (steps (entries_of gs)) (step_of_entries s gs p) w, sym same)
     by s call p (inr r) m = absurd (never s.this.entry.moment s.this.goes (lets_go s) call r m)
 
-item_handed : (c : Config) (gs : List Going) (i : Classed Datagram) → AllByRecursion GoesRight (steps gs) → BucketLaw c.rate c.depth (bucket_calls c.me gs) → Has i (gone_of gs)
+item_handed : (c : Config) (gs : List Going) (i : Classed Datagram) → AllByRecursion GoesAsCharged (steps gs) → BucketLaw c.rate c.depth (bucket_calls c.me gs) → Has i (gone_of gs)
     → (j : Classed Datagram) × Has j (handed c.me (entries_of gs)) × (j.item.value ≡ i.item.value)
 item_handed c gs i all law h =
     let (rest, e) = went_first c.rate c.depth (bucket_calls c.me gs) law i.class in
-    let inside : Has i.item (bucket.handed i.class (bucket_calls c.me gs)) = subst (λ w. Has i.item w) e (Has-front i.item (gone i.class (bucket_calls c.me gs)) rest (popped gs i c.me all h)) in
+    let inside : Has i.item (bucket.handed i.class (bucket_calls c.me gs)) = subst (λ w. Has i.item w) e (Has-front i.item (departed i.class (bucket_calls c.me gs)) rest (popped gs i c.me all h)) in
     let (j, k, q) = handed_in_entry c.me gs i.class i.item inside in
     (j, k, ap (λ (x : Item Datagram). x.value) q)
 
 -- what went is what was charged
-pub went_is_charged : (gs : List Going) → AllByRecursion GoesRight (steps gs) → datagrams_of (gone_of gs) ≡ flat_map charged (entries_of gs)
+pub went_is_charged : (gs : List Going) → AllByRecursion GoesAsCharged (steps gs) → datagrams_of (gone_of gs) ≡ flat_map charged (entries_of gs)
 went_is_charged gs all =
-    along GoesRight (λ hs. datagrams_of (gone_of hs) ≡ flat_map charged (entries_of hs))
+    along GoesAsCharged (λ hs. datagrams_of (gone_of hs) ≡ flat_map charged (entries_of hs))
     (λ before x p right.
     ap datagrams_of (flat_map-snoc (λ (g : Going). g.goes) before x)
     ∙ map-append (λ (i : Classed Datagram). i.item.value) (gone_of before) x.goes
@@ -191,9 +191,9 @@ repair_held me s before d n others (Some x) q more (inl e) =
     let same : d ≡ x = cc in subst (λ w. Has w (held before)) (sym same) (find-Has (has_name n) (held before) x q).0
 repair_held me s before d n others (Some x) q more (inr h) = more h
 
-repairs_held : (me s : ℕ) (before : List Entry) (d : Drawop) (fixes : List FullName) → Has (Repair s d) (filter_map (repair_of me before) fixes) → Has d (held before)
+repairs_held : (me s : ℕ) (before : List Entry) (d : Drawop) (fixes : List FullName) → Has (Repair s d) (filter_map (repair_for me before) fixes) → Has d (held before)
 repairs_held me s before d [] h = absurd h
-repairs_held me s before d (n ∷ ns) h = repair_held me s before d n (filter_map (repair_of me before) ns) (held_at before n) refl (repairs_held me s before d ns) h
+repairs_held me s before d (n ∷ ns) h = repair_held me s before d n (filter_map (repair_for me before) ns) (held_at before n) refl (repairs_held me s before d ns) h
 
 no_repair_data : (s : ℕ) (d : Drawop) (i : Classed Datagram) (o : Option Drawop) → Has i (data_item o) → i.item.value ≡ Repair s d → ⊥
 no_repair_data s d i None h e = h
@@ -210,7 +210,7 @@ repair_from_step me s d t i h e = elim (Has-append i (data_item t.this.effects.d
     of_these : ((g : Datagram) × Has g (answers_in me t) × (i ≡ answer_item (shown t.before) g)) → Has d (held t.before)
     of_these (g, k, q) =
         let same : g ≡ Repair s d = sym (ap (λ (j : Classed Datagram). j.item.value) q) ∙ e in
-        elim (Has-append (Repair s d) (packed me t.this.effects.asks) (filter_map (repair_of me t.before) t.this.effects.fixes) (subst (λ w. Has w (answers_in me t)) same k)) [
+        elim (Has-append (Repair s d) (packed me t.this.effects.asks) (filter_map (repair_for me t.before) t.this.effects.fixes) (subst (λ w. Has w (answers_in me t)) same k)) [
           | inl l ↦ absurd (no_repair_packed me s d None t.this.effects.asks l)
           | inr r ↦ repairs_held me s t.before d t.this.effects.fixes r
         ]

@@ -12,7 +12,7 @@ use Rattle.srm_timers.specs.declared.arm.Arm.{Arm}
 use Rattle.srm_timers.specs.declared.arm.ArmKind.{ArmKind}
 use Rattle.srm_timers.specs.declared.arm.ArmKind.TheVariants.{Ask, Fix}
 use Rattle.srm_timers.specs.Arms as timers
-use Rattle.srm_timers.specs.Arms.{Setting, setting, same_kind, arm_names, AreDrawn, arm_of}
+use Rattle.srm_timers.specs.Arms.{WaitBasis, wait_basis, same_kind, arm_names, AreChosen, arm_of}
 use Rattle.srm_timers.specs.AskCalls as asks
 use Rattle.srm_timers.proofs.Arming.{same_itself, ascending_tail}
 use Rattle.srm_entries.specs.Configs.{Config}
@@ -72,22 +72,22 @@ abbrev pub is_ask : Arm → Type 0
 is_ask a = a.kind ≡ Ask
 
 -- the setting of a request, where there is one
-abbrev pub ask_if : Bool → ℕ → ℕ → Option Setting
-ask_if b exponent distance = if b then Some (asks.ask_setting exponent distance) else None
+abbrev pub ask_if : Bool → ℕ → ℕ → Option WaitBasis
+ask_if b exponent distance = if b then Some (asks.ask_basis exponent distance) else None
 
-set_kind : (a : Arm) (b : Bool) (i d : ℕ) → Some (setting a) ≡ ask_if b i d → a.kind ≡ Ask
-set_kind a true i d e = let s : setting a ≡ asks.ask_setting i d = cc in ap (λ (t : Setting). t.kind) s
+set_kind : (a : Arm) (b : Bool) (i d : ℕ) → Some (wait_basis a) ≡ ask_if b i d → a.kind ≡ Ask
+set_kind a true i d e = let s : wait_basis a ≡ asks.ask_basis i d = cc in ap (λ (t : WaitBasis). t.kind) s
 set_kind a false i d e = absurd (cc)
 
-pub asks_of : (o : Option Arm) (b : Bool) (i d : ℕ) → option_map setting o ≡ ask_if b i d → of_kind Ask o ≡ o
+pub asks_of : (o : Option Arm) (b : Bool) (i d : ℕ) → option_map wait_basis o ≡ ask_if b i d → of_kind Ask o ≡ o
 asks_of None b i d e = refl
 asks_of (Some a) b i d e = ap (λ (k : ArmKind). if same_kind Ask k then Some a else None) (set_kind a b i d e)
 
-pub fixes_of : (o : Option Arm) (b : Bool) (i d : ℕ) → option_map setting o ≡ ask_if b i d → of_kind Fix o ≡ None
+pub fixes_of : (o : Option Arm) (b : Bool) (i d : ℕ) → option_map wait_basis o ≡ ask_if b i d → of_kind Fix o ≡ None
 fixes_of None b i d e = refl
 fixes_of (Some a) b i d e = ap (λ (k : ArmKind). if same_kind Fix k then Some a else None) (set_kind a b i d e)
 
-pub is_armed : (o : Option Arm) (b : Bool) (i d : ℕ) → option_map setting o ≡ ask_if b i d → is_some o ≡ b
+pub is_armed : (o : Option Arm) (b : Bool) (i d : ℕ) → option_map wait_basis o ≡ ask_if b i d → is_some o ≡ b
 is_armed None true i d e = absurd (cc)
 is_armed None false i d e = refl
 is_armed (Some a) true i d e = refl
@@ -95,8 +95,8 @@ is_armed (Some a) false i d e = absurd (cc)
 
 -- where each arm has the setting of a request, all are requests
 pub all_asks : (arms : List Arm) (b : FullName → Bool) (i d : FullName → ℕ) → ascending name_below (arm_names arms) ≡ true
-    → ((n : FullName) → option_map setting (arm_of n arms) ≡ ask_if (b n) (i n) (d n)) → AllByRecursion is_ask arms
-all_asks arms b i d rising exact = all_arms is_ask arms rising (λ n a found. set_kind a (b n) (i n) (d n) (ap (option_map setting) (sym found) ∙ exact n))
+    → ((n : FullName) → option_map wait_basis (arm_of n arms) ≡ ask_if (b n) (i n) (d n)) → AllByRecursion is_ask arms
+all_asks arms b i d rising exact = all_arms is_ask arms rising (λ n a found. set_kind a (b n) (i n) (d n) (ap (option_map wait_basis) (sym found) ∙ exact n))
 
 -- waits
 
@@ -111,7 +111,7 @@ one_drawn : (wait word low low' high high' : ℕ) → low ≡ low' → high ≡ 
 one_drawn wait word low low' high high' p q e = rw (sym p, sym q) e
 
 pub drawn_asks : {W : Type 0} (draw : W → ℕ × W) (c : Config) (c1 c2 : ℕ) (from to : W) (arms : List Arm) → c1 ≡ c.c1 → c2 ≡ c.c2 → AllByRecursion is_ask arms
-    → AreDrawn draw (timers.low_of c1) (timers.high_of c1 c2) from arms to → AreDrawn draw (low_of c) (high_of c) from arms to
+    → AreChosen draw (timers.low_of c1) (timers.high_of c1 c2) from arms to → AreChosen draw (low_of c) (high_of c) from arms to
 drawn_asks draw c c1 c2 from to [] p q all h = h
 drawn_asks draw c c1 c2 from to (a ∷ arms) p q all h = (
   one_drawn a.wait _ _ _ _ _ (ap (λ x. timers.low_of x a) p ∙ ask_low c a all.0) (ap (λ x. timers.high_of x c2 a) p ∙ ap (λ x. timers.high_of c.c1 x a) q ∙ ask_high c a all.0) h.0,
@@ -129,7 +129,7 @@ ends_rise c a = go a.kind refl
     go Ask e = rw e (mul-le-mul_right a.distance (mul-le-mul_left (2 ^ a.exponent) (omega arith)))
     go Fix e = rw e (mul-le-mul_right a.distance (omega arith))
 
-pub drawn_waits : {W : Type 0} (draw : W → ℕ × W) (c : Config) (from to : W) (arms : List Arm) → AreDrawn draw (low_of c) (high_of c) from arms to
+pub drawn_waits : {W : Type 0} (draw : W → ℕ × W) (c : Config) (from to : W) (arms : List Arm) → AreChosen draw (low_of c) (high_of c) from arms to
     → AllByRecursion (λ a. (low_of c a ≤ a.wait) × (a.wait ≤ high_of c a)) arms
 drawn_waits draw c from to [] h = tt
 drawn_waits draw c from to (a ∷ arms) h = (between_ends a.wait _ (low_of c a) (high_of c a) (ends_rise c a) h.0, drawn_waits draw c (draw from).1 to arms h.1)

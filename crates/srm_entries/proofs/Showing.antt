@@ -7,7 +7,7 @@ use Rattle.std.proofs.lemmas.Bool.{or_parts}
 use Rattle.srm_names.specs.declared.page.Page.{Page}
 use Rattle.srm_names.specs.declared.stream.Stream.{Stream}
 use Rattle.srm_names.specs.declared.drawop.Drawop.{Drawop}
-use Rattle.srm_names.specs.declared.limits.TheConstants.{DRAWOPS, BODY}
+use Rattle.srm_names.specs.declared.limits.TheConstants.{DRAWOPS, LONGEST_BODY}
 use Rattle.srm_names.specs.FullName.{FullName}
 use Rattle.srm_names.specs.Histories.{greatest}
 use Rattle.srm_names.specs.Names.{named, same_stream}
@@ -26,9 +26,9 @@ use Rattle.srm_entries.specs.declared.entry.Input.TheVariants.{Drew, Heard, Nois
 use Rattle.srm_entries.specs.declared.entry.Verdict.{Verdict}
 use Rattle.srm_entries.specs.declared.entry.Verdict.TheVariants.{Done, Ignored, Refused}
 use Rattle.srm_store.specs.Held.{number_in, greatest_in}
-use Rattle.srm_entries.specs.Entries.{done, done_input, heard, heard_in, state, is_gone, is_leaving, drawn, held, held_by, held_at, shown_by, shown_to_exist, names_heard, drawops_in, known}
-use Rattle.srm_entries.specs.Verdicts.{first_cause, verdict_of, VerdictRight, is_stranger, overflows, is_beyond, is_short, differs, drawn_in, stream_on}
-use Rattle.srm_entries.specs.Runs.{EntryRight, drawop_due}
+use Rattle.srm_entries.specs.Entries.{done, done_input, accepted, heard_in, state, is_gone, is_leaving, drawn, held, held_by, held_at, evidence_by, evidence_in, names_heard, drawops_in, known}
+use Rattle.srm_entries.specs.Verdicts.{first_cause, verdict_of, VerdictRight, is_stranger, overflows, is_beyond, says_too_little, differs, drawn_in, stream_on}
+use Rattle.srm_entries.specs.Runs.{EntryRight, expected_drawop}
 use Rattle.srm_entries.proofs.Adding.{flat_map-snoc}
 
 -- the entry is done, and its input is this one
@@ -48,9 +48,9 @@ abbrev pub IsHearing : Entry → Type 0
 IsHearing e = (g : Datagram) × (done e ≡ Some (Heard g)) × (e.effects.drawn ≡ None)
 
 abbrev pub IsQuiet : Entry → Type 0
-IsQuiet e = (heard e ≡ None) × (e.effects.drawn ≡ None)
+IsQuiet e = (accepted e ≡ None) × (e.effects.drawn ≡ None)
 
-kind_of : (c : Config) (before : List Entry) (e : Entry) (o : Option Input) → done e ≡ o → e.effects.drawn ≡ drawop_due c before e.moment o → IsDrawing c before e ⊎ (IsHearing e ⊎ IsQuiet e)
+kind_of : (c : Config) (before : List Entry) (e : Entry) (o : Option Input) → done e ≡ o → e.effects.drawn ≡ expected_drawop c before e.moment o → IsDrawing c before e ⊎ (IsHearing e ⊎ IsQuiet e)
 kind_of c before e None d k = inr (inr (ap heard_in d, k))
 kind_of c before e (Some (Drew page body)) d k = inl (page, body, d, k)
 kind_of c before e (Some (Heard g)) d k = inr (inl (g, d, k))
@@ -85,14 +85,14 @@ pub record HeardFine (c : Config) (es : List Entry) (g : Datagram) : Type 0 wher
   pub other : (sender_of g == c.me) ≡ false
   pub inside : list_any (λ n. nat_le c.members n.stream.source) (names_in g) ≡ false
   pub not_beyond : list_any (is_beyond c.me es) (names_in g) ≡ false
-  pub not_short : is_short es g ≡ false
+  pub not_short : says_too_little es g ≡ false
 
 -- the causes to ignore a datagram from the sixth, the fifth, .. on
 abbrev from_conflict : List Entry → Datagram → List (Bool × Verdict)
 from_conflict es g = (list_any (λ d. differs d (held_at es d.name)) (drawops_in (Some g)), Ignored causes.Conflict) ∷ []
 
 abbrev from_beyond : Config → List Entry → Datagram → List (Bool × Verdict)
-from_beyond c es g = (list_any (is_beyond c.me es) (names_in g) || is_short es g, Ignored causes.BeyondFinal) ∷ from_conflict es g
+from_beyond c es g = (list_any (is_beyond c.me es) (names_in g) || says_too_little es g, Ignored causes.BeyondFinal) ∷ from_conflict es g
 
 abbrev from_limit : Config → List Entry → Datagram → List (Bool × Verdict)
 from_limit c es g = (overflows es (map (λ (n : FullName). n.stream.page) (names_in g)), Ignored causes.PageLimit) ∷ from_beyond c es g
@@ -109,8 +109,8 @@ heard_fine c es g e =
     let b = no_cause (sender_of g == c.me) (Ignored causes.Own) (from_stranger c es g) (ignored_is_not_done _) a.1 in
     let d = no_cause (is_stranger c g) (Ignored causes.Stranger) (from_limit c es g) (ignored_is_not_done _) b.1 in
     let f = no_cause (overflows es (map (λ (n : FullName). n.stream.page) (names_in g))) (Ignored causes.PageLimit) (from_beyond c es g) (ignored_is_not_done _) d.1 in
-    let h = no_cause (list_any (is_beyond c.me es) (names_in g) || is_short es g) (Ignored causes.BeyondFinal) (from_conflict es g) (ignored_is_not_done _) f.1 in
-    let parts = or_parts (list_any (is_beyond c.me es) (names_in g)) (is_short es g) h.0 in
+    let h = no_cause (list_any (is_beyond c.me es) (names_in g) || says_too_little es g) (Ignored causes.BeyondFinal) (from_conflict es g) (ignored_is_not_done _) f.1 in
+    let parts = or_parts (list_any (is_beyond c.me es) (names_in g)) (says_too_little es g) h.0 in
     record { other = b.0; inside = (or_parts (nat_le c.members (sender_of g)) (list_any (λ n. nat_le c.members n.stream.source) (names_in g)) d.0).1; not_beyond = parts.0; not_short = parts.1 }
 
 verdict_done : (c : Config) (before : List Entry) (e : Entry) (i : Input) → VerdictRight c before e.input e.verdict → done e ≡ Some i → VerdictRight c before i Done
@@ -122,7 +122,7 @@ hearing_fine c made before e g right d = heard_fine c before g (verdict_done c b
 pub drawing_not_gone : (c : Config) (made : ℕ) (before : List Entry) (e : Entry) (page : Page) (body : List ℕ) → EntryRight c made (record { before = before; this = e }) → done e ≡ Some (Drew page body) → is_gone (state before) ≡ false
 drawing_not_gone c made before e page body right d =
     (no_cause (is_gone (state before)) (Refused faults.Gone)
-    ((is_leaving (state before), Refused faults.Leaving) ∷ (nat_lt BODY (length body), Refused faults.BodyLong) ∷ (overflows before (page ∷ []), Refused faults.PageLimit) ∷ (nat_le DRAWOPS (drawn_in before (stream_on c.me page)), Refused faults.StreamFull) ∷ [])
+    ((is_leaving (state before), Refused faults.Leaving) ∷ (nat_lt LONGEST_BODY (length body), Refused faults.BodyLong) ∷ (overflows before (page ∷ []), Refused faults.PageLimit) ∷ (nat_le DRAWOPS (drawn_in before (stream_on c.me page)), Refused faults.StreamFull) ∷ [])
     (refused_is_not_done _) (verdict_done c before e (Drew page body) right.verdict d)).0
 
 pub leaving_not_gone : (c : Config) (made : ℕ) (before : List Entry) (e : Entry) → EntryRight c made (record { before = before; this = e }) → done e ≡ Some AskedLeave → is_gone (state before) ≡ false
@@ -144,24 +144,24 @@ number_there s n e = subst (λ b. Has n.number (if b then n.number ∷ [] else [
 pub greatest_in_has : (names : List FullName) (n : FullName) → Has n names → n.number ≤ greatest_in names n.stream
 greatest_in_has names n h = greatest_has n.number (flat_map (number_in n.stream) names) (flat_map-Has (number_in n.stream) n.number n names h (number_there n.stream n refl))
 
-pub known_has : (es : List Entry) (n : FullName) → Has n (shown_to_exist es) → n.number ≤ known es n.stream
-known_has es n h = greatest_in_has (shown_to_exist es) n h
+pub known_has : (es : List Entry) (n : FullName) → Has n (evidence_in es) → n.number ≤ known es n.stream
+known_has es n h = greatest_in_has (evidence_in es) n h
 
-pub shown-snoc : (es : List Entry) (e : Entry) → shown_to_exist (es ++ e ∷ []) ≡ shown_to_exist es ++ shown_by e
-shown-snoc es e = flat_map-snoc shown_by es e
+pub shown-snoc : (es : List Entry) (e : Entry) → evidence_in (es ++ e ∷ []) ≡ evidence_in es ++ evidence_by e
+shown-snoc es e = flat_map-snoc evidence_by es e
 
 pub drawn-snoc : (es : List Entry) (e : Entry) → drawn (es ++ e ∷ []) ≡ drawn es ++ option_to_list e.effects.drawn
 drawn-snoc es e = flat_map-snoc (λ (x : Entry). option_to_list x.effects.drawn) es e
 
 -- the names shown by an entry of each kind
-pub shown_drawing : (c : Config) (before : List Entry) (e : Entry) (d : IsDrawing c before e) → shown_by e ≡ (made_by c before e.moment d.0 d.1).name ∷ []
-shown_drawing c before e (page, body, d, k) = ap (λ o. map (λ (x : Drawop). x.name) (option_to_list o) ++ names_heard (heard e)) k ∙ ap (λ o. (made_by c before e.moment page body).name ∷ names_heard (heard_in o)) d
+pub shown_drawing : (c : Config) (before : List Entry) (e : Entry) (d : IsDrawing c before e) → evidence_by e ≡ (made_by c before e.moment d.0 d.1).name ∷ []
+shown_drawing c before e (page, body, d, k) = ap (λ o. map (λ (x : Drawop). x.name) (option_to_list o) ++ names_heard (accepted e)) k ∙ ap (λ o. (made_by c before e.moment page body).name ∷ names_heard (heard_in o)) d
 
-pub shown_hearing : (e : Entry) (d : IsHearing e) → shown_by e ≡ names_in d.0
-shown_hearing e (g, d, k) = ap (λ o. map (λ (x : Drawop). x.name) (option_to_list o) ++ names_heard (heard e)) k ∙ ap (λ o. names_heard (heard_in o)) d
+pub shown_hearing : (e : Entry) (d : IsHearing e) → evidence_by e ≡ names_in d.0
+shown_hearing e (g, d, k) = ap (λ o. map (λ (x : Drawop). x.name) (option_to_list o) ++ names_heard (accepted e)) k ∙ ap (λ o. names_heard (heard_in o)) d
 
-pub shown_quiet : (e : Entry) → IsQuiet e → shown_by e ≡ []
-shown_quiet e (d, k) = ap (λ o. map (λ (x : Drawop). x.name) (option_to_list o) ++ names_heard (heard e)) k ∙ ap names_heard d
+pub shown_quiet : (e : Entry) → IsQuiet e → evidence_by e ≡ []
+shown_quiet e (d, k) = ap (λ o. map (λ (x : Drawop). x.name) (option_to_list o) ++ names_heard (accepted e)) k ∙ ap names_heard d
 
 -- what is held was shown to exist
 pub held_in_shown : (g : Option Datagram) (d : Drawop) → Has d (drawops_in g) → Has d.name (names_heard g)
@@ -173,14 +173,14 @@ held_in_shown (Some (Repair s x)) d (inr h) = absurd h
 held_in_shown (Some (Request s n m)) d h = absurd h
 held_in_shown (Some (Session a b f p r x)) d h = absurd h
 
-pub held_by_shown : (e : Entry) (d : Drawop) → Has d (held_by e) → Has d.name (shown_by e)
-held_by_shown e d h = elim (Has-append d (option_to_list e.effects.drawn) (drawops_in (heard e)) h) [
-  | inl l ↦ Has-front d.name (map (λ (x : Drawop). x.name) (option_to_list e.effects.drawn)) (names_heard (heard e)) (map-Has (λ (x : Drawop). x.name) d (option_to_list e.effects.drawn) l)
-  | inr r ↦ Has-back d.name (map (λ (x : Drawop). x.name) (option_to_list e.effects.drawn)) (names_heard (heard e)) (held_in_shown (heard e) d r)
+pub held_by_shown : (e : Entry) (d : Drawop) → Has d (held_by e) → Has d.name (evidence_by e)
+held_by_shown e d h = elim (Has-append d (option_to_list e.effects.drawn) (drawops_in (accepted e)) h) [
+  | inl l ↦ Has-front d.name (map (λ (x : Drawop). x.name) (option_to_list e.effects.drawn)) (names_heard (accepted e)) (map-Has (λ (x : Drawop). x.name) d (option_to_list e.effects.drawn) l)
+  | inr r ↦ Has-back d.name (map (λ (x : Drawop). x.name) (option_to_list e.effects.drawn)) (names_heard (accepted e)) (held_in_shown (accepted e) d r)
 ]
 
-pub held_is_shown : (es : List Entry) (d : Drawop) → Has d (held es) → Has d.name (shown_to_exist es)
-held_is_shown es d h = let (e, k, m) = Has-flat_map held_by d es h in flat_map-Has shown_by d.name e es k (held_by_shown e d m)
+pub held_is_shown : (es : List Entry) (d : Drawop) → Has d (held es) → Has d.name (evidence_in es)
+held_is_shown es d h = let (e, k, m) = Has-flat_map held_by d es h in flat_map-Has evidence_by d.name e es k (held_by_shown e d m)
 
 pub held-snoc : (es : List Entry) (e : Entry) → held (es ++ e ∷ []) ≡ held es ++ held_by e
 held-snoc es e = flat_map-snoc held_by es e

@@ -22,8 +22,8 @@ use Rattle.srm_entries.specs.declared.entry.Verdict.TheVariants.{Done}
 use Rattle.srm_entries.specs.Entries.{is_tick, ticked, takes_moment, clock_of, last_moment, state, is_gone}
 use Rattle.srm_entries.specs.Verdicts.{VerdictRight}
 use Rattle.srm_entries.specs.Sessions.{charged}
-use Rattle.srm_entries.specs.Bucket.{Going, GoesRight, entries_of, datagrams_of, lets_go, pops, calls_by, bucket_calls}
-use Rattle.srm_entries.specs.Rates.{gone_so_far, cost_all, tick_in, ticks_of}
+use Rattle.srm_entries.specs.Bucket.{Going, GoesAsCharged, entries_of, datagrams_of, lets_go, pops, calls_by, bucket_calls}
+use Rattle.srm_entries.specs.Rates.{departed_so_far, cost_all, tick_in, ticks_of}
 use Rattle.srm_entries.specs.Runs.{EntryRight}
 use Rattle.srm_entries.proofs.Adding.{flat_map-snoc}
 use Rattle.srm_entries.proofs.Running.{last_moment-snoc}
@@ -103,7 +103,7 @@ spends_all rate depth now calls items goes l law =
 abbrev pub price_of : Entry → ℕ
 price_of e = cost_all (charged e)
 
-pub entry_spends : (c : Config) (now : ℕ) (before : List Going) (x : Going) → GoesRight (record { before = before; this = x }) → ((i : Classed Datagram) → Has i x.goes → i.item.length ≡ length_of i.item.value)
+pub entry_spends : (c : Config) (now : ℕ) (before : List Going) (x : Going) → GoesAsCharged (record { before = before; this = x }) → ((i : Classed Datagram) → Has i x.goes → i.item.length ≡ length_of i.item.value)
     → last_of_calls (bucket_calls c.me before) ≤ now → (ticked x.entry ≡ true → x.entry.moment ≡ now) → BucketLaw c.rate c.depth (bucket_calls c.me (before ++ x ∷ []))
     → Spends c.rate c.depth now (price_of x.entry) (bucket_calls c.me before) (bucket_calls c.me (before ++ x ∷ []))
 entry_spends c now before x right lengths l at law =
@@ -130,7 +130,7 @@ entry_spends c now before x right lengths l at law =
 
 -- one more entry
 
-uncharged : (before : List Going) (x : Going) → GoesRight (record { before = before; this = x }) → ticked x.entry ≡ false → charged x.entry ≡ []
+uncharged : (before : List Going) (x : Going) → GoesAsCharged (record { before = before; this = x }) → ticked x.entry ≡ false → charged x.entry ≡ []
 uncharged before x right t = sym right.same ∙ ap datagrams_of (OnTrue_at (ap (λ b. not (b && not (is_gone (state (entries_of before))))) t) right.at_ticks)
 
 pub law_to : (c : Config) (before more : List Going) → BucketLaw c.rate c.depth (bucket_calls c.me (before ++ more)) → BucketLaw c.rate c.depth (bucket_calls c.me before)
@@ -141,7 +141,7 @@ record ChargedBy (c : Config) (now : ℕ) (gs : List Going) (es : List Entry) : 
   pub within : IsWithin c.rate c.depth now (ticks_of es)
   pub same : level c.rate c.depth now (ticks (bucket_calls c.me gs)) ≡ level c.rate c.depth now (ticks_of es)
 
-charged_next : (c : Config) (now : ℕ) (before : List Going) (x : Going) → GoesRight (record { before = before; this = x }) → (ticked x.entry ≡ true → x.entry.moment ≡ now)
+charged_next : (c : Config) (now : ℕ) (before : List Going) (x : Going) → GoesAsCharged (record { before = before; this = x }) → (ticked x.entry ≡ true → x.entry.moment ≡ now)
     → IsWithin c.rate c.depth now (ticks_of (entries_of before)) → level c.rate c.depth now (ticks (bucket_calls c.me before)) ≡ level c.rate c.depth now (ticks_of (entries_of before))
     → Spends c.rate c.depth now (price_of x.entry) (bucket_calls c.me before) (bucket_calls c.me (before ++ x ∷ []))
     → ChargedBy c now (before ++ x ∷ []) (entries_of before ++ x.entry ∷ [])
@@ -173,7 +173,7 @@ charged_next c now before x right at within same spends = which (ticked x.entry)
         by [] (ap (λ b. if b then record { moment = x.entry.moment; cost = price_of x.entry } ∷ [] else []) q) (subst (IsWithin c.rate c.depth now) (sym (append-nil ts)) within)
         ((let less = spends.less in omega arith) ∙ ap (level c.rate c.depth now) (sym (append-nil ts)))
 
-charged_step : (c : Config) (made : ℕ) (before : List Going) (x : Going) → Charged c made before → GoesRight (record { before = before; this = x })
+charged_step : (c : Config) (made : ℕ) (before : List Going) (x : Going) → Charged c made before → GoesAsCharged (record { before = before; this = x })
     → ((i : Classed Datagram) → Has i x.goes → i.item.length ≡ length_of i.item.value) → EntryRight c made (record { before = entries_of before; this = x.entry })
     → BucketLaw c.rate c.depth (bucket_calls c.me (before ++ x ∷ [])) → Charged c made (before ++ x ∷ [])
 charged_step c made before x p right lengths entry law =
@@ -196,18 +196,18 @@ charged_step c made before x p right lengths entry law =
       same = subst (λ ys. level c.rate c.depth (last_moment made ys) (ticks (bucket_calls c.me (before ++ x ∷ []))) ≡ level c.rate c.depth (last_moment made ys) (ticks_of ys)) back next.same;
     }
 
-pub charged_along : (c : Config) (made : ℕ) (before rest : List Going) → Charged c made before → AllByRecursion GoesRight (steps_after before rest)
-    → AllByRecursion (EntryRight c made) (steps_after (entries_of before) (entries_of rest)) → ((i : Classed Datagram) → Has i (gone_so_far rest) → i.item.length ≡ length_of i.item.value)
+pub charged_along : (c : Config) (made : ℕ) (before rest : List Going) → Charged c made before → AllByRecursion GoesAsCharged (steps_after before rest)
+    → AllByRecursion (EntryRight c made) (steps_after (entries_of before) (entries_of rest)) → ((i : Classed Datagram) → Has i (departed_so_far rest) → i.item.length ≡ length_of i.item.value)
     → BucketLaw c.rate c.depth (bucket_calls c.me (before ++ rest)) → Charged c made (before ++ rest)
 charged_along c made before [] p all each lengths law = subst (Charged c made) (sym (append-nil before)) p
 charged_along c made before (x ∷ rest) p all each lengths law =
     let law_on : BucketLaw c.rate c.depth (bucket_calls c.me ((before ++ x ∷ []) ++ rest)) = subst (λ gs. BucketLaw c.rate c.depth (bucket_calls c.me gs)) (sym (append_assoc before (x ∷ []) rest)) law in
     subst (Charged c made) (append_assoc before (x ∷ []) rest)
     (charged_along c made (before ++ x ∷ []) rest
-    (charged_step c made before x p all.0 (λ i h. lengths i (Has-front i x.goes (gone_so_far rest) h)) each.0 (law_to c (before ++ x ∷ []) rest law_on))
+    (charged_step c made before x p all.0 (λ i h. lengths i (Has-front i x.goes (departed_so_far rest) h)) each.0 (law_to c (before ++ x ∷ []) rest law_on))
     all.1
     (subst (λ ys. AllByRecursion (EntryRight c made) (steps_after ys (entries_of rest))) (sym (entries-snoc before x)) each.1)
-    (λ i h. lengths i (Has-back i x.goes (gone_so_far rest) h))
+    (λ i h. lengths i (Has-back i x.goes (departed_so_far rest) h))
     law_on)
 
 pub charged_start : (c : Config) (made : ℕ) → Charged c made []

@@ -43,12 +43,12 @@ abbrev pub data_item : Option Drawop → List (Classed Datagram)
 data_item None = []
 data_item (Some d) = classed New (Data d) ∷ []
 
-abbrev pub repair_of : ℕ → List Entry → FullName → Option Datagram
-repair_of me before n = option_map (Repair me) (held_at before n)
+abbrev pub repair_for : ℕ → List Entry → FullName → Option Datagram
+repair_for me before n = option_map (Repair me) (held_at before n)
 
 -- the requests and the repairs that an entry hands in
 abbrev pub answers_in : ℕ → Step Entry → List Datagram
-answers_in me s = packed me s.this.effects.asks ++ filter_map (repair_of me s.before) s.this.effects.fixes
+answers_in me s = packed me s.this.effects.asks ++ filter_map (repair_for me s.before) s.this.effects.fixes
 
 abbrev pub handed_by : ℕ → Step Entry → List (Classed Datagram)
 handed_by me s = data_item s.this.effects.drawn ++ map (answer_item (shown s.before)) (answers_in me s)
@@ -81,10 +81,10 @@ abbrev pub datagrams_of : List (Classed Datagram) → List Datagram
 datagrams_of goes = map (λ i. i.item.value) goes
 
 -- what goes in an entry are its charged outs, and at no other time does anything go
-pub record GoesRight (s : Step Going) : Type 0 where
+pub record GoesAsCharged (s : Step Going) : Type 0 where
   pub same : datagrams_of s.this.goes ≡ charged s.this.entry
   pub at_ticks : OnTrue (not (lets_go s)) (s.this.goes ≡ [])
 
 -- the outs are what a bucket of this rate and depth lets go
 abbrev pub BucketRight : Config → List Entry → Type 0
-BucketRight c es = (gs : List Going) × (entries_of gs ≡ es) × AllByRecursion GoesRight (steps gs) × BucketLaw c.rate c.depth (bucket_calls c.me gs)
+BucketRight c es = (gs : List Going) × (entries_of gs ≡ es) × AllByRecursion GoesAsCharged (steps gs) × BucketLaw c.rate c.depth (bucket_calls c.me gs)

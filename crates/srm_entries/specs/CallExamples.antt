@@ -20,12 +20,12 @@ use Rattle.srm_entries.specs.declared.entry.Input.TheVariants.{Drew, Heard, Nois
 use Rattle.srm_entries.specs.declared.entry.Verdict.TheVariants.{Done, Ignored, Refused}
 use Rattle.srm_entries.specs.Entries.{last_moment, shown, slots, held_at}
 use Rattle.srm_entries.specs.Verdicts.{verdict_of, stream_on, final, VerdictRight}
-use Rattle.srm_entries.specs.Sessions.{ending, session_due, echoes_due, row_due, members_left}
+use Rattle.srm_entries.specs.Sessions.{ending, session_due, echoes_owed, expected_row, members_remaining}
 use Rattle.srm_entries.specs.Bucket.{classed, answer_item}
 use Rattle.srm_entries.specs.Hearing.{bytes_heard}
 use Rattle.srm_entries.specs.Promises.{page_to_come}
-use Rattle.srm_entries.specs.Runs.{MomentRight, drawop_due}
-use Rattle.srm_entries.specs.Sample.{in_roster, zeros, drawop_of, quiet, entry, draws, hears, ticks, idle, let_go}
+use Rattle.srm_entries.specs.Runs.{MomentRight, expected_drawop}
+use Rattle.srm_entries.specs.Sample.{in_roster, first_stream, drawop_of, quiet, entry, draws, hears, ticks, idle, let_go}
 
 abbrev trio : ℕ → Config
 trio me = in_roster me 3 4204
@@ -40,7 +40,7 @@ ticked_once = ticks 0 1000 [] [] [] [] ∷ []
 last_counts : last_moment 0 ticked_once ≡ 1000
 last_counts = refl
 
-stamped_with_it : drawop_due (trio 0) ticked_once 1000 (Some (Drew first_page [])) ≡ Some (drawop_of 1 1000 [])
+stamped_with_it : expected_drawop (trio 0) ticked_once 1000 (Some (Drew first_page [])) ≡ Some (drawop_of 1 1000 [])
 stamped_with_it = refl
 
 not_before_it : MomentRight (trio 0) 0 ticked_once (draws 0 500 (drawop_of 1 500 [])) → ⊥
@@ -86,7 +86,7 @@ in_the_next_slot : slots (shows_another ∷ draws 0 3 (drawop_of 1 3 []) ∷ dra
 in_the_next_slot = refl
 
 -- the class of an answer is by the page shown when it is handed in
-other_class : map (λ p. (answer_item p (Request 0 (named zeros 1) 0)).class) (page 1 3 ∷ []) ≡ Other ∷ []
+other_class : map (λ p. (answer_item p (Request 0 (named first_stream 1) 0)).class) (page 1 3 ∷ []) ≡ Other ∷ []
 other_class = refl
 
 -- bytes: noise with its fault, the datagram that they spell, and noise to a gone member
@@ -116,12 +116,12 @@ abbrev known_three : List Entry
 known_three = hears 1 1 (Data (drawop_of 3 0 [])) [] ∷ []
 
 abbrev short_farewell : Datagram
-short_farewell = Session 0 5 true first_page (named zeros 2 ∷ []) []
+short_farewell = Session 0 5 true first_page (named first_stream 2 ∷ []) []
 
-no_finals : final (known_three ++ record (hears 1 2 short_farewell []) { verdict = Ignored causes.BeyondFinal } ∷ []) zeros ≡ None
+no_finals : final (known_three ++ record (hears 1 2 short_farewell []) { verdict = Ignored causes.BeyondFinal } ∷ []) first_stream ≡ None
 no_finals = refl
 
-first_body_stays : held_at (hears 1 1 (Data (drawop_of 1 0 (104 ∷ 105 ∷ []))) [] ∷ record (hears 1 2 (Repair 2 (drawop_of 1 0 (104 ∷ 111 ∷ []))) []) { verdict = Ignored causes.Conflict } ∷ []) (named zeros 1)
+first_body_stays : held_at (hears 1 1 (Data (drawop_of 1 0 (104 ∷ 105 ∷ []))) [] ∷ record (hears 1 2 (Repair 2 (drawop_of 1 0 (104 ∷ 111 ∷ []))) []) { verdict = Ignored causes.Conflict } ∷ []) (named first_stream 1)
     ≡ Some (drawop_of 1 0 (104 ∷ 105 ∷ []))
 first_body_stays = refl
 
@@ -134,7 +134,7 @@ abbrev of_sixteen : List Entry
 of_sixteen = map (λ m. hears 0 1 (Session m 1 false first_page (named (stream_on m first_page) 1 ∷ []) []) []) (count_up 1 15)
 
 abbrev report_of_sixteen : Datagram
-report_of_sixteen = Session 0 1000000 false first_page (map (λ m. named (stream_on m first_page) 1) (count_up 0 16)) (echoes_due (in_roster 0 16 4204) of_sixteen 1000000)
+report_of_sixteen = Session 0 1000000 false first_page (map (λ m. named (stream_on m first_page) 1) (count_up 0 16)) (echoes_owed (in_roster 0 16 4204) of_sixteen 1000000)
 
 length_of_sixteen : length_of report_of_sixteen ≡ 406
 length_of_sixteen = refl
@@ -146,20 +146,20 @@ pause_of_sixteen = refl
 abbrev one_left : List Entry
 one_left = of_sixteen ++ hears 0 2 (Session 3 2 true first_page (named (stream_on 3 first_page) 1 ∷ []) []) [] ∷ []
 
-fifteen_left : members_left (in_roster 0 16 4204) one_left ≡ 15
+fifteen_left : members_remaining (in_roster 0 16 4204) one_left ≡ 15
 fifteen_left = refl
 
-no_echo_to_it : map (λ e. e.member) (echoes_due (in_roster 0 16 4204) one_left 5) ≡ 1 ∷ 2 ∷ count_up 4 12
+no_echo_to_it : map (λ e. e.member) (echoes_owed (in_roster 0 16 4204) one_left 5) ≡ 1 ∷ 2 ∷ count_up 4 12
 no_echo_to_it = refl
 
 -- rows: of the page shown in a report, of one's own on all pages in a farewell
 abbrev drew_on_two : List Entry
 drew_on_two = drawn_on_page first_page 0 ∷ drawn_on_page (page 1 3) 0 ∷ hears 0 2 (Data (record { name = named (stream_on 1 first_page) 4; stamp = 0; body = [] })) [] ∷ []
 
-rows_of_a_report : map (row_due (trio 0) drew_on_two false) (zeros ∷ stream_on 1 first_page ∷ stream_on 0 (page 1 3) ∷ stream_on 2 first_page ∷ []) ≡ Some 1 ∷ Some 4 ∷ None ∷ None ∷ []
+rows_of_a_report : map (expected_row (trio 0) drew_on_two false) (first_stream ∷ stream_on 1 first_page ∷ stream_on 0 (page 1 3) ∷ stream_on 2 first_page ∷ []) ≡ Some 1 ∷ Some 4 ∷ None ∷ None ∷ []
 rows_of_a_report = refl
 
-rows_of_a_farewell : map (row_due (trio 0) drew_on_two true) (zeros ∷ stream_on 1 first_page ∷ stream_on 0 (page 1 3) ∷ stream_on 2 first_page ∷ []) ≡ Some 1 ∷ None ∷ Some 1 ∷ None ∷ []
+rows_of_a_farewell : map (expected_row (trio 0) drew_on_two true) (first_stream ∷ stream_on 1 first_page ∷ stream_on 0 (page 1 3) ∷ stream_on 2 first_page ∷ []) ≡ Some 1 ∷ None ∷ Some 1 ∷ None ∷ []
 rows_of_a_farewell = refl
 
 -- a leaving member whose data waits sends an ordinary session message when it is due

@@ -2,7 +2,7 @@
 use Rattle.std.specs.Prelude.{ℕ, ◌<◌, ◌≤◌}
 use Rattle.srm_names.specs.declared.limits.TheConstants.{MEMBERS}
 use Rattle.srm_bucket.specs.declared.limits.TheConstants.{LEAST_RATE, GREATEST_RATE, LEAST_DEPTH, GREATEST_DEPTH}
-use Rattle.srm_timers.specs.declared.limits.TheConstants.{TIMER_SETTING}
+use Rattle.srm_timers.specs.declared.limits.TheConstants.{GREATEST_TIMER_SETTING}
 use Rattle.srm_entries.specs.declared.settings.Settings.{Settings}
 
 -- The roster is the members below `members`. The rate is in bytes a second, the depth in bytes; a request waits from c1 to
@@ -25,10 +25,10 @@ pub record IsConfig (c : Config) : Type 0 where
   pub greatest_rate : c.rate ≤ GREATEST_RATE
   pub least_depth : LEAST_DEPTH ≤ c.depth
   pub greatest_depth : c.depth ≤ GREATEST_DEPTH
-  pub c1 : c.c1 ≤ TIMER_SETTING
-  pub c2 : c.c2 ≤ TIMER_SETTING
-  pub d1 : c.d1 ≤ TIMER_SETTING
-  pub d2 : c.d2 ≤ TIMER_SETTING
+  pub c1 : c.c1 ≤ GREATEST_TIMER_SETTING
+  pub c2 : c.c2 ≤ GREATEST_TIMER_SETTING
+  pub d1 : c.d1 ≤ GREATEST_TIMER_SETTING
+  pub d2 : c.d2 ≤ GREATEST_TIMER_SETTING
 
 -- what most members take: the rate and the depth of small sessions, requests after 2 to 4 distances, repairs after 1 to 2
 abbrev pub default_settings : Settings

@@ -8,7 +8,7 @@ use Rattle.srm_codec.specs.declared.datagram.Datagram.TheVariants.{Session}
 use Rattle.srm_distance.specs.Calls.{Call, Heard, Forgot}
 use Rattle.srm_distance.specs.Distance as distances
 use Rattle.srm_entries.specs.declared.entry.Entry.{Entry}
-use Rattle.srm_entries.specs.Entries.{heard}
+use Rattle.srm_entries.specs.Entries.{accepted}
 
 -- the echo for a member: the moment that it answers, and how long it waited
 abbrev pub echo_for : ℕ → List Echo → Option (ℕ × ℕ)
@@ -22,7 +22,7 @@ calls_of me now (Some (Session sender sent farewell shown rows echoes)) = Heard 
 calls_of me now _ = []
 
 abbrev pub calls_in : ℕ → Entry → List Call
-calls_in me e = calls_of me e.moment (heard e)
+calls_in me e = calls_of me e.moment (accepted e)
 
 abbrev pub distance_calls : ℕ → List Entry → List Call
 distance_calls me es = flat_map (calls_in me) es

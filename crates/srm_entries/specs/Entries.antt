@@ -32,8 +32,8 @@ heard_in (Some (Heard datagram)) = Some datagram
 heard_in _ = None
 
 -- the datagram that was heard and taken
-abbrev pub heard : Entry → Option Datagram
-heard e = heard_in (done e)
+abbrev pub accepted : Entry → Option Datagram
+accepted e = heard_in (done e)
 
 abbrev pub is_tick : Input → Bool
 is_tick Ticked = true
@@ -101,7 +101,7 @@ drawops_in _ = []
 
 -- the drawops that were drawn, or heard as data or repairs
 abbrev pub held_by : Entry → List Drawop
-held_by e = option_to_list e.effects.drawn ++ drawops_in (heard e)
+held_by e = option_to_list e.effects.drawn ++ drawops_in (accepted e)
 
 abbrev pub held : List Entry → List Drawop
 held es = flat_map held_by es
@@ -118,18 +118,18 @@ names_heard (Some datagram) = names_in datagram
 names_heard None = []
 
 -- the names that were drawn, or that stand in what was heard
-abbrev pub shown_by : Entry → List FullName
-shown_by e = map (λ d. d.name) (option_to_list e.effects.drawn) ++ names_heard (heard e)
+abbrev pub evidence_by : Entry → List FullName
+evidence_by e = map (λ d. d.name) (option_to_list e.effects.drawn) ++ names_heard (accepted e)
 
-abbrev pub shown_to_exist : List Entry → List FullName
-shown_to_exist es = flat_map shown_by es
+abbrev pub evidence_in : List Entry → List FullName
+evidence_in es = flat_map evidence_by es
 
 -- the greatest number of the stream that was drawn or heard of
 abbrev pub known : List Entry → Stream → ℕ
-known es s = store.known (shown_to_exist es) s
+known es s = store.known (evidence_in es) s
 
 abbrev pub is_missing : List Entry → FullName → Bool
-is_missing es n = store.is_missing (held es) (shown_to_exist es) n
+is_missing es n = store.is_missing (held es) (evidence_in es) n
 
 -- the held drawops of the stream in front of the first one that is missing
 abbrev pub released : List Entry → Stream → List Drawop

@@ -8,9 +8,9 @@ use Rattle.srm_entries.specs.Configs.{Config, default_settings, config_with}
 use Rattle.srm_entries.specs.declared.entry.Entry.{Entry}
 use Rattle.srm_timers.specs.declared.arm.Arm.{Arm}
 use Rattle.srm_entries.specs.Distances.{distance}
-use Rattle.srm_timers.specs.Arms.{setting, arm_of}
-use Rattle.srm_entries.specs.Sample.{in_roster, zeros, drawop_of, hears, ticks, ask_arm, fix_arm, ask_set, fix_set}
-use Rattle.srm_entries.specs.Timers.{setting_of, ask_due, fix_due, low_of, high_of}
+use Rattle.srm_timers.specs.Arms.{wait_basis, arm_of}
+use Rattle.srm_entries.specs.Sample.{in_roster, first_stream, drawop_of, hears, ticks, ask_arm, fix_arm, ask_set, fix_set}
+use Rattle.srm_entries.specs.Timers.{basis_of, ask_due, fix_due, low_of, high_of}
 
 abbrev config : ℕ → Config
 config me = in_roster me 4 4204
@@ -26,31 +26,31 @@ of_another_rate = refl
 abbrev gap : Entry
 gap = hears 1 1000000 (Data (drawop_of 2 0 [])) (ask_arm 1 0 200000 ∷ [])
 
-gap_arms : map (setting_of 1 [] gap) (names_up_to zeros 4) ≡ ask_set 0 ∷ None ∷ None ∷ None ∷ []
+gap_arms : map (basis_of 1 [] gap) (names_up_to first_stream 4) ≡ ask_set 0 ∷ None ∷ None ∷ None ∷ []
 gap_arms = refl
 
-not_yet : ask_due (gap ∷ []) (named zeros 1) 1199999 ≡ false
+not_yet : ask_due (gap ∷ []) (named first_stream 1) 1199999 ≡ false
 not_yet = refl
 
-then_due : map (λ n. ask_due (gap ∷ []) n 1200000) (names_up_to zeros 4) ≡ true ∷ false ∷ false ∷ false ∷ []
+then_due : map (λ n. ask_due (gap ∷ []) n 1200000) (names_up_to first_stream 4) ≡ true ∷ false ∷ false ∷ false ∷ []
 then_due = refl
 
-asks_again : setting_of 1 (gap ∷ []) (ticks 1 1200000 (named zeros 1 ∷ []) [] [] []) (named zeros 1) ≡ ask_set 1
+asks_again : basis_of 1 (gap ∷ []) (ticks 1 1200000 (named first_stream 1 ∷ []) [] [] []) (named first_stream 1) ≡ ask_set 1
 asks_again = refl
 
 -- a request of another backs it off, and one before the ignore moment does nothing
 abbrev asked : ℕ → List Arm → Entry
-asked now arms = hears 1 now (Request 2 (named zeros 1) 0) arms
+asked now arms = hears 1 now (Request 2 (named first_stream 1) 0) arms
 
-backed_off : setting_of 1 (gap ∷ []) (asked 1050000 []) (named zeros 1) ≡ ask_set 1
+backed_off : basis_of 1 (gap ∷ []) (asked 1050000 []) (named first_stream 1) ≡ ask_set 1
 unfolding bits_set
 backed_off = refl
 
-ignored : setting_of 1 (gap ∷ asked 1050000 (ask_arm 1 1 400000 ∷ []) ∷ []) (asked 1249999 []) (named zeros 1) ≡ None
+ignored : basis_of 1 (gap ∷ asked 1050000 (ask_arm 1 1 400000 ∷ []) ∷ []) (asked 1249999 []) (named first_stream 1) ≡ None
 unfolding bits_set
 ignored = refl
 
-backed_off_again : setting_of 1 (gap ∷ asked 1050000 (ask_arm 1 1 400000 ∷ []) ∷ []) (asked 1250000 []) (named zeros 1) ≡ ask_set 2
+backed_off_again : basis_of 1 (gap ∷ asked 1050000 (ask_arm 1 1 400000 ∷ []) ∷ []) (asked 1250000 []) (named first_stream 1) ≡ ask_set 2
 unfolding bits_set
 backed_off_again = refl
 
@@ -59,26 +59,26 @@ abbrev one : Drawop
 one = drawop_of 1 0 []
 
 abbrev holding : List Entry
-holding = hears 2 1 (Data one) [] ∷ hears 2 5000000 (Request 1 (named zeros 1) 0) (fix_arm 1 100000 ∷ []) ∷ []
+holding = hears 2 1 (Data one) [] ∷ hears 2 5000000 (Request 1 (named first_stream 1) 0) (fix_arm 1 100000 ∷ []) ∷ []
 
-fix_armed : setting_of 2 (hears 2 1 (Data one) [] ∷ []) (hears 2 5000000 (Request 1 (named zeros 1) 0) []) (named zeros 1) ≡ fix_set
+fix_armed : basis_of 2 (hears 2 1 (Data one) [] ∷ []) (hears 2 5000000 (Request 1 (named first_stream 1) 0) []) (named first_stream 1) ≡ fix_set
 unfolding bits_set
 fix_armed = refl
 
-fix_runs_out : fix_due holding (named zeros 1) 5100000 ≡ true
+fix_runs_out : fix_due holding (named first_stream 1) 5100000 ≡ true
 fix_runs_out = refl
 
 abbrev repaired : List Entry
 repaired = holding ++ hears 2 5099999 (Repair 3 one) [] ∷ []
 
-cancelled : fix_due repaired (named zeros 1) 5100000 ≡ false
+cancelled : fix_due repaired (named first_stream 1) 5100000 ≡ false
 cancelled = refl
 
-still_held_off : setting_of 2 repaired (hears 2 5399998 (Request 1 (named zeros 1) 0) []) (named zeros 1) ≡ None
+still_held_off : basis_of 2 repaired (hears 2 5399998 (Request 1 (named first_stream 1) 0) []) (named first_stream 1) ≡ None
 unfolding bits_set
 still_held_off = refl
 
-held_off_no_more : setting_of 2 repaired (hears 2 5399999 (Request 1 (named zeros 1) 0) []) (named zeros 1) ≡ fix_set
+held_off_no_more : basis_of 2 repaired (hears 2 5399999 (Request 1 (named first_stream 1) 0) []) (named first_stream 1) ≡ fix_set
 unfolding bits_set
 held_off_no_more = refl
 
@@ -93,7 +93,7 @@ first_counts : distance (echoed 1110000 ∷ echoed 1200000 ∷ []) 1 2 ≡ 40000
 first_counts = refl
 
 -- a packed request for 1 and 3, with nothing known
-packed_heard : map (setting_of 1 [] (hears 1 1000000 (Request 2 (named zeros 1) 2) [])) (names_up_to zeros 4) ≡ ask_set 1 ∷ ask_set 0 ∷ ask_set 1 ∷ None ∷ []
+packed_heard : map (basis_of 1 [] (hears 1 1000000 (Request 2 (named first_stream 1) 2) [])) (names_up_to first_stream 4) ≡ ask_set 1 ∷ ask_set 0 ∷ ask_set 1 ∷ None ∷ []
 unfolding bits_set
 packed_heard = refl
 
@@ -101,7 +101,7 @@ packed_heard = refl
 abbrev holds_two : List Entry
 holds_two = hears 2 1 (Data (drawop_of 1 0 [])) [] ∷ hears 2 2 (Data (drawop_of 3 0 [])) (ask_arm 2 0 200000 ∷ []) ∷ []
 
-mixed : map (setting_of 2 holds_two (hears 2 10 (Request 1 (named zeros 1) 3) [])) (names_up_to zeros 3)
+mixed : map (basis_of 2 holds_two (hears 2 10 (Request 1 (named first_stream 1) 3) [])) (names_up_to first_stream 3)
     ≡ fix_set ∷ ask_set 1 ∷ fix_set ∷ []
 unfolding bits_set
 mixed = refl
@@ -124,5 +124,5 @@ gap_in_order : ascending name_below (map (λ a. a.name) gap.effects.arms) ≡ tr
 gap_in_order = refl
 
 -- in order of name, with none for a name that isn't missing
-gap_exact : map (λ n. option_map setting (arm_of n gap.effects.arms)) (names_up_to zeros 4) ≡ map (setting_of 1 [] gap) (names_up_to zeros 4)
+gap_exact : map (λ n. option_map wait_basis (arm_of n gap.effects.arms)) (names_up_to first_stream 4) ≡ map (basis_of 1 [] gap) (names_up_to first_stream 4)
 gap_exact = refl

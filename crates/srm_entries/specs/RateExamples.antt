@@ -14,7 +14,7 @@ use Rattle.srm_entries.specs.declared.entry.Entry.{Entry}
 use Rattle.srm_entries.specs.declared.state.AgentState.TheVariants.{Active}
 use Rattle.srm_entries.specs.declared.entry.Input.TheVariants.{Showed}
 use Rattle.srm_entries.specs.Bucket.{Going, classed, entries_of}
-use Rattle.srm_entries.specs.Rates.{of_class, handed_so_far, gone_so_far, left_of, cost_all, ticks_of}
+use Rattle.srm_entries.specs.Rates.{of_class, handed_so_far, departed_so_far, queued_of, cost_all, ticks_of}
 use Rattle.srm_entries.specs.Sample.{drawop_of, quiet, entry, draws, ticks, idle}
 
 -- five data of 1,051 bytes are drawn: four go at once, the fifth 131,375 microseconds later
@@ -36,13 +36,13 @@ all_gone = drawn ++ four_go ∷ fifth_goes ∷ []
 handed_in : handed_so_far 0 (entries_of all_gone) ≡ map (λ n. classed New (Data (full n))) (count_up 1 5)
 handed_in = refl
 
-gone_in_order : gone_so_far all_gone ≡ handed_so_far 0 (entries_of all_gone)
+gone_in_order : departed_so_far all_gone ≡ handed_so_far 0 (entries_of all_gone)
 gone_in_order = refl
 
-fifth_is_left : first_of_highest (left_of 0 (drawn ++ four_go ∷ [])) ≡ Some (classed New (Data (full 5)))
+fifth_is_left : first_of_highest (queued_of 0 (drawn ++ four_go ∷ [])) ≡ Some (classed New (Data (full 5)))
 fifth_is_left = refl
 
-nothing_is_left : first_of_highest (left_of 0 all_gone) ≡ None
+nothing_is_left : first_of_highest (queued_of 0 all_gone) ≡ None
 nothing_is_left = refl
 
 one_costs : cost_all (Data (full 1) ∷ []) ≡ 1051000000

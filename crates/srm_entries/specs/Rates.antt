@@ -15,7 +15,7 @@ use Rattle.srm_entries.specs.Configs.{Config}
 use Rattle.srm_entries.specs.declared.entry.Entry.{Entry}
 use Rattle.srm_entries.specs.Entries.{ticked}
 use Rattle.srm_entries.specs.Sessions.{charged}
-use Rattle.srm_entries.specs.Bucket.{Going, GoesRight, entries_of, handed_by, lets_go}
+use Rattle.srm_entries.specs.Bucket.{Going, GoesAsCharged, entries_of, handed_by, lets_go}
 use Rattle.srm_entries.specs.Runs.{IsMemberRun}
 
 abbrev pub one_of_class : Class → Classed Datagram → List (Item Datagram)
@@ -29,12 +29,12 @@ of_class class items = flat_map (one_of_class class) items
 abbrev pub handed_so_far : ℕ → List Entry → List (Classed Datagram)
 handed_so_far me es = flat_map (handed_by me) (steps es)
 
-abbrev pub gone_so_far : List Going → List (Classed Datagram)
-gone_so_far gs = flat_map (λ g. g.goes) gs
+abbrev pub departed_so_far : List Going → List (Classed Datagram)
+departed_so_far gs = flat_map (λ g. g.goes) gs
 
 -- what is left of a class
-abbrev pub left_of : ℕ → List Going → Class → List (Item Datagram)
-left_of me gs class = drop (length (of_class class (gone_so_far gs))) (of_class class (handed_so_far me (entries_of gs)))
+abbrev pub queued_of : ℕ → List Going → Class → List (Item Datagram)
+queued_of me gs class = drop (length (of_class class (departed_so_far gs))) (of_class class (handed_so_far me (entries_of gs)))
 
 -- what the datagrams cost, in millionths of a byte
 abbrev pub cost_all : List Datagram → ℕ
@@ -53,19 +53,19 @@ ticks_of es = flat_map tick_in es
 --     highest_first   when something goes, nothing that was handed in of a higher class is left
 --     all_that_may    at the end of a tick nothing is left, or what would go next costs more than the level
 pub record RightAt (c : Config) (before : List Going) (this : Going) : Type 0 where
-  pub in_order : (class : Class) → IsPrefix (of_class class (gone_so_far (before ++ this ∷ []))) (of_class class (handed_so_far c.me (entries_of (before ++ this ∷ []))))
+  pub in_order : (class : Class) → IsPrefix (of_class class (departed_so_far (before ++ this ∷ []))) (of_class class (handed_so_far c.me (entries_of (before ++ this ∷ []))))
   pub highest_first : (first rest : List (Classed Datagram)) (i : Classed Datagram) → this.goes ≡ first ++ i ∷ rest → (class : Class) → rank class < rank i.class
-      → of_class class (gone_so_far before ++ first) ≡ of_class class (handed_so_far c.me (entries_of (before ++ this ∷ [])))
+      → of_class class (departed_so_far before ++ first) ≡ of_class class (handed_so_far c.me (entries_of (before ++ this ∷ [])))
   pub all_that_may : OnTrue (lets_go (record { before = before; this = this }))
-      (IfSome (first_of_highest (left_of c.me (before ++ this ∷ []))) (λ i. level c.rate c.depth this.entry.moment (ticks_of (entries_of (before ++ this ∷ []))) < cost (Some i)))
+      (IfSome (first_of_highest (queued_of c.me (before ++ this ∷ []))) (λ i. level c.rate c.depth this.entry.moment (ticks_of (entries_of (before ++ this ∷ []))) < cost (Some i)))
 
 -- The charged outs can be marked with classes so that each entry is right; and from one tick to the same or a later one, both
 -- counted, no more is charged than the depth, and the rate times the time between.
 pub record KeepsRate (c : Config) (es : List Entry) : Type 0 where
-  pub marks : List Going
-  pub entries : entries_of marks ≡ es
-  pub outs : AllByRecursion GoesRight (steps marks)
-  pub each : (before after : List Going) (this : Going) → marks ≡ before ++ this ∷ after → RightAt c before this
+  pub goings : List Going
+  pub entries : entries_of goings ≡ es
+  pub outs : AllByRecursion GoesAsCharged (steps goings)
+  pub each : (before after : List Going) (this : Going) → goings ≡ before ++ this ∷ after → RightAt c before this
   pub one_tick : (before after : List Entry) (e : Entry) → es ≡ before ++ e ∷ after → ticked e ≡ true
       → charge (ticks_of (e ∷ [])) ≤ allowance c.rate c.depth e.moment e.moment
   pub windows : (before between after : List Entry) (e f : Entry) → es ≡ before ++ e ∷ between ++ f ∷ after → ticked e ≡ true → ticked f ≡ true

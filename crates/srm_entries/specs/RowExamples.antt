@@ -12,7 +12,7 @@ use Rattle.srm_codec.specs.Spelling.{bits_set, length_of}
 use Rattle.srm_bucket.specs.declared.class.Class.{Class}
 use Rattle.srm_bucket.specs.declared.class.Class.TheVariants.{Shown, New, Other}
 use Rattle.srm_bucket.specs.Calls.{Classed, Call, Handed, Popped}
-use Rattle.srm_bucket.specs.Classes.{rank, gone}
+use Rattle.srm_bucket.specs.Classes.{rank, departed}
 use Rattle.srm_bucket.specs.Classes as bucket
 use Rattle.srm_bucket.specs.Law.{may_go, GoesRight as CallRight}
 use Rattle.srm_entries.specs.declared.entry.Entry.{Entry}
@@ -23,11 +23,11 @@ use Rattle.srm_entries.specs.declared.entry.Input.TheVariants.{Drew, Heard, Tick
 use Rattle.srm_entries.specs.declared.entry.Verdict.{Verdict}
 use Rattle.srm_entries.specs.declared.entry.Verdict.TheVariants.{Done, Ignored, Refused}
 use Rattle.srm_entries.specs.Verdicts.{verdict_of, stream_on}
-use Rattle.srm_entries.specs.Sessions.{ending, session_due, echoes_due}
+use Rattle.srm_entries.specs.Sessions.{ending, session_due, echoes_owed}
 use Rattle.srm_entries.specs.Packing.{packed}
-use Rattle.srm_entries.specs.Bucket.{Going, GoesRight, BucketRight, classed, entries_of, calls_by, bucket_calls}
+use Rattle.srm_entries.specs.Bucket.{Going, GoesAsCharged, BucketRight, classed, entries_of, calls_by, bucket_calls}
 use Rattle.srm_entries.specs.Giving.{GiveRight, given, is_smallest}
-use Rattle.srm_entries.specs.Sample.{in_roster, zeros, drawop_of, quiet, entry, draws, hears, idle}
+use Rattle.srm_entries.specs.Sample.{in_roster, first_stream, drawop_of, quiet, entry, draws, hears, idle}
 
 -- verdicts at member 1 in a roster of 3
 abbrev judged : List Entry → Datagram → Verdict
@@ -37,7 +37,7 @@ abbrev known_three : List Entry
 known_three = hears 1 1 (Data (drawop_of 3 0 [])) [] ∷ []
 
 abbrev farewell_with : ℕ → Datagram
-farewell_with n = Session 0 5 true first_page (named zeros n ∷ []) []
+farewell_with n = Session 0 5 true first_page (named first_stream n ∷ []) []
 
 abbrev of_page : ℕ → ℕ → Drawop
 of_page page number = record { name = named (stream_on 0 (record { creator = 0; number = page })) number; stamp = 0; body = [] }
@@ -78,10 +78,10 @@ long_body : verdict_of (in_roster 1 3 4204) [] (Drew first_page (replicate 1025 
 long_body = refl
 
 -- requests are packed: 1, 3 and 33 into one, 34 into another
-packs : packed 1 (named zeros 1 ∷ named zeros 3 ∷ named zeros 33 ∷ named zeros 34 ∷ []) ≡ Request 1 (named zeros 1) 0x80000002 ∷ Request 1 (named zeros 34) 0 ∷ []
+packs : packed 1 (named first_stream 1 ∷ named first_stream 3 ∷ named first_stream 33 ∷ named first_stream 34 ∷ []) ≡ Request 1 (named first_stream 1) 0x80000002 ∷ Request 1 (named first_stream 34) 0 ∷ []
 packs = refl
 
-four_asks : map length_of (packed 1 (names_up_to zeros 4)) ≡ 21 ∷ []
+four_asks : map length_of (packed 1 (names_up_to first_stream 4)) ≡ 21 ∷ []
 four_asks = refl
 
 -- five data of 1,051 bytes with a full bucket: the fifth waits for 131,375 microseconds
@@ -121,7 +121,7 @@ in_time : goes_at 8000 1051 two_going 131385 ≡ true
 in_time = refl
 
 abbrev farewell_two : Datagram
-farewell_two = Session 0 131385 true first_page (named zeros 2 ∷ []) []
+farewell_two = Session 0 131385 true first_page (named first_stream 2 ∷ []) []
 
 refused : verdict_of (in_roster 0 1 1051) two (Drew first_page []) ≡ Refused faults.Leaving
 refused = refl
@@ -176,7 +176,7 @@ abbrev all_heard : List Entry
 all_heard = map (λ m. hears 0 1 (Session m 1 false first_page (named (stream_on m first_page) 1 ∷ []) []) []) (count_up 1 31)
 
 abbrev big : Datagram
-big = Session 0 1000000 false first_page (map (λ m. named (stream_on m first_page) 1) (count_up 0 32)) (echoes_due (in_roster 0 32 4204) all_heard 1000000)
+big = Session 0 1000000 false first_page (map (λ m. named (stream_on m first_page) 1) (count_up 0 32)) (echoes_owed (in_roster 0 32 4204) all_heard 1000000)
 
 big_length : length_of big ≡ 806
 big_length = refl
@@ -185,13 +185,13 @@ big_pause : session_due (in_roster 0 32 4204) 0 (all_heard ++ entry 0 1000000 Ti
 big_pause = refl
 
 -- the newest message of a member is echoed, and an older one that comes later isn't
-echoed : echoes_due (in_roster 0 3 4204) (hears 0 600000 (Session 1 500000 false first_page [] []) [] ∷ hears 0 700000 (Session 1 400000 false first_page [] []) [] ∷ []) 800000
+echoed : echoes_owed (in_roster 0 3 4204) (hears 0 600000 (Session 1 500000 false first_page [] []) [] ∷ hears 0 700000 (Session 1 400000 false first_page [] []) [] ∷ []) 800000
     ≡ record { member = 1; t1 = 500000; delay = 200000 } ∷ []
 echoed = refl
 
 -- a tick hands in its requests and then its repairs, by the page shown, and pops until nothing goes
 abbrev answering : Entry
-answering = entry 0 9 Ticked (record (quiet Active) { asks = named (stream_on 1 first_page) 2 ∷ []; fixes = named zeros 1 ∷ [] })
+answering = entry 0 9 Ticked (record (quiet Active) { asks = named (stream_on 1 first_page) 2 ∷ []; fixes = named first_stream 1 ∷ [] })
 
 answers_first : calls_by 0 (record { before = draws_full 1 ∷ []; this = record { entry = answering; goes = [] } })
     ≡ Handed (classed Shown (Request 0 (named (stream_on 1 first_page) 2) 0)) ∷ Handed (classed Shown (Repair 0 (full 1))) ∷ Popped 9 None ∷ []
@@ -213,33 +213,33 @@ popped_two = popped_one ++ Popped 10 None ∷ []
 bucket_holds : BucketRight (in_roster 0 1 1051) (entries_of (take 3 two_going))
 bucket_holds = (take 3 two_going, refl, (goes_right, (goes_right, (tick_right, tt))), (drawn, (drawn_too, (goes, (ends, tt)))))
   where
-    goes_right : {n : ℕ} {before : List Going} → GoesRight (record { before = before; this = draws_full n })
+    goes_right : {n : ℕ} {before : List Going} → GoesAsCharged (record { before = before; this = draws_full n })
     goes_right = record { same = refl; at_ticks = refl }
 
-    tick_right : GoesRight (record { before = take 2 two_going; this = first_tick })
+    tick_right : GoesAsCharged (record { before = take 2 two_going; this = first_tick })
     tick_right = record { same = refl; at_ticks = tt }
 
     drawn : CallRight 8000 1051 [] handed_one (Handed (data_of 1))
     drawn = record { in_order = prefixes; highest_first = tt; not_too_much = tt; all_that_may = tt }
       where
-        prefixes : (class : Class) → IsPrefix (gone class handed_one) (bucket.handed class handed_one)
+        prefixes : (class : Class) → IsPrefix (departed class handed_one) (bucket.handed class handed_one)
         prefixes class = (bucket.handed class handed_one, refl)
 
     drawn_too : CallRight 8000 1051 handed_one handed_two (Handed (data_of 2))
     drawn_too = record { in_order = prefixes; highest_first = tt; not_too_much = tt; all_that_may = tt }
       where
-        prefixes : (class : Class) → IsPrefix (gone class handed_two) (bucket.handed class handed_two)
+        prefixes : (class : Class) → IsPrefix (departed class handed_two) (bucket.handed class handed_two)
         prefixes class = (bucket.handed class handed_two, refl)
 
     goes : CallRight 8000 1051 handed_two popped_one (Popped 10 (Some (data_of 1)))
     goes = record { in_order = prefixes; highest_first = higher; not_too_much = (lit≤ tt, lit≤ tt, tt); all_that_may = tt }
       where
-        prefixes : (class : Class) → IsPrefix (gone class popped_one) (bucket.handed class popped_one)
+        prefixes : (class : Class) → IsPrefix (departed class popped_one) (bucket.handed class popped_one)
         prefixes Shown = ([], refl)
         prefixes New = ((data_of 2).item ∷ [], refl)
         prefixes Other = ([], refl)
 
-        higher : (class : Class) → rank class < 2 → gone class handed_two ≡ bucket.handed class handed_two
+        higher : (class : Class) → rank class < 2 → departed class handed_two ≡ bucket.handed class handed_two
         higher Shown l = refl
         higher New l = absurd (omega arith)
         higher Other l = absurd (omega arith)
@@ -247,7 +247,7 @@ bucket_holds = (take 3 two_going, refl, (goes_right, (goes_right, (tick_right, t
     ends : CallRight 8000 1051 popped_one popped_two (Popped 10 None)
     ends = record { in_order = prefixes; highest_first = tt; not_too_much = (lit≤ tt, lit≤ tt, tt); all_that_may = lit< tt }
       where
-        prefixes : (class : Class) → IsPrefix (gone class popped_two) (bucket.handed class popped_two)
+        prefixes : (class : Class) → IsPrefix (departed class popped_two) (bucket.handed class popped_two)
         prefixes Shown = ([], refl)
         prefixes New = ((data_of 2).item ∷ [], refl)
         prefixes Other = ([], refl)

@@ -13,7 +13,7 @@ use Rattle.srm_entries.specs.declared.state.AgentState.{AgentState}
 use Rattle.srm_entries.specs.declared.state.AgentState.TheVariants.{Leaving, Gone}
 use Rattle.srm_entries.specs.declared.entry.Input.{Input}
 use Rattle.srm_entries.specs.declared.entry.Input.TheVariants.{Drew, AskedLeave}
-use Rattle.srm_entries.specs.Entries.{done, heard, ticked, state, is_gone, takes_moment, last_moment, is_held, is_missing}
+use Rattle.srm_entries.specs.Entries.{done, accepted, ticked, state, is_gone, takes_moment, last_moment, is_held, is_missing}
 use Rattle.srm_timers.specs.declared.arm.Armed.{Armed}
 use Rattle.srm_entries.specs.Timers.{arm_in, asks_for, repaired, last_ask, held_off, fix_running, high_of, ArmsRight, TimersRight}
 use Rattle.srm_entries.specs.Verdicts.{VerdictRight, drawn_in, stream_on}
@@ -22,15 +22,15 @@ use Rattle.srm_entries.specs.Bucket.{BucketRight}
 use Rattle.srm_entries.specs.Giving.{MessageRight}
 
 -- a draw makes the next drawop of its stream, with its own moment as stamp
-abbrev pub drawop_due : Config → List Entry → ℕ → Option Input → Option Drawop
-drawop_due c before now (Some (Drew page body)) =
+abbrev pub expected_drawop : Config → List Entry → ℕ → Option Input → Option Drawop
+expected_drawop c before now (Some (Drew page body)) =
     Some (record { name = named (stream_on c.me page) (drawn_in before (stream_on c.me page) + 1); stamp = now; body = body })
-drawop_due c before now _ = None
+expected_drawop c before now _ = None
 
-abbrev pub state_due : AgentState → Bool → Option Input → AgentState
-state_due old true input = Gone
-state_due old false (Some AskedLeave) = Leaving
-state_due old false _ = old
+abbrev pub expected_state : AgentState → Bool → Option Input → AgentState
+expected_state old true input = Gone
+expected_state old false (Some AskedLeave) = Leaving
+expected_state old false _ = old
 
 -- a moment never falls; what takes none has the last one
 abbrev pub MomentRight : Config → ℕ → List Entry → Entry → Type 0
@@ -41,15 +41,15 @@ pub record EntryRight (c : Config) (made : ℕ) (s : Step Entry) : Type 0 where
   pub member : s.this.member ≡ c.me
   pub moment : MomentRight c made s.before s.this
   pub verdict : VerdictRight c s.before s.this.input s.this.verdict
-  pub drawn : s.this.effects.drawn ≡ drawop_due c s.before s.this.moment (done s.this)
+  pub drawn : s.this.effects.drawn ≡ expected_drawop c s.before s.this.moment (done s.this)
   pub arms : ArmsRight c s.before s.this
   pub timers : TimersRight s.before s.this
   pub senders : AllByRecursion (λ g. sender_of g ≡ c.me) s.this.effects.outs
   pub spelled : AllByRecursion IsSpellable s.this.effects.outs
-  pub read : IfSome (heard s.this) IsSpellable
+  pub read : IfSome (accepted s.this) IsSpellable
   pub session : SessionRight c made s.before s.this
   pub message : MessageRight c s.before s.this.input s.this.effects.message
-  pub state : s.this.effects.state ≡ state_due (state s.before) (list_any is_farewell s.this.effects.outs) (done s.this)
+  pub state : s.this.effects.state ≡ expected_state (state s.before) (list_any is_farewell s.this.effects.outs) (done s.this)
 
 -- the entries are a run of a member that was made at a moment
 pub record IsMemberRun (c : Config) (made : ℕ) (es : List Entry) : Type 0 where

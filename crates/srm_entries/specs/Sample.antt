@@ -12,7 +12,7 @@ use Rattle.srm_bucket.specs.Calls.{Classed, Call, Handed, Refilled, Popped}
 use Rattle.srm_bucket.specs.Law.{may_go}
 use Rattle.srm_timers.specs.declared.arm.Arm.{Arm}
 use Rattle.srm_timers.specs.declared.arm.ArmKind.TheVariants.{Ask, Fix}
-use Rattle.srm_timers.specs.Arms.{Setting}
+use Rattle.srm_timers.specs.Arms.{WaitBasis}
 use Rattle.srm_entries.specs.Configs.{Config}
 use Rattle.srm_entries.specs.declared.entry.Entry.{Entry}
 use Rattle.srm_entries.specs.declared.entry.Effects.{Effects}
@@ -28,21 +28,21 @@ abbrev pub in_roster : ℕ → ℕ → ℕ → Config
 in_roster me members depth = record { me = me; members = members; session = 1; rate = 8000; depth = depth; c1 = 2; c2 = 2; d1 = 1; d2 = 1 }
 
 -- the stream of member 0 on the first page
-abbrev pub zeros : Stream
-zeros = record { source = 0; page = first_page }
+abbrev pub first_stream : Stream
+first_stream = record { source = 0; page = first_page }
 
 abbrev pub drawop_of : ℕ → ℕ → List ℕ → Drawop
-drawop_of number stamp body = record { name = named zeros number; stamp = stamp; body = body }
+drawop_of number stamp body = record { name = named first_stream number; stamp = stamp; body = body }
 
 -- the three drawops of both stored scripts
-abbrev pub a : Drawop
-a = drawop_of 1 1 (97 ∷ [])
+abbrev pub first_drawop : Drawop
+first_drawop = drawop_of 1 1 (97 ∷ [])
 
-abbrev pub b : Drawop
-b = drawop_of 2 2 (98 ∷ [])
+abbrev pub second_drawop : Drawop
+second_drawop = drawop_of 2 2 (98 ∷ [])
 
-abbrev pub c : Drawop
-c = drawop_of 3 3 (99 ∷ [])
+abbrev pub third_drawop : Drawop
+third_drawop = drawop_of 3 3 (99 ∷ [])
 
 -- what a call does that does nothing but leave this state
 abbrev pub quiet : AgentState → Effects
@@ -69,15 +69,15 @@ abbrev pub takes : ℕ → ℕ → Option PageMsg → Entry
 takes m now message = entry m now (Took 0) (record (quiet Active) { message = message })
 
 abbrev pub ask_arm : ℕ → ℕ → ℕ → Arm
-ask_arm number exponent wait = record { kind = Ask; name = named zeros number; exponent = exponent; distance = 100000; wait = wait }
+ask_arm number exponent wait = record { kind = Ask; name = named first_stream number; exponent = exponent; distance = 100000; wait = wait }
 
 abbrev pub fix_arm : ℕ → ℕ → Arm
-fix_arm number wait = record { kind = Fix; name = named zeros number; exponent = 0; distance = 100000; wait = wait }
+fix_arm number wait = record { kind = Fix; name = named first_stream number; exponent = 0; distance = 100000; wait = wait }
 
-abbrev pub ask_set : ℕ → Option Setting
+abbrev pub ask_set : ℕ → Option WaitBasis
 ask_set exponent = Some (record { kind = Ask; exponent = exponent; distance = 100000 })
 
-abbrev pub fix_set : Option Setting
+abbrev pub fix_set : Option WaitBasis
 fix_set = Some (record { kind = Fix; exponent = 0; distance = 100000 })
 
 -- what the definitions say at each entry

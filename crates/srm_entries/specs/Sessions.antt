@@ -9,7 +9,7 @@ use Rattle.srm_codec.specs.declared.datagram.Datagram.{Datagram}
 use Rattle.srm_codec.specs.declared.datagram.Datagram.TheVariants.{Data, Session}
 use Rattle.srm_codec.specs.Spelling.{length_of, row_below}
 use Rattle.srm_distance.specs.Echoes as echoes
-use Rattle.srm_entries.specs.declared.limits.TheConstants.{SECOND, SESSION_SHARE, SHORTEST_PAUSE}
+use Rattle.srm_entries.specs.declared.limits.TheConstants.{SECOND, SESSION_SHARE, SHORTEST_INTERVAL}
 use Rattle.srm_entries.specs.Configs.{Config}
 use Rattle.srm_entries.specs.declared.entry.Entry.{Entry}
 use Rattle.srm_entries.specs.Entries.{ticked, state, is_gone, is_leaving, shown, sent, drawn, known}
@@ -33,47 +33,47 @@ abbrev pub charged : Entry → List Datagram
 charged e = filter (λ g. not (is_session g)) e.effects.outs
 
 -- the members of the roster that aren't known to have left, oneself among them
-abbrev pub members_left : Config → List Entry → ℕ
-members_left c es = count_by (λ m. not (is_some (told es m))) (count_up 0 c.members)
+abbrev pub members_remaining : Config → List Entry → ℕ
+members_remaining c es = count_by (λ m. not (is_some (told es m))) (count_up 0 c.members)
 
 -- how long after a session message of this length the next one is due
-abbrev pub session_pause : Config → List Entry → Datagram → ℕ
-session_pause c before g = max SHORTEST_PAUSE (SESSION_SHARE * members_left c before * length_of g * SECOND / c.rate)
+abbrev pub session_interval : Config → List Entry → Datagram → ℕ
+session_interval c before g = max SHORTEST_INTERVAL (SESSION_SHARE * members_remaining c before * length_of g * SECOND / c.rate)
 
-abbrev pub pause_after : Config → Step Entry → Option ℕ
-pause_after c s = option_map (λ g. s.this.moment + session_pause c s.before g) (find is_session s.this.effects.outs)
+abbrev pub interval_after : Config → Step Entry → Option ℕ
+interval_after c s = option_map (λ g. s.this.moment + session_interval c s.before g) (find is_session s.this.effects.outs)
 
 -- when the next session message is due
 abbrev pub session_due : Config → ℕ → List Entry → ℕ
-session_due c made es = unwrap_or (last_of (pause_after c) (steps es)) (made + SHORTEST_PAUSE)
+session_due c made es = unwrap_or (last_of (interval_after c) (steps es)) (made + SHORTEST_INTERVAL)
 
 -- each drawop that was drawn has been sent
 abbrev pub all_data_sent : List Entry → Bool
 all_data_sent es = nat_le (length (drawn es)) (count_by is_data (sent es))
 
 -- an echo for each other member that was heard and isn't known to have left
-abbrev pub echoes_due : Config → List Entry → ℕ → List Echo
-echoes_due c es now = echoes.echoes_due (distance_calls c.me es) c.me now
+abbrev pub echoes_owed : Config → List Entry → ℕ → List Echo
+echoes_owed c es now = echoes.echoes_owed (distance_calls c.me es) c.me now
 
 abbrev pub if_positive : ℕ → Option ℕ
 if_positive n = if nat_lt 0 n then Some n else None
 
 -- the row of a stream: of the page shown, in a farewell of this member's own
-abbrev pub row_due : Config → List Entry → Bool → Stream → Option ℕ
-row_due c es farewell s =
+abbrev pub expected_row : Config → List Entry → Bool → Stream → Option ℕ
+expected_row c es farewell s =
     if (if farewell then s.source == c.me else same_page s.page (shown es) && nat_lt s.source c.members) then if_positive (known es s) else None
 
-abbrev pub row_at : List FullName → Stream → Option ℕ
-row_at rows s = option_map (λ n. n.number) (find (λ n. same_stream s n.stream) rows)
+abbrev pub number_in_rows : List FullName → Stream → Option ℕ
+number_in_rows rows s = option_map (λ n. n.number) (find (λ n. same_stream s n.stream) rows)
 
 -- the contents of a session message that is sent after these entries
 pub record ReportRight (c : Config) (es : List Entry) (now : ℕ) (farewell : Bool) (rows : List FullName) : Type 0 where
   pub in_order : ascending row_below rows ≡ true
-  pub exact : (s : Stream) → row_at rows s ≡ row_due c es farewell s
+  pub exact : (s : Stream) → number_in_rows rows s ≡ expected_row c es farewell s
 
 abbrev pub IsReport : Config → List Entry → ℕ → Bool → Datagram → Type 0
 IsReport c es now wanted (Session sender sent farewell page rows owed) =
-    (sender ≡ c.me) × (sent ≡ now) × (farewell ≡ wanted) × (page ≡ shown es) × (owed ≡ echoes_due c es now) × ReportRight c es now farewell rows
+    (sender ≡ c.me) × (sent ≡ now) × (farewell ≡ wanted) × (page ≡ shown es) × (owed ≡ echoes_owed c es now) × ReportRight c es now farewell rows
 IsReport c es now wanted _ = ⊥
 
 -- whether a tick ends with a session message, and with which: Some true is a farewell

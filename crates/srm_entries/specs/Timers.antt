@@ -12,10 +12,10 @@ use Rattle.srm_entries.specs.declared.entry.Entry.{Entry}
 use Rattle.srm_timers.specs.declared.arm.Arm.{Arm}
 use Rattle.srm_timers.specs.declared.arm.ArmKind.{ArmKind}
 use Rattle.srm_timers.specs.declared.arm.ArmKind.TheVariants.{Ask, Fix}
-use Rattle.srm_entries.specs.Entries.{heard, ticked, state, is_gone, is_held, is_missing}
+use Rattle.srm_entries.specs.Entries.{accepted, ticked, state, is_gone, is_held, is_missing}
 use Rattle.srm_timers.specs.declared.arm.Armed.{Armed}
 use Rattle.srm_timers.specs.declared.limits.TheConstants.{HOLD_OFF}
-use Rattle.srm_timers.specs.Arms.{arm_of, same_kind, ran_out, Setting, setting, next_exponent, backs_off}
+use Rattle.srm_timers.specs.Arms.{arm_of, same_kind, ran_out, WaitBasis, wait_basis, next_exponent, backs_off}
 use Rattle.srm_entries.specs.Distances.{distance}
 
 abbrev pub arm_in : ArmKind → FullName → Entry → Option Armed
@@ -31,7 +31,7 @@ asker_in n (Some (Request sender name mask)) = if among (asked_by name mask) n t
 asker_in n _ = None
 
 abbrev pub asker : FullName → Entry → Option ℕ
-asker n e = asker_in n (heard e)
+asker n e = asker_in n (accepted e)
 
 abbrev pub asks_for : FullName → Entry → Bool
 asks_for n e = is_some (asker n e)
@@ -42,7 +42,7 @@ repairs_in n _ = false
 
 -- a repair of the name was heard or handed out
 abbrev pub repaired : FullName → Entry → Bool
-repaired n e = repairs_in n (heard e) || among e.effects.fixes n
+repaired n e = repairs_in n (accepted e) || among e.effects.fixes n
 
 abbrev pub ask_due : List Entry → FullName → ℕ → Bool
 ask_due es n now = not (is_gone (state es)) && is_missing es n && ran_out now (last_ask es n)
@@ -73,19 +73,19 @@ ask_exponent before e n =
     then (if asks_for n e then backs_off e.moment (last_ask before n) else if among e.effects.asks n then option_map next_exponent (last_ask before n) else None)
     else if is_missing (before ++ e ∷ []) n then Some (if asks_for n e then 1 else 0) else None
 
-abbrev pub ask_setting : ℕ → List Entry → Entry → FullName → Option Setting
-ask_setting me before e n =
+abbrev pub ask_basis_of : ℕ → List Entry → Entry → FullName → Option WaitBasis
+ask_basis_of me before e n =
     option_map (λ i. record { kind = Ask; exponent = i; distance = distance (before ++ e ∷ []) me n.stream.source }) (ask_exponent before e n)
 
 -- a request for a held name arms a repair, where none runs and the name isn't held off
-abbrev pub fix_setting : ℕ → List Entry → Entry → FullName → Option Setting
-fix_setting me before e n =
+abbrev pub fix_basis_of : ℕ → List Entry → Entry → FullName → Option WaitBasis
+fix_basis_of me before e n =
     if is_held before n && not (is_some (fix_running before n)) && not (held_off me before n e.moment)
     then option_map (λ a. record { kind = Fix; exponent = 0; distance = distance before me a }) (asker n e)
     else None
 
-abbrev pub setting_of : ℕ → List Entry → Entry → FullName → Option Setting
-setting_of me before e n = if is_held before n then fix_setting me before e n else ask_setting me before e n
+abbrev pub basis_of : ℕ → List Entry → Entry → FullName → Option WaitBasis
+basis_of me before e n = if is_held before n then fix_basis_of me before e n else ask_basis_of me before e n
 
 -- the ends of the interval from which the wait of an arm is drawn
 abbrev pub low_of : Config → Arm → ℕ
@@ -105,7 +105,7 @@ high_of c a = times a.kind
 -- the entry holds these arms and no others, in order of name
 pub record ArmsRight (c : Config) (before : List Entry) (e : Entry) : Type 0 where
   pub in_order : ascending name_below (map (λ a. a.name) e.effects.arms) ≡ true
-  pub exact : (n : FullName) → option_map setting (arm_of n e.effects.arms) ≡ setting_of c.me before e n
+  pub exact : (n : FullName) → option_map wait_basis (arm_of n e.effects.arms) ≡ basis_of c.me before e n
   pub waits : AllByRecursion (λ a. (low_of c a ≤ a.wait) × (a.wait ≤ high_of c a)) e.effects.arms
 
 -- A tick hands out exactly the requests and repairs whose timers ran out. No other entry hands out any.

@@ -1,7 +1,7 @@
 -- What a call is answered: the first refusal or cause that holds, else done.
 use Rattle.std.specs.Prelude.{◌≡◌, ◌≢◌, ℕ, ◌==◌, nat_lt, nat_le, Bool, true, false, not, ◌&&◌, ◌||◌, List, [], ◌∷◌, ◌++◌, length, map, filter, if◌then◌else◌, Option, Some, None}
 use Rattle.std.specs.List.{list_any, filter_map}
-use Rattle.srm_names.specs.declared.limits.TheConstants.{PAGES, DRAWOPS, BODY}
+use Rattle.srm_names.specs.declared.limits.TheConstants.{PAGES, DRAWOPS, LONGEST_BODY}
 use Rattle.srm_names.specs.declared.page.Page.{Page}
 use Rattle.srm_names.specs.declared.stream.Stream.{Stream}
 use Rattle.srm_names.specs.declared.drawop.Drawop.{Drawop}
@@ -14,7 +14,7 @@ use Rattle.srm_codec.specs.declared.fault.DecodeFault.{DecodeFault}
 use Rattle.srm_codec.specs.declared.fault.DecodeFault.TheVariants as decoding
 use Rattle.srm_codec.specs.Spelling.{sender_of, names_in}
 use Rattle.srm_store.specs.Held.{same_drawop}
-use Rattle.srm_store.specs.Finals.{Settling, rows_of, row_of}
+use Rattle.srm_store.specs.Finals.{Settling, rows_of, row_number}
 use Rattle.srm_store.specs.Finals as finals
 use Rattle.srm_entries.specs.Configs.{Config}
 use Rattle.srm_entries.specs.declared.entry.Entry.{Entry}
@@ -24,7 +24,7 @@ use Rattle.srm_entries.specs.declared.entry.Input.{Input}
 use Rattle.srm_entries.specs.declared.entry.Input.TheVariants.{Drew, Heard, Noise, Showed, AskedLeave}
 use Rattle.srm_entries.specs.declared.entry.Verdict.{Verdict}
 use Rattle.srm_entries.specs.declared.entry.Verdict.TheVariants.{Done, Ignored, Refused}
-use Rattle.srm_entries.specs.Entries.{heard, state, is_gone, is_leaving, slots, drawn, held_at, known, drawops_in}
+use Rattle.srm_entries.specs.Entries.{accepted, state, is_gone, is_leaving, slots, drawn, held_at, known, drawops_in}
 
 -- the rows of a farewell, and whose they are
 abbrev pub settling_of : Option Datagram → Option Settling
@@ -32,7 +32,7 @@ settling_of (Some (Session sender sent farewell shown rows echoes)) = if farewel
 settling_of _ = None
 
 abbrev pub settlings : List Entry → List Settling
-settlings es = filter_map (λ e. settling_of (heard e)) es
+settlings es = filter_map (λ e. settling_of (accepted e)) es
 
 -- the rows of the farewell that was heard of a source
 abbrev pub told : List Entry → ℕ → Option (List FullName)
@@ -46,22 +46,22 @@ final es s = finals.final (settlings es) s
 abbrev pub drawn_in : List Entry → Stream → ℕ
 drawn_in es s = length (filter (λ d. same_stream s d.name.stream) (drawn es))
 
-abbrev pub is_past : ℕ → Option ℕ → Bool
-is_past n None = false
-is_past n (Some bound) = nat_lt bound n
+abbrev pub exceeds : ℕ → Option ℕ → Bool
+exceeds n None = false
+exceeds n (Some bound) = nat_lt bound n
 
 abbrev pub stream_on : ℕ → Page → Stream
 stream_on source page = record { source = source; page = page }
 
 -- a number above the final of its stream, or of this member's own above what it drew
 abbrev pub is_beyond : ℕ → List Entry → FullName → Bool
-is_beyond me es n = is_past n.number (final es n.stream) || (n.stream.source == me) && nat_lt (drawn_in es n.stream) n.number
+is_beyond me es n = exceeds n.number (final es n.stream) || (n.stream.source == me) && nat_lt (drawn_in es n.stream) n.number
 
 -- a farewell that says less than is known already
-abbrev pub is_short : List Entry → Datagram → Bool
-is_short es (Session sender sent farewell shown rows echoes) =
-    farewell && list_any (λ page. nat_lt (row_of rows (stream_on sender page)) (known es (stream_on sender page))) (slots es)
-is_short es _ = false
+abbrev pub says_too_little : List Entry → Datagram → Bool
+says_too_little es (Session sender sent farewell shown rows echoes) =
+    farewell && list_any (λ page. nat_lt (row_number rows (stream_on sender page)) (known es (stream_on sender page))) (slots es)
+says_too_little es _ = false
 
 abbrev pub differs : Drawop → Option Drawop → Bool
 differs d None = false
@@ -82,7 +82,7 @@ abbrev pub verdict_of : Config → List Entry → Input → Verdict
 verdict_of c es (Drew page body) = first_cause (
     (is_gone (state es), Refused faults.Gone)
     ∷ (is_leaving (state es), Refused faults.Leaving)
-    ∷ (nat_lt BODY (length body), Refused faults.BodyLong)
+    ∷ (nat_lt LONGEST_BODY (length body), Refused faults.BodyLong)
     ∷ (overflows es (page ∷ []), Refused faults.PageLimit)
     ∷ (nat_le DRAWOPS (drawn_in es (stream_on c.me page)), Refused faults.StreamFull) ∷ [])
 verdict_of c es (Heard g) = first_cause (
@@ -90,7 +90,7 @@ verdict_of c es (Heard g) = first_cause (
     ∷ (sender_of g == c.me, Ignored causes.Own)
     ∷ (is_stranger c g, Ignored causes.Stranger)
     ∷ (overflows es (map (λ n. n.stream.page) (names_in g)), Ignored causes.PageLimit)
-    ∷ (list_any (is_beyond c.me es) (names_in g) || is_short es g, Ignored causes.BeyondFinal)
+    ∷ (list_any (is_beyond c.me es) (names_in g) || says_too_little es g, Ignored causes.BeyondFinal)
     ∷ (list_any (λ d. differs d (held_at es d.name)) (drawops_in (Some g)), Ignored causes.Conflict) ∷ [])
 verdict_of c es (Showed page) = first_cause (
     (is_gone (state es), Refused faults.Gone)

@@ -9,25 +9,25 @@ use Rattle.srm_bucket.specs.declared.class.Class.TheVariants.{Shown}
 use Rattle.srm_timers.specs.declared.arm.Arm.{Arm}
 use Rattle.srm_timers.specs.declared.arm.Armed.{Armed}
 use Rattle.srm_timers.specs.declared.arm.ArmKind.TheVariants.{Ask}
-use Rattle.srm_timers.specs.Arms.{AreDrawn, end_of, ignored_until}
+use Rattle.srm_timers.specs.Arms.{AreChosen, runs_out_at, ignored_until}
 use Rattle.srm_timers.specs.Draws.{draw_listed}
 use Rattle.srm_entries.specs.Configs.{Config}
 use Rattle.srm_entries.specs.declared.entry.Entry.{Entry}
 use Rattle.srm_entries.specs.declared.entry.Verdict.TheVariants.{Done}
 use Rattle.srm_entries.specs.Entries.{is_missing}
-use Rattle.srm_entries.specs.Timers.{setting_of, last_ask, ask_due, fix_due, fix_running, held_off, first_asker, low_of, high_of}
+use Rattle.srm_entries.specs.Timers.{basis_of, last_ask, ask_due, fix_due, fix_running, held_off, first_asker, low_of, high_of}
 use Rattle.srm_entries.specs.Verdicts.{verdict_of}
 use Rattle.srm_entries.specs.Sessions.{ending, session_due}
 use Rattle.srm_entries.specs.Packing.{packed}
 use Rattle.srm_entries.specs.Bucket.{classed}
-use Rattle.srm_entries.specs.Sample.{in_roster, zeros, drawop_of, hears, ticks, ask_arm, fix_arm, ask_set, fix_set, at_each, idle, let_go}
+use Rattle.srm_entries.specs.Sample.{in_roster, first_stream, drawop_of, hears, ticks, ask_arm, fix_arm, ask_set, fix_set, at_each, idle, let_go}
 
 abbrev one_of_four : Config
 one_of_four = in_roster 1 4 4204
 
 -- all words of a list go to the waits of these arms
 abbrev WaitsBy : Config → List Arm → List ℕ → Type 0
-WaitsBy c arms words = AreDrawn draw_listed (low_of c) (high_of c) words arms []
+WaitsBy c arms words = AreChosen draw_listed (low_of c) (high_of c) words arms []
 
 -- the wait is the word's remainder above the lower end
 first_wait : WaitsBy one_of_four (ask_arm 1 0 200000 ∷ []) (0 ∷ [])
@@ -40,7 +40,7 @@ from_the_start_again : WaitsBy one_of_four (ask_arm 1 0 200000 ∷ []) (200001 �
 from_the_start_again = (refl, refl)
 
 abbrev near_arm : ℕ → ℕ → ℕ → Arm
-near_arm number exponent wait = record { kind = Ask; name = named zeros number; exponent = exponent; distance = 1; wait = wait }
+near_arm number exponent wait = record { kind = Ask; name = named first_stream number; exponent = exponent; distance = 1; wait = wait }
 
 -- one word for each arm
 near_waits : WaitsBy one_of_four (near_arm 1 0 2 ∷ near_arm 2 0 3 ∷ near_arm 3 0 4 ∷ near_arm 4 0 2 ∷ []) (0 ∷ 1 ∷ 2 ∷ 3 ∷ [])
@@ -57,13 +57,13 @@ abbrev gap : Entry
 gap = hears 1 1000000 (Data (drawop_of 2 0 [])) (ask_arm 1 0 200000 ∷ [])
 
 abbrev asked : ℕ → List Arm → Entry
-asked now arms = hears 1 now (Request 2 (named zeros 1) 0) arms
+asked now arms = hears 1 now (Request 2 (named first_stream 1) 0) arms
 
 abbrev backed_off : List Entry
 backed_off = gap ∷ asked 1050000 (ask_arm 1 1 400000 ∷ []) ∷ []
 
 abbrev ends : List Entry → List (Option (ℕ × ℕ))
-ends es = option_map (λ (a : Armed). (end_of a, ignored_until a)) (last_ask es (named zeros 1)) ∷ []
+ends es = option_map (λ (a : Armed). (runs_out_at a, ignored_until a)) (last_ask es (named first_stream 1)) ∷ []
 
 end_of_the_first : ends (gap ∷ []) ≡ Some (1200000, 1100000) ∷ []
 end_of_the_first = refl
@@ -83,19 +83,19 @@ end_after_both = refl
 
 -- an ask at each end: the wait doubles, up to exponent 8
 abbrev asks_at : ℕ → ℕ → ℕ → Entry
-asks_at now exponent wait = ticks 1 now (named zeros 1 ∷ []) [] (ask_arm 1 exponent wait ∷ []) []
+asks_at now exponent wait = ticks 1 now (named first_stream 1 ∷ []) [] (ask_arm 1 exponent wait ∷ []) []
 
 abbrev never_gained : List Entry
 never_gained = gap ∷ asks_at 1200000 1 400000 ∷ asks_at 1600000 2 800000 ∷ asks_at 2400000 3 1600000 ∷ asks_at 4000000 4 3200000 ∷ asks_at 7200000 5 6400000
     ∷ asks_at 13600000 6 12800000 ∷ asks_at 26400000 7 25600000 ∷ asks_at 52000000 8 51200000 ∷ asks_at 103200000 8 51200000 ∷ []
 
-exponents : at_each (λ s. setting_of 1 s.before s.this (named zeros 1)) never_gained ≡ map ask_set (0 ∷ 1 ∷ 2 ∷ 3 ∷ 4 ∷ 5 ∷ 6 ∷ 7 ∷ 8 ∷ 8 ∷ [])
+exponents : at_each (λ s. basis_of 1 s.before s.this (named first_stream 1)) never_gained ≡ map ask_set (0 ∷ 1 ∷ 2 ∷ 3 ∷ 4 ∷ 5 ∷ 6 ∷ 7 ∷ 8 ∷ 8 ∷ [])
 exponents = refl
 
-due_at_each_end : at_each (λ s. ask_due s.before (named zeros 1) s.this.moment) never_gained ≡ false ∷ replicate 9 true
+due_at_each_end : at_each (λ s. ask_due s.before (named first_stream 1) s.this.moment) never_gained ≡ false ∷ replicate 9 true
 due_at_each_end = refl
 
-never_sooner : at_each (λ s. ask_due s.before (named zeros 1) (s.this.moment - 1)) never_gained ≡ replicate 10 false
+never_sooner : at_each (λ s. ask_due s.before (named first_stream 1) (s.this.moment - 1)) never_gained ≡ replicate 10 false
 never_sooner = refl
 
 waits_doubled : map (λ i. low_of one_of_four (ask_arm 1 i 0)) (0 ∷ 1 ∷ 2 ∷ 3 ∷ 4 ∷ 5 ∷ 6 ∷ 7 ∷ 8 ∷ [])
@@ -112,25 +112,25 @@ no_wait = refl
 abbrev at_once : List Entry
 at_once = hears 1 5 (Data (drawop_of 2 0 [])) (ask_arm 1 0 0 ∷ []) ∷ asks_at 5 1 0 ∷ asks_at 5 2 0 ∷ asks_at 6 3 0 ∷ []
 
-asked_at_each_tick : at_each (λ s. ask_due s.before (named zeros 1) s.this.moment) at_once ≡ false ∷ true ∷ true ∷ true ∷ []
+asked_at_each_tick : at_each (λ s. ask_due s.before (named first_stream 1) s.this.moment) at_once ≡ false ∷ true ∷ true ∷ true ∷ []
 asked_at_each_tick = refl
 
 -- a request for what isn't known shows that it exists, and all before it
-request_for_the_third : map (setting_of 1 [] (hears 1 1000000 (Request 2 (named zeros 3) 0) [])) (names_up_to zeros 4) ≡ ask_set 0 ∷ ask_set 0 ∷ ask_set 1 ∷ None ∷ []
+request_for_the_third : map (basis_of 1 [] (hears 1 1000000 (Request 2 (named first_stream 3) 0) [])) (names_up_to first_stream 4) ≡ ask_set 0 ∷ ask_set 0 ∷ ask_set 1 ∷ None ∷ []
 unfolding bits_set
 request_for_the_third = refl
 
 -- the tick before the ask sends the session message, and the tick of the ask the request
 abbrev report : Datagram
-report = Session 1 1199999 false first_page (named zeros 2 ∷ []) []
+report = Session 1 1199999 false first_page (named first_stream 2 ∷ []) []
 
 abbrev reported : List Entry
 reported = gap ∷ ticks 1 1199999 [] [] [] (report ∷ []) ∷ []
 
 abbrev asks_for_it : Entry
-asks_for_it = ticks 1 1200000 (named zeros 1 ∷ []) [] (ask_arm 1 1 400000 ∷ []) (Request 1 (named zeros 1) 0 ∷ [])
+asks_for_it = ticks 1 1200000 (named first_stream 1 ∷ []) [] (ask_arm 1 1 400000 ∷ []) (Request 1 (named first_stream 1) 0 ∷ [])
 
-sends_at_the_end : map length_of (report ∷ Request 1 (named zeros 1) 0 ∷ []) ≡ 31 ∷ 17 ∷ []
+sends_at_the_end : map length_of (report ∷ Request 1 (named first_stream 1) 0 ∷ []) ≡ 31 ∷ 17 ∷ []
 sends_at_the_end = refl
 
 reports_then_asks : at_each (λ s. ending one_of_four 0 s.before s.this) (reported ++ asks_for_it ∷ []) ≡ None ∷ Some false ∷ None ∷ []
@@ -139,31 +139,31 @@ reports_then_asks = refl
 next_report : session_due one_of_four 0 reported ≡ 2199999
 next_report = refl
 
-request_goes : let_go one_of_four (map idle reported ++ record { entry = asks_for_it; goes = classed Shown (Request 1 (named zeros 1) 0) ∷ [] } ∷ [])
-    ≡ None ∷ Some (classed Shown (Request 1 (named zeros 1) 0)) ∷ None ∷ []
+request_goes : let_go one_of_four (map idle reported ++ record { entry = asks_for_it; goes = classed Shown (Request 1 (named first_stream 1) 0) ∷ [] } ∷ [])
+    ≡ None ∷ Some (classed Shown (Request 1 (named first_stream 1) 0)) ∷ None ∷ []
 request_goes = refl
 
 -- four missing names go in one request, and then the session message that is due
 abbrev four_missing : List Entry
 four_missing = hears 1 1000000 (Data (drawop_of 5 0 [])) (map (λ k. ask_arm k 0 200000) (1 ∷ 2 ∷ 3 ∷ 4 ∷ [])) ∷ []
 
-four_due : map (λ n. ask_due four_missing n 1200000) (names_up_to zeros 5) ≡ true ∷ true ∷ true ∷ true ∷ false ∷ []
+four_due : map (λ n. ask_due four_missing n 1200000) (names_up_to first_stream 5) ≡ true ∷ true ∷ true ∷ true ∷ false ∷ []
 four_due = refl
 
-in_one_request : packed 1 (names_up_to zeros 4) ≡ Request 1 (named zeros 1) 7 ∷ []
+in_one_request : packed 1 (names_up_to first_stream 4) ≡ Request 1 (named first_stream 1) 7 ∷ []
 in_one_request = refl
 
-report_is_due : ending one_of_four 0 four_missing (ticks 1 1200000 (names_up_to zeros 4) [] [] []) ≡ Some false
+report_is_due : ending one_of_four 0 four_missing (ticks 1 1200000 (names_up_to first_stream 4) [] [] []) ≡ Some false
 report_is_due = refl
 
 -- the largest jump: all numbers below it are missing
 abbrev far_off : Entry
 far_off = hears 1 1 (Data (drawop_of 65536 0 [])) []
 
-all_below_missing : map (λ k. is_missing (far_off ∷ []) (named zeros k)) (0 ∷ 1 ∷ 65535 ∷ 65536 ∷ 65537 ∷ []) ≡ false ∷ true ∷ true ∷ false ∷ false ∷ []
+all_below_missing : map (λ k. is_missing (far_off ∷ []) (named first_stream k)) (0 ∷ 1 ∷ 65535 ∷ 65536 ∷ 65537 ∷ []) ≡ false ∷ true ∷ true ∷ false ∷ false ∷ []
 all_below_missing = refl
 
-all_below_armed : map (λ k. setting_of 1 [] far_off (named zeros k)) (0 ∷ 1 ∷ 65535 ∷ 65536 ∷ 65537 ∷ []) ≡ None ∷ ask_set 0 ∷ ask_set 0 ∷ None ∷ None ∷ []
+all_below_armed : map (λ k. basis_of 1 [] far_off (named first_stream k)) (0 ∷ 1 ∷ 65535 ∷ 65536 ∷ 65537 ∷ []) ≡ None ∷ ask_set 0 ∷ ask_set 0 ∷ None ∷ None ∷ []
 all_below_armed = refl
 
 -- a repair is armed, cancelled by a third member's, and armed again once it isn't held off
@@ -171,7 +171,7 @@ abbrev one : Drawop
 one = drawop_of 1 0 []
 
 abbrev asked_of_2 : ℕ → List Arm → Entry
-asked_of_2 now arms = hears 2 now (Request 1 (named zeros 1) 0) arms
+asked_of_2 now arms = hears 2 now (Request 1 (named first_stream 1) 0) arms
 
 abbrev cancelled : List Entry
 cancelled = hears 2 1 (Data one) [] ∷ asked_of_2 5000000 (fix_arm 1 100000 ∷ []) ∷ hears 2 5099999 (Repair 3 one) [] ∷ []
@@ -179,21 +179,21 @@ cancelled = hears 2 1 (Data one) [] ∷ asked_of_2 5000000 (fix_arm 1 100000 ∷
 abbrev armed_again : List Entry
 armed_again = cancelled ++ asked_of_2 5399998 [] ∷ asked_of_2 5399999 (fix_arm 1 100000 ∷ []) ∷ []
 
-repairs_armed : at_each (λ s. setting_of 2 s.before s.this (named zeros 1)) armed_again ≡ None ∷ fix_set ∷ None ∷ None ∷ fix_set ∷ []
+repairs_armed : at_each (λ s. basis_of 2 s.before s.this (named first_stream 1)) armed_again ≡ None ∷ fix_set ∷ None ∷ None ∷ fix_set ∷ []
 unfolding bits_set
 repairs_armed = refl
 
-second_end : option_map end_of (fix_running armed_again (named zeros 1)) ≡ Some 5499999
+second_end : option_map runs_out_at (fix_running armed_again (named first_stream 1)) ≡ Some 5499999
 second_end = refl
 
-repaired_in_time : map (fix_due armed_again (named zeros 1)) (5100000 ∷ 5499998 ∷ 5499999 ∷ []) ≡ false ∷ false ∷ true ∷ []
+repaired_in_time : map (fix_due armed_again (named first_stream 1)) (5100000 ∷ 5499998 ∷ 5499999 ∷ []) ≡ false ∷ false ∷ true ∷ []
 repaired_in_time = refl
 
 -- each name of a request has its first asker, held or not, and not the numbers between
-first_askers : map (first_asker (hears 2 1 (Request 3 (named zeros 1) 2) [] ∷ hears 2 2 (Request 1 (named zeros 1) 3) [] ∷ [])) (names_up_to zeros 4) ≡ 3 ∷ 1 ∷ 3 ∷ 0 ∷ []
+first_askers : map (first_asker (hears 2 1 (Request 3 (named first_stream 1) 2) [] ∷ hears 2 2 (Request 1 (named first_stream 1) 3) [] ∷ [])) (names_up_to first_stream 4) ≡ 3 ∷ 1 ∷ 3 ∷ 0 ∷ []
 unfolding bits_set
 first_askers = refl
 
 -- nothing holds off what one drew oneself before another asks: the first asker is then oneself, at no distance
-own_is_not_held_off : held_off 0 (hears 0 10 (Repair 2 one) [] ∷ []) (named zeros 1) 10 ≡ false
+own_is_not_held_off : held_off 0 (hears 0 10 (Repair 2 one) [] ∷ []) (named first_stream 1) 10 ≡ false
 own_is_not_held_off = refl

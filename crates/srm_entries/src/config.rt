@@ -3,13 +3,13 @@
 ghost use Rattle.std.specs.Prelude.{◌≡◌, ◌≤◌, ◌↔◌, IfSome, IsSome};
 ghost use Rattle.srm_names.specs.declared.limits.TheConstants.{MEMBERS};
 ghost use Rattle.srm_bucket.specs.declared.limits.TheConstants.{LEAST_RATE, GREATEST_RATE, LEAST_DEPTH, GREATEST_DEPTH};
-ghost use Rattle.srm_timers.specs.declared.limits.TheConstants.{TIMER_SETTING};
+ghost use Rattle.srm_timers.specs.declared.limits.TheConstants.{GREATEST_TIMER_SETTING};
 ghost use Rattle.srm_entries.specs.Configs.{IsConfig, config_with};
 
 use crate::settings::Settings;
 use srm_bucket::{GREATEST_DEPTH, GREATEST_RATE, LEAST_DEPTH, LEAST_RATE};
 use srm_names::{MEMBERS, Member};
-use srm_timers::TIMER_SETTING;
+use srm_timers::GREATEST_TIMER_SETTING;
 use std::marker::Model;
 
 /// The settings of one member, fixed for the session. Contracts see them as a record.
@@ -65,10 +65,10 @@ impl Config {
             && rate <= GREATEST_RATE
             && LEAST_DEPTH <= depth
             && depth <= GREATEST_DEPTH
-            && c1 <= TIMER_SETTING
-            && c2 <= TIMER_SETTING
-            && d1 <= TIMER_SETTING
-            && d2 <= TIMER_SETTING
+            && c1 <= GREATEST_TIMER_SETTING
+            && c2 <= GREATEST_TIMER_SETTING
+            && d1 <= GREATEST_TIMER_SETTING
+            && d2 <= GREATEST_TIMER_SETTING
         {
             Some(Config {
                 me,
@@ -150,7 +150,7 @@ impl Config {
     /// A request waits at least so many distances.
     pub fn c1(&self) -> u8
         ensures value { result ≡ self.now.c1 }
-        ensures range { result ≤ TIMER_SETTING }
+        ensures range { result ≤ GREATEST_TIMER_SETTING }
     {
         self.c1
     }
@@ -158,7 +158,7 @@ impl Config {
     /// And so many more at most.
     pub fn c2(&self) -> u8
         ensures value { result ≡ self.now.c2 }
-        ensures range { result ≤ TIMER_SETTING }
+        ensures range { result ≤ GREATEST_TIMER_SETTING }
     {
         self.c2
     }
@@ -166,7 +166,7 @@ impl Config {
     /// A repair waits at least so many distances.
     pub fn d1(&self) -> u8
         ensures value { result ≡ self.now.d1 }
-        ensures range { result ≤ TIMER_SETTING }
+        ensures range { result ≤ GREATEST_TIMER_SETTING }
     {
         self.d1
     }
@@ -174,7 +174,7 @@ impl Config {
     /// And so many more at most.
     pub fn d2(&self) -> u8
         ensures value { result ≡ self.now.d2 }
-        ensures range { result ≤ TIMER_SETTING }
+        ensures range { result ≤ GREATEST_TIMER_SETTING }
     {
         self.d2
     }

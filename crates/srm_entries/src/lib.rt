@@ -28,7 +28,7 @@ pub use config::Config;
 pub use entry::{Effects, Entry, Input, Verdict};
 pub use fault::AgentFault;
 pub use laws::{gives, keeps_rate, responds};
-pub use limits::{SECOND, SESSION_SHARE, SHORTEST_PAUSE};
+pub use limits::{SECOND, SESSION_SHARE, SHORTEST_INTERVAL};
 pub use settings::Settings;
 pub use srm_timers::{Arm, ArmKind};
 pub use state::AgentState;

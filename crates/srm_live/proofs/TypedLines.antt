@@ -4,14 +4,14 @@ use Rattle.std.specs.Prelude.{map, nat_lt, if◌then◌else◌, Option, Some, No
 use Rattle.std.specs.Io.KnownBytes.{Consumes, Keeps, IsAtEnd}
 use Rattle.std.proofs.lemmas.Bool.{ltb-true, lt-ltb}
 use Rattle.std.proofs.lemmas.List.{append-nil, append_assoc, map-append, length-append, take_more, take-append-drop, take_all}
-use Rattle.srm_names.specs.declared.limits.TheConstants.{BODY}
+use Rattle.srm_names.specs.declared.limits.TheConstants.{LONGEST_BODY}
 use Rattle.srm_pages.specs.Ends.{PenView}
 use Rattle.srm_live.specs.declared.typed.Typed.{Typed}
 use Rattle.srm_live.specs.declared.typed.Typed.TheVariants.{Stroke, TooLong}
 use Rattle.srm_member.specs.Lines.{lines_of, before_first}
 use Rattle.srm_member.specs.Strokes.{stroke_of}
 use Rattle.srm_member.proofs.Splitting.{other}
-use Rattle.srm_live.specs.Typing.{short_lines, strokes_in, LineView, with_byte, typed_of, bodies_in, Sent, HasNoEnd, Draws, DrawsSome, DrawsLast, ReadsOf, DrewAllOf, DrewFrontOf}
+use Rattle.srm_live.specs.Typing.{short_lines, strokes_in, LineView, with_byte, typed_of, bodies_in, PenSent, HasNoEnd, DrawsTyped, DrawsSome, DrawsLast, ReadsOf, DrewAllOf, DrewPrefixOf}
 
 -- THE LINES OF A FRONT AND WHAT IS BEHIND IT
 
@@ -45,17 +45,17 @@ behind_before : (c : ℕ) (ls : List (List ℕ)) → behind_first (before_first 
 behind_before c [] = refl
 behind_before c (l ∷ ls) = refl
 
-long_line : (l : List ℕ) (ls : List (List ℕ)) → nat_lt BODY (length l) ≡ true → short_lines (l ∷ ls) ≡ short_lines ls
+long_line : (l : List ℕ) (ls : List (List ℕ)) → nat_lt LONGEST_BODY (length l) ≡ true → short_lines (l ∷ ls) ≡ short_lines ls
 long_line l ls long = rw long refl
 
 -- a front that is too long is drawn with nothing behind it
-long_front : (front : List ℕ) (ls : List (List ℕ)) → nat_lt BODY (length front) ≡ true → short_lines (before_lines front ls) ≡ short_lines (behind_first ls)
+long_front : (front : List ℕ) (ls : List (List ℕ)) → nat_lt LONGEST_BODY (length front) ≡ true → short_lines (before_lines front ls) ≡ short_lines (behind_first ls)
 long_front front [] long = long_line front [] long
-long_front front (l ∷ ls) long = long_line (front ++ l) ls (lt-ltb BODY (length (front ++ l)) (omega (arith, ltb-true BODY (length front) long, length-append front l)))
+long_front front (l ∷ ls) long = long_line (front ++ l) ls (lt-ltb LONGEST_BODY (length (front ++ l)) (omega (arith, ltb-true LONGEST_BODY (length front) long, length-append front l)))
 
 -- so one byte more of it changes nothing
-no_room : (front more : List ℕ) (byte : ℕ) → HasNoEnd front → byte ≢ 10 → nat_lt BODY (length front) ≡ true → strokes_in (front ++ byte ∷ more) ≡ strokes_in (front ++ more)
-no_room [] more byte h not_end long = absurd (omega (arith, ltb-true BODY 0 long))
+no_room : (front more : List ℕ) (byte : ℕ) → HasNoEnd front → byte ≢ 10 → nat_lt LONGEST_BODY (length front) ≡ true → strokes_in (front ++ byte ∷ more) ≡ strokes_in (front ++ more)
+no_room [] more byte h not_end long = absurd (omega (arith, ltb-true LONGEST_BODY 0 long))
 no_room (c ∷ cs) more byte h not_end long =
     ap short_lines (lines_behind c cs (byte ∷ more) h)
     ∙ long_front (c ∷ cs) (lines_of (byte ∷ more)) long
@@ -70,40 +70,40 @@ no_end_more : (front : List ℕ) (byte : ℕ) → HasNoEnd front → byte ≢ 10
 no_end_more [] byte h not_end = (not_end, tt)
 no_end_more (c ∷ cs) byte h not_end = (h.0, no_end_more cs byte h.1 not_end)
 
-sent_none : (pen : PenView) → Sent [] pen pen
+sent_none : (pen : PenView) → PenSent [] pen pen
 sent_none pen = ap (λ sent. record pen { sent = sent }) (sym (append-nil pen.sent))
 
-pub draws_none : (front : List ℕ) (pen : PenView) → Draws [] front pen front pen
+pub draws_none : (front : List ℕ) (pen : PenView) → DrawsTyped [] front pen front pen
 draws_none front pen = record { drawn = []; strokes = λ h more. refl; one = λ h. h; sent = sent_none pen }
 
 -- a byte that is no line end
-pub draws_byte : (byte : ℕ) (l new : LineView) (pen : PenView) → byte ≢ 10 → new ≡ with_byte byte l → Draws (byte ∷ []) l.kept pen new.kept pen
-draws_byte byte l new pen not_end is = subst (λ n. Draws (byte ∷ []) l.kept pen n.kept pen) (sym is) (go (nat_lt BODY (length l.kept)) refl)
+pub draws_byte : (byte : ℕ) (l new : LineView) (pen : PenView) → byte ≢ 10 → new ≡ with_byte byte l → DrawsTyped (byte ∷ []) l.kept pen new.kept pen
+draws_byte byte l new pen not_end is = subst (λ n. DrawsTyped (byte ∷ []) l.kept pen n.kept pen) (sym is) (go (nat_lt LONGEST_BODY (length l.kept)) refl)
   where
-    go : (b : Bool) → nat_lt BODY (length l.kept) ≡ b → Draws (byte ∷ []) l.kept pen (if b then l else record l { kept = l.kept ++ byte ∷ [] }).kept pen
+    go : (b : Bool) → nat_lt LONGEST_BODY (length l.kept) ≡ b → DrawsTyped (byte ∷ []) l.kept pen (if b then l else record l { kept = l.kept ++ byte ∷ [] }).kept pen
     go true long = record { drawn = []; strokes = λ h more. no_room l.kept more byte h not_end long; one = λ h. h; sent = sent_none pen }
     go false short = record { drawn = []; strokes = λ h more. ap strokes_in (sym (append_assoc l.kept (byte ∷ []) more)); one = λ h. no_end_more l.kept byte h not_end; sent = sent_none pen }
 
 -- the strokes of a text that begins with a line
 first_strokes : (l : LineView) (ls : List (List ℕ)) → short_lines (l.kept ∷ ls) ≡ bodies_in (typed_of l) ++ short_lines ls
-first_strokes l ls = go (nat_lt BODY (length l.kept))
+first_strokes l ls = go (nat_lt LONGEST_BODY (length l.kept))
   where
     go : (b : Bool) → (if b then short_lines ls else l.kept ∷ short_lines ls) ≡ bodies_in (if b then TooLong l.number else Stroke l.kept) ++ short_lines ls
     go true = refl
     go false = refl
 
 -- a line end
-pub draws_end : (l : LineView) (typed : Typed) (old new : PenView) → typed ≡ typed_of l → Sent (bodies_in typed) old new → Draws (10 ∷ []) l.kept old [] new
+pub draws_end : (l : LineView) (typed : Typed) (old new : PenView) → typed ≡ typed_of l → PenSent (bodies_in typed) old new → DrawsTyped (10 ∷ []) l.kept old [] new
 draws_end l typed old new is sent = record {
   drawn = bodies_in (typed_of l);
   strokes = λ h more. ap short_lines (line_ends l.kept more h) ∙ first_strokes l (lines_of more);
   one = λ h. tt;
-  sent = subst (λ t. Sent (bodies_in t) old new) is sent;
+  sent = subst (λ t. PenSent (bodies_in t) old new) is sent;
 }
 
 -- MANY BYTES
 
-sent_more : (a b : List (List ℕ)) (old mid new : PenView) → Sent a old mid → Sent b mid new → Sent (a ++ b) old new
+sent_more : (a b : List (List ℕ)) (old mid new : PenView) → PenSent a old mid → PenSent b mid new → PenSent (a ++ b) old new
 sent_more a b old mid new one two =
     let joined : (old.sent ++ map (stroke_of old.place) a) ++ map (stroke_of old.place) b ≡ old.sent ++ map (stroke_of old.place) (a ++ b) =
     append_assoc old.sent (map (stroke_of old.place) a) (map (stroke_of old.place) b) ∙ ap (λ more. old.sent ++ more) (sym (map-append (stroke_of old.place) a b)) in
@@ -111,7 +111,7 @@ sent_more a b old mid new one two =
     ap (λ (p : PenView). record p { sent = p.sent ++ map (stroke_of p.place) b }) one in
     two ∙ over_old ∙ ap (λ sent. record old { sent = sent }) joined
 
-draws_on : (a b front : List ℕ) (old : PenView) (begun : List ℕ) (mid : PenView) (left : List ℕ) (new : PenView) → Draws a front old begun mid → Draws b begun mid left new → Draws (a ++ b) front old left new
+draws_on : (a b front : List ℕ) (old : PenView) (begun : List ℕ) (mid : PenView) (left : List ℕ) (new : PenView) → DrawsTyped a front old begun mid → DrawsTyped b begun mid left new → DrawsTyped (a ++ b) front old left new
 draws_on a b front old begun mid left new one two = record {
   drawn = one.drawn ++ two.drawn;
   strokes = λ h more.
@@ -124,31 +124,31 @@ draws_on a b front old begun mid left new one two = record {
 }
 
 pub draws_more : (bytes : List ℕ) (i byte : ℕ) (front : List ℕ) (old : PenView) (begun : List ℕ) (mid : PenView) (left : List ℕ) (new : PenView) → i < length bytes → byte ≡ get_or bytes i 0
-    → Draws (take i bytes) front old begun mid → Draws (byte ∷ []) begun mid left new → Draws (take (i + 1) bytes) front old left new
+    → DrawsTyped (take i bytes) front old begun mid → DrawsTyped (byte ∷ []) begun mid left new → DrawsTyped (take (i + 1) bytes) front old left new
 draws_more bytes i byte front old begun mid left new few is one two =
-    subst (λ done. Draws done front old left new) (ap (λ b. take i bytes ++ b ∷ []) is ∙ sym (take_more bytes i 0 few)) (draws_on (take i bytes) (byte ∷ []) front old begun mid left new one two)
+    subst (λ done. DrawsTyped done front old left new) (ap (λ b. take i bytes ++ b ∷ []) is ∙ sym (take_more bytes i 0 few)) (draws_on (take i bytes) (byte ∷ []) front old begun mid left new one two)
 
 -- some of these bytes, where the pen stays as it is then
-pub draws_some : (bytes : List ℕ) (i : ℕ) (front : List ℕ) (old : PenView) (begun : List ℕ) (mid new : PenView) → Draws (take i bytes) front old begun mid → new ≡ mid → DrawsSome bytes front old new
+pub draws_some : (bytes : List ℕ) (i : ℕ) (front : List ℕ) (old : PenView) (begun : List ℕ) (mid new : PenView) → DrawsTyped (take i bytes) front old begun mid → new ≡ mid → DrawsSome bytes front old new
 draws_some bytes i front old begun mid new h is = record {
   done = take i bytes;
   rest = drop i bytes;
   split = sym (take-append-drop i bytes);
   begun = begun;
-  draws = subst (λ p. Draws (take i bytes) front old begun p) (sym is) h;
+  draws = subst (λ p. DrawsTyped (take i bytes) front old begun p) (sym is) h;
 }
 
-pub draws_all : (bytes : List ℕ) (i : ℕ) (front : List ℕ) (old : PenView) (begun : List ℕ) (new : PenView) → length bytes ≤ i → Draws (take i bytes) front old begun new → Draws bytes front old begun new
-draws_all bytes i front old begun new all h = subst (λ done. Draws done front old begun new) (take_all i bytes all) h
+pub draws_all : (bytes : List ℕ) (i : ℕ) (front : List ℕ) (old : PenView) (begun : List ℕ) (new : PenView) → length bytes ≤ i → DrawsTyped (take i bytes) front old begun new → DrawsTyped bytes front old begun new
+draws_all bytes i front old begun new all h = subst (λ done. DrawsTyped done front old begun new) (take_all i bytes all) h
 
 -- A TEXT THAT IS READ
 
 -- the last line, which lacks its end
-pub draws_last : (l : LineView) (typed : Typed) (old new : PenView) → l.kept ≢ [] → typed ≡ typed_of l → Sent (bodies_in typed) old new → DrawsLast l.kept old new
+pub draws_last : (l : LineView) (typed : Typed) (old new : PenView) → l.kept ≢ [] → typed ≡ typed_of l → PenSent (bodies_in typed) old new → DrawsLast l.kept old new
 draws_last l typed old new some is sent = record {
   drawn = bodies_in (typed_of l);
   strokes = λ h. last l.kept refl h;
-  sent = subst (λ t. Sent (bodies_in t) old new) is sent;
+  sent = subst (λ t. PenSent (bodies_in t) old new) is sent;
 }
   where
     last : (front : List ℕ) → l.kept ≡ front → HasNoEnd l.kept → strokes_in (l.kept ++ []) ≡ bodies_in (typed_of l)
@@ -165,7 +165,7 @@ reads_none None pen = tt
 reads_none (Some text) pen = record { rest = text; left_is = refl; drawn = []; strokes = refl; one = tt; sent = sent_none pen }
 
 -- nothing is drawn yet
-pub front_none : (known : Option (List ℕ)) (pen : PenView) → DrewFrontOf known pen pen
+pub front_none : (known : Option (List ℕ)) (pen : PenView) → DrewPrefixOf known pen pen
 front_none None pen = tt
 front_none (Some text) pen = (strokes_in text, record { sent = []; split = refl; is = sent_none pen })
 
@@ -176,7 +176,7 @@ rest_is (Some xs) (Some ys) bytes rest is took =
     let same : xs ≡ rest = cc in
     (ys, refl, sym same ∙ took)
 
-reads_more : (known left after : Option (List ℕ)) (bytes begun : List ℕ) (old mid : PenView) (next : List ℕ) (new : PenView) → ReadsOf known left begun old mid → Consumes left after bytes → Draws bytes begun mid next new
+reads_more : (known left after : Option (List ℕ)) (bytes begun : List ℕ) (old mid : PenView) (next : List ℕ) (new : PenView) → ReadsOf known left begun old mid → Consumes left after bytes → DrawsTyped bytes begun mid next new
     → ReadsOf known after next old new
 reads_more None left after bytes begun old mid next new h took draws = tt
 reads_more (Some text) left after bytes begun old mid next new h took draws =
@@ -191,12 +191,12 @@ reads_more (Some text) left after bytes begun old mid next new h took draws =
     }
 
 -- reading ended, and the pen stays as it is
-pub reads_cut : (known left : Option (List ℕ)) (begun : List ℕ) (old mid new : PenView) → ReadsOf known left begun old mid → new ≡ mid → DrewFrontOf known old new
+pub reads_cut : (known left : Option (List ℕ)) (begun : List ℕ) (old mid new : PenView) → ReadsOf known left begun old mid → new ≡ mid → DrewPrefixOf known old new
 reads_cut None left begun old mid new h is = tt
 reads_cut (Some text) left begun old mid new h is = (strokes_in (begun ++ h.rest), record { sent = h.drawn; split = h.strokes; is = is ∙ h.sent })
 
 -- it ended within these bytes
-reads_some : (known left after : Option (List ℕ)) (bytes begun : List ℕ) (old mid new : PenView) → ReadsOf known left begun old mid → Consumes left after bytes → DrawsSome bytes begun mid new → DrewFrontOf known old new
+reads_some : (known left after : Option (List ℕ)) (bytes begun : List ℕ) (old mid new : PenView) → ReadsOf known left begun old mid → Consumes left after bytes → DrawsSome bytes begun mid new → DrewPrefixOf known old new
 reads_some None left after bytes begun old mid new h took draws = tt
 reads_some (Some text) left after bytes begun old mid new h took some =
     let r = rest_is left after bytes h.rest h.left_is took in
@@ -228,7 +228,7 @@ reads_all (Some text) left begun old mid new h end last =
       is = sent_more h.drawn last.drawn old mid new h.sent last.sent;
     }
 
-front_of_all : (known : Option (List ℕ)) (old new : PenView) → DrewAllOf known old new → DrewFrontOf known old new
+front_of_all : (known : Option (List ℕ)) (old new : PenView) → DrewAllOf known old new → DrewPrefixOf known old new
 front_of_all None old new h = tt
 front_of_all (Some text) old new h = ([], h)
 
@@ -243,12 +243,12 @@ took_bytes some n buffer left after took is = subst (λ o. Took o buffer left af
 
 -- so many bytes were read, and drawn
 pub read_drawn : (known left after : Option (List ℕ)) (some : Option ℕ) (n : ℕ) (buffer begun : List ℕ) (old mid : PenView) (next : List ℕ) (new : PenView) → ReadsOf known left begun old mid → Took some buffer left after → some ≡ Some n
-    → Draws (take n buffer) begun mid next new → ReadsOf known after next old new
+    → DrawsTyped (take n buffer) begun mid next new → ReadsOf known after next old new
 read_drawn known left after some n buffer begun old mid next new h took is draws = reads_more known left after (take n buffer) begun old mid next new h (took_bytes some n buffer left after took is) draws
 
 -- so many were read, and some of them drawn
 pub read_cut : (known left after : Option (List ℕ)) (some : Option ℕ) (n : ℕ) (buffer begun : List ℕ) (old mid new : PenView) → ReadsOf known left begun old mid → Took some buffer left after → some ≡ Some n
-    → DrawsSome (take n buffer) begun mid new → DrewFrontOf known old new
+    → DrawsSome (take n buffer) begun mid new → DrewPrefixOf known old new
 read_cut known left after some n buffer begun old mid new h took is draws = reads_some known left after (take n buffer) begun old mid new h (took_bytes some n buffer left after took is) draws
 
 ended_known : (known left after : Option (List ℕ)) (some : Option ℕ) (buffer begun : List ℕ) (old mid : PenView) → ReadsOf known left begun old mid → Took some buffer left after → some ≡ Some 0 → ReadsOf known after begun old mid
@@ -256,7 +256,7 @@ ended_known known left after some buffer begun old mid h took is = reads_more kn
 
 -- the input ended, and the last line was drawn or not
 pub read_last : {T E : Type 0} (r : Result T E) (known left after : Option (List ℕ)) (some : Option ℕ) (buffer begun : List ℕ) (old mid new : PenView) → ReadsOf known left begun old mid → Took some buffer left after → some ≡ Some 0
-    → IfSome some (λ n. n ≡ 0 → IsAtEnd after) → OnOk r (DrawsLast begun mid new) → OnErr r (new ≡ mid) → OnOk r (DrewAllOf known old new) × DrewFrontOf known old new
+    → IfSome some (λ n. n ≡ 0 → IsAtEnd after) → OnOk r (DrawsLast begun mid new) → OnErr r (new ≡ mid) → OnOk r (DrewAllOf known old new) × DrewPrefixOf known old new
 read_last r known left after some buffer begun old mid new h took is end last cut = go r last cut
   where
     here : ReadsOf known after begun old mid
@@ -265,7 +265,7 @@ read_last r known left after some buffer begun old mid new h took is end last cu
     none : IsAtEnd after
     none = (subst (λ o. IfSome o (λ n. n ≡ 0 → IsAtEnd after)) is end) refl
 
-    go : {X Y : Type 0} (r : Result X Y) → OnOk r (DrawsLast begun mid new) → OnErr r (new ≡ mid) → OnOk r (DrewAllOf known old new) × DrewFrontOf known old new
+    go : {X Y : Type 0} (r : Result X Y) → OnOk r (DrawsLast begun mid new) → OnErr r (new ≡ mid) → OnOk r (DrewAllOf known old new) × DrewPrefixOf known old new
     go (Ok _) last cut =
         let all = reads_all known after begun old mid new here none last in
         (all, front_of_all known old new all)

@@ -1,7 +1,7 @@
 -- What is drawn of a text as it is typed.
 use Rattle.std.specs.Prelude.{◌≡◌, [], ◌∷◌, length, map, replicate, refl}
 use Rattle.srm_live.specs.declared.typed.Typed.TheVariants.{Stroke, TooLong}
-use Rattle.srm_live.specs.Typing.{short_lines, strokes_in, with_byte, typed_of, next_of}
+use Rattle.srm_live.specs.Typing.{short_lines, strokes_in, with_byte, typed_of, line_after}
 
 what_is_drawn_of_a_text : strokes_in (97 ∷ 10 ∷ 10 ∷ 98 ∷ []) ≡ (97 ∷ []) ∷ [] ∷ (98 ∷ []) ∷ []
 what_is_drawn_of_a_text = refl
@@ -24,5 +24,5 @@ a_line_ends = refl
 a_line_that_is_too_long_ends : typed_of (record { number = 3; kept = replicate 1025 99 }) ≡ TooLong 3
 a_line_that_is_too_long_ends = refl
 
-the_next_line : next_of (record { number = 3; kept = 97 ∷ [] }) ≡ record { number = 4; kept = [] }
+the_next_line : line_after (record { number = 3; kept = 97 ∷ [] }) ≡ record { number = 4; kept = [] }
 the_next_line = refl

@@ -1,17 +1,17 @@
 -- Lines as they are typed, and what is drawn of them.
 use Rattle.std.specs.Prelude.{◌≡◌, ◌≢◌, ℕ, nat_lt, List, [], ◌∷◌, ◌++◌, map, length, Option, Some, IfSome, if◌then◌else◌}
-use Rattle.srm_names.specs.declared.limits.TheConstants.{BODY}
+use Rattle.srm_names.specs.declared.limits.TheConstants.{LONGEST_BODY}
 use Rattle.srm_pages.specs.Ends.{PenView}
 use Rattle.srm_live.specs.declared.typed.Typed.{Typed}
 use Rattle.srm_live.specs.declared.typed.Typed.TheVariants.{Stroke, TooLong}
 use Rattle.srm_wire.specs.Wires.{one_more}
 use Rattle.srm_member.specs.Lines.{lines_of}
-use Rattle.srm_member.specs.Strokes.{stroke_of, Drew, DrewFront}
+use Rattle.srm_member.specs.Strokes.{stroke_of, Drew, DrewPrefix}
 
 -- the lines that are short enough for a body, in order
 abbrev pub short_lines : List (List ℕ) → List (List ℕ)
 short_lines [] = []
-short_lines (l ∷ ls) = if nat_lt BODY (length l) then short_lines ls else l ∷ short_lines ls
+short_lines (l ∷ ls) = if nat_lt LONGEST_BODY (length l) then short_lines ls else l ∷ short_lines ls
 
 -- the strokes of a text that is drawn as it is typed: its lines in order, without those that are too long
 abbrev pub strokes_in : List ℕ → List (List ℕ)
@@ -24,15 +24,15 @@ pub record LineView : Type 0 where
 
 -- a line with a byte more; of one that is too long already no more is kept
 abbrev pub with_byte : ℕ → LineView → LineView
-with_byte byte l = if nat_lt BODY (length l.kept) then l else record l { kept = l.kept ++ byte ∷ [] }
+with_byte byte l = if nat_lt LONGEST_BODY (length l.kept) then l else record l { kept = l.kept ++ byte ∷ [] }
 
 -- what a line becomes as it ends: a stroke with its bytes, or one that isn't drawn
 abbrev pub typed_of : LineView → Typed
-typed_of l = if nat_lt BODY (length l.kept) then TooLong l.number else Stroke l.kept
+typed_of l = if nat_lt LONGEST_BODY (length l.kept) then TooLong l.number else Stroke l.kept
 
 -- the line behind it, of which nothing is typed
-abbrev pub next_of : LineView → LineView
-next_of l = record { number = one_more l.number; kept = [] }
+abbrev pub line_after : LineView → LineView
+line_after l = record { number = one_more l.number; kept = [] }
 
 -- the bodies that are drawn of a line that ended
 abbrev pub bodies_in : Typed → List (List ℕ)
@@ -40,8 +40,8 @@ bodies_in (Stroke body) = body ∷ []
 bodies_in (TooLong number) = []
 
 -- the pen sent these bodies more
-abbrev pub Sent : List (List ℕ) → PenView → PenView → Type 0
-Sent bodies old new = new ≡ record old { sent = old.sent ++ map (stroke_of old.place) bodies }
+abbrev pub PenSent : List (List ℕ) → PenView → PenView → Type 0
+PenSent bodies old new = new ≡ record old { sent = old.sent ++ map (stroke_of old.place) bodies }
 
 -- no byte of these is a line end
 abbrev pub HasNoEnd : List ℕ → Type 0
@@ -50,11 +50,11 @@ HasNoEnd (b ∷ bs) = (b ≢ 10) × HasNoEnd bs
 
 -- Behind a line's front these bytes were typed. What was drawn are the strokes that ended with them: whatever else is typed, these come first,
 -- and behind them those of the front that is begun now.
-pub record Draws (bytes front : List ℕ) (old : PenView) (begun : List ℕ) (new : PenView) : Type 0 where
+pub record DrawsTyped (bytes front : List ℕ) (old : PenView) (begun : List ℕ) (new : PenView) : Type 0 where
   pub drawn : List (List ℕ)
   pub strokes : HasNoEnd front → (more : List ℕ) → strokes_in (front ++ (bytes ++ more)) ≡ drawn ++ strokes_in (begun ++ more)
   pub one : HasNoEnd front → HasNoEnd begun
-  pub sent : Sent drawn old new
+  pub sent : PenSent drawn old new
 
 -- some of these bytes were drawn, from the first on
 pub record DrawsSome (bytes front : List ℕ) (old new : PenView) : Type 0 where
@@ -62,7 +62,7 @@ pub record DrawsSome (bytes front : List ℕ) (old new : PenView) : Type 0 where
   pub rest : List ℕ
   pub split : bytes ≡ done ++ rest
   pub begun : List ℕ
-  pub draws : Draws done front old begun new
+  pub draws : DrawsTyped done front old begun new
 
 -- Of a text that is known, this is left to be read. What was read was drawn, but for the front of a line that is begun.
 pub record Reads (text : List ℕ) (left : Option (List ℕ)) (begun : List ℕ) (old new : PenView) : Type 0 where
@@ -71,13 +71,13 @@ pub record Reads (text : List ℕ) (left : Option (List ℕ)) (begun : List ℕ)
   pub drawn : List (List ℕ)
   pub strokes : strokes_in text ≡ drawn ++ strokes_in (begun ++ rest)
   pub one : HasNoEnd begun
-  pub sent : Sent drawn old new
+  pub sent : PenSent drawn old new
 
 -- the last line of a text, which lacks its end, was drawn
 pub record DrawsLast (front : List ℕ) (old new : PenView) : Type 0 where
   pub drawn : List (List ℕ)
   pub strokes : HasNoEnd front → strokes_in (front ++ []) ≡ drawn
-  pub sent : Sent drawn old new
+  pub sent : PenSent drawn old new
 
 -- the same of what may be known of a text
 abbrev pub ReadsOf : (known left : Option (List ℕ)) → List ℕ → PenView → PenView → Type 0
@@ -88,5 +88,5 @@ abbrev pub DrewAllOf : Option (List ℕ) → PenView → PenView → Type 0
 DrewAllOf known old new = IfSome known (λ text. Drew (strokes_in text) [] old new)
 
 -- of a text that is known the pen sent a front of the strokes, each once and in order
-abbrev pub DrewFrontOf : Option (List ℕ) → PenView → PenView → Type 0
-DrewFrontOf known old new = IfSome known (λ text. DrewFront (strokes_in text) old new)
+abbrev pub DrewPrefixOf : Option (List ℕ) → PenView → PenView → Type 0
+DrewPrefixOf known old new = IfSome known (λ text. DrewPrefix (strokes_in text) old new)

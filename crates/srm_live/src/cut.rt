@@ -1,19 +1,19 @@
 //! Why what is typed isn't drawn to its end.
 
-use srm_script::Fault;
+use srm_script::ScriptFault;
 use std::alloc::AllocError;
 
 /// Why what is typed isn't drawn to its end.
 #[derive(Debug, Drop)]
-pub enum Cut {
+pub enum ReadingEnd {
     /// The output is closed or the node has ended: nothing more is drawn.
     Closed,
     /// The input failed, or memory ran out.
-    Fault(Fault),
+    Fault(ScriptFault),
 }
 
-impl From<AllocError> for Cut {
-    fn from(_error: AllocError) -> Cut {
-        Cut::Fault(Fault::Memory)
+impl From<AllocError> for ReadingEnd {
+    fn from(_error: AllocError) -> ReadingEnd {
+        ReadingEnd::Fault(ScriptFault::Memory)
     }
 }

@@ -1,12 +1,12 @@
 //! What the threads of a live member share: where it prints, and what befell it.
 
 ghost use Rattle.std.specs.Prelude.{◌≡◌, ◌≤◌};
-ghost use Rattle.srm_member.specs.Ends.{status_of_member};
+ghost use Rattle.srm_member.specs.Statuses.{status_of_member};
 
 use crate::error_stream::ErrorStream;
 use srm_member::MemberFault;
 use srm_names::{Member, PageMsg};
-use srm_script::{Fault, ShownMessage};
+use srm_script::{PrintedMessage, ScriptFault};
 use std::alloc::Global;
 use std::io;
 use std::io::{IsTerminal, Write};
@@ -49,9 +49,9 @@ impl<O: Write, E: Write> Desk<O, E> {
     /// Prints at once what the worker of a slot took, unless an earlier line couldn't be printed.
     pub fn print_taken<R: Wait>(&self, rt: &R, alloc: Global, slot: u8, message: &PageMsg) {
         let me = self.me.number();
-        match format!(in alloc; "took {me} {slot} {}\n", ShownMessage(message)) {
+        match format!(in alloc; "took {me} {slot} {}\n", PrintedMessage(message)) {
             Ok(line) => self.print(rt, line.as_str()),
-            Err(_) => self.note(&Fault::Memory),
+            Err(_) => self.note(&ScriptFault::Memory),
         }
     }
 
@@ -60,7 +60,7 @@ impl<O: Write, E: Write> Desk<O, E> {
         let me = self.me.number();
         match format!(in alloc; "gone {me}\n") {
             Ok(line) => self.print(rt, line.as_str()),
-            Err(_) => self.note(&Fault::Memory),
+            Err(_) => self.note(&ScriptFault::Memory),
         }
     }
 
@@ -81,7 +81,7 @@ impl<O: Write, E: Write> Desk<O, E> {
     fn write<R: Wait>(&self, rt: &R, line: &str) {
         let mut out = self.out.lock(rt);
         if put(&mut *out, line).is_err() {
-            self.note(&Fault::Output);
+            self.note(&ScriptFault::Output);
         }
     }
 
@@ -94,37 +94,37 @@ impl<O: Write, E: Write> Desk<O, E> {
 
     /// Tells that a line isn't drawn. The member goes on.
     pub fn refuse<R: Wait>(&self, rt: &R, number: u64) {
-        let _ = self.tell(rt, &MemberFault::Script(Fault::BadLine(number)));
+        let _ = self.print_fault(rt, &MemberFault::Script(ScriptFault::BadLine(number)));
     }
 
     /// Tells a fault, and answers its status.
-    pub fn tell<R: Wait>(&self, rt: &R, fault: &MemberFault) -> u8
+    pub fn print_fault<R: Wait>(&self, rt: &R, fault: &MemberFault) -> u8
         ensures status { result ≡ status_of_member fault.now }
         ensures greatest { result ≤ 4 }
     {
         let mut err = self.err.lock(rt);
-        err.tell(fault)
+        err.print(fault)
     }
 
     /// Notes what befell the member's streams, or that memory ran out.
-    pub fn note(&self, fault: &Fault) {
+    pub fn note(&self, fault: &ScriptFault) {
         match fault {
-            Fault::Memory => self.lacks_memory.store(true, Ordering::SeqCst),
-            Fault::Output => self.output_failed.store(true, Ordering::SeqCst),
-            Fault::Input | Fault::TooLong | Fault::BadLine(_) => {
+            ScriptFault::Memory => self.lacks_memory.store(true, Ordering::SeqCst),
+            ScriptFault::Output => self.output_failed.store(true, Ordering::SeqCst),
+            ScriptFault::StandardInput | ScriptFault::TooLong | ScriptFault::BadLine(_) => {
                 self.input_failed.store(true, Ordering::SeqCst);
             }
         }
     }
 
     /// The first that was noted: want of memory, an output that failed, an input that did.
-    pub fn noted(&self) -> Option<Fault> {
+    pub fn noted(&self) -> Option<ScriptFault> {
         if self.lacks_memory.load(Ordering::SeqCst) {
-            Some(Fault::Memory)
+            Some(ScriptFault::Memory)
         } else if self.output_failed.load(Ordering::SeqCst) {
-            Some(Fault::Output)
+            Some(ScriptFault::Output)
         } else if self.input_failed.load(Ordering::SeqCst) {
-            Some(Fault::Input)
+            Some(ScriptFault::StandardInput)
         } else {
             None
         }

@@ -1,7 +1,7 @@
 //! Standard error of a live member: what is told, and on a terminal the status line, which is written over in place.
 
 ghost use Rattle.std.specs.Prelude.{◌≡◌, ◌≤◌};
-ghost use Rattle.srm_member.specs.Ends.{status_of_member};
+ghost use Rattle.srm_member.specs.Statuses.{status_of_member};
 
 use srm_member::MemberFault;
 use std::io::Write;
@@ -42,12 +42,12 @@ impl<E: Write> ErrorStream<E> {
     }
 
     /// Tells a fault on a line of its own, and answers its status.
-    pub fn tell(&mut self, fault: &MemberFault) -> u8
+    pub fn print(&mut self, fault: &MemberFault) -> u8
         ensures status { result ≡ status_of_member fault.now }
         ensures greatest { result ≤ 4 }
     {
         self.wipe();
-        fault.tell(&mut self.stream)
+        fault.print(&mut self.stream)
     }
 
     fn write(&mut self, text: &str) {

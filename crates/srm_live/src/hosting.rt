@@ -10,7 +10,7 @@ use srm_member::{MemberFault, Station};
 use srm_names::PageMsg;
 use srm_node::{Hosted, Node, PageSink, host};
 use srm_pages::{Inked, Pen, Tap};
-use srm_script::Fault;
+use srm_script::ScriptFault;
 use srm_timers::Pcg;
 use srm_udp::SystemClock;
 use srm_wire::Wire;
@@ -84,7 +84,7 @@ where
 fn fault_of<P: Past<Entry> + Drop>(hosted: Option<Hosted<P, Vec<PageMsg>>>) -> Option<MemberFault> {
     match hosted {
         Some(hosted) => MemberFault::of_run(hosted.end, hosted.worked.as_slice()),
-        None => Some(MemberFault::Script(Fault::Memory)),
+        None => Some(MemberFault::Script(ScriptFault::Memory)),
     }
 }
 

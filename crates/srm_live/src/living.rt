@@ -2,7 +2,7 @@
 
 ghost use Rattle.std.specs.Prelude.{◌≡◌, ◌≤◌, vec_len, IfOk};
 ghost use Rattle.srm_names.specs.declared.limits.TheConstants.{PAGES};
-ghost use Rattle.srm_member.specs.Ends.{EndsWith};
+ghost use Rattle.srm_member.specs.Statuses.{IsExitStatus};
 
 use crate::counted_wire::CountedWire;
 use crate::desk::Desk;
@@ -13,7 +13,7 @@ use crate::telling::{end_telling, start_telling};
 use crate::watched::Watched;
 use srm_member::{MemberFault, Station};
 use srm_options::NodeOptions;
-use srm_script::Fault;
+use srm_script::ScriptFault;
 use srm_udp::UdpWire;
 use std::alloc::Global;
 use std::io::{IsTerminal, Read, Write};
@@ -39,13 +39,13 @@ where
     I: Read + Send + Drop + 'static,
     O: Write + Send + Drop + 'static,
     E: Write + IsTerminal + Send + Drop + 'static,
-    ensures ends { EndsWith result }
+    ensures ends { IsExitStatus result }
     ensures greatest { result ≤ 4 }
 {
     let alloc = rt.alloc();
     match Arc::new(alloc, Desk::new(options.config.me(), out, err)) {
         Ok(desk) => run_at(rt, alloc, options, reader, &desk),
-        Err(failed) => tell(rt, &failed.value, &MemberFault::Script(Fault::Memory)),
+        Err(failed) => print(rt, &failed.value, &MemberFault::Script(ScriptFault::Memory)),
     }
 }
 
@@ -62,25 +62,25 @@ where
     I: Read + Send + Drop + 'static,
     O: Write + Send + Drop + 'static,
     E: Write + Send + Drop + 'static,
-    ensures ends { EndsWith result }
+    ensures ends { IsExitStatus result }
     ensures greatest { result ≤ 4 }
 {
     let run = match printing_sinks(rt, alloc, desk) {
         Ok(sinks) => run_printing(rt, alloc, options, reader, sinks, desk),
-        Err(_) => Some(MemberFault::Script(Fault::Memory)),
+        Err(_) => Some(MemberFault::Script(ScriptFault::Memory)),
     };
     match run {
-        Some(fault) => tell(rt, desk, &fault),
+        Some(fault) => print(rt, desk, &fault),
         None => 0,
     }
 }
 
 // Tells why the member isn't run, or not to its end.
-fn tell<R: Wait, O: Write, E: Write>(rt: &R, desk: &Desk<O, E>, fault: &MemberFault) -> u8
-    ensures ends { EndsWith result }
+fn print<R: Wait, O: Write, E: Write>(rt: &R, desk: &Desk<O, E>, fault: &MemberFault) -> u8
+    ensures ends { IsExitStatus result }
     ensures greatest { result ≤ 4 }
 {
-    desk.tell(rt, fault)
+    desk.print_fault(rt, fault)
 }
 
 // Runs the member over its own address, with a sink for each slot. Why it wasn't run to its end, if it wasn't.

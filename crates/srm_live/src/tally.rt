@@ -69,8 +69,8 @@ impl Tally {
     }
 
     /// What goes on by now, in a session of so many others.
-    pub fn status(&self, others: u8) -> Status {
-        Status {
+    pub fn status(&self, others: u8) -> Activity {
+        Activity {
             others,
             heard: self.heard.load(Ordering::SeqCst).count_ones(),
             missing: self.missing.load(Ordering::SeqCst),
@@ -90,7 +90,7 @@ fn add_one(count: &AtomicU64) {
 
 /// What passed a member's wire, and what its agent made of it. Its text is the line for what goes on.
 #[derive(Clone, Copy, Debug, PartialEq, Eq)]
-pub struct Status {
+pub struct Activity {
     /// How many other members the session has, and of how many a datagram came.
     pub others: u8,
     pub heard: u32,
@@ -108,7 +108,7 @@ pub struct Status {
     pub noise: u64,
 }
 
-impl fmt::Display for Status {
+impl fmt::Display for Activity {
     fn fmt<W: fmt::Write>(&self, f: &mut fmt::Formatter<W>) -> fmt::Result {
         write!(f, "srm: heard {} of {}, ", self.heard, self.others)?;
         write!(f, "missing {}, ", self.missing)?;

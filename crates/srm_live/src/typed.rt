@@ -1,10 +1,10 @@
 //! The line that is being typed.
 
 ghost use Rattle.std.specs.Prelude.{◌≡◌, ◌↔◌, ◌≢◌, IsTrue, OnOk, OnErr, IfOk, []};
-ghost use Rattle.srm_live.specs.Typing.{with_byte, typed_of, next_of};
+ghost use Rattle.srm_live.specs.Typing.{with_byte, typed_of, line_after};
 
 use bytes::Bytes;
-use srm_names::BODY;
+use srm_names::LONGEST_BODY;
 use std::alloc::{AllocError, Global};
 use std::marker::Model;
 
@@ -50,7 +50,7 @@ impl Line {
         ensures ok { OnOk result (self.new ≡ with_byte byte self.old) }
         ensures err { OnErr result (self.new ≡ self.old) }
     {
-        if self.kept.len() <= usize::from(BODY) {
+        if self.kept.len() <= usize::from(LONGEST_BODY) {
             self.kept.push(byte)?;
         }
         Ok(())
@@ -59,10 +59,10 @@ impl Line {
     /// Ends the line, and begins the next. Only want of memory refuses it, and then it didn't end.
     pub fn end(&mut self) -> Result<Typed, AllocError>
         ensures ok { IfOk result (λ typed. typed ≡ typed_of self.old) }
-        ensures next { OnOk result (self.new ≡ next_of self.old) }
+        ensures next { OnOk result (self.new ≡ line_after self.old) }
         ensures err { OnErr result (self.new ≡ self.old) }
     {
-        let typed = if self.kept.len() > usize::from(BODY) {
+        let typed = if self.kept.len() > usize::from(LONGEST_BODY) {
             Typed::TooLong(self.number)
         } else {
             Typed::Stroke(Bytes::copy_from_slice(self.alloc, self.kept.as_slice())?)

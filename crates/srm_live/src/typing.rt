@@ -2,15 +2,15 @@
 
 ghost use Rattle.std.specs.Prelude.{◌≡◌, ◌<◌, ◌≤◌, ◌∷◌, [], length, take, IfOk, IfSome, OnOk, OnErr, MatchResult, MatchOption};
 ghost use Rattle.std.specs.Io.KnownBytes.{Consumes, Keeps, IsAtEnd};
-ghost use Rattle.srm_live.specs.Typing.{bodies_in, Sent, Draws, DrawsSome, DrawsLast, DrewAllOf, DrewFrontOf};
+ghost use Rattle.srm_live.specs.Typing.{bodies_in, PenSent, DrawsTyped, DrawsSome, DrawsLast, DrewAllOf, DrewPrefixOf};
 
-use crate::cut::Cut;
+use crate::cut::ReadingEnd;
 use crate::desk::Desk;
 use crate::remaining::remain;
 use crate::typed::{Line, Typed};
 use srm_member::draw;
 use srm_pages::{Inked, Pen};
-use srm_script::Fault;
+use srm_script::ScriptFault;
 use std::alloc::Global;
 use std::io::{ErrorKind, Read, Write};
 use std::sync::Wait;
@@ -33,11 +33,11 @@ pub fn draw_typed<R: Clock + Wait, I: Read + Drop, O: Write, E: Write>(
     stay: u64,
     desk: &Desk<O, E>,
 ) -> Inked
-    ensures { DrewFrontOf (I.remaining reader) pen result }
+    ensures { DrewPrefixOf (I.remaining reader) pen result }
 {
     let mut reader = reader;
     let mut pen = pen;
-    if let Err(Cut::Fault(fault)) = draw_lines(rt, alloc, &mut reader, &mut pen, desk) {
+    if let Err(ReadingEnd::Fault(fault)) = draw_lines(rt, alloc, &mut reader, &mut pen, desk) {
         desk.note(&fault);
     }
     remain(rt, Duration::from_micros(stay), desk.ended());
@@ -52,9 +52,9 @@ fn draw_lines<R: Clock + Wait, I: Read, O: Write, E: Write>(
     reader: &mut I,
     pen: &mut Pen,
     desk: &Desk<O, E>,
-) -> Result<(), Cut>
+) -> Result<(), ReadingEnd>
     ensures all { OnOk result (DrewAllOf (I.remaining reader.old) pen.old pen.new) }
-    ensures front { DrewFrontOf (I.remaining reader.old) pen.old pen.new }
+    ensures front { DrewPrefixOf (I.remaining reader.old) pen.old pen.new }
 {
     let mut line = Line::new(alloc);
     let mut buffer = vec![in alloc; 0; READ]?;
@@ -70,15 +70,15 @@ fn draw_read<R: Clock + Wait, I: Read, O: Write, E: Write>(
     line: &mut Line,
     pen: &mut Pen,
     desk: &Desk<O, E>,
-) -> Result<(), Cut>
+) -> Result<(), ReadingEnd>
     requires room { 0 < length buffer.old }
     requires none { line.old.kept ≡ [] }
     ensures all { OnOk result (DrewAllOf (I.remaining reader.old) pen.old pen.new) }
-    ensures front { DrewFrontOf (I.remaining reader.old) pen.old pen.new }
+    ensures front { DrewPrefixOf (I.remaining reader.old) pen.old pen.new }
 {
     for _ in rt.forever() {
         if desk.is_over() {
-            return Err(Cut::Closed);
+            return Err(ReadingEnd::Closed);
         }
         match read_next(rt, reader, buffer)? {
             None => {}
@@ -94,7 +94,7 @@ fn read_next<R: Clock, I: Read>(
     rt: &R,
     reader: &mut I,
     buffer: &mut [u8],
-) -> Result<Option<usize>, Cut>
+) -> Result<Option<usize>, ReadingEnd>
     requires { 0 < length buffer.old }
     ensures within { IfOk result (λ some. IfSome some (λ count. count ≤ length buffer.new)) }
     ensures reads { MatchResult result
@@ -110,8 +110,8 @@ fn read_next<R: Clock, I: Read>(
                 thread::sleep(rt, Duration::from_micros(WAIT));
                 Ok(None)
             }
-            ErrorKind::OutOfMemory => Err(Cut::Fault(Fault::Memory)),
-            _ => Err(Cut::Fault(Fault::Input)),
+            ErrorKind::OutOfMemory => Err(ReadingEnd::Fault(ScriptFault::Memory)),
+            _ => Err(ReadingEnd::Fault(ScriptFault::StandardInput)),
         },
     }
 }
@@ -124,8 +124,8 @@ fn draw_bytes<R: Clock + Wait, O: Write, E: Write>(
     line: &mut Line,
     bytes: &[u8],
     desk: &Desk<O, E>,
-) -> Result<(), Cut>
-    ensures all { OnOk result (Draws bytes.now line.old.kept pen.old line.new.kept pen.new) }
+) -> Result<(), ReadingEnd>
+    ensures all { OnOk result (DrawsTyped bytes.now line.old.kept pen.old line.new.kept pen.new) }
     ensures some { DrawsSome bytes.now line.old.kept pen.old pen.new }
 {
     for byte in bytes {
@@ -142,8 +142,8 @@ fn draw_byte<R: Clock + Wait, O: Write, E: Write>(
     line: &mut Line,
     byte: u8,
     desk: &Desk<O, E>,
-) -> Result<(), Cut>
-    ensures drawn { OnOk result (Draws (byte ∷ []) line.old.kept pen.old line.new.kept pen.new) }
+) -> Result<(), ReadingEnd>
+    ensures drawn { OnOk result (DrawsTyped (byte ∷ []) line.old.kept pen.old line.new.kept pen.new) }
     ensures none { OnErr result (pen.new ≡ pen.old) }
 {
     if byte != b'\n' {
@@ -161,7 +161,7 @@ fn draw_last<R: Clock + Wait, O: Write, E: Write>(
     pen: &mut Pen,
     line: &mut Line,
     desk: &Desk<O, E>,
-) -> Result<(), Cut>
+) -> Result<(), ReadingEnd>
     ensures drawn { OnOk result (DrawsLast line.old.kept pen.old pen.new) }
     ensures none { OnErr result (pen.new ≡ pen.old) }
 {
@@ -178,17 +178,17 @@ fn draw_line<R: Clock + Wait, O: Write, E: Write>(
     pen: &mut Pen,
     typed: Typed,
     desk: &Desk<O, E>,
-) -> Result<(), Cut>
-    ensures drawn { OnOk result (Sent (bodies_in typed) pen.old pen.new) }
+) -> Result<(), ReadingEnd>
+    ensures drawn { OnOk result (PenSent (bodies_in typed) pen.old pen.new) }
     ensures none { OnErr result (pen.new ≡ pen.old) }
 {
     if desk.is_over() {
-        return Err(Cut::Closed);
+        return Err(ReadingEnd::Closed);
     }
     match typed {
         Typed::Stroke(body) => {
             if !draw(rt, pen, body, desk.ended()) {
-                return Err(Cut::Closed);
+                return Err(ReadingEnd::Closed);
             }
         }
         Typed::TooLong(number) => desk.refuse(rt, number),

@@ -5,7 +5,7 @@ use srm_live::{PolledInput, run_live};
 use srm_member::{print_reply, run_node};
 use srm_options::{read_node, read_picture, read_world};
 use srm_played::run_picture;
-use srm_script::{Fault, run_script};
+use srm_script::{ScriptFault, run_script};
 use std::alloc::{AllocError, Global};
 use std::io::{ErrorKind, Write, writer};
 use std::os::fd::RawFd;
@@ -27,7 +27,7 @@ fn main(rt: HostRuntime) -> ExitCode {
         Err(error) => return ExitCode::from(tell_words(&error, &mut err)),
     };
     let Ok(texts) = texts_of(alloc, words.as_slice()) else {
-        return ExitCode::from(Fault::Memory.tell(&mut err));
+        return ExitCode::from(ScriptFault::Memory.print(&mut err));
     };
     let status = match texts.as_slice() {
         ["node", words @ ..] => match read_node(alloc, words) {
@@ -63,7 +63,7 @@ fn texts_of<'a>(alloc: Global, words: &'a [String]) -> Result<Vec<&'a str>, Allo
 /// Prints why the command line can't be read, and answers the status.
 fn tell_words<E: Write>(error: &io::Error, err: &mut E) -> u8 {
     match error.kind() {
-        ErrorKind::OutOfMemory => Fault::Memory.tell(err),
+        ErrorKind::OutOfMemory => ScriptFault::Memory.print(err),
         _ => {
             let _ = writeln!(err, "error: the command line is no text");
             WRONG_USAGE

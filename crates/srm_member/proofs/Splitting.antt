@@ -2,7 +2,7 @@
 use Rattle.std.proofs.Common.{◌≡◌, ◌≢◌, ℕ, zero, suc, ◌+◌, ◌-◌, ◌<◌, ◌≤◌, ◌==◌, List, [], ◌∷◌, length, refl, ap, ◌∙◌, sym, arith, rules}
 use Rattle.std.specs.Prelude.{take, drop, slice_index, if◌then◌else◌}
 use Rattle.std.proofs.lemmas.List.{take_rest, length-drop}
-use Rattle.srm_member.specs.Lines.{lines_of, before_first, IsLineEnd, Leaves}
+use Rattle.srm_member.specs.Lines.{lines_of, before_first, IsLineEnd, HasFirstLine}
 
 -- a byte that is no line end stands in the first line
 pub other : (c : ℕ) (ls : List (List ℕ)) → c ≢ 10 → (if c == 10 then [] ∷ ls else before_first c ls) ≡ before_first c ls
@@ -19,7 +19,7 @@ next_is (c ∷ cs) (suc n) h few =
     let e : suc n + 1 ≡ suc (n + 1) = omega arith in
     rw e (other c (lines_of cs) (h.before 0 (omega arith)) ∙ ap (before_first c) (next_is cs n (behind c cs n h) (omega (arith, few))))
 
-pub cut : (text : List ℕ) (n : ℕ) → IsLineEnd text n → n < length text → Leaves text (take n text) (take (length text - (n + 1)) (drop (n + 1) text))
+pub cut : (text : List ℕ) (n : ℕ) → IsLineEnd text n → n < length text → HasFirstLine text (take n text) (take (length text - (n + 1)) (drop (n + 1) text))
 cut text n h few = record {
   lines = next_is text n h few ∙ ap (λ left. take n text ∷ lines_of left) (sym (take_rest text (n + 1)));
   less = rw (take_rest text (n + 1)) (omega (arith, few, length-drop (n + 1) text));
@@ -30,5 +30,5 @@ last_is [] h some = absurd (omega (arith, some))
 last_is (c ∷ []) h some = other c [] (h.before 0 (omega arith))
 last_is (c ∷ d ∷ ds) h some = other c (lines_of (d ∷ ds)) (h.before 0 (omega arith)) ∙ ap (before_first c) (last_is (d ∷ ds) (behind c (d ∷ ds) (length (d ∷ ds)) h) (omega arith))
 
-pub whole : (text : List ℕ) → IsLineEnd text (length text) → 0 < length text → Leaves text text []
+pub whole : (text : List ℕ) → IsLineEnd text (length text) → 0 < length text → HasFirstLine text text []
 whole text h some = record { lines = last_is text h some; less = some }

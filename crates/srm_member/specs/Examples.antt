@@ -3,11 +3,11 @@ use Rattle.std.specs.Prelude.{◌≡◌, true, false, [], ◌∷◌, map, codes,
 use Rattle.std.specs.declared.io.ErrorKind.TheVariants as kind
 use Rattle.rand_core.specs.Pcg32Seed.{pcg32_seed}
 use Rattle.rand_core.specs.Steps.{u32_at, word_bytes}
-use Rattle.srm_script.specs.declared.fault.Fault.TheVariants.{Input, Memory}
+use Rattle.srm_script.specs.declared.fault.ScriptFault.TheVariants.{StandardInput, Memory}
 use Rattle.srm_node.specs.declared.fault.NodeFault.TheVariants as node
 use Rattle.srm_member.specs.declared.fault.MemberFault.TheVariants.{Script, Wire, Turns}
 use Rattle.srm_member.specs.Lines.{lines_of, each_fourth, bad_line}
-use Rattle.srm_member.specs.Ends.{fault_of, fault_of_live, fault_of_binding, status_of_member}
+use Rattle.srm_member.specs.Statuses.{fault_of, fault_of_live, fault_of_binding, status_of_member}
 use Rattle.srm_member.specs.Stations.{words_of}
 
 no_lines : lines_of [] ≡ []
@@ -28,7 +28,7 @@ the_second_of_six = refl
 none_is_too_long : bad_line 1 ([] ∷ (97 ∷ []) ∷ []) ≡ None
 none_is_too_long = refl
 
-statuses : map status_of_member (Script Input ∷ Script Memory ∷ Wire ∷ Turns ∷ []) ≡ 1 ∷ 4 ∷ 3 ∷ 4 ∷ []
+statuses : map status_of_member (Script StandardInput ∷ Script Memory ∷ Wire ∷ Turns ∷ []) ≡ 1 ∷ 4 ∷ 3 ∷ 4 ∷ []
 statuses = refl
 
 a_worker_without_memory : fault_of (Ok tt) true ∷ fault_of (Err node.Wire) true ∷ [] ≡ Some (Script Memory) ∷ Some (Script Memory) ∷ []
@@ -37,7 +37,7 @@ a_worker_without_memory = refl
 the_node_s_own_end : fault_of (Ok tt) false ∷ fault_of (Err node.Memory) false ∷ fault_of (Err node.Wire) false ∷ fault_of (Err node.Turns) false ∷ [] ≡ None ∷ Some (Script Memory) ∷ Some Wire ∷ Some Turns ∷ []
 the_node_s_own_end = refl
 
-a_live_run : fault_of_live (Some Wire) (Some Memory) ∷ fault_of_live (Some Turns) (Some Input) ∷ fault_of_live None (Some Input) ∷ fault_of_live None None ∷ [] ≡ Some (Script Memory) ∷ Some Turns ∷ Some (Script Input) ∷ None ∷ []
+a_live_run : fault_of_live (Some Wire) (Some Memory) ∷ fault_of_live (Some Turns) (Some StandardInput) ∷ fault_of_live None (Some StandardInput) ∷ fault_of_live None None ∷ [] ≡ Some (Script Memory) ∷ Some Turns ∷ Some (Script StandardInput) ∷ None ∷ []
 a_live_run = refl
 
 an_address_in_use : fault_of_binding kind.AddrInUse ≡ Wire

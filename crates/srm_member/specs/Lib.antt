@@ -1,4 +1,4 @@
-pub mod Ends
+pub mod Statuses
 pub mod Examples
 pub mod Lines
 pub mod Stations

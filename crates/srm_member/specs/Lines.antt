@@ -1,8 +1,8 @@
 -- The lines of an input, and whose they are.
 use Rattle.std.specs.Prelude.{◌≡◌, ◌≢◌, ℕ, zero, suc, ◌+◌, ◌-◌, ◌<◌, ◌≤◌, ◌==◌, nat_lt, List, [], ◌∷◌, length, slice_index, Option, Some, None, if◌then◌else◌}
-use Rattle.srm_names.specs.declared.limits.TheConstants.{BODY, PENS}
-use Rattle.srm_script.specs.declared.fault.Fault.{Fault}
-use Rattle.srm_script.specs.declared.fault.Fault.TheVariants.{BadLine, Memory}
+use Rattle.srm_names.specs.declared.limits.TheConstants.{LONGEST_BODY, PENS}
+use Rattle.srm_script.specs.declared.fault.ScriptFault.{ScriptFault}
+use Rattle.srm_script.specs.declared.fault.ScriptFault.TheVariants.{BadLine, Memory}
 
 -- these lines, with a byte before the first
 abbrev pub before_first : ℕ → List (List ℕ) → List (List ℕ)
@@ -17,7 +17,7 @@ lines_of (c ∷ cs) = if c == 10 then [] ∷ lines_of cs else before_first c (li
 -- the number of the first line that is too long for a body, where the first line has this number
 abbrev pub bad_line : ℕ → List (List ℕ) → Option ℕ
 bad_line n [] = None
-bad_line n (l ∷ ls) = if nat_lt BODY (length l) then Some n else bad_line (n + 1) ls
+bad_line n (l ∷ ls) = if nat_lt LONGEST_BODY (length l) then Some n else bad_line (n + 1) ls
 
 -- Each fourth line, after so many others: as many as there are pens are dealt between two of one pen's.
 abbrev pub each_fourth : ℕ → List (List ℕ) → List (List ℕ)
@@ -30,7 +30,7 @@ abbrev pub dealt_of : List (List ℕ) → List (List (List ℕ))
 dealt_of lines = each_fourth 0 lines ∷ each_fourth 1 lines ∷ each_fourth 2 lines ∷ each_fourth 3 lines ∷ []
 
 -- the first line that is too long is named, or memory ran out
-abbrev pub IsRefusedFor : List (List ℕ) → Fault → Type 0
+abbrev pub IsRefusedFor : List (List ℕ) → ScriptFault → Type 0
 IsRefusedFor lines (BadLine n) = bad_line 1 lines ≡ Some n
 IsRefusedFor lines Memory = Unit {0}
 IsRefusedFor lines _ = ⊥
@@ -42,6 +42,6 @@ pub record IsLineEnd (text : List ℕ) (n : ℕ) : Type 0 where
   pub there : n < length text → slice_index text n ≡ 10
 
 -- what a text has left behind a line with its end
-pub record Leaves (text line left : List ℕ) : Type 0 where
+pub record HasFirstLine (text line left : List ℕ) : Type 0 where
   pub lines : lines_of text ≡ line ∷ lines_of left
   pub less : length left < length text

@@ -14,5 +14,5 @@ pub record Drew (bodies left : List (List ℕ)) (old new : PenView) : Type 0 whe
   pub is : new ≡ record old { sent = old.sent ++ map (stroke_of old.place) sent }
 
 -- the pen sent a front of these bodies
-abbrev pub DrewFront : List (List ℕ) → PenView → PenView → Type 0
-DrewFront bodies old new = (left : List (List ℕ)) × Drew bodies left old new
+abbrev pub DrewPrefix : List (List ℕ) → PenView → PenView → Type 0
+DrewPrefix bodies old new = (left : List (List ℕ)) × Drew bodies left old new

@@ -1,25 +1,25 @@
 //! The lines of the input, dealt to the pens.
 
 ghost use Rattle.std.specs.Prelude.{◌≡◌, ◌<◌, [], ◌∷◌, None, length, map, IfOk, IfErr, MatchOption};
-ghost use Rattle.srm_member.specs.Lines.{lines_of, bad_line, each_fourth, dealt_of, IsRefusedFor, IsLineEnd, Leaves};
+ghost use Rattle.srm_member.specs.Lines.{lines_of, bad_line, each_fourth, dealt_of, IsRefusedFor, IsLineEnd, HasFirstLine};
 
 use bytes::Bytes;
-use srm_names::{BODY, PENS};
-use srm_script::Fault;
+use srm_names::{LONGEST_BODY, PENS};
+use srm_script::ScriptFault;
 use std::alloc::{AllocError, Global};
 
 /// Deals the lines of an input to the pens in turn, the first to the first: for each pen the bodies of its strokes. A line ends with a line
 /// end, which the last may lack unless it is empty. Refused is the first line of more than 1,024 bytes, and want of memory.
-pub fn deal(alloc: Global, input: &[u8]) -> Result<Vec<Vec<Bytes>>, Fault>
+pub fn deal(alloc: Global, input: &[u8]) -> Result<Vec<Vec<Bytes>>, ScriptFault>
     ensures ok { IfOk result (λ dealt. (bad_line 1 (lines_of input.now) ≡ None) × (map (λ bodies. bodies.items) dealt.items ≡ dealt_of (lines_of input.now))) }
     ensures err { IfErr result (IsRefusedFor (lines_of input.now)) }
 {
     if let Some(number) = first_bad_line(input) {
-        return Err(Fault::BadLine(number));
+        return Err(ScriptFault::BadLine(number));
     }
     match deal_all(alloc, input) {
         Ok(dealt) => Ok(dealt),
-        Err(_) => Err(Fault::Memory),
+        Err(_) => Err(ScriptFault::Memory),
     }
 }
 
@@ -42,7 +42,7 @@ fn first_bad_line(input: &[u8]) -> Option<u64>
     let mut left = input;
     let mut number = 1;
     while let Some((line, rest)) = next_line(left) {
-        if line.len() > usize::from(BODY) {
+        if line.len() > usize::from(LONGEST_BODY) {
             return Some(number);
         }
         number += 1;
@@ -72,7 +72,7 @@ fn bodies_of(alloc: Global, input: &[u8], pen: u8) -> Result<Vec<Bytes>, AllocEr
 // The first line, and what stands behind its line end.
 #[tactic(auto, using(crate::proofs::Splitting::cut, crate::proofs::Splitting::whole))]
 fn next_line(text: &[u8]) -> Option<(&[u8], &[u8])>
-    ensures { MatchOption result (text.now ≡ []) (λ r. Leaves text.now r.0.now r.1.now) }
+    ensures { MatchOption result (text.now ≡ []) (λ r. HasFirstLine text.now r.0.now r.1.now) }
 {
     if text.is_empty() {
         return None;

@@ -3,11 +3,11 @@
 ghost use Rattle.std.specs.Prelude.{◌≡◌, ◌≤◌};
 ghost use Rattle.std.specs.List.{list_any};
 ghost use Rattle.std.specs.IoError.{error_kind};
-ghost use Rattle.srm_member.specs.Ends.{fault_of, fault_of_live, fault_of_binding, lacks_memory, status_of_member};
+ghost use Rattle.srm_member.specs.Statuses.{fault_of, fault_of_live, fault_of_binding, lacks_memory, status_of_member};
 
 use srm_names::PageMsg;
 use srm_node::{NodeFault, WorkEnd, Worked};
-use srm_script::Fault;
+use srm_script::ScriptFault;
 use srm_world::Past;
 use std::alloc::AllocError;
 use std::io;
@@ -19,7 +19,7 @@ use thiserror::Error;
 pub enum MemberFault {
     /// As of a script: a stream that fails, an input that is refused, or want of memory.
     #[error("{0}")]
-    Script(Fault),
+    Script(ScriptFault),
     /// The address can't be bound, or the socket failed.
     #[error("srm: wire")]
     Wire,
@@ -37,22 +37,22 @@ impl MemberFault {
         ensures { result ≡ fault_of end (list_any lacks_memory worked.now) }
     {
         if any_lacks_memory(worked) {
-            return Some(MemberFault::Script(Fault::Memory));
+            return Some(MemberFault::Script(ScriptFault::Memory));
         }
         match end {
             Ok(()) => None,
-            Err(NodeFault::Memory) => Some(MemberFault::Script(Fault::Memory)),
+            Err(NodeFault::Memory) => Some(MemberFault::Script(ScriptFault::Memory)),
             Err(NodeFault::Wire) => Some(MemberFault::Wire),
             Err(NodeFault::Turns) => Some(MemberFault::Turns),
         }
     }
 
     /// Why a live run was no whole one, by why the run wasn't, and by what befell its streams. Want of memory comes first, and then the run.
-    pub fn of_live(run: Option<MemberFault>, noted: Option<Fault>) -> Option<MemberFault>
+    pub fn of_live(run: Option<MemberFault>, noted: Option<ScriptFault>) -> Option<MemberFault>
         ensures { result ≡ fault_of_live run noted }
     {
-        if matches!(noted, Some(Fault::Memory)) {
-            return Some(MemberFault::Script(Fault::Memory));
+        if matches!(noted, Some(ScriptFault::Memory)) {
+            return Some(MemberFault::Script(ScriptFault::Memory));
         }
         if let Some(fault) = run {
             return Some(fault);
@@ -64,12 +64,12 @@ impl MemberFault {
     }
 
     /// Prints the fault on standard error, and answers the status that the program ends with.
-    pub fn tell<E: Write>(&self, err: &mut E) -> u8
+    pub fn print<E: Write>(&self, err: &mut E) -> u8
         ensures status { result ≡ status_of_member self.now }
         ensures greatest { result ≤ 4 }
     {
         match self {
-            MemberFault::Script(fault) => fault.tell(err),
+            MemberFault::Script(fault) => fault.print(err),
             MemberFault::Wire => told(self, err, 3),
             MemberFault::Turns => told(self, err, 4),
         }
@@ -80,21 +80,21 @@ impl MemberFault {
         ensures { result ≡ fault_of_binding (error_kind error) }
     {
         match error.kind() {
-            ErrorKind::OutOfMemory => MemberFault::Script(Fault::Memory),
+            ErrorKind::OutOfMemory => MemberFault::Script(ScriptFault::Memory),
             _ => MemberFault::Wire,
         }
     }
 }
 
-impl From<Fault> for MemberFault {
-    fn from(fault: Fault) -> MemberFault {
+impl From<ScriptFault> for MemberFault {
+    fn from(fault: ScriptFault) -> MemberFault {
         MemberFault::Script(fault)
     }
 }
 
 impl From<AllocError> for MemberFault {
     fn from(_error: AllocError) -> MemberFault {
-        MemberFault::Script(Fault::Memory)
+        MemberFault::Script(ScriptFault::Memory)
     }
 }
 

@@ -2,7 +2,7 @@
 
 ghost use Rattle.std.specs.Prelude.{◌≡◌, [], ◌∷◌, ◌++◌};
 ghost use Rattle.std.specs.Bool.{OnTrue, OnFalse};
-ghost use Rattle.srm_member.specs.Strokes.{stroke_of, DrewFront};
+ghost use Rattle.srm_member.specs.Strokes.{stroke_of, DrewPrefix};
 
 use bytes::Bytes;
 use srm_names::Page;
@@ -93,7 +93,7 @@ fn draw_all<R: time::Clock + Wait>(
     bodies: Vec<Bytes>,
     ended: &AtomicBool,
 ) -> Inked
-    ensures { DrewFront bodies.items pen result }
+    ensures { DrewPrefix bodies.items pen result }
 {
     let mut pen = pen;
     for body in bodies {

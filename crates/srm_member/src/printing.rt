@@ -2,7 +2,7 @@
 
 use srm_names::Member;
 use srm_node::Worked;
-use srm_script::{Fault, ShownMessage};
+use srm_script::{PrintedMessage, ScriptFault};
 use std::alloc::Global;
 use std::io;
 use std::io::{BufWriter, Write};
@@ -14,13 +14,13 @@ pub fn print_taken<O: Write>(
     out: &mut O,
     me: Member,
     worked: &[Worked],
-) -> Result<(), Fault> {
+) -> Result<(), ScriptFault> {
     let Ok(mut out) = BufWriter::new(alloc, out) else {
-        return Err(Fault::Memory);
+        return Err(ScriptFault::Memory);
     };
     match print_all(&mut out, me.number(), worked) {
         Ok(()) => Ok(()),
-        Err(_) => Err(Fault::Output),
+        Err(_) => Err(ScriptFault::Output),
     }
 }
 
@@ -34,7 +34,7 @@ fn print_all<O: Write>(out: &mut O, me: u8, worked: &[Worked]) -> io::Result<()>
 
 fn print_slot<O: Write>(out: &mut O, me: u8, slot: u8, worked: &Worked) -> io::Result<()> {
     for message in worked.list.as_slice() {
-        writeln!(out, "took {me} {slot} {}", ShownMessage(message))?;
+        writeln!(out, "took {me} {slot} {}", PrintedMessage(message))?;
     }
     Ok(())
 }

@@ -1,9 +1,9 @@
 //! What a command line gets in place of being done.
 
-ghost use Rattle.srm_member.specs.Ends.{StatusOf};
+ghost use Rattle.srm_member.specs.Statuses.{StatusOf};
 
 use srm_options::Reply;
-use srm_script::Fault;
+use srm_script::ScriptFault;
 use std::io::Write;
 
 /// The status of a wrong command line.
@@ -15,15 +15,15 @@ pub fn print_reply<O: Write, E: Write>(reply: &Reply, out: &mut O, err: &mut E) 
     ensures { StatusOf reply.now result }
 {
     match reply {
-        Reply::Shown(text) => match write!(out, "{text}") {
+        Reply::Help(text) => match write!(out, "{text}") {
             Ok(()) => 0,
-            Err(error) => Fault::of_output(error).tell(err),
+            Err(error) => ScriptFault::of_output(error).print(err),
         },
         Reply::Wrong(text) => {
             // Where this can't be written there is nobody left to tell.
             let _ = write!(err, "{text}");
             WRONG_USAGE
         }
-        Reply::Memory => Fault::Memory.tell(err),
+        Reply::Memory => ScriptFault::Memory.print(err),
     }
 }

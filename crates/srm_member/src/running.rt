@@ -1,7 +1,7 @@
 //! A member from its options to its end.
 
 ghost use Rattle.std.specs.Prelude.{◌≤◌};
-ghost use Rattle.srm_member.specs.Ends.{EndsWith};
+ghost use Rattle.srm_member.specs.Statuses.{IsExitStatus};
 
 use crate::dealing::deal;
 use crate::fault::MemberFault;
@@ -31,13 +31,13 @@ pub fn run_node<R, I: Read, O: Write, E: Write>(
 ) -> u8
 where
     R: Net + time::Clock + Threads + Wait + AllocGlobal + Copy + Send + Drop + 'static,
-    ensures ends { EndsWith result }
+    ensures ends { IsExitStatus result }
     ensures greatest { result ≤ 4 }
 {
     let alloc = rt.alloc();
     match run(rt, alloc, options, reader, out) {
         Ok(()) => 0,
-        Err(fault) => fault.tell(err),
+        Err(fault) => fault.print(err),
     }
 }
 

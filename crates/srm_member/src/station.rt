@@ -17,7 +17,7 @@ use srm_node::{Hosted, Node, host};
 use srm_options::NodeOptions;
 use srm_pages::ends::Well;
 use srm_pages::{Feed, Pen, Tap, lanes, well};
-use srm_script::Fault;
+use srm_script::ScriptFault;
 use srm_timers::Pcg;
 use srm_udp::{SystemClock, UdpWire};
 use srm_wire::Wire;
@@ -122,7 +122,7 @@ impl<R: time::Clock + Copy + Drop, X: Wire + Drop> Station<R, X> {
     {
         match Crew::new(alloc) {
             Ok(crew) => self.run_with(rt, alloc, crew, dealt, turns),
-            Err(_) => Err(MemberFault::Script(Fault::Memory)),
+            Err(_) => Err(MemberFault::Script(ScriptFault::Memory)),
         }
     }
 
@@ -150,7 +150,7 @@ impl<R: time::Clock + Copy + Drop, X: Wire + Drop> Station<R, X> {
         threads.end(rt);
         match hosted {
             Some(hosted) => Ok(hosted),
-            None => Err(MemberFault::Script(Fault::Memory)),
+            None => Err(MemberFault::Script(ScriptFault::Memory)),
         }
     }
 }

@@ -31,8 +31,8 @@ pub use drawop::Drawop;
 pub use echo::Echo;
 pub use items::Items;
 pub use limits::{
-    BODY, DRAWOPS, LANE_MESSAGES, LONGEST_DISTANCE, MEMBERS, MOMENT, PAGES, PENS, VIEWERS,
-    WELL_STROKES,
+    DRAWOPS, LANE_MESSAGES, LATEST_MOMENT, LONGEST_BODY, LONGEST_DISTANCE, MEMBERS, PAGES, PENS,
+    VIEWERS, WELL_STROKES,
 };
 pub use member::Member;
 pub use name::{Name, names_are_in_order};

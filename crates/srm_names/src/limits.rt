@@ -10,10 +10,10 @@ pub const PAGES: u8 = 8;
 pub const DRAWOPS: u32 = 65_536;
 
 /// Bytes of a body, at most.
-pub const BODY: u16 = 1_024;
+pub const LONGEST_BODY: u16 = 1_024;
 
 /// The greatest moment, in microseconds: 2^48.
-pub const MOMENT: u64 = 281_474_976_710_656;
+pub const LATEST_MOMENT: u64 = 281_474_976_710_656;
 
 /// The longest distance to a member, in microseconds.
 pub const LONGEST_DISTANCE: u64 = 10_000_000;

@@ -81,20 +81,20 @@ pub gives_refused : (slot : ℕ) (j k : Journal) (f : FeedView) (fault : AgentFa
 gives_refused slot j k f fault lawful r carries =
     subst (λ x. Gives slot false j x f f) (sym (is_refused j k slot fault lawful r)) (gives_none slot j f (subst IsLawfulJournal (is_refused j k slot fault lawful r) lawful) carries)
 
-carried : (gave : List PageMsg) (f : FeedView) → f.lost ≡ false → Carries gave f → gave ≡ f.put
+carried : (gave : List PageMsg) (f : FeedView) → f.disconnected ≡ false → Carries gave f → gave ≡ f.put
 carried gave f stands h = subst (λ b. MatchBool b ((back : PageMsg) × (gave ≡ f.put ++ back ∷ [])) (gave ≡ f.put)) stands h
 
-carries_standing : (gave : List PageMsg) (f : FeedView) → f.lost ≡ false → gave ≡ f.put → Carries gave f
+carries_standing : (gave : List PageMsg) (f : FeedView) → f.disconnected ≡ false → gave ≡ f.put → Carries gave f
 carries_standing gave f stands h = subst (λ b. MatchBool b ((back : PageMsg) × (gave ≡ f.put ++ back ∷ [])) (gave ≡ f.put)) (sym stands) h
 
-carries_lost : (gave : List PageMsg) (f : FeedView) (back : PageMsg) → f.lost ≡ true → gave ≡ f.put ++ back ∷ [] → Carries gave f
+carries_lost : (gave : List PageMsg) (f : FeedView) (back : PageMsg) → f.disconnected ≡ true → gave ≡ f.put ++ back ∷ [] → Carries gave f
 carries_lost gave f back lost h = subst (λ b. MatchBool b ((m : PageMsg) × (gave ≡ f.put ++ m ∷ [])) (gave ≡ f.put)) (sym lost) (back, h)
 
 given_after : (j k : Journal) (slot : ℕ) (e : Entry) → k ≡ with_entry j e → e.input ≡ Gave slot → given k.entries slot ≡ given j.entries slot ++ cons_option e.effects.message []
 given_after j k slot e grown input = ap (λ (x : Journal). given x.entries slot) grown ∙ given-append j.entries (e ∷ []) slot ∙ ap (λ xs. given j.entries slot ++ xs) (given_one e slot input)
 
 one_served : (e : Entry) (slot : ℕ) (f : FeedView) → e.input ≡ Gave slot → e.effects.message ≡ None → is_served slot (e ∷ []) f ≡ true
-one_served e slot f input none = three (credit_of f == 0) (list_any (gave_nothing slot) (e ∷ [])) f.lost nothing
+one_served e slot f input none = three (credit_of f == 0) (list_any (gave_nothing slot) (e ∷ [])) f.disconnected nothing
   where
     nothing : list_any (gave_nothing slot) (e ∷ []) ≡ true
     nothing = ap (λ b. b || false) (ap (λ i. gives_in slot i && is_none e.effects.message) input ∙ ap (λ b. b && is_none e.effects.message) (eq-eqb slot slot refl) ∙ ap is_none none)
@@ -103,7 +103,7 @@ one_served e slot f input none = three (credit_of f == 0) (list_any (gave_nothin
     three a b c h = grind arith
 
 -- there was nothing to give
-pub gives_nothing : (slot : ℕ) (j k : Journal) (f : FeedView) (message : Option PageMsg) → IsLawfulJournal k → Records None (Gave slot) Given j k (Ok message) → message ≡ None → f.lost ≡ false → Carries (given j.entries slot) f → Gives slot true j k f f
+pub gives_nothing : (slot : ℕ) (j k : Journal) (f : FeedView) (message : Option PageMsg) → IsLawfulJournal k → Records None (Gave slot) Given j k (Ok message) → message ≡ None → f.disconnected ≡ false → Carries (given j.entries slot) f → Gives slot true j k f f
 gives_nothing slot j k f message lawful r none stands carries =
     let (e, grown, input, is) = is_given j k slot (Ok message) r message refl in
     let nothing : e.effects.message ≡ None = sym is ∙ none in
@@ -117,20 +117,20 @@ gives_nothing slot j k f message lawful r none stands carries =
       served = one_served e slot f input nothing;
     }
 
-given_message : (j k : Journal) (slot : ℕ) (e : Entry) (f : FeedView) (m : PageMsg) → k ≡ with_entry j e → e.input ≡ Gave slot → Some m ≡ e.effects.message → f.lost ≡ false → Carries (given j.entries slot) f
+given_message : (j k : Journal) (slot : ℕ) (e : Entry) (f : FeedView) (m : PageMsg) → k ≡ with_entry j e → e.input ≡ Gave slot → Some m ≡ e.effects.message → f.disconnected ≡ false → Carries (given j.entries slot) f
     → given k.entries slot ≡ f.put ++ m ∷ []
 given_message j k slot e f m grown input is stands carries =
     given_after j k slot e grown input ∙ ap (λ o. given j.entries slot ++ cons_option o []) (sym is) ∙ ap (λ xs. xs ++ m ∷ []) (carried (given j.entries slot) f stands carries)
 
 -- the message may be put
-pub may_put : (slot : ℕ) (j k : Journal) (f : FeedView) (message : Option PageMsg) (m : PageMsg) → IsLawfulJournal k → Records None (Gave slot) Given j k (Ok message) → message ≡ Some m → f.lost ≡ false → Carries (given j.entries slot) f
+pub may_put : (slot : ℕ) (j k : Journal) (f : FeedView) (message : Option PageMsg) (m : PageMsg) → IsLawfulJournal k → Records None (Gave slot) Given j k (Ok message) → message ≡ Some m → f.disconnected ≡ false → Carries (given j.entries slot) f
     → is_page_feed (f.put ++ m ∷ []) ≡ true
 may_put slot j k f message m lawful r some stands carries =
     let (e, grown, input, is) = is_given j k slot (Ok message) r message refl in
     subst (λ xs. is_page_feed xs ≡ true) (given_message j k slot e f m grown input (sym some ∙ is) stands carries) (lawful.gives.feeds slot)
 
 -- the message was put
-pub gives_put : (slot : ℕ) (j k : Journal) (f g : FeedView) (message : Option PageMsg) (m : PageMsg) → IsLawfulJournal k → Records None (Gave slot) Given j k (Ok message) → message ≡ Some m → f.lost ≡ false → Carries (given j.entries slot) f
+pub gives_put : (slot : ℕ) (j k : Journal) (f g : FeedView) (message : Option PageMsg) (m : PageMsg) → IsLawfulJournal k → Records None (Gave slot) Given j k (Ok message) → message ≡ Some m → f.disconnected ≡ false → Carries (given j.entries slot) f
     → g ≡ record f { put = f.put ++ m ∷ [] } → Gives slot false j k f g
 gives_put slot j k f g message m lawful r some stands carries put =
     let (e, grown, input, is) = is_given j k slot (Ok message) r message refl in
@@ -146,8 +146,8 @@ gives_put slot j k f g message m lawful r some stands carries put =
     }
 
 -- the message came back
-pub gives_lost : (slot : ℕ) (j k : Journal) (f g : FeedView) (message : Option PageMsg) (m : PageMsg) → IsLawfulJournal k → Records None (Gave slot) Given j k (Ok message) → message ≡ Some m → f.lost ≡ false → Carries (given j.entries slot) f
-    → g ≡ record f { lost = true } → Gives slot true j k f g
+pub gives_lost : (slot : ℕ) (j k : Journal) (f g : FeedView) (message : Option PageMsg) (m : PageMsg) → IsLawfulJournal k → Records None (Gave slot) Given j k (Ok message) → message ≡ Some m → f.disconnected ≡ false → Carries (given j.entries slot) f
+    → g ≡ record f { disconnected = true } → Gives slot true j k f g
 gives_lost slot j k f g message m lawful r some stands carries lost =
     let (e, grown, input, is) = is_given j k slot (Ok message) r message refl in
     record {
@@ -156,16 +156,16 @@ gives_lost slot j k f g message m lawful r some stands carries lost =
       inputs = (input, tt);
       lawful = lawful;
       carries = subst (λ (h : FeedView). Carries (given k.entries slot) h) (sym lost)
-          (carries_lost (given k.entries slot) (record f { lost = true }) m refl (given_message j k slot e f m grown input (sym some ∙ is) stands carries));
+          (carries_lost (given k.entries slot) (record f { disconnected = true }) m refl (given_message j k slot e f m grown input (sym some ∙ is) stands carries));
       same = subst (λ (h : FeedView). SameFeed f h) (sym lost) refl;
-      served = served_if_lost slot (e ∷ []) g (ap (λ (h : FeedView). h.lost) lost);
+      served = served_if_lost slot (e ∷ []) g (ap (λ (h : FeedView). h.disconnected) lost);
     }
   where
     three : (a b c : Bool) → c ≡ true → (a || b || c) ≡ true
     three a b c h = grind arith
 
-    served_if_lost : (slot : ℕ) (es : List Entry) (f : FeedView) → f.lost ≡ true → is_served slot es f ≡ true
-    served_if_lost slot es f h = three (credit_of f == 0) (list_any (gave_nothing slot) es) f.lost h
+    served_if_lost : (slot : ℕ) (es : List Entry) (f : FeedView) → f.disconnected ≡ true → is_served slot es f ≡ true
+    served_if_lost slot es f h = three (credit_of f == 0) (list_any (gave_nothing slot) es) f.disconnected h
 
 any-append : (p : Entry → Bool) (xs ys : List Entry) → list_any p (xs ++ ys) ≡ (list_any p xs || list_any p ys)
 any-append p [] ys = refl
@@ -176,19 +176,19 @@ any-append p (x ∷ xs) ys = ap (λ b. p x || b) (any-append p xs ys) ∙ assoc 
     assoc false b c = refl
 
 served_back : (slot : ℕ) (es fs : List Entry) (f : FeedView) → is_served slot fs f ≡ true → is_served slot (es ++ fs) f ≡ true
-served_back slot es fs f h = ap (λ b. (credit_of f == 0) || b || f.lost) (any-append (gave_nothing slot) es fs) ∙ four (credit_of f == 0) (list_any (gave_nothing slot) es) (list_any (gave_nothing slot) fs) f.lost h
+served_back slot es fs f h = ap (λ b. (credit_of f == 0) || b || f.disconnected) (any-append (gave_nothing slot) es fs) ∙ four (credit_of f == 0) (list_any (gave_nothing slot) es) (list_any (gave_nothing slot) fs) f.disconnected h
   where
     four : (a b c d : Bool) → (a || c || d) ≡ true → (a || (b || c) || d) ≡ true
     four a b c d h = grind arith
 
 served_front : (slot : ℕ) (es fs : List Entry) (f : FeedView) → is_served slot es f ≡ true → is_served slot (es ++ fs) f ≡ true
-served_front slot es fs f h = ap (λ b. (credit_of f == 0) || b || f.lost) (any-append (gave_nothing slot) es fs) ∙ four (credit_of f == 0) (list_any (gave_nothing slot) es) (list_any (gave_nothing slot) fs) f.lost h
+served_front slot es fs f h = ap (λ b. (credit_of f == 0) || b || f.disconnected) (any-append (gave_nothing slot) es fs) ∙ four (credit_of f == 0) (list_any (gave_nothing slot) es) (list_any (gave_nothing slot) fs) f.disconnected h
   where
     four : (a b c d : Bool) → (a || b || d) ≡ true → (a || (b || c) || d) ≡ true
     four a b c d h = grind arith
 
 same_on : (f g h : FeedView) → SameFeed f g → SameFeed g h → SameFeed f h
-same_on f g h same more = more ∙ ap (λ (x : FeedView). record x { put = h.put; seen = h.seen; lost = h.lost }) same
+same_on f g h same more = more ∙ ap (λ (x : FeedView). record x { put = h.put; seen = h.seen; disconnected = h.disconnected }) same
 
 grown_on : (a b c : Journal) (es fs : List Entry) → b ≡ with_entries a es → c ≡ with_entries b fs → c ≡ with_entries a (es ++ fs)
 grown_on a b c es fs h k = k ∙ ap (λ j. with_entries j fs) h ∙ ap (at a) (append_assoc a.entries es fs)
@@ -217,7 +217,7 @@ gives_looked slot a b f g h x looked = record {
   inputs = x.inputs;
   lawful = x.lawful;
   carries = subst (λ (y : FeedView). Carries (given b.entries slot) y) (sym looked) x.carries;
-  same = same_on f g h x.same (looked ∙ ap (λ (put : List PageMsg). record g { put = put; seen = h.seen }) (sym (ap (λ (y : FeedView). y.put) looked)) ∙ ap (λ (lost : Bool). record g { put = h.put; seen = h.seen; lost = lost }) (sym (ap (λ (y : FeedView). y.lost) looked)));
+  same = same_on f g h x.same (looked ∙ ap (λ (put : List PageMsg). record g { put = put; seen = h.seen }) (sym (ap (λ (y : FeedView). y.put) looked)) ∙ ap (λ (lost : Bool). record g { put = h.put; seen = h.seen; disconnected = lost }) (sym (ap (λ (y : FeedView). y.disconnected) looked)));
   served = tt;
 }
 

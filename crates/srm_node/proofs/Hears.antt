@@ -8,7 +8,7 @@ use Rattle.srm_agent.specs.declared.heard.Heard.{Heard}
 use Rattle.srm_world.specs.Traces.{Journal}
 use Rattle.srm_world.specs.Recording.{RecordsHeard, with_entry, IsHearing}
 use Rattle.srm_world.proofs.HearsAll.{hears-snoc}
-use Rattle.srm_node.specs.declared.limits.TheConstants.{RECEIVED}
+use Rattle.srm_node.specs.declared.limits.TheConstants.{DATAGRAMS_A_TURN}
 use Rattle.srm_wire.specs.Wires.{Told, TellsMore}
 use Rattle.srm_node.specs.Parts.{Listens, Listened, ListenedCut}
 use Rattle.srm_wire.proofs.Telling.{tells_nothing, tells_on}
@@ -56,14 +56,14 @@ pub heard_nothing : (now : ℕ) (bytes : List ℕ) (b c : Journal) (fault : Agen
 heard_nothing now bytes b c fault (inl (e, grows, hearing, answers)) = absurd answers
 heard_nothing now bytes b c fault (inr (is, same)) = same
 
-pub listened_fails : (now n : ℕ) (a b : Journal) (s u : Option Told) → n < RECEIVED → Listens now n [] a b s u → Listened now true a b s u
+pub listened_fails : (now n : ℕ) (a b : Journal) (s u : Option Told) → n < DATAGRAMS_A_TURN → Listens now n [] a b s u → Listened now true a b s u
 listened_fails now n a b s u few h = record { count = n; ended = []; listens = h; ends = (few, refl) }
 
-pub listened_none : (now n : ℕ) (a b : Journal) (s u : Option Told) → n < RECEIVED → Listens now n (None ∷ []) a b s u → Listened now false a b s u
+pub listened_none : (now n : ℕ) (a b : Journal) (s u : Option Told) → n < DATAGRAMS_A_TURN → Listens now n (None ∷ []) a b s u → Listened now false a b s u
 listened_none now n a b s u few h = record { count = n; ended = None ∷ []; listens = h; ends = inr (few, refl) }
 
 -- memory ran out, and what came last is lost
-pub listened_lost : (now n : ℕ) (bytes : List ℕ) (a b c : Journal) (s t u : Option Told) (fault : AgentFault) → n < RECEIVED → Listens now n [] a b s t → RecordsHeard now bytes b c (Err fault) → TellsMore (Some bytes ∷ []) [] t u → ListenedCut now a c s u
+pub listened_lost : (now n : ℕ) (bytes : List ℕ) (a b c : Journal) (s t u : Option Told) (fault : AgentFault) → n < DATAGRAMS_A_TURN → Listens now n [] a b s t → RecordsHeard now bytes b c (Err fault) → TellsMore (Some bytes ∷ []) [] t u → ListenedCut now a c s u
 listened_lost now n bytes a b c s t u fault few h r told = record {
   count = n;
   lost = bytes;

@@ -13,9 +13,9 @@ use Rattle.srm_node.specs.declared.hosting.Worker.{Worker}
 use Rattle.srm_node.specs.declared.working.Worked.{Worked}
 use Rattle.srm_node.specs.Working.{WorkedFrom}
 use Rattle.srm_node.specs.Parts.{SameFeed, SameFeeds}
-use Rattle.srm_node.specs.Nodes.{NodeView, Keeps}
+use Rattle.srm_node.specs.Nodes.{NodeView, NodeKeepsLists}
 use Rattle.srm_node.specs.Turns.{Turned, RunsOf, RunsToEnd}
-use Rattle.srm_node.specs.Hosting.{started, StartsSome, StopsBy, WorkedEach, Joins, Hosts, HostFails, AreEndsOfLanes}
+use Rattle.srm_node.specs.Hosting.{tap_of_worker, StartsSome, StopsBy, WorkedEach, Joins, Hosts, HostFails, AreEndsOfLanes}
 
 each-snoc : {L : Type 0} (entries : L → List PageMsg) (ts : List TapView) (ws : List (Worked L)) (t : TapView) (w : Worked L) → WorkedEach entries ts ws → WorkedFrom entries t w → WorkedEach entries (ts ++ t ∷ []) (ws ++ w ∷ [])
 each-snoc entries [] [] t w h k = (k, tt)
@@ -23,11 +23,11 @@ each-snoc entries [] (v ∷ ws) t w h k = absurd h
 each-snoc entries (s ∷ ts) [] t w h k = absurd h
 each-snoc entries (s ∷ ts) (v ∷ ws) t w h k = (h.0, each-snoc entries ts ws t w h.1 k)
 
-pub joins_more : {L : Type 0} (entries : L → List PageMsg) (all : List TapView) (w : Worker L) (left rest : List (Worker L)) (worked grown : List (Worked L)) (one : Worked L) → Joins entries all left worked → left ≡ w ∷ rest → WorkedFrom entries (started w) one → grown ≡ worked ++ one ∷ [] → Joins entries all rest grown
+pub joins_more : {L : Type 0} (entries : L → List PageMsg) (all : List TapView) (w : Worker L) (left rest : List (Worker L)) (worked grown : List (Worked L)) (one : Worked L) → Joins entries all left worked → left ≡ w ∷ rest → WorkedFrom entries (tap_of_worker w) one → grown ≡ worked ++ one ∷ [] → Joins entries all rest grown
 joins_more entries all w left rest worked grown one h is took grew = record {
-  joined = h.joined ++ started w ∷ [];
-  split = h.split ∙ ap (λ ws. h.joined ++ map started ws) is ∙ sym (append_assoc h.joined (started w ∷ []) (map started rest));
-  each = subst (WorkedEach entries (h.joined ++ started w ∷ [])) (sym grew) (each-snoc entries h.joined worked (started w) one h.each took);
+  joined = h.joined ++ tap_of_worker w ∷ [];
+  split = h.split ∙ ap (λ ws. h.joined ++ map tap_of_worker ws) is ∙ sym (append_assoc h.joined (tap_of_worker w ∷ []) (map tap_of_worker rest));
+  each = subst (WorkedEach entries (h.joined ++ tap_of_worker w ∷ [])) (sym grew) (each-snoc entries h.joined worked (tap_of_worker w) one h.each took);
 }
 
 one_less : {L : Type 0} (left rest : List (Worker L)) (w : Worker L) → left ≡ w ∷ rest → length left ≡ length rest + 1
@@ -46,7 +46,7 @@ pub record SameLanes (a b : NodeView) : Type 0 where
   pub same : SameFeeds a.feeds b.feeds
 
 same_on : (f g h : FeedView) → SameFeed f g → SameFeed g h → SameFeed f h
-same_on f g h same more = more ∙ ap (λ (x : FeedView). record x { put = h.put; seen = h.seen; lost = h.lost }) same
+same_on f g h same more = more ∙ ap (λ (x : FeedView). record x { put = h.put; seen = h.seen; disconnected = h.disconnected }) same
 
 same_feeds : (fs gs : List FeedView) → gs ≡ fs → SameFeeds fs gs
 same_feeds fs gs is slot f g at_f at_g = subst (λ (x : FeedView). SameFeed f x) (same_Some f g (sym at_f ∙ sym (ap (λ xs. slice_get xs slot) is) ∙ at_g)) refl
@@ -78,7 +78,7 @@ lanes_of_run limit a b h = lanes_of_turns h.count a b h.runs.turns
 
 -- what is handed out of a node that ran, and of its workers
 pub hosted : {P L : Type 0} (entries : L → List PageMsg) (r : Result (Unit {0}) NodeFault) (node last : NodeView) (taps : List TapView) (turns : ℕ) (all : Bool) (h : Hosted P L) (feeds : List FeedView) (keeps : Bool)
-    → MatchResult r (λ _. (all ≡ true) × Keeps last × RunsToEnd turns node last) (λ fault. StopsBy all fault turns node last) → Keeps last
+    → MatchResult r (λ _. (all ≡ true) × NodeKeepsLists last × RunsToEnd turns node last) (λ fault. StopsBy all fault turns node last) → NodeKeepsLists last
     → h.journal ≡ last.journal → feeds ≡ last.feeds → OnTrue keeps (h.feeds.items ≡ feeds) → OnFalse keeps (h.feeds.items ≡ []) → keeps ≡ is_ok r → WorkedEach entries taps h.worked.items
     → MatchResult r (λ _. (all ≡ true) × Hosts entries node taps turns h) (λ fault. HostFails entries all node taps turns fault h)
 hosted entries (Ok u) node last taps turns all h feeds keeps ran lists journal same kept none ok workers = (
@@ -117,9 +117,9 @@ none_behind xs [] all split whole = refl
 none_behind xs (y ∷ ys) all split whole = absurd (omega (arith, ap length split, ap length whole, length-append xs (y ∷ ys)))
 
 -- what is handed out of the taps handed in
-pub host_ends : {P L : Type 0} (entries : L → List PageMsg) (r : Result (Unit {0}) NodeFault) (node : NodeView) (taps : List TapView) (workers : List (Worker L)) (turns : ℕ) (all : Bool) (h : Hosted P L) → StartsSome taps workers → OnTrue all (map started workers ≡ taps)
-    → MatchResult r (λ _. (all ≡ true) × Hosts entries node (map started workers) turns h) (λ fault. HostFails entries all node (map started workers) turns fault h) → MatchResult r (λ _. Hosts entries node taps turns h) (λ fault. (all : Bool) × HostFails entries all node taps turns fault h)
-host_ends entries (Ok u) node taps workers turns all h some whole ran = subst (λ ts. Hosts entries node ts turns h) (let w : map started workers ≡ taps = subst (λ b. OnTrue b (map started workers ≡ taps)) ran.0 whole in w) ran.1
+pub host_ends : {P L : Type 0} (entries : L → List PageMsg) (r : Result (Unit {0}) NodeFault) (node : NodeView) (taps : List TapView) (workers : List (Worker L)) (turns : ℕ) (all : Bool) (h : Hosted P L) → StartsSome taps workers → OnTrue all (map tap_of_worker workers ≡ taps)
+    → MatchResult r (λ _. (all ≡ true) × Hosts entries node (map tap_of_worker workers) turns h) (λ fault. HostFails entries all node (map tap_of_worker workers) turns fault h) → MatchResult r (λ _. Hosts entries node taps turns h) (λ fault. (all : Bool) × HostFails entries all node taps turns fault h)
+host_ends entries (Ok u) node taps workers turns all h some whole ran = subst (λ ts. Hosts entries node ts turns h) (let w : map tap_of_worker workers ≡ taps = subst (λ b. OnTrue b (map tap_of_worker workers ≡ taps)) ran.0 whole in w) ran.1
 host_ends entries (Err fault) node taps workers turns all h some whole f = (
   all,
   record {
@@ -136,8 +136,8 @@ host_ends entries (Err fault) node taps workers turns all h some whole f = (
   },
 )
   where
-    no_rest : (b : Bool) → OnTrue b (map started workers ≡ taps) → OnTrue b (f.rest ≡ []) → OnTrue b (f.rest ++ some.rest ≡ [])
-    no_rest true same none = ap (λ ts. ts ++ some.rest) none ∙ none_behind (map started workers) some.rest taps some.split same
+    no_rest : (b : Bool) → OnTrue b (map tap_of_worker workers ≡ taps) → OnTrue b (f.rest ≡ []) → OnTrue b (f.rest ++ some.rest ≡ [])
+    no_rest true same none = ap (λ ts. ts ++ some.rest) none ∙ none_behind (map tap_of_worker workers) some.rest taps some.split same
     no_rest false same none = tt
 
 worked_at : {L : Type 0} (entries : L → List PageMsg) (ts : List TapView) (ws : List (Worked L)) (k : ℕ) (t : TapView) → WorkedEach entries ts ws → slice_get (map (λ (w : Worked L). w.tap) ws) k ≡ Some t → (s : TapView) × (slice_get ts k ≡ Some s) × (t.lane ≡ s.lane)

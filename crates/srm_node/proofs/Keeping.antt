@@ -8,7 +8,7 @@ use Rattle.srm_names.specs.declared.limits.TheConstants.{PAGES}
 use Rattle.srm_names.specs.declared.page_msg.PageMsg.{PageMsg}
 use Rattle.srm_pages.specs.declared.stroke.Stroke.{Stroke}
 use Rattle.srm_pages.specs.Ends.{FeedView, TapView, WellView, AreLanes}
-use Rattle.srm_pages.specs.Seats.{Sight}
+use Rattle.srm_pages.specs.Seats.{LookoutView}
 use Rattle.srm_world.proofs.Laning.{at_place}
 use Rattle.std.proofs.lemmas.Option.{slice_get_within}
 use Rattle.srm_codec.specs.declared.datagram.Datagram.{Datagram}
@@ -32,8 +32,8 @@ use Rattle.srm_world.specs.Recording.{with_entry, with_entries, HearsEach}
 use Rattle.srm_world.proofs.Lawful.{lawful_journal}
 use Rattle.srm_node.specs.declared.fault.OutOfMemory.{OutOfMemory}
 use Rattle.srm_wire.specs.Wires.{Told}
-use Rattle.srm_node.specs.Carrying.{Carries, CarriesEach, drew, draws, drawing, DrawsReceived, KeepsLists}
-use Rattle.srm_node.specs.Parts.{Listens, Listened, ListenedCut, Draws, DrewStrokes, DrewStrokesCut, Leaves, Ticks, GivesUpTo, GaveSome, is_give}
+use Rattle.srm_node.specs.Carrying.{Carries, CarriesEach, drew, draw_inputs, drawing, DrawsReceived, KeepsLists}
+use Rattle.srm_node.specs.Parts.{Listens, Listened, ListenedCut, DrawsStrokes, DrewStrokes, DrewStrokesCut, Leaves, Ticks, GivesUpTo, GaveSome, is_give}
 use Rattle.srm_node.specs.Nodes.{NodeView, IsNode, AreNewFeeds, has_closed}
 use Rattle.srm_node.specs.declared.listening.Listening.{Listening}
 use Rattle.srm_node.specs.declared.drawing.Drawn.{Drawn}
@@ -55,11 +55,11 @@ quiet_given : (es : List Entry) → AreQuiet es → (slot : ℕ) → given es sl
 quiet_given [] h slot = refl
 quiet_given (e ∷ es) h slot = ap (λ o. cons_option o (given es slot)) (h.0.1 slot e.effects.message) ∙ quiet_given es h.1 slot
 
-quiet_draws : (es : List Entry) → AreQuiet es → draws es ≡ []
+quiet_draws : (es : List Entry) → AreQuiet es → draw_inputs es ≡ []
 quiet_draws [] h = refl
-quiet_draws (e ∷ es) h = ap (λ o. cons_option o (draws es)) h.0.0 ∙ quiet_draws es h.1
+quiet_draws (e ∷ es) h = ap (λ o. cons_option o (draw_inputs es)) h.0.0 ∙ quiet_draws es h.1
 
-draws-append : (es fs : List Entry) → draws (es ++ fs) ≡ draws es ++ draws fs
+draws-append : (es fs : List Entry) → draw_inputs (es ++ fs) ≡ draw_inputs es ++ draw_inputs fs
 draws-append es fs = filter_map-append (λ (e : Entry). drew e.input) es fs
 
 -- more entries that give nothing
@@ -69,12 +69,12 @@ carries_more j k es feeds grown none carries = λ slot f at_f. subst (λ xs. Car
     same : (slot : ℕ) → given k.entries slot ≡ given j.entries slot
     same slot = ap (λ (x : Journal). given x.entries slot) grown ∙ given-append j.entries es slot ∙ ap (λ xs. given j.entries slot ++ xs) (none slot) ∙ append-nil (given j.entries slot)
 
-draws_grown : (j k : Journal) (es : List Entry) → k ≡ with_entries j es → draws k.entries ≡ draws j.entries ++ draws es
-draws_grown j k es grown = ap (λ (x : Journal). draws x.entries) grown ∙ draws-append j.entries es
+draws_grown : (j k : Journal) (es : List Entry) → k ≡ with_entries j es → draw_inputs k.entries ≡ draw_inputs j.entries ++ draw_inputs es
+draws_grown j k es grown = ap (λ (x : Journal). draw_inputs x.entries) grown ∙ draws-append j.entries es
 
-received_still : (j k : Journal) (es : List Entry) (received : List Stroke) (hand : Option Stroke) → k ≡ with_entries j es → draws es ≡ [] → DrawsReceived j received hand → DrawsReceived k received hand
+received_still : (j k : Journal) (es : List Entry) (received : List Stroke) (hand : Option Stroke) → k ≡ with_entries j es → draw_inputs es ≡ [] → DrawsReceived j received hand → DrawsReceived k received hand
 received_still j k es received hand grown none h =
-    h ∙ ap (λ xs. xs ++ map drawing (option_to_list hand)) (sym (draws_grown j k es grown ∙ ap (λ xs. draws j.entries ++ xs) none ∙ append-nil (draws j.entries)))
+    h ∙ ap (λ xs. xs ++ map drawing (option_to_list hand)) (sym (draws_grown j k es grown ∙ ap (λ xs. draw_inputs j.entries ++ xs) none ∙ append-nil (draw_inputs j.entries)))
 
 keeps_quiet : (j k : Journal) (es : List Entry) (feeds : List FeedView) (received : List Stroke) (hand : Option Stroke) → KeepsLists j feeds received hand → IsLawfulJournal k → k ≡ with_entries j es → AreQuiet es → KeepsLists k feeds received hand
 keeps_quiet j k es feeds received hand h lawful grown quiet = record {
@@ -131,15 +131,15 @@ drawn_none_given (e ∷ es) (s ∷ ss) h slot =
     let tail : map (λ (x : Entry). x.input) es ≡ map drawing ss = cc in
     ap (λ i. cons_option (given_in slot i e.effects.message) (given es slot)) head ∙ drawn_none_given es ss tail slot
 
-drawn_draws : (es : List Entry) (ss : List Stroke) → map (λ (e : Entry). e.input) es ≡ map drawing ss → draws es ≡ map drawing ss
+drawn_draws : (es : List Entry) (ss : List Stroke) → map (λ (e : Entry). e.input) es ≡ map drawing ss → draw_inputs es ≡ map drawing ss
 drawn_draws [] ss h = h
 drawn_draws (e ∷ es) [] h = absurd (cc)
 drawn_draws (e ∷ es) (s ∷ ss) h =
     let head : e.input ≡ drawing s = cc in
     let tail : map (λ (x : Entry). x.input) es ≡ map drawing ss = cc in
-    ap (λ i. cons_option (drew i) (draws es)) head ∙ ap (λ xs. drawing s ∷ xs) (drawn_draws es ss tail)
+    ap (λ i. cons_option (drew i) (draw_inputs es)) head ∙ ap (λ xs. drawing s ∷ xs) (drawn_draws es ss tail)
 
-received_more : (now count : ℕ) (none_found : Bool) (j k : Journal) (from to : WellView) (hand kept : Option Stroke) (d : Draws now count none_found j k from to hand kept) → DrawsReceived j from.received hand → DrawsReceived k to.received kept
+received_more : (now count : ℕ) (none_found : Bool) (j k : Journal) (from to : WellView) (hand kept : Option Stroke) (d : DrawsStrokes now count none_found j k from to hand kept) → DrawsReceived j from.received hand → DrawsReceived k to.received kept
 received_more now count none_found j k from to hand kept d h =
     let p = d.pops in
     let x = d.draws in
@@ -148,15 +148,15 @@ received_more now count none_found j k from to hand kept d h =
     ap (λ (w : WellView). map drawing w.received) p.received
     ∙ map-append drawing from.received p.popped
     ∙ ap (λ is. is ++ map drawing p.popped) h
-    ∙ append_assoc (draws j.entries) (map drawing hands) (map drawing p.popped)
-    ∙ ap (λ is. draws j.entries ++ is) (sym (map-append drawing hands p.popped) ∙ ap (map drawing) (sym p.all_is ∙ x.all_is) ∙ map-append drawing x.strokes keeps)
-    ∙ sym (append_assoc (draws j.entries) (map drawing x.strokes) (map drawing keeps))
-    ∙ ap (λ is. is ++ map drawing keeps) (ap (λ is. draws j.entries ++ is) (sym (drawn_draws x.entries x.strokes (inputs_drawn now j x.strokes x.entries x.each))) ∙ sym (draws_grown j k x.entries x.grown))
+    ∙ append_assoc (draw_inputs j.entries) (map drawing hands) (map drawing p.popped)
+    ∙ ap (λ is. draw_inputs j.entries ++ is) (sym (map-append drawing hands p.popped) ∙ ap (map drawing) (sym p.all_is ∙ x.all_is) ∙ map-append drawing x.strokes keeps)
+    ∙ sym (append_assoc (draw_inputs j.entries) (map drawing x.strokes) (map drawing keeps))
+    ∙ ap (λ is. is ++ map drawing keeps) (ap (λ is. draw_inputs j.entries ++ is) (sym (drawn_draws x.entries x.strokes (inputs_drawn now j x.strokes x.entries x.each))) ∙ sym (draws_grown j k x.entries x.grown))
 
-node_drawn : (now count : ℕ) (none_found : Bool) (n : NodeView) (k : Journal) (well : WellView) (from hand : Option Stroke) (config : Config) (room : ℕ) (closed : List Bool) → IsNode n config room closed → IsLawfulJournal k → from ≡ n.hand → Draws now count none_found n.journal k n.well well from hand
+node_drawn : (now count : ℕ) (none_found : Bool) (n : NodeView) (k : Journal) (well : WellView) (from hand : Option Stroke) (config : Config) (room : ℕ) (closed : List Bool) → IsNode n config room closed → IsLawfulJournal k → from ≡ n.hand → DrawsStrokes now count none_found n.journal k n.well well from hand
     → IsNode (record n { journal = k; well = well; hand = hand }) config room closed
 node_drawn now count none_found n k well from hand config room closed h lawful same d =
-    let e : Draws now count none_found n.journal k n.well well n.hand hand = subst (λ x. Draws now count none_found n.journal k n.well well x hand) same d in
+    let e : DrawsStrokes now count none_found n.journal k n.well well n.hand hand = subst (λ x. DrawsStrokes now count none_found n.journal k n.well well x hand) same d in
     let x = e.draws in
     let still : CarriesEach k n.feeds = carries_more n.journal k x.entries n.feeds x.grown (drawn_none_given x.entries x.strokes (inputs_drawn now n.journal x.strokes x.entries x.each)) h.lists.carries in
     record {
@@ -219,9 +219,9 @@ none_drawn AskedLeave h = refl
 none_drawn (Gave slot) h = refl
 none_drawn (Took slot) h = refl
 
-gives_draw_nothing : (es : List Entry) → AllByRecursion (λ (e : Entry). is_give e.input ≡ true) es → draws es ≡ []
+gives_draw_nothing : (es : List Entry) → AllByRecursion (λ (e : Entry). is_give e.input ≡ true) es → draw_inputs es ≡ []
 gives_draw_nothing [] h = refl
-gives_draw_nothing (e ∷ es) h = ap (λ o. cons_option o (draws es)) (none_drawn e.input h.0) ∙ gives_draw_nothing es h.1
+gives_draw_nothing (e ∷ es) h = ap (λ o. cons_option o (draw_inputs es)) (none_drawn e.input h.0) ∙ gives_draw_nothing es h.1
 
 pub node_given : (n : NodeView) (k : Journal) (feeds : List FeedView) (config : Config) (room below : ℕ) (closed after : List Bool) → IsNode n config room closed → GivesUpTo below n.journal k n.feeds feeds → after ≡ map has_closed feeds → IsNode (record n { journal = k; feeds = feeds }) config room after
 node_given n k feeds config room below closed after h g closes = record {
@@ -253,20 +253,20 @@ keeps_new j feeds received none new empty = record {
   slots = new.slots;
   carries = carries;
   puts = puts_released j feeds lawful carries;
-  draws_are = ap (map drawing) empty ∙ ap (λ es. draws es ++ []) (sym none);
+  draws_are = ap (map drawing) empty ∙ ap (λ es. draw_inputs es ++ []) (sym none);
 }
   where
     lawful : IsLawfulJournal j
     lawful = lawful_journal j (record { run = subst (IsMemberRun j.start.config j.start.made) (sym none) (new_run j.start.config j.start.made); untaken = subst (AllByRecursion IsUntaken) (sym none) tt })
 
-    carried : (slot : ℕ) (f : FeedView) → ((f.put ≡ []) × (f.lost ≡ false)) → Carries (given j.entries slot) f
+    carried : (slot : ℕ) (f : FeedView) → ((f.put ≡ []) × (f.disconnected ≡ false)) → Carries (given j.entries slot) f
     carried slot f h = subst (λ b. MatchBool b ((back : PageMsg) × (given j.entries slot ≡ f.put ++ back ∷ [])) (given j.entries slot ≡ f.put)) (sym h.1) (ap (λ es. given es slot) none ∙ sym h.0)
 
     carries : CarriesEach j feeds
     carries = λ slot f at_f. carried slot f (new.each slot f at_f)
 
 -- the feeds of new lanes are new
-pub new_feeds : (viewers : ℕ) (feeds : List FeedView) (taps : List TapView) (sights : List Sight) → AreLanes viewers feeds taps sights → AreNewFeeds feeds
+pub new_feeds : (viewers : ℕ) (feeds : List FeedView) (taps : List TapView) (sights : List LookoutView) → AreLanes viewers feeds taps sights → AreNewFeeds feeds
 new_feeds viewers feeds taps sights (board, count, tap_count, ends, rest, all) = record {
   slots = count;
   each = λ slot f at_f.

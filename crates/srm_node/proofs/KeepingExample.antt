@@ -9,7 +9,7 @@ use Rattle.srm_node.specs.declared.hosting.Hosted.{Hosted}
 use Rattle.srm_node.specs.declared.working.Worked.{Worked}
 use Rattle.srm_node.specs.declared.working.WorkEnd.TheVariants.{Closed}
 use Rattle.srm_node.specs.Carrying.{DrawsReceived}
-use Rattle.srm_node.specs.Nodes.{Keeps, IsNode}
+use Rattle.srm_node.specs.Nodes.{NodeKeepsLists, IsNode}
 use Rattle.srm_node.specs.Hosting.{WorkedEach, HostFails, Hosts}
 use Rattle.srm_node.specs.WholeTurnExamples.{before, after, put, feeds, journal, entries, stroke, lawful, carries, new_feeds}
 use Rattle.srm_node.specs.HostExamples.{tap, worked_so}
@@ -18,7 +18,7 @@ use Rattle.srm_node.proofs.Keeping.{keeps_new}
 use Rattle.srm_node.proofs.Releasing.{puts_released}
 
 -- over a well of which nothing had been received
-keeps : (lane : LaneId) (well : WellView) → well.received ≡ [] → Keeps (after lane well)
+keeps : (lane : LaneId) (well : WellView) → well.received ≡ [] → NodeKeepsLists (after lane well)
 keeps lane well none = record {
   lawful = lawful;
   slots = refl;
@@ -30,7 +30,7 @@ keeps lane well none = record {
 is_node : (lane : LaneId) (well : WellView) → well.received ≡ [] → IsNode (after lane well) (config 0) 4096 (replicate 8 false)
 is_node lane well none = record { lists = keeps lane well none; settings = refl; room_is = refl; closed_are = refl }
 
-keeps_parted : (lane : LaneId) (well : WellView) → well.received ≡ [] → Keeps (parting.ended lane well)
+keeps_parted : (lane : LaneId) (well : WellView) → well.received ≡ [] → NodeKeepsLists (parting.ended lane well)
 keeps_parted lane well none = record {
   lawful = parting.lawful;
   slots = refl;

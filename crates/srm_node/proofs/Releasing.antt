@@ -22,7 +22,7 @@ put_is_front false gave put is = ([], append-nil put ∙ sym is)
 
 pub puts_released : (j : Journal) (feeds : List FeedView) → IsLawfulJournal j → CarriesEach j feeds → PutsReleasedEach j.entries feeds
 puts_released j feeds lawful carries = λ slot f at_f.
-    let front : IsPrefix f.put (given j.entries slot) = put_is_front f.lost (given j.entries slot) f.put (carries slot f at_f) in
+    let front : IsPrefix f.put (given j.entries slot) = put_is_front f.disconnected (given j.entries slot) f.put (carries slot f at_f) in
     record {
       feed = is_page_feed-front f.put (given j.entries slot) front (lawful.gives.feeds slot);
       prefix = λ source page at_page. front_of_front (drawops_of source f.put) (drawops_of source (given j.entries slot)) _ (filter_map-front (drawop_from source) f.put (given j.entries slot) front) (lawful.gives.prefix slot source page at_page);

@@ -3,12 +3,12 @@ use Rattle.std.proofs.Common.{◌≡◌, ℕ, true, false, List, [], ◌∷◌, 
 use Rattle.std.specs.Prelude.{Bool, map, min, if◌then◌else◌, Result, Ok, Err, IfOk}
 use Rattle.std.specs.List.{AllByRecursion}
 use Rattle.std.proofs.lemmas.List.{append-nil}
-use Rattle.srm_names.specs.declared.limits.TheConstants.{MOMENT, PAGES}
+use Rattle.srm_names.specs.declared.limits.TheConstants.{LATEST_MOMENT, PAGES}
 use Rattle.srm_pages.specs.declared.stroke.Stroke.{Stroke}
 use Rattle.srm_entries.specs.declared.entry.Entry.{Entry}
 use Rattle.srm_entries.specs.declared.entry.Input.TheVariants.{AskedLeave}
 use Rattle.srm_world.specs.Traces.{Journal}
-use Rattle.srm_world.specs.Words.{Recorded}
+use Rattle.srm_world.specs.WaitWords.{RecorderView}
 use Rattle.srm_entries.specs.Configs.{Config}
 use Rattle.srm_world.specs.Recording.{with_entry, with_entries, IsAt, HearsEach}
 use Rattle.srm_node.specs.Parts.{DrawsEach, is_give}
@@ -95,30 +95,30 @@ ticked_told Tells now u v w a b c d e is h x l t = on Tells a d e (left_told Tel
 pub told_so : {W C : Type 0} (Tells : C → ℕ → Type 0) (told : ℕ) (own seen : NodeState W C) → own ≡ seen → Tells own.clock told → Tells seen.clock told
 told_so {W} {C} Tells told own seen is h = subst (λ (n : NodeState W C). Tells n.clock told) is h
 
-pub told_hearing : (Tells : ℕ → Type 0) (told now : ℕ) (a b : NodeView) → Tells told → now ≡ min told MOMENT → HearsCut now a b → GrowsAtTold Tells a b
+pub told_hearing : (Tells : ℕ → Type 0) (told now : ℕ) (a b : NodeView) → Tells told → now ≡ min told LATEST_MOMENT → HearsCut now a b → GrowsAtTold Tells a b
 told_hearing Tells told now a b tells counts h = record {
   grows = let l = h.listened.listens in
       record { entries = l.entries; grown = l.grown; made = heard_at (IsTold Tells) now a.journal l.came l.entries (record { told = told; tells = tells; counts = counts }) l.each };
 }
 
-pub told_drawing : (Tells : ℕ → Type 0) (told now : ℕ) (u : Bool) (a b c : NodeView) → Tells told → now ≡ min told MOMENT → HearsNow now u a b → DrawsCut now b c → GrowsAtTold Tells a c
+pub told_drawing : (Tells : ℕ → Type 0) (told now : ℕ) (u : Bool) (a b c : NodeView) → Tells told → now ≡ min told LATEST_MOMENT → HearsNow now u a b → DrawsCut now b c → GrowsAtTold Tells a c
 told_drawing Tells told now u a b c tells counts h x =
     let is : IsTold Tells now = record { told = told; tells = tells; counts = counts } in
     let d = x.drew.draws.draws in
     on Tells a b c (hears_told Tells now u a b is h) (record { entries = d.entries; grown = d.grown; made = drawn_at (IsTold Tells) now b.journal d.strokes d.entries is d.each })
 
-pub told_leaving : (Tells : ℕ → Type 0) (told now : ℕ) (u w : Bool) (a b c d : NodeView) → Tells told → now ≡ min told MOMENT → HearsNow now u a b → DrawsNow now w b c → d ≡ c → GrowsAtTold Tells a d
+pub told_leaving : (Tells : ℕ → Type 0) (told now : ℕ) (u w : Bool) (a b c d : NodeView) → Tells told → now ≡ min told LATEST_MOMENT → HearsNow now u a b → DrawsNow now w b c → d ≡ c → GrowsAtTold Tells a d
 told_leaving Tells told now u w a b c d tells counts h x same = still Tells a c d same (drawn_told Tells now u w a b c (record { told = told; tells = tells; counts = counts }) h x)
 
-pub told_ticking : (Tells : ℕ → Type 0) (told now : ℕ) (u w : Bool) (a b c d e : NodeView) → Tells told → now ≡ min told MOMENT → HearsNow now u a b → DrawsNow now w b c → LeavesNow now w c d → e ≡ d → GrowsAtTold Tells a e
+pub told_ticking : (Tells : ℕ → Type 0) (told now : ℕ) (u w : Bool) (a b c d e : NodeView) → Tells told → now ≡ min told LATEST_MOMENT → HearsNow now u a b → DrawsNow now w b c → LeavesNow now w c d → e ≡ d → GrowsAtTold Tells a e
 told_ticking Tells told now u w a b c d e tells counts h x l same = still Tells a d e same (left_told Tells now u w a b c d (record { told = told; tells = tells; counts = counts }) h x l)
 
-pub told_giving : (Tells : ℕ → Type 0) (told now : ℕ) (u v w : Bool) (a b c d e f : NodeView) → Tells told → now ≡ min told MOMENT → HearsNow now u a b → DrawsNow now w b c → LeavesNow now w c d → TicksNow now v d e → GivesCut e f → GrowsAtTold Tells a f
+pub told_giving : (Tells : ℕ → Type 0) (told now : ℕ) (u v w : Bool) (a b c d e f : NodeView) → Tells told → now ≡ min told LATEST_MOMENT → HearsNow now u a b → DrawsNow now w b c → LeavesNow now w c d → TicksNow now v d e → GivesCut e f → GrowsAtTold Tells a f
 told_giving Tells told now u v w a b c d e f tells counts h x l t g =
     let s = g.gives.gives in
     on Tells a e f (ticked_told Tells now u v w a b c d e (record { told = told; tells = tells; counts = counts }) h x l t) (record { entries = s.entries; grown = s.grown; made = given_at (IsTold Tells) e.journal s.entries s.inputs })
 
-pub told_whole : (Tells : ℕ → Type 0) (told now : ℕ) (u v w : Bool) (a b c d e f : NodeView) → Tells told → now ≡ min told MOMENT → HearsNow now u a b → DrawsNow now w b c → LeavesNow now w c d → TicksNow now v d e → GivesNow PAGES e f → GrowsAtTold Tells a f
+pub told_whole : (Tells : ℕ → Type 0) (told now : ℕ) (u v w : Bool) (a b c d e f : NodeView) → Tells told → now ≡ min told LATEST_MOMENT → HearsNow now u a b → DrawsNow now w b c → LeavesNow now w c d → TicksNow now v d e → GivesNow PAGES e f → GrowsAtTold Tells a f
 told_whole Tells told now u v w a b c d e f tells counts h x l t g = on Tells a e f (ticked_told Tells now u v w a b c d e (record { told = told; tells = tells; counts = counts }) h x l t) (gives_at (IsTold Tells) PAGES e f g)
 
 -- A RUN
@@ -131,15 +131,15 @@ told_on Tells first last a b p c h same paused k =
 
 -- A NEW NODE
 
-pub words_kept : {W C E : Type 0} (r : Result (NodeState W C) E) (recorded : Recorded W) (words : W) (j : Journal) → IfOk r (λ node. node.words ≡ recorded.words) → recorded ≡ record { journal = j; words = words } → IfOk r (λ node. node.words ≡ words)
-words_kept {W} (Ok node) recorded words j h is = h ∙ ap (λ (x : Recorded W). x.words) is
+pub words_kept : {W C E : Type 0} (r : Result (NodeState W C) E) (recorded : RecorderView W) (words : W) (j : Journal) → IfOk r (λ node. node.words ≡ recorded.words) → recorded ≡ record { journal = j; words = words } → IfOk r (λ node. node.words ≡ words)
+words_kept {W} (Ok node) recorded words j h is = h ∙ ap (λ (x : RecorderView W). x.words) is
 words_kept (Err e) recorded words j h is = tt
 
-pub made_told : {W C E : Type 0} (r : Result (NodeState W C) E) (recorded : Recorded W) (Tells : ℕ → Type 0) (told now : ℕ) (config : Config) (words : W) → IfOk r (λ node. node.view.journal ≡ recorded.journal)
-    → recorded ≡ record { journal = record { start = record { config = config; made = now }; entries = [] }; words = words } → Tells told → now ≡ min told MOMENT → IfOk r (λ node. IsTold Tells node.view.journal.start.made)
+pub made_told : {W C E : Type 0} (r : Result (NodeState W C) E) (recorded : RecorderView W) (Tells : ℕ → Type 0) (told now : ℕ) (config : Config) (words : W) → IfOk r (λ node. node.view.journal ≡ recorded.journal)
+    → recorded ≡ record { journal = record { start = record { config = config; made = now }; entries = [] }; words = words } → Tells told → now ≡ min told LATEST_MOMENT → IfOk r (λ node. IsTold Tells node.view.journal.start.made)
 made_told {W} (Ok node) recorded Tells told now config words h is tells counts = record {
   told = told;
   tells = tells;
-  counts = ap (λ (j : Journal). j.start.made) h ∙ ap (λ (x : Recorded W). x.journal.start.made) is ∙ counts;
+  counts = ap (λ (j : Journal). j.start.made) h ∙ ap (λ (x : RecorderView W). x.journal.start.made) is ∙ counts;
 }
 made_told (Err e) recorded Tells told now config words h is tells counts = tt

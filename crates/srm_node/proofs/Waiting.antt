@@ -6,16 +6,16 @@ use Rattle.srm_entries.specs.Configs.{Config}
 use Rattle.srm_agent.specs.declared.heard.Heard.{Heard}
 use Rattle.srm_world.specs.Traces.{Journal}
 use Rattle.srm_world.specs.Recording.{RecordsHeard}
-use Rattle.srm_world.specs.Words.{Recorded, AreByWords, RecordsByWords}
+use Rattle.srm_world.specs.WaitWords.{RecorderView, AreByWords, RecordsByWords}
 use Rattle.srm_world.proofs.Wording.{by_more, no_words_recorded}
 use Rattle.srm_node.specs.Nodes.{NodeView, NodeState, recorded_in}
 use Rattle.srm_node.specs.Turns.{Paused}
 use Rattle.srm_node.specs.Waits.{WaitsByWords}
 
-pub waits_none : {W : Type 0} (draw : W → ℕ × W) (r : Recorded W) → WaitsByWords draw r r
+pub waits_none : {W : Type 0} (draw : W → ℕ × W) (r : RecorderView W) → WaitsByWords draw r r
 waits_none draw r = record { start = refl; words = no_words_recorded draw r r refl }
 
-pub waits_on : {W : Type 0} (draw : W → ℕ × W) (a b c : Recorded W) → WaitsByWords draw a b → WaitsByWords draw b c → WaitsByWords draw a c
+pub waits_on : {W : Type 0} (draw : W → ℕ × W) (a b c : RecorderView W) → WaitsByWords draw a b → WaitsByWords draw b c → WaitsByWords draw a c
 waits_on draw a b c h k = record {
   start = k.start ∙ h.start;
   words = record {
@@ -26,7 +26,7 @@ waits_on draw a b c h k = record {
   };
 }
 
-pub waits_heard : {W : Type 0} (draw : W → ℕ × W) (now : ℕ) (bytes : List ℕ) (a b : Recorded W) (answer : Result Heard AgentFault) → RecordsHeard now bytes a.journal b.journal answer → RecordsByWords draw a b → WaitsByWords draw a b
+pub waits_heard : {W : Type 0} (draw : W → ℕ × W) (now : ℕ) (bytes : List ℕ) (a b : RecorderView W) (answer : Result Heard AgentFault) → RecordsHeard now bytes a.journal b.journal answer → RecordsByWords draw a b → WaitsByWords draw a b
 waits_heard draw now bytes a b answer (inl (e, grows, hearing, answers)) words = record { start = ap (λ (j : Journal). j.start) grows.grown; words = words }
 waits_heard draw now bytes a b answer (inr (wrong, same)) words = record { start = ap (λ (j : Journal). j.start) same; words = words }
 

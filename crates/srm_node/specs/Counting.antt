@@ -40,13 +40,13 @@ was_dropped e = is_drawn e.input && is_refused e.verdict
 abbrev pub count_up_to : (Entry → Bool) → List Entry → ℕ
 count_up_to p es = min (count_by p es) (2 ^ 64 - 1)
 
-abbrev pub ignored_for : List Entry → ℕ → ℕ
-ignored_for es number = count_up_to (was_ignored number) es
+abbrev pub count_ignored_for : List Entry → ℕ → ℕ
+count_ignored_for es number = count_up_to (was_ignored number) es
 
 -- the noise, what was ignored by cause, and the draws that were refused
 abbrev pub counts_of : List Entry → Counts
 counts_of es = record {
   noise = count_up_to came_as_noise es;
-  ignored = ignored_for es 1 ∷ ignored_for es 2 ∷ ignored_for es 3 ∷ ignored_for es 4 ∷ ignored_for es 5 ∷ ignored_for es 6 ∷ ignored_for es 7 ∷ [];
+  ignored = count_ignored_for es 1 ∷ count_ignored_for es 2 ∷ count_ignored_for es 3 ∷ count_ignored_for es 4 ∷ count_ignored_for es 5 ∷ count_ignored_for es 6 ∷ count_ignored_for es 7 ∷ [];
   dropped = count_up_to was_dropped es;
 }

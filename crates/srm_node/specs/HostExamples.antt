@@ -12,7 +12,7 @@ use Rattle.srm_node.specs.declared.hosting.Hosted.{Hosted}
 use Rattle.srm_node.specs.declared.working.Worked.{Worked}
 use Rattle.srm_node.specs.declared.working.WorkEnd.TheVariants.{Closed, Broken}
 use Rattle.srm_node.specs.Working.{Took, WorkedFrom}
-use Rattle.srm_node.specs.Hosting.{started, Starts, StopsBy, Joins, WorkedEach, AreEndsOfLanes, HostFails, Hosts}
+use Rattle.srm_node.specs.Hosting.{tap_of_worker, Starts, StopsBy, Joins, WorkedEach, AreEndsOfLanes, HostFails, Hosts}
 use Rattle.srm_node.specs.WholeTurnExamples.{before, after, feed, whole}
 
 abbrev pub tap : ℕ → List PageMsg → LaneId → TapView
@@ -33,11 +33,11 @@ not_swapped one other differ h = differ (h 0 (feed 0 [] one) (tap 1 [] other) re
 -- STARTING AND JOINING
 
 -- of two taps the first one's worker was started
-started_first : {L : Type 0} (s t : TapView) (w : Worker L) → started w ≡ s → Starts (s ∷ t ∷ []) (t ∷ []) [] (w ∷ [])
+started_first : {L : Type 0} (s t : TapView) (w : Worker L) → tap_of_worker w ≡ s → Starts (s ∷ t ∷ []) (t ∷ []) [] (w ∷ [])
 started_first s t w is = record { tap = s; taps_are = refl; started_are = ap (λ x. x ∷ []) is }
 
 -- it is the first's, and no other
-no_other_started : {L : Type 0} (s t : TapView) (w : Worker L) → Starts (s ∷ t ∷ []) (t ∷ []) [] (w ∷ []) → started w ≡ s
+no_other_started : {L : Type 0} (s t : TapView) (w : Worker L) → Starts (s ∷ t ∷ []) (t ∷ []) [] (w ∷ []) → tap_of_worker w ≡ s
 no_other_started s t w h = let taps = h.taps_are in let starts = h.started_are in cc
 
 pub worked_so : {L : Type 0} (entries : L → List PageMsg) (w : Worked L) (from to : TapView) (more : List PageMsg) → w.tap ≡ to → entries w.list ≡ more → w.end ≡ Closed → Took from to more → WorkedFrom entries from w
@@ -51,7 +51,7 @@ never_broken : {L : Type 0} (entries : L → List PageMsg) (t : TapView) (w : Wo
 never_broken entries t w broken h = h.end broken
 
 -- one that took its page was joined, and another not yet
-joined_one : {L : Type 0} (entries : L → List PageMsg) (lane : LaneId) (t : TapView) (v : Worker L) (w : Worked L) → started v ≡ t → w.tap ≡ tap 0 (Open first_page ∷ []) lane → entries w.list ≡ Open first_page ∷ [] → w.end ≡ Closed → Joins entries (tap 0 [] lane ∷ t ∷ []) (v ∷ []) (w ∷ [])
+joined_one : {L : Type 0} (entries : L → List PageMsg) (lane : LaneId) (t : TapView) (v : Worker L) (w : Worked L) → tap_of_worker v ≡ t → w.tap ≡ tap 0 (Open first_page ∷ []) lane → entries w.list ≡ Open first_page ∷ [] → w.end ≡ Closed → Joins entries (tap 0 [] lane ∷ t ∷ []) (v ∷ []) (w ∷ [])
 joined_one entries lane t v w of is list end = record {
   joined = tap 0 [] lane ∷ [];
   split = ap (λ x. tap 0 [] lane ∷ x ∷ []) (sym of);

@@ -8,20 +8,20 @@ use Rattle.srm_node.specs.declared.hosting.Hosted.{Hosted}
 use Rattle.srm_node.specs.declared.working.Worked.{Worked}
 use Rattle.srm_node.specs.Working.{WorkedFrom}
 use Rattle.srm_node.specs.Parts.{SameFeeds}
-use Rattle.srm_node.specs.Nodes.{NodeView, Keeps}
+use Rattle.srm_node.specs.Nodes.{NodeView, NodeKeepsLists}
 use Rattle.srm_node.specs.declared.fault.NodeFault.{NodeFault}
 use Rattle.srm_node.specs.declared.fault.NodeFault.TheVariants.{Memory}
 use Rattle.srm_node.specs.Turns.{RunsToEnd, RunEnds}
 
 -- the tap that a worker was started with
-abbrev pub started : {L : Type 0} → Worker L → TapView
-started w = w.handle.promise.0.value
+abbrev pub tap_of_worker : {L : Type 0} → Worker L → TapView
+tap_of_worker w = w.handle.promise.0.value
 
 -- one tap less is left, and the last worker was started with it
 pub record Starts {L : Type 0} (taps left : List TapView) (workers more : List (Worker L)) : Type 0 where
   pub tap : TapView
   pub taps_are : taps ≡ tap ∷ left
-  pub started_are : map started more ≡ map started workers ++ tap ∷ []
+  pub started_are : map tap_of_worker more ≡ map tap_of_worker workers ++ tap ∷ []
 
 -- each worker handed back its own lane's tap, and as its list what that tap took
 abbrev pub WorkedEach : {L : Type 0} → (L → List PageMsg) → List TapView → List (Worked L) → Type 0
@@ -32,13 +32,13 @@ WorkedEach entries _ _ = ⊥
 -- of all these some were joined, and the others not yet
 pub record Joins {L : Type 0} (entries : L → List PageMsg) (all : List TapView) (left : List (Worker L)) (worked : List (Worked L)) : Type 0 where
   pub joined : List TapView
-  pub split : all ≡ joined ++ map started left
+  pub split : all ≡ joined ++ map tap_of_worker left
   pub each : WorkedEach entries joined worked
 
 -- workers were started with the first of these taps
 pub record StartsSome {L : Type 0} (taps : List TapView) (workers : List (Worker L)) : Type 0 where
   pub rest : List TapView
-  pub split : map started workers ++ rest ≡ taps
+  pub split : map tap_of_worker workers ++ rest ≡ taps
 
 -- with all workers started the node ran into this fault; or it was not turned, since a worker couldn't be started
 abbrev pub StopsBy : Bool → NodeFault → ℕ → NodeView → NodeView → Type 0
@@ -49,7 +49,7 @@ StopsBy all fault turns old new = ((all ≡ true) × RunEnds (Err fault) turns o
 pub record HostFails {P L : Type 0} (entries : L → List PageMsg) (all : Bool) (node : NodeView) (taps : List TapView) (turns : ℕ) (fault : NodeFault) (h : Hosted P L) : Type 0 where
   pub last : NodeView
   pub runs : StopsBy all fault turns node last
-  pub keeps : Keeps last
+  pub keeps : NodeKeepsLists last
   pub journal : h.journal ≡ last.journal
   pub feeds : h.feeds.items ≡ []
   pub joined : List TapView
@@ -66,7 +66,7 @@ AreEndsOfLanes feeds taps = (k : ℕ) (f : FeedView) (t : TapView) → slice_get
 pub record Hosts {P L : Type 0} (entries : L → List PageMsg) (node : NodeView) (taps : List TapView) (turns : ℕ) (h : Hosted P L) : Type 0 where
   pub last : NodeView
   pub runs : RunsToEnd turns node last
-  pub keeps : Keeps last
+  pub keeps : NodeKeepsLists last
   pub journal : h.journal ≡ last.journal
   pub feeds : h.feeds.items ≡ last.feeds
   pub slots : length last.feeds ≡ length node.feeds

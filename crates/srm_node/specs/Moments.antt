@@ -1,6 +1,6 @@
 -- Which moments a node's entries have.
 use Rattle.std.specs.Prelude.{◌≡◌, ◌⊎◌, ℕ, true, List, [], ◌∷◌, min}
-use Rattle.srm_names.specs.declared.limits.TheConstants.{MOMENT}
+use Rattle.srm_names.specs.declared.limits.TheConstants.{LATEST_MOMENT}
 use Rattle.srm_entries.specs.declared.entry.Entry.{Entry}
 use Rattle.srm_world.specs.Traces.{Journal}
 use Rattle.srm_world.specs.Recording.{with_entry, with_entries, IsAt}
@@ -11,7 +11,7 @@ use Rattle.srm_node.specs.Nodes.{NodeView}
 pub record IsTold (Tells : ℕ → Type 0) (now : ℕ) : Type 0 where
   pub told : ℕ
   pub tells : Tells told
-  pub counts : now ≡ min told MOMENT
+  pub counts : now ≡ min told LATEST_MOMENT
 
 -- An entry is made at such a moment, but a lower one than the last counts as the last. A give is asked for at none: it has the last moment, by the law of runs.
 abbrev pub IsMadeAt : (ℕ → Type 0) → Journal → Entry → Type 0

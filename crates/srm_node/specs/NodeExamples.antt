@@ -16,7 +16,7 @@ use Rattle.srm_entries.specs.declared.state.AgentState.TheVariants.{Active, Leav
 use Rattle.srm_entries.specs.Entries.{released}
 use Rattle.srm_entries.specs.Giving.{given}
 use Rattle.srm_entries.specs.Verdicts.{stream_on}
-use Rattle.srm_entries.specs.Sample.{a, b, entry, quiet, draws, gives}
+use Rattle.srm_entries.specs.Sample.{first_drawop, second_drawop, entry, quiet, draws, gives}
 use Rattle.srm_node.specs.declared.fault.NodeFault.TheVariants.{Memory, Turns}
 use Rattle.srm_node.specs.Counting.{counts_of}
 use Rattle.srm_node.specs.Carrying.{Carries, PutsReleased}
@@ -47,28 +47,28 @@ not_failed_after_64 h = omega (arith, h.0)
 
 -- The page was opened for the worker, and the first drawop of member 0 given; the journal has a second one that isn't given yet.
 abbrev released_two : List Entry
-released_two = draws 0 5 a ∷ gives 0 5 (Some (Open first_page)) ∷ gives 0 5 (Some (Draw a)) ∷ draws 0 6 b ∷ []
+released_two = draws 0 5 first_drawop ∷ gives 0 5 (Some (Open first_page)) ∷ gives 0 5 (Some (Draw first_drawop)) ∷ draws 0 6 second_drawop ∷ []
 
-gave_both : given released_two 0 ≡ Open first_page ∷ Draw a ∷ []
+gave_both : given released_two 0 ≡ Open first_page ∷ Draw first_drawop ∷ []
 gave_both = refl
 
 abbrev feed : Bool → List PageMsg → LaneId → FeedView
-feed lost put lane = record { put = put; seen = 0; lost = lost; slot = 0; lane = lane; board = lane.stamps }
+feed lost put lane = record { put = put; seen = 0; disconnected = lost; slot = 0; lane = lane; board = lane.stamps }
 
 -- a lane that stands has all that was given
-carries_all : (lane : LaneId) → Carries (given released_two 0) (feed false (Open first_page ∷ Draw a ∷ []) lane)
+carries_all : (lane : LaneId) → Carries (given released_two 0) (feed false (Open first_page ∷ Draw first_drawop ∷ []) lane)
 carries_all lane = refl
 
 -- of a lost one the last message given came back
 carries_but_the_last : (lane : LaneId) → Carries (given released_two 0) (feed true (Open first_page ∷ []) lane)
-carries_but_the_last lane = (Draw a, refl)
+carries_but_the_last lane = (Draw first_drawop, refl)
 
 -- With the page alone put, what is released stands all before the worker; the feed begins with its page.
 puts_the_page : PutsReleased released_two 0 (Open first_page ∷ [])
 puts_the_page = record { feed = refl; prefix = λ source page at. (released released_two (stream_on source page), refl) }
 
 -- a drawop before its page is no page feed
-page_comes_first : is_page_feed (Draw a ∷ []) ≡ false
+page_comes_first : is_page_feed (Draw first_drawop ∷ []) ≡ false
 page_comes_first = refl
 
 -- COUNTING
@@ -107,7 +107,7 @@ takes_no_stroke n s h = sym (ap (λ (x : NodeView). x.hand) h.same)
 
 -- Of two feeds one put its close, and the other one is lost; by its last entry the member is gone.
 abbrev both_done : LaneId → List FeedView
-both_done lane = feed false (Open first_page ∷ Draw a ∷ Close ∷ []) lane ∷ feed true (Open first_page ∷ []) lane ∷ []
+both_done lane = feed false (Open first_page ∷ Draw first_drawop ∷ Close ∷ []) lane ∷ feed true (Open first_page ∷ []) lane ∷ []
 
 abbrev ended : NodeView → LaneId → NodeView
 ended n lane = record n { journal = record n.journal { entries = entry 0 4 Ticked (quiet Leaving) ∷ entry 0 5 Ticked (quiet Gone) ∷ [] }; feeds = both_done lane }
@@ -116,7 +116,7 @@ gone_and_done : (n : NodeView) (lane : LaneId) → has_ended (ended n lane) ≡ 
 gone_and_done n lane = refl
 
 -- not while a feed that isn't lost has no close
-not_while_open : (n : NodeView) (lane : LaneId) → has_ended (record (ended n lane) { feeds = feed false (Open first_page ∷ Draw a ∷ []) lane ∷ both_done lane }) ≡ false
+not_while_open : (n : NodeView) (lane : LaneId) → has_ended (record (ended n lane) { feeds = feed false (Open first_page ∷ Draw first_drawop ∷ []) lane ∷ both_done lane }) ≡ false
 not_while_open n lane = refl
 
 -- nor while the member is leaving
@@ -128,14 +128,14 @@ not_while_leaving n lane = refl
 abbrev tap : List PageMsg → LaneId → TapView
 tap taken lane = record { taken = taken; seat = []; slot = 3; lane = lane; board = lane.stamps }
 
-took_two : (lane : LaneId) → Took (tap (Open first_page ∷ []) lane) (tap (Open first_page ∷ Draw a ∷ Close ∷ []) lane) (Draw a ∷ Close ∷ [])
+took_two : (lane : LaneId) → Took (tap (Open first_page ∷ []) lane) (tap (Open first_page ∷ Draw first_drawop ∷ Close ∷ []) lane) (Draw first_drawop ∷ Close ∷ [])
 took_two lane = record { is = refl }
 
 -- A sink that counts, and stops its worker at the second message: of two it saw both, in slot 3.
 abbrev Stops : ℕ → ℕ → PageMsg → Bool → ℕ → Type 0
 Stops old slot m goes_on new = (slot ≡ 3) × (new ≡ suc old) × (goes_on ≡ (old == 0))
 
-stopped_at_two : SeesEach Stops 3 true (Open first_page ∷ Draw a ∷ []) 0 2
+stopped_at_two : SeesEach Stops 3 true (Open first_page ∷ Draw first_drawop ∷ []) 0 2
 stopped_at_two = (1, true, (refl, refl, refl), (2, false, (refl, refl, refl), (refl, refl, refl)))
 
 -- it goes on behind one
@@ -143,8 +143,8 @@ not_stopped_at_one : SeesEach Stops 3 false (Open first_page ∷ []) 0 1
 not_stopped_at_one = (1, true, (refl, refl, refl), (refl, refl))
 
 -- a step of the worker that took the second one, which the sink saw and stopped it at
-took_the_second : (lane : LaneId) → TakesAndShows Stops true (tap (Open first_page ∷ []) lane) (tap (Open first_page ∷ Draw a ∷ []) lane) (Open first_page ∷ []) (Open first_page ∷ Draw a ∷ []) 1 2
-took_the_second lane = record { more = Draw a ∷ []; took = record { is = refl }; grew = refl; seen = (2, false, (refl, refl, refl), (refl, refl, refl)) }
+took_the_second : (lane : LaneId) → TakesAndShows Stops true (tap (Open first_page ∷ []) lane) (tap (Open first_page ∷ Draw first_drawop ∷ []) lane) (Open first_page ∷ []) (Open first_page ∷ Draw first_drawop ∷ []) 1 2
+took_the_second lane = record { more = Draw first_drawop ∷ []; took = record { is = refl }; grew = refl; seen = (2, false, (refl, refl, refl), (refl, refl, refl)) }
 
 -- a step that took nothing, where the lane was at its end
 took_nothing : (lane : LaneId) → TakesAndShows Stops false (tap (Open first_page ∷ []) lane) (tap (Open first_page ∷ []) lane) (Open first_page ∷ []) (Open first_page ∷ []) 1 1

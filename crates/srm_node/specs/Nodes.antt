@@ -8,7 +8,7 @@ use Rattle.srm_pages.specs.Ends.{FeedView, WellView}
 use Rattle.srm_entries.specs.Configs.{Config}
 use Rattle.srm_entries.specs.Entries.{state, is_gone}
 use Rattle.srm_world.specs.Traces.{Journal}
-use Rattle.srm_world.specs.Words.{Recorded}
+use Rattle.srm_world.specs.WaitWords.{RecorderView}
 use Rattle.srm_node.specs.declared.limits.TheConstants.{BUFFER}
 use Rattle.srm_wire.specs.Wires.{Told}
 use Rattle.srm_node.specs.Carrying.{KeepsLists}
@@ -31,29 +31,29 @@ pub record NodeState (W C : Type 0) : Type 0 where
   pub clock : C
 
 -- what they see of the recorder in it
-abbrev pub recorded_in : {W C : Type 0} → NodeState W C → Recorded W
+abbrev pub recorded_in : {W C : Type 0} → NodeState W C → RecorderView W
 recorded_in n = record { journal = n.view.journal; words = n.words }
 
 -- what always holds of a node
-abbrev pub Keeps : NodeView → Type 0
-Keeps n = KeepsLists n.journal n.feeds n.well.received n.hand
+abbrev pub NodeKeepsLists : NodeView → Type 0
+NodeKeepsLists n = KeepsLists n.journal n.feeds n.well.received n.hand
 
 -- whether a feed put its close, which in a page feed is the last message
 abbrev pub has_closed : FeedView → Bool
 has_closed f = list_any is_close f.put
 
 -- nothing more comes of a feed that is lost, or that put its close
-abbrev pub is_done : FeedView → Bool
-is_done f = f.lost || has_closed f
+abbrev pub has_nothing_more : FeedView → Bool
+has_nothing_more f = f.disconnected || has_closed f
 
 -- whether the member is gone by its journal, and nothing more comes of any feed
 abbrev pub has_ended : NodeView → Bool
-has_ended n = is_gone (state n.journal.entries) && list_all is_done n.feeds
+has_ended n = is_gone (state n.journal.entries) && list_all has_nothing_more n.feeds
 
 -- what a node keeps: its lists hang together, its settings are those of its journal, its buffer has its length, and it knows which feeds put
 -- their close
 pub record IsNode (n : NodeView) (config : Config) (room : ℕ) (closed : List Bool) : Type 0 where
-  pub lists : Keeps n
+  pub lists : NodeKeepsLists n
   pub settings : n.journal.start.config ≡ config
   pub room_is : room ≡ BUFFER
   pub closed_are : closed ≡ map has_closed n.feeds
@@ -61,7 +61,7 @@ pub record IsNode (n : NodeView) (config : Config) (room : ℕ) (closed : List B
 -- a feed for each slot, which put nothing and isn't lost
 pub record AreNewFeeds (feeds : List FeedView) : Type 0 where
   pub slots : length feeds ≡ PAGES
-  pub each : (slot : ℕ) (f : FeedView) → slice_get feeds slot ≡ Some f → (f.put ≡ []) × (f.lost ≡ false)
+  pub each : (slot : ℕ) (f : FeedView) → slice_get feeds slot ≡ Some f → (f.put ≡ []) × (f.disconnected ≡ false)
 
 -- a journal with these settings that has no entry yet
 pub record IsNewJournal (config : Config) (j : Journal) : Type 0 where

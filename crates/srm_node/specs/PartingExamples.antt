@@ -21,8 +21,8 @@ use Rattle.srm_entries.specs.declared.state.AgentState.TheVariants.{Leaving, Gon
 use Rattle.srm_entries.specs.Entries.{state, known}
 use Rattle.srm_entries.specs.Timers.{fix_running}
 use Rattle.srm_entries.specs.Giving.{given, MessageRight}
-use Rattle.srm_entries.specs.Bucket.{GoesRight, bucket_calls}
-use Rattle.srm_entries.specs.Runs.{EntryRight, MomentRight, state_due}
+use Rattle.srm_entries.specs.Bucket.{GoesAsCharged, bucket_calls}
+use Rattle.srm_entries.specs.Runs.{EntryRight, MomentRight, expected_state}
 use Rattle.srm_entries.specs.Sessions.{ReportRight}
 use Rattle.srm_entries.specs.Sample.{idle}
 use Rattle.srm_entries.proofs.Plain.{config, plain, idle_right, right, missing_none, unknown_unmissed, neither}
@@ -92,7 +92,7 @@ report_right = record { in_order = refl; exact = λ (s : Stream). neither (s.sou
 
 -- a give that the entries before it allow
 gives_right : (past : List Entry) (slot : ℕ) (message : Option PageMsg) → ((n : FullName) → known past n.stream ≡ 0) → ((n : FullName) → known (past ++ gives slot message ∷ []) n.stream ≡ 0)
-    → ((n : FullName) → fix_running past n ≡ None) → MomentRight (config 0) 0 past (gives slot message) → MessageRight (config 0) past (Gave slot) message → Gone ≡ state_due (state past) false (Some (Gave slot))
+    → ((n : FullName) → fix_running past n ≡ None) → MomentRight (config 0) 0 past (gives slot message) → MessageRight (config 0) past (Gave slot) message → Gone ≡ expected_state (state past) false (Some (Gave slot))
     → EntryRight (config 0) 0 (record { before = past; this = gives slot message })
 gives_right past slot message here next fix moment given after =
     right (config 0) 0 past 0 1 (Gave slot) None [] message Gone (λ n. unknown_unmissed past n (here n)) (λ n. unknown_unmissed (past ++ gives slot message ∷ []) n (next n)) (λ n. refl) fix refl moment refl refl tt tt tt refl given after
@@ -160,7 +160,7 @@ each_right = (
 law : BucketLaw 8000 4204 (bucket_calls 0 (map idle entries))
 law = (record { in_order = λ class. ([], refl); highest_first = tt; not_too_much = (lit≤ tt, lit≤ tt, tt); all_that_may = tt }, tt)
 
-goings_right : AllByRecursion GoesRight (steps (map idle entries))
+goings_right : AllByRecursion GoesAsCharged (steps (map idle entries))
 goings_right = (idle_right refl, (idle_right refl, (idle_right refl, (idle_right refl, (idle_right refl, (idle_right refl, (idle_right refl, (idle_right refl, (idle_right refl, (idle_right refl, (idle_right refl, (idle_right refl, (idle_right refl, (idle_right refl, (idle_right refl, (idle_right refl, (idle_right refl, (idle_right refl, (idle_right refl, tt)))))))))))))))))))
 
 pub lawful : IsLawfulJournal (journal entries)

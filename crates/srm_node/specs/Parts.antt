@@ -16,7 +16,7 @@ use Rattle.srm_outbox.specs.Outs.{IsOut}
 use Rattle.srm_world.specs.Traces.{Journal}
 use Rattle.srm_world.specs.Claims.{IsLawfulJournal}
 use Rattle.srm_world.specs.Recording.{with_entry, with_entries, IsAt, HearsEach}
-use Rattle.srm_node.specs.declared.limits.TheConstants.{RECEIVED, DRAWN}
+use Rattle.srm_node.specs.declared.limits.TheConstants.{DATAGRAMS_A_TURN, STROKES_A_TURN}
 use Rattle.srm_wire.specs.Wires.{Told, TellsMore}
 use Rattle.srm_node.specs.Carrying.{Carries, CarriesEach, drawing}
 
@@ -32,13 +32,13 @@ pub record Listens (now count : ℕ) (ended : List (Option (List ℕ))) (old new
   pub told : TellsMore (map (λ b. Some b) came ++ ended) [] was is
 
 -- as many came as a turn receives, or fewer and then none was there
-abbrev pub IsWhole : ℕ → List (Option (List ℕ)) → Type 0
-IsWhole count ended = ((count ≡ RECEIVED) × (ended ≡ [])) ⊎ ((count < RECEIVED) × (ended ≡ None ∷ []))
+abbrev pub HearingIsWhole : ℕ → List (Option (List ℕ)) → Type 0
+HearingIsWhole count ended = ((count ≡ DATAGRAMS_A_TURN) × (ended ≡ [])) ⊎ ((count < DATAGRAMS_A_TURN) × (ended ≡ None ∷ []))
 
 -- How hearing ends: where a receive failed, before as many came as a turn receives, and nothing more is told of; else all was heard.
 abbrev pub HearingEnds : Bool → ℕ → List (Option (List ℕ)) → Type 0
-HearingEnds true count ended = (count < RECEIVED) × (ended ≡ [])
-HearingEnds false count ended = IsWhole count ended
+HearingEnds true count ended = (count < DATAGRAMS_A_TURN) × (ended ≡ [])
+HearingEnds false count ended = HearingIsWhole count ended
 
 -- what came was heard, and all of it unless a call failed
 pub record Listened (now : ℕ) (failed : Bool) (old new : Journal) (was is : Option Told) : Type 0 where
@@ -51,13 +51,13 @@ pub record Listened (now : ℕ) (failed : Bool) (old new : Journal) (was is : Op
 pub record ListenedCut (now : ℕ) (old new : Journal) (was is : Option Told) : Type 0 where
   pub count : ℕ
   pub lost : List ℕ
-  pub few : count < RECEIVED
+  pub few : count < DATAGRAMS_A_TURN
   pub listens : Listens now count (Some lost ∷ []) old new was is
 
 -- DRAWING
 
 -- strokes that were popped stand behind the one in hand, and so often none was found
-pub record Pops (nones : ℕ) (from to : WellView) (hand all : List Stroke) : Type 0 where
+pub record PopsStrokes (nones : ℕ) (from to : WellView) (hand all : List Stroke) : Type 0 where
   pub popped : List Stroke
   pub received : to ≡ record from { received = from.received ++ popped; nones = from.nones + nones }
   pub all_is : all ≡ hand ++ popped
@@ -99,29 +99,29 @@ once true = 1
 once false = 0
 
 -- Strokes were popped until none was found, or for another cause before, and all but the one in hand drawn in order, so many.
-pub record Draws (now count : ℕ) (none_found : Bool) (old new : Journal) (from to : WellView) (hand kept : Option Stroke) : Type 0 where
+pub record DrawsStrokes (now count : ℕ) (none_found : Bool) (old new : Journal) (from to : WellView) (hand kept : Option Stroke) : Type 0 where
   pub all : List Stroke
-  pub pops : Pops (once none_found) from to (option_to_list hand) all
+  pub pops : PopsStrokes (once none_found) from to (option_to_list hand) all
   pub draws : DrawsOf now count all (option_to_list kept) old new
 
 -- As many were drawn as a turn draws, by which it isn't known whether more are left; or fewer, and the well had none; or the one in hand isn't
 -- admitted.
 abbrev pub DrawingEnds : (now count : ℕ) → Bool → Journal → Option Stroke → Type 0
 DrawingEnds now count none_left j (Some s) = (none_left ≡ false) × IsAdmitted now j s false
-DrawingEnds now count none_left j None = MatchBool none_left (count < DRAWN) (count ≡ DRAWN)
+DrawingEnds now count none_left j None = MatchBool none_left (count < STROKES_A_TURN) (count ≡ STROKES_A_TURN)
 
 -- Strokes were drawn, until there was cause to end. None is left exactly where the well was found to have none.
 pub record DrewStrokes (now : ℕ) (none_left : Bool) (old new : Journal) (from to : WellView) (hand kept : Option Stroke) : Type 0 where
   pub count : ℕ
-  pub few : count ≤ DRAWN
-  pub draws : Draws now count none_left old new from to hand kept
+  pub few : count ≤ STROKES_A_TURN
+  pub draws : DrawsStrokes now count none_left old new from to hand kept
   pub ends : DrawingEnds now count none_left new kept
 
 -- Memory ran out: the stroke for which it did is in hand.
 pub record DrewStrokesCut (now : ℕ) (old new : Journal) (from to : WellView) (hand kept : Option Stroke) : Type 0 where
   pub count : ℕ
-  pub few : count < DRAWN
-  pub draws : Draws now count false old new from to hand kept
+  pub few : count < STROKES_A_TURN
+  pub draws : DrawsStrokes now count false old new from to hand kept
   pub in_hand : is_some kept ≡ true
 
 -- LEAVING
@@ -169,11 +169,11 @@ gave_nothing slot e = gives_in slot e.input && is_none e.effects.message
 
 -- no credit is left as far as was seen, or there was nothing to give, or the feed is lost
 abbrev pub is_served : ℕ → List Entry → FeedView → Bool
-is_served slot es f = (credit_of f == 0) || list_any (gave_nothing slot) es || f.lost
+is_served slot es f = (credit_of f == 0) || list_any (gave_nothing slot) es || f.disconnected
 
 -- what a feed has put, has seen taken and whether it is lost may change, and no more
 abbrev pub SameFeed : FeedView → FeedView → Type 0
-SameFeed f g = g ≡ record f { put = g.put; seen = g.seen; lost = g.lost }
+SameFeed f g = g ≡ record f { put = g.put; seen = g.seen; disconnected = g.disconnected }
 
 -- The slot was given messages, which by the law of runs have the last moment, and its lane carries them. At the end it is served.
 pub record Gives (slot : ℕ) (ended : Bool) (old new : Journal) (from to : FeedView) : Type 0 where

@@ -1,7 +1,7 @@
 -- The drawing, the leaving and the waits of a turn, at worked examples.
 use Rattle.std.specs.Prelude.{◌≡◌, ◌+◌, ◌<◌, ℕ, true, false, List, [], ◌∷◌, ◌++◌, map, min, Some, None, replicate, refl}
 use Rattle.std.proofs.Common.{arith, ap, inl, inr, ◌∙◌}
-use Rattle.srm_names.specs.declared.limits.TheConstants.{MOMENT}
+use Rattle.srm_names.specs.declared.limits.TheConstants.{LATEST_MOMENT}
 use Rattle.srm_names.specs.Names.{first_page}
 use Rattle.srm_codec.specs.declared.datagram.Datagram.TheVariants.{Data}
 use Rattle.srm_timers.specs.Draws.{draw_listed}
@@ -15,8 +15,8 @@ use Rattle.srm_entries.specs.Sample.{in_roster, drawop_of, draws, hears, ask_arm
 use Rattle.srm_agent.specs.Noting.{moment_that_counts}
 use Rattle.srm_world.specs.Traces.{Journal}
 use Rattle.srm_world.specs.Recording.{IsAt}
-use Rattle.srm_world.specs.Words.{Recorded}
-use Rattle.srm_node.specs.Parts.{IsAdmitted, Draws, DrawingEnds, is_to_leave, Leaves}
+use Rattle.srm_world.specs.WaitWords.{RecorderView}
+use Rattle.srm_node.specs.Parts.{IsAdmitted, DrawsStrokes, DrawingEnds, is_to_leave, Leaves}
 use Rattle.srm_node.specs.Waits.{WaitsByWords}
 use Rattle.srm_node.specs.Moments.{IsTold, IsMadeAt, GrowsAt}
 
@@ -52,7 +52,7 @@ first_admitted = record { marked = ([], refl, tt, tt); is = refl }
 abbrev after : WellView → WellView
 after w = record w { received = w.received ++ full ∷ short ∷ []; nones = w.nones + 0 }
 
-draws_one : (w : WellView) → Draws 5 1 false (journal []) (journal (first_drawn ∷ [])) w (after w) None (Some short)
+draws_one : (w : WellView) → DrawsStrokes 5 1 false (journal []) (journal (first_drawn ∷ [])) w (after w) None (Some short)
 draws_one w = record {
   all = full ∷ short ∷ [];
   pops = record { popped = full ∷ short ∷ []; received = refl; all_is = refl };
@@ -90,10 +90,10 @@ to_leave = refl
 abbrev one_missing : (wait : ℕ) → Entry
 one_missing wait = hears 0 7 (Data (drawop_of 1 2 (7 ∷ []))) (ask_arm 1 0 wait ∷ [])
 
-abbrev before_it : Recorded (List ℕ)
+abbrev before_it : RecorderView (List ℕ)
 before_it = record { journal = journal []; words = 5 ∷ 9 ∷ [] }
 
-abbrev behind_it : (wait : ℕ) → List ℕ → Recorded (List ℕ)
+abbrev behind_it : (wait : ℕ) → List ℕ → RecorderView (List ℕ)
 behind_it wait words = record { journal = journal (first_drawn ∷ one_missing wait ∷ []); words = words }
 
 waits_by_one_word : WaitsByWords draw_listed before_it (behind_it 200005 (9 ∷ []))
@@ -116,6 +116,6 @@ told_2 = record { entries = asked ∷ []; grown = refl; made = (inr (2, record {
 not_told_2 : IsMadeAt (IsTold (stands_at 2)) (journal []) first_drawn → ⊥
 not_told_2 (inl is) = cc
 not_told_2 (inr (now, told, at)) =
-    let is : now ≡ 2 = told.counts ∙ ap (λ n. min n MOMENT) told.tells in
+    let is : now ≡ 2 = told.counts ∙ ap (λ n. min n LATEST_MOMENT) told.tells in
     let same : 5 ≡ moment_that_counts (Some 2) 3 = at ∙ ap (λ n. moment_that_counts (Some n) 3) is in
     cc

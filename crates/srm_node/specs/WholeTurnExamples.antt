@@ -22,8 +22,8 @@ use Rattle.srm_entries.specs.declared.state.AgentState.TheVariants.{Active}
 use Rattle.srm_entries.specs.Entries.{state, is_missing}
 use Rattle.srm_entries.specs.Timers.{fix_running}
 use Rattle.srm_entries.specs.Giving.{given, MessageRight}
-use Rattle.srm_entries.specs.Bucket.{Going, GoesRight, classed, bucket_calls}
-use Rattle.srm_entries.specs.Runs.{EntryRight, MomentRight, state_due}
+use Rattle.srm_entries.specs.Bucket.{Going, GoesAsCharged, classed, bucket_calls}
+use Rattle.srm_entries.specs.Runs.{EntryRight, MomentRight, expected_state}
 use Rattle.srm_entries.specs.Sample.{idle}
 use Rattle.srm_entries.proofs.Plain.{one, config, plain, idle_right, one_spelled, right, one_held, none_missing_in, missing_none, one_of, one_goes}
 use Rattle.srm_outbox.specs.declared.out.Out.{Out}
@@ -50,7 +50,7 @@ at_each P (x ∷ xs) h (suc k) f at_f = at_each (λ i g. P (suc i) g) xs h.1 k f
 -- A NEW NODE
 
 abbrev pub feed : ℕ → List PageMsg → LaneId → FeedView
-feed slot put lane = record { put = put; seen = 0; lost = false; slot = slot; lane = lane; board = lane.stamps }
+feed slot put lane = record { put = put; seen = 0; disconnected = false; slot = slot; lane = lane; board = lane.stamps }
 
 -- eight feeds, of which the first one put these
 abbrev pub feeds : List PageMsg → LaneId → List FeedView
@@ -66,7 +66,7 @@ before lane well = record { journal = journal []; feeds = feeds [] lane; well = 
 pub new_feeds : (lane : LaneId) → AreNewFeeds (feeds [] lane)
 new_feeds lane = record {
   slots = refl;
-  each = at_each (λ slot f. (f.put ≡ []) × (f.lost ≡ false)) (feeds [] lane) ((refl, refl), ((refl, refl), ((refl, refl), ((refl, refl), ((refl, refl), ((refl, refl), ((refl, refl), ((refl, refl), tt))))))));
+  each = at_each (λ slot f. (f.put ≡ []) × (f.disconnected ≡ false)) (feeds [] lane) ((refl, refl), ((refl, refl), ((refl, refl), ((refl, refl), ((refl, refl), ((refl, refl), ((refl, refl), ((refl, refl), tt))))))));
 }
 
 -- feeds of which one has put something aren't new
@@ -131,7 +131,7 @@ missing_drawn n = none_missing_in (draws ∷ []) one_held (λ n e. ap (λ b. gre
 
 -- a give that the entries before it allow
 gives_right : (past : List Entry) (slot : ℕ) (message : Option PageMsg) → ((n : FullName) → is_missing past n ≡ false) → ((n : FullName) → is_missing (past ++ gives slot message ∷ []) n ≡ false)
-    → ((n : FullName) → fix_running past n ≡ None) → MomentRight (config 0) 0 past (gives slot message) → MessageRight (config 0) past (Gave slot) message → Active ≡ state_due (state past) false (Some (Gave slot))
+    → ((n : FullName) → fix_running past n ≡ None) → MomentRight (config 0) 0 past (gives slot message) → MessageRight (config 0) past (Gave slot) message → Active ≡ expected_state (state past) false (Some (Gave slot))
     → EntryRight (config 0) 0 (record { before = past; this = gives slot message })
 gives_right past slot message here next fix moment given after = right (config 0) 0 past 0 1 (Gave slot) None [] message Active here next (λ n. refl) fix refl moment refl refl tt tt tt refl given after
 
@@ -193,7 +193,7 @@ goings = idle draws ∷ record { entry = sends; goes = one_data ∷ [] } ∷ map
 law : BucketLaw 8000 4204 (bucket_calls 0 goings)
 law = one_goes 8000 4204 1 New one_data.item (lit≤ tt, lit≤ tt, tt) (lit≤ tt, lit≤ tt, tt)
 
-goings_right : AllByRecursion GoesRight (steps goings)
+goings_right : AllByRecursion GoesAsCharged (steps goings)
 goings_right = (idle_right refl, (record { same = refl; at_ticks = tt }, (idle_right refl, (idle_right refl, (idle_right refl, (idle_right refl, (idle_right refl, (idle_right refl, (idle_right refl, (idle_right refl, (idle_right refl, (idle_right refl, tt))))))))))))
 
 pub lawful : IsLawfulJournal (journal entries)

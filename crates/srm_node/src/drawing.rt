@@ -1,13 +1,13 @@
 //! Drawing what the pens sent.
 
 ghost use Rattle.std.specs.Prelude.{◌≡◌, ◌≤◌, true, is_none, option_to_list, MatchResult};
-ghost use Rattle.srm_names.specs.declared.limits.TheConstants.{MOMENT};
+ghost use Rattle.srm_names.specs.declared.limits.TheConstants.{LATEST_MOMENT};
 ghost use Rattle.srm_world.specs.Claims.{IsLawfulJournal};
-ghost use Rattle.srm_node.specs.Parts.{Pops, once, IsAdmitted, DrawsOne, DrewStrokes, DrewStrokesCut};
+ghost use Rattle.srm_node.specs.Parts.{PopsStrokes, once, IsAdmitted, DrawsOne, DrewStrokes, DrewStrokesCut};
 ghost use Rattle.srm_node.specs.Waits.{WaitsByWords};
 
 use crate::fault::{OutOfMemory, is_memory};
-use crate::limits::DRAWN;
+use crate::limits::STROKES_A_TURN;
 use srm_agent::Entry;
 use srm_pages::Stroke;
 use srm_pages::ends::Well;
@@ -40,7 +40,7 @@ pub fn draw_strokes<R: Wait, W: Words + Drop, P: Past<Entry> + Drop>(
     hand: Option<Stroke>,
     now: u64,
 ) -> (Option<Stroke>, Result<Drawn, OutOfMemory>)
-    requires moment { now ≤ MOMENT }
+    requires moment { now ≤ LATEST_MOMENT }
     requires lawful { IsLawfulJournal recorder.old.journal }
     ensures lawful { IsLawfulJournal recorder.new.journal }
     ensures words { WaitsByWords W.draw recorder.old recorder.new }
@@ -48,7 +48,7 @@ pub fn draw_strokes<R: Wait, W: Words + Drop, P: Past<Entry> + Drop>(
         (λ _. DrewStrokesCut now recorder.old.journal recorder.new.journal well.old well.new hand result.0) }
 {
     let mut kept = hand;
-    for count in 0..DRAWN {
+    for count in 0..STROKES_A_TURN {
         let Some(stroke) = next_stroke(rt, well, kept) else {
             return (None, Ok(Drawn::new(count, true)));
         };
@@ -60,12 +60,12 @@ pub fn draw_strokes<R: Wait, W: Words + Drop, P: Past<Entry> + Drop>(
         };
         kept = None;
     }
-    (None, Ok(Drawn::new(DRAWN, false)))
+    (None, Ok(Drawn::new(STROKES_A_TURN, false)))
 }
 
 // The stroke in hand, if there is one, else the front one of the well. None where the well had none.
 fn next_stroke<R: Wait>(rt: &R, well: &mut Well, hand: Option<Stroke>) -> Option<Stroke>
-    ensures { Pops (once (is_none result)) well.old well.new (option_to_list hand) (option_to_list result) }
+    ensures { PopsStrokes (once (is_none result)) well.old well.new (option_to_list hand) (option_to_list result) }
 {
     match hand {
         Some(stroke) => Some(stroke),
@@ -90,7 +90,7 @@ fn draw_stroke<W: Words + Drop, P: Past<Entry> + Drop>(
     stroke: &Stroke,
     now: u64,
 ) -> Result<(), OutOfMemory>
-    requires moment { now ≤ MOMENT }
+    requires moment { now ≤ LATEST_MOMENT }
     requires lawful { IsLawfulJournal recorder.old.journal }
     requires admitted { IsAdmitted now recorder.old.journal stroke.now true }
     ensures lawful { IsLawfulJournal recorder.new.journal }

@@ -4,7 +4,7 @@ ghost use Rattle.std.specs.Prelude.{◌≡◌, ◌&&◌, false, map, replicate, 
 ghost use Rattle.std.specs.List.{list_all};
 ghost use Rattle.srm_names.specs.declared.limits.TheConstants.{PAGES};
 ghost use Rattle.srm_entries.specs.Entries.{is_gone};
-ghost use Rattle.srm_node.specs.Nodes.{has_closed, is_done};
+ghost use Rattle.srm_node.specs.Nodes.{has_closed, has_nothing_more};
 
 use srm_agent::AgentState;
 use srm_names::PAGES;
@@ -21,7 +21,7 @@ pub fn none_closed(alloc: Global) -> Result<Vec<bool>, AllocError>
 /// Whether a member in this state is gone, and nothing more comes of any of these feeds.
 pub fn is_ended(after: AgentState, feeds: &[Feed], closed: &[bool]) -> bool
     requires { closed.now ≡ map has_closed feeds.now }
-    ensures { result ≡ (is_gone after && list_all is_done feeds.now) }
+    ensures { result ≡ (is_gone after && list_all has_nothing_more feeds.now) }
 {
     let gone = is_gone(after);
     gone & are_done(feeds, closed)
@@ -36,7 +36,7 @@ fn is_gone(after: AgentState) -> bool
 // Whether each feed is lost, or put its close.
 fn are_done(feeds: &[Feed], closed: &[bool]) -> bool
     requires { closed.now ≡ map has_closed feeds.now }
-    ensures { result ≡ list_all is_done feeds.now }
+    ensures { result ≡ list_all has_nothing_more feeds.now }
 {
     for slot in 0..feeds.len() {
         if !is_done(&feeds[slot], closed[slot]) {
@@ -48,7 +48,7 @@ fn are_done(feeds: &[Feed], closed: &[bool]) -> bool
 
 fn is_done(feed: &Feed, closed: bool) -> bool
     requires { closed ≡ has_closed feed.now }
-    ensures { result ≡ is_done feed.now }
+    ensures { result ≡ has_nothing_more feed.now }
 {
-    feed.is_lost() | closed
+    feed.is_disconnected() | closed
 }

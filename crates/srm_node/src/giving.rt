@@ -64,7 +64,7 @@ fn give_slot<R: Wait, W: Words + Drop, P: Past<Entry> + Drop>(
         (λ _. Gives slot false recorder.old.journal recorder.new.journal feed.old feed.new) }
 {
     for _ in rt.forever() {
-        if feed.is_lost() {
+        if feed.is_disconnected() {
             return Ok(());
         }
         if feed.credit() == 0 {
@@ -90,7 +90,7 @@ fn give_next<R: Wait, W: Words + Drop, P: Past<Entry> + Drop>(
 ) -> Result<bool, OutOfMemory>
     requires lawful { IsLawfulJournal recorder.old.journal }
     requires slot { slot < PAGES }
-    requires stands { feed.old.lost ≡ false }
+    requires stands { feed.old.disconnected ≡ false }
     requires credit { 0 < credit_of feed.old }
     requires carries { Carries (given recorder.old.journal.entries slot) feed.old }
     requires closed { closed.old ≡ has_closed feed.old }

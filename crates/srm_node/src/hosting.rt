@@ -3,10 +3,10 @@
 ghost use Rattle.std.specs.Prelude.{◌≡◌, ◌+◌, ◌<◌, ◌≤◌, Bool, true, [], ◌∷◌, ◌++◌, map, length, vec_len, vec_capacity, IfOk, IfSome, MatchResult};
 ghost use Rattle.std.specs.Bool.{OnTrue, OnFalse};
 ghost use Rattle.srm_names.specs.declared.limits.TheConstants.{PAGES};
-ghost use Rattle.srm_node.specs.Nodes.{Keeps};
+ghost use Rattle.srm_node.specs.Nodes.{NodeKeepsLists};
 ghost use Rattle.srm_node.specs.Turns.{RunsToEnd};
 ghost use Rattle.srm_node.specs.Working.{WorkedFrom};
-ghost use Rattle.srm_node.specs.Hosting.{started, Starts, StartsSome, StopsBy, WorkedEach, Hosts, HostFails, AreEndsOfLanes};
+ghost use Rattle.srm_node.specs.Hosting.{tap_of_worker, Starts, StartsSome, StopsBy, WorkedEach, Hosts, HostFails, AreEndsOfLanes};
 
 use crate::fault::NodeFault;
 use crate::node::Node;
@@ -114,7 +114,7 @@ fn go<
 ) -> Hosted<P, L>
     requires room { vec_len worked + length workers.items ≤ vec_capacity worked }
     requires none { worked.items ≡ [] }
-    ensures { MatchResult result.end (λ _. (all ≡ true) × Hosts L.entries node.view (map started workers.items) turns result) (λ fault. HostFails L.entries all node.view (map started workers.items) turns fault result) }
+    ensures { MatchResult result.end (λ _. (all ≡ true) × Hosts L.entries node.view (map tap_of_worker workers.items) turns result) (λ fault. HostFails L.entries all node.view (map tap_of_worker workers.items) turns fault result) }
 {
     let mut node = node;
     let end = run_if(rt, &mut node, all, turns);
@@ -146,7 +146,7 @@ fn begin<
     requires none { (workers.old.items ≡ []) × (worked.old.items ≡ []) }
     ensures room { vec_len worked.new + length workers.new.items ≤ vec_capacity worked.new }
     ensures none { worked.new.items ≡ [] }
-    ensures all { OnTrue result (map started workers.new.items ≡ taps.items) }
+    ensures all { OnTrue result (map tap_of_worker workers.new.items ≡ taps.items) }
     ensures some { StartsSome taps.items workers.new.items }
 {
     let mut taps = VecDeque::from(taps);
@@ -161,7 +161,7 @@ fn run_if<R: Wait, W: Words + Drop, X: Wire + Drop, C: Clock + Drop, P: Past<Ent
     all: bool,
     turns: u64,
 ) -> Result<(), NodeFault>
-    ensures { MatchResult result (λ _. (all ≡ true) × Keeps node.new.view × RunsToEnd turns node.old.view node.new.view) (λ fault. StopsBy all fault turns node.old.view node.new.view) }
+    ensures { MatchResult result (λ _. (all ≡ true) × NodeKeepsLists node.new.view × RunsToEnd turns node.old.view node.new.view) (λ fault. StopsBy all fault turns node.old.view node.new.view) }
 {
     if !all {
         return Err(NodeFault::Memory);
@@ -194,7 +194,7 @@ fn start_all<
     requires none { (workers.old.items ≡ []) × (worked.old.items ≡ []) }
     ensures room { vec_len worked.new + length workers.new.items ≤ vec_capacity worked.new }
     ensures none { worked.new.items ≡ [] }
-    ensures all { OnTrue result (map started workers.new.items ≡ taps.old.items) }
+    ensures all { OnTrue result (map tap_of_worker workers.new.items ≡ taps.old.items) }
     ensures some { StartsSome taps.old.items workers.new.items }
 {
     for done in 0..PAGES {
@@ -222,7 +222,7 @@ fn start_next<
     ensures room { vec_len worked.new + length workers.new.items ≤ vec_capacity worked.new }
     ensures none { worked.new.items ≡ worked.old.items }
     ensures next { OnTrue result (Starts taps.old.items taps.new.items workers.old.items workers.new.items) }
-    ensures same { OnFalse result (map started workers.new.items ≡ map started workers.old.items) }
+    ensures same { OnFalse result (map tap_of_worker workers.new.items ≡ map tap_of_worker workers.old.items) }
 {
     let Some(tap) = taps.pop_front() else {
         return false;
@@ -249,8 +249,8 @@ fn start_one<
     requires room { vec_len worked.old + length workers.old.items ≤ vec_capacity worked.old }
     ensures room { vec_len worked.new + length workers.new.items ≤ vec_capacity worked.new }
     ensures none { worked.new.items ≡ worked.old.items }
-    ensures one { OnTrue result (map started workers.new.items ≡ map started workers.old.items ++ tap ∷ []) }
-    ensures same { OnFalse result (map started workers.new.items ≡ map started workers.old.items) }
+    ensures one { OnTrue result (map tap_of_worker workers.new.items ≡ map tap_of_worker workers.old.items ++ tap ∷ []) }
+    ensures same { OnFalse result (map tap_of_worker workers.new.items ≡ map tap_of_worker workers.old.items) }
 {
     if workers.reserve(1).is_err() {
         return false;
@@ -270,7 +270,7 @@ fn start<
     S: PageSink + Send + Drop + 'static,
     L: Past<PageMsg> + Send + Drop + 'static,
 >(rt: &R, alloc: Global, tap: Tap, sink: S) -> Option<Worker<L>>
-    ensures { IfSome result (λ w. started w ≡ tap) }
+    ensures { IfSome result (λ w. tap_of_worker w ≡ tap) }
 {
     let own = *rt;
     let promise = WorksOn(Snapshot::of(&tap));
@@ -292,7 +292,7 @@ fn join_all<R: Threads, L: Past<PageMsg> + Drop>(
 ) -> Vec<Worked<L>>
     requires room { vec_len worked + length workers.items ≤ vec_capacity worked }
     requires none { worked.items ≡ [] }
-    ensures { WorkedEach L.entries (map started workers.items) result.items }
+    ensures { WorkedEach L.entries (map tap_of_worker workers.items) result.items }
 {
     let mut left = workers;
     let mut worked = worked;
@@ -307,7 +307,7 @@ fn join_all<R: Threads, L: Past<PageMsg> + Drop>(
 }
 
 fn join_one<R: Threads, L: Past<PageMsg> + Drop>(rt: &R, worker: Worker<L>) -> Worked<L>
-    ensures { WorkedFrom L.entries (started worker) result }
+    ensures { WorkedFrom L.entries (tap_of_worker worker) result }
 {
     let Worker { handle } = worker;
     handle.join(rt)

@@ -1,14 +1,14 @@
 //! Hearing what came.
 
 ghost use Rattle.std.specs.Prelude.{◌≡◌, ◌≤◌, true, false, [], length, MatchResult};
-ghost use Rattle.srm_names.specs.declared.limits.TheConstants.{MOMENT};
+ghost use Rattle.srm_names.specs.declared.limits.TheConstants.{LATEST_MOMENT};
 ghost use Rattle.srm_world.specs.Claims.{IsLawfulJournal};
 ghost use Rattle.srm_wire.specs.Wires.{CountsIf};
 ghost use Rattle.srm_node.specs.Parts.{Listened, ListenedCut};
 ghost use Rattle.srm_node.specs.Waits.{WaitsByWords};
 
 use crate::fault::OutOfMemory;
-use crate::limits::RECEIVED;
+use crate::limits::DATAGRAMS_A_TURN;
 use srm_agent::Entry;
 use srm_timers::Words;
 use srm_wire::Wire;
@@ -29,7 +29,7 @@ pub fn listen<W: Words + Drop, P: Past<Entry> + Drop, X: Wire>(
     buffer: &mut [u8],
     now: u64,
 ) -> Result<Listening, OutOfMemory>
-    requires moment { now ≤ MOMENT }
+    requires moment { now ≤ LATEST_MOMENT }
     requires lawful { IsLawfulJournal recorder.old.journal }
     ensures lawful { IsLawfulJournal recorder.new.journal }
     ensures words { WaitsByWords W.draw recorder.old recorder.new }
@@ -37,7 +37,7 @@ pub fn listen<W: Words + Drop, P: Past<Entry> + Drop, X: Wire>(
     ensures hears { MatchResult result (λ heard. Listened now heard.failed recorder.old.journal recorder.new.journal (X.told wire.old) (X.told wire.new))
         (λ _. ListenedCut now recorder.old.journal recorder.new.journal (X.told wire.old) (X.told wire.new)) }
 {
-    for count in 0..RECEIVED {
+    for count in 0..DATAGRAMS_A_TURN {
         match wire.receive(buffer) {
             Err(_) => return Ok(Listening {
                 count,
@@ -55,7 +55,7 @@ pub fn listen<W: Words + Drop, P: Past<Entry> + Drop, X: Wire>(
         }
     }
     Ok(Listening {
-        count: RECEIVED,
+        count: DATAGRAMS_A_TURN,
         failed: false,
     })
 }

@@ -1,10 +1,10 @@
 //! A member that takes part in a session.
 
 ghost use Rattle.std.specs.Prelude.{◌≡◌, ◌≤◌, true, false, [], Some, None, IfOk, MatchResult};
-ghost use Rattle.srm_names.specs.declared.limits.TheConstants.{MOMENT, PAGES};
+ghost use Rattle.srm_names.specs.declared.limits.TheConstants.{LATEST_MOMENT, PAGES};
 ghost use Rattle.srm_bucket.specs.Admitting.{is_from};
 ghost use Rattle.srm_node.specs.Counting.{counts_of};
-ghost use Rattle.srm_node.specs.Nodes.{Keeps, AreNewFeeds, IsNewJournal, IsNewNode, has_ended, recorded_in};
+ghost use Rattle.srm_node.specs.Nodes.{NodeKeepsLists, AreNewFeeds, IsNewJournal, IsNewNode, has_ended, recorded_in};
 ghost use Rattle.srm_node.specs.Parts.{still_asked};
 ghost use Rattle.srm_node.specs.Waits.{WaitsByWords};
 ghost use Rattle.srm_node.specs.Moments.{IsTold, GrowsAtTold};
@@ -15,7 +15,7 @@ use crate::drawing::draw_strokes;
 use crate::ending::is_ended;
 use crate::fault::{NodeFault, OutOfMemory};
 use crate::giving::give_all;
-use crate::limits::{DRAWN, RECEIVED};
+use crate::limits::{DATAGRAMS_A_TURN, STROKES_A_TURN};
 use crate::listening::listen;
 use crate::pausing::time_to_wait;
 use crate::sending::send_all;
@@ -23,7 +23,7 @@ use crate::spare::{Spare, make_spare};
 use crate::ticking::{leave, tick};
 use srm_agent::{Config, Entry};
 use srm_deadlines::lesser;
-use srm_names::MOMENT;
+use srm_names::LATEST_MOMENT;
 use srm_pages::ends::Well;
 use srm_pages::{Feed, Stroke};
 use srm_timers::Words;
@@ -165,7 +165,7 @@ impl<W: Words + Drop, X: Wire + Drop, C: Clock + Drop, P: Past<Entry> + Drop> No
         ensures clock { IfOk result (λ node. node.clock ≡ clock) }
         ensures made { IfOk result (λ node. IsTold (C.tells clock) node.view.journal.start.made) }
     {
-        let now = clock.now().min(MOMENT);
+        let now = clock.now().min(LATEST_MOMENT);
         let recorder = Recorder::with_past(alloc, config, words, now, past)?;
         Node::over(alloc, config, recorder, wire, clock, feeds, well)
     }
@@ -201,8 +201,8 @@ impl<W: Words + Drop, X: Wire + Drop, C: Clock + Drop, P: Past<Entry> + Drop> No
             asked: None,
             closed,
             // As after a full turn: the first one comes at once.
-            heard: RECEIVED,
-            drawn: DRAWN,
+            heard: DATAGRAMS_A_TURN,
+            drawn: STROKES_A_TURN,
         })
     }
 
@@ -222,13 +222,13 @@ impl<W: Words + Drop, X: Wire + Drop, C: Clock + Drop, P: Past<Entry> + Drop> No
     /// fault 2 it was cut in one of its parts, and the parts before were done: a stroke in hand is kept for the next turn, a datagram in
     /// hand counts as lost. Fault 2 is the answer too where fault 1 would have come in that turn.
     pub fn turn<R: Wait>(&mut self, rt: &R) -> Result<(), NodeFault>
-        ensures keeps { Keeps self.new.view }
+        ensures keeps { NodeKeepsLists self.new.view }
         ensures turns { TurnEnds result self.old.view self.new.view }
         ensures moments { GrowsAtTold (C.tells self.old.clock) self.old.view self.new.view }
         ensures words { WaitsByWords W.draw (recorded_in self.old) (recorded_in self.new) }
         ensures clock { self.new.clock ≡ self.old.clock }
     {
-        let now = self.clock.now().min(MOMENT);
+        let now = self.clock.now().min(LATEST_MOMENT);
         let unheard = self.listen_now(now)?;
         let done = self.well.is_done();
         let none_left = self.draw_now(rt, now)?;
@@ -252,7 +252,7 @@ impl<W: Words + Drop, X: Wire + Drop, C: Clock + Drop, P: Past<Entry> + Drop> No
     pub fn finish(self) -> (Journal<P>, Vec<Feed>)
         ensures journal { result.0 ≡ self.view.journal }
         ensures feeds { result.1.items ≡ self.view.feeds }
-        ensures keeps { Keeps self.view }
+        ensures keeps { NodeKeepsLists self.view }
     {
         (self.recorder.finish(), self.feeds)
     }
@@ -262,7 +262,7 @@ impl<W: Words + Drop, X: Wire + Drop, C: Clock + Drop, P: Past<Entry> + Drop> No
     /// least 1,000, and after one that heard or drew 64 there is none. It stops at the first fault, and may be called again. Fault 3:
     /// the turns are spent.
     pub fn run<R: Wait>(&mut self, rt: &R, turns: u64) -> Result<(), NodeFault>
-        ensures keeps { Keeps self.new.view }
+        ensures keeps { NodeKeepsLists self.new.view }
         ensures runs { RunEnds result turns self.old.view self.new.view }
         ensures moments { GrowsAtTold (C.tells self.old.clock) self.old.view self.new.view }
         ensures words { WaitsByWords W.draw (recorded_in self.old) (recorded_in self.new) }
@@ -296,12 +296,12 @@ impl<W: Words + Drop, X: Wire + Drop, C: Clock + Drop, P: Past<Entry> + Drop> No
 
     // Waits until something is due or the stroke in hand may go, but not long.
     fn pause(&mut self)
-        ensures keeps { Keeps self.new.view }
+        ensures keeps { NodeKeepsLists self.new.view }
         ensures paused { Paused self.old.view self.new.view }
         ensures words { self.new.words ≡ self.old.words }
         ensures clock { self.new.clock ≡ self.old.clock }
     {
-        let now = self.clock.now().min(MOMENT);
+        let now = self.clock.now().min(LATEST_MOMENT);
         let due = lesser(self.recorder.next_due(), self.hand_due());
         let micros = time_to_wait(self.heard, self.drawn, due, now);
         self.wire.pause(micros);
@@ -317,8 +317,8 @@ impl<W: Words + Drop, X: Wire + Drop, C: Clock + Drop, P: Past<Entry> + Drop> No
 
     // Hears what came. Whether a call failed.
     fn listen_now(&mut self, now: u64) -> Result<bool, OutOfMemory>
-        requires { now ≤ MOMENT }
-        ensures keeps { Keeps self.new.view }
+        requires { now ≤ LATEST_MOMENT }
+        ensures keeps { NodeKeepsLists self.new.view }
         ensures hears { MatchResult result (λ unheard. HearsNow now unheard self.old.view self.new.view) (λ _. HearsCut now self.old.view self.new.view) }
         ensures words { WaitsByWords W.draw (recorded_in self.old) (recorded_in self.new) }
         ensures clock { self.new.clock ≡ self.old.clock }
@@ -338,8 +338,8 @@ impl<W: Words + Drop, X: Wire + Drop, C: Clock + Drop, P: Past<Entry> + Drop> No
 
     // Draws strokes, as far as the rate lets them go. Whether none is left.
     fn draw_now<R: Wait>(&mut self, rt: &R, now: u64) -> Result<bool, OutOfMemory>
-        requires { now ≤ MOMENT }
-        ensures keeps { Keeps self.new.view }
+        requires { now ≤ LATEST_MOMENT }
+        ensures keeps { NodeKeepsLists self.new.view }
         ensures draws { MatchResult result (λ none_left. DrawsNow now none_left self.old.view self.new.view) (λ _. DrawsCut now self.old.view self.new.view) }
         ensures words { WaitsByWords W.draw (recorded_in self.old) (recorded_in self.new) }
         ensures clock { self.new.clock ≡ self.old.clock }
@@ -356,8 +356,8 @@ impl<W: Words + Drop, X: Wire + Drop, C: Clock + Drop, P: Past<Entry> + Drop> No
 
     // Leaves if the node was asked to by now, its pens are done, and no stroke is left.
     fn leave_now(&mut self, done: bool, none_left: bool, now: u64) -> Result<(), OutOfMemory>
-        requires { now ≤ MOMENT }
-        ensures keeps { Keeps self.new.view }
+        requires { now ≤ LATEST_MOMENT }
+        ensures keeps { NodeKeepsLists self.new.view }
         ensures leaves { MatchResult result (λ _. LeavesNow now none_left self.old.view self.new.view) (λ _. self.new.view ≡ self.old.view) }
         ensures words { WaitsByWords W.draw (recorded_in self.old) (recorded_in self.new) }
         ensures clock { self.new.clock ≡ self.old.clock }
@@ -371,8 +371,8 @@ impl<W: Words + Drop, X: Wire + Drop, C: Clock + Drop, P: Past<Entry> + Drop> No
 
     // Ticks once, and sends. Whether a call failed.
     fn tick_now(&mut self, now: u64) -> Result<bool, OutOfMemory>
-        requires { now ≤ MOMENT }
-        ensures keeps { Keeps self.new.view }
+        requires { now ≤ LATEST_MOMENT }
+        ensures keeps { NodeKeepsLists self.new.view }
         ensures ticks { MatchResult result (λ unsent. TicksNow now unsent self.old.view self.new.view) (λ _. self.new.view ≡ self.old.view) }
         ensures words { WaitsByWords W.draw (recorded_in self.old) (recorded_in self.new) }
         ensures clock { self.new.clock ≡ self.old.clock }
@@ -390,7 +390,7 @@ impl<W: Words + Drop, X: Wire + Drop, C: Clock + Drop, P: Past<Entry> + Drop> No
 
     // Gives all slots messages.
     fn give_now<R: Wait>(&mut self, rt: &R) -> Result<(), OutOfMemory>
-        ensures keeps { Keeps self.new.view }
+        ensures keeps { NodeKeepsLists self.new.view }
         ensures gives { MatchResult result (λ _. GivesNow PAGES self.old.view self.new.view) (λ _. GivesCut self.old.view self.new.view) }
         ensures words { WaitsByWords W.draw (recorded_in self.old) (recorded_in self.new) }
         ensures clock { self.new.clock ≡ self.old.clock }

@@ -1,6 +1,6 @@
 //! How long a node pauses between two turns.
 
-use crate::limits::{DRAWN, RECEIVED};
+use crate::limits::{DATAGRAMS_A_TURN, STROKES_A_TURN};
 
 // The longest pause, in microseconds.
 const LONGEST: u64 = 10_000;
@@ -12,7 +12,7 @@ const SHORTEST: u64 = 1_000;
 /// How long to pause at a moment after a turn that heard and drew so many, in microseconds: until something is due, at most 10,000. Not at
 /// all after a full turn, since more may be there; and at least 1,000 after one that neither heard nor drew anything.
 pub fn time_to_wait(heard: u8, drawn: u8, due: Option<u64>, now: u64) -> u64 {
-    if heard == RECEIVED || drawn == DRAWN {
+    if heard == DATAGRAMS_A_TURN || drawn == STROKES_A_TURN {
         return 0;
     }
     let until_due = match due {

@@ -1,7 +1,7 @@
 //! One tick.
 
 ghost use Rattle.std.specs.Prelude.{◌≡◌, ◌≤◌, MatchResult};
-ghost use Rattle.srm_names.specs.declared.limits.TheConstants.{MOMENT};
+ghost use Rattle.srm_names.specs.declared.limits.TheConstants.{LATEST_MOMENT};
 ghost use Rattle.srm_world.specs.Claims.{IsLawfulJournal};
 ghost use Rattle.srm_node.specs.Parts.{Leaves, Ticks};
 ghost use Rattle.srm_node.specs.Waits.{WaitsByWords};
@@ -16,7 +16,7 @@ pub fn tick<W: Words + Drop, P: Past<Entry> + Drop>(
     recorder: &mut Recorder<W, P>,
     now: u64,
 ) -> Result<Ticked, OutOfMemory>
-    requires { now ≤ MOMENT }
+    requires { now ≤ LATEST_MOMENT }
     ensures lawful { IsLawfulJournal recorder.new.journal }
     ensures words { WaitsByWords W.draw recorder.old recorder.new }
     ensures ticks { MatchResult result (λ ticked. Ticks now ticked.outs recorder.old.journal recorder.new.journal) (λ _. recorder.new.journal ≡ recorder.old.journal) }
@@ -33,7 +33,7 @@ pub fn leave<W: Words + Drop, P: Past<Entry> + Drop>(
     leaves: bool,
     now: u64,
 ) -> Result<(), OutOfMemory>
-    requires moment { now ≤ MOMENT }
+    requires moment { now ≤ LATEST_MOMENT }
     requires lawful { IsLawfulJournal recorder.old.journal }
     ensures lawful { IsLawfulJournal recorder.new.journal }
     ensures words { WaitsByWords W.draw recorder.old recorder.new }

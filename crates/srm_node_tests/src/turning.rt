@@ -5,7 +5,7 @@ use crate::seen::Seen;
 use crate::steps::Step;
 use crate::tales::Tale;
 use srm_agent::Verdict;
-use srm_names::MOMENT;
+use srm_names::LATEST_MOMENT;
 
 // The first slot gives its page and then nothing, and each other slot nothing.
 #[test]
@@ -71,7 +71,7 @@ fn a_stroke_that_is_too_long_is_dropped(rt: HostRuntime) {
 #[test]
 fn the_clock_counts_up_to_the_greatest_moment(rt: HostRuntime) {
     let steps = [Step::At(u64::MAX), Step::Turn(Ok(()))];
-    let first = Tale::First(MOMENT, Verdict::Done);
+    let first = Tale::First(LATEST_MOMENT, Verdict::Done);
     play_alone(rt, rt.alloc(), &steps, &[first]);
 }
 

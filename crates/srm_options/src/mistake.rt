@@ -1,7 +1,7 @@
 //! What is wrong in a command line that has all its options.
 
 use srm_names::MEMBERS;
-use srm_timers::TIMER_SETTING;
+use srm_timers::GREATEST_TIMER_SETTING;
 use thiserror::Error;
 
 /// What is wrong in a command line that has all its options.
@@ -13,7 +13,7 @@ pub enum Mistake<'a> {
     TooMany,
     #[error("'--me <M>' is no place in the list of addresses, the first of which has the place 0")]
     NoPlace,
-    #[error("invalid value '{0}' for '--waits <c1,c2,d1,d2>': that isn't four numbers from 0 to {TIMER_SETTING} with commas between")]
+    #[error("invalid value '{0}' for '--waits <c1,c2,d1,d2>': that isn't four numbers from 0 to {GREATEST_TIMER_SETTING} with commas between")]
     Waits(&'a str),
     #[error("an option is missing or out of its range")]
     Range,

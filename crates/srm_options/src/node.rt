@@ -11,8 +11,8 @@ use clap::error::ErrorKind;
 use clap::{Arg, ArgAction, ArgMatches, Command, value_parser};
 use srm_bucket::{GREATEST_DEPTH, GREATEST_RATE, LEAST_DEPTH, LEAST_RATE};
 use srm_entries::{Config, Settings};
-use srm_names::{MEMBERS, MOMENT, Member};
-use srm_timers::TIMER_SETTING;
+use srm_names::{LATEST_MOMENT, MEMBERS, Member};
+use srm_timers::GREATEST_TIMER_SETTING;
 use std::alloc::{AllocError, Global};
 use std::net::{SocketAddr, SocketAddrV4};
 
@@ -91,7 +91,7 @@ fn with_limits<'a>(alloc: Global, command: Command<'a>) -> Result<Command<'a>, A
         "U",
         "leaves after so many microseconds, at most 2^48; else 5000000; with --live, so long after the end of input",
     )
-    .value_parser(value_parser!(u64).range(..=MOMENT as i64));
+    .value_parser(value_parser!(u64).range(..=LATEST_MOMENT as i64));
     let turns = option(
         alloc,
         "turns",
@@ -214,7 +214,7 @@ fn waits_in(text: &str) -> Option<[u8; 4]> {
 /// A number of distances, in decimal.
 fn wait_in(text: &str) -> Option<u8> {
     let wait = text.parse::<u8>().ok()?;
-    if wait <= TIMER_SETTING {
+    if wait <= GREATEST_TIMER_SETTING {
         Some(wait)
     } else {
         None

@@ -4,7 +4,7 @@ ghost use Rattle.std.specs.Prelude.{◌↔◌, IsTrue};
 ghost use Rattle.srm_options.specs.Options.{IsInRange};
 
 use srm_entries::Config;
-use srm_names::MOMENT;
+use srm_names::LATEST_MOMENT;
 use std::net::SocketAddr;
 
 /// What a command line of `srm node` says.
@@ -29,6 +29,6 @@ impl NodeOptions {
     pub fn is_in_range(&self) -> bool
         ensures { IsTrue result ↔ IsInRange self.now }
     {
-        self.addresses.len() == usize::from(self.config.members()) && self.stay <= MOMENT
+        self.addresses.len() == usize::from(self.config.members()) && self.stay <= LATEST_MOMENT
     }
 }

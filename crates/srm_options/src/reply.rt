@@ -9,7 +9,7 @@ use std::fmt;
 #[derive(Debug, Drop)]
 pub enum Reply {
     /// The help or the version, that it asks for.
-    Shown(Text),
+    Help(Text),
     /// What is wrong in it.
     Wrong(Text),
     /// Memory ran out.
@@ -30,7 +30,7 @@ impl From<Error> for Reply {
     fn from(error: Error) -> Reply {
         match error.kind() {
             ErrorKind::OutOfMemory => Reply::Memory,
-            ErrorKind::DisplayHelp | ErrorKind::DisplayVersion => Reply::Shown(Text(error)),
+            ErrorKind::DisplayHelp | ErrorKind::DisplayVersion => Reply::Help(Text(error)),
             _ => Reply::Wrong(Text(error)),
         }
     }

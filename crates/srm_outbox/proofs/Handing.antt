@@ -49,9 +49,9 @@ own_behind me session c old new own gains one = record {
 }
 
 count-of-class : (class : Class) (item : Item Outgoing) (old new : Waiting Outgoing) → Gains (record { class = class; item = item }) old new → count_of new ≡ count_of old + 1
-count-of-class Shown item old new h = omega (arith, ap length (h Shown), ap length (h New), ap length (h Other), length-append old.shown (item ∷ []), length-append old.fresh [], length-append old.other [])
-count-of-class New item old new h = omega (arith, ap length (h Shown), ap length (h New), ap length (h Other), length-append old.shown [], length-append old.fresh (item ∷ []), length-append old.other [])
-count-of-class Other item old new h = omega (arith, ap length (h Shown), ap length (h New), ap length (h Other), length-append old.shown [], length-append old.fresh [], length-append old.other (item ∷ []))
+count-of-class Shown item old new h = omega (arith, ap length (h Shown), ap length (h New), ap length (h Other), length-append old.shown (item ∷ []), length-append old.new_data [], length-append old.other [])
+count-of-class New item old new h = omega (arith, ap length (h Shown), ap length (h New), ap length (h Other), length-append old.shown [], length-append old.new_data (item ∷ []), length-append old.other [])
+count-of-class Other item old new h = omega (arith, ap length (h Shown), ap length (h New), ap length (h Other), length-append old.shown [], length-append old.new_data [], length-append old.other (item ∷ []))
 
 pub hands_nothing : (b : BucketContent Outgoing) → HandsIn [] b b
 hands_nothing b = record {

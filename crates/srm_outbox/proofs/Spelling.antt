@@ -32,21 +32,21 @@ spellable_at held n all = go (held_at held n) refl
 
 -- A loop has added the repairs of some of the names.
 pub record RepairedSoFar (me : ℕ) (s : StoreContent) (requests : List Datagram) (names : List FullName) (answers : List Datagram) : Type 0 where
-  pub value : (held : List Drawop) (shown : List FullName) (settled : List Settling) → Fits held shown settled s → AllByRecursion is_drawop held
+  pub value : (held : List Drawop) (evidence : List FullName) (settled : List Settling) → Fits held evidence settled s → AllByRecursion is_drawop held
       → answers ≡ requests ++ filter_map (λ n. option_map (Repair me) (held_at held n)) names
   pub each : AllByRecursion (IsAnswerOf me) answers
 
 pub repairing_begins : (me : ℕ) (s : StoreContent) (requests answers : List Datagram) → answers ≡ requests → AllByRecursion (IsAnswerOf me) answers → RepairedSoFar me s requests [] answers
-repairing_begins me s requests answers e all = record { value = λ held shown settled fits spellable. e ∙ sym (append-nil requests); each = all }
+repairing_begins me s requests answers e all = record { value = λ held evidence settled fits spellable. e ∙ sym (append-nil requests); each = all }
 
 pub repairing_goes_on : (me : ℕ) (s : StoreContent) (requests : List Datagram) (names : List FullName) (i : ℕ) (n : FullName) (answers : List Datagram) (here : Option Drawop) (o : Option Datagram) → i < length names → n ≡ get_or names i n
-    → ((held : List Drawop) (shown : List FullName) (settled : List Settling) → Fits held shown settled s → here ≡ held_at held n) → (IfSome here is_drawop → o ≡ option_map (Repair me) here) → IfSome o (IsAnswerOf me)
+    → ((held : List Drawop) (evidence : List FullName) (settled : List Settling) → Fits held evidence settled s → here ≡ held_at held n) → (IfSome here is_drawop → o ≡ option_map (Repair me) here) → IfSome o (IsAnswerOf me)
     → RepairedSoFar me s requests (take i names) answers → RepairedSoFar me s requests (take (i + 1) names) (answers ++ option_to_list o)
 repairing_goes_on me s requests names i n answers here o lt at there is fine h = record {
-  value = λ held shown settled fits spellable.
-      ap (λ xs. xs ++ option_to_list o) (h.value held shown settled fits spellable)
+  value = λ held evidence settled fits spellable.
+      ap (λ xs. xs ++ option_to_list o) (h.value held evidence settled fits spellable)
       ∙ append_assoc requests (filter_map (λ n. option_map (Repair me) (held_at held n)) (take i names)) (option_to_list o)
-      ∙ ap (λ xs. requests ++ (filter_map (λ n. option_map (Repair me) (held_at held n)) (take i names) ++ xs)) (ap option_to_list (repaired held spellable (there held shown settled fits)) ∙ as_list (option_map (Repair me) (held_at held n)))
+      ∙ ap (λ xs. requests ++ (filter_map (λ n. option_map (Repair me) (held_at held n)) (take i names) ++ xs)) (ap option_to_list (repaired held spellable (there held evidence settled fits)) ∙ as_list (option_map (Repair me) (held_at held n)))
       ∙ ap (λ xs. requests ++ xs) (sym (ap (filter_map (λ n. option_map (Repair me) (held_at held n))) (take_more names i n lt ∙ ap (λ m. take i names ++ m ∷ []) (sym at))
       ∙ filter_map-append (λ n. option_map (Repair me) (held_at held n)) (take i names) (n ∷ [])));
   each = AllByRecursion-append (IsAnswerOf me) answers (option_to_list o) h.each (fine_list o fine);

@@ -5,7 +5,7 @@ use Rattle.srm_outbox.specs.declared.out.Outgoing.{Outgoing}
 use Rattle.srm_codec.specs.declared.datagram.Datagram.TheVariants.{Data, Session}
 use Rattle.srm_names.specs.Names.{first_page}
 use Rattle.srm_entries.specs.Bucket.{pops}
-use Rattle.srm_entries.specs.Sample.{a}
+use Rattle.srm_entries.specs.Sample.{first_drawop}
 use Rattle.std.proofs.Common.{arith}
 use Rattle.srm_outbox.specs.Answering.{IsAnswerOf}
 use Rattle.srm_outbox.specs.Outbox.{NothingWent}
@@ -17,12 +17,12 @@ pops_of_two i j = refl
 nothing_went : NothingWent (record { outs = []; noted = []; room = 3 })
 nothing_went = record { outs = refl; noted = refl }
 
-something_went : NothingWent (record { outs = []; noted = Data a ∷ []; room = 3 }) → ⊥
-something_went h = let k : Data a ∷ [] ≡ [] = h.noted in absurd (cc)
+something_went : NothingWent (record { outs = []; noted = Data first_drawop ∷ []; room = 3 }) → ⊥
+something_went h = let k : Data first_drawop ∷ [] ≡ [] = h.noted in absurd (cc)
 
 -- a session message doesn't wait for the bucket
 no_session_message : (me sent : ℕ) → IsAnswerOf me (Session me sent false first_page [] []) → ⊥
 no_session_message me sent h = let k : true ≡ false = h.charged in absurd (cc)
 
-nor_another_s_data : IsAnswerOf 1 (Data a) → ⊥
+nor_another_s_data : IsAnswerOf 1 (Data first_drawop) → ⊥
 nor_another_s_data h = let k : 0 ≡ 1 = h.sender in absurd (omega (arith, k))

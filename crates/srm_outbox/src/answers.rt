@@ -42,7 +42,7 @@ pub fn answering(
     fixes: &[Name],
 ) -> Result<VecDeque<Datagram>, AllocError>
     requires { ascending name_below asks.now ≡ true }
-    ensures value { IfOk result (λ answers. (held : List ADrawop) (shown : List FullName) (settled : List Settling) → Fits held shown settled store.now → AllByRecursion is_drawop held
+    ensures value { IfOk result (λ answers. (held : List ADrawop) (evidence : List FullName) (settled : List Settling) → Fits held evidence settled store.now → AllByRecursion is_drawop held
         → answers.items ≡ packed me asks.now ++ filter_map (λ n. option_map (Repair me) (held_at held n)) fixes.now) }
     ensures each { IfOk result (λ answers. AllByRecursion (IsAnswerOf me) answers.items) }
 {

@@ -2,7 +2,7 @@
 
 ghost use Rattle.std.specs.Prelude.{◌≡◌, ◌≤◌, ◌<◌, ◌+◌, ◌++◌, [], ◌∷◌, length, IfOk};
 ghost use Rattle.std.specs.List.{AllByRecursion};
-ghost use Rattle.srm_names.specs.declared.limits.TheConstants.{MOMENT};
+ghost use Rattle.srm_names.specs.declared.limits.TheConstants.{LATEST_MOMENT};
 ghost use Rattle.srm_bucket.specs.Waiting.{HasLength, count_of};
 ghost use Rattle.srm_outbox.specs.Outbox.{HandsIn, LetsGo, NothingWent, Passes};
 
@@ -82,7 +82,7 @@ pub fn hand_in(bucket: &mut Bucket<Outgoing>, mut answers: VecDeque<Answer>)
 /// Pops until nothing goes, at a moment in microseconds. What goes is added to what went, which has room for all that waits
 /// and one more.
 pub fn let_go(bucket: &mut Bucket<Outgoing>, now: u64, mut went: Went) -> Went
-    requires now { now ≤ MOMENT }
+    requires now { now ≤ LATEST_MOMENT }
     requires empty { NothingWent went }
     requires room { count_of bucket.old.waiting < went.room }
     ensures { LetsGo now bucket.old bucket.new result }
@@ -97,7 +97,7 @@ pub fn let_go(bucket: &mut Bucket<Outgoing>, now: u64, mut went: Went) -> Went
 /// no memory.
 #[tactic(auto, using(crate::proofs::Handing::pop_passes))]
 pub fn pass(bucket: &mut Bucket<Outgoing>, now: u64)
-    requires { now ≤ MOMENT }
+    requires { now ≤ LATEST_MOMENT }
     ensures { Passes now bucket.old bucket.new }
 {
     let _ = bucket.pop(now);

@@ -14,7 +14,7 @@ use Rattle.srm_pages.specs.declared.board.BoardView.{BoardView}
 use Rattle.srm_pages.proofs.Views.{all_set, all_one, snoc_cases}
 use Rattle.srm_names.specs.declared.limits.TheConstants.{MEMBERS}
 use Rattle.srm_pages.proofs.Shown.{order_alike}
-use Rattle.srm_pages.specs.Board.{stride, taken_word, shown_word, total, drawops_shown, CountsShown, words_of_board, board_view, zeros, dealer, watcher, noted, FitsBoard, BoardHolds, BoardState, Raised, Looked}
+use Rattle.srm_pages.specs.Board.{stride, count_register, number_register, total, drawops_posted, CountsPosted, registers_of_board, board_view, zeros, dealer, watcher, with_seen, FitsBoard, IsBoardState, BoardState, Raised, Looked}
 
 replicate_zero : (n i : ℕ) → get_or {A = ℕ} (replicate n 0) i 0 ≡ 0
 replicate_zero zero i = refl
@@ -23,11 +23,11 @@ replicate_zero (suc n) (suc i) = replicate_zero n i
 
 pub zeros_at : (i : ℕ) → get_or zeros i 0 ≡ 0
 unfolding zeros
-zeros_at i = replicate_zero words_of_board i
+zeros_at i = replicate_zero registers_of_board i
 
-pub zeros_length : length zeros ≡ words_of_board
+pub zeros_length : length zeros ≡ registers_of_board
 unfolding zeros
-zeros_length = length-replicate {A = ℕ} words_of_board 0
+zeros_length = length-replicate {A = ℕ} registers_of_board 0
 
 -- a list that is at most the words stays so when a word grows
 grown : (xs words : List ℕ) (i n : ℕ) → i < length words → get_or words i 0 ≤ n → ((k : ℕ) → get_or xs k 0 ≤ get_or words k 0) → (k : ℕ) → get_or xs k 0 ≤ get_or (set words i n) k 0
@@ -49,15 +49,15 @@ noted_exact xs words i n k inside inside' same =
     (λ (e : k ≡ i). subst (λ j. get_or (set xs i n) j 0 ≡ get_or (set words i n) j 0) (sym e) (get_or-set_same xs i n 0 inside' ∙ sym (get_or-set_same words i n 0 inside)))
     (λ (ne : k ≢ i). get_or-set_other xs i k n 0 ne ∙ same ne ∙ sym (get_or-set_other words i k n 0 ne))
 
-none_shown : (n slot : ℕ) → total (λ m. get_or zeros (shown_word slot m) 0) n ≤ 0
+none_shown : (n slot : ℕ) → total (λ m. get_or zeros (number_register slot m) 0) n ≤ 0
 none_shown zero slot = omega arith
-none_shown (suc n) slot = let before = none_shown n slot in let last = zeros_at (shown_word slot n) in omega arith
+none_shown (suc n) slot = let before = none_shown n slot in let last = zeros_at (number_register slot n) in omega arith
 
-pub zeros_order : (slot : ℕ) → CountsShown zeros slot
-unfolding drawops_shown
+pub zeros_order : (slot : ℕ) → CountsPosted zeros slot
+unfolding drawops_posted
 zeros_order slot = le_trans (none_shown MEMBERS slot) (omega arith)
 
-pub begins : BoardHolds zeros (dealer ∷ [])
+pub begins : IsBoardState zeros (dealer ∷ [])
 begins = record {
   seat = λ _. 0;
   dealt = 0;
@@ -75,7 +75,7 @@ begins = record {
 }
 
 -- the tap of a slot raises one of its words
-pub raises : (slots id word n : ℕ) (m : Me ℕ BoardView) → m.0.taps ≡ true → word / stride ≡ m.0.slot → word < words_of_board → get_or m.0.seen word 0 ≤ n → (word % stride ≢ 0 → n < 2 ^ 32) → CountsShown (set m.0.seen word n) m.0.slot
+pub raises : (slots id word n : ℕ) (m : Me ℕ BoardView) → m.0.taps ≡ true → word / stride ≡ m.0.slot → word < registers_of_board → get_or m.0.seen word 0 ≤ n → (word % stride ≢ 0 → n < 2 ^ 32) → CountsPosted (set m.0.seen word n) m.0.slot
     → Allows BoardState slots id m word (λ _. n) (λ _. Raised (step slots word n 0 none) m n)
 raises slots id word n m taps mine inside more narrow order s h _ at _ =
     let v = m.0 in
@@ -84,7 +84,7 @@ raises slots id word n m taps mine inside more narrow order s h _ at _ =
     let in_seen : word < length v.seen = let l = my.sized in omega arith in
     let now : get_or v.seen word 0 ≡ get_or s.words word 0 = my.exact taps word mine in
     let less : get_or s.words word 0 ≤ n = omega arith in (
-      noted v word n,
+      with_seen v word n,
       keeps,
       tt,
       record {
@@ -95,12 +95,12 @@ raises slots id word n m taps mine inside more narrow order s h _ at _ =
             (λ (e : i ≡ word). subst (λ k. get_or (set s.words word n) k 0 < 2 ^ 32) (sym e) (subst (λ k. k < 2 ^ 32) (sym (get_or-set_same s.words word n 0 in_words)) (narrow (subst (λ k. k % stride ≢ 0) e odd))))
             (λ (ne : i ≢ word). subst (λ k. k < 2 ^ 32) (sym (get_or-set_other s.words word i n 0 ne)) (h.narrow i odd));
         order = λ slot. dite (ℕ_discrete slot v.slot)
-            (λ (e : slot ≡ v.slot). subst (λ k. CountsShown (set s.words word n) k) (sym e)
+            (λ (e : slot ≡ v.slot). subst (λ k. CountsPosted (set s.words word n) k) (sym e)
             (order_alike (set v.seen word n) (set s.words word n) v.slot (λ i own. noted_exact v.seen s.words word n i in_words in_seen (λ _. my.exact taps i own)) order))
             (λ (ne : slot ≢ v.slot). order_alike s.words (set s.words word n) slot
             (λ i own. sym (get_or-set_other s.words word i n 0 (λ (e : i ≡ word). ne (sym own ∙ ap (λ k. k / stride) e ∙ mine)))) (h.order slot));
         blank = λ i late. let apart : i ≢ word = (λ (e : i ≡ word). let own = (my.tap taps).1 in let d : i / stride ≡ v.slot = ap (λ k. k / stride) e ∙ mine in let l : h.dealt ≤ v.slot = subst (λ k. h.dealt ≤ k) d late in omega arith) in get_or-set_other s.words word i n 0 apart ∙ h.blank i late;
-        fits = all_set (FitsBoard h.seat h.dealt (set s.words word n)) s.views id (noted v word n)
+        fits = all_set (FitsBoard h.seat h.dealt (set s.words word n)) s.views id (with_seen v word n)
             record {
               sized = length-set v.seen word n ∙ my.sized;
               bound = noted_bound v.seen s.words word n in_words in_seen my.bound;
@@ -120,7 +120,7 @@ raises slots id word n m taps mine inside more narrow order s h _ at _ =
     )
 
 -- whoever has a seat looks at a word
-pub looks : (slots id word : ℕ) (m : Me ℕ BoardView) → word < words_of_board → Allows BoardState slots id m word (λ n. n) (Looked (step slots word 0 0 none) m)
+pub looks : (slots id word : ℕ) (m : Me ℕ BoardView) → word < registers_of_board → Allows BoardState slots id m word (λ n. n) (Looked (step slots word 0 0 none) m)
 looks slots id word m inside s h _ at _ =
     let v = m.0 in
     let my = h.fits id v at in
@@ -128,7 +128,7 @@ looks slots id word m inside s h _ at _ =
     let in_words : word < length s.words = let l = h.sized in omega arith in
     let in_seen : word < length v.seen = let l = my.sized in omega arith in
     let same : set s.words word n ≡ s.words = set-get_or s.words word 0 in (
-      noted v word n,
+      with_seen v word n,
       keeps,
       tt,
       record {
@@ -136,9 +136,9 @@ looks slots id word m inside s h _ at _ =
         dealt = h.dealt;
         sized = length-set s.words word n ∙ h.sized;
         narrow = subst (λ (ws : List ℕ). (i : ℕ) → i % stride ≢ 0 → get_or ws i 0 < 2 ^ 32) (sym same) h.narrow;
-        order = subst (λ (ws : List ℕ). (slot : ℕ) → CountsShown ws slot) (sym same) h.order;
+        order = subst (λ (ws : List ℕ). (slot : ℕ) → CountsPosted ws slot) (sym same) h.order;
         blank = subst (λ (ws : List ℕ). (i : ℕ) → h.dealt ≤ i / stride → get_or ws i 0 ≡ 0) (sym same) h.blank;
-        fits = all_set (FitsBoard h.seat h.dealt (set s.words word n)) s.views id (noted v word n)
+        fits = all_set (FitsBoard h.seat h.dealt (set s.words word n)) s.views id (with_seen v word n)
             record {
               sized = length-set v.seen word n ∙ my.sized;
               bound = noted_bound v.seen s.words word n in_words in_seen my.bound;
@@ -211,9 +211,9 @@ watches id v s h at =
     }
 
 -- a word of the board lies in the table
-pub inside_table : (seat table : TableId) (word : ℕ) → seat ≡ table → seat.words ≡ words_of_board → word < words_of_board → word < table.words
+pub inside_table : (seat table : TableId) (word : ℕ) → seat ≡ table → seat.words ≡ registers_of_board → word < registers_of_board → word < table.words
 inside_table seat table word same words small = subst (λ (z : TableId). word < z.words) same (subst (λ n. word < n) (sym words) small)
 
 -- which has words
-pub has_words : (seat table : TableId) → seat ≡ table → seat.words ≡ words_of_board → 0 < table.words
+pub has_words : (seat table : TableId) → seat ≡ table → seat.words ≡ registers_of_board → 0 < table.words
 has_words seat table same words = inside_table seat table 0 same words (lit< tt)

@@ -4,7 +4,7 @@ use Rattle.std.specs.Prelude.{slice_get}
 use Rattle.atomic_table.specs.Seated.{TableId}
 use Rattle.srm_names.proofs.Lists.{slice_get-snoc}
 use Rattle.srm_pages.specs.Ends.{FeedView, TapView, PenView, AreNewEnds, AreNewLanes, AreLanes, AreNewPens}
-use Rattle.srm_pages.specs.Seats.{Sight}
+use Rattle.srm_pages.specs.Seats.{LookoutView}
 use Rattle.srm_names.specs.declared.limits.TheConstants.{PAGES}
 
 inside : {X : Type 0} (xs : List X) (k : ℕ) (x : X) → slice_get xs k ≡ Some x → k ≢ length xs
@@ -34,7 +34,7 @@ at_place (y ∷ xs) zero x small is = ap Some (sym is)
 at_place (y ∷ xs) (suc k) x small is = at_place xs k x (omega arith) is
 
 -- the ends of the lane of a slot, taken out of all
-pub ends_at : (asked : ℕ) (fs : List FeedView) (ts : List TapView) (vs : List Sight) (slot : ℕ) (f : FeedView) (t : TapView) → AreLanes asked fs ts vs → slot < PAGES
+pub ends_at : (asked : ℕ) (fs : List FeedView) (ts : List TapView) (vs : List LookoutView) (slot : ℕ) (f : FeedView) (t : TapView) → AreLanes asked fs ts vs → slot < PAGES
     → f ≡ slice_index_or fs slot f → t ≡ slice_index_or ts slot t → (f.put ≡ []) × (f.lane ≡ t.lane)
 ends_at asked fs ts vs slot f t all small at at' =
     let feeds = all.1 in

@@ -6,7 +6,7 @@ use Rattle.atomic_table.proofs.Lists.{at_set}
 use Rattle.crossbeam_queue.specs.Fifo.{Pushes, Pops, Forks, Merges, Learns}
 use Rattle.srm_pages.specs.declared.stroke.Stroke.{Stroke}
 use Rattle.srm_pages.specs.declared.ink.InkView.{InkView}
-use Rattle.srm_pages.specs.Ink.{ink_view, reader, new_pen, one_more, with_pen, spent, reader_of, pen_of, strokes_of, KnowsPart, FitsInk, InkHolds, Writes, Reads}
+use Rattle.srm_pages.specs.Ink.{ink_view, reader, new_pen, one_more, with_pen, joined_pass, reader_of, pen_of, strokes_of, KnowsPart, FitsInk, IsWellState, PenSends, ReaderReceives}
 use Rattle.srm_pages.proofs.Views.{All, all_set, all_one, snoc_cases}
 
 pick_append : (b : Bool) (x : Stroke) (l r m : List Stroke) → r ≡ l ++ m → cond b (x ∷ r) r ≡ cond b (x ∷ l) l ++ m
@@ -28,7 +28,7 @@ others_same p l items x ne =
 off : false ≡ true → ⊥
 off e = true≢false (sym e)
 
-pub begins : InkHolds [] (reader ∷ [])
+pub begins : IsWellState [] (reader ∷ [])
 begins = record {
   seat = λ _. 0;
   made = 0;
@@ -37,7 +37,7 @@ begins = record {
   fits = all_one (FitsInk (λ _. 0) 0 [] []) reader record { pen = λ d. absurd (off d); reader = λ _. (refl, refl, refl) };
 }
 
-pub writes : (n id : ℕ) (v : InkView) (x : Stroke) → v.writes ≡ true → x.pen ≡ v.pen → Pushes InkHolds n id v x (Writes v x)
+pub writes : (n id : ℕ) (v : InkView) (x : Stroke) → v.writes ≡ true → x.pen ≡ v.pen → Pushes IsWellState n id v x (PenSends v x)
 writes n id v x may own items views _ h at =
     let w = ink_view v.reads v.received v.made v.writes v.pen (v.sent ++ x ∷ []) in
     let my = h.fits id v at in
@@ -58,7 +58,7 @@ writes n id v x may own items views _ h at =
       refl,
     )
 
-pub reads : (id : ℕ) (v : InkView) → v.reads ≡ true → Pops InkHolds id v (Reads v)
+pub reads : (id : ℕ) (v : InkView) → v.reads ≡ true → Pops IsWellState id v (ReaderReceives v)
 reads id v may x items views h at =
     let w = ink_view v.reads (v.received ++ x ∷ []) v.made v.writes v.pen v.sent in
     let my = h.fits id v at in
@@ -80,7 +80,7 @@ reads id v may x items views h at =
       refl,
     )
 
-pub next_pen : (id : ℕ) (v : InkView) → v.reads ≡ true → Forks InkHolds id v (one_more v) (new_pen v.made)
+pub next_pen : (id : ℕ) (v : InkView) → v.reads ≡ true → Forks IsWellState id v (one_more v) (new_pen v.made)
 next_pen id v may items views h at =
     let my = h.fits id v at in
     let me = my.reader may in
@@ -111,7 +111,7 @@ next_pen id v may items views h at =
     }
 
 -- the reader takes in the pass of a pen
-pub joins : (id : ℕ) (v : InkView) (other : ℕ) (u : InkView) → v.reads ≡ true → u.writes ≡ true → Merges InkHolds id v other u (with_pen v u) spent
+pub joins : (id : ℕ) (v : InkView) (other : ℕ) (u : InkView) → v.reads ≡ true → u.writes ≡ true → Merges IsWellState id v other u (with_pen v u) joined_pass
 joins id v other u may writes items views h at two at' =
     let both = with_pen v u in
     let my = h.fits id v at in
@@ -132,17 +132,17 @@ joins id v other u may writes items views h at two at' =
       made = h.made;
       received = h.received;
       blank = h.blank;
-      fits = all_set (FitsInk seat h.made h.received items) vs other spent record { pen = λ d. absurd (off d); reader = λ d. absurd (off d) } (λ j w apart e. now j w e apart);
+      fits = all_set (FitsInk seat h.made h.received items) vs other joined_pass record { pen = λ d. absurd (off d); reader = λ d. absurd (off d) } (λ j w apart e. now j w e apart);
     }
 
 -- and learns what the pen's part is
-pub learns_part : (id : ℕ) (v : InkView) → v.reads ≡ true → v.writes ≡ true → Learns InkHolds id v (KnowsPart v)
+pub learns_part : (id : ℕ) (v : InkView) → v.reads ≡ true → v.writes ≡ true → Learns IsWellState id v (KnowsPart v)
 learns_part id v may writes items views h at =
     let my = h.fits id v at in
     record { sent = (my.pen writes).2 ∙ part_of_both v.pen h.received items ∙ ap (λ l. strokes_of v.pen l ++ strokes_of v.pen items) (sym (my.reader may).1) }
 
 -- and gives the pen's pass back
-pub parts : (id : ℕ) (v : InkView) → v.reads ≡ true → v.writes ≡ true → Forks InkHolds id v (reader_of v) (pen_of v)
+pub parts : (id : ℕ) (v : InkView) → v.reads ≡ true → v.writes ≡ true → Forks IsWellState id v (reader_of v) (pen_of v)
 parts id v may writes items views h at =
     let my = h.fits id v at in
     let its = my.pen writes in

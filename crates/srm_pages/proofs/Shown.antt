@@ -8,7 +8,7 @@ use Rattle.srm_names.specs.declared.drawop.Drawop.{Drawop}
 use Rattle.srm_names.specs.declared.page_msg.PageMsg.{PageMsg}
 use Rattle.srm_names.specs.declared.page_msg.PageMsg.TheVariants.{Open, Draw, Left, Close}
 use Rattle.srm_names.specs.PageFeeds.{is_page_feed, drawops_of, drawop_from}
-use Rattle.srm_pages.specs.Board.{stride, total, taken_word, shown_word, drawops_shown, CountsShown}
+use Rattle.srm_pages.specs.Board.{stride, total, count_register, number_register, drawops_posted, CountsPosted}
 use Rattle.srm_pages.proofs.Feeds.{front_of, not_drawn_by}
 
 pub total_le : (f g : ℕ → ℕ) (n : ℕ) → ((j : ℕ) → j < n → f j ≤ g j) → total f n ≤ total g n
@@ -27,18 +27,18 @@ total_more f g k (suc n) others one =
     (λ (ne : n ≢ k). let before = total_more f g k n others one in let last = others n ne in omega arith)
 
 -- the words of a slot stand side by side
-pub of_slot : (slot member : ℕ) → member < MEMBERS → shown_word slot member / stride ≡ slot
+pub of_slot : (slot member : ℕ) → member < MEMBERS → number_register slot member / stride ≡ slot
 of_slot slot member small = omega arith
 
-pub count_of_slot : (slot : ℕ) → taken_word slot / stride ≡ slot
+pub count_of_slot : (slot : ℕ) → count_register slot / stride ≡ slot
 count_of_slot slot = omega arith
 
 -- words that are alike in a slot
-pub order_alike : (xs ys : List ℕ) (slot : ℕ) → ((i : ℕ) → i / stride ≡ slot → get_or xs i 0 ≡ get_or ys i 0) → CountsShown xs slot → CountsShown ys slot
-unfolding drawops_shown
+pub order_alike : (xs ys : List ℕ) (slot : ℕ) → ((i : ℕ) → i / stride ≡ slot → get_or xs i 0 ≡ get_or ys i 0) → CountsPosted xs slot → CountsPosted ys slot
+unfolding drawops_posted
 order_alike xs ys slot alike was =
-    let shown = total_le (λ m. get_or ys (shown_word slot m) 0) (λ m. get_or xs (shown_word slot m) 0) MEMBERS (λ m small. let same = alike (shown_word slot m) (of_slot slot m small) in omega arith) in
-    let count = alike (taken_word slot) (count_of_slot slot) in
+    let shown = total_le (λ m. get_or ys (number_register slot m) 0) (λ m. get_or xs (number_register slot m) 0) MEMBERS (λ m small. let same = alike (number_register slot m) (of_slot slot m small) in omega arith) in
+    let count = alike (count_register slot) (count_of_slot slot) in
     omega arith
 
 -- a number that is stored in a list is there, or its place lies outside
@@ -53,17 +53,17 @@ stored_rises (x ∷ xs) zero n more = more
 stored_rises (x ∷ xs) (suc i) n more = stored_rises xs i n more
 
 -- the word that counts takes stands before those that show drawops
-pub apart : (slot member : ℕ) → taken_word slot ≢ shown_word slot member
+pub apart : (slot member : ℕ) → count_register slot ≢ number_register slot member
 apart slot member e = omega arith
 
 -- a count that rises still counts what is shown
-pub order_counted : (seat : List ℕ) (slot count : ℕ) → CountsShown seat slot → get_or seat (taken_word slot) 0 ≤ count → CountsShown (set seat (taken_word slot) count) slot
-unfolding drawops_shown
+pub order_counted : (seat : List ℕ) (slot count : ℕ) → CountsPosted seat slot → get_or seat (count_register slot) 0 ≤ count → CountsPosted (set seat (count_register slot) count) slot
+unfolding drawops_posted
 order_counted seat slot count was more =
-    let now = set seat (taken_word slot) count in
-    let shown = total_le (λ m. get_or now (shown_word slot m) 0) (λ m. get_or seat (shown_word slot m) 0) MEMBERS
-    (λ m small. let same = get_or-set_other seat (taken_word slot) (shown_word slot m) count 0 (λ e. apart slot m (sym e)) in omega arith) in
-    let rises = stored_rises seat (taken_word slot) count more in
+    let now = set seat (count_register slot) count in
+    let shown = total_le (λ m. get_or now (number_register slot m) 0) (λ m. get_or seat (number_register slot m) 0) MEMBERS
+    (λ m small. let same = get_or-set_other seat (count_register slot) (number_register slot m) count 0 (λ e. apart slot m (sym e)) in omega arith) in
+    let rises = stored_rises seat (count_register slot) count more in
     omega arith
 
 -- how many drawops of each member are among the messages

@@ -10,18 +10,18 @@ use Rattle.srm_pages.specs.declared.board.BoardView.{BoardView}
 abbrev pub stride : ℕ
 stride = 1 + MEMBERS
 
-abbrev pub words_of_board : ℕ
-words_of_board = PAGES * stride
+abbrev pub registers_of_board : ℕ
+registers_of_board = PAGES * stride
 
 abbrev pub board_view : Bool → ℕ → Bool → ℕ → List ℕ → BoardView
 board_view taps slot deals next seen = record { taps = taps; slot = slot; deals = deals; next = next; seen = seen }
 
 -- the word of a slot that counts the messages taken, and the word that has the number of a member's last drawop
-abbrev pub taken_word : ℕ → ℕ
-taken_word slot = slot * stride
+abbrev pub count_register : ℕ → ℕ
+count_register slot = slot * stride
 
-abbrev pub shown_word : ℕ → ℕ → ℕ
-shown_word slot member = slot * stride + (member + 1)
+abbrev pub number_register : ℕ → ℕ → ℕ
+number_register slot member = slot * stride + (member + 1)
 
 -- f 0, f 1, .. up to below n, added up
 abbrev pub total : (ℕ → ℕ) → ℕ → ℕ
@@ -29,16 +29,16 @@ total f zero = 0
 total f (suc n) = total f n + f n
 
 -- how many drawops the words of a slot show, of all members together
-unfoldable pub drawops_shown : List ℕ → ℕ → ℕ
-drawops_shown words slot = total (λ member. slice_index words (shown_word slot member)) MEMBERS
+unfoldable pub drawops_posted : List ℕ → ℕ → ℕ
+drawops_posted words slot = total (λ member. slice_index words (number_register slot member)) MEMBERS
 
 -- the words of a slot show no more drawops than its count has messages behind the first, which opened the page; so the count is raised first
-abbrev pub CountsShown : List ℕ → ℕ → Type 0
-CountsShown words slot = drawops_shown words slot ≤ slice_index words (taken_word slot) - 1
+abbrev pub CountsPosted : List ℕ → ℕ → Type 0
+CountsPosted words slot = drawops_posted words slot ≤ slice_index words (count_register slot) - 1
 
 -- every word as it is at first
 unfoldable pub zeros : List ℕ
-zeros = replicate words_of_board 0
+zeros = replicate registers_of_board 0
 
 -- the first seat, which cuts off the seats of the taps in the order of their slots, and else only looks
 abbrev pub dealer : BoardView
@@ -48,32 +48,32 @@ abbrev pub watcher : BoardView
 watcher = board_view false 0 false 0 zeros
 
 -- after the number n was seen in the word i, or stored there
-abbrev pub noted : BoardView → ℕ → ℕ → BoardView
-noted v i n = board_view v.taps v.slot v.deals v.next (slice_set v.seen i n)
+abbrev pub with_seen : BoardView → ℕ → ℕ → BoardView
+with_seen v i n = board_view v.taps v.slot v.deals v.next (slice_set v.seen i n)
 
 -- What a seat has seen of a word is at most the word. The words of a slot are what the seat of its tap has. One seat deals, the first
 pub record FitsBoard (seat : ℕ → ℕ) (dealt : ℕ) (words : List ℕ) (id : ℕ) (v : BoardView) : Type 0 where
-  pub sized : length v.seen ≡ words_of_board
+  pub sized : length v.seen ≡ registers_of_board
   pub bound : (i : ℕ) → slice_index v.seen i ≤ slice_index words i
   pub tap : v.taps ≡ true → (seat v.slot ≡ id) × (v.slot < dealt)
   pub exact : v.taps ≡ true → (i : ℕ) → i / stride ≡ v.slot → slice_index v.seen i ≡ slice_index words i
   pub dealer : v.deals ≡ true → (id ≡ 0) × (v.next ≡ dealt)
 
 -- The numbers of drawops fit a u32, a slot shows no more than it counts behind the first, and the words of slots that have no tap yet are 0
-pub record BoardHolds (words : List ℕ) (views : List BoardView) : Type 0 where
+pub record IsBoardState (words : List ℕ) (views : List BoardView) : Type 0 where
   pub seat : ℕ → ℕ
   pub dealt : ℕ
-  pub sized : length words ≡ words_of_board
+  pub sized : length words ≡ registers_of_board
   pub narrow : (i : ℕ) → i % stride ≢ 0 → slice_index words i < 2 ^ 32
-  pub order : (slot : ℕ) → CountsShown words slot
+  pub order : (slot : ℕ) → CountsPosted words slot
   pub blank : (i : ℕ) → dealt ≤ i / stride → slice_index words i ≡ 0
   pub fits : (id : ℕ) (v : BoardView) → get_elem? views id ≡ some v → FitsBoard seat dealt words id v
 
 abbrev pub BoardState : State ℕ BoardView → Type 0
-BoardState s = BoardHolds s.words s.views
+BoardState s = IsBoardState s.words s.views
 
 abbrev pub Raised : Step ℕ → Me ℕ BoardView → ℕ → Me ℕ BoardView → Type 0
-Raised s m n r = (r ≡ (noted m.0 s.word n, m.1)) × (slice_index r.0.seen s.word ≡ n)
+Raised s m n r = (r ≡ (with_seen m.0 s.word n, m.1)) × (slice_index r.0.seen s.word ≡ n)
 
 abbrev pub Looked : Step ℕ → Me ℕ BoardView → ℕ → Me ℕ BoardView → Type 0
-Looked s m n r = (r ≡ (noted m.0 s.word n, m.1)) × (slice_index r.0.seen s.word ≡ n) × (slice_index m.0.seen s.word ≤ n) × (s.word % stride ≢ 0 → n < 2 ^ 32)
+Looked s m n r = (r ≡ (with_seen m.0 s.word n, m.1)) × (slice_index r.0.seen s.word ≡ n) × (slice_index m.0.seen s.word ≤ n) × (s.word % stride ≢ 0 → n < 2 ^ 32)

@@ -11,7 +11,7 @@ use Rattle.srm_pages.specs.declared.lane.LaneView.{LaneView}
 use Rattle.srm_pages.specs.declared.stroke.Stroke.{Stroke}
 use Rattle.srm_pages.specs.declared.tap.Ended.{Ended}
 use Rattle.srm_pages.specs.declared.tap.Ended.TheVariants.{Closed}
-use Rattle.srm_pages.specs.Seats.{Sight, Counts, new_sight}
+use Rattle.srm_pages.specs.Seats.{LookoutView, CountsTaken, new_sight}
 
 -- Which lane it is, by the two tables of its channel, and how many messages it holds at most
 pub record LaneId : Type 0 where
@@ -26,7 +26,7 @@ lane_of p capacity = record { stamps = p.table_id; messages = p.me.0.of; capacit
 pub record FeedView : Type 0 where
   pub put : List PageMsg
   pub seen : ℕ
-  pub lost : Bool
+  pub disconnected : Bool
   pub slot : ℕ
   pub lane : LaneId
   pub board : TableId
@@ -49,10 +49,10 @@ pub record SettledView : Type 0 where
   pub taken : List PageMsg
 
 abbrev pub IsNewFeed : TableId → ℕ → FeedView → Type 0
-IsNewFeed board slot f = (f.put ≡ []) × (f.seen ≡ 0) × (f.lost ≡ false) × (f.slot ≡ slot) × (f.board ≡ board) × (f.lane.capacity ≡ LANE_MESSAGES)
+IsNewFeed board slot f = (f.put ≡ []) × (f.seen ≡ 0) × (f.disconnected ≡ false) × (f.slot ≡ slot) × (f.board ≡ board) × (f.lane.capacity ≡ LANE_MESSAGES)
 
 abbrev pub IsNewTap : TableId → ℕ → TapView → Type 0
-IsNewTap board slot t = (t.taken ≡ []) × (t.slot ≡ slot) × (t.board ≡ board) × Counts t.seat slot []
+IsNewTap board slot t = (t.taken ≡ []) × (t.slot ≡ slot) × (t.board ≡ board) × CountsTaken t.seat slot []
 
 -- two new ends of the lane of a slot
 abbrev pub AreNewEnds : TableId → ℕ → FeedView → TapView → Type 0
@@ -63,7 +63,7 @@ pub record AreNewLanes (board : TableId) (feeds : List FeedView) (taps : List Ta
   pub each : (k : ℕ) (f : FeedView) (t : TapView) → slice_get feeds k ≡ Some f → slice_get taps k ≡ Some t → AreNewEnds board k f t
 
 -- as many feeds and taps as there are slots, and as many viewers as asked for, all at one board
-abbrev pub AreLanes : ℕ → List FeedView → List TapView → List Sight → Type 0
+abbrev pub AreLanes : ℕ → List FeedView → List TapView → List LookoutView → Type 0
 AreLanes asked feeds taps viewers =
     (board : TableId) × (length feeds ≡ PAGES) × (length taps ≡ PAGES) × AreNewLanes board feeds taps
     × (length viewers ≡ asked) × All (λ v. v ≡ new_sight board) viewers

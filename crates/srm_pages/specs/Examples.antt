@@ -10,27 +10,27 @@ use Rattle.srm_names.specs.Names.{first_page, named}
 use Rattle.srm_names.specs.PageFeeds.{drawops_of}
 use Rattle.srm_pages.specs.declared.stroke.Stroke.{Stroke}
 use Rattle.srm_pages.specs.declared.tap.Ended.TheVariants.{Closed, Broken}
-use Rattle.srm_pages.specs.Board.{words_of_board, taken_word, shown_word, drawops_shown, CountsShown}
+use Rattle.srm_pages.specs.Board.{registers_of_board, count_register, number_register, drawops_posted, CountsPosted}
 use Rattle.srm_pages.specs.Ends.{FeedView, TapView, LaneId, TookOrEnded, credit_of}
 use Rattle.srm_pages.specs.Ink.{strokes_of, SentIs}
 
 -- The board has a word for each slot's count and one for each slot and member.
-all_words : words_of_board ≡ 264
+all_words : registers_of_board ≡ 264
 all_words = refl
 
-first_count : taken_word 0 ≡ 0
+first_count : count_register 0 ≡ 0
 first_count = refl
 
-first_member : shown_word 0 0 ≡ 1
+first_member : number_register 0 0 ≡ 1
 first_member = refl
 
-next_slot : taken_word 1 ≡ 33
+next_slot : count_register 1 ≡ 33
 next_slot = refl
 
-last_count : taken_word 7 ≡ 231
+last_count : count_register 7 ≡ 231
 last_count = refl
 
-last_member : shown_word 7 31 ≡ 263
+last_member : number_register 7 31 ≡ 263
 last_member = refl
 
 -- After the page was opened and a member drew twice, three were taken and two of them are shown.
@@ -43,88 +43,88 @@ two_drawn source = Open first_page ∷ Draw (drawop source 1) ∷ Draw (drawop s
 abbrev seat : List ℕ
 seat = 3 ∷ 0 ∷ 2 ∷ replicate 261 0
 
-seat_is_whole : length seat ≡ words_of_board
+seat_is_whole : length seat ≡ registers_of_board
 seat_is_whole = refl
 
-three_taken : slice_index seat (taken_word 0) ≡ length (two_drawn 1)
+three_taken : slice_index seat (count_register 0) ≡ length (two_drawn 1)
 three_taken = refl
 
-two_shown : slice_index seat (shown_word 0 1) ≡ length (drawops_of 1 (two_drawn 1))
+two_shown : slice_index seat (number_register 0 1) ≡ length (drawops_of 1 (two_drawn 1))
 two_shown = refl
 
-none_of_another : slice_index seat (shown_word 0 31) ≡ length (drawops_of 31 (two_drawn 1))
+none_of_another : slice_index seat (number_register 0 31) ≡ length (drawops_of 31 (two_drawn 1))
 none_of_another = refl
 
-none_in_another_slot : slice_index seat (taken_word 7) ≡ 0
+none_in_another_slot : slice_index seat (count_register 7) ≡ 0
 none_in_another_slot = refl
 
 -- The three count the two that are shown.
-all_shown : drawops_shown seat 0 ≡ 2
-unfolding drawops_shown
+all_shown : drawops_posted seat 0 ≡ 2
+unfolding drawops_posted
 all_shown = refl
 
-in_order : CountsShown seat 0
-unfolding drawops_shown
+in_order : CountsPosted seat 0
+unfolding drawops_posted
 in_order = lit≤ tt
 
-in_order_elsewhere : CountsShown seat 7
-unfolding drawops_shown
+in_order_elsewhere : CountsPosted seat 7
+unfolding drawops_posted
 in_order_elsewhere = lit≤ tt
 
 -- Before its number is stored, a drawop that was taken is counted.
-counted_first : CountsShown (3 ∷ 0 ∷ 1 ∷ replicate 261 0) 0
-unfolding drawops_shown
+counted_first : CountsPosted (3 ∷ 0 ∷ 1 ∷ replicate 261 0) 0
+unfolding drawops_posted
 counted_first = lit≤ tt
 
 -- A number that was stored before the count shows a drawop too many: the page was opened and a member drew once, and two are shown.
-shown_first : ¬ CountsShown (2 ∷ 0 ∷ 2 ∷ replicate 261 0) 0
-unfolding drawops_shown
+shown_first : ¬ CountsPosted (2 ∷ 0 ∷ 2 ∷ replicate 261 0) 0
+unfolding drawops_posted
 shown_first order = not-suc-le_self 1 order
 
 -- So it is with the very first drawop, and where another member's number is stored first.
-first_shown_first : ¬ CountsShown (1 ∷ 1 ∷ replicate 262 0) 0
-unfolding drawops_shown
+first_shown_first : ¬ CountsPosted (1 ∷ 1 ∷ replicate 262 0) 0
+unfolding drawops_posted
 first_shown_first order = not-suc-le_self 0 order
 
-other_shown_first : ¬ CountsShown (2 ∷ 1 ∷ 1 ∷ replicate 261 0) 0
-unfolding drawops_shown
+other_shown_first : ¬ CountsPosted (2 ∷ 1 ∷ 1 ∷ replicate 261 0) 0
+unfolding drawops_posted
 other_shown_first order = not-suc-le_self 1 order
 
-two_members : drawops_shown (1 ∷ 1 ∷ 0 ∷ 1 ∷ replicate 260 0) 0 ≡ 2
-unfolding drawops_shown
+two_members : drawops_posted (1 ∷ 1 ∷ 0 ∷ 1 ∷ replicate 260 0) 0 ≡ 2
+unfolding drawops_posted
 two_members = refl
 
 -- The same of the last member in the last slot.
 abbrev last_seat : List ℕ
 last_seat = replicate 231 0 ++ 3 ∷ replicate 31 0 ++ 2 ∷ []
 
-last_seat_is_whole : length last_seat ≡ words_of_board
+last_seat_is_whole : length last_seat ≡ registers_of_board
 last_seat_is_whole = refl
 
-three_taken_last : slice_index last_seat (taken_word 7) ≡ length (two_drawn 31)
+three_taken_last : slice_index last_seat (count_register 7) ≡ length (two_drawn 31)
 three_taken_last = refl
 
-two_shown_last : slice_index last_seat (shown_word 7 31) ≡ length (drawops_of 31 (two_drawn 31))
+two_shown_last : slice_index last_seat (number_register 7 31) ≡ length (drawops_of 31 (two_drawn 31))
 two_shown_last = refl
 
-none_of_the_first : slice_index last_seat (shown_word 7 0) ≡ length (drawops_of 0 (two_drawn 31))
+none_of_the_first : slice_index last_seat (number_register 7 0) ≡ length (drawops_of 0 (two_drawn 31))
 none_of_the_first = refl
 
-none_in_the_slot_before : slice_index last_seat (shown_word 6 31) ≡ 0
+none_in_the_slot_before : slice_index last_seat (number_register 6 31) ≡ 0
 none_in_the_slot_before = refl
 
-all_shown_last : drawops_shown last_seat 7 ≡ 2
-unfolding drawops_shown
+all_shown_last : drawops_posted last_seat 7 ≡ 2
+unfolding drawops_posted
 all_shown_last = refl
 
-none_shown_in_the_slot_before : drawops_shown last_seat 6 ≡ 0
-unfolding drawops_shown
+none_shown_in_the_slot_before : drawops_posted last_seat 6 ≡ 0
+unfolding drawops_posted
 none_shown_in_the_slot_before = refl
 
 -- Credit is the room of a lane less what is under way, as far as the feed has seen.
 module _ (lane : LaneId) (board : TableId) where
   abbrev feed : ℕ → ℕ → FeedView
-  feed put seen = record { put = replicate put Close; seen = seen; lost = false; slot = 0; lane = lane; board = board }
+  feed put seen = record { put = replicate put Close; seen = seen; disconnected = false; slot = 0; lane = lane; board = board }
 
   at_first : credit_of (feed 0 0) ≡ 64
   at_first = refl

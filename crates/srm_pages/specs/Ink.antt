@@ -21,8 +21,8 @@ one_more v = ink_view v.reads v.received (v.made + 1) v.writes v.pen v.sent
 abbrev pub with_pen : InkView → InkView → InkView
 with_pen reader pen = ink_view reader.reads reader.received reader.made pen.writes pen.pen pen.sent
 
-abbrev pub spent : InkView
-spent = ink_view false [] 0 false 0 []
+abbrev pub joined_pass : InkView
+joined_pass = ink_view false [] 0 false 0 []
 
 abbrev pub reader_of : InkView → InkView
 reader_of v = ink_view v.reads v.received v.made false 0 []
@@ -48,15 +48,15 @@ pub record FitsInk (seat : ℕ → ℕ) (made : ℕ) (received items : List Stro
   pub pen : v.writes ≡ true → (seat v.pen ≡ id) × (v.pen < made) × (v.sent ≡ strokes_of v.pen (received ++ items))
   pub reader : v.reads ≡ true → (id ≡ 0) × (v.received ≡ received) × (v.made ≡ made)
 
-pub record InkHolds (items : List Stroke) (views : List InkView) : Type 0 where
+pub record IsWellState (items : List Stroke) (views : List InkView) : Type 0 where
   pub seat : ℕ → ℕ
   pub made : ℕ
   pub received : List Stroke
   pub blank : (p : ℕ) → made ≤ p → strokes_of p (received ++ items) ≡ []
   pub fits : (id : ℕ) (v : InkView) → get_elem? views id ≡ some v → FitsInk seat made received items id v
 
-abbrev pub Writes : InkView → Stroke → InkView → Type 0
-Writes v x w = w ≡ ink_view v.reads v.received v.made v.writes v.pen (v.sent ++ x ∷ [])
+abbrev pub PenSends : InkView → Stroke → InkView → Type 0
+PenSends v x w = w ≡ ink_view v.reads v.received v.made v.writes v.pen (v.sent ++ x ∷ [])
 
-abbrev pub Reads : InkView → Stroke → InkView → Type 0
-Reads v x w = w ≡ ink_view v.reads (v.received ++ x ∷ []) v.made v.writes v.pen v.sent
+abbrev pub ReaderReceives : InkView → Stroke → InkView → Type 0
+ReaderReceives v x w = w ≡ ink_view v.reads (v.received ++ x ∷ []) v.made v.writes v.pen v.sent

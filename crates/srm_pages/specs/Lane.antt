@@ -14,8 +14,8 @@ abbrev pub FitsLane : ℕ → ℕ → List PageMsg → List PageMsg → ℕ → 
 FitsLane feeder tap put taken id v = (v.puts ≡ true → (id ≡ feeder) × (v.put ≡ put)) × (v.takes ≡ true → (id ≡ tap) × (v.taken ≡ taken))
 
 -- what was put is what was taken and then what the lane holds, and is a page feed
-abbrev pub LaneHolds : List PageMsg → List LaneView → Type 0
-LaneHolds items views = (feeder : ℕ) × (tap : ℕ) × (put : List PageMsg) × (taken : List PageMsg) × (put ≡ taken ++ items) × (is_page_feed put ≡ true)
+abbrev pub IsLaneState : List PageMsg → List LaneView → Type 0
+IsLaneState items views = (feeder : ℕ) × (tap : ℕ) × (put : List PageMsg) × (taken : List PageMsg) × (put ≡ taken ++ items) × (is_page_feed put ≡ true)
     × ((id : ℕ) (v : LaneView) → get_elem? views id ≡ some v → FitsLane feeder tap put taken id v)
 
 abbrev pub Puts : LaneView → PageMsg → LaneView → Type 0

@@ -5,44 +5,44 @@ use Rattle.srm_names.specs.declared.limits.TheConstants.{MEMBERS}
 use Rattle.srm_names.specs.declared.page_msg.PageMsg.{PageMsg}
 use Rattle.srm_names.specs.declared.page_msg.PageMsg.TheVariants.{Draw}
 use Rattle.srm_names.specs.PageFeeds.{drawops_of}
-use Rattle.srm_pages.specs.Board.{taken_word, shown_word, zeros, CountsShown}
+use Rattle.srm_pages.specs.Board.{count_register, number_register, zeros, CountsPosted}
 
 -- what one who looks last saw in each word, and which board it is
-pub record Sight : Type 0 where
+pub record LookoutView : Type 0 where
   pub seen : List ℕ
   pub board : TableId
 
 -- what the seat of a slot's tap has in each word
-pub record Mark : Type 0 where
+pub record MarkerView : Type 0 where
   pub seat : List ℕ
   pub slot : ℕ
   pub board : TableId
 
 -- the slot whose tap is next
-pub record Deal : Type 0 where
+pub record DealerView : Type 0 where
   pub next : ℕ
   pub board : TableId
 
-abbrev pub new_sight : TableId → Sight
+abbrev pub new_sight : TableId → LookoutView
 new_sight board = record { seen = zeros; board = board }
 
-abbrev pub new_mark : ℕ → TableId → Mark
+abbrev pub new_mark : ℕ → TableId → MarkerView
 new_mark slot board = record { seat = zeros; slot = slot; board = board }
 
 -- the words of the slot count the list: all its messages, and the drawops of each member
-pub record Counts (seat : List ℕ) (slot : ℕ) (taken : List PageMsg) : Type 0 where
-  pub all : slice_index seat (taken_word slot) ≡ length taken
-  pub of_member : (member : ℕ) → member < MEMBERS → slice_index seat (shown_word slot member) ≡ length (drawops_of member taken)
+pub record CountsTaken (seat : List ℕ) (slot : ℕ) (taken : List PageMsg) : Type 0 where
+  pub all : slice_index seat (count_register slot) ≡ length taken
+  pub of_member : (member : ℕ) → member < MEMBERS → slice_index seat (number_register slot member) ≡ length (drawops_of member taken)
 
 -- the number of a drawop isn't below the one shown, and the slot counts what is shown with it
-abbrev pub MayShow : Mark → PageMsg → Type 0
-MayShow m (Draw drawop) = drawop.name.stream.source < MEMBERS
-    → (slice_index m.seat (shown_word m.slot drawop.name.stream.source) ≤ drawop.name.number)
-    × CountsShown (slice_set m.seat (shown_word m.slot drawop.name.stream.source) drawop.name.number) m.slot
-MayShow m _ = Unit {0}
+abbrev pub MayPost : MarkerView → PageMsg → Type 0
+MayPost m (Draw drawop) = drawop.name.stream.source < MEMBERS
+    → (slice_index m.seat (number_register m.slot drawop.name.stream.source) ≤ drawop.name.number)
+    × CountsPosted (slice_set m.seat (number_register m.slot drawop.name.stream.source) drawop.name.number) m.slot
+MayPost m _ = Unit {0}
 
 -- the number of a drawop stands in its member's word; another message changes nothing
-abbrev pub Shows : Mark → PageMsg → Mark → Type 0
-Shows m (Draw drawop) n = (n ≡ record m { seat = slice_set m.seat (shown_word m.slot drawop.name.stream.source) drawop.name.number })
-    × (slice_index n.seat (shown_word m.slot drawop.name.stream.source) ≡ drawop.name.number)
-Shows m _ n = n ≡ m
+abbrev pub Posts : MarkerView → PageMsg → MarkerView → Type 0
+Posts m (Draw drawop) n = (n ≡ record m { seat = slice_set m.seat (number_register m.slot drawop.name.stream.source) drawop.name.number })
+    × (slice_index n.seat (number_register m.slot drawop.name.stream.source) ≡ drawop.name.number)
+Posts m _ n = n ≡ m

@@ -12,7 +12,7 @@ use std::collections::LinkedList;
 pub const STRIDE: usize = 1 + MEMBERS as usize;
 
 /// How many words there are.
-pub const WORDS: usize = PAGES as usize * STRIDE;
+pub const BOARD_REGISTERS: usize = PAGES as usize * STRIDE;
 
 /// What a seat knows: whether it is a tap's and of which slot, whether it deals the slots from `next` on, and the number that it
 /// has last seen of each word. No value of it is made.
@@ -25,9 +25,9 @@ pub struct BoardView {
 }
 
 /// The rule of the board.
-pub struct Rising;
+pub struct BoardRule;
 
-impl TableRule<u8, BoardView, ()> for Rising {
+impl TableRule<u8, BoardView, ()> for BoardRule {
     ghost use Rattle.srm_pages.specs.Board.{dealer, BoardState};
 
     ghost holds = { λ _. BoardState };
@@ -76,6 +76,6 @@ impl Play<u8, BoardView> for Looks {
     ghost then = { Looked };
 }
 
-pub(crate) type Board = Table<u8, BoardView, (), Rising, Global>;
+pub(crate) type Board = Table<u8, BoardView, (), BoardRule, Global>;
 
 pub(crate) type BoardSeat = Seat<u8, BoardView>;

@@ -4,7 +4,7 @@ ghost use Rattle.std.specs.Prelude.{◌≡◌, ◌+◌, ◌<◌, IfOk, OnOk};
 ghost use Rattle.srm_names.specs.declared.limits.TheConstants.{PAGES};
 ghost use Rattle.srm_pages.specs.Seats.{new_mark, new_sight};
 
-use crate::board::{Board, BoardSeat, NextTap, WORDS, Watcher};
+use crate::board::{BOARD_REGISTERS, Board, BoardSeat, NextTap, Watcher};
 use crate::lookout::Lookout;
 use crate::marker::Marker;
 use std::alloc::{AllocError, Global};
@@ -19,17 +19,17 @@ pub struct Dealer {
 }
 
 impl Model for Dealer {
-    ghost use Rattle.srm_pages.specs.Seats.{Deal};
+    ghost use Rattle.srm_pages.specs.Seats.{DealerView};
 
-    ghost Value = { Deal };
+    ghost Value = { DealerView };
 
     ghost use Rattle.std.specs.Prelude.{◌≡◌, true};
     ghost use Rattle.std.specs.Arc.{arc_value};
-    ghost use Rattle.srm_pages.specs.Board.{words_of_board, zeros};
+    ghost use Rattle.srm_pages.specs.Board.{registers_of_board, zeros};
 
     ghost view = { λ d. record { next = d.seat.me.0.next; board = d.seat.table_id } };
 
-    ghost invariant = { λ d. (d.seat.table_id ≡ (arc_value d.board).shared.table_id) × (d.seat.table_id.words ≡ words_of_board)
+    ghost invariant = { λ d. (d.seat.table_id ≡ (arc_value d.board).shared.table_id) × (d.seat.table_id.words ≡ registers_of_board)
         × (d.seat.me.0.deals ≡ true) × (d.seat.me.0.seen ≡ zeros) };
 }
 
@@ -38,7 +38,7 @@ impl Dealer {
     pub fn new(alloc: Global) -> Result<Dealer, AllocError>
         ensures { IfOk result (λ d. d.next ≡ 0) }
     {
-        let (table, seat) = Board::of_words(alloc, &[0; WORDS], &())?;
+        let (table, seat) = Board::of_words(alloc, &[0; BOARD_REGISTERS], &())?;
         Ok(Dealer {
             board: Arc::new(alloc, table)?,
             seat,

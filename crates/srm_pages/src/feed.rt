@@ -18,13 +18,13 @@ pub struct Feed {
     pub(crate) lookout: Lookout,
     pub(crate) slot: u8,
     pub(crate) count: u64,
-    pub(crate) lost: bool,
+    pub(crate) disconnected: bool,
 }
 
 impl Model for Feed {
     ghost use Rattle.crossbeam_channel.specs.Ends.{sends_on, ruled_capacity};
     ghost use Rattle.srm_pages.specs.Ends.{FeedView, lane_of};
-    ghost use Rattle.srm_pages.specs.Board.{taken_word};
+    ghost use Rattle.srm_pages.specs.Board.{count_register};
 
     ghost Value = { FeedView };
 
@@ -34,8 +34,8 @@ impl Model for Feed {
 
     ghost view = { λ f. record {
       put = (knows f.pass).put;
-      seen = slice_index f.lookout.seen (taken_word f.slot);
-      lost = f.lost;
+      seen = slice_index f.lookout.seen (count_register f.slot);
+      disconnected = f.disconnected;
       slot = f.slot;
       lane = lane_of f.pass (ruled_capacity (sends_on f.sender));
       board = f.lookout.board;
@@ -52,10 +52,10 @@ impl Feed {
     }
 
     /// Whether a message came back, since the tap is gone.
-    pub fn is_lost(&self) -> bool
-        ensures { result ≡ self.now.lost }
+    pub fn is_disconnected(&self) -> bool
+        ensures { result ≡ self.now.disconnected }
     {
-        self.lost
+        self.disconnected
     }
 
     /// How many messages may be put: what a lane holds less what was put and not yet seen taken. What was seen never goes back. It neither
@@ -74,7 +74,7 @@ impl Feed {
         requires credit { 0 < credit_of self.old }
         requires feed { is_page_feed (self.old.put ++ msg ∷ []) ≡ true }
         ensures ok { OnOk result (self.new ≡ record self.old { put = self.old.put ++ msg ∷ [] }) }
-        ensures err { IfErr result (λ back. (back ≡ msg) × (self.new ≡ record self.old { lost = true })) }
+        ensures err { IfErr result (λ back. (back ≡ msg) × (self.new ≡ record self.old { disconnected = true })) }
     {
         let count = next_count(rt, self.count);
         match self.sender.send_as::<Putting, R>(rt, &mut self.pass, msg) {
@@ -83,7 +83,7 @@ impl Feed {
                 Ok(())
             }
             Err(failed) => {
-                self.lost = true;
+                self.disconnected = true;
                 Err(failed.into_inner())
             }
         }

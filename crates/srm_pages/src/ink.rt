@@ -18,12 +18,12 @@ pub struct InkView {
 }
 
 /// The rule of the well.
-pub struct ByPen;
+pub struct WellRule;
 
-impl Protocol<Stroke, InkView> for ByPen {
-    ghost use Rattle.srm_pages.specs.Ink.{InkHolds, reader};
+impl Protocol<Stroke, InkView> for WellRule {
+    ghost use Rattle.srm_pages.specs.Ink.{IsWellState, reader};
 
-    ghost holds = { InkHolds };
+    ghost holds = { IsWellState };
 
     ghost first = { reader };
 }
@@ -43,11 +43,11 @@ impl Split<InkView> for NextPen {
 pub struct Beside;
 
 impl Join<InkView> for Beside {
-    ghost use Rattle.srm_pages.specs.Ink.{with_pen, spent};
+    ghost use Rattle.srm_pages.specs.Ink.{with_pen, joined_pass};
 
     ghost both = { with_pen };
 
-    ghost spent = { spent };
+    ghost spent = { joined_pass };
 }
 
 impl Split<InkView> for Beside {
@@ -71,9 +71,9 @@ impl Lesson<Stroke, InkView> for PartOfPen {
 pub struct Writing;
 
 impl Outcome<Stroke, InkView> for Writing {
-    ghost use Rattle.srm_pages.specs.Ink.{Writes};
+    ghost use Rattle.srm_pages.specs.Ink.{PenSends};
 
-    ghost then = { Writes };
+    ghost then = { PenSends };
 }
 
 impl Lesson<Stroke, InkView> for Writing {
@@ -84,16 +84,16 @@ impl Lesson<Stroke, InkView> for Writing {
 pub struct Reading;
 
 impl Outcome<Stroke, InkView> for Reading {
-    ghost use Rattle.srm_pages.specs.Ink.{Reads};
+    ghost use Rattle.srm_pages.specs.Ink.{ReaderReceives};
 
-    ghost then = { Reads };
+    ghost then = { ReaderReceives };
 }
 
 impl Lesson<Stroke, InkView> for Reading {
     ghost fact = { λ v items. Unit {0} };
 }
 
-pub(crate) type StrokeQueue = RuledArrayQueue<Stroke, InkView, ByPen>;
+pub(crate) type StrokeQueue = RuledArrayQueue<Stroke, InkView, WellRule>;
 
 pub(crate) type InkPass = Pass<Stroke, InkView>;
 

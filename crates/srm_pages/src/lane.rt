@@ -15,21 +15,21 @@ pub struct LaneView {
 }
 
 /// The rule of a lane.
-pub struct PageFeed;
+pub struct LaneRule;
 
-impl Protocol<PageMsg, LaneView> for PageFeed {
+impl Protocol<PageMsg, LaneView> for LaneRule {
     ghost use Rattle.std.specs.Prelude.{true, []};
-    ghost use Rattle.srm_pages.specs.Lane.{lane_view, LaneHolds};
+    ghost use Rattle.srm_pages.specs.Lane.{lane_view, IsLaneState};
 
-    ghost holds = { LaneHolds };
+    ghost holds = { IsLaneState };
 
     ghost first = { lane_view true true [] [] };
 }
 
 /// The cut of the first pass into the feeder's and the tap's, and their join.
-pub struct Ends;
+pub struct LaneSplit;
 
-impl Split<LaneView> for Ends {
+impl Split<LaneView> for LaneSplit {
     ghost use Rattle.std.specs.Prelude.{true, false, []};
     ghost use Rattle.srm_pages.specs.Lane.{lane_view};
 
@@ -38,7 +38,7 @@ impl Split<LaneView> for Ends {
     ghost right = { λ v. lane_view false true [] v.taken };
 }
 
-impl Join<LaneView> for Ends {
+impl Join<LaneView> for LaneSplit {
     ghost use Rattle.std.specs.Prelude.{true, false, []};
     ghost use Rattle.srm_pages.specs.Lane.{lane_view};
 
@@ -80,8 +80,8 @@ impl Lesson<PageMsg, LaneView> for Total {
     ghost fact = { λ v items. v.put ≡ v.taken ++ items };
 }
 
-pub(crate) type Sender = RuledSender<PageMsg, LaneView, PageFeed>;
+pub(crate) type Sender = RuledSender<PageMsg, LaneView, LaneRule>;
 
-pub(crate) type Receiver = RuledReceiver<PageMsg, LaneView, PageFeed>;
+pub(crate) type Receiver = RuledReceiver<PageMsg, LaneView, LaneRule>;
 
 pub(crate) type LanePass = Pass<PageMsg, LaneView>;

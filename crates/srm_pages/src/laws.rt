@@ -8,16 +8,16 @@ ghost use Rattle.srm_pages.specs.declared.lane.LaneView.{LaneView};
 ghost use Rattle.srm_pages.specs.declared.ink.InkView.{InkView};
 ghost use Rattle.srm_pages.specs.declared.stroke.Stroke.{Stroke};
 ghost use Rattle.atomic_table.specs.Table.{State};
-ghost use Rattle.srm_pages.specs.Board.{BoardHolds, CountsShown, stride};
-ghost use Rattle.srm_pages.specs.Lane.{LaneHolds};
-ghost use Rattle.srm_pages.specs.Ink.{InkHolds, strokes_of};
+ghost use Rattle.srm_pages.specs.Board.{IsBoardState, CountsPosted, stride};
+ghost use Rattle.srm_pages.specs.Lane.{IsLaneState};
+ghost use Rattle.srm_pages.specs.Ink.{IsWellState, strokes_of};
 
-use crate::board::{BoardView, Rising};
+use crate::board::{BoardRule, BoardView};
 use atomic_table::TableRule;
 
 /// What the feeder has put is what the tap has taken and then what the lane holds, and a page feed.
 pub fn lane_keeps_its_rule()
-    ensures { (items : List PageMsg) (views : List LaneView) → LaneHolds items views
+    ensures { (items : List PageMsg) (views : List LaneView) → IsLaneState items views
         → (i j : ℕ) (f t : LaneView) → get_elem? views i ≡ some f → f.puts ≡ true → get_elem? views j ≡ some t → t.takes ≡ true
         → (f.put ≡ t.taken ++ items) × (is_page_feed f.put ≡ true) }
 {}
@@ -25,15 +25,15 @@ pub fn lane_keeps_its_rule()
 /// A slot's words are what its tap's seat has, and what any other has seen of them is at most that. The drawops that they show, of all
 /// members together, are no more than the messages that they count behind the first, which opened the page: the count is raised first.
 pub fn board_keeps_its_rule()
-    ensures seen { (words : List ℕ) (views : List BoardView) → BoardHolds words views
+    ensures seen { (words : List ℕ) (views : List BoardView) → IsBoardState words views
         → (i j : ℕ) (t v : BoardView) → get_elem? views i ≡ some t → t.taps ≡ true → get_elem? views j ≡ some v
         → (w : ℕ) → w / stride ≡ t.slot → (slice_index t.seen w ≡ slice_index words w) × (slice_index v.seen w ≤ slice_index t.seen w) }
-    ensures order { (board : State ℕ BoardView) → ⟦<Rising as TableRule<u8, BoardView, ()>>⟧.holds tt board → (slot : ℕ) → CountsShown board.words slot }
+    ensures order { (board : State ℕ BoardView) → ⟦<BoardRule as TableRule<u8, BoardView, ()>>⟧.holds tt board → (slot : ℕ) → CountsPosted board.words slot }
 {}
 
 /// The part of a pen in what was received and then what the well holds is what the pen sent.
 pub fn well_keeps_its_rule()
-    ensures { (items : List Stroke) (views : List InkView) → InkHolds items views
+    ensures { (items : List Stroke) (views : List InkView) → IsWellState items views
         → (i j : ℕ) (p r : InkView) → get_elem? views i ≡ some p → p.writes ≡ true → get_elem? views j ≡ some r → r.reads ≡ true
         → p.sent ≡ strokes_of p.pen (r.received ++ items) }
 {}

@@ -1,7 +1,7 @@
 //! One who only looks at the board.
 
 ghost use Rattle.std.specs.Prelude.{◌≡◌, ◌≢◌, ◌%◌, ◌^◌, ◌<◌, ◌≤◌, slice_index, slice_set};
-ghost use Rattle.srm_pages.specs.Board.{stride, words_of_board};
+ghost use Rattle.srm_pages.specs.Board.{stride, registers_of_board};
 
 use crate::board::{Board, BoardSeat, Looks};
 use std::alloc::Global;
@@ -16,23 +16,23 @@ pub struct Lookout {
 }
 
 impl Model for Lookout {
-    ghost use Rattle.srm_pages.specs.Seats.{Sight};
+    ghost use Rattle.srm_pages.specs.Seats.{LookoutView};
 
-    ghost Value = { Sight };
+    ghost Value = { LookoutView };
 
     ghost use Rattle.std.specs.Prelude.{◌≡◌};
     ghost use Rattle.std.specs.Arc.{arc_value};
-    ghost use Rattle.srm_pages.specs.Board.{words_of_board};
+    ghost use Rattle.srm_pages.specs.Board.{registers_of_board};
 
     ghost view = { λ l. record { seen = l.seat.me.0.seen; board = l.seat.table_id } };
 
-    ghost invariant = { λ l. (l.seat.table_id ≡ (arc_value l.board).shared.table_id) × (l.seat.table_id.words ≡ words_of_board) };
+    ghost invariant = { λ l. (l.seat.table_id ≡ (arc_value l.board).shared.table_id) × (l.seat.table_id.words ≡ registers_of_board) };
 }
 
 impl Lookout {
     /// The number in a word, which is never below one seen there before.
     pub fn look(&mut self, word: usize) -> u64
-        requires { word < words_of_board }
+        requires { word < registers_of_board }
         ensures seen { self.new ≡ record self.old { seen = slice_set self.old.seen word result } }
         ensures there { slice_index self.new.seen word ≡ result }
         ensures rises { slice_index self.old.seen word ≤ result }

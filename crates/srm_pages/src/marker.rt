@@ -2,8 +2,8 @@
 
 ghost use Rattle.std.specs.Prelude.{◌≡◌, ◌≢◌, ◌/◌, ◌%◌, ◌^◌, ◌<◌, ◌≤◌, length, slice_index, slice_set};
 ghost use Rattle.crossbeam_channel.specs.Claims.{view as knows};
-ghost use Rattle.srm_pages.specs.Board.{stride, taken_word, words_of_board, CountsShown};
-ghost use Rattle.srm_pages.specs.Seats.{MayShow, Shows};
+ghost use Rattle.srm_pages.specs.Board.{stride, count_register, registers_of_board, CountsPosted};
+ghost use Rattle.srm_pages.specs.Seats.{MayPost, Posts};
 
 use crate::board::{Board, BoardSeat, Raises, STRIDE};
 use crate::lane::LanePass;
@@ -21,18 +21,18 @@ pub struct Marker {
 }
 
 impl Model for Marker {
-    ghost use Rattle.srm_pages.specs.Seats.{Mark};
+    ghost use Rattle.srm_pages.specs.Seats.{MarkerView};
 
-    ghost Value = { Mark };
+    ghost Value = { MarkerView };
 
     ghost use Rattle.std.specs.Prelude.{◌≡◌, ◌<◌, true};
     ghost use Rattle.std.specs.Arc.{arc_value};
     ghost use Rattle.srm_names.specs.declared.limits.TheConstants.{PAGES};
-    ghost use Rattle.srm_pages.specs.Board.{words_of_board};
+    ghost use Rattle.srm_pages.specs.Board.{registers_of_board};
 
     ghost view = { λ m. record { seat = m.seat.me.0.seen; slot = m.slot; board = m.seat.table_id } };
 
-    ghost invariant = { λ m. (m.seat.table_id ≡ (arc_value m.board).shared.table_id) × (m.seat.table_id.words ≡ words_of_board)
+    ghost invariant = { λ m. (m.seat.table_id ≡ (arc_value m.board).shared.table_id) × (m.seat.table_id.words ≡ registers_of_board)
         × (m.seat.me.0.taps ≡ true) × (m.seat.me.0.slot ≡ m.slot) × (m.slot < PAGES) };
 }
 
@@ -46,18 +46,18 @@ impl Marker {
     /// Stores how many messages were taken. The tap's pass, which has no bytes, shows that they were: the word is never raised before.
     pub fn count(&mut self, pass: &LanePass, count: u64)
         requires taken { count ≤ length (knows pass.now).taken }
-        requires rises { slice_index self.old.seat (taken_word self.old.slot) ≤ count }
-        requires order { CountsShown self.old.seat self.old.slot }
-        ensures seat { self.new ≡ record self.old { seat = slice_set self.old.seat (taken_word self.old.slot) count } }
-        ensures there { slice_index self.new.seat (taken_word self.old.slot) ≡ count }
+        requires rises { slice_index self.old.seat (count_register self.old.slot) ≤ count }
+        requires order { CountsPosted self.old.seat self.old.slot }
+        ensures seat { self.new ≡ record self.old { seat = slice_set self.old.seat (count_register self.old.slot) count } }
+        ensures there { slice_index self.new.seat (count_register self.old.slot) ≡ count }
     {
         self.raise(usize::from(self.slot) * STRIDE, count);
     }
 
     /// Stores the number of a drawop, which is counted by then. Of another message it stores nothing.
-    pub fn show(&mut self, msg: &PageMsg)
-        requires { MayShow self.old msg.now }
-        ensures { Shows self.old msg.now self.new }
+    pub fn post(&mut self, msg: &PageMsg)
+        requires { MayPost self.old msg.now }
+        ensures { Posts self.old msg.now self.new }
     {
         if let PageMsg::Draw(drawop) = msg {
             let member = drawop.name.source().index();
@@ -70,10 +70,10 @@ impl Marker {
 
     // Stores a number that isn't below the one there.
     fn raise(&mut self, word: usize, number: u64)
-        requires mine { (word < words_of_board) × (word / stride ≡ self.old.slot) }
+        requires mine { (word < registers_of_board) × (word / stride ≡ self.old.slot) }
         requires rises { slice_index self.old.seat word ≤ number }
         requires narrow { word % stride ≢ 0 → number < 2 ^ 32 }
-        requires order { CountsShown (slice_set self.old.seat word number) self.old.slot }
+        requires order { CountsPosted (slice_set self.old.seat word number) self.old.slot }
         ensures seat { self.new ≡ record self.old { seat = slice_set self.old.seat word number } }
         ensures there { slice_index self.new.seat word ≡ number }
     {

@@ -2,7 +2,7 @@
 
 ghost use Rattle.std.specs.Prelude.{◌≡◌, [], ◌∷◌, ◌++◌, true, OnOk, IfErr};
 ghost use Rattle.crossbeam_queue.specs.Passes.{view as knows, IsPassOf, IsSamePass};
-ghost use Rattle.srm_pages.specs.Ink.{Writes};
+ghost use Rattle.srm_pages.specs.Ink.{PenSends};
 
 use crate::ink::{Ink, InkPass, StrokeQueue, Writing};
 use crate::stroke::Stroke;
@@ -91,7 +91,7 @@ fn push<R: Wait>(
     requires pass { IsPassOf queue.now pass.old × ((knows pass.old).writes ≡ true) }
     requires own { stroke.pen ≡ (knows pass.old).pen }
     ensures same { IsSamePass pass.old pass.new }
-    ensures ok { OnOk result (Writes (knows pass.old) stroke (knows pass.new)) }
+    ensures ok { OnOk result (PenSends (knows pass.old) stroke (knows pass.new)) }
     ensures err { IfErr result (λ back. (back ≡ stroke) × (knows pass.new ≡ knows pass.old)) }
 {
     queue.push_as::<Writing, R>(rt, pass, stroke)

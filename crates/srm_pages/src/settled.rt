@@ -3,7 +3,7 @@ ghost use Rattle.std.specs.Prelude.{◌≡◌, ◌++◌, List};
 ghost use Rattle.srm_names.specs.declared.page_msg.PageMsg.{PageMsg};
 
 use crate::feed::Feed;
-use crate::lane::{Ends, LanePass, Total};
+use crate::lane::{LanePass, LaneSplit, Total};
 use crate::tap::Tap;
 use std::marker::Model;
 
@@ -36,7 +36,7 @@ pub fn settle(feed: Feed, tap: Tap) -> Settled
         lookout: _,
         slot: _,
         count: _,
-        lost: _,
+        disconnected: _,
     } = feed;
     let Tap {
         receiver: _,
@@ -45,7 +45,7 @@ pub fn settle(feed: Feed, tap: Tap) -> Settled
         count: _,
         closed: _,
     } = tap;
-    sender.absorb::<Ends>(&mut pass, theirs);
+    sender.absorb::<LaneSplit>(&mut pass, theirs);
     sender.learn_as::<Total>(&mut pass);
     Settled { pass }
 }

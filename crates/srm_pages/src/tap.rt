@@ -3,7 +3,7 @@
 ghost use Rattle.std.specs.Prelude.{◌≡◌, true};
 ghost use Rattle.srm_names.specs.PageFeeds.{is_page_feed};
 ghost use Rattle.srm_pages.specs.Ends.{TookOrEnded};
-ghost use Rattle.srm_pages.specs.Seats.{Counts};
+ghost use Rattle.srm_pages.specs.Seats.{CountsTaken};
 
 use crate::feed::next_count;
 use crate::lane::{LanePass, Receiver, Taking};
@@ -37,7 +37,7 @@ pub struct Tap {
 impl Model for Tap {
     ghost use Rattle.crossbeam_channel.specs.Ends.{receives_on, ruled_capacity};
     ghost use Rattle.srm_pages.specs.Ends.{TapView, lane_of};
-    ghost use Rattle.srm_pages.specs.Seats.{Counts};
+    ghost use Rattle.srm_pages.specs.Seats.{CountsTaken};
 
     ghost Value = { TapView };
 
@@ -54,7 +54,7 @@ impl Model for Tap {
     } };
 
     ghost invariant = { λ t. IsSeatAt (receives_on t.receiver) t.pass × ((knows t.pass).takes ≡ true) × (t.count ≡ length (knows t.pass).taken)
-        × (is_page_feed (knows t.pass).taken ≡ true) × Counts t.marker.seat t.marker.slot (knows t.pass).taken };
+        × (is_page_feed (knows t.pass).taken ≡ true) × CountsTaken t.marker.seat t.marker.slot (knows t.pass).taken };
 }
 
 impl Tap {
@@ -69,7 +69,7 @@ impl Tap {
     pub fn take<R: Wait>(&mut self, rt: &R) -> Result<PageMsg, Ended>
         ensures taken { TookOrEnded result self.old self.new }
         ensures feed { is_page_feed self.new.taken ≡ true }
-        ensures counted { Counts self.new.seat self.new.slot self.new.taken }
+        ensures counted { CountsTaken self.new.seat self.new.slot self.new.taken }
     {
         if self.closed {
             return Err(Ended::Closed);
@@ -78,7 +78,7 @@ impl Tap {
         match self.receiver.recv_as::<Taking, R>(rt, &mut self.pass) {
             Ok(msg) => {
                 self.marker.count(&self.pass, count);
-                self.marker.show(&msg);
+                self.marker.post(&msg);
                 self.count = count;
                 self.closed = matches!(msg, PageMsg::Close);
                 Ok(msg)

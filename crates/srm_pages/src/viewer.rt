@@ -2,7 +2,7 @@
 
 ghost use Rattle.std.specs.Prelude.{◌≡◌, ◌<◌, ◌≤◌, slice_index, slice_set};
 ghost use Rattle.srm_names.specs.declared.limits.TheConstants.{PAGES};
-ghost use Rattle.srm_pages.specs.Board.{shown_word};
+ghost use Rattle.srm_pages.specs.Board.{number_register};
 
 use crate::board::STRIDE;
 use crate::lookout::Lookout;
@@ -16,9 +16,9 @@ pub struct Viewer {
 }
 
 impl Model for Viewer {
-    ghost use Rattle.srm_pages.specs.Seats.{Sight};
+    ghost use Rattle.srm_pages.specs.Seats.{LookoutView};
 
-    ghost Value = { Sight };
+    ghost Value = { LookoutView };
 
     ghost view = { λ v. v.lookout };
 }
@@ -28,9 +28,9 @@ impl Viewer {
     /// waits nor takes memory.
     pub fn look(&mut self, slot: u8, member: Member) -> u32
         requires { slot < PAGES }
-        ensures seen { self.new ≡ record self.old { seen = slice_set self.old.seen (shown_word slot member) result } }
-        ensures there { slice_index self.new.seen (shown_word slot member) ≡ result }
-        ensures rises { slice_index self.old.seen (shown_word slot member) ≤ result }
+        ensures seen { self.new ≡ record self.old { seen = slice_set self.old.seen (number_register slot member) result } }
+        ensures there { slice_index self.new.seen (number_register slot member) ≡ result }
+        ensures rises { slice_index self.old.seen (number_register slot member) ≤ result }
     {
         let word = usize::from(slot) * STRIDE + (member.index() + 1);
         self.lookout.look(word) as u32

@@ -30,7 +30,7 @@ fn there_is_a_lane_for_each_slot(rt: HostRuntime) -> Result<(), Fail> {
             (ends.feeds[place].slot(), ends.taps[place].slot()),
             (slot, slot)
         );
-        assert!(rt; !ends.feeds[place].is_lost());
+        assert!(rt; !ends.feeds[place].is_disconnected());
     }
     Ok(())
 }
@@ -256,9 +256,9 @@ fn a_dropped_tap_loses_the_feed(rt: HostRuntime) -> Result<(), Fail> {
     let (mut feed, tap, _) = new_ends(rt.alloc(), 0, 0)?;
     drop(tap);
     let source = member(&rt, 0);
-    assert!(rt; !feed.is_lost());
+    assert!(rt; !feed.is_disconnected());
     assert!(rt; !put_open(&rt, &mut feed, &page_of(source), source));
-    assert!(rt; feed.is_lost());
+    assert!(rt; feed.is_disconnected());
     Ok(())
 }
 
@@ -276,7 +276,7 @@ fn nothing_is_taken_after_close(rt: HostRuntime) -> Result<(), Fail> {
     assert!(rt; matches!(tap.take(&rt), Ok(PageMsg::Close)));
     // The feed still stands, so a tap that waited would not come back.
     assert!(rt; matches!(tap.take(&rt), Err(Ended::Closed)));
-    assert!(rt; !feed.is_lost());
+    assert!(rt; !feed.is_disconnected());
     Ok(())
 }
 

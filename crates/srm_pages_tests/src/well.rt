@@ -214,9 +214,9 @@ fn settled_midway<R: Wait>(
         goes_in(rt, &mut pen),
     ];
     let before = [well.next(rt).is_some(), well.next(rt).is_some()];
-    let inked = well.settle(pen.done());
+    let inked = well.join_pen(pen.done());
     let after = [well.next(rt).is_some(), well.next(rt).is_some()];
-    let _inked = well.settle(inked);
+    let _inked = well.join_pen(inked);
     Ok((sent, before, after))
 }
 

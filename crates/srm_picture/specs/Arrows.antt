@@ -13,12 +13,12 @@ use Rattle.srm_entries.specs.Entries.{sent}
 use Rattle.srm_picture.specs.declared.arrow.DatagramKind.{DatagramKind}
 use Rattle.srm_picture.specs.declared.arrow.DatagramKind.TheVariants.{Data, Request, Repair, Session}
 use Rattle.srm_picture.specs.declared.arrow.Launch.{Launch}
-use Rattle.srm_picture.specs.declared.arrow.Hearing.{Hearing}
+use Rattle.srm_picture.specs.declared.arrow.Arrival.{Arrival}
 use Rattle.srm_picture.specs.declared.arrow.ArrowEnd.{ArrowEnd}
-use Rattle.srm_picture.specs.declared.arrow.ArrowEnd.TheVariants.{Taken, Ignored, Lost}
+use Rattle.srm_picture.specs.declared.arrow.ArrowEnd.TheVariants.{Accepted, Ignored, Lost}
 use Rattle.srm_picture.specs.declared.arrow.Arrow.{Arrow}
 use Rattle.srm_picture.specs.declared.point.Point.{Point}
-use Rattle.srm_picture.specs.Rows.{by_row, point_of}
+use Rattle.srm_picture.specs.Rows.{by_entry, point_of}
 
 abbrev pub kind_of : Datagram → DatagramKind
 kind_of (AData drawop) = Data
@@ -34,7 +34,7 @@ launched_in r = map (launch (point_of r)) (enumerate_from 0 r.1.effects.outs)
 
 -- each datagram that the entries sent, in order
 abbrev pub launches_in : List Entry → List Launch
-launches_in es = by_row launched_in es
+launches_in es = by_entry launched_in es
 
 -- the entry is of a datagram that came: to a member that is gone as noise
 abbrev pub IsComing : Datagram → Input → Type 0
@@ -52,31 +52,31 @@ is_done Done = true
 is_done _ = false
 
 -- in this entry the datagram with this number came, which had been sent before
-pub record IsHearing (es : List Entry) (h : Hearing) : Type 0 where
+pub record IsArrival (es : List Entry) (h : Arrival) : Type 0 where
   pub step : Step Entry
   pub datagram : Datagram
-  pub at : slice_get (steps es) h.at.row ≡ Some step
+  pub at : slice_get (steps es) h.at.entry ≡ Some step
   pub member : step.this.member ≡ h.at.member
   pub sent : slice_get (sent step.before) h.number ≡ Some datagram
   pub comes : IsComing datagram step.this.input
-  pub taken : h.taken ≡ is_done step.this.verdict
+  pub accepted : h.accepted ≡ is_done step.this.verdict
 
 abbrev pub coming_in : ℕ × Entry → List Point
 coming_in r = if something_comes r.1.input then point_of r ∷ [] else []
 
 -- each is a hearing, and each entry in which something came has one, in order
-pub record AreHearings (es : List Entry) (hs : List Hearing) : Type 0 where
-  pub each : AllByRecursion (IsHearing es) hs
-  pub places : map (λ (h : Hearing). h.at) hs ≡ by_row coming_in es
+pub record AreHearings (es : List Entry) (hs : List Arrival) : Type 0 where
+  pub each : AllByRecursion (IsArrival es) hs
+  pub places : map (λ (h : Arrival). h.at) hs ≡ by_entry coming_in es
 
-abbrev pub end_of : Hearing → ArrowEnd
-end_of h = if h.taken then Taken h.at else Ignored h.at
+abbrev pub arrow_end : Arrival → ArrowEnd
+arrow_end h = if h.accepted then Accepted h.at else Ignored h.at
 
-abbrev pub arrow_to : ℕ × Launch → Hearing → Arrow
-arrow_to p h = record { number = p.0; launch = p.1; end = end_of h }
+abbrev pub arrow_to : ℕ × Launch → Arrival → Arrow
+arrow_to p h = record { number = p.0; launch = p.1; end = arrow_end h }
 
-abbrev pub hearings_of : ℕ → List Hearing → List Hearing
-hearings_of n hs = filter (λ (h : Hearing). h.number == n) hs
+abbrev pub hearings_of : ℕ → List Arrival → List Arrival
+hearings_of n hs = filter (λ (h : Arrival). h.number == n) hs
 
 -- where there is none, one to nobody
 abbrev pub or_lost : ℕ × Launch → List Arrow → List Arrow
@@ -84,8 +84,8 @@ or_lost p [] = record { number = p.0; launch = p.1; end = Lost } ∷ []
 or_lost p (a ∷ arrows) = a ∷ arrows
 
 -- a datagram's arrows: one to each hearing, or one to nobody where it never came
-abbrev pub arrows_of : List Hearing → ℕ × Launch → List Arrow
+abbrev pub arrows_of : List Arrival → ℕ × Launch → List Arrow
 arrows_of hs p = or_lost p (map (arrow_to p) (hearings_of p.0 hs))
 
-abbrev pub arrows_in : List Launch → List Hearing → List Arrow
-arrows_in ls hs = by_row (arrows_of hs) ls
+abbrev pub arrows_in : List Launch → List Arrival → List Arrow
+arrows_in ls hs = by_entry (arrows_of hs) ls

@@ -11,14 +11,14 @@ use Rattle.srm_timers.specs.declared.arm.ArmKind.{ArmKind}
 use Rattle.srm_timers.specs.declared.arm.ArmKind.TheVariants.{Ask, Fix}
 use Rattle.srm_timers.specs.Arms.{same_kind}
 use Rattle.srm_entries.specs.declared.entry.Entry.{Entry}
-use Rattle.srm_entries.specs.Entries.{heard, is_gone, drawops_in}
+use Rattle.srm_entries.specs.Entries.{accepted, is_gone, drawops_in}
 use Rattle.srm_entries.specs.Timers.{repairs_in}
 use Rattle.srm_picture.specs.declared.bracket.TimerEnd.{TimerEnd}
 use Rattle.srm_picture.specs.declared.bracket.TimerEnd.TheVariants.{RanOut, BackedOff, Cancelled}
 use Rattle.srm_picture.specs.declared.bracket.BracketEnd.{BracketEnd}
 use Rattle.srm_picture.specs.declared.bracket.Bracket.{Bracket}
 use Rattle.srm_picture.specs.declared.point.Point.{Point}
-use Rattle.srm_picture.specs.Rows.{by_row, point_of}
+use Rattle.srm_picture.specs.Rows.{by_entry, point_of}
 
 -- the names that the entry hands out as requests, or as repairs
 abbrev pub handed_out : ArmKind → Entry → List FullName
@@ -26,22 +26,22 @@ handed_out Ask e = e.effects.asks
 handed_out Fix e = e.effects.fixes
 
 -- the entry sets a timer of the same kind and name
-abbrev pub sets : Arm → Entry → Bool
-sets a e = list_any (λ (b : Arm). same_kind a.kind b.kind && same_name a.name b.name) e.effects.arms
+abbrev pub sets_anew : Arm → Entry → Bool
+sets_anew a e = list_any (λ (b : Arm). same_kind a.kind b.kind && same_name a.name b.name) e.effects.arms
 
 -- the entry takes the drawop that was to be asked for, or a repair like the one that was to be made
-abbrev pub answers_in : ArmKind → FullName → Option Datagram → Bool
-answers_in Ask n heard = list_any (λ (d : Drawop). same_name n d.name) (drawops_in heard)
-answers_in Fix n heard = repairs_in n heard
+abbrev pub answered_by_kind : ArmKind → FullName → Option Datagram → Bool
+answered_by_kind Ask n accepted = list_any (λ (d : Drawop). same_name n d.name) (drawops_in accepted)
+answered_by_kind Fix n accepted = repairs_in n accepted
 
 abbrev pub answers : ArmKind → FullName → Entry → Bool
-answers kind n e = answers_in kind n (heard e)
+answers kind n e = answered_by_kind kind n (accepted e)
 
 -- how a later entry of the member ends a timer, if it does
 abbrev pub ends_later : Arm → Entry → Option TimerEnd
 ends_later a e =
     if among (handed_out a.kind e) a.name then Some RanOut
-    else if sets a e then Some BackedOff
+    else if sets_anew a e then Some BackedOff
     else if is_gone e.effects.state || answers a.kind a.name e then Some Cancelled
     else None
 
@@ -53,23 +53,23 @@ abbrev pub ending_in : Bool → Arm → Entry → Option TimerEnd
 ending_in itself a e = if itself then ends_itself e else ends_later a e
 
 abbrev pub ended_at : ℕ → TimerEnd → BracketEnd
-ended_at row ending = record { row = row; ending = ending }
+ended_at row ending = record { entry = row; ending = ending }
 
 abbrev pub ended_in : Point → Arm → ℕ × Entry → Option BracketEnd
 ended_in place a r =
-    if nat_lt r.0 place.row || not (r.1.member == place.member) then None
-    else option_map (ended_at r.0) (ending_in (r.0 == place.row) a r.1)
+    if nat_lt r.0 place.entry || not (r.1.member == place.member) then None
+    else option_map (ended_at r.0) (ending_in (r.0 == place.entry) a r.1)
 
 -- the first entry of its member that ends a timer
-abbrev pub end_of : List Entry → Point → Arm → Option BracketEnd
-end_of es place a = first_of (ended_in place a) (enumerate_from 0 es)
+abbrev pub bracket_end : List Entry → Point → Arm → Option BracketEnd
+bracket_end es place a = first_of (ended_in place a) (enumerate_from 0 es)
 
 abbrev pub bracket : List Entry → Point → ℕ × Arm → Bracket
-bracket es place p = record { from = place; nth = p.0; kind = p.1.kind; name = p.1.name; end = end_of es place p.1 }
+bracket es place p = record { from = place; nth = p.0; kind = p.1.kind; name = p.1.name; end = bracket_end es place p.1 }
 
 abbrev pub brackets_from : List Entry → ℕ × Entry → List Bracket
 brackets_from es r = map (bracket es (point_of r)) (enumerate_from 0 r.1.effects.arms)
 
 -- each timer that the entries set, in order
 abbrev pub brackets_in : List Entry → List Bracket
-brackets_in es = by_row (brackets_from es) es
+brackets_in es = by_entry (brackets_from es) es

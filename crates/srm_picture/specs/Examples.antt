@@ -3,28 +3,28 @@ use Rattle.std.specs.Prelude.{◌≡◌, true, false, [], ◌∷◌, map, codes,
 use Rattle.srm_names.specs.declared.page_msg.PageMsg.TheVariants.{Close}
 use Rattle.srm_picture.specs.declared.arrow.DatagramKind.TheVariants.{Data, Request}
 use Rattle.srm_picture.specs.declared.arrow.Launch.{Launch}
-use Rattle.srm_picture.specs.declared.arrow.Hearing.{Hearing}
-use Rattle.srm_picture.specs.declared.arrow.ArrowEnd.TheVariants.{Taken, Ignored, Lost}
-use Rattle.srm_picture.specs.declared.tick.TickKind.TheVariants.{Gave, Noted}
+use Rattle.srm_picture.specs.declared.arrow.Arrival.{Arrival}
+use Rattle.srm_picture.specs.declared.arrow.ArrowEnd.TheVariants.{Accepted, Ignored, Lost}
+use Rattle.srm_picture.specs.declared.tick.LocalActionKind.TheVariants.{Gave, Other}
 use Rattle.srm_picture.specs.Arrows.{arrows_in}
 use Rattle.srm_picture.specs.Escaping.{escaped}
 use Rattle.srm_picture.specs.Ticks.{message_kind}
 
 -- entry 3 of member 0 sends data and a request
 abbrev stroke : Launch
-stroke = record { from = record { row = 3; member = 0 }; nth = 0; kind = Data }
+stroke = record { from = record { entry = 3; member = 0 }; nth = 0; kind = Data }
 
 abbrev question : Launch
-question = record { from = record { row = 3; member = 0 }; nth = 1; kind = Request }
+question = record { from = record { entry = 3; member = 0 }; nth = 1; kind = Request }
 
 -- the data come to member 1, and back to member 0, which ignores them
-abbrev came : Hearing
-came = record { number = 0; at = record { row = 5; member = 1 }; taken = true }
+abbrev came : Arrival
+came = record { number = 0; at = record { entry = 5; member = 1 }; accepted = true }
 
-abbrev came_back : Hearing
-came_back = record { number = 0; at = record { row = 6; member = 0 }; taken = false }
+abbrev came_back : Arrival
+came_back = record { number = 0; at = record { entry = 6; member = 0 }; accepted = false }
 
-two_datagrams : arrows_in (stroke ∷ question ∷ []) (came ∷ came_back ∷ []) ≡ record { number = 0; launch = stroke; end = Taken came.at } ∷ record { number = 0; launch = stroke; end = Ignored came_back.at }
+two_datagrams : arrows_in (stroke ∷ question ∷ []) (came ∷ came_back ∷ []) ≡ record { number = 0; launch = stroke; end = Accepted came.at } ∷ record { number = 0; launch = stroke; end = Ignored came_back.at }
     ∷ record { number = 1; launch = question; end = Lost } ∷ []
 two_datagrams = refl
 
@@ -35,5 +35,5 @@ spelled_out = refl
 unprintable : escaped (10 ∷ 200 ∷ []) ≡ codes "??"
 unprintable = refl
 
-messages : map (message_kind Gave) (None ∷ Some Close ∷ []) ≡ None ∷ Some Noted ∷ []
+messages : map (message_kind Gave) (None ∷ Some Close ∷ []) ≡ None ∷ Some Other ∷ []
 messages = refl

@@ -1,14 +1,14 @@
 -- The picture of a session.
 use Rattle.std.specs.Prelude.{◌≡◌, List}
 use Rattle.srm_entries.specs.declared.entry.Entry.{Entry}
-use Rattle.srm_picture.specs.declared.arrow.Hearing.{Hearing}
+use Rattle.srm_picture.specs.declared.arrow.Arrival.{Arrival}
 use Rattle.srm_picture.specs.declared.picture.Picture.{Picture}
 use Rattle.srm_picture.specs.Arrows.{arrows_in, launches_in}
 use Rattle.srm_picture.specs.Brackets.{brackets_in}
 use Rattle.srm_picture.specs.Ticks.{ticks_in}
 
 -- an arrow from the sending of each datagram to each hearing, or to nobody; a bracket for each timer that was set; ticks as they happened
-pub record Draws (es : List Entry) (hs : List Hearing) (picture : Picture) : Type 0 where
+pub record Depicts (es : List Entry) (hs : List Arrival) (picture : Picture) : Type 0 where
   pub arrows : picture.arrows.items ≡ arrows_in (launches_in es) hs
   pub brackets : picture.brackets.items ≡ brackets_in es
   pub ticks : picture.ticks.items ≡ ticks_in es

@@ -5,8 +5,8 @@ use Rattle.srm_entries.specs.declared.entry.Entry.{Entry}
 use Rattle.srm_picture.specs.declared.point.Point.{Point}
 
 -- what is made of each element with its place in the list, from 0
-abbrev pub by_row : {X Y : Type 0} → (ℕ × X → List Y) → List X → List Y
-by_row f xs = flat_map f (enumerate_from 0 xs)
+abbrev pub by_entry : {X Y : Type 0} → (ℕ × X → List Y) → List X → List Y
+by_entry f xs = flat_map f (enumerate_from 0 xs)
 
 abbrev pub point_of : ℕ × Entry → Point
-point_of r = record { row = r.0; member = r.1.member }
+point_of r = record { entry = r.0; member = r.1.member }

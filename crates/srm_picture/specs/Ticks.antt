@@ -9,44 +9,44 @@ use Rattle.srm_entries.specs.declared.entry.Input.TheVariants.{Drew as Draws, Ti
 use Rattle.srm_entries.specs.declared.entry.Verdict.{Verdict}
 use Rattle.srm_entries.specs.declared.entry.Verdict.TheVariants.{Done, Refused}
 use Rattle.srm_entries.specs.Entries.{is_gone}
-use Rattle.srm_picture.specs.declared.tick.TickKind.{TickKind}
-use Rattle.srm_picture.specs.declared.tick.TickKind.TheVariants.{Drew, Gave, Took, Noted, Gone}
-use Rattle.srm_picture.specs.declared.tick.Tick.{Tick}
-use Rattle.srm_picture.specs.Rows.{by_row, point_of}
+use Rattle.srm_picture.specs.declared.tick.LocalActionKind.{LocalActionKind}
+use Rattle.srm_picture.specs.declared.tick.LocalActionKind.TheVariants.{Drew, Gave, Took, Other, Gone}
+use Rattle.srm_picture.specs.declared.tick.LocalAction.{LocalAction}
+use Rattle.srm_picture.specs.Rows.{by_entry, point_of}
 
 -- a message of a slot, which may be no drawop
-abbrev pub message_kind : TickKind → Option PageMsg → Option TickKind
+abbrev pub message_kind : LocalActionKind → Option PageMsg → Option LocalActionKind
 message_kind kind None = None
 message_kind kind (Some (Draw drawop)) = Some kind
-message_kind kind (Some message) = Some Noted
+message_kind kind (Some message) = Some Other
 
 -- the member sent its farewell: one that is gone sends nothing more
-abbrev pub goes : Effects → Option TickKind
-goes f = if is_gone f.state && not (length f.outs == 0) then Some Gone else None
+abbrev pub going : Effects → Option LocalActionKind
+going f = if is_gone f.state && not (length f.outs == 0) then Some Gone else None
 
-abbrev pub done_kind : Input → Effects → Option TickKind
+abbrev pub done_kind : Input → Effects → Option LocalActionKind
 done_kind (Draws page body) f = Some Drew
 done_kind (Gives slot) f = message_kind Gave f.message
 done_kind (Takes slot) f = message_kind Took f.message
-done_kind (Showed page) f = Some Noted
-done_kind AskedLeave f = Some Noted
-done_kind Ticked f = goes f
+done_kind (Showed page) f = Some Other
+done_kind AskedLeave f = Some Other
+done_kind Ticked f = going f
 done_kind _ f = None
 
-abbrev pub kind_for : Verdict → Input → Effects → Option TickKind
+abbrev pub kind_for : Verdict → Input → Effects → Option LocalActionKind
 kind_for Done input f = done_kind input f
-kind_for (Refused fault) input f = Some Noted
+kind_for (Refused fault) input f = Some Other
 kind_for _ input f = None
 
-abbrev pub tick_kind : Entry → Option TickKind
+abbrev pub tick_kind : Entry → Option LocalActionKind
 tick_kind e = kind_for e.verdict e.input e.effects
 
-abbrev pub tick : ℕ × Entry → TickKind → Tick
+abbrev pub tick : ℕ × Entry → LocalActionKind → LocalAction
 tick r kind = record { at = point_of r; nth = length r.1.effects.outs; kind = kind }
 
-abbrev pub ticks_at : ℕ × Entry → List Tick
+abbrev pub ticks_at : ℕ × Entry → List LocalAction
 ticks_at r = option_to_list (option_map (tick r) (tick_kind r.1))
 
 -- each tick of the entries, in order
-abbrev pub ticks_in : List Entry → List Tick
-ticks_in es = by_row ticks_at es
+abbrev pub ticks_in : List Entry → List LocalAction
+ticks_in es = by_entry ticks_at es

@@ -29,7 +29,7 @@ impl DatagramKind {
     }
 
     /// What `srm world` calls it.
-    pub fn word(self) -> &'static str {
+    pub fn name(self) -> &'static str {
         match self {
             DatagramKind::Data => "data",
             DatagramKind::Request => "request",
@@ -50,18 +50,18 @@ pub struct Launch {
 
 /// That a datagram came to a member.
 #[derive(Clone, Copy, Debug, PartialEq, Eq)]
-pub struct Hearing {
+pub struct Arrival {
     /// Its number, from 0 in the order of sending.
     pub number: usize,
     pub at: Point,
     /// Whether it was taken, and not ignored.
-    pub taken: bool,
+    pub accepted: bool,
 }
 
 /// Where an arrow ends.
 #[derive(Clone, Copy, Debug, PartialEq, Eq)]
 pub enum ArrowEnd {
-    Taken(Point),
+    Accepted(Point),
     Ignored(Point),
     /// It was never delivered.
     Lost,

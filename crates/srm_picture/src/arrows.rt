@@ -2,9 +2,9 @@
 
 ghost use Rattle.std.specs.Prelude.{◌≡◌, map, IfOk};
 ghost use Rattle.std.specs.List.{enumerate_from};
-ghost use Rattle.srm_picture.specs.Arrows.{arrow_to, arrows_in, arrows_of as arrows_for, end_of as end_at, hearings_of, launch, launches_in};
+ghost use Rattle.srm_picture.specs.Arrows.{arrow_to, arrows_in, arrows_of as arrows_for, arrow_end as end_at, hearings_of, launch, launches_in};
 
-use crate::arrow::{Arrow, ArrowEnd, DatagramKind, Hearing, Launch};
+use crate::arrow::{Arrival, Arrow, ArrowEnd, DatagramKind, Launch};
 use crate::point::Point;
 use srm_codec::Datagram;
 use srm_entries::Entry;
@@ -17,7 +17,7 @@ pub(crate) fn launches(alloc: Global, entries: &[Entry]) -> Result<Vec<Launch>, 
     let mut launches = Vec::new(alloc);
     for (row, entry) in entries.iter().enumerate() {
         let from = Point {
-            row,
+            entry: row,
             member: entry.member,
         };
         launches.append(&mut launched(alloc, &from, entry.effects.outs.as_slice())?)?;
@@ -50,7 +50,7 @@ fn launch_of(from: &Point, nth: usize, datagram: &Datagram) -> Launch
 pub(crate) fn arrows(
     alloc: Global,
     launches: &[Launch],
-    hearings: &[Hearing],
+    hearings: &[Arrival],
 ) -> Result<Vec<Arrow>, AllocError>
     ensures { IfOk result (λ arrows. arrows.items ≡ arrows_in launches.now hearings.now) }
 {
@@ -66,7 +66,7 @@ fn arrows_of(
     alloc: Global,
     number: usize,
     launch: &Launch,
-    hearings: &[Hearing],
+    hearings: &[Arrival],
 ) -> Result<Vec<Arrow>, AllocError>
     ensures { IfOk result (λ arrows. arrows.items ≡ arrows_for hearings.now (number, launch.now)) }
 {
@@ -86,7 +86,7 @@ fn reaching(
     alloc: Global,
     number: usize,
     launch: &Launch,
-    hearings: &[Hearing],
+    hearings: &[Arrival],
 ) -> Result<Vec<Arrow>, AllocError>
     ensures { IfOk result (λ arrows. arrows.items ≡ map (arrow_to (number, launch.now)) (hearings_of number hearings.now)) }
 {
@@ -101,11 +101,11 @@ fn reaching(
         .collect(alloc)
 }
 
-fn end_of(hearing: &Hearing) -> ArrowEnd
+fn end_of(hearing: &Arrival) -> ArrowEnd
     ensures { result ≡ end_at hearing.now }
 {
-    if hearing.taken {
-        ArrowEnd::Taken(hearing.at)
+    if hearing.accepted {
+        ArrowEnd::Accepted(hearing.at)
     } else {
         ArrowEnd::Ignored(hearing.at)
     }

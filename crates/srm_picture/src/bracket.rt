@@ -18,7 +18,7 @@ pub enum TimerEnd {
 /// The entry of the same member that ends a timer, by its place in the trace, and how.
 #[derive(Clone, Copy, Debug, PartialEq, Eq)]
 pub struct BracketEnd {
-    pub row: usize,
+    pub entry: usize,
     pub ending: TimerEnd,
 }
 

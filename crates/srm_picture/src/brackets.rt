@@ -3,7 +3,7 @@
 ghost use Rattle.std.specs.Prelude.{◌≡◌, map, Some, IfOk};
 ghost use Rattle.std.specs.List.{enumerate_from};
 ghost use Rattle.srm_entries.specs.Entries.{is_gone as has_gone};
-ghost use Rattle.srm_picture.specs.Brackets.{answers, answers_in, bracket, brackets_in, end_of as end_in, ended_in as how_ended_in, ending_in as how_ended, ends_later as how_ended_later, handed_out, sets};
+ghost use Rattle.srm_picture.specs.Brackets.{answers, answered_by_kind, bracket, brackets_in, bracket_end as end_in, ended_in as how_ended_in, ending_in as how_ended, ends_later as how_ended_later, handed_out, sets_anew};
 ghost use Rattle.srm_names.specs.Names.{among};
 
 use crate::bracket::{Bracket, BracketEnd, TimerEnd};
@@ -19,7 +19,7 @@ pub(crate) fn brackets(alloc: Global, entries: &[Entry]) -> Result<Vec<Bracket>,
     let mut brackets = Vec::new(alloc);
     for (row, entry) in entries.iter().enumerate() {
         let from = Point {
-            row,
+            entry: row,
             member: entry.member,
         };
         brackets.append(&mut brackets_from(alloc, entries, &from, entry.effects.arms.as_slice())?)?;
@@ -71,11 +71,11 @@ fn end_of(entries: &[Entry], from: &Point, arm: &Arm) -> Option<BracketEnd>
 fn ended_in(row: usize, entry: &Entry, from: &Point, arm: &Arm) -> Option<BracketEnd>
     ensures { result ≡ how_ended_in from.now arm.now (row, entry.now) }
 {
-    if row < from.row || entry.member != from.member {
+    if row < from.entry || entry.member != from.member {
         return None;
     }
-    let ending = ending_in(entry, arm, row == from.row)?;
-    Some(BracketEnd { row, ending })
+    let ending = ending_in(entry, arm, row == from.entry)?;
+    Some(BracketEnd { entry: row, ending })
 }
 
 /// How an entry ends a timer, if it does. The one that sets it ends it only as the member goes.
@@ -119,7 +119,7 @@ fn is_handed_out(entry: &Entry, arm: &Arm) -> bool
 
 /// Whether the entry sets a timer of the same kind and name.
 fn is_set(entry: &Entry, arm: &Arm) -> bool
-    ensures { result ≡ sets arm.now entry.now }
+    ensures { result ≡ sets_anew arm.now entry.now }
 {
     entry
         .effects
@@ -146,7 +146,7 @@ fn is_answered(entry: &Entry, arm: &Arm) -> bool
 }
 
 fn is_answer(datagram: &Datagram, arm: &Arm) -> bool
-    ensures { result ≡ answers_in arm.now.kind arm.now.name (Some datagram.now) }
+    ensures { result ≡ answered_by_kind arm.now.kind arm.now.name (Some datagram.now) }
 {
     match datagram {
         Datagram::Data(drawop) => matches!(arm.kind, ArmKind::Ask) && arm.name == drawop.name,

@@ -6,7 +6,7 @@
 //! ```
 //!
 //! [`Picture`] is what is to be drawn: arrows, brackets and ticks, each by the entries that it speaks of. [`write_svg`] draws it. Which datagram
-//! came in an entry is the caller's to say, by [`Hearing`]: an entry has the datagram and not its number.
+//! came in an entry is the caller's to say, by [`Arrival`]: an entry has the datagram and not its number.
 //!
 //! **What is refused.** Want of memory, and what the output refuses.
 #![tactic(auto)]
@@ -23,11 +23,11 @@ mod point;
 mod subject;
 mod tick;
 
-pub use arrow::{Arrow, ArrowEnd, DatagramKind, Hearing, Launch};
+pub use arrow::{Arrival, Arrow, ArrowEnd, DatagramKind, Launch};
 pub use bracket::{Bracket, BracketEnd, TimerEnd};
 pub use drawing::write_svg;
 pub use escaping::escaped;
 pub use picture::Picture;
 pub use point::Point;
 pub use subject::Subject;
-pub use tick::{Tick, TickKind};
+pub use tick::{LocalAction, LocalActionKind};

@@ -1,13 +1,13 @@
 //! What is to be drawn.
 
 ghost use Rattle.std.specs.Prelude.{IfOk};
-ghost use Rattle.srm_picture.specs.Pictures.{Draws};
+ghost use Rattle.srm_picture.specs.Pictures.{Depicts};
 
-use crate::arrow::{Arrow, Hearing};
+use crate::arrow::{Arrival, Arrow};
 use crate::arrows::{arrows, launches};
 use crate::bracket::Bracket;
 use crate::brackets::brackets;
-use crate::tick::{Tick, ticks};
+use crate::tick::{LocalAction, ticks};
 use srm_entries::Entry;
 use std::alloc::{AllocError, Global};
 
@@ -19,13 +19,13 @@ pub struct Picture {
     /// In the order in which the timers were set.
     pub brackets: Vec<Bracket>,
     /// In the order of the entries.
-    pub ticks: Vec<Tick>,
+    pub ticks: Vec<LocalAction>,
 }
 
 impl Picture {
     /// The picture of what happened, in which these datagrams came. Only want of memory refuses it.
-    pub fn of(alloc: Global, entries: &[Entry], hearings: &[Hearing]) -> Result<Picture, AllocError>
-        ensures { IfOk result (Draws entries.now hearings.now) }
+    pub fn of(alloc: Global, entries: &[Entry], hearings: &[Arrival]) -> Result<Picture, AllocError>
+        ensures { IfOk result (Depicts entries.now hearings.now) }
     {
         let launches = launches(alloc, entries)?;
         Ok(Picture {

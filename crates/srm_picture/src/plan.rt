@@ -29,10 +29,10 @@ const LABELS: u64 = 220;
 const LEAST_WIDTH: u64 = 700;
 
 /// From one bracket to the next beside it.
-const LANE: u64 = 9;
+const COLUMN: u64 = 9;
 
 /// Brackets side by side at a lifeline, at most: those past these lie on the last.
-const LANES: usize = 8;
+const COLUMNS: usize = 8;
 
 /// Where the lines of each entry stand, and which lane each bracket has.
 #[derive(Drop)]
@@ -42,7 +42,7 @@ pub(crate) struct Plan {
     lines: Vec<u64>,
     /// Of each bracket.
     lanes: Vec<u64>,
-    /// Lanes that are used, at most [`LANES`].
+    /// Lanes that are used, at most [`COLUMNS`].
     used: u64,
 }
 
@@ -91,7 +91,7 @@ impl Plan {
         let lane = self.lanes.get(index).copied().unwrap_or(0);
         self.x(member)
             .saturating_sub(10)
-            .saturating_sub(lane.saturating_mul(LANE))
+            .saturating_sub(lane.saturating_mul(COLUMN))
     }
 
     pub fn width(&self) -> u64 {
@@ -116,7 +116,7 @@ impl Plan {
 
     /// Left of each lifeline: its brackets, and half of the member's name above them.
     fn gutter(&self) -> u64 {
-        self.used.saturating_mul(LANE).saturating_add(36)
+        self.used.saturating_mul(COLUMN).saturating_add(36)
     }
 }
 
@@ -146,11 +146,11 @@ fn lines_after(line: u64, entry: &Entry) -> u64 {
 /// Of each bracket the first lane that is free at its member as it begins.
 fn lanes_of(alloc: Global, brackets: &[Bracket]) -> Result<Vec<u64>, AllocError> {
     let mut lanes = Vec::new(alloc);
-    let mut busy = vec![in alloc; 0; LANES * usize::from(MEMBERS)]?;
+    let mut busy = vec![in alloc; 0; COLUMNS * usize::from(MEMBERS)]?;
     for bracket in brackets {
-        let from = bracket.from.row;
+        let from = bracket.from.entry;
         let until = match bracket.end {
-            Some(end) => end.row,
+            Some(end) => end.entry,
             None => usize::MAX,
         };
         lanes.push(lane_of(busy.as_mut_slice(), bracket.from.member, from, until))?;
@@ -160,7 +160,7 @@ fn lanes_of(alloc: Global, brackets: &[Bracket]) -> Result<Vec<u64>, AllocError>
 
 /// The first lane of a member that is free from a row on, or the last; it is then busy up to another row.
 fn lane_of(busy: &mut [usize], member: Member, from: usize, until: usize) -> u64 {
-    let first = member.index() * LANES;
+    let first = member.index() * COLUMNS;
     let lane = free_lane(busy, first, from);
     if let Some(busy_until) = busy.get_mut(first + lane) {
         *busy_until = until;
@@ -170,15 +170,15 @@ fn lane_of(busy: &mut [usize], member: Member, from: usize, until: usize) -> u64
 
 /// The first lane that is free from a row on, or the last.
 fn free_lane(busy: &[usize], first: usize, from: usize) -> usize
-    requires { first ≤ MEMBERS * LANES }
-    ensures { result < LANES }
+    requires { first ≤ MEMBERS * COLUMNS }
+    ensures { result < COLUMNS }
 {
-    for lane in 0..LANES {
+    for lane in 0..COLUMNS {
         if is_free(busy, first + lane, from) {
             return lane;
         }
     }
-    LANES - 1
+    COLUMNS - 1
 }
 
 fn is_free(busy: &[usize], place: usize, from: usize) -> bool {

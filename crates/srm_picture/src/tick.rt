@@ -1,7 +1,7 @@
 //! What happens at a member by itself.
 
 ghost use Rattle.std.specs.Prelude.{◌≡◌, ◌++◌, is_some, IfOk, OnOk};
-ghost use Rattle.srm_picture.specs.Ticks.{done_kind, goes, message_kind, tick_kind, ticks_at, ticks_in};
+ghost use Rattle.srm_picture.specs.Ticks.{done_kind, going, message_kind, tick_kind, ticks_at, ticks_in};
 
 use crate::point::Point;
 use srm_entries::{AgentState, Effects, Entry, Input, Verdict};
@@ -10,7 +10,7 @@ use std::alloc::{AllocError, Global};
 
 /// What a tick on a lifeline stands for.
 #[derive(Clone, Copy, Debug, PartialEq, Eq)]
-pub enum TickKind {
+pub enum LocalActionKind {
     /// A drawop was drawn.
     Drew,
     /// A drawop was given to a page worker.
@@ -18,22 +18,22 @@ pub enum TickKind {
     /// A drawop was taken by a page worker.
     Took,
     /// Another message was given or taken, a page was shown, the member began to leave, or it refused.
-    Noted,
+    Other,
     /// The member is gone.
     Gone,
 }
 
 /// A tick on a lifeline.
 #[derive(Clone, Copy, Debug, PartialEq, Eq)]
-pub struct Tick {
+pub struct LocalAction {
     pub at: Point,
     /// How many datagrams its entry sent before.
     pub nth: usize,
-    pub kind: TickKind,
+    pub kind: LocalActionKind,
 }
 
 /// The ticks of a trace, in order.
-pub(crate) fn ticks(alloc: Global, entries: &[Entry]) -> Result<Vec<Tick>, AllocError>
+pub(crate) fn ticks(alloc: Global, entries: &[Entry]) -> Result<Vec<LocalAction>, AllocError>
     ensures { IfOk result (λ ticks. ticks.items ≡ ticks_in entries.now) }
 {
     let mut ticks = Vec::new(alloc);
@@ -44,14 +44,14 @@ pub(crate) fn ticks(alloc: Global, entries: &[Entry]) -> Result<Vec<Tick>, Alloc
 }
 
 /// Adds what an entry has for its lifeline, if there is something.
-fn push_tick(ticks: &mut Vec<Tick>, row: usize, entry: &Entry) -> Result<(), AllocError>
+fn push_tick(ticks: &mut Vec<LocalAction>, row: usize, entry: &Entry) -> Result<(), AllocError>
     ensures { OnOk result (ticks.new.items ≡ ticks.old.items ++ ticks_at (row, entry.now)) }
 {
     match kind_in(entry) {
         None => Ok(()),
-        Some(kind) => Ok(ticks.push(Tick {
+        Some(kind) => Ok(ticks.push(LocalAction {
             at: Point {
-                row,
+                entry: row,
                 member: entry.member,
             },
             nth: entry.effects.outs.as_slice().len(),
@@ -61,44 +61,44 @@ fn push_tick(ticks: &mut Vec<Tick>, row: usize, entry: &Entry) -> Result<(), All
 }
 
 /// What an entry has for its lifeline, if there is something.
-fn kind_in(entry: &Entry) -> Option<TickKind>
+fn kind_in(entry: &Entry) -> Option<LocalActionKind>
     ensures { result ≡ tick_kind entry.now }
 {
     match entry.verdict {
         Verdict::Done => kind_done(&entry.input, &entry.effects),
         Verdict::Ignored(_) => None,
-        Verdict::Refused(_) => Some(TickKind::Noted),
+        Verdict::Refused(_) => Some(LocalActionKind::Other),
     }
 }
 
-fn kind_done(input: &Input, effects: &Effects) -> Option<TickKind>
+fn kind_done(input: &Input, effects: &Effects) -> Option<LocalActionKind>
     ensures { result ≡ done_kind input.now effects.now }
 {
     match input {
-        Input::Drew(_, _) => Some(TickKind::Drew),
-        Input::Gave(_) => kind_of(&effects.message, TickKind::Gave),
-        Input::Took(_) => kind_of(&effects.message, TickKind::Took),
-        Input::Showed(_) | Input::AskedLeave => Some(TickKind::Noted),
+        Input::Drew(_, _) => Some(LocalActionKind::Drew),
+        Input::Gave(_) => kind_of(&effects.message, LocalActionKind::Gave),
+        Input::Took(_) => kind_of(&effects.message, LocalActionKind::Took),
+        Input::Showed(_) | Input::AskedLeave => Some(LocalActionKind::Other),
         Input::Ticked => going(effects),
         Input::Heard(_) | Input::Noise => None,
     }
 }
 
-fn kind_of(message: &Option<PageMsg>, drawop: TickKind) -> Option<TickKind>
+fn kind_of(message: &Option<PageMsg>, drawop: LocalActionKind) -> Option<LocalActionKind>
     ensures { result ≡ message_kind drawop message.now }
 {
     match message {
         None => None,
         Some(PageMsg::Draw(_)) => Some(drawop),
-        Some(_) => Some(TickKind::Noted),
+        Some(_) => Some(LocalActionKind::Other),
     }
 }
 
-fn going(effects: &Effects) -> Option<TickKind>
-    ensures { result ≡ goes effects.now }
+fn going(effects: &Effects) -> Option<LocalActionKind>
+    ensures { result ≡ going effects.now }
 {
     if becomes_gone(effects) {
-        Some(TickKind::Gone)
+        Some(LocalActionKind::Gone)
     } else {
         None
     }
@@ -106,7 +106,7 @@ fn going(effects: &Effects) -> Option<TickKind>
 
 /// Whether this tick sent the farewell. One that is gone sends nothing more.
 pub(crate) fn becomes_gone(effects: &Effects) -> bool
-    ensures { result ≡ is_some (goes effects.now) }
+    ensures { result ≡ is_some (going effects.now) }
 {
     matches!(effects.state, AgentState::Gone) && !effects.outs.as_slice().is_empty()
 }

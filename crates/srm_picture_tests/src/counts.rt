@@ -1,6 +1,6 @@
 //! How many shapes of each kind a picture has.
 
-use srm_picture::{ArrowEnd, DatagramKind, Picture, TickKind, TimerEnd};
+use srm_picture::{ArrowEnd, DatagramKind, LocalActionKind, Picture, TimerEnd};
 use srm_played::{PictureFault, play};
 use srm_script::read_script;
 use std::alloc::Global;
@@ -36,11 +36,11 @@ pub(crate) fn counts_of(alloc: Global, script: &str) -> Result<Counts, PictureFa
             brackets(&picture, None),
         ],
         ticks: [
-            ticks(&picture, TickKind::Drew),
-            ticks(&picture, TickKind::Gave),
-            ticks(&picture, TickKind::Took),
-            ticks(&picture, TickKind::Noted),
-            ticks(&picture, TickKind::Gone),
+            ticks(&picture, LocalActionKind::Drew),
+            ticks(&picture, LocalActionKind::Gave),
+            ticks(&picture, LocalActionKind::Took),
+            ticks(&picture, LocalActionKind::Other),
+            ticks(&picture, LocalActionKind::Gone),
         ],
     })
 }
@@ -82,7 +82,7 @@ fn brackets(picture: &Picture, ending: Option<TimerEnd>) -> usize {
         .count()
 }
 
-fn ticks(picture: &Picture, kind: TickKind) -> usize {
+fn ticks(picture: &Picture, kind: LocalActionKind) -> usize {
     picture
         .ticks
         .iter()

@@ -17,13 +17,13 @@ use Rattle.srm_world.specs.declared.start.Start.{Start}
 use Rattle.srm_world.specs.declared.event.Event.{Event}
 use Rattle.srm_world.specs.declared.event.Event.TheVariants.{Draw, Deliver, Tick, Show, Leave, Give, Take}
 use Rattle.srm_world.specs.Traces.{of_member}
-use Rattle.srm_world.specs.Events.{asked, comes, input_of, in_slot, member_of}
-use Rattle.srm_picture.specs.declared.arrow.Hearing.{Hearing}
+use Rattle.srm_world.specs.Events.{required_input, input_heard, input_of, in_slot, member_of}
+use Rattle.srm_picture.specs.declared.arrow.Arrival.{Arrival}
 use Rattle.srm_picture.specs.declared.point.Point.{Point}
-use Rattle.srm_picture.specs.Rows.{by_row, point_of}
-use Rattle.srm_picture.specs.Arrows.{IsComing, IsHearing, AreHearings, something_comes, coming_in}
+use Rattle.srm_picture.specs.Rows.{by_entry, point_of}
+use Rattle.srm_picture.specs.Arrows.{IsComing, IsArrival, AreHearings, something_comes, coming_in}
 use Rattle.srm_picture.proofs.Rows.{enumerate_from-append}
-use Rattle.srm_played.specs.Plays.{came, hearing_in, number_in}
+use Rattle.srm_played.specs.Plays.{came, hearing_in, delivered_number}
 
 length-steps_after : {X : Type 0} (before xs : List X) → length (steps_after before xs) ≡ length xs
 length-steps_after before [] = refl
@@ -38,24 +38,24 @@ newest_step es e =
     ap (λ ss. slice_get ss (length es)) (steps-snoc es e) ∙ ap (λ n. slice_get (steps es ++ record { before = es; this = e } ∷ []) n) (sym (length-steps_after [] es)) ∙ at_end (steps es) (record { before = es; this = e })
 
 -- a hearing stays one as more happens
-still : (es : List Entry) (e : Entry) (h : Hearing) → IsHearing es h → IsHearing (es ++ e ∷ []) h
+still : (es : List Entry) (e : Entry) (h : Arrival) → IsArrival es h → IsArrival (es ++ e ∷ []) h
 still es e h is = record {
   step = is.step;
   datagram = is.datagram;
-  at = slice_get-front (steps es) (steps (es ++ e ∷ [])) h.at.row is.step (record { before = es; this = e } ∷ [], sym (steps-snoc es e)) is.at;
+  at = slice_get-front (steps es) (steps (es ++ e ∷ [])) h.at.entry is.step (record { before = es; this = e } ∷ [], sym (steps-snoc es e)) is.at;
   member = is.member;
   sent = is.sent;
   comes = is.comes;
-  taken = is.taken;
+  accepted = is.accepted;
 }
 
-all_still : (es : List Entry) (e : Entry) (hs : List Hearing) → AllByRecursion (IsHearing es) hs → AllByRecursion (IsHearing (es ++ e ∷ [])) hs
+all_still : (es : List Entry) (e : Entry) (hs : List Arrival) → AllByRecursion (IsArrival es) hs → AllByRecursion (IsArrival (es ++ e ∷ [])) hs
 all_still es e [] all = tt
 all_still es e (h ∷ hs) all = (still es e h all.0, all_still es e hs all.1)
 
-comings-snoc : (es : List Entry) (e : Entry) → by_row coming_in (es ++ e ∷ []) ≡ by_row coming_in es ++ coming_in (length es, e)
+comings-snoc : (es : List Entry) (e : Entry) → by_entry coming_in (es ++ e ∷ []) ≡ by_entry coming_in es ++ coming_in (length es, e)
 comings-snoc es e =
-    ap flat (enumerate_from-append 0 es (e ∷ [])) ∙ flat_map-snoc coming_in (enumerate_from 0 es) (0 + length es, e) ∙ ap (λ n. by_row coming_in es ++ coming_in (n, e)) (zero_more (length es))
+    ap flat (enumerate_from-append 0 es (e ∷ [])) ∙ flat_map-snoc coming_in (enumerate_from 0 es) (0 + length es, e) ∙ ap (λ n. by_entry coming_in es ++ coming_in (n, e)) (zero_more (length es))
   where
     flat : List (ℕ × Entry) → List Point
     flat rs = flat_map coming_in rs
@@ -65,7 +65,7 @@ comings-snoc es e =
 
 -- what an event asks
 
-asked_input : (starts : List Start) (es : List Entry) (event : Event) (input : Input) → asked starts es event ≡ Some input → input_of es event ≡ Some input
+asked_input : (starts : List Start) (es : List Entry) (event : Event) (input : Input) → required_input starts es event ≡ Some input → input_of es event ≡ Some input
 asked_input starts es event input e = which (nat_lt (member_of event) (length starts)) (input_of es event) e
   where
     which : (b : Bool) (o : Option Input) → cond b o None ≡ Some input → o ≡ Some input
@@ -73,15 +73,15 @@ asked_input starts es event input e = which (nat_lt (member_of event) (length st
     which false o e = absurd (cc)
 
 -- the datagram that a delivery delivers
-delivered : (gone : Bool) (o : Option Datagram) (input : Input) → option_map (comes gone) o ≡ Some input → (g : Datagram) × (o ≡ Some g) × (input ≡ comes gone g)
+delivered : (gone : Bool) (o : Option Datagram) (input : Input) → option_map (input_heard gone) o ≡ Some input → (g : Datagram) × (o ≡ Some g) × (input ≡ input_heard gone g)
 delivered gone None input e = absurd (cc)
-delivered gone (Some g) input e = (g, refl, sym (same_Some (comes gone g) input e))
+delivered gone (Some g) input e = (g, refl, sym (same_Some (input_heard gone g) input e))
 
-comes_so : (gone : Bool) (g : Datagram) → IsComing g (comes gone g)
+comes_so : (gone : Bool) (g : Datagram) → IsComing g (input_heard gone g)
 comes_so true g = tt
 comes_so false g = refl
 
-something : (gone : Bool) (g : Datagram) → something_comes (comes gone g) ≡ true
+something : (gone : Bool) (g : Datagram) → something_comes (input_heard gone g) ≡ true
 something true g = refl
 something false g = refl
 
@@ -93,7 +93,7 @@ slot_quiet slot input made e quiet = which (nat_lt slot 8) e
     which false e = absurd (cc)
 
 -- an event that delivers nothing brings nothing
-quiet : (es : List Entry) (event : Event) (input : Input) → number_in event ≡ None → input_of es event ≡ Some input → something_comes input ≡ false
+quiet : (es : List Entry) (event : Event) (input : Input) → delivered_number event ≡ None → input_of es event ≡ Some input → something_comes input ≡ false
 quiet es (Draw member now page body) input none e = ap something_comes (sym (same_Some (Drew page body) input e))
 quiet es (Deliver member now index) input none e = absurd (cc)
 quiet es (Tick member now) input none e = ap something_comes (sym (same_Some Ticked input e))
@@ -109,7 +109,7 @@ record Brings (es : List Entry) (number : ℕ) (input : Input) : Type 0 where
   pub comes : IsComing datagram input
   pub something : something_comes input ≡ true
 
-brings : (es : List Entry) (event : Event) (number : ℕ) (input : Input) → number_in event ≡ Some number → input_of es event ≡ Some input → Brings es number input
+brings : (es : List Entry) (event : Event) (number : ℕ) (input : Input) → delivered_number event ≡ Some number → input_of es event ≡ Some input → Brings es number input
 brings es (Deliver member now index) number input n e =
     let (g, there, is) = delivered (is_gone (state (of_member member es))) (slice_get (sent es) index) input e in
     record {
@@ -133,29 +133,29 @@ come_one row e some = ap (λ b. cond b (point_of (row, e) ∷ []) []) some
 come_none : (row : ℕ) (e : Entry) → something_comes e.input ≡ false → coming_in (row, e) ≡ []
 come_none row e none = ap (λ b. cond b (point_of (row, e) ∷ []) []) none
 
-right_one : (es : List Entry) (e : Entry) (hs : List Hearing) (number : ℕ) → Brings es number e.input → AreHearings es hs → AreHearings (es ++ e ∷ []) (hs ++ hearing_in (length es, e) number ∷ [])
+right_one : (es : List Entry) (e : Entry) (hs : List Arrival) (number : ℕ) → Brings es number e.input → AreHearings es hs → AreHearings (es ++ e ∷ []) (hs ++ hearing_in (length es, e) number ∷ [])
 right_one es e hs number b all = record {
-  each = AllByRecursion-append (IsHearing (es ++ e ∷ [])) hs (hearing_in (length es, e) number ∷ []) (all_still es e hs all.each) (newest, tt);
-  places = map-append (λ (x : Hearing). x.at) hs (hearing_in (length es, e) number ∷ []) ∙ ap (λ ps. ps ++ point_of (length es, e) ∷ []) all.places
-      ∙ ap (λ ps. by_row coming_in es ++ ps) (sym (come_one (length es) e b.something)) ∙ sym (comings-snoc es e);
+  each = AllByRecursion-append (IsArrival (es ++ e ∷ [])) hs (hearing_in (length es, e) number ∷ []) (all_still es e hs all.each) (newest, tt);
+  places = map-append (λ (x : Arrival). x.at) hs (hearing_in (length es, e) number ∷ []) ∙ ap (λ ps. ps ++ point_of (length es, e) ∷ []) all.places
+      ∙ ap (λ ps. by_entry coming_in es ++ ps) (sym (come_one (length es) e b.something)) ∙ sym (comings-snoc es e);
 }
   where
-    newest : IsHearing (es ++ e ∷ []) (hearing_in (length es, e) number)
-    newest = record { step = record { before = es; this = e }; datagram = b.datagram; at = newest_step es e; member = refl; sent = b.sent; comes = b.comes; taken = refl }
+    newest : IsArrival (es ++ e ∷ []) (hearing_in (length es, e) number)
+    newest = record { step = record { before = es; this = e }; datagram = b.datagram; at = newest_step es e; member = refl; sent = b.sent; comes = b.comes; accepted = refl }
 
-right_none : (es : List Entry) (e : Entry) (hs : List Hearing) → something_comes e.input ≡ false → AreHearings es hs → AreHearings (es ++ e ∷ []) (hs ++ [])
+right_none : (es : List Entry) (e : Entry) (hs : List Arrival) → something_comes e.input ≡ false → AreHearings es hs → AreHearings (es ++ e ∷ []) (hs ++ [])
 right_none es e hs none all = record {
-  each = AllByRecursion-append (IsHearing (es ++ e ∷ [])) hs [] (all_still es e hs all.each) tt;
-  places = ap (map (λ (x : Hearing). x.at)) (append-nil hs) ∙ all.places ∙ sym (comings-snoc es e ∙ ap (λ ps. by_row coming_in es ++ ps) (come_none (length es) e none) ∙ append-nil (by_row coming_in es));
+  each = AllByRecursion-append (IsArrival (es ++ e ∷ [])) hs [] (all_still es e hs all.each) tt;
+  places = ap (map (λ (x : Arrival). x.at)) (append-nil hs) ∙ all.places ∙ sym (comings-snoc es e ∙ ap (λ ps. by_entry coming_in es ++ ps) (come_none (length es) e none) ∙ append-nil (by_entry coming_in es));
 }
 
 -- an event that left an entry
-pub right_more : (starts : List Start) (es : List Entry) (event : Event) (e : Entry) (hs : List Hearing) → asked starts es event ≡ Some e.input → AreHearings es hs → AreHearings (es ++ e ∷ []) (hs ++ came (number_in event) (length es, e))
-right_more starts es event e hs asks all = which (number_in event) refl
+pub right_more : (starts : List Start) (es : List Entry) (event : Event) (e : Entry) (hs : List Arrival) → required_input starts es event ≡ Some e.input → AreHearings es hs → AreHearings (es ++ e ∷ []) (hs ++ came (delivered_number event) (length es, e))
+right_more starts es event e hs asks all = which (delivered_number event) refl
   where
     asks_it : input_of es event ≡ Some e.input
     asks_it = asked_input starts es event e.input asks
 
-    which : (o : Option ℕ) → number_in event ≡ o → AreHearings (es ++ e ∷ []) (hs ++ came o (length es, e))
+    which : (o : Option ℕ) → delivered_number event ≡ o → AreHearings (es ++ e ∷ []) (hs ++ came o (length es, e))
     which (Some number) is = right_one es e hs number (brings es event number e.input is asks_it) all
     which None is = right_none es e hs (quiet es event e.input is asks_it) all

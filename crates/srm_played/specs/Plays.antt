@@ -7,30 +7,30 @@ use Rattle.srm_world.specs.declared.event.Event.{Event}
 use Rattle.srm_world.specs.declared.event.Event.TheVariants.{Deliver}
 use Rattle.srm_world.specs.Traces.{Trace}
 use Rattle.srm_world.specs.Events.{FollowsOne}
-use Rattle.srm_picture.specs.declared.arrow.Hearing.{Hearing}
+use Rattle.srm_picture.specs.declared.arrow.Arrival.{Arrival}
 use Rattle.srm_picture.specs.Rows.{point_of}
 use Rattle.srm_picture.specs.Arrows.{is_done}
 
 -- what happened, and which datagrams came in which entries
 pub record Content : Type 0 where
   pub trace : Trace
-  pub hearings : List Hearing
+  pub hearings : List Arrival
 
 -- members that began so, and did nothing yet
 abbrev pub unplayed : List Start → Content
 unplayed starts = record { trace = record { starts = starts; entries = [] }; hearings = [] }
 
 -- the number of the datagram that an event delivers
-abbrev pub number_in : Event → Option ℕ
-number_in (Deliver member now index) = Some index
-number_in _ = None
+abbrev pub delivered_number : Event → Option ℕ
+delivered_number (Deliver member now index) = Some index
+delivered_number _ = None
 
 -- that the datagram with this number came in an entry
-abbrev pub hearing_in : ℕ × Entry → ℕ → Hearing
-hearing_in r number = record { number = number; at = point_of r; taken = is_done r.1.verdict }
+abbrev pub hearing_in : ℕ × Entry → ℕ → Arrival
+hearing_in r number = record { number = number; at = point_of r; accepted = is_done r.1.verdict }
 
 -- what came in an entry, by the number that its event has
-abbrev pub came : Option ℕ → ℕ × Entry → List Hearing
+abbrev pub came : Option ℕ → ℕ × Entry → List Arrival
 came number r = option_to_list (option_map (hearing_in r) number)
 
 -- the new entries behind the old ones, each with its row
@@ -41,7 +41,7 @@ added old new = enumerate_from (length old) (drop (length old) new)
 pub record PlaysOne (old : Content) (event : Event) (new : Content) : Type 0 where
   pub starts : new.trace.starts ≡ old.trace.starts
   pub follows : FollowsOne old.trace.starts old.trace.entries event new.trace.entries
-  pub hearings : new.hearings ≡ old.hearings ++ flat_map (came (number_in event)) (added old.trace.entries new.trace.entries)
+  pub hearings : new.hearings ≡ old.hearings ++ flat_map (came (delivered_number event)) (added old.trace.entries new.trace.entries)
 
 -- events in order
 abbrev pub Plays : Content → List Event → Content → Type 0

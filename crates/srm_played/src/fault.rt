@@ -1,12 +1,12 @@
 //! Why there is no picture of a script.
 
 ghost use Rattle.std.specs.Prelude.{◌≡◌};
-ghost use Rattle.srm_script.specs.declared.fault.Fault.TheVariants.{Memory};
+ghost use Rattle.srm_script.specs.declared.fault.ScriptFault.TheVariants.{Memory};
 ghost use Rattle.srm_played.specs.declared.fault.PictureFault.TheVariants.{Script};
 ghost use Rattle.srm_played.specs.Statuses.{status_of};
 
-use crate::limits::EVENTS;
-use srm_script::Fault;
+use crate::limits::MOST_EVENTS;
+use srm_script::ScriptFault;
 use std::alloc::AllocError;
 use std::io::Write;
 use thiserror::Error;
@@ -16,19 +16,19 @@ use thiserror::Error;
 pub enum PictureFault {
     /// The script can't be read or has a bad line, the output can't be written, or memory ran out.
     #[error("{0}")]
-    Script(Fault),
-    /// The script has more than [`EVENTS`] events.
-    #[error("more than {EVENTS} events")]
+    Script(ScriptFault),
+    /// The script has more than [`MOST_EVENTS`] events.
+    #[error("more than {MOST_EVENTS} events")]
     TooManyEvents,
 }
 
 impl PictureFault {
     /// Prints the fault on standard error, and answers the status that the program ends with.
-    pub fn tell<E: Write>(&self, err: &mut E) -> u8
+    pub fn print<E: Write>(&self, err: &mut E) -> u8
         ensures { result ≡ status_of self.now }
     {
         match self {
-            PictureFault::Script(fault) => fault.tell(err),
+            PictureFault::Script(fault) => fault.print(err),
             PictureFault::TooManyEvents => {
                 // Where this can't be written there is nobody left to tell.
                 let _ = writeln!(err, "{self}");
@@ -38,10 +38,10 @@ impl PictureFault {
     }
 }
 
-impl From<Fault> for PictureFault {
+impl From<ScriptFault> for PictureFault {
     ghost from_gives = { λ fault gives. gives ≡ Script fault };
 
-    fn from(fault: Fault) -> PictureFault {
+    fn from(fault: ScriptFault) -> PictureFault {
         PictureFault::Script(fault)
     }
 }
@@ -50,6 +50,6 @@ impl From<AllocError> for PictureFault {
     ghost from_gives = { λ _ gives. gives ≡ Script Memory };
 
     fn from(_error: AllocError) -> PictureFault {
-        PictureFault::Script(Fault::Memory)
+        PictureFault::Script(ScriptFault::Memory)
     }
 }

@@ -2,10 +2,10 @@
 
 ghost use Rattle.std.specs.Prelude.{◌≡◌, ◌<◌, ◌++◌, vec_len, vec_capacity, OnOk, OnErr};
 ghost use Rattle.srm_world.specs.Events.{IsTimely};
-ghost use Rattle.srm_played.specs.Plays.{PlaysOne, came, number_in};
+ghost use Rattle.srm_played.specs.Plays.{PlaysOne, came, delivered_number};
 
 use srm_agent::{Entry, Verdict};
-use srm_picture::{Hearing, Point};
+use srm_picture::{Arrival, Point};
 use srm_timers::Listed;
 use srm_world::{Event, World, WorldFault};
 
@@ -13,7 +13,7 @@ use srm_world::{Event, World, WorldFault};
 /// memory, and then all is as before.
 pub(crate) fn advance(
     world: &mut World<Listed>,
-    hearings: &mut Vec<Hearing>,
+    hearings: &mut Vec<Arrival>,
     event: Event,
 ) -> Result<bool, WorldFault>
     requires { IsTimely event }
@@ -33,7 +33,7 @@ pub(crate) fn advance(
 
 /// The number of the datagram that an event delivers, if it delivers one.
 fn number_of(event: &Event) -> Option<usize>
-    ensures { result ≡ number_in event.now }
+    ensures { result ≡ delivered_number event.now }
 {
     match event {
         Event::Deliver { index, .. } => Some(*index),
@@ -42,19 +42,19 @@ fn number_of(event: &Event) -> Option<usize>
 }
 
 /// Notes that the datagram with this number came in an entry, where there is a number. There is room for it.
-fn note(hearings: &mut Vec<Hearing>, number: Option<usize>, row: usize, entry: &Entry)
+fn note(hearings: &mut Vec<Arrival>, number: Option<usize>, row: usize, entry: &Entry)
     requires { vec_len hearings.old < vec_capacity hearings.old }
     ensures { hearings.new.items ≡ hearings.old.items ++ came number (row, entry.now) }
 {
     let Some(number) = number else {
         return;
     };
-    let _ = hearings.push(Hearing {
+    let _ = hearings.push(Arrival {
         number,
         at: Point {
-            row,
+            entry: row,
             member: entry.member,
         },
-        taken: matches!(entry.verdict, Verdict::Done),
+        accepted: matches!(entry.verdict, Verdict::Done),
     });
 }

@@ -8,7 +8,7 @@
 //! [`play`] plays a script to its end and keeps which datagram came in which entry, so that `srm_picture` can draw it. [`run_picture`] is the
 //! whole of `srm picture`, over any streams.
 //!
-//! **What is refused.** What `srm_script` refuses of a script, and one of more than [`EVENTS`] events. [`PictureFault`] has the text and the
+//! **What is refused.** What `srm_script` refuses of a script, and one of more than [`MOST_EVENTS`] events. [`PictureFault`] has the text and the
 //! status of each.
 #![tactic(auto)]
 
@@ -19,6 +19,6 @@ mod played;
 mod run;
 
 pub use fault::PictureFault;
-pub use limits::EVENTS;
+pub use limits::MOST_EVENTS;
 pub use played::{Played, play};
 pub use run::run_picture;

@@ -1,4 +1,4 @@
 //! The limits.
 
 /// Events of a script that is drawn, at most.
-pub const EVENTS: usize = 2_000;
+pub const MOST_EVENTS: usize = 2_000;

@@ -8,10 +8,10 @@ ghost use Rattle.srm_played.specs.declared.fault.PictureFault.TheVariants.{TooMa
 
 use crate::fault::PictureFault;
 use crate::hearing::advance;
-use crate::limits::EVENTS;
+use crate::limits::MOST_EVENTS;
 use srm_agent::Config;
-use srm_picture::{Hearing, Picture, Subject};
-use srm_script::{Fault, Report, Script, print_newest};
+use srm_picture::{Arrival, Picture, Subject};
+use srm_script::{EntryPrinter, Script, ScriptFault, print_newest};
 use srm_timers::Listed;
 use srm_world::{Event, World};
 use std::alloc::{AllocError, Global};
@@ -21,7 +21,7 @@ use std::marker::Model;
 #[derive(Drop)]
 pub struct Played {
     world: World<Listed>,
-    hearings: Vec<Hearing>,
+    hearings: Vec<Arrival>,
     /// The lines of each entry, as `srm world` prints them with timers.
     lines: Vec<Vec<u8>>,
 }
@@ -37,15 +37,15 @@ impl Model for Played {
     ghost invariant = { IsPlayed };
 }
 
-/// Plays a script to its end. Refused is a script of more than [`EVENTS`] events, before any is played, and want of memory.
+/// Plays a script to its end. Refused is a script of more than [`MOST_EVENTS`] events, before any is played, and want of memory.
 pub fn play(alloc: Global, script: Script) -> Result<Played, PictureFault>
     requires roster { IsRoster (started script.configs.items) }
     requires words { length script.words.items ≡ length script.configs.items }
     requires timely { All IsTimely script.events.items }
-    ensures refused { (result ≡ Err TooManyEvents) ↔ (EVENTS < length script.events.items) }
+    ensures refused { (result ≡ Err TooManyEvents) ↔ (MOST_EVENTS < length script.events.items) }
     ensures plays { IfOk result (Plays (unplayed (started script.configs.items)) script.events.items) }
 {
-    if script.events.len() > EVENTS {
+    if script.events.len() > MOST_EVENTS {
         return Err(PictureFault::TooManyEvents);
     }
     let Script {
@@ -64,12 +64,12 @@ impl Played {
     ghost use Rattle.srm_world.specs.Traces.{IsRoster, started};
     ghost use Rattle.srm_world.specs.Events.{IsTimely};
     ghost use Rattle.srm_picture.specs.Arrows.{AreHearings};
-    ghost use Rattle.srm_picture.specs.Pictures.{Draws};
+    ghost use Rattle.srm_picture.specs.Pictures.{Depicts};
     ghost use Rattle.srm_played.specs.Plays.{Plays, PlaysOne, unplayed};
 
     /// The picture of what happened. Only want of memory refuses it.
     pub fn picture(&self, alloc: Global) -> Result<Picture, AllocError>
-        ensures draws { IfOk result (Draws self.now.trace.entries self.now.hearings) }
+        ensures draws { IfOk result (Depicts self.now.trace.entries self.now.hearings) }
         ensures heard { AreHearings self.now.trace.entries self.now.hearings }
     {
         Picture::of(
@@ -111,13 +111,13 @@ impl Played {
         })
     }
 
-    /// Plays events in order. Refused is [`Fault::Memory`] alone.
+    /// Plays events in order. Refused is [`ScriptFault::Memory`] alone.
     #[tactic(auto, using(crate::proofs::Playing::reaches_none, crate::proofs::Playing::reaches_more, crate::proofs::Playing::reaches_all))]
-    fn run(&mut self, alloc: Global, events: Vec<Event>) -> Result<(), Fault>
+    fn run(&mut self, alloc: Global, events: Vec<Event>) -> Result<(), ScriptFault>
         requires { All IsTimely events.items }
         ensures { OnOk result (Plays self.old events.items self.new) }
     {
-        let mut report = Report::new(true);
+        let mut report = EntryPrinter::new(true);
         for event in events {
             self.apply(alloc, &mut report, event)?;
         }
@@ -125,7 +125,12 @@ impl Played {
     }
 
     /// Plays an event, and keeps the lines of what it did.
-    fn apply(&mut self, alloc: Global, report: &mut Report, event: Event) -> Result<(), Fault>
+    fn apply(
+        &mut self,
+        alloc: Global,
+        report: &mut EntryPrinter,
+        event: Event,
+    ) -> Result<(), ScriptFault>
         requires { IsTimely event }
         ensures { OnOk result (PlaysOne self.old event self.new) }
     {
@@ -140,10 +145,10 @@ impl Played {
 fn keep_lines(
     alloc: Global,
     world: &World<Listed>,
-    report: &mut Report,
+    report: &mut EntryPrinter,
     lines: &mut Vec<Vec<u8>>,
-) -> Result<(), Fault> {
+) -> Result<(), ScriptFault> {
     let mut printed = Vec::new(alloc);
-    print_newest(world, report, &mut printed).map_err(Fault::of_output)?;
+    print_newest(world, report, &mut printed).map_err(ScriptFault::of_output)?;
     Ok(lines.push(printed).map_err(AllocError::from)?)
 }

@@ -5,7 +5,7 @@ ghost use Rattle.srm_played.specs.Statuses.{IsStatus};
 use crate::fault::PictureFault;
 use crate::played::play;
 use srm_picture::write_svg;
-use srm_script::{Fault, read_input, read_script};
+use srm_script::{ScriptFault, read_input, read_script};
 use std::alloc::Global;
 use std::io::{BufWriter, Read, Write};
 
@@ -24,7 +24,7 @@ pub fn run_picture<I: Read, O: Write, E: Write>(
 {
     match run(alloc, reader, out) {
         Ok(()) => 0,
-        Err(fault) => fault.tell(err),
+        Err(fault) => fault.print(err),
     }
 }
 
@@ -32,7 +32,7 @@ fn run<I: Read, O: Write>(alloc: Global, reader: &mut I, out: &mut O) -> Result<
     let input = read_input(alloc, reader)?;
     let played = play(alloc, read_script(alloc, input.as_slice())?)?;
     let picture = played.picture(alloc)?;
-    let mut out = BufWriter::new(alloc, out).map_err(Fault::of_output)?;
-    write_svg(alloc, &mut out, &played.subject(), &picture).map_err(Fault::of_output)?;
-    Ok(out.flush().map_err(Fault::of_output)?)
+    let mut out = BufWriter::new(alloc, out).map_err(ScriptFault::of_output)?;
+    write_svg(alloc, &mut out, &played.subject(), &picture).map_err(ScriptFault::of_output)?;
+    Ok(out.flush().map_err(ScriptFault::of_output)?)
 }

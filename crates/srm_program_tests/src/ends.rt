@@ -3,7 +3,7 @@
 use srm_member::MemberFault;
 use srm_node::{NodeFault, WorkEnd, Worked};
 use srm_pages::lanes;
-use srm_script::Fault;
+use srm_script::ScriptFault;
 use std::alloc::{AllocError, Global};
 use std::process::Abort;
 use std::test::Fail;
@@ -28,7 +28,7 @@ fn assert_ends<R: Abort + AllocGlobal>(
     let worked = worker_that_ended(rt.alloc(), of_worker)?;
     let mut err = Vec::new(rt.alloc());
     let told = match MemberFault::of_run(end, worked.as_slice()) {
-        Some(fault) => fault.tell(&mut err),
+        Some(fault) => fault.print(&mut err),
         None => 0,
     };
     assert_eq!(rt; told, status);
@@ -53,7 +53,7 @@ fn want_of_memory_comes_before_all_else(rt: HostRuntime) -> Result<(), Fail> {
     Ok(())
 }
 
-fn of_streams(fault: Fault) -> Option<MemberFault> {
+fn of_streams(fault: ScriptFault) -> Option<MemberFault> {
     Some(MemberFault::Script(fault))
 }
 
@@ -62,18 +62,26 @@ fn of_streams(fault: Fault) -> Option<MemberFault> {
 fn what_befell_the_streams_comes_last(rt: HostRuntime) {
     for (run, noted, wanted) in [
         (None, None, None),
-        (None, Some(Fault::Input), of_streams(Fault::Input)),
-        (None, Some(Fault::Memory), of_streams(Fault::Memory)),
+        (
+            None,
+            Some(ScriptFault::StandardInput),
+            of_streams(ScriptFault::StandardInput),
+        ),
+        (
+            None,
+            Some(ScriptFault::Memory),
+            of_streams(ScriptFault::Memory),
+        ),
         (Some(MemberFault::Turns), None, Some(MemberFault::Turns)),
         (
             Some(MemberFault::Turns),
-            Some(Fault::Output),
+            Some(ScriptFault::Output),
             Some(MemberFault::Turns),
         ),
         (
             Some(MemberFault::Wire),
-            Some(Fault::Memory),
-            of_streams(Fault::Memory),
+            Some(ScriptFault::Memory),
+            of_streams(ScriptFault::Memory),
         ),
     ] {
         assert_eq!(rt; MemberFault::of_live(run, noted), wanted);

@@ -5,7 +5,7 @@ ghost use Rattle.srm_world.specs.Events.{IsTimely};
 
 use crate::again::{buffer, text};
 use crate::scripts::{BY_WORDS, OUT_OF_ORDER, REPAIRED_BY_ANOTHER};
-use srm_script::{Fault, Report, Script, print_newest, read_script};
+use srm_script::{EntryPrinter, Script, ScriptFault, print_newest, read_script};
 use srm_timers::Listed;
 use srm_world::{Event, World};
 use std::alloc::Global;
@@ -20,7 +20,7 @@ struct Begun {
     timers: bool,
 }
 
-fn try_begin(alloc: Global, script: &str) -> Result<Begun, Fault>
+fn try_begin(alloc: Global, script: &str) -> Result<Begun, ScriptFault>
     ensures { IfOk result (λ begun. All IsTimely begun.events.items) }
 {
     let Script {
@@ -55,7 +55,7 @@ fn step(
     rt: &impl Abort,
     world: &mut World<Listed>,
     event: &Event,
-    report: &mut Report,
+    report: &mut EntryPrinter,
     out: &mut Vec<u8>,
 )
     requires { IsTimely event.now }
@@ -70,7 +70,7 @@ fn run_each(
     rt: &impl Abort,
     world: &mut World<Listed>,
     events: &[Event],
-    report: &mut Report,
+    report: &mut EntryPrinter,
     out: &mut Vec<u8>,
 )
     requires { All IsTimely events.now }
@@ -87,7 +87,7 @@ fn play(rt: &impl Abort, alloc: Global, script: &str, wanted: &str) -> String {
         events,
         timers,
     } = begin(rt, alloc, script);
-    let mut report = Report::new(timers);
+    let mut report = EntryPrinter::new(timers);
     let mut out = buffer(rt, alloc);
     run_each(rt, &mut world, events.as_slice(), &mut report, &mut out);
     assert_eq!(rt; out.as_slice(), wanted.as_bytes());

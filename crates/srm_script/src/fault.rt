@@ -11,10 +11,10 @@ use thiserror::Error;
 
 /// Why a script isn't run to its end. Its text is the line that standard error gets.
 #[derive(Debug, Drop, PartialEq, Eq, Error)]
-pub enum Fault {
+pub enum ScriptFault {
     /// Standard input can't be read.
     #[error("srm: input")]
-    Input,
+    StandardInput,
     /// The input has more than 1,000,000 bytes.
     #[error("input too long")]
     TooLong,
@@ -29,38 +29,41 @@ pub enum Fault {
     Memory,
 }
 
-impl Fault {
+impl ScriptFault {
     /// Prints the fault on standard error, and answers the status that the program ends with.
-    pub fn tell<E: Write>(&self, err: &mut E) -> u8
+    pub fn print<E: Write>(&self, err: &mut E) -> u8
         ensures { result ≡ status_of self.now }
     {
         // Where this can't be written there is nobody left to tell.
         let _ = writeln!(err, "{self}");
         match self {
-            Fault::Input | Fault::TooLong | Fault::BadLine(_) | Fault::Output => 1,
-            Fault::Memory => 4,
+            ScriptFault::StandardInput
+            | ScriptFault::TooLong
+            | ScriptFault::BadLine(_)
+            | ScriptFault::Output => 1,
+            ScriptFault::Memory => 4,
         }
     }
 
     /// The fault of a write to standard output.
-    pub fn of_output(error: io::Error) -> Fault {
+    pub fn of_output(error: io::Error) -> ScriptFault {
         match error.kind() {
-            io::ErrorKind::OutOfMemory => Fault::Memory,
-            _ => Fault::Output,
+            io::ErrorKind::OutOfMemory => ScriptFault::Memory,
+            _ => ScriptFault::Output,
         }
     }
 }
 
-impl From<AllocError> for Fault {
-    fn from(_error: AllocError) -> Fault {
-        Fault::Memory
+impl From<AllocError> for ScriptFault {
+    fn from(_error: AllocError) -> ScriptFault {
+        ScriptFault::Memory
     }
 }
 
-impl From<WorldFault> for Fault {
-    fn from(fault: WorldFault) -> Fault {
+impl From<WorldFault> for ScriptFault {
+    fn from(fault: WorldFault) -> ScriptFault {
         match fault {
-            WorldFault::Memory => Fault::Memory,
+            WorldFault::Memory => ScriptFault::Memory,
         }
     }
 }

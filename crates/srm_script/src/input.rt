@@ -1,6 +1,6 @@
 //! Reading standard input.
 
-use crate::fault::Fault;
+use crate::fault::ScriptFault;
 use std::alloc::Global;
 use std::io::{ErrorKind, Read};
 
@@ -8,12 +8,12 @@ use std::io::{ErrorKind, Read};
 const INPUT: usize = 1_000_000;
 
 /// Reads to the end. Refused is an input that can't be read, or that is longer than a script may be.
-pub fn read_input<I: Read>(alloc: Global, reader: &mut I) -> Result<Vec<u8>, Fault> {
+pub fn read_input<I: Read>(alloc: Global, reader: &mut I) -> Result<Vec<u8>, ScriptFault> {
     let mut bytes = Vec::new(alloc);
     match reader.take(INPUT as u64 + 1).read_to_end(&mut bytes) {
-        Ok(_) if bytes.len() > INPUT => Err(Fault::TooLong),
+        Ok(_) if bytes.len() > INPUT => Err(ScriptFault::TooLong),
         Ok(_) => Ok(bytes),
-        Err(error) if error.kind() == ErrorKind::OutOfMemory => Err(Fault::Memory),
-        Err(_) => Err(Fault::Input),
+        Err(error) if error.kind() == ErrorKind::OutOfMemory => Err(ScriptFault::Memory),
+        Err(_) => Err(ScriptFault::StandardInput),
     }
 }

@@ -8,7 +8,7 @@
 //! `docs/SCRIPTS.md` has the language.
 //!
 //! **What is refused.** The first bad line, before any is played; a script of more than 1,000,000 bytes; a stream that fails;
-//! want of memory. [`Fault`] has the text and the status of each.
+//! want of memory. [`ScriptFault`] has the text and the status of each.
 #![tactic(auto)]
 
 mod fault;
@@ -17,8 +17,8 @@ mod play;
 mod report;
 mod script;
 
-pub use fault::Fault;
+pub use fault::ScriptFault;
 pub use input::read_input;
 pub use play::{print_newest, run_event, run_script};
-pub use report::{Report, ShownMessage};
+pub use report::{EntryPrinter, PrintedMessage};
 pub use script::{Script, read_script};

@@ -3,9 +3,9 @@
 ghost use Rattle.std.specs.Prelude.{All};
 ghost use Rattle.srm_world.specs.Events.{IsTimely};
 
-use crate::fault::Fault;
+use crate::fault::ScriptFault;
 use crate::input::read_input;
-use crate::report::Report;
+use crate::report::EntryPrinter;
 use crate::script::{Script, read_script};
 use srm_timers::Listed;
 use srm_world::{Event, World};
@@ -26,11 +26,11 @@ pub fn run_script<I: Read, O: Write, E: Write>(
 ) -> u8 {
     match run(alloc, reader, out) {
         Ok(()) => 0,
-        Err(fault) => fault.tell(err),
+        Err(fault) => fault.print(err),
     }
 }
 
-fn run<I: Read, O: Write>(alloc: Global, reader: &mut I, out: &mut O) -> Result<(), Fault> {
+fn run<I: Read, O: Write>(alloc: Global, reader: &mut I, out: &mut O) -> Result<(), ScriptFault> {
     let input = read_input(alloc, reader)?;
     let Script {
         configs,
@@ -39,20 +39,20 @@ fn run<I: Read, O: Write>(alloc: Global, reader: &mut I, out: &mut O) -> Result<
         events,
     } = read_script(alloc, input.as_slice())?;
     let mut world = World::new(alloc, configs, words)?;
-    let mut out = BufWriter::new(alloc, out).map_err(Fault::of_output)?;
-    let ran = run_events(&mut world, events, &mut Report::new(timers), &mut out);
+    let mut out = BufWriter::new(alloc, out).map_err(ScriptFault::of_output)?;
+    let ran = run_events(&mut world, events, &mut EntryPrinter::new(timers), &mut out);
     // What was printed before want of memory is still written.
     let flushed = out.flush();
     ran?;
-    flushed.map_err(Fault::of_output)
+    flushed.map_err(ScriptFault::of_output)
 }
 
 fn run_events<O: Write>(
     world: &mut World<Listed>,
     events: Vec<Event>,
-    report: &mut Report,
+    report: &mut EntryPrinter,
     out: &mut O,
-) -> Result<(), Fault>
+) -> Result<(), ScriptFault>
     requires { All IsTimely events.items }
 {
     for event in events {
@@ -61,13 +61,13 @@ fn run_events<O: Write>(
     Ok(())
 }
 
-/// Applies an event and prints what it did. Refused are [`Fault::Memory`] and [`Fault::Output`].
+/// Applies an event and prints what it did. Refused are [`ScriptFault::Memory`] and [`ScriptFault::Output`].
 pub fn run_event<O: Write>(
     world: &mut World<Listed>,
     event: Event,
-    report: &mut Report,
+    report: &mut EntryPrinter,
     out: &mut O,
-) -> Result<(), Fault>
+) -> Result<(), ScriptFault>
     requires { IsTimely event }
 {
     let printed = if world.apply(event)? {
@@ -75,13 +75,13 @@ pub fn run_event<O: Write>(
     } else {
         writeln!(out, "skipped")
     };
-    printed.map_err(Fault::of_output)
+    printed.map_err(ScriptFault::of_output)
 }
 
 /// Prints the newest entry of a world, if there is one. Refused is what the output refuses.
 pub fn print_newest<O: Write>(
     world: &World<Listed>,
-    report: &mut Report,
+    report: &mut EntryPrinter,
     out: &mut O,
 ) -> io::Result<()> {
     match world.trace().entries().last() {

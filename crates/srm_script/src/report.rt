@@ -5,8 +5,8 @@ ghost use Rattle.srm_codec.specs.Spelling.{IsSpellable};
 
 mod shown;
 
-pub use shown::ShownMessage;
-use shown::{ShownAnswer, ShownArm, ShownName, ShownPage};
+pub use shown::PrintedMessage;
+use shown::{PrintedAnswer, PrintedArm, PrintedName, PrintedPage};
 use srm_agent::{AgentState, Arm, Effects, Entry, Input, Verdict};
 use srm_codec::{Datagram, length};
 use srm_names::Name;
@@ -15,17 +15,17 @@ use std::io::Write;
 
 /// What is printed, and how far it got.
 #[derive(Drop)]
-pub struct Report {
+pub struct EntryPrinter {
     /// Whether timers are printed.
     timers: bool,
     /// How many datagrams were sent so far.
     sent: u64,
 }
 
-impl Report {
+impl EntryPrinter {
     /// A report of which nothing was printed yet, with timers or without.
-    pub fn new(timers: bool) -> Report {
-        Report { timers, sent: 0 }
+    pub fn new(timers: bool) -> EntryPrinter {
+        EntryPrinter { timers, sent: 0 }
     }
 
     /// Prints the lines of an entry. Refused is what the output refuses.
@@ -50,26 +50,26 @@ impl Report {
         requires { AllByRecursion IsSpellable effects.now.outs }
     {
         match input {
-            Input::Drew(page, _) => print_drew(out, member, &ShownPage(*page), effects),
+            Input::Drew(page, _) => print_drew(out, member, &PrintedPage(*page), effects),
             Input::Heard(_) | Input::Noise => {
                 writeln!(out, "heard {member} taken")?;
                 self.print_arms(out, member, effects.arms.as_slice())
             }
             Input::Ticked => self.print_tick(out, member, effects),
-            Input::Showed(page) => writeln!(out, "shown {member} {}", ShownPage(*page)),
+            Input::Showed(page) => writeln!(out, "shown {member} {}", PrintedPage(*page)),
             Input::AskedLeave => writeln!(out, "leaving {member}"),
             Input::Gave(slot) => {
                 writeln!(
                     out,
                     "gave {member} {slot} {}",
-                    ShownAnswer(&effects.message)
+                    PrintedAnswer(&effects.message)
                 )
             }
             Input::Took(slot) => {
                 writeln!(
                     out,
                     "took {member} {slot} {}",
-                    ShownAnswer(&effects.message)
+                    PrintedAnswer(&effects.message)
                 )
             }
         }
@@ -93,7 +93,7 @@ impl Report {
     fn print_arms<W: Write>(&self, out: &mut W, member: u8, arms: &[Arm]) -> io::Result<()> {
         if self.timers {
             for arm in arms {
-                writeln!(out, "arm {member} {}", ShownArm(arm))?;
+                writeln!(out, "arm {member} {}", PrintedArm(arm))?;
             }
         }
         Ok(())
@@ -126,7 +126,7 @@ fn becomes_gone(effects: &Effects) -> bool {
 fn print_drew<W: Write>(
     out: &mut W,
     member: u8,
-    page: &ShownPage,
+    page: &PrintedPage,
     effects: &Effects,
 ) -> io::Result<()> {
     match &effects.drawn {
@@ -137,7 +137,7 @@ fn print_drew<W: Write>(
 
 fn print_names<W: Write>(out: &mut W, what: &str, member: u8, names: &[Name]) -> io::Result<()> {
     for name in names {
-        writeln!(out, "{what} {member} {}", ShownName(*name))?;
+        writeln!(out, "{what} {member} {}", PrintedName(*name))?;
     }
     Ok(())
 }

@@ -11,7 +11,7 @@ mod line_reader;
 mod number;
 mod roster;
 
-use crate::fault::Fault;
+use crate::fault::ScriptFault;
 use header::Header;
 use line::{read_line, read_members};
 use srm_agent::Config;
@@ -30,7 +30,7 @@ pub struct Script {
 }
 
 /// Reads a whole script, however long, and runs nothing of it. Refused is its first bad line, and want of memory.
-pub fn read_script(alloc: Global, text: &[u8]) -> Result<Script, Fault>
+pub fn read_script(alloc: Global, text: &[u8]) -> Result<Script, ScriptFault>
     ensures roster { IfOk result (λ script. IsRoster (started script.configs.items)) }
     ensures words { IfOk result (λ script. length script.words.items ≡ length script.configs.items) }
     ensures timely { IfOk result (λ script. All IsTimely script.events.items) }

@@ -21,7 +21,7 @@ use Rattle.srm_store.specs.Held.{has_name, held_at, number_in, known, page_of_dr
 use Rattle.srm_store.specs.Finals.{Settling, rows_for, rows_of, rows_kept, FinalsContent, SameFinals, Settles}
 use Rattle.srm_store.specs.Places.{place_at}
 use Rattle.srm_store.specs.Rows.{RowContent}
-use Rattle.srm_store.specs.Tables.{TableContent, is_in, slot_of, row_at, drawop_at, each_once, IsNewTable, SameTable, TableGains, TableLearns}
+use Rattle.srm_store.specs.Tables.{TableContent, is_in, slot_of, row_at, drawop_in_table, each_once, IsNewTable, SameTable, TableGains, TableLearns}
 use Rattle.srm_store.specs.Stores.{StoreContent}
 use Rattle.srm_store.specs.Rooms.{RoomContent}
 use Rattle.srm_store.specs.Fits.{Fits, StillFits}
@@ -60,10 +60,10 @@ name_elsewhere a n other = go (same_name a n) refl
     go false e = refl
     go true e = absurd (false≢true (sym other ∙ ap (λ (m : FullName). same_stream n.stream m.stream) (same_name-is a n e) ∙ same_stream-itself n.stream))
 
-gains_at : (d : Drawop) (old new : TableContent) → TableGains d old new → (n : FullName) → n.stream.source < MEMBERS → drawop_at new n ≡ (if same_name d.name n then or_else (drawop_at old n) (Some d) else drawop_at old n)
+gains_at : (d : Drawop) (old new : TableContent) → TableGains d old new → (n : FullName) → n.stream.source < MEMBERS → drawop_in_table new n ≡ (if same_name d.name n then or_else (drawop_in_table old n) (Some d) else drawop_in_table old n)
 gains_at d old new g n lt = go (same_stream n.stream d.name.stream) refl
   where
-    go : (b : Bool) → same_stream n.stream d.name.stream ≡ b → drawop_at new n ≡ (if same_name d.name n then or_else (drawop_at old n) (Some d) else drawop_at old n)
+    go : (b : Bool) → same_stream n.stream d.name.stream ≡ b → drawop_in_table new n ≡ (if same_name d.name n then or_else (drawop_in_table old n) (Some d) else drawop_in_table old n)
     go true e =
         let s = same_stream-is n.stream d.name.stream e in
         rw (name_here d.name n s) (subst (λ (u : Stream). place_at (row_at new u).places n.number ≡ (if n.number == d.name.number then or_else (place_at (row_at old u).places n.number) (Some d) else place_at (row_at old u).places n.number)) (sym s) (g.row.each n.number))
@@ -76,10 +76,10 @@ gains_known d old new g s lt = go (same_stream s d.name.stream) refl
     go true e = subst (λ u. (row_at new u).known ≡ (row_at old u).known) (sym (same_stream-is s d.name.stream e)) g.row.known
     go false e = (g.others s lt e).known
 
-learns_at : (a : FullName) (old new : TableContent) → TableLearns a old new → (n : FullName) → n.stream.source < MEMBERS → drawop_at new n ≡ drawop_at old n
+learns_at : (a : FullName) (old new : TableContent) → TableLearns a old new → (n : FullName) → n.stream.source < MEMBERS → drawop_in_table new n ≡ drawop_in_table old n
 learns_at a old new g n lt = go (same_stream n.stream a.stream) refl
   where
-    go : (b : Bool) → same_stream n.stream a.stream ≡ b → drawop_at new n ≡ drawop_at old n
+    go : (b : Bool) → same_stream n.stream a.stream ≡ b → drawop_in_table new n ≡ drawop_in_table old n
     go true e = subst (λ u. place_at (row_at new u).places n.number ≡ place_at (row_at old u).places n.number) (sym (same_stream-is n.stream a.stream e)) (ap (λ (r : RowContent). place_at r.places n.number) g.row)
     go false e = (g.others n.stream lt e).each n.number
 
@@ -95,10 +95,10 @@ pub greatest-append : (xs ys : List ℕ) → greatest (xs ++ ys) ≡ max (greate
 greatest-append [] ys = omega arith
 greatest-append (x ∷ xs) ys = rw (greatest-append xs ys) (omega arith)
 
-known_more : (shown : List FullName) (a : FullName) (s : Stream) → known (shown ++ a ∷ []) s ≡ (if same_stream s a.stream then max (known shown s) a.number else known shown s)
-known_more shown a s = ap greatest (flat_map-append (number_in s) shown (a ∷ [])) ∙ greatest-append (flat_map (number_in s) shown) _ ∙ go (same_stream s a.stream)
+known_more : (evidence : List FullName) (a : FullName) (s : Stream) → known (evidence ++ a ∷ []) s ≡ (if same_stream s a.stream then max (known evidence s) a.number else known evidence s)
+known_more evidence a s = ap greatest (flat_map-append (number_in s) evidence (a ∷ [])) ∙ greatest-append (flat_map (number_in s) evidence) _ ∙ go (same_stream s a.stream)
   where
-    go : (b : Bool) → max (known shown s) (greatest ((if b then a.number ∷ [] else []) ++ [])) ≡ (if b then max (known shown s) a.number else known shown s)
+    go : (b : Bool) → max (known evidence s) (greatest ((if b then a.number ∷ [] else []) ++ [])) ≡ (if b then max (known evidence s) a.number else known evidence s)
     go true = omega arith
     go false = omega arith
 
@@ -126,43 +126,43 @@ or_assoc : (a b c : Bool) → (a || (b || c)) ≡ ((a || b) || c)
 or_assoc true b c = refl
 or_assoc false b c = refl
 
-pages_inserted : (inserted : List Drawop) (shown : List FullName) (d : Drawop) (p : Page) → is_in (pages_named (inserted ++ d ∷ []) shown) p ≡ is_in (pages_named inserted shown) p || same_page d.name.stream.page p
-pages_inserted inserted shown d p =
-    ap (λ ps. same_page first_page p || is_in (ps ++ map page_of_name shown) p) (map-append page_of_drawop inserted (d ∷ []))
-    ∙ ap (λ b. same_page first_page p || b) (any_front (λ q. same_page q p) (map page_of_drawop inserted) (map page_of_name shown) d.name.stream.page)
-    ∙ or_assoc (same_page first_page p) (is_in (map page_of_drawop inserted ++ map page_of_name shown) p) (same_page d.name.stream.page p)
+pages_inserted : (inserted : List Drawop) (evidence : List FullName) (d : Drawop) (p : Page) → is_in (pages_named (inserted ++ d ∷ []) evidence) p ≡ is_in (pages_named inserted evidence) p || same_page d.name.stream.page p
+pages_inserted inserted evidence d p =
+    ap (λ ps. same_page first_page p || is_in (ps ++ map page_of_name evidence) p) (map-append page_of_drawop inserted (d ∷ []))
+    ∙ ap (λ b. same_page first_page p || b) (any_front (λ q. same_page q p) (map page_of_drawop inserted) (map page_of_name evidence) d.name.stream.page)
+    ∙ or_assoc (same_page first_page p) (is_in (map page_of_drawop inserted ++ map page_of_name evidence) p) (same_page d.name.stream.page p)
 
-pages_shown : (inserted : List Drawop) (shown : List FullName) (n : FullName) (p : Page) → is_in (pages_named inserted (shown ++ n ∷ [])) p ≡ is_in (pages_named inserted shown) p || same_page n.stream.page p
-pages_shown inserted shown n p =
-    ap (λ ps. same_page first_page p || is_in (map page_of_drawop inserted ++ ps) p) (map-append page_of_name shown (n ∷ []))
-    ∙ ap (λ b. same_page first_page p || b) (any_back (λ q. same_page q p) (map page_of_drawop inserted) (map page_of_name shown) n.stream.page)
-    ∙ or_assoc (same_page first_page p) (is_in (map page_of_drawop inserted ++ map page_of_name shown) p) (same_page n.stream.page p)
+pages_shown : (inserted : List Drawop) (evidence : List FullName) (n : FullName) (p : Page) → is_in (pages_named inserted (evidence ++ n ∷ [])) p ≡ is_in (pages_named inserted evidence) p || same_page n.stream.page p
+pages_shown inserted evidence n p =
+    ap (λ ps. same_page first_page p || is_in (map page_of_drawop inserted ++ ps) p) (map-append page_of_name evidence (n ∷ []))
+    ∙ ap (λ b. same_page first_page p || b) (any_back (λ q. same_page q p) (map page_of_drawop inserted) (map page_of_name evidence) n.stream.page)
+    ∙ or_assoc (same_page first_page p) (is_in (map page_of_drawop inserted ++ map page_of_name evidence) p) (same_page n.stream.page p)
 
 -- a page has no slot left exactly where it would be one too many
-module _ {inserted : List Drawop} {shown : List FullName} {settled : List Settling} {s : StoreContent} (h : Fits inserted shown settled s) (few : length s.table.pages ≤ PAGES) (p : Page) where
-  count : length (firsts same_page (pages_named inserted shown)) ≡ length s.table.pages
+module _ {inserted : List Drawop} {evidence : List FullName} {settled : List Settling} {s : StoreContent} (h : Fits inserted evidence settled s) (few : length s.table.pages ≤ PAGES) (p : Page) where
+  count : length (firsts same_page (pages_named inserted evidence)) ≡ length s.table.pages
   count =
-      let up = length-included s.table.pages (firsts same_page (pages_named inserted shown)) h.once (λ q there. is_in-firsts (pages_named inserted shown) q ∙ sym (h.pages q) ∙ there) in
-      let down = length-included (firsts same_page (pages_named inserted shown)) s.table.pages (each_once-firsts (pages_named inserted shown)) (λ q there. h.pages q ∙ sym (is_in-firsts (pages_named inserted shown) q) ∙ there) in
+      let up = length-included s.table.pages (firsts same_page (pages_named inserted evidence)) h.once (λ q there. is_in-firsts (pages_named inserted evidence) q ∙ sym (h.pages q) ∙ there) in
+      let down = length-included (firsts same_page (pages_named inserted evidence)) s.table.pages (each_once-firsts (pages_named inserted evidence)) (λ q there. h.pages q ∙ sym (is_in-firsts (pages_named inserted evidence) q) ∙ there) in
       omega arith
 
-  counted : (b : Bool) → is_in s.table.pages p ≡ b → overflows inserted shown p ≡ nat_lt PAGES (if b then length s.table.pages else length s.table.pages + 1)
+  counted : (b : Bool) → is_in s.table.pages p ≡ b → overflows inserted evidence p ≡ nat_lt PAGES (if b then length s.table.pages else length s.table.pages + 1)
   counted b e =
-      ap (λ ps. nat_lt PAGES (length ps)) (firsts-snoc same_page (pages_named inserted shown) p ∙ ap (λ (x : Bool). if x then firsts same_page (pages_named inserted shown) else firsts same_page (pages_named inserted shown) ++ p ∷ []) (sym (h.pages p) ∙ e))
+      ap (λ ps. nat_lt PAGES (length ps)) (firsts-snoc same_page (pages_named inserted evidence) p ∙ ap (λ (x : Bool). if x then firsts same_page (pages_named inserted evidence) else firsts same_page (pages_named inserted evidence) ++ p ∷ []) (sym (h.pages p) ∙ e))
       ∙ go b
     where
-      go : (b : Bool) → nat_lt PAGES (length (if b then firsts same_page (pages_named inserted shown) else firsts same_page (pages_named inserted shown) ++ p ∷ [])) ≡ nat_lt PAGES (if b then length s.table.pages else length s.table.pages + 1)
+      go : (b : Bool) → nat_lt PAGES (length (if b then firsts same_page (pages_named inserted evidence) else firsts same_page (pages_named inserted evidence) ++ p ∷ [])) ≡ nat_lt PAGES (if b then length s.table.pages else length s.table.pages + 1)
       go true = ap (nat_lt PAGES) count
-      go false = let e : length (firsts same_page (pages_named inserted shown) ++ p ∷ []) ≡ length s.table.pages + 1 = omega (arith, length-append (firsts same_page (pages_named inserted shown)) (p ∷ []), count) in ap (nat_lt PAGES) e
+      go false = let e : length (firsts same_page (pages_named inserted evidence) ++ p ∷ []) ≡ length s.table.pages + 1 = omega (arith, length-append (firsts same_page (pages_named inserted evidence)) (p ∷ []), count) in ap (nat_lt PAGES) e
 
-  pub full_overflows : slot_of s.table.pages p ≡ PAGES → overflows inserted shown p ≡ true
+  pub full_overflows : slot_of s.table.pages p ≡ PAGES → overflows inserted evidence p ≡ true
   full_overflows full = go (is_in s.table.pages p) refl
     where
-      go : (b : Bool) → is_in s.table.pages p ≡ b → overflows inserted shown p ≡ true
+      go : (b : Bool) → is_in s.table.pages p ≡ b → overflows inserted evidence p ≡ true
       go true e = absurd (omega (arith, slot_of-in s.table.pages p e))
       go false e = counted false e ∙ (let past : PAGES < length s.table.pages + 1 = omega (arith, slot_of-absent s.table.pages p e) in grind (arith, nat_tests))
 
-  pub overflows_full : overflows inserted shown p ≡ true → slot_of s.table.pages p ≡ PAGES
+  pub overflows_full : overflows inserted evidence p ≡ true → slot_of s.table.pages p ≡ PAGES
   overflows_full over = go (is_in s.table.pages p) refl
     where
       go : (b : Bool) → is_in s.table.pages p ≡ b → slot_of s.table.pages p ≡ PAGES
@@ -174,31 +174,31 @@ pub fits_new : (t : TableContent) (f : FinalsContent) (s : StoreContent) → s.t
 fits_new t f s ts fs new none = record {
   pages = λ p. ap (λ (x : TableContent). is_in x.pages p) ts ∙ ap (λ ps. is_in ps p) new.pages;
   once = ap (λ (x : TableContent). each_once x.pages) ts ∙ ap each_once new.pages;
-  held = λ n lt. ap (λ x. drawop_at x n) ts ∙ (new.rows n.stream lt).each n.number ∙ place_at-blank n.number;
+  held = λ n lt. ap (λ x. drawop_in_table x n) ts ∙ (new.rows n.stream lt).each n.number ∙ place_at-blank n.number;
   known = λ stream lt. ap (λ x. (row_at x stream).known) ts ∙ (new.rows stream lt).known;
   rows = λ m. ap (λ x. rows_kept x m) fs ∙ none m;
 }
 
-module _ {inserted : List Drawop} {shown : List FullName} {settled : List Settling} (old new : StoreContent) (h : Fits inserted shown settled old) where
-  pub fits_gains : (d : Drawop) → TableGains d old.table new.table → new.finals ≡ old.finals → Fits (inserted ++ d ∷ []) shown settled new
+module _ {inserted : List Drawop} {evidence : List FullName} {settled : List Settling} (old new : StoreContent) (h : Fits inserted evidence settled old) where
+  pub fits_gains : (d : Drawop) → TableGains d old.table new.table → new.finals ≡ old.finals → Fits (inserted ++ d ∷ []) evidence settled new
   fits_gains d g f = record {
-    pages = λ p. ap (λ ps. is_in ps p) g.pages ∙ is_in-with_page old.table.pages d.name.stream.page p ∙ ap (λ b. b || same_page d.name.stream.page p) (h.pages p) ∙ sym (pages_inserted inserted shown d p);
+    pages = λ p. ap (λ ps. is_in ps p) g.pages ∙ is_in-with_page old.table.pages d.name.stream.page p ∙ ap (λ b. b || same_page d.name.stream.page p) (h.pages p) ∙ sym (pages_inserted inserted evidence d p);
     once = ap each_once g.pages ∙ once_with old.table.pages d.name.stream.page h.once;
     held = λ n lt. gains_at d old.table new.table g n lt ∙ ap (λ o. if same_name d.name n then or_else o (Some d) else o) (h.held n lt) ∙ sym (held_more inserted d n);
     known = λ stream lt. gains_known d old.table new.table g stream lt ∙ h.known stream lt;
     rows = λ m. ap (λ x. rows_kept x m) f ∙ h.rows m;
   }
 
-  pub fits_learns : (a : FullName) → TableLearns a old.table new.table → new.finals ≡ old.finals → Fits inserted (shown ++ a ∷ []) settled new
+  pub fits_learns : (a : FullName) → TableLearns a old.table new.table → new.finals ≡ old.finals → Fits inserted (evidence ++ a ∷ []) settled new
   fits_learns a g f = record {
-    pages = λ p. ap (λ ps. is_in ps p) g.pages ∙ is_in-with_page old.table.pages a.stream.page p ∙ ap (λ b. b || same_page a.stream.page p) (h.pages p) ∙ sym (pages_shown inserted shown a p);
+    pages = λ p. ap (λ ps. is_in ps p) g.pages ∙ is_in-with_page old.table.pages a.stream.page p ∙ ap (λ b. b || same_page a.stream.page p) (h.pages p) ∙ sym (pages_shown inserted evidence a p);
     once = ap each_once g.pages ∙ once_with old.table.pages a.stream.page h.once;
     held = λ n lt. learns_at a old.table new.table g n lt ∙ h.held n lt;
-    known = λ stream lt. learns_known a old.table new.table g stream lt ∙ ap (λ k. if same_stream stream a.stream then max k a.number else k) (h.known stream lt) ∙ sym (known_more shown a stream);
+    known = λ stream lt. learns_known a old.table new.table g stream lt ∙ ap (λ k. if same_stream stream a.stream then max k a.number else k) (h.known stream lt) ∙ sym (known_more evidence a stream);
     rows = λ m. ap (λ x. rows_kept x m) f ∙ h.rows m;
   }
 
-  pub fits_same : SameTable old.table new.table → SameFinals old.finals new.finals → Fits inserted shown settled new
+  pub fits_same : SameTable old.table new.table → SameFinals old.finals new.finals → Fits inserted evidence settled new
   fits_same t f = record {
     pages = λ p. ap (λ ps. is_in ps p) t.pages ∙ h.pages p;
     once = ap each_once t.pages ∙ h.once;
@@ -207,11 +207,11 @@ module _ {inserted : List Drawop} {shown : List FullName} {settled : List Settli
     rows = λ m. f.each m ∙ h.rows m;
   }
 
-  pub fits_settled : (member : ℕ) (rows : List FullName) → new.table ≡ old.table → Settles member rows old.finals new.finals → Fits inserted shown (settled ++ record { member = member; rows = rows } ∷ []) new
+  pub fits_settled : (member : ℕ) (rows : List FullName) → new.table ≡ old.table → Settles member rows old.finals new.finals → Fits inserted evidence (settled ++ record { member = member; rows = rows } ∷ []) new
   fits_settled member rows t f = record {
     pages = λ p. ap (λ (x : TableContent). is_in x.pages p) t ∙ h.pages p;
     once = ap (λ (x : TableContent). each_once x.pages) t ∙ h.once;
-    held = λ n lt. ap (λ x. drawop_at x n) t ∙ h.held n lt;
+    held = λ n lt. ap (λ x. drawop_in_table x n) t ∙ h.held n lt;
     known = λ stream lt. ap (λ x. (row_at x stream).known) t ∙ h.known stream lt;
     rows = λ m. f.each m ∙ ap (λ o. if m == member then or_else o (Some rows) else o) (h.rows m) ∙ sym (rows_more m);
   }
@@ -227,18 +227,18 @@ pub same_finals : (f : FinalsContent) → SameFinals f f
 same_finals f = record { each = λ m. refl }
 
 pub still_fits_on : (a b c : StoreContent) → StillFits a b → StillFits b c → StillFits a c
-still_fits_on a b c h k = record { each = λ inserted shown settled f. k.each inserted shown settled (h.each inserted shown settled f) }
+still_fits_on a b c h k = record { each = λ inserted evidence settled f. k.each inserted evidence settled (h.each inserted evidence settled f) }
 
 pub still_fits : (s : StoreContent) → StillFits s s
-still_fits s = record { each = λ inserted shown settled h. h }
+still_fits s = record { each = λ inserted evidence settled h. h }
 
 -- room for answers has no part in what fits
 pub still_with : (a b : StoreContent) (rooms : List RoomContent) → StillFits a b → StillFits a (record b { rooms = rooms })
 still_with a b rooms h = record {
-  each = λ inserted shown settled f.
-      let g = h.each inserted shown settled f in
+  each = λ inserted evidence settled f.
+      let g = h.each inserted evidence settled f in
       record { pages = g.pages; once = g.once; held = g.held; known = g.known; rows = g.rows };
 }
 
 pub without : (a b : StoreContent) (rooms : List RoomContent) → StillFits b a → StillFits (record b { rooms = rooms }) a
-without a b rooms h = record { each = λ inserted shown settled f. h.each inserted shown settled (record { pages = f.pages; once = f.once; held = f.held; known = f.known; rows = f.rows }) }
+without a b rooms h = record { each = λ inserted evidence settled f. h.each inserted evidence settled (record { pages = f.pages; once = f.once; held = f.held; known = f.known; rows = f.rows }) }

@@ -34,14 +34,14 @@ pub record Reads (s : StoreContent) (u : Stream) (row : RowContent) : Type 0 whe
   pub row_is : row ≡ row_at table u
   pub source : u.source < MEMBERS
 
-module _ {inserted : List Drawop} {shown : List FullName} {settled : List Settling} {s : StoreContent} (h : Fits inserted shown settled s) {u : Stream} {row : RowContent} (r : Reads s u row) where
+module _ {inserted : List Drawop} {evidence : List FullName} {settled : List Settling} {s : StoreContent} (h : Fits inserted evidence settled s) {u : Stream} {row : RowContent} (r : Reads s u row) where
   row_here : row ≡ row_at s.table u
   row_here = r.row_is ∙ ap (λ t. row_at t u) r.is
 
   pub held_here : (k : ℕ) → place_at row.places k ≡ held_at inserted (named u k)
   held_here k = ap (λ (x : RowContent). place_at x.places k) row_here ∙ h.held (named u k) r.source
 
-  pub known_here : row.known ≡ known shown u
+  pub known_here : row.known ≡ known evidence u
   known_here = ap (λ (x : RowContent). x.known) row_here ∙ h.known u r.source
 
   pub holds_here : (k : ℕ) → is_some (place_at row.places k) ≡ is_held inserted (named u k)
@@ -52,23 +52,23 @@ module _ {inserted : List Drawop} {shown : List FullName} {settled : List Settli
   unheld_here (k ∷ ks) = ap (λ (b : Bool). if not b then named u k ∷ row_unheld row (map (named u) ks) else row_unheld row (map (named u) ks)) (holds_here k)
       ∙ ap (λ ns. if not (is_held inserted (named u k)) then named u k ∷ ns else ns) (unheld_here ks)
 
-  pub missing_here : (n : ℕ) → n ≡ row.known → row_unheld row (names_after u 0 n) ≡ missing inserted shown u
+  pub missing_here : (n : ℕ) → n ≡ row.known → row_unheld row (names_after u 0 n) ≡ missing inserted evidence u
   missing_here n e = unheld_here (count_up 1 n) ∙ ap (λ k. unheld inserted (map (named u) (count_up 1 k))) (e ∙ known_here)
 
-  pub newly_here : (after count : ℕ) (n : FullName) → u ≡ n.stream → after ≡ row.known → count ≡ n.number - after → row_unheld row (names_after u after count) ≡ newly_missing inserted shown n
+  pub newly_here : (after count : ℕ) (n : FullName) → u ≡ n.stream → after ≡ row.known → count ≡ n.number - after → row_unheld row (names_after u after count) ≡ newly_missing inserted evidence n
   newly_here after count n stream a c =
       unheld_here (count_up (after + 1) count)
       ∙ ap (λ k. unheld inserted (names_after u after k)) c
       ∙ ap (λ k. unheld inserted (names_after u k (n.number - k))) (a ∙ known_here)
-      ∙ ap (λ v. unheld inserted (names_after v (known shown v) (n.number - known shown v))) stream
+      ∙ ap (λ v. unheld inserted (names_after v (known evidence v) (n.number - known evidence v))) stream
 
 -- the names that the row of a stream doesn't hold, from its first number on, and from the first that wasn't known
-pub missing_is : {inserted : List Drawop} {shown : List FullName} {settled : List Settling} {s : StoreContent} (names : List FullName) (u : Stream) (table : TableContent) (last : ℕ) → Fits inserted shown settled s
-    → table ≡ s.table → u.source < MEMBERS → names ≡ row_unheld (row_at table u) (names_after u 0 last) → last ≡ (row_at table u).known → names ≡ missing inserted shown u
+pub missing_is : {inserted : List Drawop} {evidence : List FullName} {settled : List Settling} {s : StoreContent} (names : List FullName) (u : Stream) (table : TableContent) (last : ℕ) → Fits inserted evidence settled s
+    → table ≡ s.table → u.source < MEMBERS → names ≡ row_unheld (row_at table u) (names_after u 0 last) → last ≡ (row_at table u).known → names ≡ missing inserted evidence u
 missing_is names u table last h same source is known_is = is ∙ missing_here h (record { table = table; is = same; row_is = refl; source = source }) last known_is
 
-pub newly_is : {inserted : List Drawop} {shown : List FullName} {settled : List Settling} {s : StoreContent} (names : List FullName) (n : FullName) (u : Stream) (table : TableContent) (after count : ℕ) → Fits inserted shown settled s
-    → table ≡ s.table → u ≡ n.stream → u.source < MEMBERS → names ≡ row_unheld (row_at table u) (names_after u after count) → after ≡ (row_at table u).known → count ≡ n.number - after → names ≡ newly_missing inserted shown n
+pub newly_is : {inserted : List Drawop} {evidence : List FullName} {settled : List Settling} {s : StoreContent} (names : List FullName) (n : FullName) (u : Stream) (table : TableContent) (after count : ℕ) → Fits inserted evidence settled s
+    → table ≡ s.table → u ≡ n.stream → u.source < MEMBERS → names ≡ row_unheld (row_at table u) (names_after u after count) → after ≡ (row_at table u).known → count ≡ n.number - after → names ≡ newly_missing inserted evidence n
 newly_is names n u table after count h same stream source is after_is count_is = is ∙ newly_here h (record { table = table; is = same; row_is = refl; source = source }) after count n stream after_is count_is
 
 -- the held numbers in front of the first gap

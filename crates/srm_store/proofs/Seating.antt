@@ -134,14 +134,14 @@ once_with_pages pages [] once = once
 once_with_pages pages (p ∷ ps) once = once_with_pages (with_page pages p) ps (once_with pages p once)
 
 -- there would be too many pages exactly where the table with them has too many
-pub outgrows : {inserted : List Drawop} {shown : List FullName} {settled : List Settling} {s : StoreContent} → Fits inserted shown settled s → (ps : List Page) → outgrow inserted shown ps ≡ nat_lt PAGES (length (with_pages s.table.pages ps))
-outgrows {inserted} {shown} {settled} {s} h ps = ap (nat_lt PAGES) count
+pub outgrows : {inserted : List Drawop} {evidence : List FullName} {settled : List Settling} {s : StoreContent} → Fits inserted evidence settled s → (ps : List Page) → outgrow inserted evidence ps ≡ nat_lt PAGES (length (with_pages s.table.pages ps))
+outgrows {inserted} {evidence} {settled} {s} h ps = ap (nat_lt PAGES) count
   where
     all : List Page
-    all = pages_named inserted shown ++ ps
+    all = pages_named inserted evidence ++ ps
 
     same : (q : Page) → is_in (with_pages s.table.pages ps) q ≡ is_in (firsts same_page all) q
-    same q = is_in-with_pages s.table.pages ps q ∙ ap (λ b. b || is_in ps q) (h.pages q) ∙ sym (list_any-append (λ r. same_page r q) (pages_named inserted shown) ps) ∙ sym (is_in-firsts all q)
+    same q = is_in-with_pages s.table.pages ps q ∙ ap (λ b. b || is_in ps q) (h.pages q) ∙ sym (list_any-append (λ r. same_page r q) (pages_named inserted evidence) ps) ∙ sym (is_in-firsts all q)
 
     count : length (firsts same_page all) ≡ length (with_pages s.table.pages ps)
     count =
@@ -199,10 +199,10 @@ front_kept start pages p le e = go (is_in pages p)
     go false = take-append-le (length start) pages (p ∷ []) le ∙ e
 
 -- a store is refused for want of slots exactly where there would be too many pages
-pub too_many : {inserted : List Drawop} {shown : List FullName} {settled : List Settling} {s : StoreContent} → Fits inserted shown settled s → (ps : List Page) → nat_le (length (with_pages s.table.pages ps)) PAGES ≡ false → outgrow inserted shown ps ≡ true
+pub too_many : {inserted : List Drawop} {evidence : List FullName} {settled : List Settling} {s : StoreContent} → Fits inserted evidence settled s → (ps : List Page) → nat_le (length (with_pages s.table.pages ps)) PAGES ≡ false → outgrow inserted evidence ps ≡ true
 too_many {s = s} h ps e = outgrows h ps ∙ (let over : PAGES < length (with_pages s.table.pages ps) = grind (arith, nat_tests) in grind (arith, nat_tests))
 
-pub not_too_many : {inserted : List Drawop} {shown : List FullName} {settled : List Settling} {s : StoreContent} → Fits inserted shown settled s → (ps : List Page) → nat_le (length (with_pages s.table.pages ps)) PAGES ≡ true → outgrow inserted shown ps ≡ true → ⊥
+pub not_too_many : {inserted : List Drawop} {evidence : List FullName} {settled : List Settling} {s : StoreContent} → Fits inserted evidence settled s → (ps : List Page) → nat_le (length (with_pages s.table.pages ps)) PAGES ≡ true → outgrow inserted evidence ps ≡ true → ⊥
 not_too_many {s = s} h ps e over =
     let past : nat_lt PAGES (length (with_pages s.table.pages ps)) ≡ true = sym (outgrows h ps) ∙ over in
     absurd (grind (arith, nat_tests))

@@ -17,17 +17,17 @@ rows_for member s = if s.member == member then Some s.rows else None
 abbrev pub rows_of : List Settling → ℕ → Option (List FullName)
 rows_of settled member = first_of (rows_for member) settled
 
-abbrev pub number_of : Option FullName → ℕ
-number_of None = 0
-number_of (Some n) = n.number
+abbrev pub number_or_zero : Option FullName → ℕ
+number_or_zero None = 0
+number_or_zero (Some n) = n.number
 
 -- the number that the rows have for a stream, and 0 where they have none
-abbrev pub row_of : List FullName → Stream → ℕ
-row_of rows s = number_of (find (λ row. same_stream s row.stream) rows)
+abbrev pub row_number : List FullName → Stream → ℕ
+row_number rows s = number_or_zero (find (λ row. same_stream s row.stream) rows)
 
 abbrev pub final_in : Option (List FullName) → Stream → Option ℕ
 final_in None s = None
-final_in (Some rows) s = Some (row_of rows s)
+final_in (Some rows) s = Some (row_number rows s)
 
 -- how far the stream goes, where its source was settled
 abbrev pub final : List Settling → Stream → Option ℕ

@@ -39,17 +39,17 @@ greatest_in names s = greatest (flat_map (number_in s) names)
 
 -- the greatest number of the stream that was shown to exist
 abbrev pub known : List FullName → Stream → ℕ
-known shown s = greatest_in shown s
+known evidence s = greatest_in evidence s
 
 abbrev pub is_missing : List Drawop → List FullName → FullName → Bool
-is_missing inserted shown n = nat_le 1 n.number && nat_le n.number (known shown n.stream) && not (is_held inserted n)
+is_missing inserted evidence n = nat_le 1 n.number && nat_le n.number (known evidence n.stream) && not (is_held inserted n)
 
 abbrev pub unheld : List Drawop → List FullName → List FullName
 unheld inserted names = filter (λ n. not (is_held inserted n)) names
 
 -- the missing names of a stream, in order
 abbrev pub missing : List Drawop → List FullName → Stream → List FullName
-missing inserted shown s = unheld inserted (names_up_to s (known shown s))
+missing inserted evidence s = unheld inserted (names_up_to s (known evidence s))
 
 -- the names of a stream after this number, so many of them
 abbrev pub names_after : Stream → ℕ → ℕ → List FullName
@@ -57,7 +57,7 @@ names_after s known count = map (named s) (count_up (known + 1) count)
 
 -- the names that evidence of this name makes missing, in order
 abbrev pub newly_missing : List Drawop → List FullName → FullName → List FullName
-newly_missing inserted shown n = unheld inserted (names_after n.stream (known shown n.stream) (n.number - known shown n.stream))
+newly_missing inserted evidence n = unheld inserted (names_after n.stream (known evidence n.stream) (n.number - known evidence n.stream))
 
 -- the held drawops of a stream in front of its first gap
 abbrev pub released : List Drawop → Stream → List Drawop
@@ -71,12 +71,12 @@ page_of_name n = n.stream.page
 
 -- the pages that have been named: the first one always is
 abbrev pub pages_named : List Drawop → List FullName → List Page
-pages_named inserted shown = first_page ∷ (map page_of_drawop inserted ++ map page_of_name shown)
+pages_named inserted evidence = first_page ∷ (map page_of_drawop inserted ++ map page_of_name evidence)
 
 -- with these pages there would be more pages than a table has
 abbrev pub outgrow : List Drawop → List FullName → List Page → Bool
-outgrow inserted shown pages = nat_lt PAGES (length (firsts same_page (pages_named inserted shown ++ pages)))
+outgrow inserted evidence pages = nat_lt PAGES (length (firsts same_page (pages_named inserted evidence ++ pages)))
 
 -- and with this one
 abbrev pub overflows : List Drawop → List FullName → Page → Bool
-overflows inserted shown page = outgrow inserted shown (page ∷ [])
+overflows inserted evidence page = outgrow inserted evidence (page ∷ [])

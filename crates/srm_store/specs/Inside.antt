@@ -7,7 +7,7 @@ use Rattle.srm_store.specs.Tables.{TableContent, row_in}
 use Rattle.srm_store.specs.Rooms.{RoomContent}
 use Rattle.srm_store.specs.Finals.{FinalsContent}
 use Rattle.srm_store.specs.declared.table.TheConstants.{ROWS}
-use Rattle.srm_store.specs.declared.row.Row.TheInside.{Inside as RowInside}
+use Rattle.srm_store.specs.declared.row.StreamPlaces.TheInside.{Inside as RowInside}
 use Rattle.srm_store.specs.declared.table.Table.TheInside.{Inside as TableInside}
 use Rattle.srm_store.specs.declared.room.Room.TheInside.{Inside as RoomInside}
 use Rattle.srm_store.specs.declared.finals.Finals.TheInside.{Inside as FinalsInside}

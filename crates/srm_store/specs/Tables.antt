@@ -29,8 +29,8 @@ abbrev pub row_at : TableContent → Stream → RowContent
 row_at t s = row_in t.rows (slot_of t.pages s.page) s.source
 
 -- the drawop that the table holds under a name
-abbrev pub drawop_at : TableContent → FullName → Option Drawop
-drawop_at t n = place_at (row_at t n.stream).places n.number
+abbrev pub drawop_in_table : TableContent → FullName → Option Drawop
+drawop_in_table t n = place_at (row_at t n.stream).places n.number
 
 -- the table has these pages once a page was named
 abbrev pub with_page : List Page → Page → List Page

@@ -1,7 +1,7 @@
 //! How far the streams of settled members go.
 
 ghost use Rattle.std.specs.Prelude.{◌≡◌, ◌≤◌, ◌<◌, ℕ, length, None, IfOk, IfSome, OnOk, OnErr, IsOk, slice_index_or};
-ghost use Rattle.srm_store.specs.Finals.{row_of, final_in, rows_kept, SameFinals, Settles};
+ghost use Rattle.srm_store.specs.Finals.{row_number, final_in, rows_kept, SameFinals, Settles};
 
 use srm_names::{DRAWOPS, Items, MEMBERS, Member, Name, Stream};
 use std::alloc::{AllocError, Global};
@@ -82,7 +82,7 @@ impl Finals {
 
 /// The number that rows have for a stream, and 0 where they have none.
 pub fn row_number(rows: &[Name], stream: Stream) -> u32
-    ensures value { result ≡ row_of rows.now stream }
+    ensures value { result ≡ row_number rows.now stream }
     ensures last { result ≤ DRAWOPS }
 {
     for row in rows {

@@ -15,7 +15,7 @@ use std::marker::Model;
 
 /// What is held and known of one stream.
 #[derive(Drop)]
-pub struct Row {
+pub struct StreamPlaces {
     places: Places,
     /// The greatest number that is known to exist, or 0.
     known: u32,
@@ -23,7 +23,7 @@ pub struct Row {
     front: u32,
 }
 
-impl Model for Row {
+impl Model for StreamPlaces {
     ghost use Rattle.srm_store.specs.Rows.{RowContent};
 
     ghost Value = { RowContent };
@@ -35,11 +35,11 @@ impl Model for Row {
     ghost invariant = { RowIsRight };
 }
 
-impl Row {
+impl StreamPlaces {
     pub fn new(alloc: Global) -> Self
         ensures { result ≡ blank_row }
     {
-        Row {
+        StreamPlaces {
             places: Places::new(alloc),
             known: 0,
             front: 0,

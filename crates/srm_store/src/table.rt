@@ -4,11 +4,11 @@ ghost use Rattle.std.specs.Prelude.{◌≡◌, ◌≢◌, ◌≤◌, ◌<◌, �
 ghost use Rattle.srm_store.specs.Held.{insert_answer, names_after, page_of_name};
 ghost use Rattle.srm_store.specs.Rows.{row_unheld};
 ghost use Rattle.srm_store.specs.declared.fault.StoreFault.TheVariants.{PageLimit, Memory};
-ghost use Rattle.srm_store.specs.Tables.{row_at, drawop_at, slot_of, with_page, with_pages, IsNewTable, SameTable, TableGains, TableLearns, HasPlaceFor, StillHasPlaces};
+ghost use Rattle.srm_store.specs.Tables.{row_at, drawop_in_table, slot_of, with_page, with_pages, IsNewTable, SameTable, TableGains, TableLearns, HasPlaceFor, StillHasPlaces};
 
 use crate::fault::StoreFault;
 use crate::insert::Insert;
-use crate::row::Row;
+use crate::row::StreamPlaces;
 use srm_names::{DRAWOPS, Drawop, MEMBERS, Member, Name, PAGES, Page, Stream};
 use std::alloc::{AllocError, Global};
 use std::marker::Model;
@@ -24,7 +24,7 @@ pub struct Table {
     /// The pages by slot, in the order in which they were named.
     pages: Vec<Page>,
     /// The rows, slot after slot. Those behind the last page are blank.
-    rows: Vec<Row>,
+    rows: Vec<StreamPlaces>,
 }
 
 impl Model for Table {
@@ -48,7 +48,7 @@ impl Table {
         pages.push(Page::first())?;
         let mut rows = Vec::with_capacity(alloc, ROWS)?;
         for _row in 0..ROWS {
-            rows.push(Row::new(alloc))?;
+            rows.push(StreamPlaces::new(alloc))?;
         }
         Ok(Table { pages, rows })
     }
@@ -78,7 +78,7 @@ impl Table {
     }
 
     /// The row of a stream. That of a page without a slot is blank.
-    pub fn row(&self, stream: Stream) -> &Row
+    pub fn row(&self, stream: Stream) -> &StreamPlaces
         ensures value { result.now ≡ row_at self.now stream }
         ensures source { stream.source < MEMBERS }
     {
@@ -104,7 +104,7 @@ impl Table {
 
     /// Holds a drawop, unless one of its name is held.
     pub fn insert(&mut self, drawop: Drawop) -> Result<Insert, StoreFault>
-        ensures answer { IfOk result (λ answer. answer ≡ insert_answer drawop (drawop_at self.old drawop.name)) }
+        ensures answer { IfOk result (λ answer. answer ≡ insert_answer drawop (drawop_in_table self.old drawop.name)) }
         ensures ok { OnOk result (TableGains drawop self.old self.new) }
         ensures err { OnErr result (SameTable self.old self.new) }
         ensures still { StillHasPlaces self.old self.new }

@@ -12,7 +12,7 @@ use Rattle.srm_names.proofs.Lists.{AllByRecursion-snoc}
 use Rattle.srm_deadlines.proofs.Order.{map_take}
 use Rattle.srm_timers.specs.declared.arm.Arm.{Arm}
 use Rattle.srm_deadlines.specs.declared.timed.Timed.{Timed}
-use Rattle.srm_timers.specs.Arms.{Plan, Setting, plan_of, setting, arm_name, arm_names, arm_of, ArmsAre, AreDrawn, IsAsk, AreAsks, AreOfMembers}
+use Rattle.srm_timers.specs.Arms.{Plan, WaitBasis, plan_of, wait_basis, arm_name, arm_names, arm_of, ArmsAre, AreChosen, IsAsk, AreAsks, AreOfMembers}
 use Rattle.srm_timers.specs.Ends.{timed_at, arm_end, is_short, AreShort}
 use Rattle.srm_deadlines.specs.Places.{names_of, moment_among, is_timed}
 
@@ -21,8 +21,8 @@ same_itself n = grind arith
 
 -- one more arm that is drawn
 pub drawn_more : {W : Type 0} (draw : W → ℕ × W) (low high : Arm → ℕ) (from mid to : W) (arms : List Arm) (a : Arm)
-    → AreDrawn draw low high from arms mid → AreDrawn draw low high mid (a ∷ []) to → AreDrawn draw low high from (arms ++ a ∷ []) to
-drawn_more draw low high from mid to [] a h k = subst (λ w. AreDrawn draw low high w (a ∷ []) to) h k
+    → AreChosen draw low high from arms mid → AreChosen draw low high mid (a ∷ []) to → AreChosen draw low high from (arms ++ a ∷ []) to
+drawn_more draw low high from mid to [] a h k = subst (λ w. AreChosen draw low high w (a ∷ []) to) h k
 drawn_more draw low high from mid to (b ∷ arms) a h k = (h.0, drawn_more draw low high (draw from).1 mid to arms a h.1 k)
 
 pub members_more : (name : FullName) (source : ℕ) (arms : List Arm) (a : Arm) → AreOfMembers arms → a.name ≡ name → source ≡ name.stream.source → source < MEMBERS → AreOfMembers (arms ++ a ∷ [])
@@ -56,14 +56,14 @@ planned_names f own (n ∷ names) (a ∷ arms) e =
     ap (λ m. m ∷ arm_names arms) (ap (λ (p : Plan). p.name) head ∙ own n) ∙ ap (λ ms. n ∷ ms) (planned_names f own names arms tail)
 
 -- and, by name, the settings that are planned
-setting_if : (n m : FullName) (a : Arm) (f : FullName → Plan) (b rest : Bool) (found : Option Arm) → same_name n m ≡ b → setting a ≡ (f m).setting
-    → option_map setting found ≡ (if rest then Some (f n).setting else None)
-    → option_map setting (cond b (Some a) found) ≡ (if b || rest then Some (f n).setting else None)
-setting_if n m a f true rest found same is more = ap Some (is ∙ ap (λ k. (f k).setting) (sym (same_name-is n m same)))
+setting_if : (n m : FullName) (a : Arm) (f : FullName → Plan) (b rest : Bool) (found : Option Arm) → same_name n m ≡ b → wait_basis a ≡ (f m).wait_basis
+    → option_map wait_basis found ≡ (if rest then Some (f n).wait_basis else None)
+    → option_map wait_basis (cond b (Some a) found) ≡ (if b || rest then Some (f n).wait_basis else None)
+setting_if n m a f true rest found same is more = ap Some (is ∙ ap (λ k. (f k).wait_basis) (sym (same_name-is n m same)))
 setting_if n m a f false rest found same is more = more
 
 pub planned_settings : (f : FullName → Plan) → ((n : FullName) → (f n).name ≡ n) → (names : List FullName) (arms : List Arm) → map plan_of arms ≡ map f names → (n : FullName)
-    → option_map setting (arm_of n arms) ≡ (if among names n then Some (f n).setting else None)
+    → option_map wait_basis (arm_of n arms) ≡ (if among names n then Some (f n).wait_basis else None)
 planned_settings f own [] [] e n = refl
 planned_settings f own [] (a ∷ arms) e n = cc
 planned_settings f own (m ∷ names) [] e n = cc
@@ -71,12 +71,12 @@ planned_settings f own (m ∷ names) (a ∷ arms) e n =
     let head : plan_of a ≡ f m = cc in
     let tail : map plan_of arms ≡ map f names = cc in
     let name : a.name ≡ m = ap (λ (p : Plan). p.name) head ∙ own m in
-    setting_if n m a f (same_name n a.name) (among names n) (arm_of n arms) (ap (same_name n) (sym name)) (ap (λ (p : Plan). p.setting) head) (planned_settings f own names arms tail n)
-    ∙ ap (λ k. if same_name n k || among names n then Some (f n).setting else None) name
+    setting_if n m a f (same_name n a.name) (among names n) (arm_of n arms) (ap (same_name n) (sym name)) (ap (λ (p : Plan). p.wait_basis) head) (planned_settings f own names arms tail n)
+    ∙ ap (λ k. if same_name n k || among names n then Some (f n).wait_basis else None) name
 
 -- arms by plan are exactly those planned
-pub planned_are : (f : FullName → Plan) (settings : FullName → Option Setting) (names : List FullName) (arms : List Arm) → ((n : FullName) → (f n).name ≡ n)
-    → ascending name_below names ≡ true → map plan_of arms ≡ map f names → ((n : FullName) → (if among names n then Some (f n).setting else None) ≡ settings n) → ArmsAre settings arms
+pub planned_are : (f : FullName → Plan) (settings : FullName → Option WaitBasis) (names : List FullName) (arms : List Arm) → ((n : FullName) → (f n).name ≡ n)
+    → ascending name_below names ≡ true → map plan_of arms ≡ map f names → ((n : FullName) → (if among names n then Some (f n).wait_basis else None) ≡ settings n) → ArmsAre settings arms
 planned_are f settings names arms own rising e is = record {
   in_order = ap (ascending name_below) (planned_names f own names arms e) ∙ rising;
   exact = λ n. planned_settings f own names arms e n ∙ is n;

@@ -9,13 +9,13 @@ use Rattle.srm_names.proofs.Snoc.{last_of-snoc, last_of-append}
 use Rattle.srm_timers.specs.declared.arm.Arm.{Arm}
 use Rattle.srm_timers.specs.declared.arm.Armed.{Armed}
 use Rattle.srm_timers.specs.declared.arm.ArmKind.TheVariants.{Ask}
-use Rattle.srm_deadlines.specs.declared.by_name.Place.{Place}
-use Rattle.srm_timers.specs.Arms.{arm_names, arm_of, end_of, ran_out, backs_off, next_exponent, RunsOutFirst, ArmsAre, Setting, Plan, plan_of}
+use Rattle.srm_deadlines.specs.declared.by_name.NamedValue.{NamedValue}
+use Rattle.srm_timers.specs.Arms.{arm_names, arm_of, runs_out_at, ran_out, backs_off, next_exponent, RunsOutFirst, ArmsAre, WaitBasis, Plan, plan_of}
 use Rattle.srm_deadlines.specs.Deadlines.{has_come}
 use Rattle.srm_timers.specs.Ends.{arm_end, SetsEnds}
 use Rattle.srm_timers.specs.Timers.{armed_at, SetsTimers}
-use Rattle.srm_deadlines.specs.Places.{value_at, value_in, is_at, has_place, Keeps, Sets, IsLeast}
-use Rattle.srm_timers.specs.AskCalls.{AskCall, Set, Gained, told_by, flat, ask_timer, sets, AskFits, AskContent, AskAdds, AskBacksOff, AskRuns, AskNext, AskDue, AskedFirst, AskedAgain, found_plan, found_setting, AskStays, ask_setting, ask_plan, AskReady, AskTimersRun, DetectReady, DueReady, again_exponent, again_plan, again_setting, due_setting}
+use Rattle.srm_deadlines.specs.Places.{value_at, value_in, is_at, has_place, KeepsValues, Sets, IsLeast}
+use Rattle.srm_timers.specs.AskCalls.{AskCall, Set, Gained, timer_after, flat, ask_timer, sets, AskFits, AskContent, AskAdds, AskBacksOff, AskRuns, AskNext, AskDue, AskedFirst, AskedAgain, found_plan, found_basis, AskStays, ask_basis, ask_plan, AskReady, AskTimersRun, DetectReady, DueReady, again_exponent, again_plan, again_basis, due_basis}
 use Rattle.srm_timers.specs.Distances.{distance_to}
 use Rattle.srm_timers.proofs.Arming.{last_arms, planned_names, planned_are}
 
@@ -35,11 +35,11 @@ flat_set now (Some a) last = refl
 pub ask_timer-sets : (calls : List AskCall) (now : ℕ) (arms : List Arm) (n : FullName) → ascending name_below (arm_names arms) ≡ true
     → ask_timer (calls ++ sets now arms) n ≡ or_else (option_map (armed_at now) (arm_of n arms)) (ask_timer calls n)
 ask_timer-sets calls now arms n rising =
-    ap flat (last_of-append (told_by n) calls (sets now arms) ∙ ap (λ o. or_else o (last_of (told_by n) calls)) (last_arms told_by (Set now) (λ a. Some (armed_at now a)) (λ m a. refl) n arms rising))
-    ∙ flat_set now (arm_of n arms) (last_of (told_by n) calls)
+    ap flat (last_of-append (timer_after n) calls (sets now arms) ∙ ap (λ o. or_else o (last_of (timer_after n) calls)) (last_arms timer_after (Set now) (λ a. Some (armed_at now a)) (λ m a. refl) n arms rising))
+    ∙ flat_set now (arm_of n arms) (last_of (timer_after n) calls)
 
 pub ask_timer-gained : (calls : List AskCall) (name n : FullName) → ask_timer (calls ++ Gained name ∷ []) n ≡ (if same_name n name then None else ask_timer calls n)
-ask_timer-gained calls name n = ap flat (last_of-snoc (told_by n) calls (Gained name)) ∙ flat_told (same_name n name) None (last_of (told_by n) calls)
+ask_timer-gained calls name n = ap flat (last_of-snoc (timer_after n) calls (Gained name)) ∙ flat_told (same_name n name) None (last_of (timer_after n) calls)
 
 -- timers are set
 pub fits_sets : (c1 c2 : ℕ) (calls : List AskCall) (now : ℕ) (arms : List Arm) (a b : AskContent) → AskFits c1 c2 calls a → b.c1 ≡ a.c1 → b.c2 ≡ a.c2
@@ -51,7 +51,7 @@ fits_sets c1 c2 calls now arms a b h p q rising timers = record {
 }
 
 -- one timer is set
-pub sets_one : (now : ℕ) (arm : Arm) (old new : List (Place Armed)) → Sets arm.name (Some (armed_at now arm)) old new → SetsTimers now (arm ∷ []) old new
+pub sets_one : (now : ℕ) (arm : Arm) (old new : List (NamedValue Armed)) → Sets arm.name (Some (armed_at now arm)) old new → SetsTimers now (arm ∷ []) old new
 sets_one now arm old new h = record { each = λ n. h.each n ∙ go (same_name n arm.name) (value_at old n) }
   where
     go : (b : Bool) (o : Option Armed) → (if b then Some (armed_at now arm) else o) ≡ or_else (option_map (armed_at now) (cond b (Some arm) None)) o
@@ -59,7 +59,7 @@ sets_one now arm old new h = record { each = λ n. h.each n ∙ go (same_name n 
     go false o = refl
 
 -- the ends go with the timers
-pub ends_set : (now : ℕ) (o : Option Arm) (t : Option Armed) → or_else (option_map (arm_end now) o) (option_map end_of t) ≡ option_map end_of (or_else (option_map (armed_at now) o) t)
+pub ends_set : (now : ℕ) (o : Option Arm) (t : Option Armed) → or_else (option_map (arm_end now) o) (option_map runs_out_at t) ≡ option_map runs_out_at (or_else (option_map (armed_at now) o) t)
 ends_set now None t = refl
 ends_set now (Some a) t = refl
 
@@ -73,7 +73,7 @@ fits_gained c1 c2 calls name a b h p q timers = record {
 }
 
 -- no timer changes
-pub stays_kept : (a b : AskContent) → b.c1 ≡ a.c1 → b.c2 ≡ a.c2 → Keeps a.timers b.timers → AskStays a b
+pub stays_kept : (a b : AskContent) → b.c1 ≡ a.c1 → b.c2 ≡ a.c2 → KeepsValues a.timers b.timers → AskStays a b
 stays_kept a b p q timers = record {
   each = λ c1 c2 calls h. record {
     c1_is = p ∙ h.c1_is;
@@ -82,15 +82,15 @@ stays_kept a b p q timers = record {
   };
 }
 
-pub keeps_self : {V : Type 0} (places : List (Place V)) → Keeps places places
+pub keeps_self : {V : Type 0} (places : List (NamedValue V)) → KeepsValues places places
 keeps_self places = record { each = λ n. refl }
 
-pub come_ran_out : (now : ℕ) (o : Option Armed) → has_come now (option_map end_of o) ≡ ran_out now o
+pub come_ran_out : (now : ℕ) (o : Option Armed) → has_come now (option_map runs_out_at o) ≡ ran_out now o
 come_ran_out now None = refl
 come_ran_out now (Some a) = refl
 
 -- what has come by the ends that are kept are the timers that ran out
-pub due_ran_out : (now : ℕ) (ends : List (Place ℕ)) (timer : FullName → Option Armed) (names : List FullName) → ((n : FullName) → value_at ends n ≡ option_map end_of (timer n))
+pub due_ran_out : (now : ℕ) (ends : List (NamedValue ℕ)) (timer : FullName → Option Armed) (names : List FullName) → ((n : FullName) → value_at ends n ≡ option_map runs_out_at (timer n))
     → AreExactly (λ n. has_come now (value_at ends n)) names → AreExactly (λ n. ran_out now (timer n)) names
 due_ran_out now ends timer names right due = record {
   in_order = due.in_order;
@@ -98,35 +98,35 @@ due_ran_out now ends timer names right due = record {
 }
 
 -- the least of the ends is when the first timer runs out
-pub first_end : (ends : List (Place ℕ)) (timer : FullName → Option Armed) (t : Option ℕ) → ((n : FullName) → value_at ends n ≡ option_map end_of (timer n)) → IsLeast ends t → RunsOutFirst timer t
+pub first_end : (ends : List (NamedValue ℕ)) (timer : FullName → Option Armed) (t : Option ℕ) → ((n : FullName) → value_at ends n ≡ option_map runs_out_at (timer n)) → IsLeast ends t → RunsOutFirst timer t
 first_end ends timer t right h = record {
   none = λ e n. no_timer (timer n) (sym (right n) ∙ h.none e n);
   least = sooner t h.least;
   is_one = one t h.is_one;
 }
   where
-    no_timer : (o : Option Armed) → option_map end_of o ≡ None → o ≡ None
+    no_timer : (o : Option Armed) → option_map runs_out_at o ≡ None → o ≡ None
     no_timer None e = refl
     no_timer (Some a) e = cc
 
-    until : (t : ℕ) (o : Option Armed) → IfSome (option_map end_of o) (λ m. t ≤ m) → IfSome o (λ a. t ≤ end_of a)
+    until : (t : ℕ) (o : Option Armed) → IfSome (option_map runs_out_at o) (λ m. t ≤ m) → IfSome o (λ a. t ≤ runs_out_at a)
     until t None h = h
     until t (Some a) h = h
 
-    sooner : (t : Option ℕ) → IfSome t (λ t. (n : FullName) → IfSome (value_at ends n) (λ m. t ≤ m)) → IfSome t (λ t. (n : FullName) → IfSome (timer n) (λ a. t ≤ end_of a))
+    sooner : (t : Option ℕ) → IfSome t (λ t. (n : FullName) → IfSome (value_at ends n) (λ m. t ≤ m)) → IfSome t (λ t. (n : FullName) → IfSome (timer n) (λ a. t ≤ runs_out_at a))
     sooner None h = h
     sooner (Some t) h = λ n. until t (timer n) (subst (λ o. IfSome o (λ m. t ≤ m)) (right n) (h n))
 
-    one : (t : Option ℕ) → IfSome t (λ t. (n : FullName) × (value_at ends n ≡ Some t)) → IfSome t (λ t. (n : FullName) × (option_map end_of (timer n) ≡ Some t))
+    one : (t : Option ℕ) → IfSome t (λ t. (n : FullName) × (value_at ends n ≡ Some t)) → IfSome t (λ t. (n : FullName) × (option_map runs_out_at (timer n) ≡ Some t))
     one None h = h
     one (Some t) (n, e) = (n, sym (right n) ∙ e)
 
 -- how names whose timers ran out are armed again
 pub again_due : (now : ℕ) (dist : List ℕ) (timer told : FullName → Option Armed) (n : FullName) (there : Bool) → there ≡ ran_out now (timer n) → timer n ≡ told n
-    → (if there then Some (again_plan dist timer n).setting else None) ≡ due_setting now dist told n
-again_due now dist timer told n there e is = go (timer n) there e ∙ ap (λ o. if ran_out now o then option_map (again_setting (distance_to dist n.stream.source)) o else None) is
+    → (if there then Some (again_plan dist timer n).wait_basis else None) ≡ due_basis now dist told n
+again_due now dist timer told n there e is = go (timer n) there e ∙ ap (λ o. if ran_out now o then option_map (again_basis (distance_to dist n.stream.source)) o else None) is
   where
-    go : (o : Option Armed) (there : Bool) → there ≡ ran_out now o → (if there then Some (ask_setting (again_exponent o) (distance_to dist n.stream.source)) else None) ≡ (if ran_out now o then option_map (again_setting (distance_to dist n.stream.source)) o else None)
+    go : (o : Option Armed) (there : Bool) → there ≡ ran_out now o → (if there then Some (ask_basis (again_exponent o) (distance_to dist n.stream.source)) else None) ≡ (if ran_out now o then option_map (again_basis (distance_to dist n.stream.source)) o else None)
     go None true e = cc
     go None false e = refl
     go (Some a) there e = rw e (refl)
@@ -147,7 +147,7 @@ pub ready_still : (names : List FullName) (a : AskContent) (list : ℕ) → AskR
 ready_still names a list h = record { ends = h.ends; timers = h.timers }
 
 -- what has a value has a place
-pub placed : {V : Type 0} (places : List (Place V)) (n : FullName) → IsSome (value_at places n) → has_place places n ≡ true
+pub placed : {V : Type 0} (places : List (NamedValue V)) (n : FullName) → IsSome (value_at places n) → has_place places n ≡ true
 placed [] n h = cc
 placed (p ∷ places) n h = go (is_at n p) h (placed places n)
   where
@@ -160,25 +160,25 @@ come_some : (now : ℕ) (o : Option ℕ) → has_come now o ≡ true → IsSome 
 come_some now None e = cc
 come_some now (Some t) e = refl
 
-end_some : (o : Option Armed) → IsSome (option_map end_of o) → IsSome o
+end_some : (o : Option Armed) → IsSome (option_map runs_out_at o) → IsSome o
 end_some None h = h
 end_some (Some a) h = refl
 
-pub due_runs : (now : ℕ) (places : List (Place ℕ)) (timers : List (Place Armed)) (n : FullName) → value_at places n ≡ option_map end_of (value_at timers n) → has_come now (value_at places n) ≡ true → IsSome (value_at timers n)
+pub due_runs : (now : ℕ) (places : List (NamedValue ℕ)) (timers : List (NamedValue Armed)) (n : FullName) → value_at places n ≡ option_map runs_out_at (value_at timers n) → has_come now (value_at places n) ≡ true → IsSome (value_at timers n)
 due_runs now places timers n right come = end_some (value_at timers n) (subst IsSome right (come_some now (value_at places n) come))
 
-pub has_end : (o : Option Armed) → IsSome o → IsSome (option_map end_of o)
+pub has_end : (o : Option Armed) → IsSome o → IsSome (option_map runs_out_at o)
 has_end None h = h
 has_end (Some a) h = refl
 
 -- the names that are due have timers
-pub timers_run : (now : ℕ) (a : AskContent) (names : List FullName) → ((n : FullName) → value_at a.ends.places n ≡ option_map end_of (value_at a.timers n))
+pub timers_run : (now : ℕ) (a : AskContent) (names : List FullName) → ((n : FullName) → value_at a.ends.places n ≡ option_map runs_out_at (value_at a.timers n))
     → AreExactly (λ n. has_come now (value_at a.ends.places n)) names → AskTimersRun names a
 timers_run now a names right due = record { each = λ n at. due_runs now a.ends.places a.timers n (right n) (sym (due.exact n) ∙ at) }
 
 -- names that have timers can be set again where there is room for so many
-pub again_ready : (dist : List ℕ) (timer : FullName → Option Armed) (names : List FullName) (arms arms' : List Arm) (places : List (Place ℕ)) (a b : AskContent)
-    → ((n : FullName) → value_at places n ≡ option_map end_of (value_at a.timers n)) → AskTimersRun names a → b.ends.places ≡ places → b.timers ≡ a.timers → length names ≤ b.ends.room
+pub again_ready : (dist : List ℕ) (timer : FullName → Option Armed) (names : List FullName) (arms arms' : List Arm) (places : List (NamedValue ℕ)) (a b : AskContent)
+    → ((n : FullName) → value_at places n ≡ option_map runs_out_at (value_at a.timers n)) → AskTimersRun names a → b.ends.places ≡ places → b.timers ≡ a.timers → length names ≤ b.ends.room
     → map plan_of arms ≡ map (again_plan dist timer) names → arms' ≡ arms → AskReady (arm_names arms') b
 again_ready dist timer names arms arms' places a b right run same_ends same room plans is =
     subst (λ ns. AskReady ns b) (sym (ap arm_names is ∙ planned_names (again_plan dist timer) (λ n. refl) names arms plans)) (record {
@@ -210,7 +210,7 @@ sets_after now arms arms' a b c stays is adds =
 
 -- the same where the timers are as they were
 pub sets_then : (now : ℕ) (arms arms' : List Arm) (a b c : AskContent) → b.c1 ≡ a.c1 → b.c2 ≡ a.c2 → b.timers ≡ a.timers → arms ≡ arms' → AskAdds (sets now arms) b c → AskAdds (sets now arms') a c
-sets_then now arms arms' a b c p q same is adds = sets_after now arms arms' a b c (stays_kept a b p q (subst (Keeps a.timers) (sym same) (keeps_self a.timers))) is adds
+sets_then now arms arms' a b c p q same is adds = sets_after now arms arms' a b c (stays_kept a b p q (subst (KeepsValues a.timers) (sym same) (keeps_self a.timers))) is adds
 
 -- the list in which names that are due are looked up has no part in what fits
 fits_as : (c1 c2 : ℕ) (calls : List AskCall) (a b : AskContent) → b.c1 ≡ a.c1 → b.c2 ≡ a.c2 → b.timers ≡ a.timers → AskFits c1 c2 calls a → AskFits c1 c2 calls b
@@ -222,10 +222,10 @@ stays_between a b c d p q same stays p' q' same' = record { each = λ c1 c2 call
 pub adds_between : (more : List AskCall) (a b c d : AskContent) → b.c1 ≡ a.c1 → b.c2 ≡ a.c2 → b.timers ≡ a.timers → AskAdds more b c → d.c1 ≡ c.c1 → d.c2 ≡ c.c2 → d.timers ≡ c.timers → AskAdds more a d
 adds_between more a b c d p q same adds p' q' same' = record { each = λ c1 c2 calls h. fits_as c1 c2 (calls ++ more) c d p' q' same' (adds.each c1 c2 calls (fits_as c1 c2 calls a b p q same h)) }
 
-pub due_is : (now : ℕ) (a : AskContent) (names : List FullName) → ((n : FullName) → value_at a.ends.places n ≡ option_map end_of (value_at a.timers n))
+pub due_is : (now : ℕ) (a : AskContent) (names : List FullName) → ((n : FullName) → value_at a.ends.places n ≡ option_map runs_out_at (value_at a.timers n))
     → AreExactly (λ n. has_come now (value_at a.ends.places n)) names → AskDue now a names
 due_is now a names right due = record {
-  each = λ c1 c2 calls h. due_ran_out now a.ends.places (ask_timer calls) names (λ n. right n ∙ ap (option_map end_of) (h.timers n)) due;
+  each = λ c1 c2 calls h. due_ran_out now a.ends.places (ask_timer calls) names (λ n. right n ∙ ap (option_map runs_out_at) (h.timers n)) due;
 }
 
 -- the names whose timers ran out, armed again
@@ -233,13 +233,13 @@ pub asked_again : (now : ℕ) (dist : List ℕ) (a : AskContent) (names : List F
 asked_again now dist a names arms due plans = record {
   each = λ c1 c2 calls h.
       let exact = due.each c1 c2 calls h in
-      planned_are (again_plan dist (value_at a.timers)) (due_setting now dist (ask_timer calls)) names arms (λ n. refl) exact.in_order plans
+      planned_are (again_plan dist (value_at a.timers)) (due_basis now dist (ask_timer calls)) names arms (λ n. refl) exact.in_order plans
       (λ n. again_due now dist (value_at a.timers) (ask_timer calls) n (among names n) (exact.exact n ∙ ap (ran_out now) (sym (h.timers n))) (h.timers n));
 }
 
 pub found_are : (dist : List ℕ) (names asked : List FullName) (arms : List Arm) → ascending name_below names ≡ true → map plan_of arms ≡ map (found_plan asked dist) names
     → AskedFirst names asked dist arms
-found_are dist names asked arms rising plans = record { are = planned_are (found_plan asked dist) (found_setting names asked dist) names arms (λ n. refl) rising plans (λ n. refl) }
+found_are dist names asked arms rising plans = record { are = planned_are (found_plan asked dist) (found_basis names asked dist) names arms (λ n. refl) rising plans (λ n. refl) }
 
 pub found_rise : (dist : List ℕ) (names asked : List FullName) (arms arms' : List Arm) → map plan_of arms ≡ map (found_plan asked dist) names → arms' ≡ arms
     → ascending name_below names ≡ true → ascending name_below (arm_names arms') ≡ true
@@ -260,7 +260,7 @@ backs_off_is name now a exponent is = record { each = λ c1 c2 calls h. is ∙ a
 pub runs_is : (name : FullName) (a : AskContent) (exponent : Option ℕ) → exponent ≡ option_map next_exponent (value_at a.timers name) → AskRuns name a exponent
 runs_is name a exponent is = record { each = λ c1 c2 calls h. is ∙ ap (option_map next_exponent) (h.timers name) }
 
-pub next_is : (a : AskContent) (moment : Option ℕ) → ((n : FullName) → value_at a.ends.places n ≡ option_map end_of (value_at a.timers n)) → IsLeast a.ends.places moment → AskNext a moment
+pub next_is : (a : AskContent) (moment : Option ℕ) → ((n : FullName) → value_at a.ends.places n ≡ option_map runs_out_at (value_at a.timers n)) → IsLeast a.ends.places moment → AskNext a moment
 next_is a moment right least = record {
-  each = λ c1 c2 calls h. first_end a.ends.places (ask_timer calls) moment (λ n. right n ∙ ap (option_map end_of) (h.timers n)) least;
+  each = λ c1 c2 calls h. first_end a.ends.places (ask_timer calls) moment (λ n. right n ∙ ap (option_map runs_out_at) (h.timers n)) least;
 }

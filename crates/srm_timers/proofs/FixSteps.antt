@@ -12,16 +12,16 @@ use Rattle.srm_names.proofs.Same.{same_name-is}
 use Rattle.srm_names.proofs.Snoc.{last_of-snoc, last_of-append, first_of-snoc, list_any-snoc}
 use Rattle.srm_timers.specs.declared.arm.Arm.{Arm}
 use Rattle.srm_timers.specs.declared.arm.Armed.{Armed}
-use Rattle.srm_deadlines.specs.declared.by_name.Place.{Place}
-use Rattle.srm_timers.specs.Arms.{Plan, plan_of, end_of, ran_out, arm_names, arm_of}
+use Rattle.srm_deadlines.specs.declared.by_name.NamedValue.{NamedValue}
+use Rattle.srm_timers.specs.Arms.{Plan, plan_of, runs_out_at, ran_out, arm_names, arm_of}
 use Rattle.srm_deadlines.specs.Deadlines.{has_come}
 use Rattle.srm_timers.specs.Distances.{distance_to}
 use Rattle.srm_timers.specs.Ends.{EndContent, arm_end, SetsEnds}
 use Rattle.srm_timers.specs.Timers.{armed_at}
-use Rattle.srm_deadlines.specs.Places.{value_at, Keeps, Sets, ClearsAll, IsLeast}
+use Rattle.srm_deadlines.specs.Places.{value_at, KeepsValues, Sets, ClearsAll, IsLeast}
 use Rattle.srm_timers.specs.AskCalls.{flat}
 use Rattle.srm_timers.specs.Marks.{NotesAsker, OffAsBefore}
-use Rattle.srm_timers.specs.FixCalls.{FixCall, Asked, SetFix, Repaired, asker_by, asked_first, first_asker, ran_by, fix_timer, is_off_by, is_off, is_free, sets_fix, hold_end, repair_by, repairs, FixFits, FixContent, FixStays, FixAdds, FixRepairs, FixDue, FixNext, FixIsFree, FixFirstAsker, FixAnswers, fix_plan, FixPlace, FixPlaces, HoldsOff, HoldAllOff, asker_at, is_held_off, held_off_until}
+use Rattle.srm_timers.specs.FixCalls.{FixCall, Asked, SetFix, Repaired, asker_by, asked_first, first_asker, ran_by, fix_timer, is_off_by, is_off, is_free, sets_fix, hold_end, repair_by, repair_calls, FixFits, FixContent, FixStays, FixAdds, FixRepairs, FixDue, FixNext, FixIsFree, FixFirstAsker, FixAnswers, fix_plan, FixPlace, FixPlaces, HoldsOff, HoldAllOff, asker_at, is_held_off, held_off_until}
 use Rattle.srm_deadlines.proofs.Order.{map_take}
 use Rattle.srm_timers.proofs.Arming.{same_itself, last_arms}
 pub use Rattle.srm_deadlines.proofs.Tables.{holds_on}
@@ -47,7 +47,7 @@ pub no_asker-sets : (now : ℕ) (arms : List Arm) (n : FullName) → first_of (a
 no_asker-sets now [] n = refl
 no_asker-sets now (a ∷ arms) n = no_asker-sets now arms n
 
-pub no_asker-repairs : (now : ℕ) (dist : List ℕ) (calls : List FixCall) (names : List FullName) (n : FullName) → first_of (asker_by n) (repairs now dist calls names) ≡ None
+pub no_asker-repairs : (now : ℕ) (dist : List ℕ) (calls : List FixCall) (names : List FullName) (n : FullName) → first_of (asker_by n) (repair_calls now dist calls names) ≡ None
 no_asker-repairs now dist calls [] n = refl
 no_asker-repairs now dist calls (m ∷ names) n = no_asker-repairs now dist calls names n
 
@@ -86,14 +86,14 @@ is_off-repaired calls name until n now = list_any-snoc (is_off_by n now) calls (
 
 -- who asked is noted, with the askers as they are then
 fits_asked : (d1 d2 : ℕ) (calls : List FixCall) (name : FullName) (from : ℕ) (a b : FixContent) → FixFits d1 d2 calls a → b.d1 ≡ a.d1 → b.d2 ≡ a.d2
-    → b.ends ≡ a.ends → OffAsBefore a.holds b.holds → NotesAsker name from a.askers b.askers
+    → b.ends ≡ a.ends → OffAsBefore a.held_off b.held_off → NotesAsker name from a.askers b.askers
     → FixFits d1 d2 (calls ++ Asked name from ∷ []) b
-fits_asked d1 d2 calls name from a b h p q ends holds askers = record {
+fits_asked d1 d2 calls name from a b h p q ends held_off askers = record {
   d1_is = p ∙ h.d1_is;
   d2_is = q ∙ h.d2_is;
   askers = λ n. askers.each n ∙ ap (λ o. or_else o (if same_name n name then Some from else None)) (h.askers n) ∙ sym (asked_first-snoc calls (Asked name from) n);
-  ends = λ n. ap (λ (e : EndContent). value_at e.places n) ends ∙ h.ends n ∙ sym (ap (option_map end_of) (fix_timer-asked calls name from n));
-  holds = λ n now. holds.each n now ∙ h.holds n now ∙ sym (is_off-asked calls name from n now);
+  ends = λ n. ap (λ (e : EndContent). value_at e.places n) ends ∙ h.ends n ∙ sym (ap (option_map runs_out_at) (fix_timer-asked calls name from n));
+  held_off = λ n now. held_off.each n now ∙ h.held_off n now ∙ sym (is_off-asked calls name from n now);
 }
 
 pub new_asker : (name : FullName) (from : ℕ) (n : FullName) (f : FullName → Option ℕ) → f name ≡ None → (b : Bool) → same_name n name ≡ b
@@ -103,19 +103,19 @@ new_asker name from n f none false other = sym (or_none (f n))
 
 -- timers are set
 pub fits_sets_fix : (d1 d2 : ℕ) (calls : List FixCall) (now : ℕ) (arms : List Arm) (a b : FixContent) → FixFits d1 d2 calls a → b.d1 ≡ a.d1 → b.d2 ≡ a.d2
-    → b.askers ≡ a.askers → b.holds ≡ a.holds → ascending name_below (arm_names arms) ≡ true → SetsEnds now arms a.ends.places b.ends.places
+    → b.askers ≡ a.askers → b.held_off ≡ a.held_off → ascending name_below (arm_names arms) ≡ true → SetsEnds now arms a.ends.places b.ends.places
     → FixFits d1 d2 (calls ++ sets_fix now arms) b
-fits_sets_fix d1 d2 calls now arms a b h p q askers holds rising ends = record {
+fits_sets_fix d1 d2 calls now arms a b h p q askers held_off rising ends = record {
   d1_is = p ∙ h.d1_is;
   d2_is = q ∙ h.d2_is;
   askers = λ n. ap (λ e. value_at e n) askers ∙ h.askers n ∙ sym (asked_first-append calls (sets_fix now arms) n (no_asker-sets now arms n));
   ends = λ n. ends.each n ∙ ap (or_else (option_map (arm_end now) (arm_of n arms))) (h.ends n) ∙ ends_set now (arm_of n arms) (fix_timer calls n)
-      ∙ sym (ap (option_map end_of) (fix_timer-sets calls now arms n rising));
-  holds = λ n t. ap (λ e. nat_lt t (unwrap_or (value_at e n) 0)) holds ∙ h.holds n t ∙ sym (is_off-append calls (sets_fix now arms) n t (none_off-sets now arms n t));
+      ∙ sym (ap (option_map runs_out_at) (fix_timer-sets calls now arms n rising));
+  held_off = λ n t. ap (λ e. nat_lt t (unwrap_or (value_at e n) 0)) held_off ∙ h.held_off n t ∙ sym (is_off-append calls (sets_fix now arms) n t (none_off-sets now arms n t));
 }
 
 -- one end is set
-pub ends_one : (now : ℕ) (arm : Arm) (old new : List (Place ℕ)) → Sets arm.name (Some (now + arm.wait)) old new → SetsEnds now (arm ∷ []) old new
+pub ends_one : (now : ℕ) (arm : Arm) (old new : List (NamedValue ℕ)) → Sets arm.name (Some (now + arm.wait)) old new → SetsEnds now (arm ∷ []) old new
 ends_one now arm old new h = record { each = λ n. h.each n ∙ go (same_name n arm.name) (value_at old n) }
   where
     go : (b : Bool) (o : Option ℕ) → (if b then Some (now + arm.wait) else o) ≡ or_else (option_map (arm_end now) (cond b (Some arm) None)) o
@@ -128,16 +128,16 @@ map_if f false o p = refl
 
 -- a repair was heard or handed out
 fits_ended : (d1 d2 : ℕ) (calls : List FixCall) (name : FullName) (until : ℕ) (a b : FixContent) → FixFits d1 d2 calls a → b.d1 ≡ a.d1 → b.d2 ≡ a.d2
-    → Keeps a.askers b.askers → Sets name None a.ends.places b.ends.places
-    → ((n : FullName) (now : ℕ) → nat_lt now (unwrap_or (value_at b.holds n) 0) ≡ nat_lt now (unwrap_or (value_at a.holds n) 0) || same_name n name && nat_lt now until)
+    → KeepsValues a.askers b.askers → Sets name None a.ends.places b.ends.places
+    → ((n : FullName) (now : ℕ) → nat_lt now (unwrap_or (value_at b.held_off n) 0) ≡ nat_lt now (unwrap_or (value_at a.held_off n) 0) || same_name n name && nat_lt now until)
     → FixFits d1 d2 (calls ++ Repaired name until ∷ []) b
-fits_ended d1 d2 calls name until a b h p q askers ends holds = record {
+fits_ended d1 d2 calls name until a b h p q askers ends held_off = record {
   d1_is = p ∙ h.d1_is;
   d2_is = q ∙ h.d2_is;
   askers = λ n. askers.each n ∙ h.askers n ∙ sym (asked_first-append calls (Repaired name until ∷ []) n refl);
   ends = λ n. ends.each n ∙ if_same (same_name n name) _ _ _ (h.ends n)
-      ∙ sym (ap (option_map end_of) (fix_timer-repaired calls name until n) ∙ map_if end_of (same_name n name) _ _);
-  holds = λ n t. holds n t ∙ ap (λ b. b || same_name n name && nat_lt t until) (h.holds n t) ∙ sym (is_off-repaired calls name until n t);
+      ∙ sym (ap (option_map runs_out_at) (fix_timer-repaired calls name until n) ∙ map_if runs_out_at (same_name n name) _ _);
+  held_off = λ n t. held_off n t ∙ ap (λ b. b || same_name n name && nat_lt t until) (h.held_off n t) ∙ sym (is_off-repaired calls name until n t);
 }
 
 longer : (name : FullName) (until : ℕ) (f : FullName → Option ℕ) → unwrap_or (f name) 0 < until → (n : FullName) (now : ℕ) (b : Bool) → same_name n name ≡ b
@@ -157,16 +157,16 @@ as_long name until f more n now true same = let e : unwrap_or (f n) 0 ≡ unwrap
 as_long name until f more n now false other = sym (or_false (nat_lt now (unwrap_or (f n) 0)))
 
 -- a longer hold-off takes the place of the one before, and a shorter one doesn't
-pub held_longer : (name : FullName) (until kept : ℕ) (old new : List (Place ℕ)) → kept ≡ unwrap_or (value_at old name) 0 → kept < until → Sets name (Some until) old new → HoldsOff name until old new
+pub held_longer : (name : FullName) (until kept : ℕ) (old new : List (NamedValue ℕ)) → kept ≡ unwrap_or (value_at old name) 0 → kept < until → Sets name (Some until) old new → HoldsOff name until old new
 held_longer name until kept old new is less sets = record {
   each = λ n now. ap (λ o. nat_lt now (unwrap_or o 0)) (sets.each n) ∙ longer name until (value_at old) (subst (λ k. k < until) is less) n now (same_name n name) refl;
 }
 
-pub held_as_long : (name : FullName) (until kept : ℕ) (holds : List (Place ℕ)) → kept ≡ unwrap_or (value_at holds name) 0 → until ≤ kept → HoldsOff name until holds holds
-held_as_long name until kept holds is more = record { each = λ n now. as_long name until (value_at holds) (subst (λ k. until ≤ k) is more) n now (same_name n name) refl }
+pub held_as_long : (name : FullName) (until kept : ℕ) (held_off : List (NamedValue ℕ)) → kept ≡ unwrap_or (value_at held_off name) 0 → until ≤ kept → HoldsOff name until held_off held_off
+held_as_long name until kept held_off is more = record { each = λ n now. as_long name until (value_at held_off) (subst (λ k. until ≤ k) is more) n now (same_name n name) refl }
 
 -- one more name of those that are held off in one call
-pub held_more : (now : ℕ) (dist : List ℕ) (names : List FullName) (i : ℕ) (name : FullName) (distance member : ℕ) (askers old mid new : List (Place ℕ)) → i < length names → name ≡ get_or names i name
+pub held_more : (now : ℕ) (dist : List ℕ) (names : List FullName) (i : ℕ) (name : FullName) (distance member : ℕ) (askers old mid new : List (NamedValue ℕ)) → i < length names → name ≡ get_or names i name
     → member ≡ asker_at askers name → member < MEMBERS → distance ≡ distance_to dist member → HoldAllOff now dist (take i names) askers old mid → HoldsOff name (now + 3 * distance) mid new
     → HoldAllOff now dist (take (i + 1) names) askers old new
 held_more now dist names i name distance member askers old mid new lt is asker below far so_far next = record {
@@ -201,7 +201,7 @@ held_more now dist names i name distance member askers old mid new lt is asker b
 abbrev cancelled : Bool → Option (Option Armed)
 cancelled b = if b then Some None else None
 
-repairs_cancel : (now : ℕ) (dist : List ℕ) (calls : List FixCall) (names : List FullName) (n : FullName) → last_of (ran_by n) (repairs now dist calls names) ≡ cancelled (among names n)
+repairs_cancel : (now : ℕ) (dist : List ℕ) (calls : List FixCall) (names : List FullName) (n : FullName) → last_of (ran_by n) (repair_calls now dist calls names) ≡ cancelled (among names n)
 repairs_cancel now dist calls [] n = refl
 repairs_cancel now dist calls (m ∷ names) n = ap (λ o. or_else o (cancelled (same_name n m))) (repairs_cancel now dist calls names n) ∙ go (same_name n m) (among names n)
   where
@@ -211,7 +211,7 @@ repairs_cancel now dist calls (m ∷ names) n = ap (λ o. or_else o (cancelled (
     go false true = refl
     go false false = refl
 
-repairs_hold : (now : ℕ) (dist : List ℕ) (calls : List FixCall) (names : List FullName) (n : FullName) (t : ℕ) → list_any (is_off_by n t) (repairs now dist calls names) ≡ (among names n && nat_lt t (hold_end now dist calls n))
+repairs_hold : (now : ℕ) (dist : List ℕ) (calls : List FixCall) (names : List FullName) (n : FullName) (t : ℕ) → list_any (is_off_by n t) (repair_calls now dist calls names) ≡ (among names n && nat_lt t (hold_end now dist calls n))
 repairs_hold now dist calls [] n t = refl
 repairs_hold now dist calls (m ∷ names) n t = ap (λ b. same_name n m && nat_lt t (hold_end now dist calls m) || b) (repairs_hold now dist calls names n t) ∙ go (same_name n m) refl (among names n)
   where
@@ -227,67 +227,67 @@ repairs_hold now dist calls (m ∷ names) n t = ap (λ b. same_name n m && nat_l
 any_append : (calls more : List FixCall) (n : FullName) (t : ℕ) → is_off (calls ++ more) n t ≡ (is_off calls n t || list_any (is_off_by n t) more)
 any_append calls more n t = list_any-append (is_off_by n t) calls more
 
-cancels : (b : Bool) (o : Option Armed) (last : Option (Option Armed)) → flat last ≡ o → option_map end_of (flat (or_else (cancelled b) last)) ≡ (if b then None else option_map end_of o)
+cancels : (b : Bool) (o : Option Armed) (last : Option (Option Armed)) → flat last ≡ o → option_map runs_out_at (flat (or_else (cancelled b) last)) ≡ (if b then None else option_map runs_out_at o)
 cancels true o last e = refl
-cancels false o last e = ap (option_map end_of) e
+cancels false o last e = ap (option_map runs_out_at) e
 
 flat_cancelled : (b : Bool) (last : Option (Option Armed)) → flat (or_else (cancelled b) last) ≡ (if b then None else flat last)
 flat_cancelled true last = refl
 flat_cancelled false last = refl
 
-pub asked_first-repairs : (now : ℕ) (dist : List ℕ) (calls : List FixCall) (names : List FullName) (n : FullName) → asked_first (calls ++ repairs now dist calls names) n ≡ asked_first calls n
-asked_first-repairs now dist calls names n = asked_first-append calls (repairs now dist calls names) n (no_asker-repairs now dist calls names n)
+pub asked_first-repairs : (now : ℕ) (dist : List ℕ) (calls : List FixCall) (names : List FullName) (n : FullName) → asked_first (calls ++ repair_calls now dist calls names) n ≡ asked_first calls n
+asked_first-repairs now dist calls names n = asked_first-append calls (repair_calls now dist calls names) n (no_asker-repairs now dist calls names n)
 
 pub fix_timer-repairs : (now : ℕ) (dist : List ℕ) (calls : List FixCall) (names : List FullName) (n : FullName)
-    → fix_timer (calls ++ repairs now dist calls names) n ≡ (if among names n then None else fix_timer calls n)
+    → fix_timer (calls ++ repair_calls now dist calls names) n ≡ (if among names n then None else fix_timer calls n)
 fix_timer-repairs now dist calls names n =
-    ap flat (last_of-append (ran_by n) calls (repairs now dist calls names) ∙ ap (λ o. or_else o (last_of (ran_by n) calls)) (repairs_cancel now dist calls names n))
+    ap flat (last_of-append (ran_by n) calls (repair_calls now dist calls names) ∙ ap (λ o. or_else o (last_of (ran_by n) calls)) (repairs_cancel now dist calls names n))
     ∙ flat_cancelled (among names n) (last_of (ran_by n) calls)
 
 pub is_off-repairs : (now : ℕ) (dist : List ℕ) (calls : List FixCall) (names : List FullName) (n : FullName) (t : ℕ)
-    → is_off (calls ++ repairs now dist calls names) n t ≡ (is_off calls n t || among names n && nat_lt t (hold_end now dist calls n))
-is_off-repairs now dist calls names n t = any_append calls (repairs now dist calls names) n t ∙ ap (λ b. is_off calls n t || b) (repairs_hold now dist calls names n t)
+    → is_off (calls ++ repair_calls now dist calls names) n t ≡ (is_off calls n t || among names n && nat_lt t (hold_end now dist calls n))
+is_off-repairs now dist calls names n t = any_append calls (repair_calls now dist calls names) n t ∙ ap (λ b. is_off calls n t || b) (repairs_hold now dist calls names n t)
 
-pub repairs_all : (now : ℕ) (dist : List ℕ) (names : List FullName) (a b : FixContent) → b.d1 ≡ a.d1 → b.d2 ≡ a.d2 → Keeps a.askers b.askers → ClearsAll names a.ends.places b.ends.places
-    → HoldAllOff now dist names a.askers a.holds b.holds → FixRepairs now dist names a b
+pub repairs_all : (now : ℕ) (dist : List ℕ) (names : List FullName) (a b : FixContent) → b.d1 ≡ a.d1 → b.d2 ≡ a.d2 → KeepsValues a.askers b.askers → ClearsAll names a.ends.places b.ends.places
+    → HoldAllOff now dist names a.askers a.held_off b.held_off → FixRepairs now dist names a b
 repairs_all now dist names a b p q askers ends off = record {
   near = λ d1 d2 calls h n at. subst (λ o. unwrap_or o n.stream.source < MEMBERS) (h.askers n) (off.near n at);
   each = λ d1 d2 calls h. record {
     d1_is = p ∙ h.d1_is;
     d2_is = q ∙ h.d2_is;
-    askers = λ n. askers.each n ∙ h.askers n ∙ sym (asked_first-append calls (repairs now dist calls names) n (no_asker-repairs now dist calls names n));
+    askers = λ n. askers.each n ∙ h.askers n ∙ sym (asked_first-append calls (repair_calls now dist calls names) n (no_asker-repairs now dist calls names n));
     ends = λ n. ends.each n ∙ ap (λ o. if among names n then None else o) (h.ends n)
-        ∙ sym (ap (λ o. option_map end_of (flat o)) (last_of-append (ran_by n) calls (repairs now dist calls names) ∙ ap (λ o. or_else o (last_of (ran_by n) calls)) (repairs_cancel now dist calls names n))
+        ∙ sym (ap (λ o. option_map runs_out_at (flat o)) (last_of-append (ran_by n) calls (repair_calls now dist calls names) ∙ ap (λ o. or_else o (last_of (ran_by n) calls)) (repairs_cancel now dist calls names n))
         ∙ cancels (among names n) (fix_timer calls n) (last_of (ran_by n) calls) refl);
-    holds = λ n t. off.each n t ∙ ap (λ b. b || among names n && nat_lt t (held_off_until now dist a.askers n)) (h.holds n t)
+    held_off = λ n t. off.each n t ∙ ap (λ b. b || among names n && nat_lt t (held_off_until now dist a.askers n)) (h.held_off n t)
         ∙ ap (λ o. is_off calls n t || among names n && nat_lt t (now + 3 * distance_to dist (unwrap_or o n.stream.source))) (h.askers n)
-        ∙ sym (any_append calls (repairs now dist calls names) n t ∙ ap (λ b. is_off calls n t || b) (repairs_hold now dist calls names n t));
+        ∙ sym (any_append calls (repair_calls now dist calls names) n t ∙ ap (λ b. is_off calls n t || b) (repairs_hold now dist calls names n t));
   };
 }
 
 -- nothing changes
-pub fix_stays : (a b : FixContent) → b.d1 ≡ a.d1 → b.d2 ≡ a.d2 → Keeps a.ends.places b.ends.places → Keeps a.askers b.askers → Keeps a.holds b.holds → FixStays a b
-fix_stays a b p q ends askers holds = record {
+pub fix_stays : (a b : FixContent) → b.d1 ≡ a.d1 → b.d2 ≡ a.d2 → KeepsValues a.ends.places b.ends.places → KeepsValues a.askers b.askers → KeepsValues a.held_off b.held_off → FixStays a b
+fix_stays a b p q ends askers held_off = record {
   each = λ d1 d2 calls h. record {
     d1_is = p ∙ h.d1_is;
     d2_is = q ∙ h.d2_is;
     askers = λ n. askers.each n ∙ h.askers n;
     ends = λ n. ends.each n ∙ h.ends n;
-    holds = λ n now. ap (λ o. nat_lt now (unwrap_or o 0)) (holds.each n) ∙ h.holds n now;
+    held_off = λ n now. ap (λ o. nat_lt now (unwrap_or o 0)) (held_off.each n) ∙ h.held_off n now;
   };
 }
 
-some_map : (o : Option Armed) → is_some (option_map end_of o) ≡ is_some o
+some_map : (o : Option Armed) → is_some (option_map runs_out_at o) ≡ is_some o
 some_map None = refl
 some_map (Some a) = refl
 
 -- whether a request sets the timer of a name
 pub free_is : (d1 d2 : ℕ) (calls : List FixCall) (a : FixContent) (n : FullName) (now : ℕ) → FixFits d1 d2 calls a
-    → (not (is_some (value_at a.ends.places n)) && not (nat_lt now (unwrap_or (value_at a.holds n) 0))) ≡ is_free calls n now
+    → (not (is_some (value_at a.ends.places n)) && not (nat_lt now (unwrap_or (value_at a.held_off n) 0))) ≡ is_free calls n now
 free_is d1 d2 calls a n now h =
-    ap (λ o. not (is_some o) && not (nat_lt now (unwrap_or (value_at a.holds n) 0))) (h.ends n)
-    ∙ ap (λ b. not b && not (nat_lt now (unwrap_or (value_at a.holds n) 0))) (some_map (fix_timer calls n))
-    ∙ ap (λ b. not (is_some (fix_timer calls n)) && not b) (h.holds n now)
+    ap (λ o. not (is_some o) && not (nat_lt now (unwrap_or (value_at a.held_off n) 0))) (h.ends n)
+    ∙ ap (λ b. not b && not (nat_lt now (unwrap_or (value_at a.held_off n) 0))) (some_map (fix_timer calls n))
+    ∙ ap (λ b. not (is_some (fix_timer calls n)) && not b) (h.held_off n now)
 
 pub fix_stays_on : (a b c : FixContent) → FixStays a b → FixStays b c → FixStays a c
 fix_stays_on a b c p q = record { each = λ d1 d2 calls h. q.each d1 d2 calls (p.each d1 d2 calls h) }
@@ -311,22 +311,22 @@ pub unanswered : (b told : Bool) (q : Plan) → b ≡ false → b ≡ told → N
 unanswered b told q none is = ap (λ t. if t then Some q else None) (sym none ∙ is)
 
 -- the same, for every list of calls
-pub note_adds : (name : FullName) (from : ℕ) (a b : FixContent) → b.d1 ≡ a.d1 → b.d2 ≡ a.d2 → b.ends ≡ a.ends → OffAsBefore a.holds b.holds → NotesAsker name from a.askers b.askers → FixAdds (Asked name from ∷ []) a b
-note_adds name from a b p q ends holds noted = record { each = λ d1 d2 calls h. fits_asked d1 d2 calls name from a b h p q ends holds noted }
+pub note_adds : (name : FullName) (from : ℕ) (a b : FixContent) → b.d1 ≡ a.d1 → b.d2 ≡ a.d2 → b.ends ≡ a.ends → OffAsBefore a.held_off b.held_off → NotesAsker name from a.askers b.askers → FixAdds (Asked name from ∷ []) a b
+note_adds name from a b p q ends held_off noted = record { each = λ d1 d2 calls h. fits_asked d1 d2 calls name from a b h p q ends held_off noted }
 
-pub set_adds_fix : (now : ℕ) (arm : Arm) (a b : FixContent) → b.d1 ≡ a.d1 → b.d2 ≡ a.d2 → b.askers ≡ a.askers → b.holds ≡ a.holds
+pub set_adds_fix : (now : ℕ) (arm : Arm) (a b : FixContent) → b.d1 ≡ a.d1 → b.d2 ≡ a.d2 → b.askers ≡ a.askers → b.held_off ≡ a.held_off
     → Sets arm.name (Some (now + arm.wait)) a.ends.places b.ends.places → FixAdds (SetFix now arm ∷ []) a b
-set_adds_fix now arm a b p q askers holds ends = record { each = λ d1 d2 calls h. fits_sets_fix d1 d2 calls now (arm ∷ []) a b h p q askers holds refl (ends_one now arm a.ends.places b.ends.places ends) }
+set_adds_fix now arm a b p q askers held_off ends = record { each = λ d1 d2 calls h. fits_sets_fix d1 d2 calls now (arm ∷ []) a b h p q askers held_off refl (ends_one now arm a.ends.places b.ends.places ends) }
 
-pub sets_adds_fix : (now : ℕ) (arms : List Arm) (a b : FixContent) → b.d1 ≡ a.d1 → b.d2 ≡ a.d2 → b.askers ≡ a.askers → b.holds ≡ a.holds
+pub sets_adds_fix : (now : ℕ) (arms : List Arm) (a b : FixContent) → b.d1 ≡ a.d1 → b.d2 ≡ a.d2 → b.askers ≡ a.askers → b.held_off ≡ a.held_off
     → ascending name_below (arm_names arms) ≡ true → SetsEnds now arms a.ends.places b.ends.places → FixAdds (sets_fix now arms) a b
-sets_adds_fix now arms a b p q askers holds rising ends = record { each = λ d1 d2 calls h. fits_sets_fix d1 d2 calls now arms a b h p q askers holds rising ends }
+sets_adds_fix now arms a b p q askers held_off rising ends = record { each = λ d1 d2 calls h. fits_sets_fix d1 d2 calls now arms a b h p q askers held_off rising ends }
 
-pub repaired_adds : (name : FullName) (until : ℕ) (a b : FixContent) → b.d1 ≡ a.d1 → b.d2 ≡ a.d2 → Keeps a.askers b.askers → Sets name None a.ends.places b.ends.places
-    → HoldsOff name until a.holds b.holds → FixAdds (Repaired name until ∷ []) a b
+pub repaired_adds : (name : FullName) (until : ℕ) (a b : FixContent) → b.d1 ≡ a.d1 → b.d2 ≡ a.d2 → KeepsValues a.askers b.askers → Sets name None a.ends.places b.ends.places
+    → HoldsOff name until a.held_off b.held_off → FixAdds (Repaired name until ∷ []) a b
 repaired_adds name until a b p q askers ends off = record { each = λ d1 d2 calls h. fits_ended d1 d2 calls name until a b h p q askers ends off.each }
 
-pub is_free_is : (name : FullName) (now : ℕ) (a : FixContent) (runs off : Bool) → runs ≡ is_some (value_at a.ends.places name) → off ≡ nat_lt now (unwrap_or (value_at a.holds name) 0)
+pub is_free_is : (name : FullName) (now : ℕ) (a : FixContent) (runs off : Bool) → runs ≡ is_some (value_at a.ends.places name) → off ≡ nat_lt now (unwrap_or (value_at a.held_off name) 0)
     → FixIsFree name now a (not runs && not off)
 is_free_is name now a runs off runs_is off_is = record {
   each = λ d1 d2 calls h. ap (λ b. not b && not off) runs_is ∙ ap (λ b. not (is_some (value_at a.ends.places name)) && not b) off_is ∙ free_is d1 d2 calls a name now h;
@@ -339,8 +339,8 @@ pub fix_due_is : (now : ℕ) (a : FixContent) (names : List FullName) → AreExa
 fix_due_is now a names due = record { each = λ d1 d2 calls h. due_ran_out now a.ends.places (fix_timer calls) names h.ends due }
 
 pub repairs_after : (now : ℕ) (dist : List ℕ) (names names' : List FullName) (a b c : FixContent) → FixStays a b → names ≡ names' → FixRepairs now dist names b c → FixRepairs now dist names' a c
-repairs_after now dist names names' a b c stays is repairs =
-    subst (λ names. FixRepairs now dist names a c) is (record { each = λ d1 d2 calls h. repairs.each d1 d2 calls (stays.each d1 d2 calls h); near = λ d1 d2 calls h. repairs.near d1 d2 calls (stays.each d1 d2 calls h) })
+repairs_after now dist names names' a b c stays is repair_calls =
+    subst (λ names. FixRepairs now dist names a c) is (record { each = λ d1 d2 calls h. repair_calls.each d1 d2 calls (stays.each d1 d2 calls h); near = λ d1 d2 calls h. repair_calls.near d1 d2 calls (stays.each d1 d2 calls h) })
 
 -- a request: who asked, and its arm
 pub asks_then_sets : (name : FullName) (from now : ℕ) (arm : Arm) (a b c : FixContent) → FixAdds (Asked name from ∷ []) a b → FixAdds (SetFix now arm ∷ []) b c → FixAdds (Asked name from ∷ SetFix now arm ∷ []) a c

@@ -8,9 +8,9 @@ use Rattle.srm_names.specs.Names.{same_name, name_below, ascending, among}
 use Rattle.srm_names.proofs.Snoc.{last_of-snoc}
 use Rattle.srm_timers.specs.declared.arm.Arm.{Arm}
 use Rattle.srm_timers.specs.declared.arm.Armed.{Armed}
-use Rattle.srm_deadlines.specs.declared.by_name.Place.{Place}
+use Rattle.srm_deadlines.specs.declared.by_name.NamedValue.{NamedValue}
 use Rattle.srm_timers.specs.Arms.{arm_name, arm_names, arm_of}
-use Rattle.srm_deadlines.specs.Places.{value_at, has_place, Sets, Holds, HasPlaces}
+use Rattle.srm_deadlines.specs.Places.{value_at, has_place, Sets, KeepsPlaces, HasPlaces}
 use Rattle.srm_timers.specs.Timers.{armed_at, SetsTimers}
 use Rattle.srm_timers.proofs.Arming.{last_arms, same_itself}
 
@@ -18,10 +18,10 @@ abbrev pub armed_by : ℕ → FullName → Arm → Option Armed
 armed_by now n a = if same_name n a.name then Some (armed_at now a) else None
 
 -- the last arms of a list run
-pub record SetsFront (now : ℕ) (arms : List Arm) (old new : List (Place Armed)) : Type 0 where
+pub record SetsFront (now : ℕ) (arms : List Arm) (old new : List (NamedValue Armed)) : Type 0 where
   pub each : (n : FullName) → value_at new n ≡ or_else (last_of (armed_by now n) arms) (value_at old n)
 
-pub front_more : (now : ℕ) (arms : List Arm) (i : ℕ) (a : Arm) (armed : Armed) (old mid new : List (Place Armed)) → i < length arms → a ≡ get_or arms i a → armed ≡ armed_at now a
+pub front_more : (now : ℕ) (arms : List Arm) (i : ℕ) (a : Arm) (armed : Armed) (old mid new : List (NamedValue Armed)) → i < length arms → a ≡ get_or arms i a → armed ≡ armed_at now a
     → SetsFront now (take i arms) old mid → Sets a.name (Some armed) mid new → SetsFront now (take (i + 1) arms) old new
 front_more now arms i a armed old mid new lt is at h k = record {
   each = λ n. k.each n ∙ ap (λ t. if same_name n a.name then Some t else value_at mid n) at ∙ go n (same_name n a.name) ∙ sym (ap (λ o. or_else o (value_at old n)) (told n));
@@ -38,7 +38,7 @@ map_itself : {X : Type 0} (xs : List X) → map (λ x. x) xs ≡ xs
 map_itself [] = refl
 map_itself (x ∷ xs) = ap (λ ys. x ∷ ys) (map_itself xs)
 
-pub front_all : (now : ℕ) (arms : List Arm) (i : ℕ) (old new : List (Place Armed)) → length arms ≤ i → ascending name_below (arm_names arms) ≡ true
+pub front_all : (now : ℕ) (arms : List Arm) (i : ℕ) (old new : List (NamedValue Armed)) → length arms ≤ i → ascending name_below (arm_names arms) ≡ true
     → SetsFront now (take i arms) old new → SetsTimers now arms old new
 front_all now arms i old new le rising h = record {
   each = λ n. h.each n ∙ ap (λ o. or_else o (value_at old n))
@@ -55,5 +55,5 @@ arm_among (b ∷ arms) (suc i) a lt = go (same_name (get_or arms i a).name b.nam
     go false h = h
 
 -- each arm of the list has a place
-pub arm_place : {V : Type 0} (arms : List Arm) (i : ℕ) (a : Arm) (old new : List (Place V)) → i < length arms → a ≡ get_or arms i a → HasPlaces (arm_names arms) old → Holds old new → has_place new a.name ≡ true
+pub arm_place : {V : Type 0} (arms : List Arm) (i : ℕ) (a : Arm) (old new : List (NamedValue V)) → i < length arms → a ≡ get_or arms i a → HasPlaces (arm_names arms) old → KeepsPlaces old new → has_place new a.name ≡ true
 arm_place arms i a old new lt is h k = k.each a.name (h.each a.name (ap (λ (b : Arm). among (arm_names arms) b.name) is ∙ arm_among arms i a lt))

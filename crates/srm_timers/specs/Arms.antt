@@ -4,7 +4,7 @@ use Rattle.std.specs.List.{AllByRecursion}
 use Rattle.srm_names.specs.declared.limits.TheConstants.{MEMBERS}
 use Rattle.srm_names.specs.FullName.{FullName}
 use Rattle.srm_names.specs.Names.{same_name, name_below, ascending}
-use Rattle.srm_timers.specs.declared.limits.TheConstants.{EXPONENT}
+use Rattle.srm_timers.specs.declared.limits.TheConstants.{GREATEST_EXPONENT}
 use Rattle.srm_timers.specs.declared.arm.Arm.{Arm}
 use Rattle.srm_timers.specs.declared.arm.Armed.{Armed}
 use Rattle.srm_timers.specs.declared.arm.ArmKind.{ArmKind}
@@ -16,8 +16,8 @@ same_kind Fix Fix = true
 same_kind _ _ = false
 
 -- when the timer runs out
-abbrev pub end_of : Armed → ℕ
-end_of a = a.set + a.arm.wait
+abbrev pub runs_out_at : Armed → ℕ
+runs_out_at a = a.set + a.arm.wait
 
 -- a request that is heard before this moment changes nothing
 abbrev pub ignored_until : Armed → ℕ
@@ -25,11 +25,11 @@ ignored_until a = a.set + a.arm.wait / 2
 
 abbrev pub ran_out : ℕ → Option Armed → Bool
 ran_out now None = false
-ran_out now (Some a) = nat_le (end_of a) now
+ran_out now (Some a) = nat_le (runs_out_at a) now
 
 -- the exponent of the arm after this one
 abbrev pub next_exponent : Armed → ℕ
-next_exponent a = min EXPONENT (a.arm.exponent + 1)
+next_exponent a = min GREATEST_EXPONENT (a.arm.exponent + 1)
 
 -- the exponent with which a request that is heard arms again, where it isn't ignored
 abbrev pub backs_off : ℕ → Option Armed → Option ℕ
@@ -37,21 +37,21 @@ backs_off now None = None
 backs_off now (Some a) = if (a.arm.exponent == 0) || nat_le (ignored_until a) now then Some (next_exponent a) else None
 
 -- an arm but for its name and its wait
-pub record Setting : Type 0 where
+pub record WaitBasis : Type 0 where
   pub kind : ArmKind
   pub exponent : ℕ
   pub distance : ℕ
 
-abbrev pub setting : Arm → Setting
-setting a = record { kind = a.kind; exponent = a.exponent; distance = a.distance }
+abbrev pub wait_basis : Arm → WaitBasis
+wait_basis a = record { kind = a.kind; exponent = a.exponent; distance = a.distance }
 
 -- an arm but for its wait
 pub record Plan : Type 0 where
   pub name : FullName
-  pub setting : Setting
+  pub wait_basis : WaitBasis
 
 abbrev pub plan_of : Arm → Plan
-plan_of a = record { name = a.name; setting = setting a }
+plan_of a = record { name = a.name; wait_basis = wait_basis a }
 
 abbrev pub arm_name : Arm → FullName
 arm_name a = a.name
@@ -65,7 +65,7 @@ arm_of n arms = find (λ a. same_name n a.name) arms
 -- arms of requests, and arms of repairs
 pub record IsAsk (a : Arm) : Type 0 where
   pub kind : a.kind ≡ Ask
-  pub exponent : a.exponent ≤ EXPONENT
+  pub exponent : a.exponent ≤ GREATEST_EXPONENT
 
 pub record IsFix (a : Arm) : Type 0 where
   pub kind : a.kind ≡ Fix
@@ -78,9 +78,9 @@ pub record AreFixes (arms : List Arm) : Type 0 where
   pub each : AllByRecursion IsFix arms
 
 -- the arms have exactly these settings, by name, and stand in order of name
-pub record ArmsAre (settings : FullName → Option Setting) (arms : List Arm) : Type 0 where
+pub record ArmsAre (settings : FullName → Option WaitBasis) (arms : List Arm) : Type 0 where
   pub in_order : ascending name_below (arm_names arms) ≡ true
-  pub exact : (n : FullName) → option_map setting (arm_of n arms) ≡ settings n
+  pub exact : (n : FullName) → option_map wait_basis (arm_of n arms) ≡ settings n
 
 -- each is of a name of a member
 pub record AreOfMembers (arms : List Arm) : Type 0 where
@@ -94,12 +94,12 @@ abbrev pub high_of : ℕ → ℕ → Arm → ℕ
 high_of first second a = 2 ^ a.exponent * (first + second) * a.distance
 
 -- The waits of the arms are drawn from a source, one word an arm, in order, each between its ends; `to` is the source after them.
-abbrev pub AreDrawn : {W : Type 0} → (W → ℕ × W) → (low high : Arm → ℕ) → W → List Arm → W → Type 0
-AreDrawn draw low high from [] to = to ≡ from
-AreDrawn draw low high from (a ∷ arms) to = (a.wait ≡ low a + (draw from).0 % (high a - low a + 1)) × AreDrawn draw low high (draw from).1 arms to
+abbrev pub AreChosen : {W : Type 0} → (W → ℕ × W) → (low high : Arm → ℕ) → W → List Arm → W → Type 0
+AreChosen draw low high from [] to = to ≡ from
+AreChosen draw low high from (a ∷ arms) to = (a.wait ≡ low a + (draw from).0 % (high a - low a + 1)) × AreChosen draw low high (draw from).1 arms to
 
 -- the first of the timers runs out at this moment, and none runs where there is none
 pub record RunsOutFirst (timer : FullName → Option Armed) (moment : Option ℕ) : Type 0 where
   pub none : IsNone moment → (n : FullName) → timer n ≡ None
-  pub least : IfSome moment (λ t. (n : FullName) → IfSome (timer n) (λ a. t ≤ end_of a))
-  pub is_one : IfSome moment (λ t. (n : FullName) × (option_map end_of (timer n) ≡ Some t))
+  pub least : IfSome moment (λ t. (n : FullName) → IfSome (timer n) (λ a. t ≤ runs_out_at a))
+  pub is_one : IfSome moment (λ t. (n : FullName) × (option_map runs_out_at (timer n) ≡ Some t))

@@ -6,9 +6,9 @@ use Rattle.srm_names.specs.Names.{same_name, among, AreExactly}
 use Rattle.srm_timers.specs.declared.arm.Arm.{Arm}
 use Rattle.srm_timers.specs.declared.arm.Armed.{Armed}
 use Rattle.srm_timers.specs.declared.arm.ArmKind.TheVariants.{Ask}
-use Rattle.srm_deadlines.specs.declared.by_name.Place.{Place}
-use Rattle.srm_timers.specs.declared.limits.TheConstants.{TIMER_SETTING}
-use Rattle.srm_timers.specs.Arms.{Setting, Plan, ArmsAre, RunsOutFirst, end_of, ran_out, next_exponent, backs_off}
+use Rattle.srm_deadlines.specs.declared.by_name.NamedValue.{NamedValue}
+use Rattle.srm_timers.specs.declared.limits.TheConstants.{GREATEST_TIMER_SETTING}
+use Rattle.srm_timers.specs.Arms.{WaitBasis, Plan, ArmsAre, RunsOutFirst, runs_out_at, ran_out, next_exponent, backs_off}
 use Rattle.srm_timers.specs.Distances.{distance_to}
 use Rattle.srm_timers.specs.Ends.{EndContent, HaveRoom, KeepsRoom}
 use Rattle.srm_deadlines.specs.Places.{value_at, has_place}
@@ -18,7 +18,7 @@ pub record AskContent : Type 0 where
   pub c1 : ℕ
   pub c2 : ℕ
   pub ends : EndContent
-  pub timers : List (Place Armed)
+  pub timers : List (NamedValue Armed)
   -- so many arms can be answered without memory, of names that are found missing
   pub detect_list : ℕ
   -- and of names that are due
@@ -32,9 +32,9 @@ pub data AskCall : Type 0 where
   Gained : (name : FullName) → AskCall
 
 -- what the call says of the name's timer: that it runs, that it is gone, or nothing
-abbrev pub told_by : FullName → AskCall → Option (Option Armed)
-told_by n (Set now arm) = if same_name n arm.name then Some (Some (record { set = now; arm = arm })) else None
-told_by n (Gained name) = if same_name n name then Some None else None
+abbrev pub timer_after : FullName → AskCall → Option (Option Armed)
+timer_after n (Set now arm) = if same_name n arm.name then Some (Some (record { set = now; arm = arm })) else None
+timer_after n (Gained name) = if same_name n name then Some None else None
 
 abbrev pub flat : {X : Type 0} → Option (Option X) → Option X
 flat None = None
@@ -42,31 +42,31 @@ flat (Some o) = o
 
 -- the timer of a name
 abbrev pub ask_timer : List AskCall → FullName → Option Armed
-ask_timer calls n = flat (last_of (told_by n) calls)
+ask_timer calls n = flat (last_of (timer_after n) calls)
 
 -- these arms were made at a moment, one after another
 abbrev pub sets : ℕ → List Arm → List AskCall
 sets now arms = map (Set now) arms
 
-abbrev pub ask_setting : ℕ → ℕ → Setting
-ask_setting exponent distance = record { kind = Ask; exponent = exponent; distance = distance }
+abbrev pub ask_basis : ℕ → ℕ → WaitBasis
+ask_basis exponent distance = record { kind = Ask; exponent = exponent; distance = distance }
 
 abbrev pub ask_plan : FullName → ℕ → ℕ → Plan
-ask_plan name distance exponent = record { name = name; setting = ask_setting exponent distance }
+ask_plan name distance exponent = record { name = name; wait_basis = ask_basis exponent distance }
 
 -- the exponent of a name that is found missing: one more where a request for it was heard
 abbrev pub first_exponent : List FullName → FullName → ℕ
 first_exponent asked n = if among asked n then 1 else 0
 
 -- how a name is armed that is among those found missing
-abbrev pub found_setting : (names asked : List FullName) → List ℕ → FullName → Option Setting
-found_setting names asked dist n = if among names n then Some (ask_setting (first_exponent asked n) (distance_to dist n.stream.source)) else None
+abbrev pub found_basis : (names asked : List FullName) → List ℕ → FullName → Option WaitBasis
+found_basis names asked dist n = if among names n then Some (ask_basis (first_exponent asked n) (distance_to dist n.stream.source)) else None
 
 abbrev pub found_plan : (asked : List FullName) → List ℕ → FullName → Plan
 found_plan asked dist n = ask_plan n (distance_to dist n.stream.source) (first_exponent asked n)
 
-abbrev pub again_setting : ℕ → Armed → Setting
-again_setting distance timer = ask_setting (next_exponent timer) distance
+abbrev pub again_basis : ℕ → Armed → WaitBasis
+again_basis distance timer = ask_basis (next_exponent timer) distance
 
 abbrev pub again_exponent : Option Armed → ℕ
 again_exponent None = 0
@@ -77,8 +77,8 @@ abbrev pub again_plan : List ℕ → (FullName → Option Armed) → FullName �
 again_plan dist timer n = ask_plan n (distance_to dist n.stream.source) (again_exponent (timer n))
 
 -- how a name is armed again whose timer ran out
-abbrev pub due_setting : ℕ → List ℕ → (FullName → Option Armed) → FullName → Option Setting
-due_setting now dist timer n = if ran_out now (timer n) then option_map (again_setting (distance_to dist n.stream.source)) (timer n) else None
+abbrev pub due_basis : ℕ → List ℕ → (FullName → Option Armed) → FullName → Option WaitBasis
+due_basis now dist timer n = if ran_out now (timer n) then option_map (again_basis (distance_to dist n.stream.source)) (timer n) else None
 
 pub record AskFits (c1 c2 : ℕ) (calls : List AskCall) (a : AskContent) : Type 0 where
   pub c1_is : a.c1 ≡ c1
@@ -95,11 +95,11 @@ pub record AskDue (now : ℕ) (a : AskContent) (names : List FullName) : Type 0 
 
 -- the arms are those of the names that were found missing, in order of name
 pub record AskedFirst (names asked : List FullName) (dist : List ℕ) (arms : List Arm) : Type 0 where
-  pub are : ArmsAre (found_setting names asked dist) arms
+  pub are : ArmsAre (found_basis names asked dist) arms
 
 -- the arms are those of the timers that ran out, set again, in order of name
 pub record AskedAgain (now : ℕ) (dist : List ℕ) (a : AskContent) (arms : List Arm) : Type 0 where
-  pub each : (c1 c2 : ℕ) (calls : List AskCall) → AskFits c1 c2 calls a → ArmsAre (due_setting now dist (ask_timer calls)) arms
+  pub each : (c1 c2 : ℕ) (calls : List AskCall) → AskFits c1 c2 calls a → ArmsAre (due_basis now dist (ask_timer calls)) arms
 
 -- the exponent with which a request for the name, heard now, arms it again, and none where it is ignored or no timer runs
 pub record AskBacksOff (name : FullName) (now : ℕ) (a : AskContent) (exponent : Option ℕ) : Type 0 where
@@ -139,7 +139,7 @@ pub record AnswerReady (names : List FullName) (a : AskContent) : Type 0 where
   pub due : DueReady names a
 
 -- whatever needed no memory needs none, and the settings are the same
-pub record AskHolds (old new : AskContent) : Type 0 where
+pub record AskKeepsRoom (old new : AskContent) : Type 0 where
   pub c1 : new.c1 ≡ old.c1
   pub c2 : new.c2 ≡ old.c2
   pub ends : KeepsRoom old.ends new.ends
@@ -162,8 +162,8 @@ pub record AskTimersRun (names : List FullName) (a : AskContent) : Type 0 where
 
 -- what holds of each Asks: settings in range, an end for each timer, and an empty list for the next answer of each kind
 pub record AskIsRight (a : AskContent) (detect_list due_list : List Arm) : Type 0 where
-  pub c1 : a.c1 ≤ TIMER_SETTING
-  pub c2 : a.c2 ≤ TIMER_SETTING
-  pub ends : (n : FullName) → value_at a.ends.places n ≡ option_map end_of (value_at a.timers n)
+  pub c1 : a.c1 ≤ GREATEST_TIMER_SETTING
+  pub c2 : a.c2 ≤ GREATEST_TIMER_SETTING
+  pub ends : (n : FullName) → value_at a.ends.places n ≡ option_map runs_out_at (value_at a.timers n)
   pub detect_empty : detect_list ≡ []
   pub due_empty : due_list ≡ []

@@ -6,14 +6,14 @@ use Rattle.srm_names.specs.Histories.{or_else}
 use Rattle.srm_names.specs.Names.{among}
 use Rattle.srm_timers.specs.declared.arm.Arm.{Arm}
 use Rattle.srm_deadlines.specs.declared.timed.Timed.{Timed}
-use Rattle.srm_deadlines.specs.declared.by_name.Place.{Place}
+use Rattle.srm_deadlines.specs.declared.by_name.NamedValue.{NamedValue}
 use Rattle.srm_timers.specs.declared.limits.TheConstants.{LONGEST_WAIT}
 use Rattle.srm_timers.specs.Arms.{arm_of}
 use Rattle.srm_deadlines.specs.Places.{value_at, has_place}
 
 -- what an Ends keeps
 pub record EndContent : Type 0 where
-  pub places : List (Place ℕ)
+  pub places : List (NamedValue ℕ)
   -- so many can be set in one call without memory
   pub room : ℕ
 
@@ -25,7 +25,7 @@ abbrev pub timed_at : ℕ → Arm → Timed
 timed_at now a = record { name = a.name; moment = arm_end now a }
 
 -- the arms run from now on
-pub record SetsEnds (now : ℕ) (arms : List Arm) (old new : List (Place ℕ)) : Type 0 where
+pub record SetsEnds (now : ℕ) (arms : List Arm) (old new : List (NamedValue ℕ)) : Type 0 where
   pub each : (n : FullName) → value_at new n ≡ or_else (option_map (arm_end now) (arm_of n arms)) (value_at old n)
 
 abbrev pub is_short : Arm → Type 0

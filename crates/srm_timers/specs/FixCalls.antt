@@ -8,9 +8,9 @@ use Rattle.srm_names.specs.Names.{same_name, among, AreExactly}
 use Rattle.srm_timers.specs.declared.arm.Arm.{Arm}
 use Rattle.srm_timers.specs.declared.arm.Armed.{Armed}
 use Rattle.srm_timers.specs.declared.arm.ArmKind.TheVariants.{Fix}
-use Rattle.srm_deadlines.specs.declared.by_name.Place.{Place}
-use Rattle.srm_timers.specs.declared.limits.TheConstants.{HOLD_OFF, TIMER_SETTING}
-use Rattle.srm_timers.specs.Arms.{Setting, Plan, RunsOutFirst, plan_of, end_of, ran_out}
+use Rattle.srm_deadlines.specs.declared.by_name.NamedValue.{NamedValue}
+use Rattle.srm_timers.specs.declared.limits.TheConstants.{HOLD_OFF, GREATEST_TIMER_SETTING}
+use Rattle.srm_timers.specs.Arms.{WaitBasis, Plan, RunsOutFirst, plan_of, runs_out_at, ran_out}
 use Rattle.srm_timers.specs.AskCalls.{flat}
 use Rattle.srm_timers.specs.Distances.{distance_to}
 use Rattle.srm_timers.specs.Ends.{EndContent, HaveRoom, KeepsRoom}
@@ -21,8 +21,8 @@ pub record FixContent : Type 0 where
   pub d1 : ℕ
   pub d2 : ℕ
   pub ends : EndContent
-  pub askers : List (Place ℕ)
-  pub holds : List (Place ℕ)
+  pub askers : List (NamedValue ℕ)
+  pub held_off : List (NamedValue ℕ)
   -- so many names that are due can be answered without memory
   pub list : ℕ
 
@@ -79,38 +79,38 @@ abbrev pub repair_by : ℕ → List ℕ → List FixCall → FullName → FixCal
 repair_by now dist calls n = Repaired n (hold_end now dist calls n)
 
 -- these names were repaired at a moment, one after another
-abbrev pub repairs : ℕ → List ℕ → List FixCall → List FullName → List FixCall
-repairs now dist calls names = map (repair_by now dist calls) names
+abbrev pub repair_calls : ℕ → List ℕ → List FixCall → List FullName → List FixCall
+repair_calls now dist calls names = map (repair_by now dist calls) names
 
-abbrev pub fix_setting : ℕ → Setting
-fix_setting distance = record { kind = Fix; exponent = 0; distance = distance }
+abbrev pub fix_basis : ℕ → WaitBasis
+fix_basis distance = record { kind = Fix; exponent = 0; distance = distance }
 
 abbrev pub fix_plan : FullName → ℕ → Plan
-fix_plan name distance = record { name = name; setting = fix_setting distance }
+fix_plan name distance = record { name = name; wait_basis = fix_basis distance }
 
 -- who asked for the name first, and whether it is held off, by the tables that are kept
-abbrev pub asker_at : List (Place ℕ) → FullName → ℕ
+abbrev pub asker_at : List (NamedValue ℕ) → FullName → ℕ
 asker_at askers n = unwrap_or (value_at askers n) n.stream.source
 
-abbrev pub is_held_off : List (Place ℕ) → FullName → ℕ → Bool
-is_held_off holds n now = nat_lt now (unwrap_or (value_at holds n) 0)
+abbrev pub is_held_off : List (NamedValue ℕ) → FullName → ℕ → Bool
+is_held_off held_off n now = nat_lt now (unwrap_or (value_at held_off n) 0)
 
-abbrev pub held_off_until : ℕ → List ℕ → List (Place ℕ) → FullName → ℕ
+abbrev pub held_off_until : ℕ → List ℕ → List (NamedValue ℕ) → FullName → ℕ
 held_off_until now dist askers n = now + HOLD_OFF * distance_to dist (asker_at askers n)
 
 pub record FixFits (d1 d2 : ℕ) (calls : List FixCall) (a : FixContent) : Type 0 where
   pub d1_is : a.d1 ≡ d1
   pub d2_is : a.d2 ≡ d2
   pub askers : (n : FullName) → value_at a.askers n ≡ asked_first calls n
-  pub ends : (n : FullName) → value_at a.ends.places n ≡ option_map end_of (fix_timer calls n)
-  pub holds : (n : FullName) (now : ℕ) → is_held_off a.holds n now ≡ is_off calls n now
+  pub ends : (n : FullName) → value_at a.ends.places n ≡ option_map runs_out_at (fix_timer calls n)
+  pub held_off : (n : FullName) (now : ℕ) → is_held_off a.held_off n now ≡ is_off calls n now
 
 -- one name is held off until a moment, or for as long as it was
-pub record HoldsOff (name : FullName) (until : ℕ) (old new : List (Place ℕ)) : Type 0 where
+pub record HoldsOff (name : FullName) (until : ℕ) (old new : List (NamedValue ℕ)) : Type 0 where
   pub each : (n : FullName) (now : ℕ) → is_held_off new n now ≡ is_held_off old n now || same_name n name && nat_lt now until
 
 -- these names are held off for three distances to those who asked for them first, or for as long as they were
-pub record HoldAllOff (now : ℕ) (dist : List ℕ) (names : List FullName) (askers old new : List (Place ℕ)) : Type 0 where
+pub record HoldAllOff (now : ℕ) (dist : List ℕ) (names : List FullName) (askers old new : List (NamedValue ℕ)) : Type 0 where
   pub each : (n : FullName) (t : ℕ) → is_held_off new n t ≡ is_held_off old n t || among names n && nat_lt t (held_off_until now dist askers n)
   pub near : (n : FullName) → among names n ≡ true → asker_at askers n < MEMBERS
 
@@ -120,7 +120,7 @@ pub record FixAdds (more : List FixCall) (old new : FixContent) : Type 0 where
 
 -- with the repairs of these names added, made at a moment; who asked for them first is a member
 pub record FixRepairs (now : ℕ) (dist : List ℕ) (names : List FullName) (old new : FixContent) : Type 0 where
-  pub each : (d1 d2 : ℕ) (calls : List FixCall) → FixFits d1 d2 calls old → FixFits d1 d2 (calls ++ repairs now dist calls names) new
+  pub each : (d1 d2 : ℕ) (calls : List FixCall) → FixFits d1 d2 calls old → FixFits d1 d2 (calls ++ repair_calls now dist calls names) new
   pub near : (d1 d2 : ℕ) (calls : List FixCall) → FixFits d1 d2 calls old → (n : FullName) → among names n ≡ true → first_asker calls n < MEMBERS
 
 -- the names are those whose timers ran out, in order of name
@@ -151,7 +151,7 @@ pub record FixStays (old new : FixContent) : Type 0 where
 pub record FixPlace (a : FixContent) (n : FullName) : Type 0 where
   pub ends : has_place a.ends.places n ≡ true
   pub askers : has_place a.askers n ≡ true
-  pub holds : has_place a.holds n ≡ true
+  pub held_off : has_place a.held_off n ≡ true
 
 pub record FixPlaces (names : List FullName) (a : FixContent) : Type 0 where
   pub each : (n : FullName) → among names n ≡ true → FixPlace a n
@@ -163,7 +163,7 @@ pub record FixReady (names : List FullName) (a : FixContent) : Type 0 where
   pub list : length names ≤ a.list
 
 -- whatever needed no memory needs none, and the settings are the same
-pub record FixHolds (old new : FixContent) : Type 0 where
+pub record FixKeepsRoom (old new : FixContent) : Type 0 where
   pub d1 : new.d1 ≡ old.d1
   pub d2 : new.d2 ≡ old.d2
   pub each : (n : FullName) → FixPlace old n → FixPlace new n
@@ -172,5 +172,5 @@ pub record FixHolds (old new : FixContent) : Type 0 where
 
 -- what holds of each Fixes: settings in range
 pub record FixIsRight (a : FixContent) : Type 0 where
-  pub d1 : a.d1 ≤ TIMER_SETTING
-  pub d2 : a.d2 ≤ TIMER_SETTING
+  pub d1 : a.d1 ≤ GREATEST_TIMER_SETTING
+  pub d2 : a.d2 ≤ GREATEST_TIMER_SETTING

@@ -5,12 +5,12 @@ use Rattle.srm_names.specs.Names.{first_page, named}
 use Rattle.srm_timers.specs.declared.arm.Arm.{Arm}
 use Rattle.srm_timers.specs.declared.arm.Armed.{Armed}
 use Rattle.srm_timers.specs.declared.arm.ArmKind.TheVariants.{Ask, Fix}
-use Rattle.srm_timers.specs.Arms.{same_kind, end_of, ignored_until, ran_out, next_exponent, backs_off, setting, plan_of, arm_of, arm_names, low_of, high_of, AreDrawn}
+use Rattle.srm_timers.specs.Arms.{same_kind, runs_out_at, ignored_until, ran_out, next_exponent, backs_off, wait_basis, plan_of, arm_of, arm_names, low_of, high_of, AreChosen}
 use Rattle.srm_timers.specs.Draws.{draw_listed}
 use Rattle.srm_timers.specs.Distances.{distance_to}
 use Rattle.srm_timers.specs.Timers.{armed_at}
-use Rattle.srm_timers.specs.AskCalls.{Set, Gained, ask_timer, sets, ask_setting, found_setting, due_setting}
-use Rattle.srm_timers.specs.FixCalls.{Asked, SetFix, Repaired, asked_first, first_asker, fix_timer, is_off, is_free, hold_end, repairs}
+use Rattle.srm_timers.specs.AskCalls.{Set, Gained, ask_timer, sets, ask_basis, found_basis, due_basis}
+use Rattle.srm_timers.specs.FixCalls.{Asked, SetFix, Repaired, asked_first, first_asker, fix_timer, is_off, is_free, hold_end, repair_calls}
 
 abbrev name : ℕ → FullName
 name number = named (record { source = 0; page = first_page }) number
@@ -25,7 +25,7 @@ fix number distance wait = record { kind = Fix; name = name number; exponent = 0
 abbrev odd : Armed
 odd = armed_at 10 (ask 1 1 1 5)
 
-runs_out_at_15 : end_of odd ≡ 15
+runs_out_at_15 : runs_out_at odd ≡ 15
 runs_out_at_15 = refl
 
 ignored_before_12 : ignored_until odd ≡ 12
@@ -82,32 +82,32 @@ doubled_high : high_of 2 3 (ask 1 1 100000 0) ≡ 1000000
 doubled_high = refl
 
 -- the last word of the interval, and the one past it
-drawn_in_order : AreDrawn draw_listed (low_of 2) (high_of 2 2) (200000 ∷ 200001 ∷ 7 ∷ []) (ask 1 0 100000 400000 ∷ ask 2 0 100000 200000 ∷ []) (7 ∷ [])
+drawn_in_order : AreChosen draw_listed (low_of 2) (high_of 2 2) (200000 ∷ 200001 ∷ 7 ∷ []) (ask 1 0 100000 400000 ∷ ask 2 0 100000 200000 ∷ []) (7 ∷ [])
 drawn_in_order = (refl, (refl, refl))
 
-none_drawn : AreDrawn draw_listed (low_of 2) (high_of 2 2) (5 ∷ []) [] (5 ∷ [])
+none_drawn : AreChosen draw_listed (low_of 2) (high_of 2 2) (5 ∷ []) [] (5 ∷ [])
 none_drawn = refl
 
-setting_of_the_second : option_map setting (arm_of (name 2) (ask 1 0 100000 200000 ∷ ask 2 1 100000 400000 ∷ [])) ≡ Some (ask_setting 1 100000)
+setting_of_the_second : option_map wait_basis (arm_of (name 2) (ask 1 0 100000 200000 ∷ ask 2 1 100000 400000 ∷ [])) ≡ Some (ask_basis 1 100000)
 setting_of_the_second = refl
 
 their_names : arm_names (ask 1 0 100000 200000 ∷ ask 2 1 100000 400000 ∷ []) ≡ name 1 ∷ name 2 ∷ []
 their_names = refl
 
-its_plan : plan_of (ask 1 0 7 9) ≡ record { name = name 1; setting = ask_setting 0 7 }
+its_plan : plan_of (ask 1 0 7 9) ≡ record { name = name 1; wait_basis = ask_basis 0 7 }
 its_plan = refl
 
 to_member_1 : distance_to (7 ∷ 9 ∷ []) 1 ≡ 9
 to_member_1 = refl
 
 -- names that are found missing, one of them asked for
-asked_one_more : found_setting (name 1 ∷ name 2 ∷ []) (name 2 ∷ []) (100000 ∷ []) (name 2) ≡ Some (ask_setting 1 100000)
+asked_one_more : found_basis (name 1 ∷ name 2 ∷ []) (name 2 ∷ []) (100000 ∷ []) (name 2) ≡ Some (ask_basis 1 100000)
 asked_one_more = refl
 
-not_asked : found_setting (name 1 ∷ name 2 ∷ []) (name 2 ∷ []) (100000 ∷ []) (name 1) ≡ Some (ask_setting 0 100000)
+not_asked : found_basis (name 1 ∷ name 2 ∷ []) (name 2 ∷ []) (100000 ∷ []) (name 1) ≡ Some (ask_basis 0 100000)
 not_asked = refl
 
-not_found : found_setting (name 1 ∷ name 2 ∷ []) (name 3 ∷ []) (100000 ∷ []) (name 3) ≡ None
+not_found : found_basis (name 1 ∷ name 2 ∷ []) (name 3 ∷ []) (100000 ∷ []) (name 3) ≡ None
 not_found = refl
 
 -- a name of another source goes by the distance to that source, whatever it was armed with before
@@ -117,10 +117,10 @@ far = named (record { source = 2; page = first_page }) 1
 abbrev far_ask : Arm
 far_ask = record { kind = Ask; name = far; exponent = 0; distance = 1; wait = 4 }
 
-found_far : found_setting (far ∷ []) [] (7 ∷ 8 ∷ 9 ∷ []) far ≡ Some (ask_setting 0 9)
+found_far : found_basis (far ∷ []) [] (7 ∷ 8 ∷ 9 ∷ []) far ≡ Some (ask_basis 0 9)
 found_far = refl
 
-due_far : due_setting 14 (7 ∷ 8 ∷ 9 ∷ []) (ask_timer (Set 10 far_ask ∷ [])) far ≡ Some (ask_setting 1 9)
+due_far : due_basis 14 (7 ∷ 8 ∷ 9 ∷ []) (ask_timer (Set 10 far_ask ∷ [])) far ≡ Some (ask_basis 1 9)
 due_far = refl
 
 -- timers, by the calls so far
@@ -139,10 +139,10 @@ another_is_not_set = refl
 another_is_gained : ask_timer (Set 10 (ask 1 0 1 4) ∷ Gained (name 2) ∷ []) (name 1) ≡ Some (armed_at 10 (ask 1 0 1 4))
 another_is_gained = refl
 
-due_again : due_setting 14 (1 ∷ []) (ask_timer (Set 10 (ask 1 0 1 4) ∷ [])) (name 1) ≡ Some (ask_setting 1 1)
+due_again : due_basis 14 (1 ∷ []) (ask_timer (Set 10 (ask 1 0 1 4) ∷ [])) (name 1) ≡ Some (ask_basis 1 1)
 due_again = refl
 
-not_due_yet : due_setting 13 (1 ∷ []) (ask_timer (Set 10 (ask 1 0 1 4) ∷ [])) (name 1) ≡ None
+not_due_yet : due_basis 13 (1 ∷ []) (ask_timer (Set 10 (ask 1 0 1 4) ∷ [])) (name 1) ≡ None
 not_due_yet = refl
 
 -- repairs
@@ -192,7 +192,7 @@ three_distances = refl
 by_the_first_of_two : hold_end 10 (5 ∷ 7 ∷ 9 ∷ []) (Asked (name 1) 2 ∷ Asked (name 1) 1 ∷ []) (name 1) ≡ 37
 by_the_first_of_two = refl
 
-both_are_held_off : repairs 10 (5 ∷ 7 ∷ []) (Asked (name 1) 1 ∷ []) (name 1 ∷ name 2 ∷ []) ≡ Repaired (name 1) 31 ∷ Repaired (name 2) 25 ∷ []
+both_are_held_off : repair_calls 10 (5 ∷ 7 ∷ []) (Asked (name 1) 1 ∷ []) (name 1 ∷ name 2 ∷ []) ≡ Repaired (name 1) 31 ∷ Repaired (name 2) 25 ∷ []
 both_are_held_off = refl
 
 -- ---- words

@@ -3,23 +3,23 @@
 ghost use Rattle.std.specs.Prelude.{◌≡◌, ℕ, ◌≤◌, ◌++◌, List, [], ◌∷◌, true, map, length, option_map, option_to_list, vec_capacity, IfOk, OnOk, OnErr, IsOk, IfSome, IsSome};
 ghost use Rattle.srm_names.specs.FullName.{FullName};
 ghost use Rattle.srm_names.specs.Names.{among, ascending, name_below};
-ghost use Rattle.srm_timers.specs.Arms.{backs_off, next_exponent, plan_of, arm_names, low_of, high_of, AreDrawn, IsAsk, AreAsks, AreOfMembers};
+ghost use Rattle.srm_timers.specs.Arms.{backs_off, next_exponent, plan_of, arm_names, low_of, high_of, AreChosen, IsAsk, AreAsks, AreOfMembers};
 ghost use Rattle.srm_timers.specs.declared.arm.ArmKind.TheVariants.{Ask};
-ghost use Rattle.srm_timers.specs.AskCalls.{AskCall, Gained, ask_timer, sets, ask_plan, first_exponent, found_plan, again_plan, AskFits, AskAdds, AskBacksOff, AskRuns, AskNext, AskDue, AskedFirst, AskedAgain, AskStays, AskReady, DetectReady, DueReady, AnswerReady, AskHolds, DetectStaysReady, DueStaysReady, AskTimersRun};
+ghost use Rattle.srm_timers.specs.AskCalls.{AskCall, Gained, ask_timer, sets, ask_plan, first_exponent, found_plan, again_plan, AskFits, AskAdds, AskBacksOff, AskRuns, AskNext, AskDue, AskedFirst, AskedAgain, AskStays, AskReady, DetectReady, DueReady, AnswerReady, AskKeepsRoom, DetectStaysReady, DueStaysReady, AskTimersRun};
 ghost use Rattle.srm_deadlines.specs.Deadlines.{DueAmong, DueFit};
 ghost use Rattle.srm_timers.specs.Distances.{distance_to, AreDistances};
 ghost use Rattle.srm_timers.specs.Ends.{AreShort};
-ghost use Rattle.srm_deadlines.specs.Places.{value_at, has_place, Keeps};
+ghost use Rattle.srm_deadlines.specs.Places.{value_at, has_place, KeepsValues};
 
 use crate::arm::{Arm, ArmKind, Armed};
 use crate::distance::distance_in;
-use crate::ends::Ends;
-use crate::limits::{EXPONENT, LONGEST_WAIT, TIMER_SETTING};
+use crate::ends::Expiries;
+use crate::limits::{GREATEST_EXPONENT, GREATEST_TIMER_SETTING, LONGEST_WAIT};
 use crate::timers::{arm_at, set_timers};
-use crate::wait::draw_wait;
+use crate::wait::choose_wait;
 use crate::words::Words;
 use srm_deadlines::{ByName, Deadlines};
-use srm_names::{LONGEST_DISTANCE, MOMENT, Name};
+use srm_names::{LATEST_MOMENT, LONGEST_DISTANCE, Name};
 use std::alloc::{AllocError, Global};
 use std::marker::Model;
 use std::mem;
@@ -33,7 +33,7 @@ pub struct Asks<D: Deadlines> {
     alloc: Global,
     c1: u8,
     c2: u8,
-    ends: Ends<D>,
+    ends: Expiries<D>,
     timers: ByName<Armed>,
     /// Empty, with room for what `detect` answers next.
     detect_list: Vec<Arm>,
@@ -58,15 +58,15 @@ impl<D: Deadlines> Asks<D> {
     /// No timers. The first wait for a name lies between `c1` and `c1 + c2` distances to its source.
     pub fn new(alloc: Global, deadlines: D, c1: u8, c2: u8) -> Self
         requires empty { D.places deadlines ≡ [] }
-        requires c1 { c1 ≤ TIMER_SETTING }
-        requires c2 { c2 ≤ TIMER_SETTING }
+        requires c1 { c1 ≤ GREATEST_TIMER_SETTING }
+        requires c2 { c2 ≤ GREATEST_TIMER_SETTING }
         ensures { AskFits c1 c2 [] result }
     {
         Asks {
             alloc,
             c1,
             c2,
-            ends: Ends::new(alloc, deadlines),
+            ends: Expiries::new(alloc, deadlines),
             timers: ByName::new(alloc),
             detect_list: Vec::new(alloc),
             due_list: Vec::new(alloc),
@@ -79,8 +79,8 @@ impl<D: Deadlines> Asks<D> {
     /// that the calls before made is still there.
     pub fn room(&mut self, names: &[Name]) -> Result<(), AllocError>
         ensures kept { AskStays self.old self.new }
-        ensures ends { Keeps self.old.ends.places self.new.ends.places }
-        ensures held { AskHolds self.old self.new }
+        ensures ends { KeepsValues self.old.ends.places self.new.ends.places }
+        ensures held { AskKeepsRoom self.old self.new }
         ensures ready { OnOk result (AnswerReady names.now self.new) }
     {
         self.room_to_set(names)?;
@@ -95,12 +95,12 @@ impl<D: Deadlines> Asks<D> {
     fn room_to_set(&mut self, names: &[Name]) -> Result<(), AllocError>
         ensures kept { AskStays self.old self.new }
         ensures timers { (n : FullName) → value_at self.new.timers n ≡ value_at self.old.timers n }
-        ensures ends { Keeps self.old.ends.places self.new.ends.places }
+        ensures ends { KeepsValues self.old.ends.places self.new.ends.places }
         ensures c1 { self.new.c1 ≡ self.old.c1 }
         ensures c2 { self.new.c2 ≡ self.old.c2 }
         ensures detect_list { self.new.detect_list ≡ self.old.detect_list }
         ensures due_list { self.new.due_list ≡ self.old.due_list }
-        ensures held { AskHolds self.old self.new }
+        ensures held { AskKeepsRoom self.old self.new }
         ensures ok { OnOk result (AskReady names.now self.new) }
         ensures again { AskReady names.now self.old → IsOk result }
     {
@@ -136,14 +136,14 @@ impl<D: Deadlines> Asks<D> {
     ) -> Result<Vec<Arm>, AllocError>
         requires rising { ascending name_below names.now ≡ true }
         requires distances { AreDistances dist.now }
-        requires now { now ≤ MOMENT }
+        requires now { now ≤ LATEST_MOMENT }
         ensures fits { IfOk result (λ arms. AskAdds (sets now arms.items) self.old self.new) }
         ensures arms { IfOk result (λ arms. AskedFirst names.now asked.now dist.now arms.items) }
         ensures few { IfOk result (λ arms. length arms.items ≤ length names.now) }
-        ensures drawn { IfOk result (λ arms. AreDrawn W.draw (low_of self.old.c1) (high_of self.old.c1 self.old.c2) words.old arms.items words.new) }
+        ensures chosen { IfOk result (λ arms. AreChosen W.draw (low_of self.old.c1) (high_of self.old.c1 self.old.c2) words.old arms.items words.new) }
         ensures kept { OnErr result (AskStays self.old self.new) }
-        ensures undrawn { OnErr result (words.new ≡ words.old) }
-        ensures held { AskHolds (record self.old { detect_list = 0 }) self.new }
+        ensures unchosen { OnErr result (words.new ≡ words.old) }
+        ensures held { AskKeepsRoom (record self.old { detect_list = 0 }) self.new }
         ensures list { OnErr result (self.old.detect_list ≤ self.new.detect_list) }
         ensures room { DetectReady names.now self.old → IsOk result }
         ensures due { DueStaysReady self.old self.new }
@@ -170,7 +170,7 @@ impl<D: Deadlines> Asks<D> {
         requires distances { AreDistances dist.now }
         ensures arms { AskedFirst names.now asked.now dist.now result.items }
         ensures plans { map plan_of result.items ≡ map (found_plan asked.now dist.now) names.now }
-        ensures drawn { AreDrawn W.draw (low_of self.now.c1) (high_of self.now.c1 self.now.c2) words.old result.items words.new }
+        ensures chosen { AreChosen W.draw (low_of self.now.c1) (high_of self.now.c1 self.now.c2) words.old result.items words.new }
         ensures asks { AreAsks result.items }
         ensures short { AreShort result.items }
     {
@@ -192,16 +192,16 @@ impl<D: Deadlines> Asks<D> {
         words: &mut W,
     ) -> Option<Arm>
         requires distances { AreDistances dist.now }
-        requires now { now ≤ MOMENT }
+        requires now { now ≤ LATEST_MOMENT }
         ensures fits { AskAdds (sets now (option_to_list result)) self.old self.new }
         ensures arm { (c1 c2 : ℕ) (calls : List AskCall) → AskFits c1 c2 calls self.old
             → option_map plan_of result ≡ option_map (ask_plan name (distance_to dist.now name.stream.source)) (backs_off now (ask_timer calls name)) }
         ensures kind { IfSome result (λ arm. arm.kind ≡ Ask) }
-        ensures drawn { AreDrawn W.draw (low_of self.old.c1) (high_of self.old.c1 self.old.c2) words.old (option_to_list result) words.new }
-        ensures held { AskHolds self.old self.new }
+        ensures chosen { AreChosen W.draw (low_of self.old.c1) (high_of self.old.c1 self.old.c2) words.old (option_to_list result) words.new }
+        ensures held { AskKeepsRoom self.old self.new }
     {
         let _ = &self.ends;
-        let exponent = self.backs_off(name, now)?;
+        let exponent = self.exponent_when_heard(name, now)?;
         let arm = self.arm(name, exponent, distance_in(dist, name.source()), words);
         self.set(now, &arm);
         Some(arm)
@@ -211,7 +211,7 @@ impl<D: Deadlines> Asks<D> {
     #[tactic(auto, using(crate::proofs::AskSteps::gained_adds))]
     pub fn gained(&mut self, name: Name)
         ensures fits { AskAdds (Gained name ∷ []) self.old self.new }
-        ensures held { AskHolds self.old self.new }
+        ensures held { AskKeepsRoom self.old self.new }
     {
         self.ends.clear(name);
         self.timers.clear(name);
@@ -245,16 +245,16 @@ impl<D: Deadlines> Asks<D> {
         words: &mut W,
     ) -> Result<Vec<Arm>, AllocError>
         requires distances { AreDistances dist.now }
-        requires now { now ≤ MOMENT }
+        requires now { now ≤ LATEST_MOMENT }
         ensures fits { IfOk result (λ arms. AskAdds (sets now arms.items) self.old self.new) }
         ensures arms { IfOk result (λ arms. AskedAgain now dist.now self.old arms.items) }
         ensures few { IfOk result (λ arms. (names : List FullName) → DueAmong now self.old.ends.places names → length arms.items ≤ length names) }
         ensures kinds { IfOk result (λ arms. AreAsks arms.items) }
         ensures members { IfOk result (λ arms. AreOfMembers arms.items) }
-        ensures drawn { IfOk result (λ arms. AreDrawn W.draw (low_of self.old.c1) (high_of self.old.c1 self.old.c2) words.old arms.items words.new) }
+        ensures chosen { IfOk result (λ arms. AreChosen W.draw (low_of self.old.c1) (high_of self.old.c1 self.old.c2) words.old arms.items words.new) }
         ensures kept { OnErr result (AskStays self.old self.new) }
-        ensures undrawn { OnErr result (words.new ≡ words.old) }
-        ensures held { AskHolds (record self.old { due_list = 0 }) self.new }
+        ensures unchosen { OnErr result (words.new ≡ words.old) }
+        ensures held { AskKeepsRoom (record self.old { due_list = 0 }) self.new }
         ensures list { OnErr result (self.old.due_list ≤ self.new.due_list) }
         ensures room { (names : List FullName) → DueReady names self.old → DueAmong now self.old.ends.places names → IsOk result }
         ensures detect { DetectStaysReady self.old self.new }
@@ -294,16 +294,16 @@ impl<D: Deadlines> Asks<D> {
         requires rising { ascending name_below names.now ≡ true }
         requires timers { AskTimersRun names.now self.old }
         requires distances { AreDistances dist.now }
-        requires now { now ≤ MOMENT }
+        requires now { now ≤ LATEST_MOMENT }
         ensures fits { IfOk result (λ arms. AskAdds (sets now arms.items) self.old self.new) }
         ensures plans { IfOk result (λ arms. map plan_of arms.items ≡ map (again_plan dist.now (value_at self.old.timers)) names.now) }
         ensures few { IfOk result (λ arms. length arms.items ≤ length names.now) }
         ensures kinds { IfOk result (λ arms. AreAsks arms.items) }
         ensures members { IfOk result (λ arms. AreOfMembers arms.items) }
-        ensures drawn { IfOk result (λ arms. AreDrawn W.draw (low_of self.old.c1) (high_of self.old.c1 self.old.c2) words.old arms.items words.new) }
+        ensures chosen { IfOk result (λ arms. AreChosen W.draw (low_of self.old.c1) (high_of self.old.c1 self.old.c2) words.old arms.items words.new) }
         ensures kept { OnErr result (AskStays self.old self.new) }
-        ensures undrawn { OnErr result (words.new ≡ words.old) }
-        ensures held { AskHolds (record self.old { due_list = 0 }) self.new }
+        ensures unchosen { OnErr result (words.new ≡ words.old) }
+        ensures held { AskKeepsRoom (record self.old { due_list = 0 }) self.new }
         ensures list { OnErr result (self.old.due_list ≤ self.new.due_list) }
         ensures room { length names.now ≤ self.old.ends.room → length names.now ≤ self.old.due_list → IsOk result }
     {
@@ -330,12 +330,12 @@ impl<D: Deadlines> Asks<D> {
         requires distances { AreDistances dist.now }
         ensures plans { map plan_of result.items ≡ map (again_plan dist.now (value_at self.now.timers)) names.now }
         ensures members { AreOfMembers result.items }
-        ensures drawn { AreDrawn W.draw (low_of self.now.c1) (high_of self.now.c1 self.now.c2) words.old result.items words.new }
+        ensures chosen { AreChosen W.draw (low_of self.now.c1) (high_of self.now.c1 self.now.c2) words.old result.items words.new }
         ensures asks { AreAsks result.items }
         ensures short { AreShort result.items }
     {
         for name in names {
-            let exponent = self.runs(*name).unwrap();
+            let exponent = self.exponent_when_due(*name).unwrap();
             let arm = self.arm(*name, exponent, distance_in(dist, name.source()), words);
             arms.push(arm).unwrap();
         }
@@ -353,34 +353,34 @@ impl<D: Deadlines> Asks<D> {
     /// The exponent with which a request for a name, heard now, arms it again: `None` where it is ignored, or no timer
     /// runs. Takes no memory.
     #[tactic(auto, using(crate::proofs::AskSteps::backs_off_is))]
-    pub fn backs_off(&self, name: Name, now: u64) -> Option<u8>
+    pub fn exponent_when_heard(&self, name: Name, now: u64) -> Option<u8>
         ensures so_far { AskBacksOff name now self.now result }
         ensures value { result ≡ backs_off now (value_at self.now.timers name) }
-        ensures range { IfSome result (λ exponent. exponent ≤ EXPONENT) }
+        ensures range { IfSome result (λ exponent. exponent ≤ GREATEST_EXPONENT) }
     {
         backed_off(self.timers.get(name), now)
     }
 
     /// The exponent with which a name is armed again whose timer ran out: `None` where no timer runs. Takes no memory.
     #[tactic(auto, using(crate::proofs::AskSteps::runs_is))]
-    pub fn runs(&self, name: Name) -> Option<u8>
+    pub fn exponent_when_due(&self, name: Name) -> Option<u8>
         ensures so_far { AskRuns name self.now result }
         ensures value { result ≡ option_map next_exponent (value_at self.now.timers name) }
-        ensures range { IfSome result (λ exponent. exponent ≤ EXPONENT) }
+        ensures range { IfSome result (λ exponent. exponent ≤ GREATEST_EXPONENT) }
     {
         exponent_after(self.timers.get(name))
     }
 
     /// Draws the wait of an arm, by one word. No timer is set.
     pub fn arm<W: Words>(&self, name: Name, exponent: u8, distance: u64, words: &mut W) -> Arm
-        requires exponent { exponent ≤ EXPONENT }
+        requires exponent { exponent ≤ GREATEST_EXPONENT }
         requires distance { distance ≤ LONGEST_DISTANCE }
         ensures plan { plan_of result ≡ ask_plan name distance exponent }
-        ensures drawn { AreDrawn W.draw (low_of self.now.c1) (high_of self.now.c1 self.now.c2) words.old (result ∷ []) words.new }
+        ensures chosen { AreChosen W.draw (low_of self.now.c1) (high_of self.now.c1 self.now.c2) words.old (result ∷ []) words.new }
         ensures ask { IsAsk result }
         ensures short { result.wait ≤ LONGEST_WAIT }
     {
-        let wait = draw_wait(self.c1, self.c2, exponent, distance, words);
+        let wait = choose_wait(self.c1, self.c2, exponent, distance, words);
         Arm {
             kind: ArmKind::Ask,
             name,
@@ -395,10 +395,10 @@ impl<D: Deadlines> Asks<D> {
     fn set(&mut self, now: u64, arm: &Arm)
         requires timers { has_place self.old.timers arm.now.name ≡ true }
         requires ends { has_place self.old.ends.places arm.now.name ≡ true }
-        requires now { now ≤ MOMENT }
+        requires now { now ≤ LATEST_MOMENT }
         requires short { arm.now.wait ≤ LONGEST_WAIT }
         ensures fits { AskAdds (sets now (arm.now ∷ [])) self.old self.new }
-        ensures held { AskHolds self.old self.new }
+        ensures held { AskKeepsRoom self.old self.new }
     {
         self.ends.set(arm.name, now + arm.wait);
         self.timers.set(arm.name, Some(arm_at(now, *arm)));
@@ -409,11 +409,11 @@ impl<D: Deadlines> Asks<D> {
     pub fn set_all(&mut self, now: u64, arms: &[Arm])
         requires rising { ascending name_below (arm_names arms.now) ≡ true }
         requires ready { AskReady (arm_names arms.now) self.old }
-        requires now { now ≤ MOMENT }
+        requires now { now ≤ LATEST_MOMENT }
         requires asks { AreAsks arms.now }
         requires short { AreShort arms.now }
         ensures fits { AskAdds (sets now arms.now) self.old self.new }
-        ensures held { AskHolds self.old self.new }
+        ensures held { AskKeepsRoom self.old self.new }
     {
         self.ends.set_all(now, arms);
         set_timers(&mut self.timers, now, arms);
@@ -423,7 +423,7 @@ impl<D: Deadlines> Asks<D> {
 /// The exponent of a name that was found missing.
 fn first_exponent(asked: &[Name], name: Name) -> u8
     ensures value { result ≡ first_exponent asked.now name }
-    ensures range { result ≤ EXPONENT }
+    ensures range { result ≤ GREATEST_EXPONENT }
 {
     if is_among(asked, name) { 1 } else { 0 }
 }
@@ -438,10 +438,10 @@ fn is_among(names: &[Name], name: Name) -> bool
 /// The exponent of the arm after this one.
 fn after(armed: Armed) -> u8
     ensures value { result ≡ next_exponent armed }
-    ensures range { result ≤ EXPONENT }
+    ensures range { result ≤ GREATEST_EXPONENT }
 {
-    if armed.arm.exponent >= EXPONENT {
-        EXPONENT
+    if armed.arm.exponent >= GREATEST_EXPONENT {
+        GREATEST_EXPONENT
     } else {
         armed.arm.exponent + 1
     }
@@ -450,7 +450,7 @@ fn after(armed: Armed) -> u8
 /// The exponent of the arm after this timer, if it runs.
 fn exponent_after(timer: Option<Armed>) -> Option<u8>
     ensures value { result ≡ option_map next_exponent timer }
-    ensures range { IfSome result (λ exponent. exponent ≤ EXPONENT) }
+    ensures range { IfSome result (λ exponent. exponent ≤ GREATEST_EXPONENT) }
 {
     Some(after(timer?))
 }
@@ -458,7 +458,7 @@ fn exponent_after(timer: Option<Armed>) -> Option<u8>
 /// The exponent of the arm after a request that isn't ignored.
 fn backed_off(timer: Option<Armed>, now: u64) -> Option<u8>
     ensures value { result ≡ backs_off now timer }
-    ensures range { IfSome result (λ exponent. exponent ≤ EXPONENT) }
+    ensures range { IfSome result (λ exponent. exponent ≤ GREATEST_EXPONENT) }
 {
     let armed = timer?;
     let ignored_until = u128::from(armed.set) + u128::from(armed.arm.wait / 2);

@@ -5,22 +5,22 @@ ghost use Rattle.srm_names.specs.Names.{AreExactly, ascending, name_below};
 ghost use Rattle.srm_timers.specs.Arms.{arm_names};
 ghost use Rattle.srm_deadlines.specs.Deadlines.{has_come, DueFit};
 ghost use Rattle.srm_timers.specs.Ends.{timed_at, SetsEnds, AreShort, HaveRoom, KeepsRoom};
-ghost use Rattle.srm_deadlines.specs.Places.{value_at, has_place, Keeps, Sets, ClearsAll, IsLeast, HasPlaces};
+ghost use Rattle.srm_deadlines.specs.Places.{value_at, has_place, KeepsValues, Sets, ClearsAll, IsLeast, HasPlaces};
 
 use crate::arm::Arm;
 use srm_deadlines::{Deadlines, Timed};
-use srm_names::{MOMENT, Name};
+use srm_names::{LATEST_MOMENT, Name};
 use std::alloc::{AllocError, Global};
 use std::marker::Model;
 
 /// Deadlines, and an empty list with room to hand over several at once.
 #[derive(Drop)]
-pub(crate) struct Ends<D: Deadlines> {
+pub(crate) struct Expiries<D: Deadlines> {
     deadlines: D,
     moments: Vec<Timed>,
 }
 
-impl<D: Deadlines> Model for Ends<D> {
+impl<D: Deadlines> Model for Expiries<D> {
     ghost use Rattle.std.specs.Prelude.{◌≡◌, [], vec_capacity};
     ghost use Rattle.srm_timers.specs.Ends.{EndContent};
 
@@ -31,11 +31,11 @@ impl<D: Deadlines> Model for Ends<D> {
     ghost invariant = { λ e. e.moments.items ≡ [] };
 }
 
-impl<D: Deadlines> Ends<D> {
+impl<D: Deadlines> Expiries<D> {
     pub fn new(alloc: Global, deadlines: D) -> Self
         ensures { result.places ≡ D.places deadlines }
     {
-        Ends {
+        Expiries {
             deadlines,
             moments: Vec::new(alloc),
         }
@@ -43,7 +43,7 @@ impl<D: Deadlines> Ends<D> {
 
     /// Makes room to set each of these names by itself. No moment changes.
     pub fn make_places(&mut self, names: &[Name]) -> Result<(), AllocError>
-        ensures kept { Keeps self.old.places self.new.places }
+        ensures kept { KeepsValues self.old.places self.new.places }
         ensures held { KeepsRoom self.old self.new }
         ensures ok { OnOk result (HasPlaces names.now self.new.places) }
         ensures again { HasPlaces names.now self.old.places → IsOk result }
@@ -53,7 +53,7 @@ impl<D: Deadlines> Ends<D> {
 
     /// Makes room to set all these names in one call. No moment changes.
     pub fn room(&mut self, names: &[Name]) -> Result<(), AllocError>
-        ensures kept { Keeps self.old.places self.new.places }
+        ensures kept { KeepsValues self.old.places self.new.places }
         ensures held { KeepsRoom self.old self.new }
         ensures ok { OnOk result (HaveRoom names.now self.new) }
         ensures again { HaveRoom names.now self.old → IsOk result }
@@ -91,7 +91,7 @@ impl<D: Deadlines> Ends<D> {
     pub fn set_all(&mut self, now: u64, arms: &[Arm])
         requires rising { ascending name_below (arm_names arms.now) ≡ true }
         requires room { HaveRoom (arm_names arms.now) self.old }
-        requires now { now ≤ MOMENT }
+        requires now { now ≤ LATEST_MOMENT }
         requires short { AreShort arms.now }
         ensures sets { SetsEnds now arms.now self.old.places self.new.places }
         ensures held { KeepsRoom self.old self.new }
@@ -137,7 +137,7 @@ impl<D: Deadlines> Ends<D> {
 /// Adds the ends of arms that are set now.
 fn add_moments(moments: &mut Vec<Timed>, now: u64, arms: &[Arm])
     requires room { vec_len moments.old + length arms.now ≤ vec_capacity moments.old }
-    requires now { now ≤ MOMENT }
+    requires now { now ≤ LATEST_MOMENT }
     requires short { AreShort arms.now }
     ensures items { moments.new.items ≡ moments.old.items ++ map (timed_at now) arms.now }
     ensures capacity { vec_capacity moments.old ≤ vec_capacity moments.new }

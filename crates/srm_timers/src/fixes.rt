@@ -3,22 +3,22 @@
 ghost use Rattle.std.specs.Prelude.{◌≡◌, ◌≤◌, ◌+◌, ◌*◌, List, [], ◌∷◌, true, not, ◌&&◌, option_to_list, vec_capacity, IfOk, OnOk, OnErr, IsOk, IfSome};
 ghost use Rattle.srm_names.specs.FullName.{FullName};
 ghost use Rattle.srm_names.specs.Names.{ascending, name_below};
-ghost use Rattle.srm_timers.specs.Arms.{plan_of, arm_names, low_of, high_of, AreDrawn, IsFix, AreFixes, setting};
-ghost use Rattle.srm_timers.specs.FixCalls.{Asked, Repaired, sets_fix, fix_plan, FixFits, FixAdds, FixRepairs, FixDue, FixNext, FixIsFree, FixFirstAsker, FixAnswers, FixStays, FixPlace, FixPlaces, FixReady, FixHolds, fix_setting};
+ghost use Rattle.srm_timers.specs.Arms.{plan_of, arm_names, low_of, high_of, AreChosen, IsFix, AreFixes, wait_basis};
+ghost use Rattle.srm_timers.specs.FixCalls.{Asked, Repaired, sets_fix, fix_plan, FixFits, FixAdds, FixRepairs, FixDue, FixNext, FixIsFree, FixFirstAsker, FixAnswers, FixStays, FixPlace, FixPlaces, FixReady, FixKeepsRoom, fix_basis};
 ghost use Rattle.srm_deadlines.specs.Deadlines.{DueAmong, DueFit};
 ghost use Rattle.srm_timers.specs.Distances.{distance_to, AreDistances};
 ghost use Rattle.srm_timers.specs.Ends.{HaveRoom, AreShort};
-ghost use Rattle.srm_deadlines.specs.Places.{HasPlaces, Keeps};
+ghost use Rattle.srm_deadlines.specs.Places.{HasPlaces, KeepsValues};
 
 use crate::arm::{Arm, ArmKind};
 use crate::distance::distance_in;
-use crate::ends::Ends;
-use crate::limits::{HOLD_OFF, LONGEST_WAIT, TIMER_SETTING};
+use crate::ends::Expiries;
+use crate::limits::{GREATEST_TIMER_SETTING, HOLD_OFF, LONGEST_WAIT};
 use crate::marks::Marks;
-use crate::wait::draw_wait;
+use crate::wait::choose_wait;
 use crate::words::Words;
 use srm_deadlines::Deadlines;
-use srm_names::{LONGEST_DISTANCE, MOMENT, Member, Name};
+use srm_names::{LATEST_MOMENT, LONGEST_DISTANCE, Member, Name};
 use std::alloc::{AllocError, Global};
 use std::marker::Model;
 use std::mem;
@@ -32,7 +32,7 @@ pub struct Fixes<D: Deadlines> {
     alloc: Global,
     d1: u8,
     d2: u8,
-    ends: Ends<D>,
+    ends: Expiries<D>,
     marks: Marks,
     /// Room for what `due` answers next.
     list: Vec<Name>,
@@ -44,24 +44,24 @@ impl<D: Deadlines> Model for Fixes<D> {
 
     ghost Value = { FixContent };
 
-    ghost view = { λ a. record { d1 = a.d1; d2 = a.d2; ends = a.ends; askers = a.marks.askers; holds = a.marks.holds; list = vec_capacity a.list } };
+    ghost view = { λ a. record { d1 = a.d1; d2 = a.d2; ends = a.ends; askers = a.marks.askers; held_off = a.marks.held_off; list = vec_capacity a.list } };
 
-    ghost invariant = { λ a. FixIsRight (record { d1 = a.d1; d2 = a.d2; ends = a.ends; askers = a.marks.askers; holds = a.marks.holds; list = vec_capacity a.list }) };
+    ghost invariant = { λ a. FixIsRight (record { d1 = a.d1; d2 = a.d2; ends = a.ends; askers = a.marks.askers; held_off = a.marks.held_off; list = vec_capacity a.list }) };
 }
 
 impl<D: Deadlines> Fixes<D> {
     /// No timers. A wait lies between `d1` and `d1 + d2` distances to the member that asks.
     pub fn new(alloc: Global, deadlines: D, d1: u8, d2: u8) -> Self
         requires empty { D.places deadlines ≡ [] }
-        requires d1 { d1 ≤ TIMER_SETTING }
-        requires d2 { d2 ≤ TIMER_SETTING }
+        requires d1 { d1 ≤ GREATEST_TIMER_SETTING }
+        requires d2 { d2 ≤ GREATEST_TIMER_SETTING }
         ensures { FixFits d1 d2 [] result }
     {
         Fixes {
             alloc,
             d1,
             d2,
-            ends: Ends::new(alloc, deadlines),
+            ends: Expiries::new(alloc, deadlines),
             marks: Marks::new(alloc),
             list: Vec::new(alloc),
         }
@@ -71,8 +71,8 @@ impl<D: Deadlines> Fixes<D> {
     /// refused at which no other names are due. Nothing else changes. Only want of memory refuses it.
     pub fn room(&mut self, names: &[Name]) -> Result<(), AllocError>
         ensures kept { FixStays self.old self.new }
-        ensures ends { Keeps self.old.ends.places self.new.ends.places }
-        ensures held { FixHolds self.old self.new }
+        ensures ends { KeepsValues self.old.ends.places self.new.ends.places }
+        ensures held { FixKeepsRoom self.old self.new }
         ensures ready { OnOk result (FixReady names.now self.new) }
     {
         self.make_places(names)?;
@@ -85,7 +85,7 @@ impl<D: Deadlines> Fixes<D> {
     #[tactic(auto, using(crate::proofs::FixSteps::one_place, crate::proofs::FixSteps::one_placed))]
     pub fn make_place(&mut self, name: Name) -> Result<(), AllocError>
         ensures kept { FixStays self.old self.new }
-        ensures held { FixHolds self.old self.new }
+        ensures held { FixKeepsRoom self.old self.new }
         ensures d1 { self.new.d1 ≡ self.old.d1 }
         ensures d2 { self.new.d2 ≡ self.old.d2 }
         ensures ok { OnOk result (FixPlace self.new name) }
@@ -98,8 +98,8 @@ impl<D: Deadlines> Fixes<D> {
     #[tactic(auto, using(crate::proofs::FixSteps::fix_stays, crate::proofs::AskSteps::keeps_self))]
     pub fn make_places(&mut self, names: &[Name]) -> Result<(), AllocError>
         ensures kept { FixStays self.old self.new }
-        ensures ends { Keeps self.old.ends.places self.new.ends.places }
-        ensures held { FixHolds self.old self.new }
+        ensures ends { KeepsValues self.old.ends.places self.new.ends.places }
+        ensures held { FixKeepsRoom self.old self.new }
         ensures d1 { self.new.d1 ≡ self.old.d1 }
         ensures d2 { self.new.d2 ≡ self.old.d2 }
         ensures ok { OnOk result (FixPlaces names.now self.new) }
@@ -122,14 +122,14 @@ impl<D: Deadlines> Fixes<D> {
         words: &mut W,
     ) -> Result<Option<Arm>, AllocError>
         requires distances { AreDistances dist.now }
-        requires now { now ≤ MOMENT }
+        requires now { now ≤ LATEST_MOMENT }
         ensures fits { IfOk result (λ arm. FixAdds (Asked name from ∷ sets_fix now (option_to_list arm)) self.old self.new) }
         ensures arm { IfOk result (FixAnswers name (distance_to dist.now from) held now self.old) }
-        ensures setting { IfOk result (λ arm. IfSome arm (λ a. setting a ≡ fix_setting (distance_to dist.now from))) }
-        ensures drawn { IfOk result (λ arm. AreDrawn W.draw (low_of self.old.d1) (high_of self.old.d1 self.old.d2) words.old (option_to_list arm) words.new) }
+        ensures wait_basis { IfOk result (λ arm. IfSome arm (λ a. wait_basis a ≡ fix_basis (distance_to dist.now from))) }
+        ensures chosen { IfOk result (λ arm. AreChosen W.draw (low_of self.old.d1) (high_of self.old.d1 self.old.d2) words.old (option_to_list arm) words.new) }
         ensures kept { OnErr result (FixStays self.old self.new) }
-        ensures undrawn { OnErr result (words.new ≡ words.old) }
-        ensures held { FixHolds self.old self.new }
+        ensures unchosen { OnErr result (words.new ≡ words.old) }
+        ensures held { FixKeepsRoom self.old self.new }
         ensures room { FixPlace self.old name → IsOk result }
     {
         self.make_place(name)?;
@@ -149,15 +149,15 @@ impl<D: Deadlines> Fixes<D> {
     ) -> Option<Arm>
         requires place { FixPlace self.old name }
         requires distances { AreDistances dist.now }
-        requires now { now ≤ MOMENT }
+        requires now { now ≤ LATEST_MOMENT }
         ensures fits { FixAdds (Asked name from ∷ sets_fix now (option_to_list result)) self.old self.new }
         ensures arm { FixAnswers name (distance_to dist.now from) held now self.old result }
-        ensures setting { IfSome result (λ arm. setting arm ≡ fix_setting (distance_to dist.now from)) }
-        ensures drawn { AreDrawn W.draw (low_of self.old.d1) (high_of self.old.d1 self.old.d2) words.old (option_to_list result) words.new }
-        ensures held { FixHolds self.old self.new }
+        ensures wait_basis { IfSome result (λ arm. wait_basis arm ≡ fix_basis (distance_to dist.now from)) }
+        ensures chosen { AreChosen W.draw (low_of self.old.d1) (high_of self.old.d1 self.old.d2) words.old (option_to_list result) words.new }
+        ensures held { FixKeepsRoom self.old self.new }
     {
         let answers = both(held, self.is_free(name, now));
-        self.note(name, from);
+        self.note_asker(name, from);
         if answers {
             let arm = self.arm(name, distance_in(dist, from), words);
             self.set(now, &arm);
@@ -172,10 +172,10 @@ impl<D: Deadlines> Fixes<D> {
     #[tactic(auto, using(crate::proofs::FixSteps::repairs_after))]
     pub fn heard_repair(&mut self, name: Name, dist: &[u64], now: u64) -> Result<(), AllocError>
         requires distances { AreDistances dist.now }
-        requires now { now ≤ MOMENT }
+        requires now { now ≤ LATEST_MOMENT }
         ensures fits { OnOk result (FixRepairs now dist.now (name ∷ []) self.old self.new) }
         ensures kept { OnErr result (FixStays self.old self.new) }
-        ensures held { FixHolds self.old self.new }
+        ensures held { FixKeepsRoom self.old self.new }
         ensures room { FixPlace self.old name → IsOk result }
     {
         self.make_place(name)?;
@@ -205,11 +205,11 @@ impl<D: Deadlines> Fixes<D> {
     #[tactic(auto, using(crate::proofs::FixSteps::fix_due_is, crate::proofs::FixSteps::fix_stays, crate::proofs::AskSteps::keeps_self))]
     pub fn due(&mut self, now: u64, dist: &[u64]) -> Result<Vec<Name>, AllocError>
         requires distances { AreDistances dist.now }
-        requires now { now ≤ MOMENT }
+        requires now { now ≤ LATEST_MOMENT }
         ensures fits { IfOk result (λ names. FixRepairs now dist.now names.items self.old self.new) }
         ensures names { IfOk result (λ names. FixDue now self.old names.items) }
         ensures kept { OnErr result (FixStays self.old self.new) }
-        ensures held { FixHolds (record self.old { list = 0 }) self.new }
+        ensures held { FixKeepsRoom (record self.old { list = 0 }) self.new }
         ensures list { OnErr result (self.old.list ≤ self.new.list) }
         ensures room { (names : List FullName) → FixReady names self.old → DueAmong now self.old.ends.places names → IsOk result }
     {
@@ -222,24 +222,24 @@ impl<D: Deadlines> Fixes<D> {
 
     /// Makes room to hold these names off. Nothing else changes. Only want of memory refuses it.
     #[tactic(auto, using(crate::proofs::FixSteps::fix_stays, crate::proofs::AskSteps::keeps_self))]
-    pub fn room_to_hold(&mut self, names: &[Name]) -> Result<(), AllocError>
+    pub fn room_to_hold_off(&mut self, names: &[Name]) -> Result<(), AllocError>
         ensures kept { FixStays self.old self.new }
-        ensures held { FixHolds self.old self.new }
-        ensures places { OnOk result (HasPlaces names.now self.new.holds) }
+        ensures held { FixKeepsRoom self.old self.new }
+        ensures places { OnOk result (HasPlaces names.now self.new.held_off) }
     {
         self.marks.room(names)
     }
 
     /// Names, which rise, are repaired now: what `due` does with the names that [`pending`](Fixes::pending) answers, where these are
-    /// at hand and have [room](Fixes::room_to_hold). Takes no memory.
+    /// at hand and have [room](Fixes::room_to_hold_off). Takes no memory.
     #[tactic(auto, using(crate::proofs::FixSteps::repairs_all))]
     pub fn repair_all(&mut self, names: &[Name], dist: &[u64], now: u64)
         requires rising { ascending name_below names.now ≡ true }
-        requires places { HasPlaces names.now self.old.holds }
+        requires places { HasPlaces names.now self.old.held_off }
         requires distances { AreDistances dist.now }
-        requires now { now ≤ MOMENT }
+        requires now { now ≤ LATEST_MOMENT }
         ensures fits { FixRepairs now dist.now names.now self.old self.new }
-        ensures held { FixHolds self.old self.new }
+        ensures held { FixKeepsRoom self.old self.new }
     {
         self.ends.clear_all(names);
         self.marks.hold_all_off(names, dist, now);
@@ -249,9 +249,9 @@ impl<D: Deadlines> Fixes<D> {
     pub fn repair(&mut self, name: Name, dist: &[u64], now: u64)
         requires place { FixPlace self.old name }
         requires distances { AreDistances dist.now }
-        requires now { now ≤ MOMENT }
+        requires now { now ≤ LATEST_MOMENT }
         ensures fits { FixRepairs now dist.now (name ∷ []) self.old self.new }
-        ensures held { FixHolds self.old self.new }
+        ensures held { FixKeepsRoom self.old self.new }
     {
         self.repair_all(&[name], dist, now);
     }
@@ -285,10 +285,10 @@ impl<D: Deadlines> Fixes<D> {
 
     /// Notes who asked for a name, unless one asked before. Takes no memory.
     #[tactic(auto, using(crate::proofs::FixSteps::note_adds))]
-    pub fn note(&mut self, name: Name, from: Member)
+    pub fn note_asker(&mut self, name: Name, from: Member)
         requires { FixPlace self.old name }
         ensures fits { FixAdds (Asked name from ∷ []) self.old self.new }
-        ensures held { FixHolds self.old self.new }
+        ensures held { FixKeepsRoom self.old self.new }
         ensures d1 { self.new.d1 ≡ self.old.d1 }
         ensures d2 { self.new.d2 ≡ self.old.d2 }
     {
@@ -299,11 +299,11 @@ impl<D: Deadlines> Fixes<D> {
     pub fn arm<W: Words>(&self, name: Name, distance: u64, words: &mut W) -> Arm
         requires { distance ≤ LONGEST_DISTANCE }
         ensures plan { plan_of result ≡ fix_plan name distance }
-        ensures drawn { AreDrawn W.draw (low_of self.now.d1) (high_of self.now.d1 self.now.d2) words.old (result ∷ []) words.new }
+        ensures chosen { AreChosen W.draw (low_of self.now.d1) (high_of self.now.d1 self.now.d2) words.old (result ∷ []) words.new }
         ensures fix { IsFix result }
         ensures short { result.wait ≤ LONGEST_WAIT }
     {
-        let wait = draw_wait(self.d1, self.d2, 0, distance, words);
+        let wait = choose_wait(self.d1, self.d2, 0, distance, words);
         Arm {
             kind: ArmKind::Fix,
             name,
@@ -317,10 +317,10 @@ impl<D: Deadlines> Fixes<D> {
     #[tactic(auto, using(crate::proofs::FixSteps::set_adds_fix))]
     fn set(&mut self, now: u64, arm: &Arm)
         requires place { FixPlace self.old arm.now.name }
-        requires now { now ≤ MOMENT }
+        requires now { now ≤ LATEST_MOMENT }
         requires short { arm.now.wait ≤ LONGEST_WAIT }
         ensures fits { FixAdds (sets_fix now (arm.now ∷ [])) self.old self.new }
-        ensures held { FixHolds self.old self.new }
+        ensures held { FixKeepsRoom self.old self.new }
     {
         self.ends.set(arm.name, now + arm.wait);
     }
@@ -330,11 +330,11 @@ impl<D: Deadlines> Fixes<D> {
     pub fn set_all(&mut self, now: u64, arms: &[Arm])
         requires rising { ascending name_below (arm_names arms.now) ≡ true }
         requires room { HaveRoom (arm_names arms.now) self.old.ends }
-        requires now { now ≤ MOMENT }
+        requires now { now ≤ LATEST_MOMENT }
         requires fixes { AreFixes arms.now }
         requires short { AreShort arms.now }
         ensures fits { FixAdds (sets_fix now arms.now) self.old self.new }
-        ensures held { FixHolds self.old self.new }
+        ensures held { FixKeepsRoom self.old self.new }
     {
         self.ends.set_all(now, arms);
     }
@@ -345,9 +345,9 @@ impl<D: Deadlines> Fixes<D> {
     pub fn repaired(&mut self, name: Name, distance: u64, now: u64)
         requires place { FixPlace self.old name }
         requires distance { distance ≤ LONGEST_DISTANCE }
-        requires now { now ≤ MOMENT }
+        requires now { now ≤ LATEST_MOMENT }
         ensures fits { FixAdds (Repaired name (now + HOLD_OFF * distance) ∷ []) self.old self.new }
-        ensures held { FixHolds self.old self.new }
+        ensures held { FixKeepsRoom self.old self.new }
     {
         self.ends.clear(name);
         self.marks.hold_off(name, distance, now);

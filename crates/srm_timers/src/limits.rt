@@ -1,10 +1,10 @@
 //! The ranges of what timers are set from.
 
 /// The largest of the four timer settings of a session. A setting says how many distances an end of an interval lies away.
-pub const TIMER_SETTING: u8 = 16;
+pub const GREATEST_TIMER_SETTING: u8 = 16;
 
 /// The greatest exponent: a wait is doubled at most so often.
-pub const EXPONENT: u8 = 8;
+pub const GREATEST_EXPONENT: u8 = 8;
 
 /// Distances to the first asker for which a name is held off behind its repair.
 pub const HOLD_OFF: u64 = 3;

@@ -2,15 +2,15 @@
 
 ghost use Rattle.std.specs.Prelude.{◌≡◌, ◌≤◌, ◌<◌, ◌+◌, ◌*◌, [], true, unwrap_or, OnOk, IsOk};
 ghost use Rattle.srm_names.specs.declared.limits.TheConstants.{MEMBERS};
-ghost use Rattle.srm_deadlines.specs.Places.{value_at, has_place, Holds, HasPlaces, Keeps};
+ghost use Rattle.srm_deadlines.specs.Places.{value_at, has_place, KeepsPlaces, HasPlaces, KeepsValues};
 ghost use Rattle.srm_timers.specs.Distances.{AreDistances};
 ghost use Rattle.srm_timers.specs.FixCalls.{HoldsOff, HoldAllOff, asker_at, held_off_until};
-ghost use Rattle.srm_timers.specs.Marks.{HaveMarks, MarksHold, NotesAsker, OffAsBefore};
+ghost use Rattle.srm_timers.specs.Marks.{HaveMarks, MarksKeepPlaces, NotesAsker, OffAsBefore};
 
 use crate::distance::distance_in;
 use crate::limits::HOLD_OFF;
 use srm_deadlines::ByName;
-use srm_names::{LONGEST_DISTANCE, MOMENT, Member, Name};
+use srm_names::{LATEST_MOMENT, LONGEST_DISTANCE, Member, Name};
 use std::alloc::{AllocError, Global};
 use std::marker::Model;
 
@@ -39,7 +39,7 @@ impl Marks {
     /// Nobody asked for any name, and none is held off.
     pub fn new(alloc: Global) -> Self
         ensures askers { result.askers ≡ [] }
-        ensures holds { result.holds ≡ [] }
+        ensures held_off { result.held_off ≡ [] }
     {
         Marks {
             places: ByName::new(alloc),
@@ -49,11 +49,11 @@ impl Marks {
     /// Makes room for marks of these names. Nothing else changes. Only want of memory refuses it.
     #[tactic(auto, using(crate::proofs::Marking::keeps_askers, crate::proofs::Marking::keeps_holds, crate::proofs::Marking::marks_hold, crate::proofs::Marking::have_marks, crate::proofs::Marking::had_places))]
     pub fn room(&mut self, names: &[Name]) -> Result<(), AllocError>
-        ensures askers { Keeps self.old.askers self.new.askers }
-        ensures holds { Keeps self.old.holds self.new.holds }
-        ensures held { MarksHold self.old self.new }
+        ensures askers { KeepsValues self.old.askers self.new.askers }
+        ensures held_off { KeepsValues self.old.held_off self.new.held_off }
+        ensures held { MarksKeepPlaces self.old self.new }
         ensures ok { OnOk result (HaveMarks names.now self.new) }
-        ensures again { HasPlaces names.now self.old.holds → IsOk result }
+        ensures again { HasPlaces names.now self.old.held_off → IsOk result }
     {
         self.places.room(names)
     }
@@ -61,7 +61,7 @@ impl Marks {
     /// The mark of a name, and one that says nothing where it has none.
     fn mark(&self, name: Name) -> Mark
         ensures asker { result.asker ≡ value_at self.now.askers name }
-        ensures until { result.until ≡ unwrap_or (value_at self.now.holds name) 0 }
+        ensures until { result.until ≡ unwrap_or (value_at self.now.held_off name) 0 }
     {
         match self.places.get(name) {
             Some(mark) => mark,
@@ -81,7 +81,7 @@ impl Marks {
 
     /// Until when a name is held off, and 0 where it isn't. Takes no memory.
     pub fn until(&self, name: Name) -> u64
-        ensures { result ≡ unwrap_or (value_at self.now.holds name) 0 }
+        ensures { result ≡ unwrap_or (value_at self.now.held_off name) 0 }
     {
         self.mark(name).until
     }
@@ -90,8 +90,8 @@ impl Marks {
     pub fn note(&mut self, name: Name, from: Member)
         requires place { has_place self.old.askers name ≡ true }
         ensures noted { NotesAsker name from self.old.askers self.new.askers }
-        ensures off { OffAsBefore self.old.holds self.new.holds }
-        ensures held { MarksHold self.old self.new }
+        ensures off { OffAsBefore self.old.held_off self.new.held_off }
+        ensures held { MarksKeepPlaces self.old self.new }
     {
         let mark = self.mark(name);
         if mark.asker.is_none() {
@@ -105,12 +105,12 @@ impl Marks {
 
     /// Holds a name off for three of these distances, unless it is held off for longer. Takes no memory.
     pub fn hold_off(&mut self, name: Name, distance: u64, now: u64)
-        requires place { has_place self.old.holds name ≡ true }
+        requires place { has_place self.old.held_off name ≡ true }
         requires distance { distance ≤ LONGEST_DISTANCE }
-        requires now { now ≤ MOMENT }
-        ensures off { HoldsOff name (now + HOLD_OFF * distance) self.old.holds self.new.holds }
-        ensures askers { Keeps self.old.askers self.new.askers }
-        ensures held { MarksHold self.old self.new }
+        requires now { now ≤ LATEST_MOMENT }
+        ensures off { HoldsOff name (now + HOLD_OFF * distance) self.old.held_off self.new.held_off }
+        ensures askers { KeepsValues self.old.askers self.new.askers }
+        ensures held { MarksKeepPlaces self.old self.new }
     {
         let mark = self.mark(name);
         self.hold_until(name, &mark, now + HOLD_OFF * distance);
@@ -118,12 +118,12 @@ impl Marks {
 
     /// Holds names off for three distances to those who asked for them first. Takes no memory.
     pub fn hold_all_off(&mut self, names: &[Name], dist: &[u64], now: u64)
-        requires places { HasPlaces names.now self.old.holds }
+        requires places { HasPlaces names.now self.old.held_off }
         requires distances { AreDistances dist.now }
-        requires now { now ≤ MOMENT }
-        ensures off { HoldAllOff now dist.now names.now self.old.askers self.old.holds self.new.holds }
-        ensures askers { Keeps self.old.askers self.new.askers }
-        ensures held { MarksHold self.old self.new }
+        requires now { now ≤ LATEST_MOMENT }
+        ensures off { HoldAllOff now dist.now names.now self.old.askers self.old.held_off self.new.held_off }
+        ensures askers { KeepsValues self.old.askers self.new.askers }
+        ensures held { MarksKeepPlaces self.old self.new }
     {
         for name in names {
             self.hold_for_asker(*name, dist, now);
@@ -132,13 +132,13 @@ impl Marks {
 
     /// Holds a name off for three distances to the one who asked for it first, unless it is held off for longer.
     fn hold_for_asker(&mut self, name: Name, dist: &[u64], now: u64)
-        requires place { has_place self.old.holds name ≡ true }
+        requires place { has_place self.old.held_off name ≡ true }
         requires distances { AreDistances dist.now }
-        requires now { now ≤ MOMENT }
-        ensures off { HoldsOff name (held_off_until now dist.now self.old.askers name) self.old.holds self.new.holds }
+        requires now { now ≤ LATEST_MOMENT }
+        ensures off { HoldsOff name (held_off_until now dist.now self.old.askers name) self.old.held_off self.new.held_off }
         ensures near { asker_at self.old.askers name < MEMBERS }
-        ensures askers { Keeps self.old.askers self.new.askers }
-        ensures held { MarksHold self.old self.new }
+        ensures askers { KeepsValues self.old.askers self.new.askers }
+        ensures held { MarksKeepPlaces self.old self.new }
     {
         let mark = self.mark(name);
         let distance = distance_in(dist, asker_or_source(&mark, name));
@@ -147,12 +147,12 @@ impl Marks {
 
     /// Holds a name with this mark off until a moment, unless it is held off for longer.
     fn hold_until(&mut self, name: Name, mark: &Mark, until: u64)
-        requires place { has_place self.old.holds name ≡ true }
+        requires place { has_place self.old.held_off name ≡ true }
         requires asker { mark.now.asker ≡ value_at self.old.askers name }
-        requires off { mark.now.until ≡ unwrap_or (value_at self.old.holds name) 0 }
-        ensures off { HoldsOff name until self.old.holds self.new.holds }
-        ensures askers { Keeps self.old.askers self.new.askers }
-        ensures held { MarksHold self.old self.new }
+        requires off { mark.now.until ≡ unwrap_or (value_at self.old.held_off name) 0 }
+        ensures off { HoldsOff name until self.old.held_off self.new.held_off }
+        ensures askers { KeepsValues self.old.askers self.new.askers }
+        ensures held { MarksKeepPlaces self.old self.new }
     {
         if mark.until < until {
             let held = Mark {

@@ -2,21 +2,21 @@
 
 ghost use Rattle.std.specs.Prelude.{◌≡◌, ◌≤◌, ◌+◌, ◌-◌, ◌*◌, ◌%◌, ◌^◌};
 
-use crate::limits::{EXPONENT, LONGEST_WAIT, TIMER_SETTING};
+use crate::limits::{GREATEST_EXPONENT, GREATEST_TIMER_SETTING, LONGEST_WAIT};
 use crate::words::{Words, wait_between};
 use srm_names::LONGEST_DISTANCE;
 
 /// Draws a wait by one word: from `first` to `first + second` distances, doubled as often as the exponent says.
-pub(crate) fn draw_wait<W: Words>(
+pub(crate) fn choose_wait<W: Words>(
     first: u8,
     second: u8,
     exponent: u8,
     distance: u64,
     words: &mut W,
 ) -> u64
-    requires first { first ≤ TIMER_SETTING }
-    requires second { second ≤ TIMER_SETTING }
-    requires exponent { exponent ≤ EXPONENT }
+    requires first { first ≤ GREATEST_TIMER_SETTING }
+    requires second { second ≤ GREATEST_TIMER_SETTING }
+    requires exponent { exponent ≤ GREATEST_EXPONENT }
     requires distance { distance ≤ LONGEST_DISTANCE }
     ensures value { let low = 2 ^ exponent * first * distance in let high = 2 ^ exponent * (first + second) * distance in
         result ≡ low + (W.draw words.old).0 % (high - low + 1) }
@@ -30,8 +30,8 @@ pub(crate) fn draw_wait<W: Words>(
 
 /// So many distances, doubled as often as the exponent says.
 fn doubled(exponent: u8, distances: u8, distance: u64) -> u64
-    requires exponent { exponent ≤ EXPONENT }
-    requires distances { distances ≤ 2 * TIMER_SETTING }
+    requires exponent { exponent ≤ GREATEST_EXPONENT }
+    requires distances { distances ≤ 2 * GREATEST_TIMER_SETTING }
     requires distance { distance ≤ LONGEST_DISTANCE }
     ensures value { result ≡ 2 ^ exponent * distances * distance }
     ensures short { result ≤ LONGEST_WAIT }
@@ -41,7 +41,7 @@ fn doubled(exponent: u8, distances: u8, distance: u64) -> u64
 
 /// Two to a power.
 fn power(exponent: u8) -> u64
-    requires { exponent ≤ EXPONENT }
+    requires { exponent ≤ GREATEST_EXPONENT }
     ensures value { result ≡ 2 ^ exponent }
     ensures small { result ≤ 256 }
 {

@@ -3,8 +3,8 @@
 ghost use Rattle.srm_timers.specs.Distances.{AreDistances};
 
 use crate::fixtures::{all_at, ask, name, no_asks, words};
-use srm_names::{LONGEST_DISTANCE, MOMENT, Name};
-use srm_timers::{Arm, Asks, Listed, Scanned, TIMER_SETTING};
+use srm_names::{LATEST_MOMENT, LONGEST_DISTANCE, Name};
+use srm_timers::{Arm, Asks, GREATEST_TIMER_SETTING, Listed, Scanned};
 use std::alloc::Global;
 use std::process::Abort;
 
@@ -40,7 +40,7 @@ enum Step {
 
 /// Timers of which none runs.
 fn none_runs(rt: &impl Abort, alloc: Global, setting: u8) -> Asks<Scanned> {
-    assert!(rt; setting <= TIMER_SETTING);
+    assert!(rt; setting <= GREATEST_TIMER_SETTING);
     no_asks(alloc, setting, setting)
 }
 
@@ -54,7 +54,7 @@ fn find(
 ) -> Asks<Scanned>
     requires { AreDistances dist.now }
 {
-    assert!(rt; start.now <= MOMENT);
+    assert!(rt; start.now <= LATEST_MOMENT);
     let mut asks = none_runs(rt, alloc, start.setting);
     let missing = [name(rt, 1)];
     let count = usize::from(start.exponent.min(1));
@@ -78,7 +78,7 @@ fn check_due(
 )
     requires { AreDistances dist.now }
 {
-    assert!(rt; now <= MOMENT);
+    assert!(rt; now <= LATEST_MOMENT);
     let names = asks.pending(now, Vec::new(alloc)).expect(rt, "memory");
     assert_eq!(rt; names.len(), wanted.len());
     let arms = asks.due(now, dist, words).expect(rt, "memory");
@@ -113,7 +113,7 @@ fn check_heard(
 )
     requires { AreDistances dist.now }
 {
-    assert!(rt; now <= MOMENT);
+    assert!(rt; now <= LATEST_MOMENT);
     let arm = asks.heard_request(name(rt, 1), dist, now, words);
     assert_eq!(rt; arm, wanted, "{now}");
 }
@@ -312,7 +312,11 @@ fn names_that_were_asked_for_start_one_exponent_higher(rt: HostRuntime) {
 
 /// The timer of a name: when it runs out, and with which exponent it is armed again by itself and by a request heard.
 fn timer_of(asks: &Asks<Scanned>, name: Name) -> (Option<u64>, Option<u8>, Option<u8>) {
-    (asks.next(), asks.runs(name), asks.backs_off(name, 0))
+    (
+        asks.next(),
+        asks.exponent_when_due(name),
+        asks.exponent_when_heard(name, 0),
+    )
 }
 
 #[test]

@@ -3,7 +3,7 @@
 ghost use Rattle.srm_timers.specs.Distances.{AreDistances};
 
 use crate::fixtures::{all_at, fix, member, name, near_and_far, no_fixes, words};
-use srm_names::{MOMENT, Name};
+use srm_names::{LATEST_MOMENT, Name};
 use srm_timers::{Fixes, Listed, Scanned};
 use std::alloc::Global;
 use std::process::Abort;
@@ -40,7 +40,7 @@ fn check_request(
 )
     requires { AreDistances dist.now }
 {
-    assert!(rt; now <= MOMENT);
+    assert!(rt; now <= LATEST_MOMENT);
     let name = name(rt, 1);
     let arm = fixes
         .heard_request(name, member(rt, from), held, dist, now, words)
@@ -52,7 +52,7 @@ fn check_request(
 fn check_repair(rt: &impl Abort, fixes: &mut Fixes<Scanned>, dist: &[u64], now: u64)
     requires { AreDistances dist.now }
 {
-    assert!(rt; now <= MOMENT);
+    assert!(rt; now <= LATEST_MOMENT);
     fixes
         .heard_repair(name(rt, 1), dist, now)
         .expect(rt, "memory");
@@ -69,7 +69,7 @@ fn check_due(
 )
     requires { AreDistances dist.now }
 {
-    assert!(rt; now <= MOMENT);
+    assert!(rt; now <= LATEST_MOMENT);
     let names = fixes.pending(now, Vec::new(alloc)).expect(rt, "memory");
     assert_eq!(rt; names.len(), count);
     let names = fixes.due(now, dist).expect(rt, "memory");
@@ -204,7 +204,7 @@ fn a_caller_sets_timers_in_an_order_of_its_own(rt: HostRuntime) {
     let mut fixes = no_fixes(rt.alloc());
     let held = name(&rt, 1);
     fixes.room(&[held]).expect(&rt, "memory");
-    fixes.note(held, member(&rt, 1));
+    fixes.note_asker(held, member(&rt, 1));
     let arm = fixes.arm(held, 100_000, &mut words);
     fixes.set_all(10, &[arm]);
     check_next(&rt, &fixes, Some(100_010));

@@ -5,7 +5,7 @@ ghost use Rattle.srm_names.specs.Names.{first_page, named};
 ghost use Rattle.srm_timers.specs.Distances.{AreDistances};
 
 use srm_names::{LONGEST_DISTANCE, Member, Name, Page};
-use srm_timers::{Arm, ArmKind, Asks, Fixes, Listed, Scanned, TIMER_SETTING};
+use srm_timers::{Arm, ArmKind, Asks, Fixes, GREATEST_TIMER_SETTING, Listed, Scanned};
 use std::alloc::Global;
 use std::process::Abort;
 
@@ -51,8 +51,8 @@ pub(crate) fn words(rt: &impl Abort, alloc: Global, words: &[u64]) -> Listed {
 
 /// No name is missing.
 pub(crate) fn no_asks(alloc: Global, c1: u8, c2: u8) -> Asks<Scanned>
-    requires c1 { c1 ≤ TIMER_SETTING }
-    requires c2 { c2 ≤ TIMER_SETTING }
+    requires c1 { c1 ≤ GREATEST_TIMER_SETTING }
+    requires c2 { c2 ≤ GREATEST_TIMER_SETTING }
 {
     Asks::new(alloc, Scanned::new(alloc), c1, c2)
 }

@@ -1,7 +1,7 @@
 //! A wire over UDP.
 
 ghost use Rattle.std.specs.Prelude.{◌≡◌, ◌<◌, ◌≤◌, [], None, length, vec_len, IfOk, IfSome, IsErr};
-ghost use Rattle.srm_wire.specs.Wires.{CountsFailure, RoseOrFull, TellsMore, answered, took};
+ghost use Rattle.srm_wire.specs.Wires.{CountsFailure, RoseOrFull, TellsMore, answered, sent_by};
 ghost use Rattle.srm_udp.specs.Udp.{CountsEach, new_wire, one_more_failure};
 
 use crate::loss::is_loss;
@@ -101,7 +101,7 @@ impl Wire for UdpWire {
     fn send(&mut self, to: Member, datagram: &[u8]) -> Result<(), WireFault>
         ensures failures { CountsFailure result self.old.failures self.new.failures }
         ensures each { CountsEach result self.old self.new }
-        ensures tells { TellsMore [] (took to datagram.now result) None None }
+        ensures tells { TellsMore [] (sent_by to datagram.now result) None None }
         ensures stranger { self.old.members ≤ to → IsErr result }
     {
         let Some(address) = self.addresses.get(to.index()) else {

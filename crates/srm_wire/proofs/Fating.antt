@@ -10,7 +10,7 @@ use Rattle.srm_names.proofs.Snoc.{up_to_more}
 use Rattle.srm_wire.specs.declared.fates.Fate.{Fate}
 use Rattle.srm_wire.specs.declared.fates.Fate.TheVariants.{Pass}
 use Rattle.srm_wire.specs.declared.sent.Sent.{Sent}
-use Rattle.srm_wire.specs.Fates.{fate_of, is_behind, comes, coming}
+use Rattle.srm_wire.specs.Fates.{fate_of, is_behind, arrivals_at, coming}
 
 abbrev late : List Fate → ℕ → ℕ → Bool
 late fates sent number = is_behind (fate_of fates number) number sent
@@ -46,8 +46,8 @@ collects_all fates sent done old new h all = which (cases_lt (length fates) sent
     which (inr within) = (subst (λ n. Collects fates sent n old new) (omega (arith, all, within)) h).is
 
 -- what comes of one copy more
-pub comes_more : (fates : List Fate) (sent : ℕ) (put numbers : List ℕ) → put ≡ coming fates sent → numbers ≡ comes fates sent → put ++ numbers ≡ coming fates (sent + 1)
+pub comes_more : (fates : List Fate) (sent : ℕ) (put numbers : List ℕ) → put ≡ coming fates sent → numbers ≡ arrivals_at fates sent → put ++ numbers ≡ coming fates (sent + 1)
 comes_more fates sent put numbers was is = ap (λ ns. ns ++ numbers) was ∙ ap (λ ns. coming fates sent ++ ns) is ∙ ap (coming fates) (sym (add-one sent))
 
-pub puts_more : (fates : List Fate) (went : List Sent) (sent : Sent) (put numbers : List ℕ) → put ≡ coming fates (length went) → numbers ≡ comes fates (length went) → put ++ numbers ≡ coming fates (length (went ++ sent ∷ []))
+pub puts_more : (fates : List Fate) (went : List Sent) (sent : Sent) (put numbers : List ℕ) → put ≡ coming fates (length went) → numbers ≡ arrivals_at fates (length went) → put ++ numbers ≡ coming fates (length (went ++ sent ∷ []))
 puts_more fates went sent put numbers was is = comes_more fates (length went) put numbers was is ∙ ap (coming fates) (sym (length-append went (sent ∷ [])))

@@ -8,7 +8,7 @@ use Rattle.std.proofs.lemmas.List.Elements.{filter-append}
 use Rattle.srm_names.specs.Histories.{count_up}
 use Rattle.srm_names.proofs.Snoc.{up_to_more}
 use Rattle.srm_wire.specs.declared.sent.Sent.{Sent}
-use Rattle.srm_wire.specs.Wires.{Told, TellsMore, told_more, CountsIf, RoseOrFull, CountsFailure, counted_with, AreSomeOf, Sends, bytes_to, took, but, others, sends_to}
+use Rattle.srm_wire.specs.Wires.{Told, TellsMore, told_more, CountsIf, RoseOrFull, CountsFailure, counted_with, AreSomeOf, Sends, bytes_to, sent_by, but, others, sends_to}
 
 told_same : (o : Option Told) → o ≡ option_map (told_more [] []) o
 told_same None = refl
@@ -76,7 +76,7 @@ pub sends_none : (x : ℕ) (t : Option Told) → Sends false [] x x t t
 sends_none x t = record { failures = (omega arith, tt); went = []; some = tt; whole = refl; tells = tells_nothing t }
 
 -- one was sent, or the send failed
-pub sends_one : {T E : Type 0} (r : Result T E) (to : ℕ) (bytes : List ℕ) (all : List Sent) (x y : ℕ) (s t : Option Told) → all ≡ bytes_to to bytes ∷ [] → CountsFailure r x y → TellsMore [] (took to bytes r) s t → Sends (is_err r) all x y s t
+pub sends_one : {T E : Type 0} (r : Result T E) (to : ℕ) (bytes : List ℕ) (all : List Sent) (x y : ℕ) (s t : Option Told) → all ≡ bytes_to to bytes ∷ [] → CountsFailure r x y → TellsMore [] (sent_by to bytes r) s t → Sends (is_err r) all x y s t
 sends_one (Ok a) to bytes all x y s t is counts tells = record { failures = (counts, tt); went = bytes_to to bytes ∷ []; some = rw is (inl (refl, tt)); whole = sym is; tells = tells }
 sends_one (Err e) to bytes all x y s t is counts tells = record { failures = (counts.0, counts.1); went = []; some = tt; whole = tt; tells = tells }
 

@@ -3,7 +3,7 @@ use Rattle.std.specs.Prelude.{◌≡◌, ℕ, true, false, List, [], ◌∷◌, 
 use Rattle.std.proofs.Common.{inl, inr, arith}
 use Rattle.srm_wire.specs.declared.fates.Fate.{Fate}
 use Rattle.srm_wire.specs.declared.fates.Fate.TheVariants.{Pass, Drop, Twice, Late}
-use Rattle.srm_wire.specs.Fates.{fate_of, comes, coming}
+use Rattle.srm_wire.specs.Fates.{fate_of, arrivals_at, coming}
 use Rattle.srm_wire.specs.Flakiness.{fails_next}
 use Rattle.srm_wire.specs.Wires.{Told, one_more, others, bytes_to, AreSomeOf, Sends}
 
@@ -15,7 +15,7 @@ pub passes_past_the_list : fate_of six 6 ≡ Pass
 passes_past_the_list = refl
 
 -- nothing comes of the fifth itself, and the third is behind it
-pub a_late_one_comes : comes six 5 ≡ 3 ∷ []
+pub a_late_one_comes : arrivals_at six 5 ≡ 3 ∷ []
 a_late_one_comes = refl
 
 -- of six copies and one more

@@ -21,10 +21,10 @@ is_behind (Late n) number last = number + n == last
 is_behind _ number last = false
 
 -- what comes as the copy with this number is sent: itself by its fate, and then the late ones that it was the last before
-abbrev pub comes : List Fate → ℕ → List ℕ
-comes fates sent = at_once (fate_of fates sent) sent ++ filter (λ number. is_behind (fate_of fates number) number sent) (count_up 0 sent)
+abbrev pub arrivals_at : List Fate → ℕ → List ℕ
+arrivals_at fates sent = at_once (fate_of fates sent) sent ++ filter (λ number. is_behind (fate_of fates number) number sent) (count_up 0 sent)
 
 -- what comes of the first copies, so many
 abbrev pub coming : List Fate → ℕ → List ℕ
 coming fates zero = []
-coming fates (suc sent) = coming fates sent ++ comes fates sent
+coming fates (suc sent) = coming fates sent ++ arrivals_at fates sent

@@ -25,9 +25,9 @@ answered buffer (Ok None) = None ∷ []
 answered buffer (Err _) = []
 
 -- what send took; an Err isn't told
-abbrev pub took : {T E : Type 0} → ℕ → List ℕ → Result T E → List Sent
-took to bytes (Ok _) = record { to = to; bytes = bytes } ∷ []
-took to bytes (Err _) = []
+abbrev pub sent_by : {T E : Type 0} → ℕ → List ℕ → Result T E → List Sent
+sent_by to bytes (Ok _) = record { to = to; bytes = bytes } ∷ []
+sent_by to bytes (Err _) = []
 
 -- bytes to a member
 abbrev pub bytes_to : ℕ → List ℕ → Sent

@@ -2,7 +2,7 @@
 
 ghost use Rattle.std.specs.Prelude.{◌≡◌, [], ◌∷◌, ◌++◌, IfOk, filter, if◌then◌else◌};
 ghost use Rattle.srm_names.specs.Histories.{count_up};
-ghost use Rattle.srm_wire.specs.Fates.{fate_of as fate_at, at_once as now_comes, is_behind as stands_behind, comes};
+ghost use Rattle.srm_wire.specs.Fates.{fate_of as fate_at, at_once as now_comes, is_behind as stands_behind, arrivals_at};
 
 use std::alloc::{AllocError, Global};
 
@@ -18,7 +18,7 @@ pub enum Fate {
 
 /// The numbers of the copies that come as the copy with this number is sent, in order. It looks at the whole list of fates.
 pub(crate) fn coming(alloc: Global, fates: &[Fate], sent: usize) -> Result<Vec<usize>, AllocError>
-    ensures { IfOk result (λ numbers. numbers.items ≡ comes fates.now sent) }
+    ensures { IfOk result (λ numbers. numbers.items ≡ arrivals_at fates.now sent) }
 {
     let numbers = at_once(alloc, fate_of(fates, sent), sent)?;
     with_late(fates, sent, numbers)

@@ -2,7 +2,7 @@
 
 ghost use Rattle.std.specs.Prelude.{◌≡◌, ◌≤◌, ℕ, Bool, List, [], length, Option, IfOk, IfSome, is_err};
 ghost use Rattle.srm_wire.specs.declared.sent.Sent.{Sent};
-ghost use Rattle.srm_wire.specs.Wires.{Told, TellsMore, CountsFailure, answered, bytes_to, took};
+ghost use Rattle.srm_wire.specs.Wires.{Told, TellsMore, CountsFailure, answered, bytes_to, sent_by};
 
 use srm_names::Member;
 use thiserror::Error;
@@ -31,7 +31,7 @@ pub trait Wire {
     /// Sends bytes to a member.
     fn send(&mut self, to: Member, datagram: &[u8]) -> Result<(), WireFault>
         ensures failures { CountsFailure result (failed self.old) (failed self.new) }
-        ensures tells { TellsMore [] (took to datagram.now result) (told self.old) (told self.new) }
+        ensures tells { TellsMore [] (sent_by to datagram.now result) (told self.old) (told self.new) }
         ensures sends { sends self.old (bytes_to to datagram.now) (is_err result) self.new };
 
     /// Receives a datagram into the buffer, of which it fills so many bytes. None where none is there.

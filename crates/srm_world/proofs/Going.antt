@@ -39,7 +39,7 @@ use Rattle.srm_entries.proofs.Running.{last_moment-snoc, slots-same}
 use Rattle.srm_agent.proofs.Still.{still_fits, same_progress}
 use Rattle.srm_entries.proofs.Showing.{state-snoc}
 use Rattle.srm_entries.proofs.Feeding.{given-snoc}
-use Rattle.srm_world.specs.Events.{comes}
+use Rattle.srm_world.specs.Events.{input_heard}
 use Rattle.srm_world.specs.Lane.{LaneContent}
 use Rattle.srm_world.specs.Lanes.{AreEmpty, Gains, Loses, in_lane}
 use Rattle.srm_world.specs.Participants.{Content, Fits, LanesFit, Adds, GoesOn, Stays, HearsBytes, SendsOuts, last_with}
@@ -150,7 +150,7 @@ hears_on draw now p q bytes e enters reads config last after lanes = record {
       (subst (λ ls. LanesFit (past ++ e ∷ []) ls) (sym lanes) (lanes_stay past e e.input p.lanes refl still h.lanes));
 }
 
-spelled_is_heard : (o : Input × Verdict) (gone : Bool) (c : Config) (past : List Entry) (read : Result Datagram DecodeFault) (g : Datagram) → o ≡ cond gone (Noise, Ignored causes.Gone) (read_as c past read) → read ≡ Ok g → o.0 ≡ comes gone g
+spelled_is_heard : (o : Input × Verdict) (gone : Bool) (c : Config) (past : List Entry) (read : Result Datagram DecodeFault) (g : Datagram) → o ≡ cond gone (Noise, Ignored causes.Gone) (read_as c past read) → read ≡ Ok g → o.0 ≡ input_heard gone g
 spelled_is_heard o true c past read g q r = ap (λ (x : Input × Verdict). x.0) q
 spelled_is_heard o false c past read g q r = ap (λ (x : Input × Verdict). x.0) q ∙ ap (λ (x : Result Datagram DecodeFault). (read_as c past x).0) r
 

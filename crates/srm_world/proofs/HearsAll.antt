@@ -6,7 +6,7 @@ use Rattle.srm_entries.specs.declared.entry.Entry.{Entry}
 use Rattle.srm_agent.specs.declared.heard.Heard.{Heard}
 use Rattle.srm_world.specs.Traces.{Journal}
 use Rattle.srm_world.specs.declared.start.Start.{Start}
-use Rattle.srm_world.specs.Words.{Recorded, AreByWords, RecordsByWords}
+use Rattle.srm_world.specs.WaitWords.{RecorderView, AreByWords, RecordsByWords}
 use Rattle.srm_world.specs.Recording.{RecordsHeard, IsHearing, HearsEach, HearsAll, with_entry, with_entries}
 use Rattle.srm_world.proofs.Wording.{by_more}
 
@@ -38,7 +38,7 @@ hears_more now bs bytes a b c heard h (inr (wrong, same)) = absurd (is_ok wrong)
     is_ok e = cc
 
 -- and the words go on
-pub words_go_on : {W : Type 0} (draw : W → ℕ × W) (a b c : Recorded W) → b.journal.start ≡ a.journal.start → RecordsByWords draw a b → RecordsByWords draw b c → RecordsByWords draw a c
+pub words_go_on : {W : Type 0} (draw : W → ℕ × W) (a b c : RecorderView W) → b.journal.start ≡ a.journal.start → RecordsByWords draw a b → RecordsByWords draw b c → RecordsByWords draw a c
 words_go_on draw a b c same h k = record {
   added = h.added ++ k.added;
   grown = k.grown ∙ ap (λ es. es ++ k.added) h.grown ∙ append_assoc a.journal.entries h.added k.added;

@@ -13,9 +13,9 @@ use Rattle.srm_names.proofs.Lists.{Has, Has-append, Has-front, Has-back, Has-fil
 use Rattle.srm_codec.specs.declared.datagram.Datagram.{Datagram}
 use Rattle.srm_codec.specs.declared.datagram.Datagram.TheVariants.{Data, Request, Repair, Session}
 use Rattle.srm_entries.specs.declared.entry.Entry.{Entry}
-use Rattle.srm_entries.specs.Entries.{heard, sent, drawn, held, held_by, drawops_in}
+use Rattle.srm_entries.specs.Entries.{accepted, sent, drawn, held, held_by, drawops_in}
 use Rattle.srm_entries.specs.Sessions.{charged, is_session}
-use Rattle.srm_store.specs.Finals.{Settling, rows_for, rows_of, row_of}
+use Rattle.srm_store.specs.Finals.{Settling, rows_for, rows_of, row_number}
 use Rattle.srm_entries.specs.Verdicts.{told, settlings, settling_of, stream_on}
 use Rattle.srm_entries.proofs.Adding.{flat_map-append}
 use Rattle.srm_entries.proofs.Sending.{data_sent_was_drawn, repair_sent_was_held}
@@ -27,13 +27,13 @@ use Rattle.srm_world.specs.Traces.{of_member, drawn_by, IsHonest, IsRunOf}
 use Rattle.srm_world.proofs.Members.{MemberRun, run_of_entry, run_so_far, Has-of_member}
 
 abbrev IsHonestStep : Step Entry → Type 0
-IsHonestStep s = IfSome (heard s.this) (Contains (sent s.before))
+IsHonestStep s = IfSome (accepted s.this) (Contains (sent s.before))
 
-honest_here : (before : List Entry) (e : Entry) (g : Datagram) → IsHonestStep (record { before = before; this = e }) → heard e ≡ Some g → Has g (sent before)
+honest_here : (before : List Entry) (e : Entry) (g : Datagram) → IsHonestStep (record { before = before; this = e }) → accepted e ≡ Some g → Has g (sent before)
 honest_here before e g honest h = Has-contained g (sent before) (subst (λ o. IfSome o (Contains (sent before))) h honest)
 
 -- what a member heard was sent
-pub heard_was_sent : (es : List Entry) (e : Entry) (g : Datagram) → IsHonest es → Has e es → heard e ≡ Some g → Has g (sent es)
+pub heard_was_sent : (es : List Entry) (e : Entry) (g : Datagram) → IsHonest es → Has e es → accepted e ≡ Some g → Has g (sent es)
 heard_was_sent es e g honest h q =
     let (before, after, split) = Has-split e es h in
     let parts = at_parts IsHonestStep before (e ∷ after) (subst (λ w. AllByRecursion IsHonestStep (steps w)) split honest) in
@@ -51,29 +51,29 @@ charged_by : (es : List Entry) (e : Entry) (g : Datagram) → is_session g ≡ f
 charged_by es e g s h k = flat_map-Has charged g e (of_member e.member es) (Has-of_member e es h) (Has-kept (λ (x : Datagram). not (is_session x)) g e.effects.outs (ap not s) k)
 
 -- whoever is told heard a farewell
-told_heard : (source : ℕ) (rows : List FullName) (es : List Entry) → told es source ≡ Some rows → (e : Entry) × Has e es × (farewell_in source (heard e) ≡ Some rows)
+told_heard : (source : ℕ) (rows : List FullName) (es : List Entry) → told es source ≡ Some rows → (e : Entry) × Has e es × (farewell_in source (accepted e) ≡ Some rows)
 told_heard source rows [] t = absurd (none-some rows t)
-told_heard source rows (e ∷ es) t = which (settling_of (heard e)) refl t (told_heard source rows es)
+told_heard source rows (e ∷ es) t = which (settling_of (accepted e)) refl t (told_heard source rows es)
   where
-    which : (o : Option Settling) → settling_of (heard e) ≡ o → rows_of (cons_option o (settlings es)) source ≡ Some rows
-        → (told es source ≡ Some rows → (x : Entry) × Has x es × (farewell_in source (heard x) ≡ Some rows))
-        → (x : Entry) × Has x (e ∷ es) × (farewell_in source (heard x) ≡ Some rows)
+    which : (o : Option Settling) → settling_of (accepted e) ≡ o → rows_of (cons_option o (settlings es)) source ≡ Some rows
+        → (told es source ≡ Some rows → (x : Entry) × Has x es × (farewell_in source (accepted x) ≡ Some rows))
+        → (x : Entry) × Has x (e ∷ es) × (farewell_in source (accepted x) ≡ Some rows)
     which None q k more = let (x, h, r) = more k in (x, inr h, r)
     which (Some settling) q k more = here (rows_for source settling) refl k
       where
         here : (o : Option (List FullName)) → rows_for source settling ≡ o → or_else o (told es source) ≡ Some rows
-            → (x : Entry) × Has x (e ∷ es) × (farewell_in source (heard x) ≡ Some rows)
+            → (x : Entry) × Has x (e ∷ es) × (farewell_in source (accepted x) ≡ Some rows)
         here None r k = let (x, h, f) = more k in (x, inr h, f)
         here (Some found) r k = (e, inl refl, ap (rows_in source) q ∙ r ∙ k)
 
 -- a member that is told knows how much the source drew
 pub told_is_true : (starts : List Start) (es : List Entry) → IsRunOf starts es → IsHonest es → (m source : ℕ) (rows : List FullName) → told (of_member m es) source ≡ Some rows
-    → (page : Page) → length (drawn_by es source page) ≤ row_of rows (stream_on source page)
+    → (page : Page) → length (drawn_by es source page) ≤ row_number rows (stream_on source page)
 told_is_true starts es run honest m source rows t page =
     let (e, h, f) = told_heard source rows (of_member m es) t in
-    from_heard e h (heard e) refl f
+    from_heard e h (accepted e) refl f
   where
-    from_heard : (e : Entry) → Has e (of_member m es) → (o : Option Datagram) → heard e ≡ o → farewell_in source o ≡ Some rows → length (drawn_by es source page) ≤ row_of rows (stream_on source page)
+    from_heard : (e : Entry) → Has e (of_member m es) → (o : Option Datagram) → accepted e ≡ o → farewell_in source o ≡ Some rows → length (drawn_by es source page) ≤ row_number rows (stream_on source page)
     from_heard e h None q f = absurd (grind arith)
     from_heard e h (Some g) q f =
         let (at, shown, echoes, is) = farewell_is source g rows f in
@@ -84,7 +84,7 @@ told_is_true starts es run honest m source rows t page =
         let s = session_sent r.config r.made (of_member from.member es) (Session source at true shown rows echoes) r.run.each refl k in
         let same : from.member ≡ source = sym r.me ∙ sym s.report.0 in
         let l = farewell_sent r.config r.made (of_member from.member es) source at shown rows echoes r.run.each k page in
-        subst (λ w. length (drawn_by es w page) ≤ row_of rows (stream_on source page)) same (subst (λ w. length (drawn_by es from.member page) ≤ row_of rows (stream_on w page)) (sym s.report.0) l)
+        subst (λ w. length (drawn_by es w page) ≤ row_number rows (stream_on source page)) same (subst (λ w. length (drawn_by es from.member page) ≤ row_number rows (stream_on w page)) (sym s.report.0) l)
 
 -- what a member drew in its run it drew as its own
 drawn_own : (m : ℕ) (es : List Entry) (d : Drawop) → MemberRun m es → Has d (drawn (of_member m es)) → Has d (drawn (of_member d.name.stream.source es))
@@ -104,9 +104,9 @@ heard_drawop (Some (Session a b f p r x)) d h = absurd h
 
 gained : (starts : List Start) (es before : List Entry) (e : Entry) (rest : List Entry) → IsRunOf starts es → es ≡ before ++ e ∷ rest → IsHonestStep (record { before = before; this = e })
     → HeldRight es before → (d : Drawop) → Has d (held_by e) → Has d (drawn (of_member d.name.stream.source es))
-gained starts es before e rest run split honest p d h = elim (Has-append d (option_to_list e.effects.drawn) (drawops_in (heard e)) h) [
+gained starts es before e rest run split honest p d h = elim (Has-append d (option_to_list e.effects.drawn) (drawops_in (accepted e)) h) [
   | inl l ↦ drawn_own e.member es d (run_of_entry starts es e run there) (flat_map-Has (λ (x : Entry). option_to_list x.effects.drawn) d e (of_member e.member es) (Has-of_member e es there) l)
-  | inr r ↦ elim (heard_drawop (heard e) d r) [ inl q ↦ of_data q | inr q ↦ of_repair q.0 q.1 ]
+  | inr r ↦ elim (heard_drawop (accepted e) d r) [ inl q ↦ of_data q | inr q ↦ of_repair q.0 q.1 ]
 ]
   where
     there : Has e es
@@ -115,13 +115,13 @@ gained starts es before e rest run split honest p d h = elim (Has-append d (opti
     in_all : (x : Entry) → Has x before → Has x es
     in_all x k = subst (λ w. Has x w) (sym split) (Has-front x before (e ∷ rest) k)
 
-    of_data : heard e ≡ Some (Data d) → Has d (drawn (of_member d.name.stream.source es))
+    of_data : accepted e ≡ Some (Data d) → Has d (drawn (of_member d.name.stream.source es))
     of_data q =
         let (from, k, out) = sender_entry before (Data d) (honest_here before e (Data d) honest q) in
         let r = run_of_entry starts es from run (in_all from k) in
         drawn_own from.member es d r (data_sent_was_drawn r.config (of_member from.member es) d r.run.bucket (charged_by es from (Data d) refl (in_all from k) out))
 
-    of_repair : (s : ℕ) → heard e ≡ Some (Repair s d) → Has d (drawn (of_member d.name.stream.source es))
+    of_repair : (s : ℕ) → accepted e ≡ Some (Repair s d) → Has d (drawn (of_member d.name.stream.source es))
     of_repair s q =
         let (from, k, out) = sender_entry before (Repair s d) (honest_here before e (Repair s d) honest q) in
         let r = run_so_far from.member before (e ∷ rest) (subst (λ w. MemberRun from.member w) split (run_of_entry starts es from run (in_all from k))) in

@@ -18,20 +18,20 @@ use Rattle.srm_entries.specs.declared.entry.Entry.{Entry}
 use Rattle.srm_entries.specs.declared.state.AgentState.TheVariants.{Active}
 use Rattle.srm_entries.specs.declared.entry.Input.TheVariants.{Drew, Heard, Ticked}
 use Rattle.srm_entries.specs.Entries.{shown, known, is_missing, released}
-use Rattle.srm_entries.specs.Sessions.{row_due, row_at, if_positive, ReportRight}
+use Rattle.srm_entries.specs.Sessions.{expected_row, number_in_rows, if_positive, ReportRight}
 use Rattle.srm_entries.specs.Bucket.{Going, classed, bucket_calls}
 use Rattle.srm_entries.specs.Verdicts.{stream_on}
 use Rattle.srm_entries.specs.Runs.{EntryRight, IsMemberRun}
 use Rattle.srm_world.specs.Traces.{Trace, of_member, IsHonest, IsRun}
 use Rattle.srm_world.specs.Claims.{AtRest}
-use Rattle.srm_entries.specs.Sample.{zeros, idle}
+use Rattle.srm_entries.specs.Sample.{first_stream, idle}
 use Rattle.srm_entries.proofs.Plain.{one, config, plain, idle_right, one_spelled, row_spelled, right, one_held, none_missing_in, missing_none, one_of, one_goes}
 
 abbrev draws : Entry
 draws = plain 0 1 (Drew first_page (97 ∷ [])) (Some one) [] None Active
 
 abbrev report_of_0 : Datagram
-report_of_0 = Session 0 1000000 false first_page (named zeros 1 ∷ []) []
+report_of_0 = Session 0 1000000 false first_page (named first_stream 1 ∷ []) []
 
 abbrev sends : Entry
 sends = plain 0 1000000 Ticked None (Data one ∷ report_of_0 ∷ []) None Active
@@ -43,7 +43,7 @@ abbrev hears_report : Entry
 hears_report = plain 1 1000200 (Heard report_of_0) None [] None Active
 
 abbrev report_of_1 : Datagram
-report_of_1 = Session 1 1000500 false first_page (named zeros 1 ∷ []) (record { member = 0; t1 = 1000000; delay = 300 } ∷ [])
+report_of_1 = Session 1 1000500 false first_page (named first_stream 1 ∷ []) (record { member = 0; t1 = 1000000; delay = 300 } ∷ [])
 
 abbrev answers : Entry
 answers = plain 1 1000500 Ticked None (report_of_1 ∷ []) None Active
@@ -68,10 +68,10 @@ report_of_1_spelled = (
 
 -- neither misses anything at any time
 
-one_known : (n : FullName) → same_stream n.stream zeros ≡ false → greatest (one_of (same_stream n.stream zeros) ++ []) ≡ 0
+one_known : (n : FullName) → same_stream n.stream first_stream ≡ false → greatest (one_of (same_stream n.stream first_stream) ++ []) ≡ 0
 one_known n e = ap (λ b. greatest (one_of b ++ [])) e
 
-twice_known : (n : FullName) → same_stream n.stream zeros ≡ false → greatest (one_of (same_stream n.stream zeros) ++ (one_of (same_stream n.stream zeros) ++ [])) ≡ 0
+twice_known : (n : FullName) → same_stream n.stream first_stream ≡ false → greatest (one_of (same_stream n.stream first_stream) ++ (one_of (same_stream n.stream first_stream) ++ [])) ≡ 0
 twice_known n e = ap (λ b. greatest (one_of b ++ (one_of b ++ []))) e
 
 missing_drawn : (n : FullName) → is_missing (draws ∷ []) n ≡ false
@@ -93,18 +93,18 @@ missing_answered : (n : FullName) → is_missing (hears ∷ hears_report ∷ ans
 missing_answered n = none_missing_in (hears ∷ hears_report ∷ answers ∷ []) one_held twice_known n
 
 -- the rows of the reports are those due
-rows_right : (c : Config) (before : List Entry) (now : ℕ) → (row_at (named zeros 1 ∷ []) zeros ≡ row_due c before false zeros) → ((s : Stream) → same_stream s zeros ≡ false → known before s ≡ 0)
-    → ReportRight c before now false (named zeros 1 ∷ [])
-rows_right c before now here there = record { in_order = refl; exact = λ s. go s (same_stream s zeros) refl }
+rows_right : (c : Config) (before : List Entry) (now : ℕ) → (number_in_rows (named first_stream 1 ∷ []) first_stream ≡ expected_row c before false first_stream) → ((s : Stream) → same_stream s first_stream ≡ false → known before s ≡ 0)
+    → ReportRight c before now false (named first_stream 1 ∷ [])
+rows_right c before now here there = record { in_order = refl; exact = λ s. go s (same_stream s first_stream) refl }
   where
     empty : (b : Bool) → (if b then if_positive 0 else None) ≡ None
     empty true = refl
     empty false = refl
 
-    go : (s : Stream) (b : Bool) → same_stream s zeros ≡ b → row_at (named zeros 1 ∷ []) s ≡ row_due c before false s
-    go s true e = subst (λ (x : Stream). row_at (named zeros 1 ∷ []) x ≡ row_due c before false x) (sym (same_stream-is s zeros e)) here
+    go : (s : Stream) (b : Bool) → same_stream s first_stream ≡ b → number_in_rows (named first_stream 1 ∷ []) s ≡ expected_row c before false s
+    go s true e = subst (λ (x : Stream). number_in_rows (named first_stream 1 ∷ []) x ≡ expected_row c before false x) (sym (same_stream-is s first_stream e)) here
     go s false e =
-        ap (λ b. option_map (λ (n : FullName). n.number) (if b then Some (named zeros 1) else None)) e
+        ap (λ b. option_map (λ (n : FullName). n.number) (if b then Some (named first_stream 1) else None)) e
         ∙ sym (ap (λ k. if same_page s.page (shown before) && nat_lt s.source c.members then if_positive k else None) (there s e) ∙ empty (same_page s.page (shown before) && nat_lt s.source c.members))
 
 -- the member that drew
@@ -197,14 +197,14 @@ at_rest = record {
     sent = (1, lit< tt, refl);
     is_report = (refl, refl, refl);
     came = (1, lit< tt, refl);
-    same = λ source. once_or_twice (same_stream (stream_on source first_page) zeros);
+    same = λ source. once_or_twice (same_stream (stream_on source first_page) first_stream);
   };
   one_complete = λ n e. missing_told n;
   other_complete = λ n e. missing_answered n;
 }
 
-pub agreed : released (of_member 0 trace.entries) zeros ≡ one ∷ []
+pub agreed : released (of_member 0 trace.entries) first_stream ≡ one ∷ []
 agreed = refl
 
-pub agreed_too : released (of_member 1 trace.entries) zeros ≡ one ∷ []
+pub agreed_too : released (of_member 1 trace.entries) first_stream ≡ one ∷ []
 agreed_too = refl

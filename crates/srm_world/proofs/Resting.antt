@@ -14,7 +14,7 @@ use Rattle.srm_names.proofs.Snoc.{steps_front}
 use Rattle.srm_codec.specs.declared.datagram.Datagram.{Datagram}
 use Rattle.srm_codec.specs.declared.datagram.Datagram.TheVariants.{Data, Request, Repair, Session}
 use Rattle.srm_entries.specs.declared.entry.Entry.{Entry}
-use Rattle.srm_entries.specs.Entries.{heard, drawn, held_at, is_held, is_missing, known, released}
+use Rattle.srm_entries.specs.Entries.{accepted, drawn, held_at, is_held, is_missing, known, released}
 use Rattle.srm_entries.specs.Verdicts.{stream_on}
 use Rattle.srm_entries.specs.Runs.{EntryRight}
 use Rattle.srm_entries.proofs.Responding.{run_at}
@@ -40,7 +40,7 @@ heard_later m es before after e h q has =
     (Has-back h (of_member m before) (of_member m (e ∷ []) ++ of_member m after) (Has-back h (of_member m (e ∷ [])) (of_member m after) has))
 
 reported : (starts : List Start) (es : List Entry) (m k source : ℕ) (page : Page) (before after : List Entry) (e : Entry) (g : Datagram) → MemberRun k es → es ≡ before ++ e ∷ after → e.member ≡ k
-    → Has g e.effects.outs → IsReportOn k page g → Has (Some g) (map heard (of_member m after))
+    → Has g e.effects.outs → IsReportOn k page g → Has (Some g) (map accepted (of_member m after))
     → known (of_member k (before ++ e ∷ [])) (stream_on source page) ≤ known (of_member m es) (stream_on source page)
 reported starts es m k source page before after e (Data d) r q of out is came = absurd is
 reported starts es m k source page before after e (Request sender name mask) r q of out is came = absurd is
@@ -55,7 +55,7 @@ reported starts es m k source page before after e (Session sender sent farewell 
     steps_front (EntryRight r.config r.made) [] (of_member k before) (e ∷ of_member k after) (subst (λ xs. AllByRecursion (EntryRight r.config r.made) (steps xs)) split r.run.each) in
     let says : Reports r.config (of_member k before) e page rows =
     report_sent r.config r.made (of_member k before) e sender sent page rows echoes right (subst (λ x. Has x e.effects.outs) same out) in
-    let (h, has, hears) = Has-map heard (Some (Session sender sent farewell shown rows echoes)) (of_member m after) came in
+    let (h, has, hears) = Has-map accepted (Some (Session sender sent farewell shown rows echoes)) (of_member m after) came in
     subst (λ n. n ≤ known (of_member m es) (stream_on source page))
     (sym (ap (λ xs. known xs (stream_on source page)) (of_member-own k before e of) ∙ known_after_tick r.config r.made (of_member k before) e (stream_on source page) right says.at_tick))
     (hearer_knows r.config r.made (of_member k before) e source sender sent page rows echoes (of_member m es) h r.inside all says
@@ -68,7 +68,7 @@ knows_as_much starts es m k page run h source =
     let r : MemberRun k es = subst (λ w. MemberRun w es) h.of_k (run_of_entry starts es h.sending run here) in
     subst (λ n. n ≤ known (of_member m es) (stream_on source page)) (h.same source)
     (reported starts es m k source page h.before h.after h.sending h.report r h.split h.of_k
-    (Has-contained h.report h.sending.effects.outs h.sent) h.is_report (Has-contained (Some h.report) (map heard (of_member m h.after)) h.came))
+    (Has-contained h.report h.sending.effects.outs h.sent) h.is_report (Has-contained (Some h.report) (map accepted (of_member m h.after)) h.came))
 
 -- what two members hold under one name is the same
 

@@ -9,10 +9,10 @@ use Rattle.srm_entries.specs.Configs.{Config}
 use Rattle.srm_entries.specs.declared.entry.Entry.{Entry}
 use Rattle.srm_entries.specs.Entries.{ticked, state, is_gone, is_leaving}
 use Rattle.srm_entries.specs.Sessions.{charged, ending, EndsWith, all_data_sent, session_due}
-use Rattle.srm_entries.specs.Bucket.{Going, GoesRight, BucketRight, entries_of, datagrams_of}
+use Rattle.srm_entries.specs.Bucket.{Going, GoesAsCharged, BucketRight, entries_of, datagrams_of}
 use Rattle.srm_entries.specs.Runs.{EntryRight, IsMemberRun}
 
-not_charged : (us : List Going) (x : Going) → GoesRight (record { before = us; this = x }) → ticked x.entry ≡ false → charged x.entry ≡ []
+not_charged : (us : List Going) (x : Going) → GoesAsCharged (record { before = us; this = x }) → ticked x.entry ≡ false → charged x.entry ≡ []
 not_charged us x right still =
     let none : x.goes ≡ [] = OnTrue_at (ap (λ b. not (b && not (is_gone (state (entries_of us))))) still) right.at_ticks in
     sym right.same ∙ ap datagrams_of none
@@ -20,12 +20,12 @@ not_charged us x right still =
 charged_none : (c : Config) (before : List Entry) (e : Entry) → BucketRight c (before ++ e ∷ []) → ticked e ≡ false → charged e ≡ []
 charged_none c before e (gs, q, all, law) still =
     let (us, vs, p, r, t) = map-split (λ (g : Going). g.entry) gs before (e ∷ []) q in
-    from us vs r t (at_parts GoesRight us vs (subst (λ w. AllByRecursion GoesRight (steps w)) p all)).1
+    from us vs r t (at_parts GoesAsCharged us vs (subst (λ w. AllByRecursion GoesAsCharged (steps w)) p all)).1
   where
     head : {y z : Entry} {ys zs : List Entry} → y ∷ ys ≡ z ∷ zs → y ≡ z
     head e = cc
 
-    from : (us vs : List Going) → entries_of us ≡ before → entries_of vs ≡ e ∷ [] → AllByRecursion GoesRight (steps_after us vs) → charged e ≡ []
+    from : (us vs : List Going) → entries_of us ≡ before → entries_of vs ≡ e ∷ [] → AllByRecursion GoesAsCharged (steps_after us vs) → charged e ≡ []
     from us [] r t all = absurd (grind arith)
     from us (x ∷ vs) r t all = subst (λ w. charged w ≡ []) (head t) (not_charged us x all.0 (ap ticked (head t) ∙ still))
 

@@ -8,14 +8,14 @@ use Rattle.std.proofs.lemmas.Bool.{cases_eq, lt-ltb, ne_eqb}
 use Rattle.std.proofs.lemmas.List.{length-set, append-nil, map-append, take_more}
 use Rattle.srm_names.proofs.Lists.{AllByRecursion-append}
 use Rattle.srm_codec.specs.declared.datagram.Datagram.{Datagram}
-use Rattle.srm_timers.specs.Arms.{AreDrawn}
+use Rattle.srm_timers.specs.Arms.{AreChosen}
 use Rattle.srm_outbox.specs.declared.out.Out.{Out}
 use Rattle.srm_entries.specs.declared.entry.Entry.{Entry}
 use Rattle.srm_entries.specs.declared.entry.Input.{Input}
 use Rattle.srm_entries.specs.declared.entry.Input.TheVariants.{Ticked}
 use Rattle.srm_entries.specs.declared.entry.Verdict.{Verdict}
 use Rattle.srm_entries.specs.declared.entry.Verdict.TheVariants.{Done, Ignored, Refused}
-use Rattle.srm_entries.specs.Entries.{heard, heard_in, done_input, is_tick, sent, state, is_gone, last_moment}
+use Rattle.srm_entries.specs.Entries.{accepted, heard_in, done_input, is_tick, sent, state, is_gone, last_moment}
 use Rattle.srm_entries.specs.Configs.{Config}
 use Rattle.srm_entries.specs.Timers.{low_of, high_of}
 use Rattle.srm_entries.specs.Runs.{EntryRight, IsMemberRun}
@@ -28,11 +28,11 @@ use Rattle.srm_world.specs.declared.event.Event.{Event}
 use Rattle.srm_world.specs.declared.event.Event.TheVariants.{Deliver}
 use Rattle.srm_world.specs.declared.start.Start.{Start}
 use Rattle.srm_world.specs.Traces.{Trace, of_member, IsRoster, IsAtPlace, IsRunOfMember, IsRunOf, IsHonest}
-use Rattle.srm_world.specs.Events.{member_of, moment_in, input_of, in_slot, comes, asked, made_at, last_of_member, FollowsOne, Follows}
+use Rattle.srm_world.specs.Events.{member_of, moment_in, input_of, in_slot, input_heard, required_input, made_at, last_of_member, FollowsOne, Follows}
 use Rattle.srm_world.specs.Claims.{IsLawful}
-use Rattle.srm_world.specs.Words.{Played, AreByOwnWords, PlaysByWords}
+use Rattle.srm_world.specs.WaitWords.{WorldView, AreByOwnWords, PlaysByWords}
 use Rattle.srm_world.specs.Participants.{Content, Fits, Adds, GoesOn, Stays, HearsBytes, SendsOuts, AreOutsOf}
-use Rattle.srm_world.specs.Worlds.{words_of, AllFit, AreSent, AreWorld, Enters, EntersAll, Skips, Keeps, Appends, Steps, after_entry}
+use Rattle.srm_world.specs.Worlds.{words_of, AllFit, AreSent, AreWorld, EntersTrace, EntersAll, Skips, KeepsParticipants, Appends, Happens, after_entry}
 use Rattle.srm_world.proofs.Members.{of_member-append, of_member-own}
 use Rattle.srm_world.proofs.Laning.{get_set_same, get_set_other, get_map, at_place}
 use Rattle.srm_world.proofs.Wording.{plays_nothing, plays_one, sources_stay, plays_still, plays_on}
@@ -77,7 +77,7 @@ fit_set starts ps es new m a p q all start at fits others k b x there_a there = 
     which (inr differ) = subst (λ (ys : List Entry). Fits b.config b.made ys x) (sym (others k differ)) (all k b x there_a (sym (get_set_other ps m k q differ) ∙ there))
 
 -- a member whose call was refused for memory
-pub keeps_at : {W : Type 0} (ps : List (Content W)) (sents : List Out) (i : ℕ) (d q : Content W) → i < length ps → Stays (get_or ps i d) q → Keeps ps (slice_set ps i q) sents sents
+pub keeps_at : {W : Type 0} (ps : List (Content W)) (sents : List Out) (i : ℕ) (d q : Content W) → i < length ps → Stays (get_or ps i d) q → KeepsParticipants ps (slice_set ps i q) sents sents
 keeps_at ps sents i d q lt h = record {
   fits = λ starts es all. stays starts es all;
   words = sources_stay ps i d q h.words;
@@ -94,7 +94,7 @@ keeps_at ps sents i d q lt h = record {
             subst (Fits b.config b.made (of_member k es)) is (h.fits b.config b.made (of_member k es) (all k b (get_or ps i d) there_b (ap (slice_get ps) same ∙ slice_get-get_or ps i d lt)))
         which (inr differ) = all k b x there_b (sym (get_set_other ps i k q differ) ∙ there)
 
-pub keeps_all : {W : Type 0} (ps : List (Content W)) (sents : List Out) → Keeps ps ps sents sents
+pub keeps_all : {W : Type 0} (ps : List (Content W)) (sents : List Out) → KeepsParticipants ps ps sents sents
 keeps_all ps sents = record { fits = λ starts es all. all; words = refl; count = refl; sent = refl }
 
 heard_by : (v : Verdict) (input : Input) (gs : List Datagram) → IfSome (heard_in (Some input)) (Contains gs) → IfSome (heard_in (done_input v input)) (Contains gs)
@@ -128,7 +128,7 @@ called draw ps sents t event i d q input e w lt goes =
 
 enters : {W : Type 0} (draw : W → ℕ × W) (ps : List (Content W)) (sents more : List Out) (t : Trace) (event : Event) (i : ℕ) (d q : Content W) (input : Input) (e : Entry) → AreWorld ps sents t → i < length ps → i ≡ member_of event
     → GoesOn draw (moment_in event) input (get_or ps i d) q e → Called ps t event i q e → input_of t.entries event ≡ Some input → IfSome (heard_in (Some input)) (Contains (sent t.entries)) → AreSent t.starts more (t.entries ++ e ∷ [])
-    → Enters t.starts t.entries event (slice_set ps i q) more e
+    → EntersTrace t.starts t.entries event (slice_set ps i q) more e
 enters draw ps sents more t event i d q input e w lt named goes c asks hears sends = record {
   asks = rw (lt-ltb (member_of event) (length t.starts) (omega (arith, lt, w.count, named))) (asks ∙ ap Some (sym goes.input_is));
   is_entry = record {
@@ -168,7 +168,7 @@ one_session t es m a run at n b there =
 by_words : {W : Type 0} (draw : W → ℕ × W) (ps : List (Content W)) (sents : List Out) (t : Trace) (event : Event) (i : ℕ) (d q : Content W) (input : Input) (e : Entry) → AreWorld ps sents t → i < length ps
     → GoesOn draw (moment_in event) input (get_or ps i d) q e → Called ps t event i q e → AreByOwnWords draw t.starts (words_of ps) (e ∷ []) (words_of (slice_set ps i q))
 by_words draw ps sents t event i d q input e w lt goes c = plays_one draw t.starts ps i d q e c.start lt c.at c.mine
-    (subst (λ (s : Config). AreDrawn draw (low_of s) (high_of s) (get_or ps i d).agent.words e.effects.arms q.agent.words) (w.fit i c.start (get_or ps i d) c.at (slice_get-get_or ps i d lt)).agent.config goes.words)
+    (subst (λ (s : Config). AreChosen draw (low_of s) (high_of s) (get_or ps i d).agent.words e.effects.arms q.agent.words) (w.fit i c.start (get_or ps i d) c.at (slice_get-get_or ps i d lt)).agent.config goes.words)
 
 -- a call that is no tick and hears nothing
 pub enters_at : {W : Type 0} (draw : W → ℕ × W) (ps : List (Content W)) (sents : List Out) (event : Event) (i : ℕ) (d q : Content W) (now : Option ℕ) (input : Input) (e : Entry) → i < length ps → i ≡ member_of event → now ≡ moment_in event
@@ -203,11 +203,11 @@ datagram_at starts sents es index o s at = ap (λ gs. slice_get gs index) (sym s
 contained : (gs : List Datagram) (index : ℕ) (g : Datagram) → slice_get gs index ≡ Some g → Contains gs g
 contained gs index g at = (index, slice_get_within gs index g at, get_or_from_slice_get gs index g g at)
 
-heard_was_sent : (gone : Bool) (g : Datagram) (gs : List Datagram) → Contains gs g → IfSome (heard_in (Some (comes gone g))) (Contains gs)
+heard_was_sent : (gone : Bool) (g : Datagram) (gs : List Datagram) → Contains gs g → IfSome (heard_in (Some (input_heard gone g))) (Contains gs)
 heard_was_sent true g gs h = tt
 heard_was_sent false g gs h = h
 
-no_tick : (gone : Bool) (g : Datagram) → is_tick (comes gone g) ≡ false
+no_tick : (gone : Bool) (g : Datagram) → is_tick (input_heard gone g) ≡ false
 no_tick true g = refl
 no_tick false g = refl
 
@@ -221,10 +221,10 @@ delivers_at draw ps sents event i member now index o d q e is lt named at goes r
       let fits = w.fit i c.start (get_or ps i d) c.at (slice_get-get_or ps i d lt) in
       let there : slice_get (sent t.entries) index ≡ Some o.datagram = datagram_at t.starts sents t.entries index (Some o) w.sent at in
       let out : IsOut c.start.config.session o = by_place (IsOut c.start.config.session) sents index o (w.sent.spelled i c.start c.at) at in
-      let input : e.input ≡ comes (is_gone (state (of_member i t.entries))) o.datagram = reads.each c.start.config c.start.made (of_member i t.entries) o.datagram fits out.spelled in
+      let input : e.input ≡ input_heard (is_gone (state (of_member i t.entries))) o.datagram = reads.each c.start.config c.start.made (of_member i t.entries) o.datagram fits out.spelled in
       let me : i ≡ member = named ∙ ap member_of is in
       let asks : input_of t.entries event ≡ Some e.input =
-      ap (input_of t.entries) is ∙ ap (option_map (comes (is_gone (state (of_member member t.entries))))) there ∙ ap (λ k. Some (comes (is_gone (state (of_member k t.entries))) o.datagram)) (sym me) ∙ ap Some (sym input) in
+      ap (input_of t.entries) is ∙ ap (option_map (input_heard (is_gone (state (of_member member t.entries))))) there ∙ ap (λ k. Some (input_heard (is_gone (state (of_member k t.entries))) o.datagram)) (sym me) ∙ ap Some (sym input) in
       enters draw ps sents sents t event i d q e.input e w lt named goes c asks
       (subst (λ x. IfSome (heard_in (Some x)) (Contains (sent t.entries))) (sym input) (heard_was_sent (is_gone (state (of_member i t.entries))) o.datagram (sent t.entries) (contained (sent t.entries) index o.datagram there)))
       (sends_nothing t.starts sents t.entries e w.sent (unticked_sends_nothing c.start.config c.start.made (of_member i t.entries) e c.run (ap is_tick input ∙ no_tick (is_gone (state (of_member i t.entries))) o.datagram)));
@@ -241,7 +241,7 @@ either_way false o e = refl
 pub skips_unsent : {W : Type 0} (ps : List (Content W)) (sents : List Out) (event : Event) (member now index : ℕ) → event ≡ Deliver member now index → slice_get sents index ≡ None → Skips ps ps sents sents event
 skips_unsent ps sents event member now index is past = record {
   nothing = λ t w. either_way (nat_lt (member_of event) (length t.starts)) (input_of t.entries event)
-      (ap (input_of t.entries) is ∙ ap (option_map (comes (is_gone (state (of_member member t.entries))))) (datagram_at t.starts sents t.entries index None w.sent past));
+      (ap (input_of t.entries) is ∙ ap (option_map (input_heard (is_gone (state (of_member member t.entries))))) (datagram_at t.starts sents t.entries index None w.sent past));
   same = refl;
   sent = refl;
 }
@@ -286,11 +286,11 @@ world_more draw old new sents more t now event e is w all = subst (AreWorld new 
     let es : List Entry = t.entries ++ e ∷ [] in
     let h = all.enters t w in
     let run : IsRunOf t.starts es = run_more t.starts es new w.lawful.run.roster (all.count ∙ w.count) h.fit (AllByRecursion-append (λ (x : Entry). x.member < length t.starts) t.entries (e ∷ []) w.lawful.run.inside (h.inside, tt)) in
-    let honest : IsHonest es = steps_more (λ s. IfSome (heard s.this) (Contains (sent s.before))) t.entries e w.lawful.honest h.hears in
+    let honest : IsHonest es = steps_more (λ s. IfSome (accepted s.this) (Contains (sent s.before))) t.entries e w.lawful.honest h.hears in
     record { count = all.count ∙ w.count; fit = h.fit; sent = h.sent; lawful = lawful (record { starts = t.starts; entries = es }) run honest })
 
 -- after a call that left the trace as it was
-pub world_same : {W : Type 0} (old new : List (Content W)) (sents more : List Out) (t : Trace) → AreWorld old sents t → Keeps old new sents more → AreWorld new more t
+pub world_same : {W : Type 0} (old new : List (Content W)) (sents more : List Out) (t : Trace) → AreWorld old sents t → KeepsParticipants old new sents more → AreWorld new more t
 world_same old new sents more t w keeps = record {
   count = keeps.count ∙ w.count;
   fit = keeps.fits t.starts t.entries w.fit;
@@ -298,13 +298,13 @@ world_same old new sents more t w keeps = record {
   lawful = w.lawful;
 }
 
-pub skips_keep : {W : Type 0} (old new : List (Content W)) (sents more : List Out) (event : Event) → Skips old new sents more event → Keeps old new sents more
+pub skips_keep : {W : Type 0} (old new : List (Content W)) (sents more : List Out) (event : Event) → Skips old new sents more event → KeepsParticipants old new sents more
 skips_keep old new sents more event skips = record { fits = λ starts es all. subst (λ ps. AllFit starts ps es) (sym skips.same) all; words = ap words_of skips.same; count = ap length skips.same; sent = skips.sent }
 
 pub followed : {W : Type 0} (draw : W → ℕ × W) (old new : List (Content W)) (sents more : List Out) (t : Trace) (event : Event) (e : Entry) → AreWorld old sents t → EntersAll draw old new sents more event e → FollowsOne t.starts t.entries event (t.entries ++ e ∷ [])
 followed draw old new sents more t event e w all = let h = all.enters t w in rw h.asks (e, h.is_entry, refl)
 
-pub was_asked : {W : Type 0} (draw : W → ℕ × W) (old new : List (Content W)) (sents more : List Out) (t : Trace) (event : Event) (e : Entry) → AreWorld old sents t → EntersAll draw old new sents more event e → IsSome (asked t.starts t.entries event)
+pub was_asked : {W : Type 0} (draw : W → ℕ × W) (old new : List (Content W)) (sents more : List Out) (t : Trace) (event : Event) (e : Entry) → AreWorld old sents t → EntersAll draw old new sents more event e → IsSome (required_input t.starts t.entries event)
 was_asked draw old new sents more t event e w all = let h = all.enters t w in rw h.asks refl
 
 pub was_skipped : {W : Type 0} (old new : List (Content W)) (sents more : List Out) (t : Trace) (event : Event) → AreWorld old sents t → Skips old new sents more event → FollowsOne t.starts t.entries event t.entries
@@ -331,9 +331,9 @@ appended_follows draw old new sents more t now event true w (e, all, is) = subst
 appended_follows draw old new sents more t now event false w (skips, is) = subst (λ (x : Trace). FollowsOne t.starts t.entries event x.entries) (sym is) (was_skipped old new sents more t event w skips)
 
 pub appended_asked : {W : Type 0} (draw : W → ℕ × W) (old new : List (Content W)) (sents more : List Out) (t now : Trace) (event : Event) (applied : Bool) → AreWorld old sents t → Appends draw old new sents more event t now applied
-    → IsTrue applied ↔ IsSome (asked t.starts t.entries event)
+    → IsTrue applied ↔ IsSome (required_input t.starts t.entries event)
 appended_asked draw old new sents more t now event true w (e, all, is) = ((λ h. was_asked draw old new sents more t event e w all), (λ h. refl))
-appended_asked draw old new sents more t now event false w (skips, is) = ((λ h. absurd (cc)), (λ h. absurd (no_input (asked t.starts t.entries event) (skips.nothing t w) h)))
+appended_asked draw old new sents more t now event false w (skips, is) = ((λ h. absurd (cc)), (λ h. absurd (no_input (required_input t.starts t.entries event) (skips.nothing t w) h)))
   where
     no_input : (o : Option Input) → o ≡ None → IsSome o → ⊥
     no_input None e h = absurd (cc)
@@ -355,19 +355,19 @@ appended_words draw first old new items sents more t now event applied first_is 
     plays false (skips, is) = record { added = []; grown = ap (λ (x : Trace). x.entries) is ∙ sym (append-nil t.entries); words = plays_nothing draw t.starts (words_of old) (words_of new) (ap words_of skips.same) }
 
 -- how far a run of events has come
-pub record RunsTo {W : Type 0} (draw : W → ℕ × W) (old : Played W) (events : List Event) (i : ℕ) (now : Played W) : Type 0 where
+pub record RunsTo {W : Type 0} (draw : W → ℕ × W) (old : WorldView W) (events : List Event) (i : ℕ) (now : WorldView W) : Type 0 where
   pub follows : Follows old.trace.starts old.trace.entries (take i events) now.trace.entries
   pub starts : now.trace.starts ≡ old.trace.starts
   pub words : PlaysByWords draw old now
   pub lawful : IsLawful now.trace
 
-pub runs_from : {W : Type 0} (draw : W → ℕ × W) (old : Played W) (events : List Event) → IsLawful old.trace → RunsTo draw old events 0 old
+pub runs_from : {W : Type 0} (draw : W → ℕ × W) (old : WorldView W) (events : List Event) → IsLawful old.trace → RunsTo draw old events 0 old
 runs_from draw old events law = record { follows = refl; starts = refl; words = plays_still draw old; lawful = law }
 
-pub stepped : {W : Type 0} (draw : W → ℕ × W) (event : Event) (old new : Played W) → FollowsOne old.trace.starts old.trace.entries event new.trace.entries → new.trace.starts ≡ old.trace.starts → PlaysByWords draw old new → IsLawful new.trace → Steps draw event old new
+pub stepped : {W : Type 0} (draw : W → ℕ × W) (event : Event) (old new : WorldView W) → FollowsOne old.trace.starts old.trace.entries event new.trace.entries → new.trace.starts ≡ old.trace.starts → PlaysByWords draw old new → IsLawful new.trace → Happens draw event old new
 stepped draw event old new follows starts words law = record { follows = follows; starts = starts; words = words; lawful = law }
 
-pub runs_on : {W : Type 0} (draw : W → ℕ × W) (old between now : Played W) (events : List Event) (i : ℕ) (event : Event) → RunsTo draw old events i between → i < length events → event ≡ get_or events i event → Steps draw event between now → RunsTo draw old events (i + 1) now
+pub runs_on : {W : Type 0} (draw : W → ℕ × W) (old between now : WorldView W) (events : List Event) (i : ℕ) (event : Event) → RunsTo draw old events i between → i < length events → event ≡ get_or events i event → Happens draw event between now → RunsTo draw old events (i + 1) now
 runs_on draw old between now events i event h l at s = record {
   follows = subst (λ es. Follows old.trace.starts old.trace.entries es now.trace.entries) (sym (take_more events i event l))
       (follows_more old.trace.starts old.trace.entries between.trace.entries now.trace.entries (take i events) (get_or events i event) h.follows

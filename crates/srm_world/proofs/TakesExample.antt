@@ -23,13 +23,13 @@ use Rattle.srm_entries.specs.declared.entry.Input.TheVariants.{Drew, Heard, Tick
 use Rattle.srm_entries.specs.Entries.{heard_in, is_missing, state}
 use Rattle.srm_entries.specs.Timers.{asker, fix_running}
 use Rattle.srm_entries.specs.Verdicts.{VerdictRight}
-use Rattle.srm_entries.specs.Sessions.{SessionRight, ReportRight, row_at, row_due, if_positive}
-use Rattle.srm_entries.specs.Bucket.{Going, GoesRight, classed, bucket_calls}
+use Rattle.srm_entries.specs.Sessions.{SessionRight, ReportRight, number_in_rows, expected_row, if_positive}
+use Rattle.srm_entries.specs.Bucket.{Going, GoesAsCharged, classed, bucket_calls}
 use Rattle.srm_entries.specs.Giving.{MessageRight}
-use Rattle.srm_entries.specs.Runs.{EntryRight, IsMemberRun, MomentRight, drawop_due, state_due}
+use Rattle.srm_entries.specs.Runs.{EntryRight, IsMemberRun, MomentRight, expected_drawop, expected_state}
 use Rattle.srm_entries.specs.declared.entry.Verdict.TheVariants.{Done}
 use Rattle.srm_world.specs.Traces.{Trace, taken_by, IsRun, IsHonest}
-use Rattle.srm_entries.specs.Sample.{zeros, idle}
+use Rattle.srm_entries.specs.Sample.{first_stream, idle}
 use Rattle.srm_entries.proofs.Plain.{one, config, plain, idle_right, one_spelled, row_spelled, neither, right, one_held, none_missing_in, missing_none, one_of, went_one, all_gone, one_goes}
 
 abbrev draws : Entry
@@ -42,7 +42,7 @@ abbrev asks_leave : Entry
 asks_leave = plain 0 20 AskedLeave None [] None Leaving
 
 abbrev farewell : Datagram
-farewell = Session 0 21 true first_page (named zeros 1 ∷ []) []
+farewell = Session 0 21 true first_page (named first_stream 1 ∷ []) []
 
 farewell_spelled : IsSpellable farewell
 farewell_spelled = (lit< tt, lit≤ tt, (lit< tt, lit< tt), record { few = lit< tt; names = (row_spelled, tt); rising = refl; sources = ((λ e. refl), tt) }, record { few = lit< tt; each = tt; rising = refl })
@@ -73,15 +73,15 @@ missing_told n = none_missing_in (hears ∷ hears_parting ∷ []) one_held (λ n
 
 -- the member that draws and leaves
 
-row_right : (s : Stream) → row_at (named zeros 1 ∷ []) s ≡ row_due (config 0) (draws ∷ sends ∷ asks_leave ∷ []) true s
-row_right s = which (same_stream s zeros) refl
+row_right : (s : Stream) → number_in_rows (named first_stream 1 ∷ []) s ≡ expected_row (config 0) (draws ∷ sends ∷ asks_leave ∷ []) true s
+row_right s = which (same_stream s first_stream) refl
   where
-    which : (b : Bool) → same_stream s zeros ≡ b
-        → option_map (λ (n : FullName). n.number) (if b then Some (named zeros 1) else None) ≡ (if s.source == 0 then if_positive (greatest (one_of b ++ [])) else None)
-    which true e = ap (λ (t : Stream). if t.source == 0 then Some 1 else None) (sym (same_stream-is s zeros e))
+    which : (b : Bool) → same_stream s first_stream ≡ b
+        → option_map (λ (n : FullName). n.number) (if b then Some (named first_stream 1) else None) ≡ (if s.source == 0 then if_positive (greatest (one_of b ++ [])) else None)
+    which true e = ap (λ (t : Stream). if t.source == 0 then Some 1 else None) (sym (same_stream-is s first_stream e))
     which false e = neither (s.source == 0)
 
-report_right : ReportRight (config 0) (draws ∷ sends ∷ asks_leave ∷ []) 21 true (named zeros 1 ∷ [])
+report_right : ReportRight (config 0) (draws ∷ sends ∷ asks_leave ∷ []) 21 true (named first_stream 1 ∷ [])
 report_right = record { in_order = refl; exact = row_right }
 
 abbrev first_run : List Entry
@@ -115,7 +115,7 @@ first_law = let first = one_goes 8000 4204 4 New one_data.item (lit≤ tt, lit�
     ends_too : CallRight 8000 4204 (went_one 4 New one_data.item ++ Popped 4 None ∷ []) (went_one 4 New one_data.item ++ Popped 4 None ∷ Popped 21 None ∷ []) (Popped 21 None)
     ends_too = record { in_order = all_gone 4 New one_data.item; highest_first = tt; not_too_much = (lit≤ tt, lit≤ tt, (lit≤ tt, lit≤ tt, tt)); all_that_may = tt }
 
-first_goes : AllByRecursion GoesRight (steps goings)
+first_goes : AllByRecursion GoesAsCharged (steps goings)
 first_goes = (idle_right refl, (record { same = refl; at_ticks = tt }, (idle_right refl, (idle_right refl, tt))))
 
 first_right : IsMemberRun (config 0) 0 first_run
@@ -136,8 +136,8 @@ before_takes = before_gives ++ gives opens ∷ gives (Draw one) ∷ gives (Left 
 later : (before : List Entry) (input : Input) (message : Option PageMsg) → ((n : FullName) → is_missing before n ≡ false)
     → ((n : FullName) → is_missing (before ++ plain 1 31 input None [] message Active ∷ []) n ≡ false)
     → ((n : FullName) → asker n (plain 1 31 input None [] message Active) ≡ None) → ((n : FullName) → fix_running before n ≡ None) → MomentRight (config 1) 0 before (plain 1 31 input None [] message Active)
-    → VerdictRight (config 1) before input Done → None ≡ drawop_due (config 1) before 31 (Some input) → IfSome (heard_in (Some input)) IsSpellable
-    → SessionRight (config 1) 0 before (plain 1 31 input None [] message Active) → MessageRight (config 1) before input message → Active ≡ state_due (state before) false (Some input)
+    → VerdictRight (config 1) before input Done → None ≡ expected_drawop (config 1) before 31 (Some input) → IfSome (heard_in (Some input)) IsSpellable
+    → SessionRight (config 1) 0 before (plain 1 31 input None [] message Active) → MessageRight (config 1) before input message → Active ≡ expected_state (state before) false (Some input)
     → EntryRight (config 1) 0 (record { before = before; this = plain 1 31 input None [] message Active })
 later before input message p1 p2 p3 p4 p5 p6 p7 read p8 p9 p10 = right (config 1) 0 before 1 31 input None [] message Active p1 p2 p3 p4 refl p5 p6 p7 tt tt read p8 p9 p10
 

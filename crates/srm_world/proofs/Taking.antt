@@ -14,7 +14,7 @@ use Rattle.srm_names.proofs.Feeds.{is_page_feed-front, left_is_last}
 use Rattle.srm_entries.specs.declared.entry.Entry.{Entry}
 use Rattle.srm_store.specs.Held.{has_name, greatest_in}
 use Rattle.srm_entries.specs.Entries.{drawn, drawn_on, held, held_at, released, slots}
-use Rattle.srm_store.specs.Finals.{row_of}
+use Rattle.srm_store.specs.Finals.{row_number}
 use Rattle.srm_entries.specs.Verdicts.{stream_on}
 use Rattle.srm_entries.specs.Giving.{given, taken}
 use Rattle.srm_entries.proofs.Drawing.{drawn_at}
@@ -66,7 +66,7 @@ slot_whole starts es run honest m j source page feeds takes left =
     ap length (left_is_last source (taken_by es m j) (given (of_member m es) j) takes feeds.fed left) in
     let (rows, t, r) = final_told (of_member m es) (stream_on source page) (length (drawops_of source (given (of_member m es) j)))
     (slot_left (of_member m es) page (given (of_member m es) j) source feeds given_left) in
-    let l : length (drawn_by es source page) ≤ row_of rows (stream_on source page) = told_is_true starts es run honest m source rows t page in
+    let l : length (drawn_by es source page) ≤ row_number rows (stream_on source page) = told_is_true starts es run honest m source rows t page in
     front_whole (drawops_of source (taken_by es m j)) (drawn_by es source page) (slot_takes starts es run honest m j source page feeds takes) (omega arith)
 
 member_feeds : (es : List Entry) (m : ℕ) (r : MemberRun m es) → FeedsRight r.config (of_member m es)

@@ -6,7 +6,7 @@ use Rattle.std.proofs.lemmas.Grind.{flat_map-append}
 use Rattle.std.proofs.lemmas.List.{append-nil, length-set, length-map}
 use Rattle.std.proofs.lemmas.Option.{same_Some, slice_get-get_or, slice_get_within}
 use Rattle.srm_timers.specs.declared.arm.Arm.{Arm}
-use Rattle.srm_timers.specs.Arms.{AreDrawn}
+use Rattle.srm_timers.specs.Arms.{AreChosen}
 use Rattle.srm_outbox.specs.declared.out.Out.{Out}
 use Rattle.srm_entries.specs.declared.entry.Entry.{Entry}
 use Rattle.srm_entries.specs.declared.entry.Input.{Input}
@@ -18,23 +18,23 @@ use Rattle.srm_agent.specs.Noting.{Enters}
 use Rattle.srm_world.specs.declared.start.Start.{Start}
 use Rattle.srm_world.specs.Traces.{Trace, Journal, of_member}
 use Rattle.srm_world.specs.Participants.{Content}
-use Rattle.srm_world.specs.Words.{Recorded, Played, AreByWords, AreByOwnWords, RecordsByWords, PlaysByWords, arms_in}
+use Rattle.srm_world.specs.WaitWords.{RecorderView, WorldView, AreByWords, AreByOwnWords, RecordsByWords, PlaysByWords, arms_in}
 use Rattle.srm_world.specs.Worlds.{AreWorld, words_of}
 use Rattle.srm_world.proofs.Laning.{get_set_same, get_set_other, get_map, at_place}
 use Rattle.srm_world.proofs.Members.{of_member-append}
 
 -- one source
 
-drawn-append : {W : Type 0} (draw : W → ℕ × W) (low high : Arm → ℕ) (from mid to : W) (xs ys : List Arm) → AreDrawn draw low high from xs mid → AreDrawn draw low high mid ys to → AreDrawn draw low high from (xs ++ ys) to
-drawn-append draw low high from mid to [] ys h k = subst (λ w. AreDrawn draw low high w ys to) h k
+drawn-append : {W : Type 0} (draw : W → ℕ × W) (low high : Arm → ℕ) (from mid to : W) (xs ys : List Arm) → AreChosen draw low high from xs mid → AreChosen draw low high mid ys to → AreChosen draw low high from (xs ++ ys) to
+drawn-append draw low high from mid to [] ys h k = subst (λ w. AreChosen draw low high w ys to) h k
 drawn-append draw low high from mid to (a ∷ xs) ys h k = (h.0, drawn-append draw low high (draw from).1 mid to xs ys h.1 k)
 
-by_one : {W : Type 0} (draw : W → ℕ × W) (c : Config) (from to : W) (e : Entry) → AreDrawn draw (low_of c) (high_of c) from e.effects.arms to → AreByWords draw c from (e ∷ []) to
-by_one draw c from to e h = subst (λ xs. AreDrawn draw (low_of c) (high_of c) from xs to) (sym (append-nil e.effects.arms)) h
+by_one : {W : Type 0} (draw : W → ℕ × W) (c : Config) (from to : W) (e : Entry) → AreChosen draw (low_of c) (high_of c) from e.effects.arms to → AreByWords draw c from (e ∷ []) to
+by_one draw c from to e h = subst (λ xs. AreChosen draw (low_of c) (high_of c) from xs to) (sym (append-nil e.effects.arms)) h
 
 pub by_more : {W : Type 0} (draw : W → ℕ × W) (c : Config) (from mid to : W) (xs ys : List Entry) → AreByWords draw c from xs mid → AreByWords draw c mid ys to → AreByWords draw c from (xs ++ ys) to
 by_more draw c from mid to xs ys h k =
-    subst (λ as_. AreDrawn draw (low_of c) (high_of c) from as_ to) (sym (flat_map-append (λ (e : Entry). e.effects.arms) xs ys)) (drawn-append draw (low_of c) (high_of c) from mid to (arms_in xs) (arms_in ys) h k)
+    subst (λ as_. AreChosen draw (low_of c) (high_of c) from as_ to) (sym (flat_map-append (λ (e : Entry). e.effects.arms) xs ys)) (drawn-append draw (low_of c) (high_of c) from mid to (arms_in xs) (arms_in ys) h k)
 
 -- a recorder
 
@@ -43,14 +43,14 @@ pub recorded_by : {W : Type 0} (draw : W → ℕ × W) (now : Option ℕ) (input
 recorded_by draw now input j a b e es fits enters is = record {
   added = e ∷ [];
   grown = is;
-  words = by_one draw j.start.config a.words b.words e (subst (λ (c : Config). AreDrawn draw (low_of c) (high_of c) a.words e.effects.arms b.words) fits.config enters.words);
+  words = by_one draw j.start.config a.words b.words e (subst (λ (c : Config). AreChosen draw (low_of c) (high_of c) a.words e.effects.arms b.words) fits.config enters.words);
 }
 
 pub unrecorded : {W : Type 0} (draw : W → ℕ × W) (j : Journal) (from to : W) (es : List Entry) → es ≡ j.entries → to ≡ from → RecordsByWords draw (record { journal = j; words = from }) (record { journal = record { start = j.start; entries = es }; words = to })
 unrecorded draw j from to es is same = record { added = []; grown = is ∙ sym (append-nil j.entries); words = same }
 
 -- the same in terms of what contracts see
-pub no_words_recorded : {W : Type 0} (draw : W → ℕ × W) (old new : Recorded W) → new ≡ old → RecordsByWords draw old new
+pub no_words_recorded : {W : Type 0} (draw : W → ℕ × W) (old new : RecorderView W) → new ≡ old → RecordsByWords draw old new
 no_words_recorded draw old new same = subst (RecordsByWords draw old) (sym same) (record { added = []; grown = sym (append-nil old.journal.entries); words = refl })
 
 -- a world
@@ -67,7 +67,7 @@ plays_nothing draw starts from to same = record {
 
 -- the source of one member went on
 pub plays_one : {W : Type 0} (draw : W → ℕ × W) (starts : List Start) (ps : List (Content W)) (i : ℕ) (d q : Content W) (e : Entry) (a : Start) → i < length ps → slice_get starts i ≡ Some a → e.member ≡ i
-    → AreDrawn draw (low_of a.config) (high_of a.config) (get_or ps i d).agent.words e.effects.arms q.agent.words → AreByOwnWords draw starts (words_of ps) (e ∷ []) (words_of (slice_set ps i q))
+    → AreChosen draw (low_of a.config) (high_of a.config) (get_or ps i d).agent.words e.effects.arms q.agent.words → AreByOwnWords draw starts (words_of ps) (e ∷ []) (words_of (slice_set ps i q))
 plays_one {W = W} draw starts ps i d q e a lt at mine drawn = record {
   count = length-map (slice_set ps i q) source ∙ length-set ps i q ∙ sym (length-map ps source);
   each = λ m b u v at_b at_u at_v. which m b u v at_b at_u at_v (cases_eq m i);
@@ -109,19 +109,19 @@ plays_more draw starts from mid to xs ys h k = record {
 }
 
 -- what contracts see of a world
-abbrev pub played : {W : Type 0} → Trace → List W → Played W
+abbrev pub played : {W : Type 0} → Trace → List W → WorldView W
 played t ws = record { trace = t; words = ws }
 
 pub same_played : {W : Type 0} (t now : Trace) (ws all : List W) → t ≡ now → ws ≡ all → played t ws ≡ played now all
 same_played t now ws all same taken = ap (λ (x : Trace). played x ws) same ∙ ap (played now) taken
 
-pub plays_still : {W : Type 0} (draw : W → ℕ × W) (p : Played W) → PlaysByWords draw p p
+pub plays_still : {W : Type 0} (draw : W → ℕ × W) (p : WorldView W) → PlaysByWords draw p p
 plays_still draw p = record { added = []; grown = sym (append-nil p.trace.entries); words = plays_nothing draw p.trace.starts p.words p.words refl }
 
-pub plays_kept : {W : Type 0} (draw : W → ℕ × W) (old new : Played W) → new ≡ old → PlaysByWords draw old new
+pub plays_kept : {W : Type 0} (draw : W → ℕ × W) (old new : WorldView W) → new ≡ old → PlaysByWords draw old new
 plays_kept draw old new same = subst (PlaysByWords draw old) (sym same) (plays_still draw old)
 
-pub plays_on : {W : Type 0} (draw : W → ℕ × W) (old between now : Played W) → PlaysByWords draw old between → between.trace.starts ≡ old.trace.starts → PlaysByWords draw between now → PlaysByWords draw old now
+pub plays_on : {W : Type 0} (draw : W → ℕ × W) (old between now : WorldView W) → PlaysByWords draw old between → between.trace.starts ≡ old.trace.starts → PlaysByWords draw between now → PlaysByWords draw old now
 plays_on draw old between now h starts k = record {
   added = h.added ++ k.added;
   grown = k.grown ∙ ap (λ es. es ++ k.added) h.grown ∙ append_assoc old.trace.entries h.added k.added;

@@ -10,7 +10,7 @@ use Rattle.srm_codec.specs.declared.datagram.Datagram.TheVariants.{Session}
 use Rattle.srm_entries.specs.declared.fault.AgentFault.TheVariants.{Memory}
 use Rattle.srm_entries.specs.declared.entry.Entry.{Entry}
 use Rattle.srm_entries.specs.declared.entry.Verdict.TheVariants.{Refused}
-use Rattle.srm_entries.specs.Entries.{heard, known, is_missing, released, slots}
+use Rattle.srm_entries.specs.Entries.{accepted, known, is_missing, released, slots}
 use Rattle.srm_entries.specs.Verdicts.{stream_on}
 use Rattle.srm_entries.specs.Runs.{IsMemberRun, RespondsInTime}
 use Rattle.srm_entries.specs.Promises.{GivesReleased}
@@ -45,7 +45,7 @@ pub record HeardLast (es : List Entry) (m k : ℕ) (page : Page) : Type 0 where
   pub of_k : sending.member ≡ k
   pub sent : Contains sending.effects.outs report
   pub is_report : IsReportOn k page report
-  pub came : Contains (map heard (of_member m after)) (Some report)
+  pub came : Contains (map accepted (of_member m after)) (Some report)
   pub same : (source : ℕ) → known (of_member k (before ++ sending ∷ [])) (stream_on source page) ≡ known (of_member k es) (stream_on source page)
 
 abbrev pub NoneMissingOn : List Entry → Page → Type 0

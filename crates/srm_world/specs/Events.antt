@@ -1,6 +1,6 @@
 -- What a list of events does to a trace.
 use Rattle.std.specs.Prelude.{◌≡◌, ℕ, ◌≤◌, nat_lt, Bool, true, false, List, [], ◌∷◌, ◌++◌, length, Option, Some, None, option_map, unwrap_or, slice_get, if◌then◌else◌, MatchOption, IfSome}
-use Rattle.srm_names.specs.declared.limits.TheConstants.{PAGES, MOMENT}
+use Rattle.srm_names.specs.declared.limits.TheConstants.{PAGES, LATEST_MOMENT}
 use Rattle.srm_codec.specs.declared.datagram.Datagram.{Datagram}
 use Rattle.srm_entries.specs.declared.entry.Entry.{Entry}
 use Rattle.srm_entries.specs.declared.entry.Input.{Input}
@@ -32,12 +32,12 @@ moment_in (Take member slot) = None
 
 -- the event's moment is one that members can count
 abbrev pub IsTimely : Event → Type 0
-IsTimely event = IfSome (moment_in event) (λ now. now ≤ MOMENT)
+IsTimely event = IfSome (moment_in event) (λ now. now ≤ LATEST_MOMENT)
 
 -- a datagram that comes to a gone member is noise
-abbrev pub comes : Bool → Datagram → Input
-comes true g = Noise
-comes false g = Heard g
+abbrev pub input_heard : Bool → Datagram → Input
+input_heard true g = Noise
+input_heard false g = Heard g
 
 abbrev pub in_slot : ℕ → Input → Option Input
 in_slot slot input = if nat_lt slot PAGES then Some input else None
@@ -45,7 +45,7 @@ in_slot slot input = if nat_lt slot PAGES then Some input else None
 -- what the event asks of its member, unless there is no such datagram or slot
 abbrev pub input_of : List Entry → Event → Option Input
 input_of es (Draw member now page body) = Some (Drew page body)
-input_of es (Deliver member now index) = option_map (comes (is_gone (state (of_member member es)))) (slice_get (sent es) index)
+input_of es (Deliver member now index) = option_map (input_heard (is_gone (state (of_member member es)))) (slice_get (sent es) index)
 input_of es (Tick member now) = Some Ticked
 input_of es (Show member now page) = Some (Showed page)
 input_of es (Leave member now) = Some AskedLeave
@@ -53,8 +53,8 @@ input_of es (Give member slot) = in_slot slot (Gave slot)
 input_of es (Take member slot) = in_slot slot (Took slot)
 
 -- what the event asks of a member of the session, unless it is skipped
-abbrev pub asked : List Start → List Entry → Event → Option Input
-asked starts es event = if nat_lt (member_of event) (length starts) then input_of es event else None
+abbrev pub required_input : List Start → List Entry → Event → Option Input
+required_input starts es event = if nat_lt (member_of event) (length starts) then input_of es event else None
 
 -- when a member was made
 abbrev pub made_at : List Start → ℕ → ℕ
@@ -73,7 +73,7 @@ pub record IsEntryOf (starts : List Start) (es : List Entry) (event : Event) (in
 -- the new entries are the old ones and one of the event, or just the old ones where it is skipped
 abbrev pub FollowsOne : List Start → List Entry → Event → List Entry → Type 0
 FollowsOne starts old event new =
-    MatchOption (asked starts old event) (new ≡ old) (λ input. (e : Entry) × IsEntryOf starts old event input e × (new ≡ old ++ e ∷ []))
+    MatchOption (required_input starts old event) (new ≡ old) (λ input. (e : Entry) × IsEntryOf starts old event input e × (new ≡ old ++ e ∷ []))
 
 -- the new entries are the old ones, followed by one for each event that isn't skipped, in order
 abbrev pub Follows : List Start → List Entry → List Event → List Entry → Type 0

@@ -14,7 +14,7 @@ use Rattle.srm_entries.specs.declared.entry.Input.{Input}
 use Rattle.srm_entries.specs.declared.entry.Input.TheVariants.{Heard, Noise, Ticked, Showed, AskedLeave, Gave, Took}
 use Rattle.srm_entries.specs.Entries.{sent}
 use Rattle.srm_entries.specs.Giving.{given}
-use Rattle.srm_entries.specs.Sample.{in_roster, zeros, a, b, c, draws, hears, ticks, gives, takes, ask_arm}
+use Rattle.srm_entries.specs.Sample.{in_roster, first_stream, first_drawop, second_drawop, third_drawop, draws, hears, ticks, gives, takes, ask_arm}
 use Rattle.srm_entries.specs.FirstScript as first
 use Rattle.srm_entries.specs.SecondScript as second
 use Rattle.srm_agent.specs.Noting.{moment_that_counts}
@@ -22,8 +22,8 @@ use Rattle.srm_world.specs.declared.event.Event.{Event}
 use Rattle.srm_world.specs.declared.event.Event.TheVariants as events
 use Rattle.srm_world.specs.declared.start.Start.{Start}
 use Rattle.srm_world.specs.Traces.{of_member, drawn_by, taken_by, is_take, IsHonest, IsUntaken}
-use Rattle.srm_world.specs.Words.{Recorded, Played, AreByWords, AreByOwnWords, RecordsByWords, PlaysByWords}
-use Rattle.srm_world.specs.Events.{member_of, moment_in, asked, last_of_member, IsEntryOf, Follows}
+use Rattle.srm_world.specs.WaitWords.{RecorderView, WorldView, AreByWords, AreByOwnWords, RecordsByWords, PlaysByWords}
+use Rattle.srm_world.specs.Events.{member_of, moment_in, required_input, last_of_member, IsEntryOf, Follows}
 
 abbrev start : ℕ → ℕ → Start
 start members me = record { config = in_roster me members 4204; made = 0 }
@@ -53,40 +53,40 @@ first_trace = first.member_0 ++ first.member_1
 first_follows : Follows two [] first_events first_trace
 first_follows = (
   take 1 first_trace,
-  (draws 0 1 a, is refl refl refl, refl),
+  (draws 0 1 first_drawop, is refl refl refl, refl),
   (
     take 2 first_trace,
-    (draws 0 2 b, is refl refl refl, refl),
+    (draws 0 2 second_drawop, is refl refl refl, refl),
     (
       take 3 first_trace,
-      (draws 0 3 c, is refl refl refl, refl),
+      (draws 0 3 third_drawop, is refl refl refl, refl),
       (
         take 4 first_trace,
-        (ticks 0 4 [] [] [] (Data a ∷ Data b ∷ Data c ∷ []), is refl refl refl, refl),
+        (ticks 0 4 [] [] [] (Data first_drawop ∷ Data second_drawop ∷ Data third_drawop ∷ []), is refl refl refl, refl),
         (
           take 5 first_trace,
-          (hears 1 10 (Data c) (ask_arm 1 0 200000 ∷ ask_arm 2 0 200000 ∷ []), is refl refl refl, refl),
+          (hears 1 10 (Data third_drawop) (ask_arm 1 0 200000 ∷ ask_arm 2 0 200000 ∷ []), is refl refl refl, refl),
           (
             take 6 first_trace,
-            (hears 1 11 (Data a) [], is refl refl refl, refl),
+            (hears 1 11 (Data first_drawop) [], is refl refl refl, refl),
             (
               take 7 first_trace,
-              (hears 1 12 (Data a) [], is refl refl refl, refl),
+              (hears 1 12 (Data first_drawop) [], is refl refl refl, refl),
               (
                 take 8 first_trace,
-                (hears 1 13 (Data b) [], is refl refl refl, refl),
+                (hears 1 13 (Data second_drawop) [], is refl refl refl, refl),
                 (
                   take 9 first_trace,
                   (gives 1 13 (Some (Open first_page)), is refl refl refl, refl),
                   (
                     take 10 first_trace,
-                    (gives 1 13 (Some (Draw a)), is refl refl refl, refl),
+                    (gives 1 13 (Some (Draw first_drawop)), is refl refl refl, refl),
                     (
                       take 11 first_trace,
-                      (gives 1 13 (Some (Draw b)), is refl refl refl, refl),
+                      (gives 1 13 (Some (Draw second_drawop)), is refl refl refl, refl),
                       (
                         take 12 first_trace,
-                        (gives 1 13 (Some (Draw c)), is refl refl refl, refl),
+                        (gives 1 13 (Some (Draw third_drawop)), is refl refl refl, refl),
                         (
                           take 13 first_trace,
                           (gives 1 13 None, is refl refl refl, refl),
@@ -95,13 +95,13 @@ first_follows = (
                             (takes 1 13 (Some (Open first_page)), is refl refl refl, refl),
                             (
                               take 15 first_trace,
-                              (takes 1 13 (Some (Draw a)), is refl refl refl, refl),
+                              (takes 1 13 (Some (Draw first_drawop)), is refl refl refl, refl),
                               (
                                 take 16 first_trace,
-                                (takes 1 13 (Some (Draw b)), is refl refl refl, refl),
+                                (takes 1 13 (Some (Draw second_drawop)), is refl refl refl, refl),
                                 (
                                   take 17 first_trace,
-                                  (takes 1 13 (Some (Draw c)), is refl refl refl, refl),
+                                  (takes 1 13 (Some (Draw third_drawop)), is refl refl refl, refl),
                                   (
                                     take 18 first_trace,
                                     (takes 1 13 None, is refl refl refl, refl),
@@ -128,7 +128,7 @@ first_follows = (
 first_own_entries : map (λ m. of_member m first_trace) (0 ∷ 1 ∷ 2 ∷ []) ≡ first.member_0 ∷ first.member_1 ∷ [] ∷ []
 first_own_entries = refl
 
-first_sent : sent first_trace ≡ Data a ∷ Data b ∷ Data c ∷ []
+first_sent : sent first_trace ≡ Data first_drawop ∷ Data second_drawop ∷ Data third_drawop ∷ []
 first_sent = refl
 
 first_is_honest : IsHonest first_trace
@@ -151,13 +151,13 @@ second_trace = second.member_0 ++ second.heard_by_2 ++ second.before_repair
 second_follows : Follows three [] second_events second_trace
 second_follows = (
   take 1 second_trace,
-  (draws 0 1 a, is refl refl refl, refl),
+  (draws 0 1 first_drawop, is refl refl refl, refl),
   (
     take 2 second_trace,
-    (draws 0 2 b, is refl refl refl, refl),
+    (draws 0 2 second_drawop, is refl refl refl, refl),
     (
       take 3 second_trace,
-      (draws 0 3 c, is refl refl refl, refl),
+      (draws 0 3 third_drawop, is refl refl refl, refl),
       (
         take 4 second_trace,
         (second.sends, is refl refl refl, refl),
@@ -169,19 +169,19 @@ second_follows = (
             (second.parts, is refl refl refl, refl),
             (
               take 7 second_trace,
-              (hears 2 30 (Data a) [], is refl refl refl, refl),
+              (hears 2 30 (Data first_drawop) [], is refl refl refl, refl),
               (
                 take 8 second_trace,
-                (hears 2 31 (Data b) [], is refl refl refl, refl),
+                (hears 2 31 (Data second_drawop) [], is refl refl refl, refl),
                 (
                   take 9 second_trace,
-                  (hears 2 32 (Data c) [], is refl refl refl, refl),
+                  (hears 2 32 (Data third_drawop) [], is refl refl refl, refl),
                   (
                     take 10 second_trace,
-                    (hears 1 30 (Data a) [], is refl refl refl, refl),
+                    (hears 1 30 (Data first_drawop) [], is refl refl refl, refl),
                     (
                       take 11 second_trace,
-                      (hears 1 31 (Data c) (ask_arm 2 0 200000 ∷ []), is refl refl refl, refl),
+                      (hears 1 31 (Data third_drawop) (ask_arm 2 0 200000 ∷ []), is refl refl refl, refl),
                       (
                         take 12 second_trace,
                         (hears 1 32 second.farewell [], is refl refl refl, refl),
@@ -190,7 +190,7 @@ second_follows = (
                           (gives 1 32 (Some (Open first_page)), is refl refl refl, refl),
                           (
                             take 14 second_trace,
-                            (gives 1 32 (Some (Draw a)), is refl refl refl, refl),
+                            (gives 1 32 (Some (Draw first_drawop)), is refl refl refl, refl),
                             (
                               take 15 second_trace,
                               (gives 1 32 None, is refl refl refl, refl),
@@ -199,7 +199,7 @@ second_follows = (
                                 (ticks 1 200030 [] [] [] [], is refl refl refl, refl),
                                 (
                                   take 17 second_trace,
-                                  (ticks 1 200031 (named zeros 2 ∷ []) [] (ask_arm 2 1 400000 ∷ []) (second.asks_b ∷ []), is refl refl refl, refl),
+                                  (ticks 1 200031 (named first_stream 2 ∷ []) [] (ask_arm 2 1 400000 ∷ []) (second.asks_b ∷ []), is refl refl refl, refl),
                                   (
                                     take 18 second_trace,
                                     (second.asked_of_2, is refl refl refl, refl),
@@ -214,10 +214,10 @@ second_follows = (
                                           (second.repaired_at_1, is refl refl refl, refl),
                                           (
                                             take 22 second_trace,
-                                            (gives 1 200100 (Some (Draw b)), is refl refl refl, refl),
+                                            (gives 1 200100 (Some (Draw second_drawop)), is refl refl refl, refl),
                                             (
                                               take 23 second_trace,
-                                              (gives 1 200100 (Some (Draw c)), is refl refl refl, refl),
+                                              (gives 1 200100 (Some (Draw third_drawop)), is refl refl refl, refl),
                                               (
                                                 take 24 second_trace,
                                                 (gives 1 200100 (Some (Left 0)), is refl refl refl, refl),
@@ -254,7 +254,7 @@ second_follows = (
 second_own_entries : map (λ m. of_member m second_trace) (0 ∷ 1 ∷ 2 ∷ []) ≡ second.member_0 ∷ second.member_1 ∷ second.member_2 ∷ []
 second_own_entries = refl
 
-second_sent : sent second_trace ≡ Data a ∷ Data b ∷ Data c ∷ second.farewell ∷ second.asks_b ∷ Repair 2 b ∷ []
+second_sent : sent second_trace ≡ Data first_drawop ∷ Data second_drawop ∷ Data third_drawop ∷ second.farewell ∷ second.asks_b ∷ Repair 2 second_drawop ∷ []
 second_sent = refl
 
 second_is_honest : IsHonest second_trace
@@ -267,21 +267,21 @@ given_is_drawn = refl
 abbrev other_page : Page
 other_page = record { creator = 1; number = 0 }
 
-asked_after : map (asked two first_trace) (events.Show 0 50 other_page ∷ events.Leave 1 50 ∷ events.Tick 1 50 ∷ events.Deliver 1 50 2 ∷ events.Give 1 7 ∷ events.Take 0 7 ∷ [])
-    ≡ Some (Showed other_page) ∷ Some AskedLeave ∷ Some Ticked ∷ Some (Heard (Data c)) ∷ Some (Gave 7) ∷ Some (Took 7) ∷ []
+asked_after : map (required_input two first_trace) (events.Show 0 50 other_page ∷ events.Leave 1 50 ∷ events.Tick 1 50 ∷ events.Deliver 1 50 2 ∷ events.Give 1 7 ∷ events.Take 0 7 ∷ [])
+    ≡ Some (Showed other_page) ∷ Some AskedLeave ∷ Some Ticked ∷ Some (Heard (Data third_drawop)) ∷ Some (Gave 7) ∷ Some (Took 7) ∷ []
 asked_after = refl
 
-skipped : map (asked two first_trace) (events.Tick 2 50 ∷ events.Deliver 2 50 0 ∷ events.Deliver 1 50 3 ∷ events.Give 1 8 ∷ events.Take 1 8 ∷ []) ≡ None ∷ None ∷ None ∷ None ∷ None ∷ []
+skipped : map (required_input two first_trace) (events.Tick 2 50 ∷ events.Deliver 2 50 0 ∷ events.Deliver 1 50 3 ∷ events.Give 1 8 ∷ events.Take 1 8 ∷ []) ≡ None ∷ None ∷ None ∷ None ∷ None ∷ []
 skipped = refl
 
-not_sent_yet : asked two [] (events.Deliver 1 5 0) ≡ None
+not_sent_yet : required_input two [] (events.Deliver 1 5 0) ≡ None
 not_sent_yet = refl
 
 skipping_follows : Follows two [] (events.Deliver 1 5 0 ∷ []) []
 skipping_follows = ([], refl, refl)
 
 -- a datagram that comes to a gone member is noise
-noise : asked three second_trace (events.Deliver 0 50 5) ≡ Some Noise
+noise : required_input three second_trace (events.Deliver 0 50 5) ≡ Some Noise
 noise = refl
 
 -- a moment before the last one counts as the last
@@ -291,7 +291,7 @@ moments = refl
 -- words: a timer's wait is by the next word of its member's source
 
 abbrev hears_c : (wait : ℕ) → Entry
-hears_c wait = hears 1 10 (Data c) (ask_arm 1 0 wait ∷ [])
+hears_c wait = hears 1 10 (Data third_drawop) (ask_arm 1 0 wait ∷ [])
 
 first_waits : AreByWords draw_listed (in_roster 1 2 4204) [] first.member_1 []
 first_waits = (refl, (refl, refl))
@@ -307,7 +307,7 @@ another_wait h = let k : 200007 ≡ 200005 = h.0 in absurd (omega (arith, k))
 
 -- two timers of one entry take two words, in their order
 abbrev two_arms : Entry
-two_arms = hears 1 10 (Data c) (ask_arm 1 0 200005 ∷ ask_arm 2 0 200007 ∷ [])
+two_arms = hears 1 10 (Data third_drawop) (ask_arm 1 0 200005 ∷ ask_arm 2 0 200007 ∷ [])
 
 in_their_order : AreByWords draw_listed (in_roster 1 2 4204) (5 ∷ 7 ∷ []) (two_arms ∷ []) []
 in_their_order = (refl, (refl, refl))
@@ -316,7 +316,7 @@ not_swapped : AreByWords draw_listed (in_roster 1 2 4204) (7 ∷ 5 ∷ []) (two_
 not_swapped h = let k : 200005 ≡ 200007 = h.0 in absurd (omega (arith, k))
 
 -- and so do those of two entries
-over_two_entries : AreByWords draw_listed (in_roster 1 2 4204) (5 ∷ 7 ∷ []) (hears_c 200005 ∷ hears 1 11 (Data c) (ask_arm 2 0 200007 ∷ []) ∷ []) []
+over_two_entries : AreByWords draw_listed (in_roster 1 2 4204) (5 ∷ 7 ∷ []) (hears_c 200005 ∷ hears 1 11 (Data third_drawop) (ask_arm 2 0 200007 ∷ []) ∷ []) []
 over_two_entries = (refl, (refl, refl))
 
 no_word_without_a_timer : AreByWords draw_listed (in_roster 1 2 4204) (5 ∷ 7 ∷ []) [] (7 ∷ []) → ⊥
@@ -340,7 +340,7 @@ the_other_source_stays h = absurd (let k : no_words ≡ 5 ∷ [] = h.each 0 (sta
 
 -- what a recorder and a world gained is by the words that went
 
-abbrev recorded : List Entry → List ℕ → Recorded (List ℕ)
+abbrev recorded : List Entry → List ℕ → RecorderView (List ℕ)
 recorded entries words = record { journal = record { start = start 2 1; entries = entries }; words = words }
 
 one_entry_recorded : RecordsByWords draw_listed (recorded [] (5 ∷ 7 ∷ [])) (recorded (hears_c 200005 ∷ []) (7 ∷ []))
@@ -349,7 +349,7 @@ one_entry_recorded = record { added = hears_c 200005 ∷ []; grown = refl; words
 no_word_goes_unrecorded : RecordsByWords draw_listed (recorded [] (5 ∷ 7 ∷ [])) (recorded [] (7 ∷ [])) → ⊥
 no_word_goes_unrecorded h = absurd (let k : 7 ∷ [] ≡ 5 ∷ 7 ∷ [] = subst (λ es. AreByWords draw_listed (in_roster 1 2 4204) (5 ∷ 7 ∷ []) es (7 ∷ [])) (sym h.grown) h.words in cc)
 
-abbrev played : List Entry → List (List ℕ) → Played (List ℕ)
+abbrev played : List Entry → List (List ℕ) → WorldView (List ℕ)
 played entries words = record { trace = record { starts = two; entries = entries }; words = words }
 
 one_entry_played : PlaysByWords draw_listed (played [] ((5 ∷ []) ∷ (7 ∷ []) ∷ [])) (played (hears_c 200007 ∷ []) ((5 ∷ []) ∷ [] ∷ []))

@@ -4,7 +4,7 @@ use Rattle.std.specs.List.{AllByRecursion}
 use Rattle.srm_codec.specs.declared.datagram.Datagram.{Datagram}
 use Rattle.srm_codec.specs.Spelling.{Spells}
 use Rattle.srm_outbox.specs.declared.out.Out.{Out}
-use Rattle.srm_timers.specs.Arms.{AreDrawn}
+use Rattle.srm_timers.specs.Arms.{AreChosen}
 use Rattle.srm_entries.specs.declared.state.AgentState.{AgentState}
 use Rattle.srm_entries.specs.declared.entry.Entry.{Entry}
 use Rattle.srm_entries.specs.declared.entry.Input.{Input}
@@ -19,7 +19,7 @@ use Rattle.srm_agent.specs.Fits as agents_fit
 use Rattle.srm_agent.specs.Noting.{moment_that_counts}
 use Rattle.srm_outbox.specs.Outs.{IsOut}
 use Rattle.srm_world.specs.declared.participant.Participant.TheInside.{Inside}
-use Rattle.srm_world.specs.Events.{comes}
+use Rattle.srm_world.specs.Events.{input_heard}
 use Rattle.srm_world.specs.Lane.{LaneContent}
 
 pub record Content (W : Type 0) : Type 0 where
@@ -58,7 +58,7 @@ pub record Adds {W : Type 0} (c : Config) (made : ℕ) (past : List Entry) (now 
 pub record GoesOn {W : Type 0} (draw : W → ℕ × W) (now : Option ℕ) (input : Input) (old new : Content W) (e : Entry) : Type 0 where
   pub input_is : e.input ≡ input
   pub adds : (c : Config) (made : ℕ) (past : List Entry) → Fits c made past old → Adds c made past now new e
-  pub words : AreDrawn draw (low_of old.agent.config) (high_of old.agent.config) old.agent.words e.effects.arms new.agent.words
+  pub words : AreChosen draw (low_of old.agent.config) (high_of old.agent.config) old.agent.words e.effects.arms new.agent.words
 
 -- whatever entries the member fitted, it still fits, and no word was drawn
 pub record Stays {W : Type 0} (old new : Content W) : Type 0 where
@@ -68,7 +68,7 @@ pub record Stays {W : Type 0} (old new : Content W) : Type 0 where
 -- where the bytes spell a datagram, the entry is of this datagram, or of noise where the member is gone
 pub record HearsBytes {W : Type 0} (bytes : List ℕ) (old : Content W) (e : Entry) : Type 0 where
   pub each : (c : Config) (made : ℕ) (past : List Entry) (g : Datagram) → Fits c made past old → Spells c.session g bytes
-      → e.input ≡ comes (is_gone (state past)) g
+      → e.input ≡ input_heard (is_gone (state past)) g
 
 -- these are the datagrams of the entry, each with its spelling in the session
 pub record AreOutsOf (session : ℕ) (e : Entry) (outs : List Out) : Type 0 where

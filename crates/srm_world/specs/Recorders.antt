@@ -6,12 +6,12 @@ use Rattle.srm_agent.specs.Fits.{Fits}
 use Rattle.srm_entries.specs.declared.entry.Entry.{Entry}
 use Rattle.srm_world.specs.declared.start.Start.{Start}
 use Rattle.srm_world.specs.Traces.{Journal, IsUntaken}
-use Rattle.srm_world.specs.Words.{Recorded}
+use Rattle.srm_world.specs.WaitWords.{RecorderView}
 
 abbrev pub journal_of : Start → List Entry → Journal
 journal_of start past = record { start = start; entries = past }
 
-abbrev pub recorded_of : {W : Type 0} → Start → List Entry → Content W → Recorded W
+abbrev pub recorded_of : {W : Type 0} → Start → List Entry → Content W → RecorderView W
 recorded_of start past agent = record { journal = journal_of start past; words = agent.words }
 
 -- the agent fits the entries, and none of them is a take

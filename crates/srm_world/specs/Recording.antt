@@ -57,7 +57,7 @@ pub record HearsAll (now : ℕ) (all : List (List ℕ)) (old new : Journal) : Ty
   pub each : HearsEach now old all entries
 
 -- memory ran out: for each of those in front of one of them
-pub record HearsFront (now : ℕ) (all : List (List ℕ)) (old new : Journal) : Type 0 where
+pub record HearsPrefix (now : ℕ) (all : List (List ℕ)) (old new : Journal) : Type 0 where
   pub count : ℕ
   pub few : count < length all
   pub front : HearsAll now (take count all) old new
@@ -65,4 +65,4 @@ pub record HearsFront (now : ℕ) (all : List (List ℕ)) (old new : Journal) : 
 -- Each was heard, or memory ran out at one of them.
 abbrev pub RecordsAll : ℕ → List (List ℕ) → Journal → Journal → Result (Unit {0}) AgentFault → Type 0
 RecordsAll now all old new (Ok _) = HearsAll now all old new
-RecordsAll now all old new (Err fault) = (fault ≡ Memory) × HearsFront now all old new
+RecordsAll now all old new (Err fault) = (fault ≡ Memory) × HearsPrefix now all old new

@@ -1,7 +1,7 @@
 -- The datagrams that a world has sent.
 use Rattle.std.specs.Prelude.{List, ◌++◌}
 use Rattle.srm_outbox.specs.declared.out.Out.{Out}
-use Rattle.srm_world.specs.declared.sent.Sent.TheInside.{Inside}
+use Rattle.srm_world.specs.declared.sent.SentDatagrams.TheInside.{Inside}
 
 -- those of the ticks before, and those of the last one
 pub record SentContent : Type 0 where

@@ -9,7 +9,7 @@ use Rattle.srm_entries.specs.declared.entry.Entry.{Entry}
 use Rattle.srm_entries.specs.declared.entry.Input.{Input}
 use Rattle.srm_entries.specs.declared.entry.Input.TheVariants.{Took}
 use Rattle.srm_entries.specs.Configs.{Config}
-use Rattle.srm_entries.specs.Entries.{heard, sent, drawn_on}
+use Rattle.srm_entries.specs.Entries.{accepted, sent, drawn_on}
 use Rattle.srm_entries.specs.Giving.{taken}
 use Rattle.srm_entries.specs.Runs.{IsMemberRun}
 use Rattle.srm_world.specs.declared.start.Start.{Start}
@@ -50,7 +50,7 @@ taken_by es m j = taken (of_member m es) j
 
 -- each datagram that was heard and taken had been sent before
 abbrev pub IsHonest : List Entry → Type 0
-IsHonest es = AllByRecursion (λ (s : Step Entry). IfSome (heard s.this) (Contains (sent s.before))) (steps es)
+IsHonest es = AllByRecursion (λ (s : Step Entry). IfSome (accepted s.this) (Contains (sent s.before))) (steps es)
 
 -- the settings at a place are those of this member, in a roster of so many
 abbrev pub IsAtPlace : ℕ → ℕ × Start → Type 0

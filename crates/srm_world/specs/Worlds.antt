@@ -3,14 +3,14 @@ use Rattle.std.specs.Prelude.{◌≡◌, ℕ, ◌<◌, Bool, true, false, List, 
 use Rattle.std.specs.List.{AllByRecursion}
 use Rattle.srm_entries.specs.declared.entry.Entry.{Entry}
 use Rattle.srm_outbox.specs.declared.out.Out.{Out}
-use Rattle.srm_entries.specs.Entries.{sent, heard}
+use Rattle.srm_entries.specs.Entries.{sent, accepted}
 use Rattle.srm_outbox.specs.Outs.{IsOut}
 use Rattle.srm_world.specs.declared.event.Event.{Event}
 use Rattle.srm_world.specs.declared.start.Start.{Start}
 use Rattle.srm_world.specs.declared.world.World.TheInside.{Inside}
 use Rattle.srm_world.specs.Traces.{Trace, of_member}
-use Rattle.srm_world.specs.Words.{Played, AreByOwnWords, PlaysByWords}
-use Rattle.srm_world.specs.Events.{IsEntryOf, FollowsOne, asked}
+use Rattle.srm_world.specs.WaitWords.{WorldView, AreByOwnWords, PlaysByWords}
+use Rattle.srm_world.specs.Events.{IsEntryOf, FollowsOne, required_input}
 use Rattle.srm_world.specs.Claims.{IsLawful}
 use Rattle.srm_world.specs.Participants.{Content, Fits}
 use Rattle.srm_world.specs.Sent.{all_of}
@@ -35,35 +35,35 @@ pub record AreWorld {W : Type 0} (ps : List (Content W)) (sents : List Out) (t :
 abbrev pub words_of : {W : Type 0} → List (Content W) → List W
 words_of {W = W} ps = map (λ (p : Content W). p.agent.words) ps
 
-abbrev pub played_of : {W : Type 0} → Inside W → Played W
+abbrev pub played_of : {W : Type 0} → Inside W → WorldView W
 played_of w = record { trace = w.trace; words = words_of w.participants.items }
 
 abbrev pub IsWorld : {W : Type 0} → Inside W → Type 0
 IsWorld w = AreWorld w.participants.items (all_of w.sent) w.trace
 
 -- the entry is of the event and hears only what was sent; the members and what was sent go on with it
-pub record Enters {W : Type 0} (starts : List Start) (es : List Entry) (event : Event) (ps : List (Content W)) (sents : List Out) (e : Entry) : Type 0 where
-  pub asks : asked starts es event ≡ Some e.input
+pub record EntersTrace {W : Type 0} (starts : List Start) (es : List Entry) (event : Event) (ps : List (Content W)) (sents : List Out) (e : Entry) : Type 0 where
+  pub asks : required_input starts es event ≡ Some e.input
   pub is_entry : IsEntryOf starts es event e.input e
   pub inside : e.member < length starts
-  pub hears : IfSome (heard e) (Contains (sent es))
+  pub hears : IfSome (accepted e) (Contains (sent es))
   pub fit : AllFit starts ps (es ++ e ∷ [])
   pub sent : AreSent starts sents (es ++ e ∷ [])
 
 -- the same, in whatever world these were the members and what was sent, and its waits are by words
 pub record EntersAll {W : Type 0} (draw : W → ℕ × W) (old new : List (Content W)) (sents more : List Out) (event : Event) (e : Entry) : Type 0 where
-  pub enters : (t : Trace) → AreWorld old sents t → Enters t.starts t.entries event new more e
+  pub enters : (t : Trace) → AreWorld old sents t → EntersTrace t.starts t.entries event new more e
   pub words : (t : Trace) → AreWorld old sents t → AreByOwnWords draw t.starts (words_of old) (e ∷ []) (words_of new)
   pub count : length new ≡ length old
 
 -- the event asks nothing of any member
 pub record Skips {W : Type 0} (old new : List (Content W)) (sents more : List Out) (event : Event) : Type 0 where
-  pub nothing : (t : Trace) → AreWorld old sents t → asked t.starts t.entries event ≡ None
+  pub nothing : (t : Trace) → AreWorld old sents t → required_input t.starts t.entries event ≡ None
   pub same : new ≡ old
   pub sent : more ≡ sents
 
 -- nothing was sent, no word was drawn, and the members fit what they did
-pub record Keeps {W : Type 0} (old new : List (Content W)) (sents more : List Out) : Type 0 where
+pub record KeepsParticipants {W : Type 0} (old new : List (Content W)) (sents more : List Out) : Type 0 where
   pub fits : (starts : List Start) (es : List Entry) → AllFit starts old es → AllFit starts new es
   pub words : words_of new ≡ words_of old
   pub count : length new ≡ length old
@@ -78,7 +78,7 @@ Appends draw old new sents more event t now true = (e : Entry) × EntersAll draw
 Appends draw old new sents more event t now false = Skips old new sents more event × (now ≡ t)
 
 -- one event of a run
-pub record Steps {W : Type 0} (draw : W → ℕ × W) (event : Event) (old new : Played W) : Type 0 where
+pub record Happens {W : Type 0} (draw : W → ℕ × W) (event : Event) (old new : WorldView W) : Type 0 where
   pub follows : FollowsOne old.trace.starts old.trace.entries event new.trace.entries
   pub starts : new.trace.starts ≡ old.trace.starts
   pub words : PlaysByWords draw old new

@@ -1,7 +1,7 @@
 //! One member of a world.
 
 ghost use Rattle.std.specs.Prelude.{◌≡◌, ◌≤◌, [], Some, IfOk, OnErr};
-ghost use Rattle.srm_names.specs.declared.limits.TheConstants.{MOMENT};
+ghost use Rattle.srm_names.specs.declared.limits.TheConstants.{LATEST_MOMENT};
 ghost use Rattle.srm_world.specs.Participants.{Fits, GoesOn, Stays, last_with};
 
 mod taking;
@@ -43,7 +43,7 @@ impl<W: Words + Drop> Participant<W> {
         words: W,
         now: u64,
     ) -> Result<Participant<W>, AllocError>
-        requires { now ≤ MOMENT }
+        requires { now ≤ LATEST_MOMENT }
         ensures fits { IfOk result (Fits config now []) }
         ensures words { IfOk result (λ participant. participant.agent.words ≡ words) }
     {
@@ -59,7 +59,7 @@ impl<W: Words + Drop> Participant<W> {
 
     /// Draws on a page.
     pub fn draw(&mut self, page: Page, body: Bytes, now: u64) -> Result<Entry, AllocError>
-        requires { now ≤ MOMENT }
+        requires { now ≤ LATEST_MOMENT }
         ensures ok { IfOk result (GoesOn W.draw (Some now) (Input.Drew page body) self.old self.new) }
         ensures err { OnErr result (Stays self.old self.new) }
     {
@@ -70,7 +70,7 @@ impl<W: Words + Drop> Participant<W> {
 
     /// Shows a page.
     pub fn show(&mut self, page: Page, now: u64) -> Result<Entry, AllocError>
-        requires { now ≤ MOMENT }
+        requires { now ≤ LATEST_MOMENT }
         ensures ok { IfOk result (GoesOn W.draw (Some now) (Input.Showed page) self.old self.new) }
         ensures err { OnErr result (Stays self.old self.new) }
     {
@@ -81,7 +81,7 @@ impl<W: Words + Drop> Participant<W> {
 
     /// Begins to leave.
     pub fn leave(&mut self, now: u64) -> Result<Entry, AllocError>
-        requires { now ≤ MOMENT }
+        requires { now ≤ LATEST_MOMENT }
         ensures ok { IfOk result (GoesOn W.draw (Some now) Input.AskedLeave self.old self.new) }
         ensures err { OnErr result (Stays self.old self.new) }
     {

@@ -1,14 +1,14 @@
 //! An agent that keeps its journal.
 
 ghost use Rattle.std.specs.Prelude.{◌≡◌, ◌≤◌, ◌<◌, [], map, Some, None, IfOk};
-ghost use Rattle.srm_names.specs.declared.limits.TheConstants.{MOMENT, PAGES};
+ghost use Rattle.srm_names.specs.declared.limits.TheConstants.{LATEST_MOMENT, PAGES};
 ghost use Rattle.srm_agent.specs.Noting.{IsDrawnName, IsTicked};
 ghost use Rattle.srm_entries.specs.Promises.{page_to_come, IsNextDue};
 ghost use Rattle.srm_entries.specs.Entries.{state};
 ghost use Rattle.srm_entries.specs.Admitting.{AdmitsDraw, AdmitsDrawFrom};
 ghost use Rattle.srm_world.specs.Claims.{IsLawfulJournal};
 ghost use Rattle.srm_world.specs.Recording.{Records, RecordsHeard, RecordsAll};
-ghost use Rattle.srm_world.specs.Words.{RecordsByWords};
+ghost use Rattle.srm_world.specs.WaitWords.{RecordsByWords};
 
 use crate::forgotten::Forgotten;
 use crate::journal::Journal;
@@ -32,10 +32,10 @@ pub struct Recorder<W: Words + Drop, P: Past<Entry> + Drop = Vec<Entry>> {
 }
 
 impl<W: Words + Drop, P: Past<Entry> + Drop> Model for Recorder<W, P> {
-    ghost use Rattle.srm_world.specs.Words.{Recorded};
+    ghost use Rattle.srm_world.specs.WaitWords.{RecorderView};
     ghost use Rattle.srm_world.specs.Recorders.{journal_of, recorded_of, IsKept};
 
-    ghost Value = { Recorded W };
+    ghost Value = { RecorderView W };
 
     ghost view = { λ r. recorded_of r.start (P.entries r.past) r.agent };
 
@@ -45,7 +45,7 @@ impl<W: Words + Drop, P: Past<Entry> + Drop> Model for Recorder<W, P> {
 impl<W: Words + Drop> Recorder<W> {
     /// An agent that was made at a moment, in microseconds, at most 2^48, and did nothing yet. Only want of memory refuses it.
     pub fn new(alloc: Global, config: Config, words: W, now: u64) -> Result<Recorder<W>, AllocError>
-        requires { now ≤ MOMENT }
+        requires { now ≤ LATEST_MOMENT }
         ensures value { IfOk result (λ recorder. recorder ≡ record { journal = record { start = record { config = config; made = now }; entries = [] }; words = words }) }
     {
         Recorder::with_past(alloc, config, words, now, Vec::new(alloc))
@@ -67,7 +67,7 @@ impl<W: Words + Drop> Recorder<W, Forgotten<Entry>> {
         words: W,
         now: u64,
     ) -> Result<Recorder<W, Forgotten<Entry>>, AllocError>
-        requires { now ≤ MOMENT }
+        requires { now ≤ LATEST_MOMENT }
         ensures value { IfOk result (λ recorder. recorder ≡ record { journal = record { start = record { config = config; made = now }; entries = [] }; words = words }) }
     {
         Recorder::with_past(alloc, config, words, now, Forgotten::new())
@@ -83,7 +83,7 @@ impl<W: Words + Drop, P: Past<Entry> + Drop> Recorder<W, P> {
         now: u64,
         past: P,
     ) -> Result<Recorder<W, P>, AllocError>
-        requires moment { now ≤ MOMENT }
+        requires moment { now ≤ LATEST_MOMENT }
         requires past { P.entries past ≡ [] }
         ensures value { IfOk result (λ recorder. recorder ≡ record { journal = record { start = record { config = config; made = now }; entries = [] }; words = words }) }
     {
@@ -118,7 +118,7 @@ impl<W: Words + Drop, P: Past<Entry> + Drop> Recorder<W, P> {
     /// [`Agent::draw`].
     #[tactic(auto, using(crate::proofs::Journaling::records_drawn, crate::proofs::Wording::no_words_recorded, crate::proofs::Journaling::kept_same, crate::proofs::Journaling::entries_same))]
     pub fn draw(&mut self, page: Page, body: Bytes, now: u64) -> Result<Name, AgentFault>
-        requires { now ≤ MOMENT }
+        requires { now ≤ LATEST_MOMENT }
         ensures records { Records (Some now) (Input.Drew page body) IsDrawnName self.old.journal self.new.journal result }
         ensures words { RecordsByWords W.draw self.old self.new }
         ensures lawful { IsLawfulJournal self.new.journal }
@@ -131,7 +131,7 @@ impl<W: Words + Drop, P: Past<Entry> + Drop> Recorder<W, P> {
 
     /// [`Agent::show`].
     pub fn show(&mut self, page: Page, now: u64) -> Result<(), AgentFault>
-        requires { now ≤ MOMENT }
+        requires { now ≤ LATEST_MOMENT }
         ensures records { Records (Some now) (Input.Showed page) (λ _ _. Unit {0}) self.old.journal self.new.journal result }
         ensures words { RecordsByWords W.draw self.old self.new }
         ensures lawful { IsLawfulJournal self.new.journal }
@@ -145,7 +145,7 @@ impl<W: Words + Drop, P: Past<Entry> + Drop> Recorder<W, P> {
     /// [`Agent::hear`].
     #[tactic(auto, using(crate::proofs::Journaling::records_heard))]
     pub fn hear(&mut self, bytes: &[u8], now: u64) -> Result<Heard, AgentFault>
-        requires { now ≤ MOMENT }
+        requires { now ≤ LATEST_MOMENT }
         ensures records { RecordsHeard now bytes.now self.old.journal self.new.journal result }
         ensures words { RecordsByWords W.draw self.old self.new }
         ensures lawful { IsLawfulJournal self.new.journal }
@@ -159,7 +159,7 @@ impl<W: Words + Drop, P: Past<Entry> + Drop> Recorder<W, P> {
     /// Hears each of these at one moment, one after another, as [`hear`](Recorder::hear) would: also behind noise, and behind what is ignored. Want
     /// of memory alone refuses it; those in front of where memory ran out were heard then, and the others weren't.
     pub fn hear_all(&mut self, datagrams: &[Vec<u8>], now: u64) -> Result<(), AgentFault>
-        requires { now ≤ MOMENT }
+        requires { now ≤ LATEST_MOMENT }
         ensures records { RecordsAll now (map (λ bytes. bytes.items) datagrams.now) self.old.journal self.new.journal result }
         ensures words { RecordsByWords W.draw self.old self.new }
         ensures lawful { IsLawfulJournal self.new.journal }
@@ -174,7 +174,7 @@ impl<W: Words + Drop, P: Past<Entry> + Drop> Recorder<W, P> {
     /// [`Agent::tick`].
     #[tactic(auto, using(crate::proofs::Journaling::records_ticked, crate::proofs::Wording::no_words_recorded, crate::proofs::Journaling::kept_same, crate::proofs::Journaling::entries_same))]
     pub fn tick(&mut self, now: u64) -> Result<Ticked, AgentFault>
-        requires { now ≤ MOMENT }
+        requires { now ≤ LATEST_MOMENT }
         ensures records { Records (Some now) Input.Ticked (IsTicked self.old.journal.start.config.session) self.old.journal self.new.journal result }
         ensures words { RecordsByWords W.draw self.old self.new }
         ensures lawful { IsLawfulJournal self.new.journal }
@@ -187,7 +187,7 @@ impl<W: Words + Drop, P: Past<Entry> + Drop> Recorder<W, P> {
 
     /// [`Agent::leave`]. Here it can be refused for memory, which its entry takes.
     pub fn leave(&mut self, now: u64) -> Result<(), AgentFault>
-        requires { now ≤ MOMENT }
+        requires { now ≤ LATEST_MOMENT }
         ensures records { Records (Some now) Input.AskedLeave (λ _ _. Unit {0}) self.old.journal self.new.journal result }
         ensures words { RecordsByWords W.draw self.old self.new }
         ensures lawful { IsLawfulJournal self.new.journal }

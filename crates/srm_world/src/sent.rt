@@ -11,13 +11,13 @@ use std::marker::Model;
 
 /// All datagrams that were sent, with their bytes, in order of sending. Contracts see two lists.
 #[derive(Drop)]
-pub struct Sent {
+pub struct SentDatagrams {
     settled: Vec<Out>,
     /// What the last tick sent. It is settled before the next event, when a refusal of memory still changes nothing.
     newest: Vec<Out>,
 }
 
-impl Model for Sent {
+impl Model for SentDatagrams {
     ghost use Rattle.srm_world.specs.Sent.{SentContent, sent_of};
 
     ghost Value = { SentContent };
@@ -25,19 +25,19 @@ impl Model for Sent {
     ghost view = { sent_of };
 }
 
-impl Sent {
+impl SentDatagrams {
     /// Nothing was sent. It takes no memory.
-    pub fn new(alloc: Global) -> Sent
+    pub fn new(alloc: Global) -> SentDatagrams
         ensures { all_of result ≡ [] }
     {
-        Sent {
+        SentDatagrams {
             settled: Vec::new(alloc),
             newest: Vec::new(alloc),
         }
     }
 
     /// Makes room for what a tick sends.
-    pub fn settle(&mut self) -> Result<(), AllocError>
+    pub fn make_room(&mut self) -> Result<(), AllocError>
         ensures same { all_of self.new ≡ all_of self.old }
         ensures ok { OnOk result (self.new.newest ≡ []) }
     {

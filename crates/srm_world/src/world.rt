@@ -3,17 +3,17 @@
 ghost use Rattle.std.specs.Prelude.{◌≡◌, ◌<◌, ◌+◌, ◌↔◌, ℕ, [], ◌∷◌, length, take, All, IfOk, OnOk, OnErr, IsTrue, IsSome};
 ghost use Rattle.std.specs.Vec.Iter.{into_iter_items, into_iter_len};
 ghost use Rattle.srm_world.specs.Traces.{IsRoster, started};
-ghost use Rattle.srm_world.specs.Events.{Follows, FollowsOne, IsTimely, asked};
+ghost use Rattle.srm_world.specs.Events.{Follows, FollowsOne, IsTimely, required_input};
 ghost use Rattle.srm_world.specs.Claims.{IsLawful};
-ghost use Rattle.srm_world.specs.Words.{PlaysByWords};
-ghost use Rattle.srm_world.specs.Worlds.{Steps};
+ghost use Rattle.srm_world.specs.WaitWords.{PlaysByWords};
+ghost use Rattle.srm_world.specs.Worlds.{Happens};
 
 mod entering;
 
 use crate::event::Event;
 use crate::fault::WorldFault;
 use crate::participant::Participant;
-use crate::sent::Sent;
+use crate::sent::SentDatagrams;
 use crate::start::Start;
 use crate::trace::Trace;
 use srm_agent::Config;
@@ -31,15 +31,15 @@ use std::vec::IntoIter;
 pub struct World<W: Words + Drop> {
     /// By number.
     participants: Vec<Participant<W>>,
-    sent: Sent,
+    sent: SentDatagrams,
     trace: Trace,
 }
 
 impl<W: Words + Drop> Model for World<W> {
-    ghost use Rattle.srm_world.specs.Words.{Played};
+    ghost use Rattle.srm_world.specs.WaitWords.{WorldView};
     ghost use Rattle.srm_world.specs.Worlds.{IsWorld, played_of};
 
-    ghost Value = { Played W };
+    ghost Value = { WorldView W };
 
     ghost view = { played_of };
 
@@ -68,7 +68,7 @@ impl<W: Words + Drop> World<W> {
         }
         Ok(World {
             participants,
-            sent: Sent::new(alloc),
+            sent: SentDatagrams::new(alloc),
             trace: Trace {
                 starts,
                 entries: Vec::new(alloc),
@@ -93,7 +93,7 @@ impl<W: Words + Drop> World<W> {
     pub fn apply(&mut self, event: Event) -> Result<bool, WorldFault>
         requires { IsTimely event }
         ensures follows { OnOk result (FollowsOne self.old.trace.starts self.old.trace.entries event self.new.trace.entries) }
-        ensures applied { IfOk result (λ applied. IsTrue applied ↔ IsSome (asked self.old.trace.starts self.old.trace.entries event)) }
+        ensures applied { IfOk result (λ applied. IsTrue applied ↔ IsSome (required_input self.old.trace.starts self.old.trace.entries event)) }
         ensures err { OnErr result (self.new ≡ self.old) }
         ensures starts { self.new.trace.starts ≡ self.old.trace.starts }
         ensures words { PlaysByWords W.draw self.old self.new }
@@ -125,7 +125,7 @@ impl<W: Words + Drop> World<W> {
     #[tactic(auto, using(crate::proofs::Stepping::stepped))]
     fn step(&mut self, event: &Event) -> Result<(), WorldFault>
         requires { IsTimely event.now }
-        ensures ok { OnOk result (Steps W.draw event.now self.old self.new) }
+        ensures ok { OnOk result (Happens W.draw event.now self.old self.new) }
         ensures err { OnErr result (self.new ≡ self.old) }
         ensures words { PlaysByWords W.draw self.old self.new }
         ensures starts { self.new.trace.starts ≡ self.old.trace.starts }
@@ -139,13 +139,13 @@ impl<W: Words + Drop> World<W> {
     fn happen(&mut self, event: &Event) -> Result<bool, WorldFault>
         requires { IsTimely event.now }
         ensures follows { OnOk result (FollowsOne self.old.trace.starts self.old.trace.entries event.now self.new.trace.entries) }
-        ensures applied { IfOk result (λ applied. IsTrue applied ↔ IsSome (asked self.old.trace.starts self.old.trace.entries event.now)) }
+        ensures applied { IfOk result (λ applied. IsTrue applied ↔ IsSome (required_input self.old.trace.starts self.old.trace.entries event.now)) }
         ensures err { OnErr result (self.new ≡ self.old) }
         ensures starts { self.new.trace.starts ≡ self.old.trace.starts }
         ensures words { PlaysByWords W.draw self.old self.new }
         ensures lawful { IsLawful self.new.trace }
     {
-        self.sent.settle()?;
+        self.sent.make_room()?;
         let applied = self
             .trace
             .append(&mut self.participants, &mut self.sent, event)?;

@@ -1,7 +1,7 @@
 //! What is read of a script.
 
 use srm_agent::Config;
-use srm_script::{Fault, Script, read_script};
+use srm_script::{Script, ScriptFault, read_script};
 use srm_timers::{Listed, Words};
 use srm_world::Event;
 use std::alloc::Global;
@@ -53,7 +53,7 @@ const EVENTS: [Seen; 7] = [
 ];
 
 fn read(rt: &impl Abort, alloc: Global, text: &str) -> Script {
-    let read: Result<Script, Fault> = read_script(alloc, text.as_bytes());
+    let read: Result<Script, ScriptFault> = read_script(alloc, text.as_bytes());
     read.ok().expect(rt, "a script")
 }
 

@@ -7,7 +7,7 @@ ghost use Rattle.srm_codec.specs.Spelling.{IsSpellable};
 use srm_agent::{AgentFault, AgentState, Cause, Effects, Entry, Input, Verdict};
 use srm_codec::DecodeFault;
 use srm_names::{Items, Member};
-use srm_script::Report;
+use srm_script::EntryPrinter;
 use std::alloc::Global;
 use std::test::Fail;
 
@@ -54,7 +54,7 @@ fn causes_and_refusals_by_their_numbers(rt: HostRuntime) -> Result<(), Fail> {
         (Verdict::Refused(AgentFault::Memory), "refused 31 6\n"),
     ] {
         let mut out = Vec::new(alloc);
-        Report::new(true).print_entry(&mut out, &entry(alloc, verdict)?)?;
+        EntryPrinter::new(true).print_entry(&mut out, &entry(alloc, verdict)?)?;
         assert_eq!(rt; out.as_slice(), line.as_bytes());
     }
     Ok(())

@@ -2,7 +2,7 @@
 
 use crate::running::{repeated, run_good};
 use srm_agent::{AgentFault, Verdict};
-use srm_script::{Fault, Script, read_script};
+use srm_script::{Script, ScriptFault, read_script};
 use srm_timers::Listed;
 use srm_world::World;
 use std::alloc::Global;
@@ -20,7 +20,7 @@ const EACH_KIND: (&str, &str) = (
 );
 
 /// The world of a script to which all events happened in one call.
-fn run_at_once(alloc: Global, text: &[u8]) -> Result<World<Listed>, Fault> {
+fn run_at_once(alloc: Global, text: &[u8]) -> Result<World<Listed>, ScriptFault> {
     let Script {
         configs,
         words,
@@ -33,7 +33,7 @@ fn run_at_once(alloc: Global, text: &[u8]) -> Result<World<Listed>, Fault> {
 }
 
 /// The world of a script to which the events happened one by one.
-fn run_one_by_one(alloc: Global, text: &[u8]) -> Result<World<Listed>, Fault> {
+fn run_one_by_one(alloc: Global, text: &[u8]) -> Result<World<Listed>, ScriptFault> {
     let Script {
         configs,
         words,
@@ -48,7 +48,7 @@ fn run_one_by_one(alloc: Global, text: &[u8]) -> Result<World<Listed>, Fault> {
 }
 
 /// The trace of a world, as a text.
-fn traced(rt: &impl Abort, alloc: Global, world: Result<World<Listed>, Fault>) -> String {
+fn traced(rt: &impl Abort, alloc: Global, world: Result<World<Listed>, ScriptFault>) -> String {
     let world = world.ok().expect(rt, "a world");
     let mut text = String::new(alloc);
     write!(text, "{:?}", world.trace()).expect(rt, "memory");

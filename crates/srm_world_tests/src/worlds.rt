@@ -3,7 +3,7 @@
 use crate::running::{repeated, run_good};
 use bytes::Bytes;
 use srm_names::{Member, Page};
-use srm_script::{Report, read_script, run_event};
+use srm_script::{EntryPrinter, read_script, run_event};
 use srm_world::{Event, World};
 use std::test::Fail;
 
@@ -131,7 +131,7 @@ fn bodies_that_no_script_has(rt: HostRuntime) -> Result<(), Fail> {
     let mut world = World::new(alloc, script.configs, script.words)?;
     assert_eq!(rt; world.trace().starts().len(), 1);
     let mut out = Vec::new(alloc);
-    let mut report = Report::new(false);
+    let mut report = EntryPrinter::new(false);
     let strange = Bytes::copy_from_slice(alloc, b"\0 ~\x7f\xff")?;
     let long = Bytes::from_vec(repeated(alloc, "x", 1_025)?)?;
     for event in [

@@ -7,7 +7,7 @@ ghost use Rattle.srm_agent.specs.Admitting.{DrawAdmitted, DrawAdmittedFrom};
 use super::Agent;
 use srm_bucket::Class;
 use srm_codec::{DRAWOP_BYTES, HEAD_BYTES};
-use srm_names::BODY;
+use srm_names::LONGEST_BODY;
 use srm_timers::Words;
 
 impl<W: Words + Drop> Agent<W> {
@@ -40,5 +40,5 @@ impl<W: Words + Drop> Agent<W> {
 fn draw_length(body: usize) -> u32
     ensures { result ≡ draw_length body }
 {
-    (HEAD_BYTES + DRAWOP_BYTES + body.min(usize::from(BODY))) as u32
+    (HEAD_BYTES + DRAWOP_BYTES + body.min(usize::from(LONGEST_BODY))) as u32
 }

@@ -2,7 +2,7 @@
 
 ghost use Rattle.std.specs.Prelude.{◌≡◌, ◌≤◌, ◌<◌, List, [], ◌∷◌, Ok, Err, IfOk, OnOk, true, length};
 ghost use Rattle.srm_names.specs.declared.drawop.Drawop.{Drawop as ADrawop};
-ghost use Rattle.srm_names.specs.declared.limits.TheConstants.{MOMENT, BODY};
+ghost use Rattle.srm_names.specs.declared.limits.TheConstants.{LATEST_MOMENT, LONGEST_BODY};
 ghost use Rattle.srm_names.specs.FullName.{FullName};
 ghost use Rattle.srm_codec.specs.declared.datagram.Datagram.TheVariants.{Data};
 ghost use Rattle.srm_codec.specs.Spelling.{is_drawop, length_of};
@@ -40,8 +40,8 @@ impl<W: Words + Drop> Agent<W> {
         moment: u64,
         body: Bytes,
     ) -> Result<Draft, StoreFault>
-        requires moment { moment ≤ MOMENT }
-        requires short { length body ≤ BODY }
+        requires moment { moment ≤ LATEST_MOMENT }
+        requires short { length body ≤ LONGEST_BODY }
         ensures rest { self.new ≡ record self.old { store = self.new.store; bucket = self.new.bucket } }
         ensures store { StillFits self.old.store self.new.store }
         ensures bucket { BucketStays self.old.bucket self.new.bucket }
@@ -68,8 +68,8 @@ fn make_draft(
     moment: u64,
     body: Bytes,
 ) -> Result<Draft, AllocError>
-    requires moment { moment ≤ MOMENT }
-    requires short { length body ≤ BODY }
+    requires moment { moment ≤ LATEST_MOMENT }
+    requires short { length body ≤ LONGEST_BODY }
     ensures made { IfOk result (IsDraftOf session (record { name = name; stamp = moment; body = body })) }
     ensures spellable { OnOk result (is_drawop (record { name = name; stamp = moment; body = body })) }
 {
@@ -80,8 +80,8 @@ fn make_draft(
 
 /// A drawop with its own moment as stamp.
 fn stamped(name: Name, moment: u64, body: Bytes) -> Drawop
-    requires moment { moment ≤ MOMENT }
-    requires short { length body ≤ BODY }
+    requires moment { moment ≤ LATEST_MOMENT }
+    requires short { length body ≤ LONGEST_BODY }
     ensures value { result ≡ record { name = name; stamp = moment; body = body } }
     ensures spellable { is_drawop result }
 {

@@ -1,7 +1,7 @@
 //! Drawing.
 
 ghost use Rattle.std.specs.Prelude.{◌≡◌, ◌≤◌, ◌<◌, ℕ, List, [], ◌∷◌, Some, Ok, Err, IfOk, OnErr, IfSome, false};
-ghost use Rattle.srm_names.specs.declared.limits.TheConstants.{MOMENT, DRAWOPS};
+ghost use Rattle.srm_names.specs.declared.limits.TheConstants.{LATEST_MOMENT, DRAWOPS};
 ghost use Rattle.srm_store.specs.Stores.{HavePlaces};
 ghost use Rattle.srm_bucket.specs.declared.class.Class.TheVariants.{New};
 ghost use Rattle.srm_bucket.specs.declared.limits.TheConstants.{LEAST_LENGTH, GREATEST_LENGTH};
@@ -13,7 +13,7 @@ ghost use Rattle.srm_entries.specs.Configs.{Config as Settings};
 ghost use Rattle.srm_entries.specs.Verdicts.{first_cause, stream_on};
 ghost use Rattle.srm_entries.specs.Entries.{known};
 ghost use Rattle.srm_agent_parts.specs.PageTables.{lacks_room, with_page};
-ghost use Rattle.srm_agent.specs.Drawing.{verdict_by, refusals, name_after, drawn_entry};
+ghost use Rattle.srm_agent.specs.Drawing.{verdict_of_refusal, refusals, name_after, drawn_entry};
 ghost use Rattle.srm_agent_parts.specs.Growth.{HoldsToo};
 ghost use Rattle.srm_outbox.specs.Outs.{IsOwn};
 ghost use Rattle.srm_agent.specs.Fits.{Fits};
@@ -25,7 +25,7 @@ use bytes::Bytes;
 use srm_agent_parts::keep;
 use srm_bucket::{Bucket, Class, Item};
 use srm_entries::{AgentFault, AgentState, Effects, Entry, Input, Verdict};
-use srm_names::{BODY, Drawop, Items, Name, Page, Stream};
+use srm_names::{Drawop, Items, LONGEST_BODY, Name, Page, Stream};
 use srm_outbox::Outgoing;
 use srm_store::StoreFault;
 use srm_timers::Words;
@@ -44,7 +44,7 @@ impl<W: Words + Drop> Agent<W> {
         body: Bytes,
         now: u64,
     ) -> Result<Noted<Name>, AllocError>
-        requires { now ≤ MOMENT }
+        requires { now ≤ LATEST_MOMENT }
         ensures ok { IfOk result (λ noted. Enters W.draw (Some now) (Input.Drew page body) self.old self.new noted.entry) }
         ensures answer { IfOk result (λ noted. AnswersAs (IsDrawnName noted.entry) noted.entry.verdict noted.answer) }
         ensures err { OnErr result (Stays self.old self.new) }
@@ -75,7 +75,7 @@ impl<W: Words + Drop> Agent<W> {
 
     /// [`draw_noted`](Agent::draw_noted) without its entry, which isn't made.
     pub fn draw(&mut self, page: Page, body: Bytes, now: u64) -> Result<Name, AgentFault>
-        requires { now ≤ MOMENT }
+        requires { now ≤ LATEST_MOMENT }
         ensures { Does W.draw (Some now) (Input.Drew page body) IsDrawnName self.old self.new result }
     {
         let moment = self.moment(now);
@@ -96,14 +96,14 @@ impl<W: Words + Drop> Agent<W> {
 
     /// What a draw is refused for, but that the stream is full: the first that holds.
     fn refusal(&self, page: &Page, length: usize) -> Option<AgentFault>
-        ensures { verdict_by result ≡ first_cause (refusals self.now.state self.now.pages page.now length) }
+        ensures { verdict_of_refusal result ≡ first_cause (refusals self.now.state self.now.pages page.now length) }
     {
         match self.state {
             AgentState::Gone => return Some(AgentFault::Gone),
             AgentState::Leaving => return Some(AgentFault::Leaving),
             AgentState::Active => {}
         }
-        if length > usize::from(BODY) {
+        if length > usize::from(LONGEST_BODY) {
             return Some(AgentFault::BodyLong);
         }
         if !self.pages.has_room(page) {
@@ -128,7 +128,7 @@ impl<W: Words + Drop> Agent<W> {
     /// From this moment on the drawop is held, and waits to be sent, and its page is in the table.
     fn take_up(&mut self, page: &Page, moment: u64, drawop: Drawop, going: Item<Outgoing>)
         requires room { lacks_room self.old.pages page.now ≡ false }
-        requires moment { moment ≤ MOMENT }
+        requires moment { moment ≤ LATEST_MOMENT }
         requires ready { HavePlaces (drawop.name ∷ []) self.old.store }
         requires waiting { 0 < self.old.bucket.waiting.room }
         requires least { LEAST_LENGTH ≤ going.length }

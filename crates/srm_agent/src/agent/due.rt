@@ -1,7 +1,7 @@
 //! What is due at a moment.
 
 ghost use Rattle.std.specs.Prelude.{◌≡◌, ◌≤◌, true, IfOk};
-ghost use Rattle.srm_names.specs.declared.limits.TheConstants.{MOMENT};
+ghost use Rattle.srm_names.specs.declared.limits.TheConstants.{LATEST_MOMENT};
 ghost use Rattle.srm_names.specs.Names.{ascending, name_below};
 ghost use Rattle.srm_agent.specs.Answering.{AnswersDue};
 ghost use Rattle.srm_entries.specs.Entries.{is_leaving};
@@ -59,7 +59,7 @@ pub(super) struct Report {
 impl<W: Words + Drop> Agent<W> {
     /// What is due at a moment, in microseconds, where the member isn't gone. Only want of memory refuses it.
     pub(super) fn due_at(&self, moment: u64) -> Result<Due, AllocError>
-        requires { moment ≤ MOMENT }
+        requires { moment ≤ LATEST_MOMENT }
         ensures { IfOk result (IsDue self.now moment) }
     {
         let handed = self.to_hand_out(moment)?;
@@ -78,8 +78,8 @@ impl<W: Words + Drop> Agent<W> {
     fn to_hand_out(&self, moment: u64) -> Result<HandedOut, AllocError>
         ensures { IfOk result (IsToHandOut self.now moment) }
     {
-        let asks = self.timers.pending_asks(moment)?;
-        let fixes = self.timers.pending_fixes(moment)?;
+        let asks = self.timers.asks_that_ran_out(moment)?;
+        let fixes = self.timers.fixes_that_ran_out(moment)?;
         Ok(HandedOut {
             asks: Items::new(asks),
             fixes: Items::new(fixes),
@@ -99,7 +99,7 @@ impl<W: Words + Drop> Agent<W> {
         farewell: bool,
         moment: u64,
     ) -> Result<Option<Report>, AllocError>
-        requires { moment ≤ MOMENT }
+        requires { moment ≤ LATEST_MOMENT }
         ensures { IfOk result (IsReportIf is_wanted self.now moment farewell) }
     {
         if is_wanted {
@@ -111,7 +111,7 @@ impl<W: Words + Drop> Agent<W> {
 
     /// The session message or the farewell of a moment. Only want of memory refuses it.
     fn report_at(&self, farewell: bool, moment: u64) -> Result<Report, AllocError>
-        requires { moment ≤ MOMENT }
+        requires { moment ≤ LATEST_MOMENT }
         ensures { IfOk result (IsReportAt self.now moment farewell) }
     {
         let outgoing = self.report(farewell, moment)?;

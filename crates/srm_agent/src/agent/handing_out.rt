@@ -1,7 +1,7 @@
 //! Handing out the requests and repairs that are due.
 
 ghost use Rattle.std.specs.Prelude.{◌≡◌, ◌≤◌, length, true, IfOk, OnErr};
-ghost use Rattle.srm_names.specs.declared.limits.TheConstants.{MOMENT};
+ghost use Rattle.srm_names.specs.declared.limits.TheConstants.{LATEST_MOMENT};
 ghost use Rattle.srm_agent_parts.specs.TimerCalls.{AreDueAsks, AreDueFixes, TimersStay};
 ghost use Rattle.srm_agent.specs.Ticking.{HandsOut};
 
@@ -24,7 +24,7 @@ impl<W: Words + Drop> Agent<W> {
     ) -> Result<(Items<Arm>, Items<Arm>), AllocError>
         requires asks { AreDueAsks moment self.old.timers due.now.asks }
         requires fixes { AreDueFixes moment self.old.timers due.now.fixes }
-        requires moment { moment ≤ MOMENT }
+        requires moment { moment ≤ LATEST_MOMENT }
         ensures ok { IfOk result (λ arms. HandsOut W.draw self.old due.now moment arms.0 self.new) }
         ensures noted { IfOk result (λ arms. notes ≡ true → arms.1 ≡ arms.0) }
         ensures rest { self.new ≡ record self.old { timers = self.new.timers; words = self.new.words } }

@@ -1,13 +1,13 @@
 //! Hearing what others sent.
 
 ghost use Rattle.std.specs.Prelude.{◌≡◌, ◌≢◌, ◌≤◌, [], Some, None, Ok, IfOk, IsOk, OnOk, OnErr, true, false};
-ghost use Rattle.srm_names.specs.declared.limits.TheConstants.{MOMENT};
+ghost use Rattle.srm_names.specs.declared.limits.TheConstants.{LATEST_MOMENT};
 ghost use Rattle.srm_codec.specs.declared.fault.DecodeFault.TheVariants.{Memory};
 ghost use Rattle.srm_codec.specs.Judging.{judge};
 ghost use Rattle.srm_codec.specs.Spelling.{IsSpellable, names_in};
 ghost use Rattle.srm_entries.specs.Entries.{is_gone};
 ghost use Rattle.srm_store.specs.Stores.{HavePlaces};
-ghost use Rattle.srm_agent.specs.Heeding.{EntersHeard, HeardAs, IsJudgedBy, IsNoiseFor, MayTake, entry_by};
+ghost use Rattle.srm_agent.specs.Heeding.{EntersHeard, HeardAs, IsJudgedBy, IsNoiseFor, MayAccept, entry_by};
 ghost use Rattle.srm_entries.specs.declared.cause.Outcome.TheVariants.{Taken};
 ghost use Rattle.srm_agent.specs.Noting.{Enters, Stays, ReadsAs, AnswersHeard, Hears};
 
@@ -32,7 +32,7 @@ impl<W: Words + Drop> Agent<W> {
     ///
     /// Refused is [`AgentFault::Memory`] alone, and only for bytes that spell a datagram of the session: noise takes no memory.
     pub fn hear_noted(&mut self, bytes: &[u8], now: u64) -> Result<Noted<Heard>, AllocError>
-        requires { now ≤ MOMENT }
+        requires { now ≤ LATEST_MOMENT }
         ensures ok { IfOk result (λ noted. Enters W.draw (Some now) noted.entry.input self.old self.new noted.entry) }
         ensures reading { IfOk result (λ noted. ReadsAs bytes.now self.old noted.entry) }
         ensures answer { IfOk result (λ noted. AnswersHeard noted.entry noted.answer) }
@@ -56,7 +56,7 @@ impl<W: Words + Drop> Agent<W> {
 
     /// [`hear_noted`](Agent::hear_noted) without its entry, which isn't made.
     pub fn hear(&mut self, bytes: &[u8], now: u64) -> Result<Heard, AgentFault>
-        requires { now ≤ MOMENT }
+        requires { now ≤ LATEST_MOMENT }
         ensures { Hears W.draw now bytes.now self.old self.new result }
     {
         Ok(self.hear_bytes(bytes, now)?)
@@ -64,7 +64,7 @@ impl<W: Words + Drop> Agent<W> {
 
     /// The same. Only want of memory refuses it.
     fn hear_bytes(&mut self, bytes: &[u8], now: u64) -> Result<Heard, AllocError>
-        requires { now ≤ MOMENT }
+        requires { now ≤ LATEST_MOMENT }
         ensures ok { IfOk result (HeardAs W.draw now bytes.now self.old self.new) }
         ensures err { OnErr result (Stays self.old self.new) }
         ensures here { OnErr result (is_gone self.old.state ≡ false) }
@@ -85,7 +85,7 @@ impl<W: Words + Drop> Agent<W> {
     fn hear_noise(&mut self, fault: DecodeFault, moment: u64) -> Result<Heard, AllocError>
         requires here { is_gone self.old.state ≡ false }
         requires later { self.old.last ≤ moment }
-        requires moment { moment ≤ MOMENT }
+        requires moment { moment ≤ LATEST_MOMENT }
         ensures ok { IfOk result (λ heard. Enters W.draw (Some moment) Input.Noise self.old self.new (entry_by self.old moment Input.Noise heard)) }
         ensures noise { IfOk result (λ heard. IsNoiseFor fault (entry_by self.old moment Input.Noise heard)) }
         ensures still { IfOk result (λ heard. heard.arms ≡ []) }
@@ -126,7 +126,7 @@ impl<W: Words + Drop> Agent<W> {
         requires here { is_gone self.old.state ≡ false }
         requires spelled { IsSpellable datagram }
         requires later { self.old.last ≤ moment }
-        requires moment { moment ≤ MOMENT }
+        requires moment { moment ≤ LATEST_MOMENT }
         ensures ok { IfOk result (λ noted. Enters W.draw (Some moment) (Input.Heard datagram) self.old self.new noted.entry) }
         ensures judged { IfOk result (λ noted. IsJudgedBy datagram self.old noted.entry) }
         ensures answer { IfOk result (λ noted. AnswersHeard noted.entry noted.answer) }
@@ -148,7 +148,7 @@ impl<W: Words + Drop> Agent<W> {
         requires here { is_gone self.old.state ≡ false }
         requires spelled { IsSpellable datagram }
         requires later { self.old.last ≤ moment }
-        requires moment { moment ≤ MOMENT }
+        requires moment { moment ≤ LATEST_MOMENT }
         ensures ok { IfOk result (λ hearing. EntersHeard W.draw datagram moment self.old self.new hearing.heard) }
         ensures judged { IfOk result (λ hearing. IsJudgedBy datagram self.old (entry_by self.old moment (Input.Heard datagram) hearing.heard)) }
         ensures noted { IfOk result (λ hearing. notes ≡ true → hearing.noted ≡ hearing.heard.arms) }
@@ -172,7 +172,7 @@ impl<W: Words + Drop> Agent<W> {
         requires here { is_gone self.old.state ≡ false }
         requires spelled { IsSpellable datagram }
         requires later { self.old.last ≤ moment }
-        requires moment { moment ≤ MOMENT }
+        requires moment { moment ≤ LATEST_MOMENT }
         requires names { names.now ≡ names_in datagram }
         ensures ok { IfOk result (λ hearing. EntersHeard W.draw datagram moment self.old self.new hearing.heard) }
         ensures judged { IfOk result (λ hearing. IsJudgedBy datagram self.old (entry_by self.old moment (Input.Heard datagram) hearing.heard)) }
@@ -198,7 +198,7 @@ impl<W: Words + Drop> Agent<W> {
         notes: bool,
         moment: u64,
     ) -> Result<Hearing, AllocError>
-        requires may { MayTake datagram names.now moment self.old }
+        requires may { MayAccept datagram names.now moment self.old }
         ensures ok { IfOk result (λ hearing. EntersHeard W.draw datagram moment self.old self.new hearing.heard) }
         ensures judged { IfOk result (λ hearing. IsJudgedBy datagram self.old (entry_by self.old moment (Input.Heard datagram) hearing.heard)) }
         ensures noted { IfOk result (λ hearing. notes ≡ true → hearing.noted ≡ hearing.heard.arms) }
@@ -226,7 +226,7 @@ impl<W: Words + Drop> Agent<W> {
         notes: bool,
         moment: u64,
     ) -> Result<Hearing, AllocError>
-        requires may { MayTake datagram names.now moment self.old }
+        requires may { MayAccept datagram names.now moment self.old }
         requires ready { HavePlaces names.now self.old.store }
         ensures ok { IfOk result (λ hearing. EntersHeard W.draw datagram moment self.old self.new hearing.heard) }
         ensures done { IfOk result (λ hearing. hearing.heard.outcome ≡ Taken) }
@@ -247,7 +247,7 @@ impl<W: Words + Drop> Agent<W> {
 
     /// A datagram is ignored, and no timer is set.
     fn ignore_heard(&mut self, moment: u64, cause: Cause) -> Hearing
-        requires { moment ≤ MOMENT }
+        requires { moment ≤ LATEST_MOMENT }
         ensures new { self.new ≡ record self.old { last = moment } }
         ensures heard { result.heard ≡ record { arms = []; outcome = Outcome.Ignored cause } }
         ensures noted { result.noted ≡ [] }
@@ -260,7 +260,7 @@ impl<W: Words + Drop> Agent<W> {
 
     /// From this moment on nothing else is changed: the input is ignored. It takes no memory.
     fn ignore(&mut self, moment: u64, cause: Cause) -> Heard
-        requires { moment ≤ MOMENT }
+        requires { moment ≤ LATEST_MOMENT }
         ensures new { self.new ≡ record self.old { last = moment } }
         ensures heard { result ≡ record { arms = []; outcome = Outcome.Ignored cause } }
     {

@@ -4,14 +4,14 @@ ghost use Rattle.std.specs.Prelude.{◌≡◌, ◌||◌, ◌&&◌, ◌==◌, nat
 ghost use Rattle.std.specs.List.{list_any};
 ghost use Rattle.srm_codec.specs.Spelling.{sender_of, names_in};
 ghost use Rattle.srm_store.specs.Held.{same_drawop};
-ghost use Rattle.srm_store.specs.Finals.{row_of};
+ghost use Rattle.srm_store.specs.Finals.{row_number};
 ghost use Rattle.srm_entries.specs.Configs.{Config as Settings};
 ghost use Rattle.srm_entries.specs.declared.entry.Entry.{Entry as AnEntry};
 ghost use Rattle.srm_entries.specs.declared.entry.Input.TheVariants.{Heard};
 ghost use Rattle.srm_entries.specs.declared.entry.Verdict.TheVariants.{Ignored};
 ghost use Rattle.srm_entries.specs.Causes.{ignored_for};
 ghost use Rattle.srm_entries.specs.Entries.{is_gone, slots, known, held_at, drawops_in};
-ghost use Rattle.srm_entries.specs.Verdicts.{verdict_of, first_cause, is_stranger, is_beyond, is_past, is_short, final, drawn_in, differs, stream_on};
+ghost use Rattle.srm_entries.specs.Verdicts.{verdict_of, first_cause, is_stranger, is_beyond, exceeds, says_too_little, final, drawn_in, differs, stream_on};
 ghost use Rattle.srm_agent_parts.specs.PageTables.{lacks_room_for};
 ghost use Rattle.srm_agent.specs.Fits.{Fits};
 
@@ -89,7 +89,7 @@ impl<W: Words + Drop> Agent<W> {
 
     /// Whether it names what can't be, or is a farewell that says less than is known.
     fn is_beyond_final(&self, datagram: &Datagram, names: &[Name]) -> bool
-        ensures { (c : Settings) (made : ℕ) (past : List AnEntry) → Fits c made past self.now → result ≡ list_any (is_beyond c.me past) names.now || is_short past datagram.now }
+        ensures { (c : Settings) (made : ℕ) (past : List AnEntry) → Fits c made past self.now → result ≡ list_any (is_beyond c.me past) names.now || says_too_little past datagram.now }
     {
         self.goes_beyond(names) || self.is_short(datagram)
     }
@@ -114,7 +114,7 @@ impl<W: Words + Drop> Agent<W> {
     }
 
     fn is_past_final(&self, name: Name) -> bool
-        ensures { (c : Settings) (made : ℕ) (past : List AnEntry) → Fits c made past self.now → result ≡ is_past name.number (final past name.stream) }
+        ensures { (c : Settings) (made : ℕ) (past : List AnEntry) → Fits c made past self.now → result ≡ exceeds name.number (final past name.stream) }
     {
         match self.store.final_of(name.stream()) {
             Some(last) => last < name.number(),
@@ -130,7 +130,7 @@ impl<W: Words + Drop> Agent<W> {
 
     /// Whether it is a farewell that says less than is known of its sender.
     fn is_short(&self, datagram: &Datagram) -> bool
-        ensures { (c : Settings) (made : ℕ) (past : List AnEntry) → Fits c made past self.now → result ≡ is_short past datagram.now }
+        ensures { (c : Settings) (made : ℕ) (past : List AnEntry) → Fits c made past self.now → result ≡ says_too_little past datagram.now }
     {
         match datagram {
             Datagram::Session {
@@ -146,7 +146,7 @@ impl<W: Words + Drop> Agent<W> {
     /// Whether more is known of a source, on some page, than these rows say.
     fn knows_more(&self, source: Member, rows: &[Name]) -> bool
         ensures { (c : Settings) (made : ℕ) (past : List AnEntry) → Fits c made past self.now
-            → result ≡ list_any (λ page. nat_lt (row_of rows.now (stream_on source page)) (known past (stream_on source page))) (slots past) }
+            → result ≡ list_any (λ page. nat_lt (row_number rows.now (stream_on source page)) (known past (stream_on source page))) (slots past) }
     {
         let pages = self.pages.as_slice();
         for page in pages {
@@ -162,7 +162,7 @@ impl<W: Words + Drop> Agent<W> {
     }
 
     fn knows_past(&self, stream: &Stream, rows: &[Name]) -> bool
-        ensures { (c : Settings) (made : ℕ) (past : List AnEntry) → Fits c made past self.now → result ≡ nat_lt (row_of rows.now stream.now) (known past stream.now) }
+        ensures { (c : Settings) (made : ℕ) (past : List AnEntry) → Fits c made past self.now → result ≡ nat_lt (row_number rows.now stream.now) (known past stream.now) }
     {
         let known = self.store.known(*stream);
         row_number(rows, *stream) < known

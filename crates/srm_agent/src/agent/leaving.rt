@@ -1,7 +1,7 @@
 //! Beginning to leave.
 
 ghost use Rattle.std.specs.Prelude.{◌≡◌, ◌≤◌, IfOk, OnErr, Ok, Some};
-ghost use Rattle.srm_names.specs.declared.limits.TheConstants.{MOMENT};
+ghost use Rattle.srm_names.specs.declared.limits.TheConstants.{LATEST_MOMENT};
 ghost use Rattle.srm_entries.specs.declared.state.AgentState.TheVariants.{Leaving};
 ghost use Rattle.srm_agent.specs.Noting.{Enters, EntersStill, Stays, AnswersAs, IsAllowed, HasEntry};
 
@@ -17,7 +17,7 @@ impl<W: Words + Drop> Agent<W> {
     /// Refused are, in this order: [`AgentFault::Gone`], [`AgentFault::Leaving`]. Want of memory, for which the answer has a place,
     /// today never comes.
     pub fn leave_noted(&mut self, now: u64) -> Result<Noted<()>, AllocError>
-        requires { now ≤ MOMENT }
+        requires { now ≤ LATEST_MOMENT }
         ensures ok { IfOk result (λ noted. Enters W.draw (Some now) Input.AskedLeave self.old self.new noted.entry) }
         ensures answer { IfOk result (λ noted. AnswersAs (λ _. Unit {0}) noted.entry.verdict noted.answer) }
         ensures err { OnErr result (Stays self.old self.new) }
@@ -30,7 +30,7 @@ impl<W: Words + Drop> Agent<W> {
 
     /// [`leave_noted`](Agent::leave_noted) without its entry, which isn't made. It takes no memory.
     pub fn leave(&mut self, now: u64) -> Result<(), AgentFault>
-        requires { now ≤ MOMENT }
+        requires { now ≤ LATEST_MOMENT }
         ensures { HasEntry W.draw (Some now) Input.AskedLeave (λ _ _. Unit {0}) self.old self.new result }
     {
         let moment = self.moment(now);
@@ -40,7 +40,7 @@ impl<W: Words + Drop> Agent<W> {
     /// Begins to leave at a moment that isn't below the last one. It takes no memory.
     fn leave_at(&mut self, moment: u64) -> Result<(), AgentFault>
         requires later { self.old.last ≤ moment }
-        requires moment { moment ≤ MOMENT }
+        requires moment { moment ≤ LATEST_MOMENT }
         ensures { EntersStill W.draw moment Input.AskedLeave self.old self.new result }
     {
         match self.state {
@@ -55,7 +55,7 @@ impl<W: Words + Drop> Agent<W> {
 
     /// From this moment on the member is leaving.
     fn begin_to_leave(&mut self, moment: u64)
-        requires { moment ≤ MOMENT }
+        requires { moment ≤ LATEST_MOMENT }
         ensures { self.new ≡ record self.old { state = Leaving; last = moment } }
     {
         self.state = AgentState::Leaving;

@@ -3,7 +3,7 @@
 ghost use Rattle.std.specs.Prelude.{◌≡◌, ◌&&◌, ◌==◌, max, length};
 ghost use Rattle.std.specs.Bool.{OnFalse, OnTrue};
 ghost use Rattle.srm_bucket.specs.declared.class.Class.TheVariants.{New};
-ghost use Rattle.srm_bucket.specs.Fits.{Waits};
+ghost use Rattle.srm_bucket.specs.Fits.{IsNextDeparture};
 ghost use Rattle.srm_bucket.specs.Waiting.{queue};
 ghost use Rattle.srm_deadlines.specs.Least.{lesser};
 ghost use Rattle.srm_entries.specs.Entries.{is_leaving};
@@ -52,12 +52,12 @@ impl<W: Words + Drop> Agent<W> {
     fn next_timer(&self) -> Option<u64>
         ensures { TimersNext self.now.timers result }
     {
-        self.timers.next()
+        self.timers.next_moment()
     }
 
     /// When the first of what waits for the bucket goes.
     fn next_to_go(&self) -> Option<u64>
-        ensures { Waits self.now.bucket result }
+        ensures { IsNextDeparture self.now.bucket result }
     {
         self.bucket.wait_until()
     }

@@ -2,7 +2,7 @@
 
 ghost use Rattle.std.specs.Prelude.{◌≡◌, ◌≤◌, [], Ok, IfOk, length, true, vec_capacity};
 ghost use Rattle.srm_entries.specs.declared.cause.Outcome.TheVariants.{Taken};
-ghost use Rattle.srm_agent.specs.Heeding.{entry_with, verdict_by};
+ghost use Rattle.srm_agent.specs.Heeding.{entry_with, verdict_of_outcome};
 
 use crate::heard::Heard;
 use crate::noted::Noted;
@@ -54,7 +54,7 @@ pub(super) fn note(
 }
 
 fn verdict_by(outcome: Outcome) -> Verdict
-    ensures { result ≡ verdict_by outcome }
+    ensures { result ≡ verdict_of_outcome outcome }
 {
     match outcome {
         Outcome::Taken => Verdict::Done,

@@ -2,22 +2,22 @@
 
 ghost use Rattle.std.specs.Prelude.{◌≡◌, ◌≤◌, ◌<◌, ◌*◌, ◌/◌, max, map, ℕ, List, IfOk, option_map};
 ghost use Rattle.srm_bucket.specs.declared.limits.TheConstants.{LEAST_RATE};
-ghost use Rattle.srm_names.specs.declared.limits.TheConstants.{MOMENT, MEMBERS, DRAWOPS};
+ghost use Rattle.srm_names.specs.declared.limits.TheConstants.{LATEST_MOMENT, MEMBERS, DRAWOPS};
 ghost use Rattle.srm_names.specs.Names.{named};
 ghost use Rattle.srm_codec.specs.declared.datagram.Datagram.TheVariants.{Session};
 ghost use Rattle.srm_codec.specs.Spelling.{IsSpellable, is_page};
 ghost use Rattle.srm_entries.specs.Configs.{Config as Settings};
-ghost use Rattle.srm_agent.specs.declared.agent.reporting.TheConstants.{LONGEST_PAUSE, LONGEST_REPORT};
+ghost use Rattle.srm_agent.specs.declared.agent.reporting.TheConstants.{LONGEST_INTERVAL, LONGEST_REPORT};
 ghost use Rattle.srm_entries.specs.declared.entry.Entry.{Entry as AnEntry};
 ghost use Rattle.srm_agent.specs.Fits.{Fits};
-ghost use Rattle.srm_agent.specs.Reports.{IsReportOf, IsReportSpelled, AreReported, AreOwed, AreShown, AreOwn, AreInOrder, AreRowsOf, IsRow, SaysLeft, CountsOnce};
-ghost use Rattle.srm_entries.specs.Sessions.{members_left, session_pause, if_positive};
+ghost use Rattle.srm_agent.specs.Reports.{IsReportOf, IsReportSpelled, AreReported, AreOwed, AreShown, AreOwnStreams, AreInOrder, AreRowsOf, IsRow, SaysLeft, CountsOnce};
+ghost use Rattle.srm_entries.specs.Sessions.{members_remaining, session_interval, if_positive};
 ghost use Rattle.srm_entries.specs.Verdicts.{stream_on};
 
 use super::Agent;
 use srm_agent_parts::{member, page_in_range, stream_in_range};
 use srm_codec::{Datagram, ECHO_BYTES, HEAD_BYTES, NAME_BYTES, REPORT_BYTES, length};
-use srm_entries::{SECOND, SESSION_SHARE, SHORTEST_PAUSE};
+use srm_entries::{SECOND, SESSION_SHARE, SHORTEST_INTERVAL};
 use srm_names::{Echo, Items, Member, Name, Page, Stream};
 use srm_outbox::Outgoing;
 use srm_timers::Words;
@@ -27,13 +27,13 @@ use std::alloc::{AllocError, Global};
 const LONGEST_REPORT: usize = HEAD_BYTES + REPORT_BYTES + 255 * (NAME_BYTES + ECHO_BYTES);
 
 /// No pause is longer, in microseconds: that of 32 members at one byte a second.
-pub const LONGEST_PAUSE: u64 = 4_094_720_000_000;
+pub const LONGEST_INTERVAL: u64 = 4_094_720_000_000;
 
 impl<W: Words + Drop> Agent<W> {
     /// The session message, or the farewell, that this member sends at a moment, in microseconds. Only want of memory
     /// refuses it.
     pub(super) fn report(&self, farewell: bool, moment: u64) -> Result<Outgoing, AllocError>
-        requires { moment ≤ MOMENT }
+        requires { moment ≤ LATEST_MOMENT }
         ensures { IfOk result (λ report. IsReportSpelled self.now moment farewell report) }
     {
         let message = self.message(farewell, moment)?;
@@ -42,7 +42,7 @@ impl<W: Words + Drop> Agent<W> {
 
     /// The same, not yet spelled.
     fn message(&self, farewell: bool, moment: u64) -> Result<Datagram, AllocError>
-        requires { moment ≤ MOMENT }
+        requires { moment ≤ LATEST_MOMENT }
         ensures { IfOk result (λ message. IsReportOf self.now moment farewell message) }
     {
         let rows = self.rows(farewell)?;
@@ -70,7 +70,7 @@ impl<W: Words + Drop> Agent<W> {
 
     /// The echoes that are owed at a moment, in microseconds.
     fn echoes(&self, moment: u64) -> Result<Vec<Echo>, AllocError>
-        requires { moment ≤ MOMENT }
+        requires { moment ≤ LATEST_MOMENT }
         ensures { IfOk result (λ echoes. AreOwed self.now moment echoes.items) }
     {
         self.distances.echoes(self.alloc, moment)
@@ -103,7 +103,7 @@ impl<W: Words + Drop> Agent<W> {
 
     /// The streams of this member, in order.
     fn own_streams(&self) -> Result<Vec<Stream>, AllocError>
-        ensures { IfOk result (λ streams. AreOwn self.now streams.items) }
+        ensures { IfOk result (λ streams. AreOwnStreams self.now streams.items) }
     {
         let pages = self.pages_in_order()?;
         own(self.alloc, self.config.me(), &pages)
@@ -142,15 +142,15 @@ impl<W: Words + Drop> Agent<W> {
     /// How long after a session message the next one is due, in microseconds.
     pub(super) fn pause(&self, report: &Datagram) -> u64
         requires { IsSpellable report.now }
-        ensures value { (c : Settings) (made : ℕ) (past : List AnEntry) → Fits c made past self.now → result ≡ session_pause c past report.now }
-        ensures longest { result ≤ LONGEST_PAUSE }
+        ensures value { (c : Settings) (made : ℕ) (past : List AnEntry) → Fits c made past self.now → result ≡ session_interval c past report.now }
+        ensures longest { result ≤ LONGEST_INTERVAL }
     {
-        pause_after(self.members_left(), length(report), self.config.rate())
+        interval_after(self.members_remaining(), length(report), self.config.rate())
     }
 
     /// How many members of the roster aren't known to have left, this one among them.
-    fn members_left(&self) -> u8
-        ensures value { (c : Settings) (made : ℕ) (past : List AnEntry) → Fits c made past self.now → result ≡ members_left c past }
+    fn members_remaining(&self) -> u8
+        ensures value { (c : Settings) (made : ℕ) (past : List AnEntry) → Fits c made past self.now → result ≡ members_remaining c past }
         ensures few { result ≤ MEMBERS }
     {
         let mut count = 0;
@@ -181,15 +181,15 @@ impl<W: Words + Drop> Agent<W> {
 }
 
 /// The pause after so many bytes, where so many members are left, at a rate in bytes a second. Rounded down.
-fn pause_after(members: u8, bytes: usize, rate: u32) -> u64
+fn interval_after(members: u8, bytes: usize, rate: u32) -> u64
     requires members { members ≤ MEMBERS }
     requires bytes { bytes ≤ LONGEST_REPORT }
     requires rate { LEAST_RATE ≤ rate }
-    ensures value { result ≡ max SHORTEST_PAUSE (SESSION_SHARE * members * bytes * SECOND / rate) }
-    ensures longest { result ≤ LONGEST_PAUSE }
+    ensures value { result ≡ max SHORTEST_INTERVAL (SESSION_SHARE * members * bytes * SECOND / rate) }
+    ensures longest { result ≤ LONGEST_INTERVAL }
 {
     let bytes = SESSION_SHARE * u64::from(members) * bytes as u64;
-    SHORTEST_PAUSE.max(bytes * SECOND / u64::from(rate))
+    SHORTEST_INTERVAL.max(bytes * SECOND / u64::from(rate))
 }
 
 /// The streams of a member on these pages.

@@ -2,7 +2,7 @@
 
 ghost use Rattle.std.specs.Prelude.{◌≡◌, ◌≤◌, ◌<◌, ◌+◌, ◌++◌, length, option_map, option_to_list, IfOk, IfSome, OnOk};
 ghost use Rattle.std.specs.List.{AllByRecursion};
-ghost use Rattle.srm_names.specs.declared.limits.TheConstants.{MOMENT};
+ghost use Rattle.srm_names.specs.declared.limits.TheConstants.{LATEST_MOMENT};
 ghost use Rattle.srm_bucket.specs.Fits.{Stays as BucketStays};
 ghost use Rattle.srm_bucket.specs.Waiting.{HasLength, SameQueues, count_of};
 ghost use Rattle.srm_outbox.specs.Outs.{IsOwn, AreOwn};
@@ -37,7 +37,7 @@ impl<W: Words + Drop> Agent<W> {
 
     /// Hands in answers, and lets go what may go at a moment. It takes no memory.
     pub(super) fn send(&mut self, answers: VecDeque<Answer>, went: Went, moment: u64) -> Went
-        requires moment { moment ≤ MOMENT }
+        requires moment { moment ≤ LATEST_MOMENT }
         requires empty { NothingWent went }
         requires room { count_of self.old.bucket.waiting + length answers.items < went.room }
         requires waiting { length answers.items ≤ self.old.bucket.waiting.room }
@@ -58,7 +58,7 @@ impl<W: Words + Drop> Agent<W> {
         report: Option<Report>,
         moment: u64,
     ) -> Option<Report>
-        requires { moment ≤ MOMENT }
+        requires { moment ≤ LATEST_MOMENT }
         ensures value { result ≡ last_report (data_waits self.old.bucket) farewell report }
         ensures new { self.new ≡ record self.old { state = state_after (data_waits self.old.bucket) farewell self.old.state; last = moment; due = due_then result self.old.due } }
     {

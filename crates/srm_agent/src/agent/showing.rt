@@ -1,7 +1,7 @@
 //! Showing a page.
 
 ghost use Rattle.std.specs.Prelude.{◌≡◌, ◌≤◌, IfOk, OnErr, Ok, Some, false};
-ghost use Rattle.srm_names.specs.declared.limits.TheConstants.{MOMENT};
+ghost use Rattle.srm_names.specs.declared.limits.TheConstants.{LATEST_MOMENT};
 ghost use Rattle.srm_agent_parts.specs.PageTables.{lacks_room, with_page};
 ghost use Rattle.srm_agent.specs.Noting.{Enters, EntersStill, Stays, AnswersAs, IsAllowed, Does};
 
@@ -18,7 +18,7 @@ impl<W: Words + Drop> Agent<W> {
     /// Refused are, in this order: [`AgentFault::Gone`]; [`AgentFault::PageLimit`] where the page finds no slot;
     /// [`AgentFault::Memory`], which today never comes.
     pub fn show_noted(&mut self, page: Page, now: u64) -> Result<Noted<()>, AllocError>
-        requires { now ≤ MOMENT }
+        requires { now ≤ LATEST_MOMENT }
         ensures ok { IfOk result (λ noted. Enters W.draw (Some now) (Input.Showed page) self.old self.new noted.entry) }
         ensures answer { IfOk result (λ noted. AnswersAs (λ _. Unit {0}) noted.entry.verdict noted.answer) }
         ensures err { OnErr result (Stays self.old self.new) }
@@ -31,7 +31,7 @@ impl<W: Words + Drop> Agent<W> {
 
     /// [`show_noted`](Agent::show_noted) without its entry, which isn't made.
     pub fn show(&mut self, page: Page, now: u64) -> Result<(), AgentFault>
-        requires { now ≤ MOMENT }
+        requires { now ≤ LATEST_MOMENT }
         ensures { Does W.draw (Some now) (Input.Showed page) (λ _ _. Unit {0}) self.old self.new result }
     {
         let moment = self.moment(now);
@@ -41,7 +41,7 @@ impl<W: Words + Drop> Agent<W> {
     /// Shows a page at a moment that isn't below the last one.
     fn show_at(&mut self, page: &Page, moment: u64) -> Result<(), AgentFault>
         requires later { self.old.last ≤ moment }
-        requires moment { moment ≤ MOMENT }
+        requires moment { moment ≤ LATEST_MOMENT }
         ensures { EntersStill W.draw moment (Input.Showed page.now) self.old self.new result }
     {
         if self.is_gone() {
@@ -57,7 +57,7 @@ impl<W: Words + Drop> Agent<W> {
     /// From this moment on a page is in the table, and shown.
     fn turn_to(&mut self, page: &Page, moment: u64)
         requires room { lacks_room self.old.pages page.now ≡ false }
-        requires moment { moment ≤ MOMENT }
+        requires moment { moment ≤ LATEST_MOMENT }
         ensures { self.new ≡ record self.old { last = moment; showing = page.now; pages = with_page self.old.pages page.now } }
     {
         self.pages.add(*page);

@@ -3,7 +3,7 @@
 ghost use Rattle.std.specs.Prelude.{◌≡◌, [], ◌∷◌, Ok, IfOk, OnErr, true};
 ghost use Rattle.srm_names.specs.Names.{ascending, name_below};
 ghost use Rattle.srm_store.specs.Stores.{HavePlaces};
-ghost use Rattle.srm_agent.specs.Heeding.{EntersHeard, MayTake, IsFreshBelow, carrying};
+ghost use Rattle.srm_agent.specs.Heeding.{EntersHeard, MayAccept, IsFreshBelow, carrying};
 ghost use Rattle.srm_entries.specs.declared.cause.Outcome.TheVariants.{Taken};
 ghost use Rattle.srm_agent.specs.Noting.{Stays};
 
@@ -23,7 +23,7 @@ impl<W: Words + Drop> Agent<W> {
         notes: bool,
         moment: u64,
     ) -> Result<Hearing, AllocError>
-        requires may { MayTake (carrying repairer drawop) (drawop.name ∷ []) moment self.old }
+        requires may { MayAccept (carrying repairer drawop) (drawop.name ∷ []) moment self.old }
         requires ready { HavePlaces (drawop.name ∷ []) self.old.store }
         ensures ok { IfOk result (λ hearing. EntersHeard W.draw (carrying repairer drawop) moment self.old self.new hearing.heard) }
         ensures done { IfOk result (λ hearing. hearing.heard.outcome ≡ Taken) }

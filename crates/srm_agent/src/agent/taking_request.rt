@@ -5,13 +5,13 @@ ghost use Rattle.srm_names.specs.Names.{ascending, name_below};
 ghost use Rattle.srm_codec.specs.declared.datagram.Datagram.TheVariants.{Request};
 ghost use Rattle.srm_store.specs.Stores.{HavePlaces};
 ghost use Rattle.srm_agent.specs.Growth.{IsFreshUpTo};
-ghost use Rattle.srm_agent.specs.Heeding.{EntersHeard, MayTake};
+ghost use Rattle.srm_agent.specs.Heeding.{EntersHeard, MayAccept};
 ghost use Rattle.srm_entries.specs.declared.cause.Outcome.TheVariants.{Taken};
 ghost use Rattle.srm_agent.specs.Noting.{Stays};
 
 use super::Agent;
 use super::noting::{Hearing, note_arms, room_to_note, took};
-use srm_agent_parts::{distance_table, greatest_in, show_all};
+use srm_agent_parts::{distance_table, greatest_in, learn_all};
 use srm_names::{Member, Name, Stream, names_between};
 use srm_timers::Words;
 use std::alloc::AllocError;
@@ -27,7 +27,7 @@ impl<W: Words + Drop> Agent<W> {
         notes: bool,
         moment: u64,
     ) -> Result<Hearing, AllocError>
-        requires may { MayTake (Request sender name mask) names.now moment self.old }
+        requires may { MayAccept (Request sender name mask) names.now moment self.old }
         requires ready { HavePlaces names.now self.old.store }
         ensures ok { IfOk result (λ hearing. EntersHeard W.draw (Request sender name mask) moment self.old self.new hearing.heard) }
         ensures done { IfOk result (λ hearing. hearing.heard.outcome ≡ Taken) }
@@ -47,7 +47,7 @@ impl<W: Words + Drop> Agent<W> {
             &mut self.words,
         )?;
         note_arms(&mut copies, notes, &arms);
-        show_all(&mut self.store, names);
+        learn_all(&mut self.store, names);
         self.pages.add_all(names);
         self.last = moment;
         Ok(took(arms, copies))

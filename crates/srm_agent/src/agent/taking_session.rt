@@ -6,7 +6,7 @@ ghost use Rattle.srm_codec.specs.Spelling.{row_below};
 ghost use Rattle.srm_store.specs.Stores.{HavePlaces};
 ghost use Rattle.srm_agent.specs.Growth.{IsFreshOf};
 ghost use Rattle.srm_agent_parts.specs.TimerCalls.{IsSession};
-ghost use Rattle.srm_agent.specs.Heeding.{EntersHeard, MayTake};
+ghost use Rattle.srm_agent.specs.Heeding.{EntersHeard, MayAccept};
 ghost use Rattle.srm_entries.specs.declared.cause.Outcome.TheVariants.{Taken};
 ghost use Rattle.srm_agent.specs.Noting.{Stays};
 
@@ -28,7 +28,7 @@ impl<W: Words + Drop> Agent<W> {
         moment: u64,
     ) -> Result<Hearing, AllocError>
         requires session { IsSession datagram }
-        requires may { MayTake datagram names.now moment self.old }
+        requires may { MayAccept datagram names.now moment self.old }
         requires ready { HavePlaces names.now self.old.store }
         ensures ok { IfOk result (λ hearing. EntersHeard W.draw datagram moment self.old self.new hearing.heard) }
         ensures done { IfOk result (λ hearing. hearing.heard.outcome ≡ Taken) }

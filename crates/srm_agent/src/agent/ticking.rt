@@ -1,7 +1,7 @@
 //! What a member does when a moment has come.
 
 ghost use Rattle.std.specs.Prelude.{◌≡◌, ◌≤◌, Some, Ok, IfOk, OnErr, true, false, max};
-ghost use Rattle.srm_names.specs.declared.limits.TheConstants.{MOMENT};
+ghost use Rattle.srm_names.specs.declared.limits.TheConstants.{LATEST_MOMENT};
 ghost use Rattle.srm_entries.specs.Entries.{is_gone};
 ghost use Rattle.srm_agent.specs.Noting.{Enters, Stays, AnswersAs, Does, IsTicked};
 ghost use Rattle.srm_agent.specs.Ticking.{IsDue, IsIdle, TicksAs, datagrams_of, ticked_with};
@@ -35,7 +35,7 @@ impl<W: Words + Drop> Agent<W> {
     /// Refused is [`AgentFault::Memory`] alone, and not where nothing is due.
     #[tactic(auto, using(crate::proofs::NextDue::stirs, crate::proofs::NextDue::stirs_at))]
     pub fn tick_noted(&mut self, now: u64) -> Result<Noted<Ticked>, AllocError>
-        requires { now ≤ MOMENT }
+        requires { now ≤ LATEST_MOMENT }
         ensures ok { IfOk result (λ noted. Enters W.draw (Some now) Input.Ticked self.old self.new noted.entry) }
         ensures answer { IfOk result (λ noted. AnswersAs (IsTicked self.old.config.session noted.entry) noted.entry.verdict noted.answer) }
         ensures err { OnErr result (Stays self.old self.new) }
@@ -58,7 +58,7 @@ impl<W: Words + Drop> Agent<W> {
     /// [`tick_noted`](Agent::tick_noted) without its entry, which isn't made.
     #[tactic(auto, using(crate::proofs::Entering::tick_allowed, crate::proofs::Passing::tick_enters))]
     pub fn tick(&mut self, now: u64) -> Result<Ticked, AgentFault>
-        requires { now ≤ MOMENT }
+        requires { now ≤ LATEST_MOMENT }
         ensures does { Does W.draw (Some now) Input.Ticked (IsTicked self.old.config.session) self.old self.new result }
         ensures due { OnErr result (Stirs now self.old) }
     {
@@ -68,7 +68,7 @@ impl<W: Words + Drop> Agent<W> {
     /// The same. Only want of memory refuses it.
     #[tactic(auto, using(crate::proofs::NextDue::stirs, crate::proofs::NextDue::stirs_at, crate::proofs::Passing::ticks_at))]
     fn tick_alone(&mut self, now: u64) -> Result<Ticked, AllocError>
-        requires { now ≤ MOMENT }
+        requires { now ≤ LATEST_MOMENT }
         ensures ok { IfOk result (TicksAs W.draw now (max now self.old.last) self.old self.new) }
         ensures err { OnErr result (Stays self.old self.new) }
         ensures due { OnErr result (Stirs now self.old) }
@@ -88,7 +88,7 @@ impl<W: Words + Drop> Agent<W> {
     fn wait(&mut self, moment: u64) -> Ticked
         requires here { is_gone self.old.state ≡ false }
         requires later { self.old.last ≤ moment }
-        requires moment { moment ≤ MOMENT }
+        requires moment { moment ≤ LATEST_MOMENT }
         requires early { IsEarly self.old moment }
         ensures ticks { TicksAs W.draw moment moment self.old self.new result }
         ensures idle { IsIdle result }
@@ -99,7 +99,7 @@ impl<W: Words + Drop> Agent<W> {
 
     /// A tick that does nothing: nothing but the last moment changes. It takes no memory.
     fn rest(&mut self, moment: u64) -> Ticked
-        requires { moment ≤ MOMENT }
+        requires { moment ≤ LATEST_MOMENT }
         ensures new { self.new ≡ record self.old { last = moment } }
         ensures idle { IsIdle result }
         ensures state { result.state ≡ self.old.state }
@@ -118,7 +118,7 @@ impl<W: Words + Drop> Agent<W> {
     fn act(&mut self, due: Due, notes: bool, moment: u64) -> Result<Acted, AllocError>
         requires here { is_gone self.old.state ≡ false }
         requires later { self.old.last ≤ moment }
-        requires moment { moment ≤ MOMENT }
+        requires moment { moment ≤ LATEST_MOMENT }
         requires due { IsDue self.old moment due }
         ensures ok { IfOk result (λ acted. TicksAs W.draw moment moment self.old self.new acted.ticked) }
         ensures asks { IfOk result (λ acted. acted.ticked.asks ≡ due.handed.asks) }

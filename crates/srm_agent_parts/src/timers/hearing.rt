@@ -1,7 +1,7 @@
 //! What data, repairs and session messages do to the timers.
 
 ghost use Rattle.std.specs.Prelude.{◌≡◌, ◌≤◌, length, true, IfOk, IsOk, OnErr, [], ◌∷◌, OnOk};
-ghost use Rattle.srm_names.specs.declared.limits.TheConstants.{MOMENT};
+ghost use Rattle.srm_names.specs.declared.limits.TheConstants.{LATEST_MOMENT};
 ghost use Rattle.srm_names.specs.Names.{ascending, name_below};
 ghost use Rattle.srm_timers.specs.AskCalls.{AnswerReady, Gained, AskAdds};
 ghost use Rattle.srm_timers.specs.FixCalls.{FixStays, FixPlace};
@@ -36,12 +36,12 @@ impl Timers {
     ) -> Result<Vec<Arm>, AllocError>
         requires rising { ascending name_below fresh.now ≡ true }
         requires distances { AreDistances dist.now }
-        requires now { now ≤ MOMENT }
+        requires now { now ≤ LATEST_MOMENT }
         ensures hears { IfOk result (λ arms. TimersHear IsSession fresh.now dist.now now arms.items self.old self.new) }
         ensures few { IfOk result (λ arms. length arms.items ≤ length fresh.now) }
-        ensures drawn { IfOk result (λ arms. WaitsAreDrawn W.draw self.old words.old arms.items words.new) }
+        ensures chosen { IfOk result (λ arms. WaitsAreDrawn W.draw self.old words.old arms.items words.new) }
         ensures kept { OnErr result (TimersStay self.old self.new) }
-        ensures undrawn { OnErr result (words.new ≡ words.old) }
+        ensures unchosen { OnErr result (words.new ≡ words.old) }
         ensures settings { KeepSettings self.old self.new }
         ensures room { AnswerReady fresh.now self.old.asks → IsOk result }
     {
@@ -62,12 +62,12 @@ impl Timers {
     ) -> Result<Vec<Arm>, AllocError>
         requires rising { ascending name_below fresh.now ≡ true }
         requires distances { AreDistances dist.now }
-        requires now { now ≤ MOMENT }
+        requires now { now ≤ LATEST_MOMENT }
         ensures hears { IfOk result (λ arms. TimersHear (IsDrawopOf repaired name) fresh.now dist.now now arms.items self.old self.new) }
         ensures few { IfOk result (λ arms. length arms.items ≤ length fresh.now) }
-        ensures drawn { IfOk result (λ arms. WaitsAreDrawn W.draw self.old words.old arms.items words.new) }
+        ensures chosen { IfOk result (λ arms. WaitsAreDrawn W.draw self.old words.old arms.items words.new) }
         ensures kept { OnErr result (TimersStay self.old self.new) }
-        ensures undrawn { OnErr result (words.new ≡ words.old) }
+        ensures unchosen { OnErr result (words.new ≡ words.old) }
         ensures settings { KeepSettings self.old self.new }
     {
         self.drawop_room(name, repaired)?;
@@ -108,7 +108,7 @@ impl Timers {
     fn end_repair(&mut self, name: Name, repaired: bool, dist: &[u64], now: u64)
         requires place { repaired ≡ true → FixPlace self.old.fixes name }
         requires distances { AreDistances dist.now }
-        requires now { now ≤ MOMENT }
+        requires now { now ≤ LATEST_MOMENT }
         ensures fixes { FixEnds repaired now dist.now name self.old.fixes self.new.fixes }
         ensures asks { self.new.asks ≡ self.old.asks }
         ensures settings { KeepSettings self.old self.new }

@@ -1,10 +1,10 @@
 //! What requests do to the timers.
 
 ghost use Rattle.std.specs.Prelude.{◌≡◌, ◌≤◌, ◌+◌, length, true, IfOk, OnErr, ◌<◌, ◌++◌, [], vec_len, vec_capacity, option_to_list, OnOk, ◌∷◌};
-ghost use Rattle.srm_names.specs.declared.limits.TheConstants.{MOMENT};
+ghost use Rattle.srm_names.specs.declared.limits.TheConstants.{LATEST_MOMENT};
 ghost use Rattle.srm_names.specs.Names.{ascending, name_below};
-ghost use Rattle.srm_timers.specs.AskCalls.{AnswerReady, AskHolds};
-ghost use Rattle.srm_timers.specs.FixCalls.{Asked, FixAdds, FixHolds, FixPlace, FixPlaces};
+ghost use Rattle.srm_timers.specs.AskCalls.{AnswerReady, AskKeepsRoom};
+ghost use Rattle.srm_timers.specs.FixCalls.{Asked, FixAdds, FixKeepsRoom, FixPlace, FixPlaces};
 ghost use Rattle.srm_timers.specs.Distances.{AreDistances};
 ghost use Rattle.srm_agent_parts.specs.TimerCalls.{IsAnswered, KeepSettings, TimersHearRequest, TimersStay, WaitsAreDrawn};
 
@@ -31,12 +31,12 @@ impl Timers {
     ) -> Result<Vec<Arm>, AllocError>
         requires rising { ascending name_below fresh.now ≡ true }
         requires distances { AreDistances dist.now }
-        requires now { now ≤ MOMENT }
+        requires now { now ≤ LATEST_MOMENT }
         ensures hears { IfOk result (λ arms. TimersHearRequest store.now from asked.now fresh.now dist.now now arms.items self.old self.new) }
         ensures few { IfOk result (λ arms. length arms.items ≤ length asked.now + length fresh.now) }
-        ensures drawn { IfOk result (λ arms. WaitsAreDrawn W.draw self.old words.old arms.items words.new) }
+        ensures chosen { IfOk result (λ arms. WaitsAreDrawn W.draw self.old words.old arms.items words.new) }
         ensures kept { OnErr result (TimersStay self.old self.new) }
-        ensures undrawn { OnErr result (words.new ≡ words.old) }
+        ensures unchosen { OnErr result (words.new ≡ words.old) }
         ensures settings { KeepSettings self.old self.new }
     {
         let mut arms = self.request_room(asked, fresh)?;
@@ -70,10 +70,10 @@ impl Timers {
         requires { FixPlace self.old.fixes name }
         ensures noted { FixAdds (Asked name from ∷ []) self.old.fixes self.new.fixes }
         ensures asks { self.new.asks ≡ self.old.asks }
-        ensures places { FixHolds self.old.fixes self.new.fixes }
+        ensures places { FixKeepsRoom self.old.fixes self.new.fixes }
         ensures settings { KeepSettings self.old self.new }
     {
-        self.fixes.note(name, from);
+        self.fixes.note_asker(name, from);
     }
 
     /// One name of a request that a member sent. Takes no memory.
@@ -88,11 +88,11 @@ impl Timers {
     ) -> Option<Arm>
         requires place { FixPlace self.old.fixes name }
         requires distances { AreDistances dist.now }
-        requires now { now ≤ MOMENT }
+        requires now { now ≤ LATEST_MOMENT }
         ensures answered { IsAnswered is_held name from dist.now now result self.old self.new }
-        ensures drawn { WaitsAreDrawn W.draw self.old words.old (option_to_list result) words.new }
-        ensures places { FixHolds self.old.fixes self.new.fixes }
-        ensures room { AskHolds self.old.asks self.new.asks }
+        ensures chosen { WaitsAreDrawn W.draw self.old words.old (option_to_list result) words.new }
+        ensures places { FixKeepsRoom self.old.fixes self.new.fixes }
+        ensures room { AskKeepsRoom self.old.asks self.new.asks }
     {
         if is_held {
             self.fixes.answer(name, from, true, dist, now, words)

@@ -1,7 +1,7 @@
 //! What a tick does to the timers.
 
 ghost use Rattle.std.specs.Prelude.{◌≡◌, ◌≤◌, length, IfOk, OnOk, OnErr};
-ghost use Rattle.srm_names.specs.declared.limits.TheConstants.{MOMENT};
+ghost use Rattle.srm_names.specs.declared.limits.TheConstants.{LATEST_MOMENT};
 ghost use Rattle.srm_timers.specs.FixCalls.{FixStays};
 ghost use Rattle.srm_deadlines.specs.Places.{HasPlaces};
 ghost use Rattle.srm_timers.specs.Distances.{AreDistances};
@@ -20,14 +20,14 @@ impl Timers {
         ensures asks { self.new.asks ≡ self.old.asks }
         ensures fixes { FixStays self.old.fixes self.new.fixes }
         ensures settings { KeepSettings self.old self.new }
-        ensures places { OnOk result (HasPlaces names.now self.new.fixes.holds) }
+        ensures places { OnOk result (HasPlaces names.now self.new.fixes.held_off) }
     {
-        self.fixes.room_to_hold(names)
+        self.fixes.room_to_hold_off(names)
     }
 
     /// The names whose request timers have run out are asked for now, and those whose repair timers have run out are repaired:
     /// the request timers are set again, one exponent higher, and the repair timers are gone. These are their names, as
-    /// `pending_asks` and `pending_fixes` say, which aren't looked for again. Only want of memory refuses it.
+    /// `asks_that_ran_out` and `fixes_that_ran_out` say, which aren't looked for again. Only want of memory refuses it.
     #[tactic(auto, using(crate::proofs::Midway::asks_stay, crate::proofs::Midway::stay_on))]
     pub fn tick<W: Words>(
         &mut self,
@@ -40,12 +40,12 @@ impl Timers {
         requires asks { AreDueAsks now self.old asks.now }
         requires fixes { AreDueFixes now self.old fixes.now }
         requires distances { AreDistances dist.now }
-        requires now { now ≤ MOMENT }
+        requires now { now ≤ LATEST_MOMENT }
         ensures ticks { IfOk result (λ arms. TimersTick asks.now fixes.now dist.now now arms.items self.old self.new) }
         ensures few { IfOk result (λ arms. length arms.items ≤ length asks.now) }
-        ensures drawn { IfOk result (λ arms. WaitsAreDrawn W.draw self.old words.old arms.items words.new) }
+        ensures chosen { IfOk result (λ arms. WaitsAreDrawn W.draw self.old words.old arms.items words.new) }
         ensures kept { OnErr result (TimersStay self.old self.new) }
-        ensures undrawn { OnErr result (words.new ≡ words.old) }
+        ensures unchosen { OnErr result (words.new ≡ words.old) }
         ensures settings { KeepSettings self.old self.new }
     {
         self.room_to_repair(fixes)?;

@@ -53,7 +53,7 @@ impl Well {
     /// what the well still holds. So what was received of a pen is a prefix of what it sent, in order, with nothing lost or doubled.
     /// The pen is one of this well. It neither waits nor takes memory, and changes nothing.
     #[tactic(auto, using(crate::proofs::InkSteps::joins, crate::proofs::InkSteps::parts))]
-    pub fn settle(&mut self, inked: Inked) -> Inked
+    pub fn join_pen(&mut self, inked: Inked) -> Inked
         requires { inked.well ≡ self.old.well }
         ensures same { self.new ≡ self.old }
         ensures pen { result ≡ inked }

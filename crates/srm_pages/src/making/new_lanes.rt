@@ -12,7 +12,7 @@ ghost use Rattle.srm_pages.specs.Seats.{new_mark, new_sight};
 use crate::dealer::Dealer;
 use crate::ends;
 use crate::feed::Feed;
-use crate::lane::{Ends, LanePass, Receiver, Sender};
+use crate::lane::{LanePass, LaneSplit, Receiver, Sender};
 use crate::lookout::Lookout;
 use crate::marker::Marker;
 use crate::tap::Tap;
@@ -92,14 +92,14 @@ fn lane(alloc: Global, marker: Marker, lookout: Lookout) -> Result<(Feed, Tap), 
     ensures { IfOk result (λ e. AreNewEnds marker.board marker.slot e.0 e.1) }
 {
     let (sender, receiver, mut pass) = channel(alloc)?;
-    let last = sender.another::<Ends>(&mut pass);
+    let last = sender.another::<LaneSplit>(&mut pass);
     let feed = Feed {
         sender,
         pass,
         lookout,
         slot: marker.slot(),
         count: 0,
-        lost: false,
+        disconnected: false,
     };
     let tap = Tap {
         receiver,

@@ -4,7 +4,7 @@ use crate::drawing::legend::STYLE;
 use crate::picture::Picture;
 use crate::plan::{MOMENTS, Plan};
 use crate::subject::Subject;
-use crate::tick::TickKind;
+use crate::tick::LocalActionKind;
 use srm_names::Member;
 use std::io;
 use std::io::Write;
@@ -116,7 +116,7 @@ fn write_lifeline<W: Write>(
 
 /// Where a member goes, if it does.
 fn gone_at(picture: &Picture, plan: &Plan, member: Member) -> Option<u64> {
-    let gone = picture.ticks.iter().find(|tick| tick.kind == TickKind::Gone
+    let gone = picture.ticks.iter().find(|tick| tick.kind == LocalActionKind::Gone
         && tick.at.member == member)?;
-    Some(plan.y(gone.at.row, gone.nth))
+    Some(plan.y(gone.at.entry, gone.nth))
 }

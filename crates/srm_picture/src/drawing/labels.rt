@@ -4,7 +4,7 @@ use crate::escaping::escaped;
 use crate::picture::Picture;
 use crate::plan::Plan;
 use crate::subject::Subject;
-use crate::tick::{Tick, TickKind};
+use crate::tick::{LocalAction, LocalActionKind};
 use srm_codec::Datagram;
 use std::alloc::Global;
 use std::io::Write;
@@ -61,12 +61,12 @@ pub(super) fn write_datagrams<W: Write>(
         }
         last = Some(arrow.number);
         let from = arrow.launch.from;
-        let entry = subject.entries.get(from.row);
+        let entry = subject.entries.get(from.entry);
         let datagram = entry.and_then(|entry| entry.effects.outs.as_slice().get(arrow.launch.nth));
         if let Some(datagram) = datagram {
             let x = plan.x(from.member).saturating_add(9);
-            let y = plan.y(from.row, arrow.launch.nth).saturating_sub(5);
-            let class = arrow.launch.kind.word();
+            let y = plan.y(from.entry, arrow.launch.nth).saturating_sub(5);
+            let class = arrow.launch.kind.name();
             let shown = ShownDatagram(datagram);
             writeln!(
                 out,
@@ -97,32 +97,35 @@ pub(super) fn write_ticks<W: Write>(
     Ok(())
 }
 
-fn line_of_tick<'a>(subject: &'a Subject<'_>, tick: &Tick) -> &'a [u8] {
+fn line_of_tick<'a>(subject: &'a Subject<'_>, tick: &LocalAction) -> &'a [u8] {
     let word: &[u8] = match tick.kind {
-        TickKind::Gone => b"gone ",
-        TickKind::Drew | TickKind::Gave | TickKind::Took | TickKind::Noted => b"",
+        LocalActionKind::Gone => b"gone ",
+        LocalActionKind::Drew
+        | LocalActionKind::Gave
+        | LocalActionKind::Took
+        | LocalActionKind::Other => b"",
     };
-    line_of(subject.lines_of(tick.at.row), word, 0)
+    line_of(subject.lines_of(tick.at.entry), word, 0)
 }
 
-fn write_tick<W: Write>(out: &mut W, plan: &Plan, tick: &Tick) -> io::Result<()> {
+fn write_tick<W: Write>(out: &mut W, plan: &Plan, tick: &LocalAction) -> io::Result<()> {
     let x = plan.x(tick.at.member);
-    let y = plan.y(tick.at.row, tick.nth);
+    let y = plan.y(tick.at.entry, tick.nth);
     match tick.kind {
-        TickKind::Drew => writeln!(
+        LocalActionKind::Drew => writeln!(
             out,
             "<rect class=\"drew\" x=\"{}\" y=\"{}\" width=\"9\" height=\"9\"/>",
             x.saturating_sub(4),
             y.saturating_sub(4)
         ),
-        TickKind::Gave => writeln!(out, "<path class=\"gave\" d=\"M{x} {y}h11\"/>"),
-        TickKind::Took => writeln!(
+        LocalActionKind::Gave => writeln!(out, "<path class=\"gave\" d=\"M{x} {y}h11\"/>"),
+        LocalActionKind::Took => writeln!(
             out,
             "<path class=\"gave\" d=\"M{x} {y}h11\"/><circle class=\"took\" cx=\"{}\" cy=\"{y}\" r=\"3.5\"/>",
             x.saturating_add(9)
         ),
-        TickKind::Noted => writeln!(out, "<path class=\"noted\" d=\"M{x} {y}h7\"/>"),
-        TickKind::Gone => writeln!(
+        LocalActionKind::Other => writeln!(out, "<path class=\"noted\" d=\"M{x} {y}h7\"/>"),
+        LocalActionKind::Gone => writeln!(
             out,
             "<path class=\"gone\" d=\"M{} {y}h16\"/>",
             x.saturating_sub(8)
@@ -134,15 +137,18 @@ fn write_label<W: Write>(
     alloc: Global,
     out: &mut W,
     plan: &Plan,
-    tick: &Tick,
+    tick: &LocalAction,
     line: &[u8],
 ) -> io::Result<()> {
     let class = match tick.kind {
-        TickKind::Noted => "label dim",
-        TickKind::Drew | TickKind::Gave | TickKind::Took | TickKind::Gone => "label",
+        LocalActionKind::Other => "label dim",
+        LocalActionKind::Drew
+        | LocalActionKind::Gave
+        | LocalActionKind::Took
+        | LocalActionKind::Gone => "label",
     };
     let x = plan.x(tick.at.member).saturating_add(17);
-    let y = plan.y(tick.at.row, tick.nth).saturating_add(4);
+    let y = plan.y(tick.at.entry, tick.nth).saturating_add(4);
     write!(out, "<text class=\"{class}\" x=\"{x}\" y=\"{y}\">")?;
     let shown = line.get(..LABEL).unwrap_or(line);
     write_text(alloc, out, shown)?;

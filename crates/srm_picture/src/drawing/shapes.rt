@@ -33,7 +33,7 @@ pub(super) fn write_brackets<W: Write>(
             ArmKind::Fix => "fix",
         };
         write!(out, "<g class=\"bracket {class}\"><title>")?;
-        let line = line_of(subject.lines_of(bracket.from.row), b"arm ", bracket.nth);
+        let line = line_of(subject.lines_of(bracket.from.entry), b"arm ", bracket.nth);
         write_text(alloc, out, line)?;
         writeln!(out, ", {}</title>", ending_of(bracket))?;
         write_bracket(out, plan, bracket, x)?;
@@ -55,7 +55,7 @@ fn ending_of(bracket: &Bracket) -> &'static str {
 }
 
 fn write_bracket<W: Write>(out: &mut W, plan: &Plan, bracket: &Bracket, x: u64) -> io::Result<()> {
-    let from = plan.y(bracket.from.row, 0).saturating_add(3);
+    let from = plan.y(bracket.from.entry, 0).saturating_add(3);
     let Some(end) = bracket.end else {
         return writeln!(
             out,
@@ -65,7 +65,7 @@ fn write_bracket<W: Write>(out: &mut W, plan: &Plan, bracket: &Bracket, x: u64) 
         );
     };
     let until = plan
-        .y(end.row, 0)
+        .y(end.entry, 0)
         .saturating_sub(3)
         .max(from.saturating_add(6));
     writeln!(
@@ -108,7 +108,7 @@ pub(super) fn write_arrows<W: Write>(
         write!(
             out,
             "<g class=\"arrow {}\"><title>",
-            arrow.launch.kind.word()
+            arrow.launch.kind.name()
         )?;
         write_title(alloc, out, subject, arrow)?;
         writeln!(out, "</title>")?;
@@ -129,12 +129,16 @@ fn write_title<W: Write>(
     write_text(
         alloc,
         out,
-        line_of(subject.lines_of(launch.from.row), b"out ", launch.nth),
+        line_of(subject.lines_of(launch.from.entry), b"out ", launch.nth),
     )?;
     match arrow.end {
-        ArrowEnd::Taken(at) | ArrowEnd::Ignored(at) => {
+        ArrowEnd::Accepted(at) | ArrowEnd::Ignored(at) => {
             write!(out, ", ")?;
-            write_text(alloc, out, line_of(subject.lines_of(at.row), b"heard ", 0))
+            write_text(
+                alloc,
+                out,
+                line_of(subject.lines_of(at.entry), b"heard ", 0),
+            )
         }
         ArrowEnd::Lost => write!(out, ", never delivered"),
     }
@@ -142,7 +146,7 @@ fn write_title<W: Write>(
 
 fn write_arrow<W: Write>(out: &mut W, plan: &Plan, arrow: &Arrow) -> io::Result<()> {
     match &arrow.end {
-        ArrowEnd::Taken(at) => {
+        ArrowEnd::Accepted(at) => {
             write!(out, "<path class=\"way taken\" d=\"")?;
             write_way(out, plan, arrow, at)?;
             writeln!(out, "\"/>")
@@ -151,7 +155,7 @@ fn write_arrow<W: Write>(out: &mut W, plan: &Plan, arrow: &Arrow) -> io::Result<
             write!(out, "<path class=\"way\" d=\"")?;
             write_way(out, plan, arrow, at)?;
             writeln!(out, "\"/>")?;
-            write_cross(out, plan.x(at.member), plan.y(at.row, 0))
+            write_cross(out, plan.x(at.member), plan.y(at.entry, 0))
         }
         ArrowEnd::Lost => write_lost(out, plan, &arrow.launch),
     }
@@ -160,7 +164,7 @@ fn write_arrow<W: Write>(out: &mut W, plan: &Plan, arrow: &Arrow) -> io::Result<
 /// A way that ends between the lifelines.
 fn write_lost<W: Write>(out: &mut W, plan: &Plan, launch: &Launch) -> io::Result<()> {
     let x = plan.x(launch.from.member);
-    let y = plan.y(launch.from.row, launch.nth);
+    let y = plan.y(launch.from.entry, launch.nth);
     let end = lost_x(plan, launch.from.member, x);
     let bottom = y.saturating_add(FALL);
     writeln!(out, "<path class=\"way\" d=\"M{x} {y}L{end} {bottom}\"/>")?;
@@ -171,8 +175,8 @@ fn write_lost<W: Write>(out: &mut W, plan: &Plan, launch: &Launch) -> io::Result
 fn write_way<W: Write>(out: &mut W, plan: &Plan, arrow: &Arrow, at: &Point) -> io::Result<()> {
     let from = &arrow.launch.from;
     let x = plan.x(from.member);
-    let y = plan.y(from.row, arrow.launch.nth);
-    let end = plan.y(at.row, 0);
+    let y = plan.y(from.entry, arrow.launch.nth);
+    let end = plan.y(at.entry, 0);
     if at.member == from.member {
         let bow = x.saturating_add(LINE).saturating_add(LINE);
         write!(out, "M{x} {y}C{bow} {y} {bow} {end} {x} {end}")

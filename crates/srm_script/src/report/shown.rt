@@ -6,9 +6,9 @@ use std::fmt;
 
 /// A page, as the number of its creator, a dot and its own number.
 #[derive(Drop)]
-pub struct ShownPage(pub Page);
+pub struct PrintedPage(pub Page);
 
-impl fmt::Display for ShownPage {
+impl fmt::Display for PrintedPage {
     fn fmt<W: fmt::Write>(&self, f: &mut fmt::Formatter<W>) -> fmt::Result {
         let creator = self.0.creator.number();
         let number = self.0.number;
@@ -18,22 +18,22 @@ impl fmt::Display for ShownPage {
 
 /// A name, as the number of its source, its page and its own number.
 #[derive(Drop)]
-pub struct ShownName(pub Name);
+pub struct PrintedName(pub Name);
 
-impl fmt::Display for ShownName {
+impl fmt::Display for PrintedName {
     fn fmt<W: fmt::Write>(&self, f: &mut fmt::Formatter<W>) -> fmt::Result {
         let stream = self.0.stream();
         let source = stream.source.number();
         let number = self.0.number();
-        write!(f, "{source} {} {number}", ShownPage(stream.page))
+        write!(f, "{source} {} {number}", PrintedPage(stream.page))
     }
 }
 
 /// A timer that was set: what for, the name, the exponent and the wait in microseconds.
 #[derive(Drop)]
-pub struct ShownArm<'a>(pub &'a Arm);
+pub struct PrintedArm<'a>(pub &'a Arm);
 
-impl fmt::Display for ShownArm<'_> {
+impl fmt::Display for PrintedArm<'_> {
     fn fmt<W: fmt::Write>(&self, f: &mut fmt::Formatter<W>) -> fmt::Result {
         let kind = match self.0.kind {
             ArmKind::Ask => "ask",
@@ -41,31 +41,31 @@ impl fmt::Display for ShownArm<'_> {
         };
         let exponent = self.0.exponent;
         let wait = self.0.wait;
-        write!(f, "{kind} {} {exponent} {wait}", ShownName(self.0.name))
+        write!(f, "{kind} {} {exponent} {wait}", PrintedName(self.0.name))
     }
 }
 
 /// What a slot's worker was given or took, if there was something.
 #[derive(Drop)]
-pub struct ShownAnswer<'a>(pub &'a Option<PageMsg>);
+pub struct PrintedAnswer<'a>(pub &'a Option<PageMsg>);
 
-impl fmt::Display for ShownAnswer<'_> {
+impl fmt::Display for PrintedAnswer<'_> {
     fn fmt<W: fmt::Write>(&self, f: &mut fmt::Formatter<W>) -> fmt::Result {
         match self.0 {
             None => write!(f, "none"),
-            Some(message) => write!(f, "{}", ShownMessage(message)),
+            Some(message) => write!(f, "{}", PrintedMessage(message)),
         }
     }
 }
 
 /// A message of a page feed, as printed lines have it. A byte of a body that isn't printable ASCII is shown as `?`.
 #[derive(Drop)]
-pub struct ShownMessage<'a>(pub &'a PageMsg);
+pub struct PrintedMessage<'a>(pub &'a PageMsg);
 
-impl fmt::Display for ShownMessage<'_> {
+impl fmt::Display for PrintedMessage<'_> {
     fn fmt<W: fmt::Write>(&self, f: &mut fmt::Formatter<W>) -> fmt::Result {
         match self.0 {
-            PageMsg::Open(page) => write!(f, "open {}", ShownPage(*page)),
+            PageMsg::Open(page) => write!(f, "open {}", PrintedPage(*page)),
             PageMsg::Draw(drawop) => {
                 let source = drawop.name.source().number();
                 let number = drawop.name.number();

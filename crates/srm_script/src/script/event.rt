@@ -5,7 +5,7 @@ ghost use Rattle.srm_world.specs.Events.{IsTimely};
 
 use super::line_reader::{LineFault, LineReader};
 use bytes::Bytes;
-use srm_names::BODY;
+use srm_names::LONGEST_BODY;
 use srm_world::Event;
 use std::alloc::Global;
 
@@ -33,7 +33,7 @@ fn read_draw(alloc: Global, mut reader: LineReader<'_>) -> Result<Event, LineFau
     let now = reader.moment()?;
     let page = reader.page()?;
     let text = reader.rest().unwrap_or("");
-    if text.len() > usize::from(BODY) {
+    if text.len() > usize::from(LONGEST_BODY) {
         return Err(LineFault::Bad);
     }
     let body = Bytes::copy_from_slice(alloc, text.as_bytes())?;

@@ -1,11 +1,11 @@
 //! Reading a line, word by word.
 
 ghost use Rattle.std.specs.Prelude.{◌≤◌, IfOk};
-ghost use Rattle.srm_names.specs.declared.limits.TheConstants.{MOMENT};
+ghost use Rattle.srm_names.specs.declared.limits.TheConstants.{LATEST_MOMENT};
 
 use super::number::read_number;
-use crate::fault::Fault;
-use srm_names::{MEMBERS, MOMENT, Member, Page};
+use crate::fault::ScriptFault;
+use srm_names::{LATEST_MOMENT, MEMBERS, Member, Page};
 use std::alloc::AllocError;
 
 /// Why a line isn't taken.
@@ -17,10 +17,10 @@ pub enum LineFault {
 
 impl LineFault {
     /// The fault of a script that has this line, by its number from 1.
-    pub fn at(self, line: u64) -> Fault {
+    pub fn at(self, line: u64) -> ScriptFault {
         match self {
-            LineFault::Bad => Fault::BadLine(line),
-            LineFault::Memory => Fault::Memory,
+            LineFault::Bad => ScriptFault::BadLine(line),
+            LineFault::Memory => ScriptFault::Memory,
         }
     }
 }
@@ -105,9 +105,9 @@ impl<'a> LineReader<'a> {
 
     /// A moment in microseconds.
     pub fn moment(&mut self) -> Result<u64, LineFault>
-        ensures { IfOk result (λ now. now ≤ MOMENT) }
+        ensures { IfOk result (λ now. now ≤ LATEST_MOMENT) }
     {
-        self.number(MOMENT)
+        self.number(LATEST_MOMENT)
     }
 
     pub fn slot(&mut self) -> Result<u8, LineFault> {

@@ -10,7 +10,7 @@ use srm_names::Member;
 use std::alloc::{AllocError, Global};
 
 /// The number of the session of each script.
-const SESSION: u32 = 1;
+const SCRIPT_SESSION: u32 = 1;
 
 /// A request waits from this many distances..
 const REQUEST_FROM: u8 = 2;
@@ -39,7 +39,7 @@ pub fn roster(alloc: Global, members: u8, rate: u32, depth: u32) -> Result<Vec<C
         let config = Config::new(
             me,
             members,
-            SESSION,
+            SCRIPT_SESSION,
             rate,
             depth,
             REQUEST_FROM,

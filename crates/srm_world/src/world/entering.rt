@@ -3,12 +3,12 @@
 ghost use Rattle.std.specs.Prelude.{◌≡◌, [], length, IfOk, IfNone, IfSome, OnErr};
 ghost use Rattle.srm_world.specs.Events.{IsTimely};
 ghost use Rattle.srm_world.specs.Sent.{all_of};
-ghost use Rattle.srm_world.specs.Worlds.{Appends, EntersAll, Keeps, Skips};
+ghost use Rattle.srm_world.specs.Worlds.{Appends, EntersAll, KeepsParticipants, Skips};
 
 use crate::appending::append;
 use crate::event::Event;
 use crate::participant::Participant;
-use crate::sent::Sent;
+use crate::sent::SentDatagrams;
 use crate::trace::Trace;
 use srm_agent::Entry;
 use srm_names::PAGES;
@@ -20,13 +20,13 @@ impl Trace {
     pub(crate) fn append<W: Words + Drop>(
         &mut self,
         participants: &mut [Participant<W>],
-        sent: &mut Sent,
+        sent: &mut SentDatagrams,
         event: &Event,
     ) -> Result<bool, AllocError>
         requires timely { IsTimely event.now }
         requires settled { sent.old.newest ≡ [] }
         ensures ok { IfOk result (Appends W.draw participants.old participants.new (all_of sent.old) (all_of sent.new) event.now self.old self.new) }
-        ensures err { OnErr result (Keeps participants.old participants.new (all_of sent.old) (all_of sent.new)) }
+        ensures err { OnErr result (KeepsParticipants participants.old participants.new (all_of sent.old) (all_of sent.new)) }
         ensures same { OnErr result (self.new ≡ self.old) }
     {
         self.entries.reserve(1)?;
@@ -43,14 +43,14 @@ impl Trace {
 /// The entry of an event, unless it is skipped. The members and what was sent go on with it.
 fn entry_of<W: Words + Drop>(
     participants: &mut [Participant<W>],
-    sent: &mut Sent,
+    sent: &mut SentDatagrams,
     event: &Event,
 ) -> Result<Option<Entry>, AllocError>
     requires timely { IsTimely event.now }
     requires settled { sent.old.newest ≡ [] }
     ensures entry { IfOk result (λ entry. IfSome entry (EntersAll W.draw participants.old participants.new (all_of sent.old) (all_of sent.new) event.now)) }
     ensures skipped { IfOk result (λ entry. IfNone entry (Skips participants.old participants.new (all_of sent.old) (all_of sent.new) event.now)) }
-    ensures err { OnErr result (Keeps participants.old participants.new (all_of sent.old) (all_of sent.new)) }
+    ensures err { OnErr result (KeepsParticipants participants.old participants.new (all_of sent.old) (all_of sent.new)) }
 {
     let place = usize::from(event.member());
     if place >= participants.len() {

@@ -13,10 +13,10 @@ unwrap-requires-2 c = not_refused c.learn.result
 
 pub returns : goal.returns
 returns c = record {
-  each = λ inserted shown settled h.
+  each = λ inserted evidence settled h.
       let first = not_refused c.insert.result (c.insert.ensures.slot (c.args.drawop.name.stream.page ∷ []) (on_page c.args.drawop.name) c.requires.slots) (c.insert.ensures.place (has_place c.args.drawop.name _ c.requires)) in
       let second = not_refused c.learn.result
       (c.learn.ensures.slot (c.args.drawop.name.stream.page ∷ []) (on_page c.args.drawop.name) (c.insert.ensures.slots.each (c.args.drawop.name.stream.page ∷ []) (on_page c.args.drawop.name) c.requires.slots))
       c.learn.ensures.memory in
-      ok_then c.learn.result second c.learn.ensures.fits (inserted ++ c.args.drawop ∷ []) shown settled (ok_then c.insert.result first c.insert.ensures.fits inserted shown settled h);
+      ok_then c.learn.result second c.learn.ensures.fits (inserted ++ c.args.drawop ∷ []) evidence settled (ok_then c.insert.result first c.insert.ensures.fits inserted evidence settled h);
 }

@@ -1,6 +1,6 @@
 use Rattle.std.proofs.Common.{take}
-use Rattle.srm_live.specs.Typing.{Draws}
+use Rattle.srm_live.specs.Typing.{DrawsTyped}
 use Rattle.srm_live.proofs.typing.draw_bytes.Given as goal
 
 abbrev pub invariant-loop-byte : goal.invariant-loop-byte
-invariant-loop-byte g l = Draws (take l.byte-index l.bytes) l.initial.line.kept l.initial.pen l.line.kept l.pen
+invariant-loop-byte g l = DrawsTyped (take l.byte-index l.bytes) l.initial.line.kept l.initial.pen l.line.kept l.pen

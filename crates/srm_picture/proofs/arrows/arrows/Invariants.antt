@@ -1,7 +1,7 @@
 use Rattle.std.proofs.Common.{◌≡◌, take}
-use Rattle.srm_picture.specs.Rows.{by_row}
+use Rattle.srm_picture.specs.Rows.{by_entry}
 use Rattle.srm_picture.specs.Arrows.{arrows_of}
 use Rattle.srm_picture.proofs.arrows.arrows.Given as goal
 
 abbrev pub invariant-loop-number : goal.invariant-loop-number
-invariant-loop-number l = l.arrows.items ≡ by_row (arrows_of l.hearings) (take l.number l.launches)
+invariant-loop-number l = l.arrows.items ≡ by_entry (arrows_of l.hearings) (take l.number l.launches)

@@ -1,6 +1,6 @@
 use Rattle.std.proofs.Common.{◌+◌, ◌++◌, ap, ◌∙◌}
 use Rattle.std.proofs.lemmas.List.{take_all}
-use Rattle.srm_entries.specs.Entries.{held, shown_to_exist, known}
+use Rattle.srm_entries.specs.Entries.{held, evidence_in, known}
 use Rattle.srm_agent.specs.Growth.{is_fresh_of}
 use Rattle.srm_entries.specs.Verdicts.{settlings}
 use Rattle.srm_agent.proofs.Joining.{rises_on, within_more, exact_more}
@@ -17,7 +17,7 @@ loop-row-preserved g c =
       exact = λ s made past h.
           let fits = rw (← c.self.view_is) at h in
           exact_more past c.args.rows.now c.loop-row.fresh.items c.in_ok-more.more.items _ c.loop-row.row-index c.row-item.result c.stream-in-loop-row.result c.known-known.result (c.number.result + 1) c.loop-row-test.true c.row-item.is
-          c.stream-in-loop-row.ensures (c.known-known.ensures.value (held past) (shown_to_exist past) (settlings past) fits.store ∙ ap (known past) c.stream.ensures) (ap (λ k. k + 1) c.number.ensures.value)
+          c.stream-in-loop-row.ensures (c.known-known.ensures.value (held past) (evidence_in past) (settlings past) fits.store ∙ ap (known past) c.stream.ensures) (ap (λ k. k + 1) c.number.ensures.value)
           (c.loop-row.invariant.exact s made past h) c.in_ok-more.ensures join;
     }
 

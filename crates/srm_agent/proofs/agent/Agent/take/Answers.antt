@@ -1,6 +1,6 @@
 use Rattle.std.proofs.Common.{◌∙◌, ap, Err}
 use Rattle.srm_agent.specs.Contents.{content_of}
-use Rattle.srm_agent.specs.Heeding.{verdict_by}
+use Rattle.srm_agent.specs.Heeding.{verdict_of_outcome}
 use Rattle.srm_agent.proofs.Answered.{ignored_by}
 use Rattle.srm_agent.proofs.Ignoring.{if_one}
 use Rattle.srm_agent.proofs.Roomy.{may_roomy, enters_roomy, stays_on_roomy, stays_roomy, judged_taken, unslotted_enters, unslotted_judged, with_moment, if_err, at_full}
@@ -13,7 +13,7 @@ pub returns-in-Ok-clause-ok : goal.returns-in-Ok-clause-ok
 returns-in-Ok-clause-ok g c = rw (← c.self.view_is) (if_one c.take_ready.result c.take_ready.ensures.ok (λ hearing enters. enters_roomy g.W.Words.draw _ _ _ c.args.moment _ _ c.room_to_learn.ensures.kept enters))
 
 pub returns-in-Ok-clause-judged : goal.returns-in-Ok-clause-judged
-returns-in-Ok-clause-judged g c = if_one c.take_ready.result c.take_ready.ensures.done (λ hearing done. judged_taken c.args.datagram _ _ c.requires.may.taken (ap verdict_by done))
+returns-in-Ok-clause-judged g c = if_one c.take_ready.result c.take_ready.ensures.done (λ hearing done. judged_taken c.args.datagram _ _ c.requires.may.taken (ap verdict_of_outcome done))
 
 pub returns-in-Ok-clause-err : goal.returns-in-Ok-clause-err
 returns-in-Ok-clause-err g c = rw (← c.self.view_is) (if_err c.take_ready.result c.take_ready.ensures.err (stays_on_roomy _ _ _ c.room_to_learn.ensures.kept))

@@ -28,4 +28,4 @@ returns-clause-ok g c = rw (← c.self.view_is) (session_enters g.W.Words.draw _
     (rw (← c.self.view_is) at c.in_ok-fresh.ensures.value) (rw c.me.ensures at c.hear_report.ensures) c.distance_table-dist.ensures.value
     (hears_roomy _ _ _ _ _ _ _ _ c.rows_room.ensures.kept (rw c.deref-2.ensures.value at (rw c.unwrap-arms.ensures at c.hear_rows.ensures.hears))) (still_fits _) c.learn.ensures
     c.add_all.ensures refl (record { last = refl; config = refl; state = refl; showing = refl; progress = refl; bucket = refl; due = refl }) c.self.invariant.settings
-    (waits_before g.W.Words.draw _ _ _ _ _ c.rows_room.ensures.settings (rw c.unwrap-arms.ensures at c.hear_rows.ensures.drawn)) (taken_entry (content_of c.self.inside) _ _ _ _ c.took.ensures.heard))
+    (waits_before g.W.Words.draw _ _ _ _ _ c.rows_room.ensures.settings (rw c.unwrap-arms.ensures at c.hear_rows.ensures.chosen)) (taken_entry (content_of c.self.inside) _ _ _ _ c.took.ensures.heard))

@@ -9,7 +9,7 @@ use Rattle.srm_agent_parts.proofs.timers.Timers.hear_request.Given as goal
 abbrev pub invariant-loop-name : goal.invariant-loop-name
 invariant-loop-name g l = record {
   so_far : AnsweredSoFar l.store l.from l.dist l.now l.asked l.name-index l.arms.items l.initial.self l.self;
-  drawn : WaitsAreDrawn g.W.Words.draw l.initial.self l.initial.words l.arms.items l.words;
+  chosen : WaitsAreDrawn g.W.Words.draw l.initial.self l.initial.words l.arms.items l.words;
   settings : KeepSettings l.initial.self l.self;
   places : FixPlaces l.asked l.self.fixes;
   ready : AnswerReady l.fresh l.self.asks;

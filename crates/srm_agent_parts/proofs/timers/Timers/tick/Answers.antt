@@ -14,11 +14,11 @@ set_again-requires-clause-timers g c =
     let same : c.self.inside.asks ≡ c.args.self.now.asks = rw (← c.self.view_is) at c.room_to_repair.ensures.asks in
     subst (AskTimersRun c.args.asks.now) (sym same) c.requires.asks.run
 
-pub returns-clause-drawn : goal.returns-clause-drawn
-returns-clause-drawn g c =
+pub returns-clause-chosen : goal.returns-clause-chosen
+returns-clause-chosen g c =
     waits_before g.W.Words.draw c.args.self.now (record { asks = c.self.inside.asks; fixes = c.self.inside.fixes }) c.args.words.now c.set_again.new.words c.in_ok-arms.arms.items
     (rw (← c.self.view_is) at c.room_to_repair.ensures.settings)
-    (due_drawn g.W.Words.draw (record { asks = c.self.inside.asks; fixes = c.self.inside.fixes }) c.args.words.now c.set_again.new.words c.in_ok-arms.arms.items c.in_ok-arms.ensures.kinds c.in_ok-arms.ensures.drawn)
+    (due_drawn g.W.Words.draw (record { asks = c.self.inside.asks; fixes = c.self.inside.fixes }) c.args.words.now c.set_again.new.words c.in_ok-arms.arms.items c.in_ok-arms.ensures.kinds c.in_ok-arms.ensures.chosen)
 
 pub returns-clause-ticks : goal.returns-clause-ticks
 returns-clause-ticks g c =
@@ -30,7 +30,7 @@ returns-clause-ticks g c =
     c.in_ok-arms.ensures.fits (asked_again c.args.now c.args.dist.now c.args.self.now.asks c.args.asks.now c.in_ok-arms.arms.items c.requires.asks.due plans) c.in_ok-arms.ensures.members
     (waits_before g.W.Words.draw c.args.self.now (record { asks = c.self.inside.asks; fixes = c.self.inside.fixes }) c.args.words.now c.set_again.new.words c.in_ok-arms.arms.items
     (rw (← c.self.view_is) at c.room_to_repair.ensures.settings)
-    (due_drawn g.W.Words.draw (record { asks = c.self.inside.asks; fixes = c.self.inside.fixes }) c.args.words.now c.set_again.new.words c.in_ok-arms.arms.items c.in_ok-arms.ensures.kinds c.in_ok-arms.ensures.drawn))
+    (due_drawn g.W.Words.draw (record { asks = c.self.inside.asks; fixes = c.self.inside.fixes }) c.args.words.now c.set_again.new.words c.in_ok-arms.arms.items c.in_ok-arms.ensures.kinds c.in_ok-arms.ensures.chosen))
     c.repair_all.ensures.fits c.requires.fixes.due
 
 pub returns-clause-settings : goal.returns-clause-settings

@@ -1,11 +1,11 @@
 use Rattle.std.proofs.Common.{take}
-use Rattle.srm_deadlines.specs.Places.{Holds, GivesPlaces, Keeps, HasPlaces}
+use Rattle.srm_deadlines.specs.Places.{KeepsPlaces, GivesPlaces, KeepsValues, HasPlaces}
 use Rattle.srm_deadlines.proofs.by_name.ByName.room.Given as goal
 
 abbrev pub invariant-loop-name : goal.invariant-loop-name
 invariant-loop-name g l = record {
-  kept : Keeps l.initial.self l.self;
-  held : Holds l.initial.self l.self;
+  kept : KeepsValues l.initial.self l.self;
+  held : KeepsPlaces l.initial.self l.self;
   only : GivesPlaces l.names l.initial.self l.self;
   so_far : HasPlaces (take l.name-index l.names) l.self;
 }

@@ -3,8 +3,8 @@ use Rattle.crossbeam_channel.specs.Claims.{IsSeatAt}
 use Rattle.crossbeam_channel.specs.Ends.{ruled_capacity}
 use Rattle.srm_names.specs.PageFeeds.{is_page_feed}
 use Rattle.srm_pages.specs.declared.lane.LaneView.{LaneView}
-use Rattle.srm_pages.specs.Board.{taken_word}
-use Rattle.srm_pages.specs.Seats.{Sight, Counts}
+use Rattle.srm_pages.specs.Board.{count_register}
+use Rattle.srm_pages.specs.Seats.{LookoutView, CountsTaken}
 use Rattle.srm_pages.proofs.LaneSteps.{forks}
 use Rattle.srm_pages.proofs.BoardSteps.{zeros_at}
 use Rattle.srm_pages.proofs.making.new_lanes.lane.Goals as goal
@@ -21,7 +21,7 @@ invariant_of-tap c =
       ap (λ (v : LaneView). v.takes) a.rule.1,
       sym (ap length none),
       subst (λ (l : List _). is_page_feed l ≡ true) (sym none) refl,
-      subst (λ (l : List _). Counts c.args.marker.seat c.args.marker.slot l) (sym none) (subst (λ (l : List ℕ). Counts l c.args.marker.slot []) (sym c.requires.0) (record { all = zeros_at _; of_member = λ member small. zeros_at _ })),
+      subst (λ (l : List _). CountsTaken c.args.marker.seat c.args.marker.slot l) (sym none) (subst (λ (l : List ℕ). CountsTaken l c.args.marker.slot []) (sym c.requires.0) (record { all = zeros_at _; of_member = λ member small. zeros_at _ })),
     )
 
 pub returns : goal.returns
@@ -31,12 +31,12 @@ returns c =
     let sight = c.requires.1 in (
       (
         ap (λ (v : LaneView). v.put) a.rule.0 ∙ ap (λ (v : LaneView). v.put) e.3,
-        ap (λ (s : Sight). get_or s.seen (taken_word c.slot.result) 0) sight ∙ zeros_at _,
+        ap (λ (s : LookoutView). get_or s.seen (count_register c.slot.result) 0) sight ∙ zeros_at _,
         refl,
         c.slot.ensures,
-        ap (λ (s : Sight). s.board) sight,
+        ap (λ (s : LookoutView). s.board) sight,
         e.1,
       ),
-      (ap (λ (v : LaneView). v.taken) a.rule.1 ∙ ap (λ (v : LaneView). v.taken) e.3, refl, refl, subst (λ (l : List ℕ). Counts l c.args.marker.slot []) (sym c.requires.0) (record { all = zeros_at _; of_member = λ member small. zeros_at _ })),
+      (ap (λ (v : LaneView). v.taken) a.rule.1 ∙ ap (λ (v : LaneView). v.taken) e.3, refl, refl, subst (λ (l : List ℕ). CountsTaken l c.args.marker.slot []) (sym c.requires.0) (record { all = zeros_at _; of_member = λ member small. zeros_at _ })),
       λ i. record { stamps = (a.channel.0.0 ∙ sym a.channel.2.0) i; messages = (a.channel.0.1 ∙ sym a.channel.2.1) i; capacity = ap ruled_capacity (sym e.0) i },
     )

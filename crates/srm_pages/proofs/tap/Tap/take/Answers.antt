@@ -1,7 +1,7 @@
 use Rattle.std.proofs.Common.{rules, ◌≡◌, true, [], ◌∷◌, ◌+◌, length, sym, ap, ◌∙◌, subst, length-append}
 use Rattle.srm_names.specs.PageFeeds.{is_page_feed}
 use Rattle.srm_pages.specs.declared.lane.LaneView.{LaneView}
-use Rattle.srm_pages.specs.Seats.{Counts}
+use Rattle.srm_pages.specs.Seats.{CountsTaken}
 use Rattle.srm_pages.proofs.LaneSteps.{takes}
 use Rattle.srm_pages.proofs.Taps.{next_shown, next_counts}
 use Rattle.srm_pages.proofs.tap.Tap.take.Goals as goal
@@ -9,15 +9,15 @@ use Rattle.srm_pages.proofs.tap.Tap.take.Goals as goal
 pub recv_as-requires-clause-rule : goal.recv_as-requires-clause-rule
 recv_as-requires-clause-rule g c = (takes _ _ c.self.invariant.1, λ _ _ _ _. tt)
 
-pub show-requires : goal.show-requires
-show-requires g c = search (rules, next_shown)
+pub post-requires : goal.post-requires
+post-requires g c = search (rules, next_shown)
 
 -- what the take and both stores made
-counted : (g : _) → (c : goal.After-self-in-Ok-1 g) → Counts c.show.new.self.seat c.show.new.self.slot c.recv_as.new.pass.me.0.client.taken
+counted : (g : _) → (c : goal.After-self-in-Ok-1 g) → CountsTaken c.post.new.self.seat c.post.new.self.slot c.recv_as.new.pass.me.0.client.taken
 counted g c =
     let i = c.self.invariant in
     let took = c.in-Ok.ensures.rule in
-    next_counts _ _ _ _ _ _ _ i.4 took.1 (c.next_count-count.ensures ∙ ap (λ n. n + 1) i.2) c.count.ensures.seat c.count.ensures.there c.show.ensures (ap (λ (v : LaneView). v.taken) took.0)
+    next_counts _ _ _ _ _ _ _ i.4 took.1 (c.next_count-count.ensures ∙ ap (λ n. n + 1) i.2) c.count.ensures.seat c.count.ensures.there c.post.ensures (ap (λ (v : LaneView). v.taken) took.0)
 
 pub invariant_of-self : goal.invariant_of-self
 invariant_of-self g c =

@@ -14,25 +14,25 @@ use Rattle.srm_store.proofs.Seating.{slot_left, keeps_slots}
 use Rattle.srm_store.proofs.store.Store.evidence.Goals as goal
 
 pub returns-in_err-slot_for-clause-limit : goal.returns-in_err-slot_for-clause-limit
-returns-in_err-slot_for-clause-limit c = λ inserted shown settled h.
-    let fits = subst (Fits inserted shown settled) (sym c.self.view_is) h in
-    let full : overflows inserted shown c.args.name.stream.page ≡ true = full_overflows fits c.in_err-slot_for.ensures.few c.args.name.stream.page (ap (λ (s : Stream). slot_of c.self.inside.table.pages s.page) (sym c.stream-stream.ensures) ∙ c.in_err-slot_for.ensures.limit.0 refl) in
+returns-in_err-slot_for-clause-limit c = λ inserted evidence settled h.
+    let fits = subst (Fits inserted evidence settled) (sym c.self.view_is) h in
+    let full : overflows inserted evidence c.args.name.stream.page ≡ true = full_overflows fits c.in_err-slot_for.ensures.few c.args.name.stream.page (ap (λ (s : Stream). slot_of c.self.inside.table.pages s.page) (sym c.stream-stream.ensures) ∙ c.in_err-slot_for.ensures.limit.0 refl) in
     (λ e. full, λ over. err_is c.from_residual.result _ c.from_residual.ensures.1 ∙ same_fault _ _ c.in_err-slot_for.ensures.full)
 
 pub returns-in_err-reserve-clause-limit : goal.returns-in_err-reserve-clause-limit
-returns-in_err-reserve-clause-limit c = λ inserted shown settled h.
-    let fits = subst (Fits inserted shown settled) (sym c.self.view_is) h in
+returns-in_err-reserve-clause-limit c = λ inserted evidence settled h.
+    let fits = subst (Fits inserted evidence settled) (sym c.self.view_is) h in
     let page = ap (λ (s : Stream). slot_of c.self.inside.table.pages s.page) c.stream-stream.ensures in (
       λ e. absurd (no_page_limit c.from_residual-in_err-reserve.result (err_is c.from_residual-in_err-reserve.result Memory c.from_residual-in_err-reserve.ensures.1) e),
       λ over. absurd (omega (arith, overflows_full fits c.in_ok-slot_for.ensures.few c.args.name.stream.page over, page, c.in_ok-slot_for.ensures.value, c.in_ok-slot_for.ensures.below)),
     )
 
 pub returns-clause-fits : goal.returns-clause-fits
-returns-clause-fits c = λ inserted shown settled h. fits_learns (store_of c.self.inside) _ (subst (Fits inserted shown settled) (sym c.self.view_is) h) c.args.name c.learn.ensures.learns refl
+returns-clause-fits c = λ inserted evidence settled h. fits_learns (store_of c.self.inside) _ (subst (Fits inserted evidence settled) (sym c.self.view_is) h) c.args.name c.learn.ensures.learns refl
 
 pub returns-clause-limit : goal.returns-clause-limit
-returns-clause-limit c = λ inserted shown settled h.
-    let fits = subst (Fits inserted shown settled) (sym c.self.view_is) h in
+returns-clause-limit c = λ inserted evidence settled h.
+    let fits = subst (Fits inserted evidence settled) (sym c.self.view_is) h in
     let page = ap (λ (s : Stream). slot_of c.self.inside.table.pages s.page) c.stream-stream.ensures in
     (λ e. absurd (cc), λ over. absurd (omega (arith, overflows_full fits c.in_ok-slot_for.ensures.few c.args.name.stream.page over, page, c.in_ok-slot_for.ensures.value, c.in_ok-slot_for.ensures.below)))
 
@@ -53,5 +53,5 @@ returns-clause-slots c =
     subst (λ (s : StoreContent). KeepsSlots c.args.name.stream.page s after) c.self.view_is (keeps_slots (store_of c.self.inside) after c.args.name.stream.page c.learn.ensures.learns.pages)
 
 pub returns-clause-answer : goal.returns-clause-answer
-returns-clause-answer c = λ inserted shown settled h.
+returns-clause-answer c = λ inserted evidence settled h.
     newly_is _ c.args.name _ c.self.inside.table _ _ h (ap (λ (s : StoreContent). s.table) c.self.view_is) c.stream-stream.ensures c.row.ensures.source c.in_ok-names.ensures.ok (search rules) (search rules)

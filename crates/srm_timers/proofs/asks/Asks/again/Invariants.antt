@@ -1,6 +1,6 @@
 use Rattle.std.proofs.Common.{◌≡◌, ◌≤◌, map, take, length}
 use Rattle.std.specs.Prelude.{vec_len, vec_capacity}
-use Rattle.srm_timers.specs.Arms.{plan_of, low_of, high_of, AreDrawn, AreAsks, AreOfMembers}
+use Rattle.srm_timers.specs.Arms.{plan_of, low_of, high_of, AreChosen, AreAsks, AreOfMembers}
 use Rattle.srm_timers.specs.AskCalls.{again_plan}
 use Rattle.srm_timers.specs.Ends.{AreShort}
 use Rattle.srm_deadlines.specs.Places.{value_at}
@@ -9,7 +9,7 @@ use Rattle.srm_timers.proofs.asks.Asks.again.Given as goal
 abbrev pub invariant-loop-name : goal.invariant-loop-name
 invariant-loop-name g l = record {
   plans : map plan_of l.arms.items ≡ map (again_plan l.dist (value_at l.self.timers)) (take l.name-index l.names);
-  drawn : AreDrawn g.W.Words.draw (low_of l.self.c1) (high_of l.self.c1 l.self.c2) l.initial.words l.arms.items l.words;
+  chosen : AreChosen g.W.Words.draw (low_of l.self.c1) (high_of l.self.c1 l.self.c2) l.initial.words l.arms.items l.words;
   asks : AreAsks l.arms.items;
   short : AreShort l.arms.items;
   members : AreOfMembers l.arms.items;

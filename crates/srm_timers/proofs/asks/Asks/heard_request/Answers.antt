@@ -1,6 +1,6 @@
 use Rattle.std.proofs.Common.{◌≡◌, true, sym, subst, ap, ◌∙◌}
 use Rattle.std.specs.Prelude.{option_map, is_some}
-use Rattle.srm_timers.specs.Arms.{Plan, end_of}
+use Rattle.srm_timers.specs.Arms.{Plan, runs_out_at}
 use Rattle.srm_timers.specs.AskCalls.{AskContent}
 use Rattle.srm_deadlines.specs.Places.{value_at, has_place}
 use Rattle.srm_timers.proofs.AskSteps.{placed, backs_off_runs, has_end}
@@ -9,11 +9,11 @@ use Rattle.srm_timers.proofs.asks.Asks.heard_request.Goals as goal
 pub set-requires-clause-timers : goal.set-requires-clause-timers
 set-requires-clause-timers g c =
     subst (λ n. has_place c.args.self.now.timers n ≡ true) (sym (ap (λ (p : Plan). p.name) c.arm-arm.ensures.plan))
-    (placed c.args.self.now.timers c.args.name (backs_off_runs c.args.now c.in_ok-exponent.exponent _ (sym c.backs_off.ensures.value ∙ c.in_ok-exponent.was)))
+    (placed c.args.self.now.timers c.args.name (backs_off_runs c.args.now c.in_ok-exponent.exponent _ (sym c.exponent_when_heard.ensures.value ∙ c.in_ok-exponent.was)))
 
 pub set-requires-clause-ends : goal.set-requires-clause-ends
 set-requires-clause-ends g c =
     subst (λ n. has_place c.args.self.now.ends.places n ≡ true) (sym (ap (λ (p : Plan). p.name) c.arm-arm.ensures.plan))
     (placed c.args.self.now.ends.places c.args.name
-    (ap is_some (subst (λ (a : AskContent). value_at a.ends.places c.args.name ≡ option_map end_of (value_at a.timers c.args.name)) c.self.view_is (c.self.invariant.ends c.args.name))
-    ∙ has_end (value_at c.args.self.now.timers c.args.name) (backs_off_runs c.args.now c.in_ok-exponent.exponent _ (sym c.backs_off.ensures.value ∙ c.in_ok-exponent.was))))
+    (ap is_some (subst (λ (a : AskContent). value_at a.ends.places c.args.name ≡ option_map runs_out_at (value_at a.timers c.args.name)) c.self.view_is (c.self.invariant.ends c.args.name))
+    ∙ has_end (value_at c.args.self.now.timers c.args.name) (backs_off_runs c.args.now c.in_ok-exponent.exponent _ (sym c.exponent_when_heard.ensures.value ∙ c.in_ok-exponent.was))))

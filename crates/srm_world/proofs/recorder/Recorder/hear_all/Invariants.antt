@@ -1,7 +1,7 @@
 use Rattle.std.proofs.Common.{take, map}
 use Rattle.srm_world.specs.Claims.{IsLawfulJournal}
 use Rattle.srm_world.specs.Recording.{HearsAll}
-use Rattle.srm_world.specs.Words.{RecordsByWords}
+use Rattle.srm_world.specs.WaitWords.{RecordsByWords}
 use Rattle.srm_world.proofs.recorder.Recorder.hear_all.Given as goal
 
 abbrev pub invariant-loop-bytes : goal.invariant-loop-bytes

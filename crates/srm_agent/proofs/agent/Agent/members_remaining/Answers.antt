@@ -1,7 +1,7 @@
 use Rattle.std.proofs.Common.{subst}
 use Rattle.srm_agent.specs.Reports.{CountsOnce}
 use Rattle.srm_agent.proofs.Leavers.{counts_more}
-use Rattle.srm_agent.proofs.agent.Agent.members_left.Goals as goal
+use Rattle.srm_agent.proofs.agent.Agent.members_remaining.Goals as goal
 
 pub loop-number-preserved : goal.loop-number-preserved
 loop-number-preserved g c =

@@ -2,8 +2,8 @@ use Rattle.std.proofs.Common.{arith, ap, sym, ◌∙◌}
 use Rattle.std.specs.Prelude.{vec_len, vec_capacity}
 use Rattle.std.specs.Vec.{vec_items}
 use Rattle.srm_store.proofs.Unheld.{unheld_none, unheld_some}
-use Rattle.srm_store.proofs.row.Row.add_unheld.Goals as goal
-use Rattle.srm_store.proofs.row.Row.add_unheld.Goals.{in-Some+in_ok-push, in_default}
+use Rattle.srm_store.proofs.row.StreamPlaces.add_unheld.Goals as goal
+use Rattle.srm_store.proofs.row.StreamPlaces.add_unheld.Goals.{in-Some+in_ok-push, in_default}
 
 pub loop-done-preserved : goal.loop-done-preserved
 loop-done-preserved c = elim c.match-unheld.branch [

@@ -2,7 +2,7 @@ use Rattle.std.proofs.Common.{◌≡◌, ◌≤◌, ◌+◌, ◌++◌}
 use Rattle.std.specs.Prelude.{vec_len, vec_capacity}
 use Rattle.srm_store.specs.Held.{names_after}
 use Rattle.srm_store.specs.Rows.{row_unheld}
-use Rattle.srm_store.proofs.row.Row.add_unheld.Given as goal
+use Rattle.srm_store.proofs.row.StreamPlaces.add_unheld.Given as goal
 
 abbrev pub invariant-loop-done : goal.invariant-loop-done
 invariant-loop-done l = record {

@@ -1,7 +1,7 @@
 -- By which words the waits of a run were drawn.
 use Rattle.std.specs.Prelude.{◌≡◌, ℕ, List, ◌++◌, length, map, flat_map, Some, slice_get}
 use Rattle.srm_timers.specs.declared.arm.Arm.{Arm}
-use Rattle.srm_timers.specs.Arms.{AreDrawn}
+use Rattle.srm_timers.specs.Arms.{AreChosen}
 use Rattle.srm_entries.specs.declared.entry.Entry.{Entry}
 use Rattle.srm_entries.specs.Configs.{Config}
 use Rattle.srm_entries.specs.Timers.{low_of, high_of}
@@ -9,12 +9,12 @@ use Rattle.srm_world.specs.declared.start.Start.{Start}
 use Rattle.srm_world.specs.Traces.{Trace, Journal, of_member}
 
 -- what contracts see of a recorder: its journal, and its source of words as it stands
-pub record Recorded (W : Type 0) : Type 0 where
+pub record RecorderView (W : Type 0) : Type 0 where
   pub journal : Journal
   pub words : W
 
 -- what contracts see of a world: its trace, and the source of words of each member as it stands
-pub record Played (W : Type 0) : Type 0 where
+pub record WorldView (W : Type 0) : Type 0 where
   pub trace : Trace
   pub words : List W
 
@@ -24,7 +24,7 @@ arms_in es = flat_map (λ (e : Entry). e.effects.arms) es
 
 -- In these entries of a member the waits are by the next words of its source, one word a timer, in order. No other word is drawn.
 abbrev pub AreByWords : {W : Type 0} → (W → ℕ × W) → Config → W → List Entry → W → Type 0
-AreByWords draw c from es to = AreDrawn draw (low_of c) (high_of c) from (arms_in es) to
+AreByWords draw c from es to = AreChosen draw (low_of c) (high_of c) from (arms_in es) to
 
 -- In these entries of several members those of each one are by the words of its own source. Each has one: a world always has as many
 -- sources as members.
@@ -33,13 +33,13 @@ pub record AreByOwnWords {W : Type 0} (draw : W → ℕ × W) (starts : List Sta
   pub each : (m : ℕ) (a : Start) (u v : W) → slice_get starts m ≡ Some a → slice_get from m ≡ Some u → slice_get to m ≡ Some v → AreByWords draw a.config u (of_member m es) v
 
 -- the entries that a journal has gained are by words
-pub record RecordsByWords {W : Type 0} (draw : W → ℕ × W) (old new : Recorded W) : Type 0 where
+pub record RecordsByWords {W : Type 0} (draw : W → ℕ × W) (old new : RecorderView W) : Type 0 where
   pub added : List Entry
   pub grown : new.journal.entries ≡ old.journal.entries ++ added
   pub words : AreByWords draw old.journal.start.config old.words added new.words
 
 -- the entries that a trace has gained are by words
-pub record PlaysByWords {W : Type 0} (draw : W → ℕ × W) (old new : Played W) : Type 0 where
+pub record PlaysByWords {W : Type 0} (draw : W → ℕ × W) (old new : WorldView W) : Type 0 where
   pub added : List Entry
   pub grown : new.trace.entries ≡ old.trace.entries ++ added
   pub words : AreByOwnWords draw old.trace.starts old.words added new.words

@@ -1,7 +1,7 @@
 use Rattle.std.proofs.Common.{subst, sym, arith}
 use Rattle.srm_store.specs.Places.{FilledTo}
 use Rattle.srm_store.proofs.Placing.{filled_blank}
-use Rattle.srm_store.proofs.row.Row.new.Goals as goal
+use Rattle.srm_store.proofs.row.StreamPlaces.new.Goals as goal
 
 pub invariant_of-result : goal.invariant_of-result
 invariant_of-result c = record {

@@ -5,11 +5,11 @@ use Rattle.srm_store.specs.Finals.{Settling}
 use Rattle.srm_store.specs.Fits as store
 use Rattle.srm_store.specs.Held.{page_of_name}
 use Rattle.srm_store.specs.Stores.{HasSlots}
-use Rattle.srm_agent_parts.proofs.evidence.show_all.Given as goal
+use Rattle.srm_agent_parts.proofs.evidence.learn_all.Given as goal
 
 abbrev pub invariant-loop-name : goal.invariant-loop-name
 invariant-loop-name l = record {
-  fits : (inserted : List Drawop) (shown : List FullName) (settled : List Settling) → store.Fits inserted shown settled l.fn.store → store.Fits inserted (shown ++ take l.name-index l.names) settled l.store;
+  fits : (inserted : List Drawop) (evidence : List FullName) (settled : List Settling) → store.Fits inserted evidence settled l.fn.store → store.Fits inserted (evidence ++ take l.name-index l.names) settled l.store;
   finals : l.store.finals ≡ l.fn.store.finals;
   slots : HasSlots (map page_of_name l.names) l.store;
 }

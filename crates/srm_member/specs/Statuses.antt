@@ -2,8 +2,8 @@
 use Rattle.std.specs.Prelude.{◌≡◌, ◌⊎◌, ℕ, Bool, true, false, Option, Some, None, Result, Ok, Err}
 use Rattle.std.specs.declared.io.ErrorKind.{ErrorKind}
 use Rattle.std.specs.declared.io.ErrorKind.TheVariants as kind
-use Rattle.srm_script.specs.declared.fault.Fault.{Fault}
-use Rattle.srm_script.specs.declared.fault.Fault.TheVariants.{Memory as OutOfMemory}
+use Rattle.srm_script.specs.declared.fault.ScriptFault.{ScriptFault}
+use Rattle.srm_script.specs.declared.fault.ScriptFault.TheVariants.{Memory as OutOfMemory}
 use Rattle.srm_script.specs.Statuses.{status_of}
 use Rattle.srm_node.specs.declared.fault.NodeFault.{NodeFault}
 use Rattle.srm_node.specs.declared.fault.NodeFault.TheVariants.{Wire, Memory, Turns}
@@ -32,7 +32,7 @@ fault_of (Err Wire) false = Some fault.Wire
 fault_of (Err Turns) false = Some fault.Turns
 
 -- Why a live run was no whole one, by why the run wasn't and what befell its streams: want of memory comes before all else, and then the run.
-abbrev pub fault_of_live : Option MemberFault → Option Fault → Option MemberFault
+abbrev pub fault_of_live : Option MemberFault → Option ScriptFault → Option MemberFault
 fault_of_live run (Some OutOfMemory) = Some (fault.Script OutOfMemory)
 fault_of_live (Some f) _ = Some f
 fault_of_live None (Some f) = Some (fault.Script f)
@@ -50,11 +50,11 @@ status_of_member fault.Wire = 3
 status_of_member fault.Turns = 4
 
 -- a whole run has status 0, and any other that of its fault
-abbrev pub EndsWith : ℕ → Type 0
-EndsWith status = (status ≡ 0) ⊎ ((f : MemberFault) × (status ≡ status_of_member f))
+abbrev pub IsExitStatus : ℕ → Type 0
+IsExitStatus status = (status ≡ 0) ⊎ ((f : MemberFault) × (status ≡ status_of_member f))
 
 -- What was asked for is shown, unless the output fails; a wrong line is status 2, want of memory 4.
 abbrev pub StatusOf : Reply → ℕ → Type 0
-StatusOf (reply.Shown text) status = (status ≡ 0) ⊎ (status ≡ 1) ⊎ (status ≡ 4)
+StatusOf (reply.Help text) status = (status ≡ 0) ⊎ (status ≡ 1) ⊎ (status ≡ 4)
 StatusOf (reply.Wrong text) status = status ≡ 2
 StatusOf reply.Memory status = status ≡ 4

@@ -6,11 +6,11 @@ use Rattle.srm_store.proofs.Rooming.{not_refused}
 use Rattle.srm_store.proofs.Seating.{page_among}
 use Rattle.srm_agent_parts.proofs.Evident.{is_among}
 use Rattle.srm_entries.proofs.Holding.{ok_then}
-use Rattle.srm_agent_parts.proofs.evidence.show_all.Goals as goal
+use Rattle.srm_agent_parts.proofs.evidence.learn_all.Goals as goal
 
 pub loop-name-init : goal.loop-name-init
 loop-name-init c = record {
-  fits = λ inserted shown settled h. subst (λ ns. store.Fits inserted ns settled c.args.store.now) (sym (append-nil shown)) h;
+  fits = λ inserted evidence settled h. subst (λ ns. store.Fits inserted ns settled c.args.store.now) (sym (append-nil evidence)) h;
   finals = refl;
   slots = c.requires.slots;
 }
@@ -26,12 +26,12 @@ loop-name-preserved c =
     let in_page = page_among c.args.names.now c.name-item.result at in
     let ok = not_refused c.learn.result (c.learn.ensures.slot _ in_page c.loop-name.invariant.slots) c.learn.ensures.memory in
     record {
-      fits = λ inserted shown settled h.
+      fits = λ inserted evidence settled h.
           subst (λ ns. store.Fits inserted ns settled c.learn.new.self)
-          (append_assoc shown (take c.loop-name.name-index c.args.names.now) (c.name-item.result ∷ [])
-          ∙ ap (λ (n : FullName). shown ++ (take c.loop-name.name-index c.args.names.now ++ n ∷ [])) c.name-item.is
-          ∙ ap (λ ns. shown ++ ns) (sym (take_more c.args.names.now c.loop-name.name-index c.name-item.result c.loop-name-test.true)))
-          (ok_then c.learn.result ok c.learn.ensures.fits inserted (shown ++ take c.loop-name.name-index c.args.names.now) settled (c.loop-name.invariant.fits inserted shown settled h));
+          (append_assoc evidence (take c.loop-name.name-index c.args.names.now) (c.name-item.result ∷ [])
+          ∙ ap (λ (n : FullName). evidence ++ (take c.loop-name.name-index c.args.names.now ++ n ∷ [])) c.name-item.is
+          ∙ ap (λ ns. evidence ++ ns) (sym (take_more c.args.names.now c.loop-name.name-index c.name-item.result c.loop-name-test.true)))
+          (ok_then c.learn.result ok c.learn.ensures.fits inserted (evidence ++ take c.loop-name.name-index c.args.names.now) settled (c.loop-name.invariant.fits inserted evidence settled h));
       finals = c.learn.ensures.settling ∙ c.loop-name.invariant.finals;
       slots = c.learn.ensures.slots.each _ in_page c.loop-name.invariant.slots;
     }
@@ -39,6 +39,6 @@ loop-name-preserved c =
 pub returns : goal.returns
 returns c = record {
   finals = c.loop-name.invariant.finals;
-  each = λ inserted shown settled h.
-      subst (λ ns. store.Fits inserted (shown ++ ns) settled c.loop-name.store) (take_all c.loop-name.name-index c.args.names.now c.loop-name-test.false) (c.loop-name.invariant.fits inserted shown settled h);
+  each = λ inserted evidence settled h.
+      subst (λ ns. store.Fits inserted (evidence ++ ns) settled c.loop-name.store) (take_all c.loop-name.name-index c.args.names.now c.loop-name-test.false) (c.loop-name.invariant.fits inserted evidence settled h);
 }
