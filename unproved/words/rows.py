@@ -15,19 +15,19 @@ ROWS = [
     # 2 shown
     ('shown_by -> evidence_by (srm_entries)', G('shown_by', 'evidence_by')),
     ('shown_to_exist -> evidence_in (srm_entries)', G('shown_to_exist', 'evidence_in')),
-    ('ShowsToo -> LearnsNames (srm_agent_parts)', G('ShowsToo', 'LearnsNames')),
-    ('show_all -> learn_all (srm_agent_parts)', G('show_all', 'learn_all')),
+    ('ShowsToo -> LearnsNames (srm_agent_state)', G('ShowsToo', 'LearnsNames')),
+    ('show_all -> learn_all (srm_agent_state)', G('show_all', 'learn_all')),
     ('drawops_shown -> drawops_posted (srm_pages)', G('drawops_shown', 'drawops_posted')),
     ('CountsShown -> CountsPosted (srm_pages)', G('CountsShown', 'CountsPosted')),
     ('MayShow -> MayPost (srm_pages)', G('MayShow', 'MayPost')),
     ('Shows -> Posts (srm_pages)', S('srm_pages', 'specs.Seats', 'Shows', 'Posts')),
     ('Shown* -> Printed* (srm_script)', *[G('Shown' + k, 'Printed' + k, only=['crates/srm_*', 'docs/*'], skip=['crates/srm_example/*']) for k in ('Page', 'Name', 'Arm', 'Answer', 'Message')]),
-    ('shown_if -> only_if (srm_agent_parts)', G('shown_if', 'only_if')),
+    ('shown_if -> only_if (srm_agent_state)', G('shown_if', 'only_if')),
     ('shown -> evidence, a variable of clauses (srm_store)', R(r"(?<![\w'◌\-.`])shown(?![\w'◌\-`])(?! to)", 'evidence', ['crates/srm_store/src/store.rt', 'crates/srm_store/proofs/*.antt', 'crates/srm_store/specs/Held.antt', 'crates/srm_store/specs/Fits.antt', 'crates/srm_store/specs/Stores.antt'])),
     ('Marker::show -> post (srm_pages)', M('srm_pages', 'marker', 'Marker', 'show', 'post', calls=['crates/srm_pages/src/tap.rt'], answers=['crates/srm_pages/proofs/tap/*'])),
     ('Reply::Shown -> Reply::Help (srm_options)', V('srm_options', 'reply', 'Reply', 'Shown', 'Help', answers=['crates/srm_options/proofs/*', 'crates/srm_member/proofs/*'])),
     # 3 hold
-    ('holds -> held_off, of what is kept of a name (srm_timers)', G('holds', 'held_off', only=['crates/srm_timers/*.rt', 'crates/srm_timers/*.antt'], plain=False, folders=False), R(r'\.fixes\.(holds)\b', 'held_off', ['crates/srm_agent_parts/*', 'crates/srm_agent/*'])),
+    ('holds -> held_off, of what is kept of a name (srm_timers)', G('holds', 'held_off', only=['crates/srm_timers/*.rt', 'crates/srm_timers/*.antt'], plain=False, folders=False), R(r'\.fixes\.(holds)\b', 'held_off', ['crates/srm_agent_state/*', 'crates/srm_agent/*'])),
     ('Holds -> KeepsPlaces (srm_deadlines)', S('srm_deadlines', 'specs.Places', 'Holds', 'KeepsPlaces')),
     ('MarksHold -> MarksKeepPlaces (srm_timers)', G('MarksHold', 'MarksKeepPlaces')),
     ('AskHolds -> AskKeepsRoom (srm_timers)', G('AskHolds', 'AskKeepsRoom')),
@@ -52,8 +52,8 @@ ROWS = [
     # 7 setting
     ('Setting -> WaitBasis (srm_timers)', S('srm_timers', 'specs.Arms', 'Setting', 'WaitBasis')),
     ('setting -> wait_basis (srm_timers)', S('srm_timers', 'specs.Arms', 'setting', 'wait_basis', fields_too=True),
-        R(r'\)\.(setting)\b', 'wait_basis', ['crates/srm_timers/proofs/*', 'crates/srm_agent_parts/proofs/*']), R(r'\bp\.(setting)\b', 'wait_basis', ['crates/srm_timers/proofs/*', 'crates/srm_agent_parts/proofs/*']),
-        R(r'; (setting) = ', 'wait_basis', ['crates/srm_timers/*.antt', 'crates/srm_agent_parts/*.antt']), R(r'ensures (setting) \{', 'wait_basis', ['crates/srm_timers/src/fixes.rt'])),
+        R(r'\)\.(setting)\b', 'wait_basis', ['crates/srm_timers/proofs/*', 'crates/srm_agent_state/proofs/*']), R(r'\bp\.(setting)\b', 'wait_basis', ['crates/srm_timers/proofs/*', 'crates/srm_agent_state/proofs/*']),
+        R(r'; (setting) = ', 'wait_basis', ['crates/srm_timers/*.antt', 'crates/srm_agent_state/*.antt']), R(r'ensures (setting) \{', 'wait_basis', ['crates/srm_timers/src/fixes.rt'])),
     ('ask_setting -> ask_basis (srm_timers)', S('srm_timers', 'specs.AskCalls', 'ask_setting', 'ask_basis')),
     ('fix_setting -> fix_basis (srm_timers)', S('srm_timers', 'specs.FixCalls', 'fix_setting', 'fix_basis')),
     ('ask_setting -> ask_basis_of (srm_entries)', S('srm_entries', 'specs.Timers', 'ask_setting', 'ask_basis_of')),
@@ -63,8 +63,8 @@ ROWS = [
     ('again_setting -> again_basis (srm_timers)', G('again_setting', 'again_basis')),
     ('due_setting -> due_basis (srm_timers)', G('due_setting', 'due_basis')),
     # 8 pending
-    ('pending_asks, fixes_that_ran_out -> asks_that_ran_out, fixes_that_ran_out (srm_agent_parts)', G('pending_asks', 'asks_that_ran_out'), G('pending_fixes', 'fixes_that_ran_out')),
-    ('AsksPending, FixesRanOut -> AsksRanOut, FixesRanOut (srm_agent_parts)', G('AsksPending', 'AsksRanOut'), G('FixesPending', 'FixesRanOut')),
+    ('pending_asks, fixes_that_ran_out -> asks_that_ran_out, fixes_that_ran_out (srm_agent_state)', G('pending_asks', 'asks_that_ran_out'), G('pending_fixes', 'fixes_that_ran_out')),
+    ('AsksPending, FixesRanOut -> AsksRanOut, FixesRanOut (srm_agent_state)', G('AsksPending', 'AsksRanOut'), G('FixesPending', 'FixesRanOut')),
     # 9 fault
     ('Fault -> ScriptFault (srm_script)', D('srm_script', 'fault', 'Fault', 'ScriptFault'),
         E('edits/srm_script/a_bad_line_has_the_status_of_want_of_memory.edit', [
@@ -112,11 +112,11 @@ ROWS = [
     # 21 draw
     ('AreDrawn -> AreChosen (srm_timers)', G('AreDrawn', 'AreChosen')),
     ('draw_wait -> choose_wait (srm_timers)', G('draw_wait', 'choose_wait')),
-    ('drawn, undrawn -> chosen, unchosen, clauses on waits (srm_timers, srm_agent_parts)',
-        R(r'\b(?:ensures |ensures\.|invariant\.|clause-)(drawn)\b', 'chosen', ['crates/srm_timers/src/*', 'crates/srm_timers/proofs/asks/*', 'crates/srm_timers/proofs/fixes/*', 'crates/srm_agent_parts/src/timers*', 'crates/srm_agent_parts/proofs/timers/*']),
-        R(r'\b(?:ensures |ensures\.|invariant\.|clause-)(undrawn)\b', 'unchosen', ['crates/srm_timers/src/*', 'crates/srm_timers/proofs/asks/*', 'crates/srm_timers/proofs/fixes/*', 'crates/srm_agent_parts/src/timers*', 'crates/srm_agent_parts/proofs/timers/*']),
+    ('drawn, undrawn -> chosen, unchosen, clauses on waits (srm_timers, srm_agent_state)',
+        R(r'\b(?:ensures |ensures\.|invariant\.|clause-)(drawn)\b', 'chosen', ['crates/srm_timers/src/*', 'crates/srm_timers/proofs/asks/*', 'crates/srm_timers/proofs/fixes/*', 'crates/srm_agent_state/src/timers*', 'crates/srm_agent_state/proofs/timers/*']),
+        R(r'\b(?:ensures |ensures\.|invariant\.|clause-)(undrawn)\b', 'unchosen', ['crates/srm_timers/src/*', 'crates/srm_timers/proofs/asks/*', 'crates/srm_timers/proofs/fixes/*', 'crates/srm_agent_state/src/timers*', 'crates/srm_agent_state/proofs/timers/*']),
         R(r'\bensures\.(drawn)\b', 'chosen', ['crates/srm_agent/proofs/*']), R(r'\bensures\.(undrawn)\b', 'unchosen', ['crates/srm_agent/proofs/*']),
-        R(r'^ +(drawn)(?= : | = )', 'chosen', ['crates/srm_timers/proofs/asks/*', 'crates/srm_timers/proofs/fixes/*', 'crates/srm_agent_parts/proofs/timers/*'])),
+        R(r'^ +(drawn)(?= : | = )', 'chosen', ['crates/srm_timers/proofs/asks/*', 'crates/srm_timers/proofs/fixes/*', 'crates/srm_agent_state/proofs/timers/*'])),
     ('Draws -> Depicts (srm_picture)', S('srm_picture', 'specs.Pictures', 'Draws', 'Depicts')),
     # 22 pause
     ('SHORTEST_PAUSE -> SHORTEST_INTERVAL (srm_entries)', G('SHORTEST_PAUSE', 'SHORTEST_INTERVAL')),
@@ -129,7 +129,7 @@ ROWS = [
     ('state_due -> expected_state (srm_entries)', G('state_due', 'expected_state')),
     ('echoes_due -> echoes_owed (srm_distance, srm_entries)', G('echoes_due', 'echoes_owed')),
     # 24 next
-    ('Timers::next_moment -> next_moment (srm_agent_parts)', M('srm_agent_parts', 'timers', 'Timers', 'next', 'next_moment', answers=['crates/srm_agent/proofs/agent/Agent/next_due/*', 'crates/srm_agent/proofs/agent/Agent/next_moment/*']), R(r'self\.timers\.(next)\(', 'next_moment', ['crates/srm_agent/src/agent/next_due.rt'])),
+    ('Timers::next_moment -> next_moment (srm_agent_state)', M('srm_agent_state', 'timers', 'Timers', 'next', 'next_moment', answers=['crates/srm_agent/proofs/agent/Agent/next_due/*', 'crates/srm_agent/proofs/agent/Agent/next_moment/*']), R(r'self\.timers\.(next)\(', 'next_moment', ['crates/srm_agent/src/agent/next_due.rt'])),
     # 26 lost
     ('is_lost -> is_disconnected (srm_pages)', G('is_lost', 'is_disconnected')),
     # 27 played
@@ -147,7 +147,7 @@ ROWS = [
     ('SESSION -> ANY_SESSION (srm_audit)', D('srm_audit', 'texts', 'SESSION', 'ANY_SESSION')),
     ('SESSION -> SCRIPT_SESSION (srm_script)', D('srm_script', 'script::roster', 'SESSION', 'SCRIPT_SESSION')),
     # 32 noted
-    ('Fixes::note -> note_asker (srm_timers)', M('srm_timers', 'fixes', 'Fixes', 'note', 'note_asker', calls=['crates/srm_timers_tests/src/fixes.rt']), R(r'self\.fixes\.(note)\(', 'note_asker', ['crates/srm_agent_parts/src/timers/*'])),
+    ('Fixes::note -> note_asker (srm_timers)', M('srm_timers', 'fixes', 'Fixes', 'note', 'note_asker', calls=['crates/srm_timers_tests/src/fixes.rt']), R(r'self\.fixes\.(note)\(', 'note_asker', ['crates/srm_agent_state/src/timers/*'])),
     ('noted -> with_seen (srm_pages)', S('srm_pages', 'specs.Board', 'noted', 'with_seen')),
     # 33 runs, backs_off
     ('Asks::runs -> exponent_when_due (srm_timers)', M('srm_timers', 'asks', 'Asks', 'runs', 'exponent_when_due', calls=['crates/srm_timers_tests/src/asks.rt'], answers=['crates/srm_timers/proofs/asks/*'])),
@@ -173,7 +173,7 @@ ROWS = [
     s('srm_audit', 'Merging', 'Keeps', 'KeepsJournals'),
     s('srm_node', 'Nodes', 'Keeps', 'NodeKeepsLists'),
     s('srm_entries', 'Bucket', 'GoesRight', 'GoesAsCharged'),
-    ('end_of -> runs_out_at (srm_timers)', G('runs_out_at', 'first_to_run_out', only=['crates/srm_agent_parts/proofs/*'], dash=False), S('srm_timers', 'specs.Arms', 'end_of', 'runs_out_at')),
+    ('end_of -> runs_out_at (srm_timers)', G('runs_out_at', 'first_to_run_out', only=['crates/srm_agent_state/proofs/*'], dash=False), S('srm_timers', 'specs.Arms', 'end_of', 'runs_out_at')),
     s('srm_picture', 'Arrows', 'end_of', 'arrow_end'),
     s('srm_picture', 'Brackets', 'end_of', 'bracket_end'),
     s('srm_store', 'Tables', 'drawop_at', 'drawop_in_table'),
@@ -236,10 +236,10 @@ ROWS = [
     ('MOMENT -> LATEST_MOMENT (srm_names)', D('srm_names', 'limits', 'MOMENT', 'LATEST_MOMENT'), R(r'now ≤ (MOMENT)\b', 'LATEST_MOMENT', ['docs/CONTRACTS.md']),
         E('edits/srm_bench/a_moment_goes_past_the_greatest.edit', [('self.now = self.now.saturating_add(u64::from(micros)).min(LATEST_MOMENT);', '            .min(LATEST_MOMENT);'), ('self.now = self.now.saturating_add(u64::from(micros)).max(LATEST_MOMENT);', '            .max(LATEST_MOMENT);')])),
     # what the first rows left
-    ('shown -> evidence, a variable of clauses (srm_outbox, srm_agent_parts, srm_agent)',
-        LR('shown', 'evidence', r'\binserted\b|\(held : List A?Drawop\) \(shown|\bheld shown\b', ['crates/srm_outbox/src/answers.rt', 'crates/srm_outbox/proofs/Spelling.antt', 'crates/srm_agent_parts/proofs/Learning.antt', 'crates/srm_agent_parts/proofs/RequestTimers.antt', 'crates/srm_agent_parts/proofs/keeping/keep/Answers.antt',
-            'crates/srm_agent_parts/specs/Growth.antt', 'crates/srm_agent/src/agent/drawing.rt', 'crates/srm_agent/proofs/Roomy.antt', 'crates/srm_agent/proofs/agent/Agent/draft/Answers.antt', 'crates/srm_agent/proofs/AnswersDue.antt', 'crates/srm_agent/proofs/Drawn.antt']),
-        LR('shown', 'evidence', r'.', ['crates/srm_agent_parts/proofs/evidence/learn_all/*'])),
+    ('shown -> evidence, a variable of clauses (srm_outbox, srm_agent_state, srm_agent)',
+        LR('shown', 'evidence', r'\binserted\b|\(held : List A?Drawop\) \(shown|\bheld shown\b', ['crates/srm_outbox/src/answers.rt', 'crates/srm_outbox/proofs/Spelling.antt', 'crates/srm_agent_state/proofs/Learning.antt', 'crates/srm_agent_state/proofs/RequestTimers.antt', 'crates/srm_agent_state/proofs/keeping/keep/Answers.antt',
+            'crates/srm_agent_state/specs/Growth.antt', 'crates/srm_agent/src/agent/drawing.rt', 'crates/srm_agent/proofs/Roomy.antt', 'crates/srm_agent/proofs/agent/Agent/draft/Answers.antt', 'crates/srm_agent/proofs/AnswersDue.antt', 'crates/srm_agent/proofs/Drawn.antt']),
+        LR('shown', 'evidence', r'.', ['crates/srm_agent_state/proofs/evidence/learn_all/*'])),
     ('names in the documents', R(r'steps of a request or a tick \(`(backs_off)`', 'exponent_when_heard', ['docs/*']), R(r'`exponent_when_heard`, `(runs)`, `arm`', 'exponent_when_due', ['docs/*']), R(r'`set_all`, `is_free`, `(note)`, `repaired`', 'note_asker', ['docs/*']),
         R(r'`Timers::\{asks_that_ran_out, fixes_that_ran_out, (next)\}`', 'next_moment', ['docs/*']), R(r'`(gone) \+\+ queue new', 'departed', ['docs/*']), R(r'for `using`\.\*\* `(Counts)`, `Marks`', 'CountsTaken', ['docs/*']),
         R(r'\(`(Draws)` of `srm_live`\)', 'DrawsTyped', ['docs/*']), R(r'\(`Merges`, `(Keeps)`\), as the code', 'KeepsJournals', ['docs/*']), R(r'srm_timers/src/ends\.rt\) \| `(Ends)::', 'Expiries', ['docs/*']), R(r'`Expiries::room`, `(Ends)::reserve`', 'Expiries', ['docs/*']),

@@ -27,9 +27,9 @@ use Rattle.srm_entries.specs.Timers.{low_of, high_of, TimersRight}
 use Rattle.srm_entries.specs.Sessions.{is_session, is_farewell, session_interval, IsReport, ending}
 use Rattle.srm_entries.specs.Runs.{expected_state}
 use Rattle.srm_agent.specs.Fits.{Fits, BucketFits}
-use Rattle.srm_agent_parts.specs.TimersKept.{TimersFit}
+use Rattle.srm_agent_state.specs.TimersKept.{TimersFit}
 use Rattle.srm_outbox.specs.Outs.{IsOut, IsOutgoing, IsOwn, AreOwn}
-use Rattle.srm_agent_parts.specs.TimerCalls.{TicksWith, TimersAdd, TimersStay}
+use Rattle.srm_agent_state.specs.TimerCalls.{TicksWith, TimersAdd, TimersStay}
 use Rattle.srm_outbox.specs.Answering.{AreAnswers}
 use Rattle.srm_outbox.specs.Outbox.{WentContent}
 use Rattle.srm_agent.specs.Noting.{Stays}

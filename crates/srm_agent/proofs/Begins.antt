@@ -11,7 +11,7 @@ use Rattle.srm_outbox.specs.declared.out.Outgoing.{Outgoing}
 use Rattle.srm_entries.specs.Configs.{Config}
 use Rattle.srm_agent.specs.Contents.{Content}
 use Rattle.srm_agent.specs.Fits.{Fits, AreNewProgress}
-use Rattle.srm_agent_parts.specs.TimersKept.{TimersFit}
+use Rattle.srm_agent_state.specs.TimersKept.{TimersFit}
 
 pub fits_begins : {W : Type 0} (c : Config) (made : ℕ) (a : Content W) → a.config ≡ c → a.state ≡ Active → a.last ≡ made → a.showing ≡ first_page → a.pages ≡ first_page ∷ []
     → AreNewProgress a.progress → store.Fits [] [] [] a.store → distances.Fits c.me [] a.distances → TimersFit c [] a.timers

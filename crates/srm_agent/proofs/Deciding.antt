@@ -15,7 +15,7 @@ use Rattle.srm_entries.specs.declared.entry.Verdict.TheVariants.{Ignored}
 use Rattle.srm_entries.specs.Causes.{ignored_for}
 use Rattle.srm_entries.specs.Configs.{Config}
 use Rattle.srm_entries.specs.Entries.{is_gone, state, known, held_at, drawops_in}
-use Rattle.srm_agent_parts.specs.PageTables.{lacks_room_for}
+use Rattle.srm_agent_state.specs.PageTables.{lacks_room_for}
 use Rattle.srm_entries.specs.Verdicts.{verdict_of, first_cause, is_stranger, is_beyond, says_too_little, overflows, differs, drawn_in, stream_on}
 use Rattle.srm_agent.specs.Contents.{Content}
 use Rattle.srm_agent.specs.Fits.{Fits}

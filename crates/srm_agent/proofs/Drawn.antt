@@ -49,8 +49,8 @@ use Rattle.srm_entries.specs.Verdicts.{first_cause, verdict_of, overflows, drawn
 use Rattle.srm_entries.specs.Sessions.{session_due, interval_after, is_session}
 use Rattle.srm_entries.specs.Bucket.{Going, GoesAsCharged, bucket_calls, classed}
 use Rattle.srm_entries.specs.Runs.{EntryRight}
-use Rattle.srm_agent_parts.specs.PageTables.{with_page}
-use Rattle.srm_agent_parts.specs.TimersKept.{TimersContent, TimersFit, only_if}
+use Rattle.srm_agent_state.specs.PageTables.{with_page}
+use Rattle.srm_agent_state.specs.TimersKept.{TimersContent, TimersFit, only_if}
 use Rattle.srm_agent.specs.Contents.{Content}
 use Rattle.srm_agent.specs.Fits.{Fits, EachProgressFits, BucketFits}
 use Rattle.srm_outbox.specs.Outs.{datagram_of, IsOwn}
@@ -58,11 +58,11 @@ use Rattle.srm_entries.specs.Still.{still_entry}
 use Rattle.srm_agent.specs.Noting.{HasEntry, IsAllowed, IsDrawnName, Enters, Stays}
 use Rattle.srm_agent.specs.declared.agent.drafting.Draft.{Draft}
 use Rattle.srm_agent.specs.Drawing.{refusals, name_after, drawn_entry, IsDraftOf}
-use Rattle.srm_agent_parts.specs.Growth.{HoldsToo}
+use Rattle.srm_agent_state.specs.Growth.{HoldsToo}
 use Rattle.srm_entries.proofs.Adding.{known-snoc, is_missing-snoc, flat_map-snoc, last_ask-snoc, fix_running-snoc, held_off-snoc}
 use Rattle.srm_entries.proofs.Showing.{kind, shown_drawing, shown_hearing, shown_quiet, shown-snoc, held-snoc, drawn-snoc, state-snoc, held_is_shown, refused_is_not_done}
 use Rattle.srm_entries.proofs.Running.{steps_more, last_moment-snoc, shown-page-snoc}
-use Rattle.srm_agent_parts.proofs.Running.{slots-one}
+use Rattle.srm_agent_state.proofs.Running.{slots-one}
 use Rattle.srm_entries.proofs.Arming.{ask_at}
 use Rattle.srm_entries.proofs.Marking.{bucket_calls-snoc, entries-snoc}
 use Rattle.srm_agent.proofs.Still.{same_progress}

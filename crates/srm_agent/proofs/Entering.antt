@@ -14,7 +14,7 @@ use Rattle.srm_entries.specs.declared.entry.Verdict.{Verdict}
 use Rattle.srm_entries.specs.declared.entry.Verdict.TheVariants.{Done, Refused}
 use Rattle.srm_entries.specs.Configs.{Config}
 use Rattle.srm_entries.specs.Entries.{is_tick, takes_moment, clock_of, last_moment, is_gone, state, done_input, page_shown, slots}
-use Rattle.srm_agent_parts.specs.PageTables.{lacks_room, with_page}
+use Rattle.srm_agent_state.specs.PageTables.{lacks_room, with_page}
 use Rattle.srm_entries.specs.Verdicts.{VerdictRight}
 use Rattle.srm_entries.specs.Giving.{MessageRight, given_in}
 use Rattle.srm_agent.specs.Contents.{Content}
@@ -22,7 +22,7 @@ use Rattle.srm_agent.specs.Fits.{Fits, EachProgressFits}
 use Rattle.srm_entries.specs.Still.{still_entry}
 use Rattle.srm_agent.specs.Noting.{AnswersAs, Enters, EntersStill, HasEntry, IsAllowed, verdict_answering}
 use Rattle.srm_entries.proofs.Running.{slots-same}
-use Rattle.srm_agent_parts.proofs.Running.{slots-one}
+use Rattle.srm_agent_state.proofs.Running.{slots-one}
 use Rattle.srm_agent.proofs.Still.{MayFollow, SameParts, still_fits, same_progress}
 
 -- an entry of this agent is one of the member whose run it fits

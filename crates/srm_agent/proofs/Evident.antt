@@ -18,7 +18,7 @@ use Rattle.srm_entries.specs.declared.state.AgentState.{AgentState}
 use Rattle.srm_entries.specs.Entries.{is_held, is_missing, known}
 use Rattle.srm_names.specs.Between.{is_between}
 use Rattle.srm_agent.specs.Heeding.{heard_entry}
-use Rattle.srm_agent_parts.specs.TimerCalls.{AreFresh}
+use Rattle.srm_agent_state.specs.TimerCalls.{AreFresh}
 use Rattle.srm_entries.proofs.Adding.{shows, is_missing-snoc}
 use Rattle.srm_agent.proofs.Fresh.{held_known}
 

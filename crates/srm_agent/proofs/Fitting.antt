@@ -11,7 +11,7 @@ use Rattle.srm_entries.specs.Configs.{Config}
 use Rattle.srm_agent.specs.Contents.{Content}
 use Rattle.srm_entries.specs.Entries.{held, evidence_in}
 use Rattle.srm_entries.specs.Verdicts.{settlings}
-use Rattle.srm_agent_parts.specs.TimersKept.{TimersContent, TimersFit}
+use Rattle.srm_agent_state.specs.TimersKept.{TimersContent, TimersFit}
 use Rattle.srm_agent.specs.Fits.{Fits, BucketFits}
 use Rattle.srm_outbox.specs.declared.out.Outgoing.{Outgoing}
 use Rattle.srm_outbox.specs.Outs.{datagram_of}

@@ -13,7 +13,7 @@ use Rattle.srm_store.specs.Held.{has_name}
 use Rattle.srm_entries.specs.declared.entry.Entry.{Entry}
 use Rattle.srm_entries.specs.Entries.{held, is_held, is_missing, known}
 use Rattle.srm_names.specs.Between.{is_between}
-use Rattle.srm_agent_parts.specs.TimerCalls.{AreFresh}
+use Rattle.srm_agent_state.specs.TimerCalls.{AreFresh}
 use Rattle.srm_entries.proofs.Adding.{shows, gains, is_missing-snoc}
 use Rattle.srm_entries.proofs.Showing.{held_is_shown, known_has}
 

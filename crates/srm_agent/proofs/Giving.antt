@@ -15,7 +15,7 @@ use Rattle.srm_entries.specs.declared.entry.Verdict.TheVariants.{Done}
 use Rattle.srm_entries.specs.Configs.{Config}
 use Rattle.srm_entries.specs.Entries.{slots}
 use Rattle.srm_entries.specs.Giving.{given, given_in, GiveRight}
-use Rattle.srm_agent_parts.specs.Progress.{ProgressContent, ProgressFits}
+use Rattle.srm_agent_state.specs.Progress.{ProgressContent, ProgressFits}
 use Rattle.srm_agent.specs.Contents.{Content}
 use Rattle.srm_agent.specs.Fits.{Fits, EachProgressFits}
 use Rattle.srm_entries.specs.Still.{still_entry}

@@ -30,9 +30,9 @@ use Rattle.srm_entries.specs.Configs.{Config}
 use Rattle.srm_entries.specs.Entries.{done, accepted, is_gone, state, slots, pages_in, last_moment, held, evidence_in, known, drawn, drawops_in}
 use Rattle.srm_entries.specs.Distances.{distance_calls, calls_in, calls_of}
 use Rattle.srm_entries.specs.Timers.{TimersRight}
-use Rattle.srm_agent_parts.specs.TimerCalls.{TimersAdd, WaitsAreDrawn}
-use Rattle.srm_agent_parts.specs.TimersKept.{HaveSettings}
-use Rattle.srm_agent_parts.specs.PageTables.{with_pages_of}
+use Rattle.srm_agent_state.specs.TimerCalls.{TimersAdd, WaitsAreDrawn}
+use Rattle.srm_agent_state.specs.TimersKept.{HaveSettings}
+use Rattle.srm_agent_state.specs.PageTables.{with_pages_of}
 use Rattle.srm_entries.specs.Verdicts.{verdict_of, settlings, settling_of, drawn_in, stream_on, exceeds, is_beyond, final}
 use Rattle.srm_entries.specs.Sessions.{session_due, interval_after}
 use Rattle.srm_entries.specs.Bucket.{Going, GoesAsCharged, bucket_calls}
@@ -44,7 +44,7 @@ use Rattle.srm_agent.specs.Noting.{Enters}
 use Rattle.srm_bucket.specs.Content.{Content as BucketContent}
 use Rattle.srm_entries.proofs.Adding.{flat_map-snoc, known-snoc}
 use Rattle.srm_entries.proofs.Cutting.{bucket_calls-append}
-use Rattle.srm_agent_parts.proofs.Listing.{firsts_more, firsts_again}
+use Rattle.srm_agent_state.proofs.Listing.{firsts_more, firsts_again}
 use Rattle.srm_entries.proofs.Showing.{state-snoc, held-snoc, shown-snoc, drawn-snoc, hearing_fine}
 use Rattle.srm_entries.proofs.Running.{steps_more, last_moment-snoc, shown-page-snoc}
 use Rattle.srm_agent.proofs.Entering.{of_member}

@@ -27,10 +27,10 @@ use Rattle.srm_entries.specs.Entries.{is_gone, held, evidence_in, drawops_in}
 use Rattle.srm_entries.specs.Distances.{distance_calls, calls_in, calls_of}
 use Rattle.srm_entries.specs.Verdicts.{settlings, settling_of}
 use Rattle.srm_agent.specs.Growth.{IsFreshOf}
-use Rattle.srm_agent_parts.specs.Growth.{HearsToo, LearnsToo}
-use Rattle.srm_agent_parts.specs.PageTables.{with_pages_of}
-use Rattle.srm_agent_parts.specs.TimersKept.{HaveSettings, TimersContent}
-use Rattle.srm_agent_parts.specs.TimerCalls.{AreDistancesAfter, TimersHear, TimersStay, WaitsAreDrawn, IsSession}
+use Rattle.srm_agent_state.specs.Growth.{HearsToo, LearnsToo}
+use Rattle.srm_agent_state.specs.PageTables.{with_pages_of}
+use Rattle.srm_agent_state.specs.TimersKept.{HaveSettings, TimersContent}
+use Rattle.srm_agent_state.specs.TimerCalls.{AreDistancesAfter, TimersHear, TimersStay, WaitsAreDrawn, IsSession}
 use Rattle.srm_agent.specs.Contents.{Content}
 use Rattle.srm_agent.specs.Fits.{Fits}
 use Rattle.srm_agent.specs.Heeding.{IsAccepted, heard_entry}

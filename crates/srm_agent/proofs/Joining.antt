@@ -19,7 +19,7 @@ use Rattle.srm_entries.specs.declared.entry.Entry.{Entry}
 use Rattle.srm_entries.specs.Entries.{is_held, is_missing, known}
 use Rattle.srm_agent.specs.Growth.{is_fresh_of}
 use Rattle.srm_names.specs.Between.{is_between}
-use Rattle.srm_agent_parts.specs.TimerCalls.{AreFresh}
+use Rattle.srm_agent_state.specs.TimerCalls.{AreFresh}
 use Rattle.srm_entries.proofs.Adding.{shows, gains, greatest-append, is_missing-snoc}
 use Rattle.srm_agent.proofs.Fresh.{held_known}
 

@@ -33,11 +33,11 @@ use Rattle.srm_entries.specs.Bucket.{Going, GoesAsCharged, BucketRight, entries_
 use Rattle.srm_entries.specs.Runs.{EntryRight}
 use Rattle.srm_agent.specs.Fits.{Fits, BucketFits}
 use Rattle.srm_outbox.specs.Outs.{datagram_of}
-use Rattle.srm_agent_parts.specs.TimersKept.{only_if}
+use Rattle.srm_agent_state.specs.TimersKept.{only_if}
 use Rattle.srm_entries.specs.Promises.{MayDoNothing}
-use Rattle.srm_agent_parts.specs.TimerCalls.{RunOutFirst, IsBefore}
+use Rattle.srm_agent_state.specs.TimerCalls.{RunOutFirst, IsBefore}
 use Rattle.srm_outbox.specs.declared.out.Outgoing.{Outgoing}
-use Rattle.srm_agent_parts.proofs.Midway.{before_first, before_second}
+use Rattle.srm_agent_state.proofs.Midway.{before_first, before_second}
 use Rattle.srm_agent.specs.Ticking.{tick_entry}
 use Rattle.srm_outbox.specs.Outbox.{Passes}
 use Rattle.srm_agent.specs.Waking.{IsEarly, report_next, sooner_of}

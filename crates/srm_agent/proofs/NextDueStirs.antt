@@ -30,9 +30,9 @@ use Rattle.srm_entries.specs.Bucket.{Going, GoesAsCharged, entries_of, datagrams
 use Rattle.srm_entries.specs.Runs.{EntryRight, IsMemberRun}
 use Rattle.srm_agent.specs.Fits.{Fits}
 use Rattle.srm_outbox.specs.Outs.{datagram_of}
-use Rattle.srm_agent_parts.specs.TimersKept.{only_if}
+use Rattle.srm_agent_state.specs.TimersKept.{only_if}
 use Rattle.srm_entries.specs.Promises.{MayDoNothing}
-use Rattle.srm_agent_parts.specs.TimerCalls.{ask_running}
+use Rattle.srm_agent_state.specs.TimerCalls.{ask_running}
 use Rattle.srm_agent.specs.Waking.{report_next}
 use Rattle.srm_entries.proofs.Charging.{law_at}
 use Rattle.srm_entries.proofs.Ending.{ending_of}

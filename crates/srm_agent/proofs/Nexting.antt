@@ -22,7 +22,7 @@ use Rattle.srm_entries.specs.Configs.{Config}
 use Rattle.srm_entries.specs.Entries.{held, released, slots, state, is_gone}
 use Rattle.srm_entries.specs.Verdicts.{final}
 use Rattle.srm_entries.specs.Giving.{next_drawop, may_leave, has_more, is_some_of, is_quiet, is_smallest, given, GivesAfter, GiveRight}
-use Rattle.srm_agent_parts.specs.Progress.{ProgressContent, ProgressFits}
+use Rattle.srm_agent_state.specs.Progress.{ProgressContent, ProgressFits}
 use Rattle.srm_agent.specs.Fits.{EachProgressFits}
 use Rattle.srm_agent.specs.Nexts.{IsNextOf, IsNextOn, IsSmallest}
 

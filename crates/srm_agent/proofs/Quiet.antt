@@ -22,7 +22,7 @@ use Rattle.srm_entries.specs.Timers.{arm_in, last_ask, fix_running, held_off, as
 use Rattle.srm_entries.specs.Verdicts.{settlings, settling_of}
 use Rattle.srm_entries.specs.Sessions.{session_due, interval_after, ending, EndsWith, SessionRight}
 use Rattle.srm_entries.specs.Bucket.{Going, GoesAsCharged, entries_of, bucket_calls, calls_by}
-use Rattle.srm_agent_parts.specs.TimersKept.{TimersContent, TimersFit, only_if}
+use Rattle.srm_agent_state.specs.TimersKept.{TimersContent, TimersFit, only_if}
 use Rattle.srm_agent.specs.Fits.{BucketFits}
 use Rattle.srm_entries.proofs.Adding.{flat_map-snoc, last_ask-snoc, fix_running-snoc, held_off-snoc}
 use Rattle.srm_entries.proofs.Showing.{held-snoc, shown-snoc, shown_quiet, drawn-snoc}

@@ -23,11 +23,11 @@ use Rattle.srm_entries.specs.Distances.{distance_calls, calls_in}
 use Rattle.srm_entries.specs.Verdicts.{settlings}
 use Rattle.srm_agent.specs.Growth.{IsFreshUpTo}
 use Rattle.srm_names.specs.Between.{is_between}
-use Rattle.srm_agent_parts.specs.Growth.{LearnsNames}
-use Rattle.srm_agent_parts.specs.PageTables.{with_pages_of}
-use Rattle.srm_agent_parts.specs.TimersKept.{HaveSettings}
+use Rattle.srm_agent_state.specs.Growth.{LearnsNames}
+use Rattle.srm_agent_state.specs.PageTables.{with_pages_of}
+use Rattle.srm_agent_state.specs.TimersKept.{HaveSettings}
 use Rattle.srm_distance.specs.Fits.{IsTableOf}
-use Rattle.srm_agent_parts.specs.TimerCalls.{AreDistancesAfter, TimersHearRequest, WaitsAreDrawn}
+use Rattle.srm_agent_state.specs.TimerCalls.{AreDistancesAfter, TimersHearRequest, WaitsAreDrawn}
 use Rattle.srm_agent.specs.Contents.{Content}
 use Rattle.srm_agent.specs.Fits.{Fits}
 use Rattle.srm_agent.specs.Heeding.{IsAccepted, heard_entry}

@@ -25,7 +25,7 @@ use Rattle.srm_entries.specs.Causes.{ignored_for}
 use Rattle.srm_entries.specs.Configs.{Config}
 use Rattle.srm_entries.specs.Entries.{is_gone, slots, held, evidence_in}
 use Rattle.srm_entries.specs.Verdicts.{verdict_of, settlings}
-use Rattle.srm_agent_parts.specs.PageTables.{lacks_room_for, pages_of}
+use Rattle.srm_agent_state.specs.PageTables.{lacks_room_for, pages_of}
 use Rattle.srm_agent.specs.Contents.{Content}
 use Rattle.srm_agent.specs.Fits.{Fits}
 use Rattle.srm_agent.specs.Heeding.{IsJudgedBy, IsAccepted, MayAccept}

@@ -12,7 +12,7 @@ use Rattle.srm_deadlines.specs.Agenda.{page_order}
 use Rattle.srm_deadlines.proofs.Agendas.{same_count}
 use Rattle.srm_deadlines.proofs.Dues.{fewer, rise_by}
 use Rattle.srm_deadlines.proofs.Orders.{page_lt_is}
-use Rattle.srm_agent_parts.specs.PageTables.{IsTable}
+use Rattle.srm_agent_state.specs.PageTables.{IsTable}
 use Rattle.srm_agent.specs.Reports.{AreInOrder}
 
 -- each page stands once

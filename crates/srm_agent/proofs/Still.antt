@@ -14,7 +14,7 @@ use Rattle.srm_entries.specs.Entries.{done_input, heard_in, page_shown, is_tick,
 use Rattle.srm_entries.specs.Verdicts.{VerdictRight}
 use Rattle.srm_entries.specs.Giving.{given, given_in, MessageRight}
 use Rattle.srm_entries.specs.Runs.{EntryRight, MomentRight, expected_drawop, expected_state}
-use Rattle.srm_agent_parts.specs.Progress.{ProgressContent, ProgressFits}
+use Rattle.srm_agent_state.specs.Progress.{ProgressContent, ProgressFits}
 use Rattle.srm_agent.specs.Contents.{Content}
 use Rattle.srm_agent.specs.Fits.{Fits, EachProgressFits}
 use Rattle.srm_entries.specs.Still.{still_entry}

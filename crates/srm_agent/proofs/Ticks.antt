@@ -22,7 +22,7 @@ use Rattle.srm_entries.specs.Runs.{EntryRight, expected_state}
 use Rattle.srm_agent.specs.Ticking.{tick_entry}
 use Rattle.srm_agent.specs.Contents.{Content}
 use Rattle.srm_agent.specs.Fits.{Fits, BucketFits}
-use Rattle.srm_agent_parts.specs.TimersKept.{TimersFit}
+use Rattle.srm_agent_state.specs.TimersKept.{TimersFit}
 use Rattle.srm_entries.proofs.Adding.{flat_map-snoc}
 use Rattle.srm_entries.proofs.Ending.{EndsIn, NoSessions, session_right, due_by, due_after}
 use Rattle.srm_entries.proofs.Running.{steps_more, shown-page-snoc, slots-same}

@@ -14,9 +14,9 @@ use Rattle.srm_agent.specs.Contents.{Content}
 use Rattle.srm_entries.specs.Entries.{accepted}
 use Rattle.srm_entries.specs.Distances.{distance_calls, calls_in, calls_of}
 use Rattle.srm_outbox.specs.Outs.{IsOwn, AreOwn}
-use Rattle.srm_agent_parts.specs.TimersKept.{TimersContent, HaveSettings}
+use Rattle.srm_agent_state.specs.TimersKept.{TimersContent, HaveSettings}
 use Rattle.srm_distance.specs.Fits.{IsTableOf}
-use Rattle.srm_agent_parts.specs.TimerCalls.{AreDistancesAfter, TimersTick, WaitsAreDrawn}
+use Rattle.srm_agent_state.specs.TimerCalls.{AreDistancesAfter, TimersTick, WaitsAreDrawn}
 use Rattle.srm_agent.specs.Ticking.{TicksTimers, HandsOut}
 use Rattle.srm_entries.proofs.Adding.{flat_map-snoc}
 

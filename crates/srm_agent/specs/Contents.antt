@@ -9,9 +9,9 @@ use Rattle.srm_entries.specs.declared.state.AgentState.{AgentState}
 use Rattle.srm_outbox.specs.declared.out.Outgoing.{Outgoing}
 use Rattle.srm_agent.specs.declared.agent.Agent.TheInside.{Inside}
 use Rattle.srm_entries.specs.Configs.{Config}
-use Rattle.srm_agent_parts.specs.Progress.{ProgressContent}
+use Rattle.srm_agent_state.specs.Progress.{ProgressContent}
 use Rattle.srm_outbox.specs.Outs.{AreOwn}
-use Rattle.srm_agent_parts.specs.TimersKept.{TimersContent, HaveSettings}
+use Rattle.srm_agent_state.specs.TimersKept.{TimersContent, HaveSettings}
 
 pub record Content (W : Type 0) : Type 0 where
   pub config : Config

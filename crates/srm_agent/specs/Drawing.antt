@@ -17,7 +17,7 @@ use Rattle.srm_entries.specs.declared.entry.Input.TheVariants.{Drew}
 use Rattle.srm_entries.specs.declared.entry.Verdict.{Verdict}
 use Rattle.srm_entries.specs.declared.entry.Verdict.TheVariants.{Done, Refused}
 use Rattle.srm_entries.specs.Entries.{is_gone, is_leaving}
-use Rattle.srm_agent_parts.specs.PageTables.{lacks_room}
+use Rattle.srm_agent_state.specs.PageTables.{lacks_room}
 use Rattle.srm_outbox.specs.Outs.{IsOutgoingOf}
 
 abbrev pub verdict_of_refusal : Option AgentFault → Verdict

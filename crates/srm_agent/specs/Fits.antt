@@ -22,8 +22,8 @@ use Rattle.srm_entries.specs.Bucket.{Going, GoesAsCharged, entries_of, bucket_ca
 use Rattle.srm_entries.specs.Giving.{given}
 use Rattle.srm_entries.specs.Runs.{EntryRight}
 use Rattle.srm_outbox.specs.Outs.{datagram_of}
-use Rattle.srm_agent_parts.specs.Progress.{ProgressContent, ProgressFits}
-use Rattle.srm_agent_parts.specs.TimersKept.{TimersFit}
+use Rattle.srm_agent_state.specs.Progress.{ProgressContent, ProgressFits}
+use Rattle.srm_agent_state.specs.TimersKept.{TimersFit}
 use Rattle.srm_agent.specs.Contents.{Content}
 
 -- what waits for the bucket was handed in by the entries, and is spelled

@@ -24,7 +24,7 @@ use Rattle.srm_agent.specs.Contents.{Content}
 use Rattle.srm_agent.specs.Fits.{Fits}
 use Rattle.srm_codec.specs.Spelling.{IsSpellable, names_in}
 use Rattle.srm_entries.specs.Entries.{is_gone, known}
-use Rattle.srm_agent_parts.specs.PageTables.{lacks_room_for}
+use Rattle.srm_agent_state.specs.PageTables.{lacks_room_for}
 use Rattle.srm_names.specs.Between.{is_between}
 use Rattle.srm_entries.specs.Verdicts.{verdict_of}
 use Rattle.srm_agent.specs.Noting.{Enters, ReadsAs, AnswersHeard}

@@ -28,8 +28,8 @@ use Rattle.srm_entries.specs.Entries.{state, is_gone, is_leaving}
 use Rattle.srm_entries.specs.Timers.{low_of, high_of, TimersRight}
 use Rattle.srm_entries.specs.Sessions.{session_interval}
 use Rattle.srm_agent.specs.Fits.{Fits}
-use Rattle.srm_agent_parts.specs.TimersKept.{TimersContent}
-use Rattle.srm_agent_parts.specs.TimerCalls.{AreDueAsks, AreDueFixes, AsksRanOut, FixesRanOut, AreToAsk, AreToFix, TicksWith, TimersAdd}
+use Rattle.srm_agent_state.specs.TimersKept.{TimersContent}
+use Rattle.srm_agent_state.specs.TimerCalls.{AreDueAsks, AreDueFixes, AsksRanOut, FixesRanOut, AreToAsk, AreToFix, TicksWith, TimersAdd}
 use Rattle.srm_agent.specs.Noting.{Enters}
 use Rattle.srm_agent.specs.Reports.{IsReportSpelled}
 use Rattle.srm_agent.specs.Answering.{AnswersDue}

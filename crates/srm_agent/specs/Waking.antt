@@ -7,7 +7,7 @@ use Rattle.srm_deadlines.specs.Least.{lesser}
 use Rattle.srm_entries.specs.declared.entry.Entry.{Entry}
 use Rattle.srm_entries.specs.Configs.{Config}
 use Rattle.srm_entries.specs.Entries.{is_leaving}
-use Rattle.srm_agent_parts.specs.TimerCalls.{TimersNext}
+use Rattle.srm_agent_state.specs.TimerCalls.{TimersNext}
 use Rattle.srm_agent.specs.Contents.{Content}
 use Rattle.srm_agent.specs.Fits.{Fits}
 use Rattle.srm_entries.specs.Promises.{MayDoNothing, IsNextDue}

@@ -31,7 +31,7 @@ mod taking_session;
 mod ticking;
 
 use crate::noted::Noted;
-use srm_agent_parts::{PageTable, Progress, Timers};
+use srm_agent_state::{PageTable, Progress, Timers};
 use srm_bucket::Bucket;
 use srm_distance::Distances;
 use srm_entries::{AgentFault, AgentState, Config, Entry, Input, SHORTEST_INTERVAL, Verdict};

@@ -8,7 +8,7 @@ ghost use Rattle.srm_names.specs.declared.page_msg.PageMsg.{PageMsg as APageMsg}
 ghost use Rattle.srm_names.specs.declared.page_msg.PageMsg.TheVariants.{Close};
 ghost use Rattle.srm_entries.specs.declared.entry.Entry.{Entry as AnEntry};
 ghost use Rattle.srm_entries.specs.Entries.{is_gone, released};
-ghost use Rattle.srm_agent_parts.specs.Progress.{ProgressFits};
+ghost use Rattle.srm_agent_state.specs.Progress.{ProgressFits};
 ghost use Rattle.srm_entries.specs.Giving.{GiveRight, is_some_of};
 ghost use Rattle.srm_entries.specs.Verdicts.{final};
 ghost use Rattle.srm_agent.specs.Nexts.{IsNextOf, IsNextOn};
@@ -17,7 +17,7 @@ ghost use Rattle.srm_agent.specs.Noting.{Enters, Stays, AnswersAs, Does, gave_by
 
 use super::Agent;
 use crate::noted::Noted;
-use srm_agent_parts::{Progress, member};
+use srm_agent_state::{Progress, member};
 use srm_entries::{AgentFault, Entry, Input, Verdict};
 use srm_names::{Drawop, Member, PAGES, Page, PageMsg, Stream};
 use srm_timers::Words;

@@ -2,13 +2,13 @@
 
 ghost use Rattle.std.specs.Prelude.{◌≡◌, ◌≤◌, length, true, IfOk, OnErr};
 ghost use Rattle.srm_names.specs.declared.limits.TheConstants.{LATEST_MOMENT};
-ghost use Rattle.srm_agent_parts.specs.TimerCalls.{AreDueAsks, AreDueFixes, TimersStay};
+ghost use Rattle.srm_agent_state.specs.TimerCalls.{AreDueAsks, AreDueFixes, TimersStay};
 ghost use Rattle.srm_agent.specs.Ticking.{HandsOut};
 
 use super::Agent;
 use super::due::HandedOut;
 use super::noting::{note_arms, room_to_note};
-use srm_agent_parts::distance_table;
+use srm_agent_state::distance_table;
 use srm_names::Items;
 use srm_timers::{Arm, Words};
 use std::alloc::AllocError;

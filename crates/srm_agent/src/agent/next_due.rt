@@ -7,7 +7,7 @@ ghost use Rattle.srm_bucket.specs.Fits.{IsNextDeparture};
 ghost use Rattle.srm_bucket.specs.Waiting.{queue};
 ghost use Rattle.srm_deadlines.specs.Least.{lesser};
 ghost use Rattle.srm_entries.specs.Entries.{is_leaving};
-ghost use Rattle.srm_agent_parts.specs.TimerCalls.{TimersNext};
+ghost use Rattle.srm_agent_state.specs.TimerCalls.{TimersNext};
 ghost use Rattle.srm_agent.specs.Waking.{IsEarly, IsLate, IsNextAt, NextDue, report_next, sooner_of};
 
 use super::Agent;

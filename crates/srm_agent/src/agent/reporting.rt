@@ -15,7 +15,7 @@ ghost use Rattle.srm_entries.specs.Sessions.{members_remaining, session_interval
 ghost use Rattle.srm_entries.specs.Verdicts.{stream_on};
 
 use super::Agent;
-use srm_agent_parts::{member, page_in_range, stream_in_range};
+use srm_agent_state::{member, page_in_range, stream_in_range};
 use srm_codec::{Datagram, ECHO_BYTES, HEAD_BYTES, NAME_BYTES, REPORT_BYTES, length};
 use srm_entries::{SECOND, SESSION_SHARE, SHORTEST_INTERVAL};
 use srm_names::{Echo, Items, Member, Name, Page, Stream};

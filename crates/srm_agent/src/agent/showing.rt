@@ -2,7 +2,7 @@
 
 ghost use Rattle.std.specs.Prelude.{◌≡◌, ◌≤◌, IfOk, OnErr, Ok, Some, false};
 ghost use Rattle.srm_names.specs.declared.limits.TheConstants.{LATEST_MOMENT};
-ghost use Rattle.srm_agent_parts.specs.PageTables.{lacks_room, with_page};
+ghost use Rattle.srm_agent_state.specs.PageTables.{lacks_room, with_page};
 ghost use Rattle.srm_agent.specs.Noting.{Enters, EntersStill, Stays, AnswersAs, IsAllowed, Does};
 
 use super::Agent;

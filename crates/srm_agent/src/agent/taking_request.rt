@@ -11,7 +11,7 @@ ghost use Rattle.srm_agent.specs.Noting.{Stays};
 
 use super::Agent;
 use super::noting::{Hearing, note_arms, room_to_note, took};
-use srm_agent_parts::{distance_table, greatest_in, learn_all};
+use srm_agent_state::{distance_table, greatest_in, learn_all};
 use srm_names::{Member, Name, Stream, names_between};
 use srm_timers::Words;
 use std::alloc::AllocError;

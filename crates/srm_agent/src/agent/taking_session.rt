@@ -5,14 +5,14 @@ ghost use Rattle.srm_names.specs.Names.{ascending, name_below};
 ghost use Rattle.srm_codec.specs.Spelling.{row_below};
 ghost use Rattle.srm_store.specs.Stores.{HavePlaces};
 ghost use Rattle.srm_agent.specs.Growth.{IsFreshOf};
-ghost use Rattle.srm_agent_parts.specs.TimerCalls.{IsSession};
+ghost use Rattle.srm_agent_state.specs.TimerCalls.{IsSession};
 ghost use Rattle.srm_agent.specs.Heeding.{EntersHeard, MayAccept};
 ghost use Rattle.srm_entries.specs.declared.cause.Outcome.TheVariants.{Taken};
 ghost use Rattle.srm_agent.specs.Noting.{Stays};
 
 use super::Agent;
 use super::noting::{Hearing, note_arms, room_to_note, took};
-use srm_agent_parts::{distance_table, hear_report, learn};
+use srm_agent_state::{distance_table, hear_report, learn};
 use srm_codec::Datagram;
 use srm_names::{Name, names_between};
 use srm_timers::Words;

@@ -1,6 +1,6 @@
 use Rattle.std.proofs.Common.{◌≡◌, ℕ, [], length, Some}
 use Rattle.std.specs.Prelude.{slice_get}
-use Rattle.srm_agent_parts.specs.Progress.{ProgressContent, ProgressFits}
+use Rattle.srm_agent_state.specs.Progress.{ProgressContent, ProgressFits}
 use Rattle.srm_agent.proofs.agent.no_progress.Given as goal
 
 abbrev pub invariant-loop : goal.invariant-loop

@@ -2,7 +2,7 @@ use Rattle.std.proofs.Common.{◌≡◌, ◌<◌, ℕ, List, Some, false}
 use Rattle.srm_names.specs.declared.page_msg.PageMsg.{PageMsg}
 use Rattle.srm_entries.specs.declared.entry.Entry.{Entry}
 use Rattle.srm_entries.specs.Configs.{Config}
-use Rattle.srm_agent_parts.specs.Progress.{ProgressFits}
+use Rattle.srm_agent_state.specs.Progress.{ProgressFits}
 use Rattle.srm_agent.specs.Fits.{Fits}
 use Rattle.srm_entries.specs.Giving.{has_more}
 use Rattle.srm_agent.proofs.agent.Agent.next_on.Given as goal

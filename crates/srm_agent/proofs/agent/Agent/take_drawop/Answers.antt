@@ -1,5 +1,5 @@
 use Rattle.std.proofs.Common.{refl}
-use Rattle.srm_agent_parts.specs.TimerCalls.{IsDrawopOf}
+use Rattle.srm_agent_state.specs.TimerCalls.{IsDrawopOf}
 use Rattle.srm_agent.proofs.Taken.{drawop_enters, carrying_brings, carrying_is, stays, at_err}
 use Rattle.srm_store.proofs.Fitting.{still_fits}
 use Rattle.srm_agent.specs.Contents.{content_of}

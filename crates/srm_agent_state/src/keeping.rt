@@ -1,0 +1,18 @@
+//! Holding a drawop for which there is room.
+
+ghost use Rattle.std.specs.Prelude.{[], ◌∷◌};
+ghost use Rattle.srm_store.specs.Stores.{HavePlaces};
+ghost use Rattle.srm_agent_state.specs.Growth.{HoldsToo};
+
+use srm_names::{Drawop, Name};
+use srm_store::Store;
+
+/// Holds a drawop, unless one of its name is held, and knows of its name. It takes no memory.
+pub fn keep(store: &mut Store, drawop: Drawop)
+    requires { HavePlaces (drawop.name ∷ []) store.old }
+    ensures { HoldsToo drawop store.old store.new }
+{
+    let name = drawop.name;
+    store.insert(drawop).unwrap();
+    store.learn(name).unwrap();
+}

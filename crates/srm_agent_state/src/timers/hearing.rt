@@ -1,0 +1,120 @@
+//! What data, repairs and session messages do to the timers.
+
+ghost use Rattle.std.specs.Prelude.{◌≡◌, ◌≤◌, length, true, IfOk, IsOk, OnErr, [], ◌∷◌, OnOk};
+ghost use Rattle.srm_names.specs.declared.limits.TheConstants.{LATEST_MOMENT};
+ghost use Rattle.srm_names.specs.Names.{ascending, name_below};
+ghost use Rattle.srm_timers.specs.AskCalls.{AnswerReady, Gained, AskAdds};
+ghost use Rattle.srm_timers.specs.FixCalls.{FixStays, FixPlace};
+ghost use Rattle.srm_timers.specs.Distances.{AreDistances};
+ghost use Rattle.srm_agent_state.specs.TimerCalls.{FixEnds, IsDrawopOf, IsSession, KeepSettings, TimersHear, TimersStay, WaitsAreDrawn};
+
+use super::Timers;
+use srm_names::Name;
+use srm_timers::{Arm, Words};
+use std::alloc::AllocError;
+
+impl Timers {
+    /// Makes room for a session message by which these names become missing. No timer changes, and only want of memory refuses it.
+    #[tactic(auto, using(crate::proofs::Midway::asks_stay, crate::proofs::Midway::asks_keep))]
+    pub fn rows_room(&mut self, fresh: &[Name]) -> Result<(), AllocError>
+        ensures kept { TimersStay self.old self.new }
+        ensures settings { KeepSettings self.old self.new }
+        ensures ready { OnOk result (AnswerReady fresh.now self.new.asks) }
+    {
+        self.asks.room(fresh)
+    }
+
+    /// A session message was heard, by which these names, which rise, become missing: their request timers are set. Only
+    /// want of memory refuses it, and not after [`rows_room`](Timers::rows_room) of them.
+    #[tactic(auto, using(crate::proofs::Missing::rows_hear))]
+    pub fn hear_rows<W: Words>(
+        &mut self,
+        fresh: &[Name],
+        dist: &[u64],
+        now: u64,
+        words: &mut W,
+    ) -> Result<Vec<Arm>, AllocError>
+        requires rising { ascending name_below fresh.now ≡ true }
+        requires distances { AreDistances dist.now }
+        requires now { now ≤ LATEST_MOMENT }
+        ensures hears { IfOk result (λ arms. TimersHear IsSession fresh.now dist.now now arms.items self.old self.new) }
+        ensures few { IfOk result (λ arms. length arms.items ≤ length fresh.now) }
+        ensures chosen { IfOk result (λ arms. WaitsAreDrawn W.draw self.old words.old arms.items words.new) }
+        ensures kept { OnErr result (TimersStay self.old self.new) }
+        ensures unchosen { OnErr result (words.new ≡ words.old) }
+        ensures settings { KeepSettings self.old self.new }
+        ensures room { AnswerReady fresh.now self.old.asks → IsOk result }
+    {
+        self.detect(fresh, &[], dist, now, words)
+    }
+
+    /// A name's drawop was heard, as data or as a repair, by which these names of its stream, which rise, become missing. A repair
+    /// ends the name's repair timer, and holds the name off. Only want of memory refuses it.
+    #[tactic(auto, using(crate::proofs::Midway::keep_on, crate::proofs::Midway::stay_on, crate::proofs::Midway::waits_before, crate::proofs::Midway::placed_if))]
+    pub fn hear_drawop<W: Words>(
+        &mut self,
+        name: Name,
+        repaired: bool,
+        fresh: &[Name],
+        dist: &[u64],
+        now: u64,
+        words: &mut W,
+    ) -> Result<Vec<Arm>, AllocError>
+        requires rising { ascending name_below fresh.now ≡ true }
+        requires distances { AreDistances dist.now }
+        requires now { now ≤ LATEST_MOMENT }
+        ensures hears { IfOk result (λ arms. TimersHear (IsDrawopOf repaired name) fresh.now dist.now now arms.items self.old self.new) }
+        ensures few { IfOk result (λ arms. length arms.items ≤ length fresh.now) }
+        ensures chosen { IfOk result (λ arms. WaitsAreDrawn W.draw self.old words.old arms.items words.new) }
+        ensures kept { OnErr result (TimersStay self.old self.new) }
+        ensures unchosen { OnErr result (words.new ≡ words.old) }
+        ensures settings { KeepSettings self.old self.new }
+    {
+        self.drawop_room(name, repaired)?;
+        let arms = self.detect(fresh, &[], dist, now, words)?;
+        self.gain(name);
+        self.end_repair(name, repaired, dist, now);
+        Ok(arms)
+    }
+
+    /// A name is held from now on: its request timer is gone. Takes no memory.
+    #[tactic(auto, using(crate::proofs::Midway::asks_keep))]
+    fn gain(&mut self, name: Name)
+        ensures asks { AskAdds (Gained name ∷ []) self.old.asks self.new.asks }
+        ensures fixes { self.new.fixes ≡ self.old.fixes }
+        ensures settings { KeepSettings self.old self.new }
+    {
+        self.asks.gained(name);
+    }
+
+    /// Makes room for a repair of a name, if it is one. No timer changes.
+    #[tactic(auto, using(crate::proofs::Midway::fixes_stay, crate::proofs::Midway::fixes_keep, crate::proofs::Midway::all_stays, crate::proofs::Midway::fixes_same, crate::proofs::Midway::settings_same))]
+    fn drawop_room(&mut self, name: Name, repaired: bool) -> Result<(), AllocError>
+        ensures kept { TimersStay self.old self.new }
+        ensures asks { self.new.asks ≡ self.old.asks }
+        ensures fixes { FixStays self.old.fixes self.new.fixes }
+        ensures settings { KeepSettings self.old self.new }
+        ensures place { OnOk result (repaired ≡ true → FixPlace self.new.fixes name) }
+    {
+        if repaired {
+            self.fixes.make_place(name)
+        } else {
+            Ok(())
+        }
+    }
+
+    /// A drawop of a name was heard. If it was a repair, the name's repair timer is gone, and it is held off. Takes no memory.
+    #[tactic(auto, using(crate::proofs::Midway::fixes_keep, crate::proofs::Midway::settings_same))]
+    fn end_repair(&mut self, name: Name, repaired: bool, dist: &[u64], now: u64)
+        requires place { repaired ≡ true → FixPlace self.old.fixes name }
+        requires distances { AreDistances dist.now }
+        requires now { now ≤ LATEST_MOMENT }
+        ensures fixes { FixEnds repaired now dist.now name self.old.fixes self.new.fixes }
+        ensures asks { self.new.asks ≡ self.old.asks }
+        ensures settings { KeepSettings self.old self.new }
+    {
+        if repaired {
+            self.fixes.repair(name, dist, now);
+        }
+    }
+}
