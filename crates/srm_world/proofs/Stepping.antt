@@ -32,7 +32,7 @@ use Rattle.srm_world.specs.Events.{member_of, moment_in, input_of, in_slot, inpu
 use Rattle.srm_world.specs.Claims.{IsLawful}
 use Rattle.srm_world.specs.WaitWords.{WorldView, AreByOwnWords, PlaysByWords}
 use Rattle.srm_world.specs.Participants.{Content, Fits, Adds, GoesOn, Stays, HearsBytes, SendsOuts, AreOutsOf}
-use Rattle.srm_world.specs.Worlds.{words_of, AllFit, AreSent, AreWorld, EntersTrace, EntersAll, Skips, KeepsParticipants, Appends, Happens, after_entry}
+use Rattle.srm_world.specs.Worlds.{words_of, AllFit, AreSent, AreWorld, EntersTrace, EntersAll, Skips, KeepsParticipants, Appends, after_entry}
 use Rattle.srm_world.proofs.Members.{of_member-append, of_member-own}
 use Rattle.srm_world.proofs.Laning.{get_set_same, get_set_other, get_map, at_place}
 use Rattle.srm_world.proofs.Wording.{plays_nothing, plays_one, sources_stay, plays_still, plays_on}
@@ -363,6 +363,13 @@ pub record RunsTo {W : Type 0} (draw : W → ℕ × W) (old : WorldView W) (even
 
 pub runs_from : {W : Type 0} (draw : W → ℕ × W) (old : WorldView W) (events : List Event) → IsLawful old.trace → RunsTo draw old events 0 old
 runs_from draw old events law = record { follows = refl; starts = refl; words = plays_still draw old; lawful = law }
+
+-- one event of a run
+pub record Happens {W : Type 0} (draw : W → ℕ × W) (event : Event) (old new : WorldView W) : Type 0 where
+  pub follows : FollowsOne old.trace.starts old.trace.entries event new.trace.entries
+  pub starts : new.trace.starts ≡ old.trace.starts
+  pub words : PlaysByWords draw old new
+  pub lawful : IsLawful new.trace
 
 pub stepped : {W : Type 0} (draw : W → ℕ × W) (event : Event) (old new : WorldView W) → FollowsOne old.trace.starts old.trace.entries event new.trace.entries → new.trace.starts ≡ old.trace.starts → PlaysByWords draw old new → IsLawful new.trace → Happens draw event old new
 stepped draw event old new follows starts words law = record { follows = follows; starts = starts; words = words; lawful = law }

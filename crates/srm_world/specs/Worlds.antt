@@ -9,8 +9,8 @@ use Rattle.srm_world.specs.declared.event.Event.{Event}
 use Rattle.srm_world.specs.declared.start.Start.{Start}
 use Rattle.srm_world.specs.declared.world.World.TheInside.{Inside}
 use Rattle.srm_world.specs.Traces.{Trace, of_member}
-use Rattle.srm_world.specs.WaitWords.{WorldView, AreByOwnWords, PlaysByWords}
-use Rattle.srm_world.specs.Events.{IsEntryOf, FollowsOne, required_input}
+use Rattle.srm_world.specs.WaitWords.{WorldView, AreByOwnWords}
+use Rattle.srm_world.specs.Events.{IsEntryOf, required_input}
 use Rattle.srm_world.specs.Claims.{IsLawful}
 use Rattle.srm_world.specs.Participants.{Content, Fits}
 use Rattle.srm_world.specs.Sent.{all_of}
@@ -76,10 +76,3 @@ after_entry t e = record { starts = t.starts; entries = t.entries ++ e ∷ [] }
 abbrev pub Appends : {W : Type 0} → (W → ℕ × W) → List (Content W) → List (Content W) → List Out → List Out → Event → Trace → Trace → Bool → Type 0
 Appends draw old new sents more event t now true = (e : Entry) × EntersAll draw old new sents more event e × (now ≡ after_entry t e)
 Appends draw old new sents more event t now false = Skips old new sents more event × (now ≡ t)
-
--- one event of a run
-pub record Happens {W : Type 0} (draw : W → ℕ × W) (event : Event) (old new : WorldView W) : Type 0 where
-  pub follows : FollowsOne old.trace.starts old.trace.entries event new.trace.entries
-  pub starts : new.trace.starts ≡ old.trace.starts
-  pub words : PlaysByWords draw old new
-  pub lawful : IsLawful new.trace

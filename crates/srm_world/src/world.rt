@@ -6,7 +6,6 @@ ghost use Rattle.srm_world.specs.Traces.{IsRoster, started};
 ghost use Rattle.srm_world.specs.Events.{Follows, FollowsOne, IsTimely, required_input};
 ghost use Rattle.srm_world.specs.Claims.{IsLawful};
 ghost use Rattle.srm_world.specs.WaitWords.{PlaysByWords};
-ghost use Rattle.srm_world.specs.Worlds.{Happens};
 
 mod entering;
 
@@ -16,6 +15,7 @@ use crate::participant::Participant;
 use crate::sent::SentDatagrams;
 use crate::start::Start;
 use crate::trace::Trace;
+use crate::world::entering::enter;
 use srm_agent::Config;
 use srm_timers::Words;
 use std::alloc::{AllocError, Global};
@@ -116,22 +116,8 @@ impl<W: Words + Drop> World<W> {
     {
         let _ = self.trace();
         for event in events {
-            self.step(event)?;
+            self.happen(event)?;
         }
-        Ok(())
-    }
-
-    /// Applies one event of several.
-    #[tactic(auto, using(crate::proofs::Stepping::stepped))]
-    fn step(&mut self, event: &Event) -> Result<(), WorldFault>
-        requires { IsTimely event.now }
-        ensures ok { OnOk result (Happens W.draw event.now self.old self.new) }
-        ensures err { OnErr result (self.new ≡ self.old) }
-        ensures words { PlaysByWords W.draw self.old self.new }
-        ensures starts { self.new.trace.starts ≡ self.old.trace.starts }
-        ensures lawful { IsLawful self.new.trace }
-    {
-        self.happen(event)?;
         Ok(())
     }
 
@@ -146,9 +132,12 @@ impl<W: Words + Drop> World<W> {
         ensures lawful { IsLawful self.new.trace }
     {
         self.sent.make_room()?;
-        let applied = self
-            .trace
-            .append(&mut self.participants, &mut self.sent, event)?;
+        let applied = enter(
+            &mut self.participants,
+            &mut self.sent,
+            &mut self.trace,
+            event,
+        )?;
         Ok(applied)
     }
 }

@@ -1,4 +1,4 @@
-//! The entry of an event.
+//! What an event does to its member, entered into the trace.
 
 ghost use Rattle.std.specs.Prelude.{◌≡◌, [], length, IfOk, IfNone, IfSome, OnErr};
 ghost use Rattle.srm_world.specs.Events.{IsTimely};
@@ -15,27 +15,25 @@ use srm_names::PAGES;
 use srm_timers::Words;
 use std::alloc::AllocError;
 
-impl Trace {
-    /// Appends the entry of an event, and answers whether there is one. The members and what was sent go on with it.
-    pub(crate) fn append<W: Words + Drop>(
-        &mut self,
-        participants: &mut [Participant<W>],
-        sent: &mut SentDatagrams,
-        event: &Event,
-    ) -> Result<bool, AllocError>
-        requires timely { IsTimely event.now }
-        requires settled { sent.old.newest ≡ [] }
-        ensures ok { IfOk result (Appends W.draw participants.old participants.new (all_of sent.old) (all_of sent.new) event.now self.old self.new) }
-        ensures err { OnErr result (KeepsParticipants participants.old participants.new (all_of sent.old) (all_of sent.new)) }
-        ensures same { OnErr result (self.new ≡ self.old) }
-    {
-        self.entries.reserve(1)?;
-        match entry_of(participants, sent, event)? {
-            None => Ok(false),
-            Some(entry) => {
-                append(&mut self.entries, entry);
-                Ok(true)
-            }
+/// Lets an event happen to its member, and answers whether it left an entry, which the trace then has. What was sent goes on with it.
+pub(super) fn enter<W: Words + Drop>(
+    participants: &mut [Participant<W>],
+    sent: &mut SentDatagrams,
+    trace: &mut Trace,
+    event: &Event,
+) -> Result<bool, AllocError>
+    requires timely { IsTimely event.now }
+    requires settled { sent.old.newest ≡ [] }
+    ensures ok { IfOk result (Appends W.draw participants.old participants.new (all_of sent.old) (all_of sent.new) event.now trace.old trace.new) }
+    ensures err { OnErr result (KeepsParticipants participants.old participants.new (all_of sent.old) (all_of sent.new)) }
+    ensures same { OnErr result (trace.new ≡ trace.old) }
+{
+    trace.entries.reserve(1)?;
+    match entry_of(participants, sent, event)? {
+        None => Ok(false),
+        Some(entry) => {
+            append(&mut trace.entries, entry);
+            Ok(true)
         }
     }
 }
