@@ -8,16 +8,10 @@ ghost use Rattle.srm_world.specs.Traces.{IsRoster, started};
 use super::line_reader::{LineFault, LineReader};
 use super::number::read_number;
 use super::roster::roster;
-use srm_agent::Config;
+use srm_agent::{Config, Settings};
 use srm_bucket::{GREATEST_DEPTH, GREATEST_RATE, LEAST_DEPTH, LEAST_RATE};
 use srm_timers::Listed;
 use std::alloc::{AllocError, Global};
-
-/// Bytes a second that a member may send, where a script doesn't say it.
-const RATE: u32 = 8_000;
-
-/// Bytes of a member's bucket, where a script doesn't say it.
-const DEPTH: u32 = 4_204;
 
 /// The kind of the last line. The first lines have an order.
 #[derive(Clone, Copy, Debug, PartialEq, Eq)]
@@ -54,10 +48,11 @@ impl Header {
         requires some { 0 < members }
         requires few { members ≤ MEMBERS }
     {
+        let usual = Settings::default();
         Header {
             members,
-            rate: RATE,
-            depth: DEPTH,
+            rate: usual.rate,
+            depth: usual.depth,
             words: Vec::new(alloc),
             timers: false,
             last: Kind::Members,
