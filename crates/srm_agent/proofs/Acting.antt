@@ -57,7 +57,7 @@ noted_of r = r.outgoing.noted
 pub tick_stays : {W : Type 0} (a b d : Content W) → b ≡ record a { bucket = b.bucket } → BucketStays a.bucket b.bucket → d ≡ record b { timers = d.timers; words = d.words }
     → TimersStay b.timers d.timers → d.words ≡ b.words → Stays a d
 tick_stays a b d room bucket rest timers words = record {
-  fits = λ c made past h. subst (Fits c made past) (sym rest) (subst (λ x. Fits c made past (record x { timers = d.timers; words = d.words })) (sym room) (refit c made past a a.store d.timers b.bucket a.words h h.store (timers.each c past (subst (TimersFit c past) (sym (ap (λ x. x.timers) room)) h.timers)) (roomy c past a.bucket b.bucket bucket h.bucket)));
+  fits = λ c made past h. subst (Fits c made past) (sym rest) (subst (λ x. Fits c made past (record x { timers = d.timers; words = d.words })) (sym room) (refit c made past a a.store d.timers b.bucket d.words h h.store (timers.each c past (subst (TimersFit c past) (sym (ap (λ x. x.timers) room)) h.timers)) (roomy c past a.bucket b.bucket bucket h.bucket)));
   words = words ∙ ap (λ x. x.words) room;
 }
 

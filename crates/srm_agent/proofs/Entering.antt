@@ -56,7 +56,8 @@ still_enters draw a b now moment input verdict after e is at words same is_state
   words = rw is words;
   moment_is = ap (λ (x : Entry). x.moment) is ∙ at;
   fits = λ c made past h. of_member c made past a b e (λ me. still_entry me moment input verdict None after) h is
-      (still_fits c made past a b moment input verdict None after h (may c made past h (later c made past a now moment h at)) same is_state is_last is_showing (pages c made past h) (progress c made past h));
+      (still_fits c made past a b moment input verdict None after h (may c made past h (later c made past a now moment h at)) same is_state
+      (subst (λ (s : Config). b.last ≡ max a.last (greatest (clock_of verdict (still_entry s.me moment input verdict None after)))) h.config is_last) is_showing (pages c made past h) (progress c made past h));
 }
 
 -- what a call without effects says of the moment that counts, and of its answer

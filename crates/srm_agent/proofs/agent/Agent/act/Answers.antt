@@ -16,7 +16,7 @@ send-went-requires-clause-room g c = room_to_send c.args.self.now c.room_to_go.n
 pub send-went-requires-clause-own : goal.send-went-requires-clause-own
 send-went-requires-clause-own g c = own_to_send c.args.self.now c.room_to_go.new.self c.hand_out.new.self c.args.due.answers.items c.room_to_go.ensures.rest c.hand_out.ensures.rest c.requires.due.answers.spelled.own
 
-acted : (g : _) → (c : goal.After-into_items-outs g) → Acts g.W.Words.draw c.args.self.now c.room_to_go.new.self c.hand_out.new.self c.send-went.new.self c.end-last.new.self c.args.moment c.args.due c.in_ok-arms.arms c.send-went.result
+acted : (g : _) → (c : goal.After-result-1 g) → Acts g.W.Words.draw c.args.self.now c.room_to_go.new.self c.hand_out.new.self c.send-went.new.self c.end-last.new.self c.args.moment c.args.due c.in_ok-arms.arms c.send-went.result
     c.end-last.result c.into_items-outs.result.1
 acted g c = record {
   here = c.requires.here;

@@ -12,5 +12,5 @@ returns-then-given-released g c = λ s made past h.
 pub returns : goal.returns
 returns g c = λ s made past h.
     let fits = rw (← c.self.view_is) at h in
-    released_at (held past) c.args.stream c.args.given c.in_ok-new.field-0 _ (subst (λ n. c.args.given < n) (c.released.ensures.value (held past) (evidence_in past) (settlings past) fits.store) c.if-given-released.false)
-    c.in_ok-new.ensures.value (c.get.ensures (held past) (evidence_in past) (settlings past) fits.store)
+    released_at (held past) c.args.stream c.args.given c.in_ok-at.field-0 _ (subst (λ n. c.args.given < n) (c.released.ensures.value (held past) (evidence_in past) (settlings past) fits.store) c.if-given-released.false)
+    c.in_ok-at.ensures.value (c.get.ensures (held past) (evidence_in past) (settlings past) fits.store)
