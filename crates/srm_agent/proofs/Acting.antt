@@ -24,7 +24,8 @@ use Rattle.srm_entries.specs.Configs.{Config}
 use Rattle.srm_agent.specs.Contents.{Content}
 use Rattle.srm_entries.specs.Entries.{state, is_gone, is_leaving}
 use Rattle.srm_entries.specs.Timers.{low_of, high_of, TimersRight}
-use Rattle.srm_entries.specs.Sessions.{is_session, is_farewell, session_interval, IsReport, ending}
+use Rattle.srm_codec.specs.Spelling.{is_session, is_farewell}
+use Rattle.srm_entries.specs.Sessions.{session_interval, IsReport, ending}
 use Rattle.srm_entries.specs.Runs.{expected_state}
 use Rattle.srm_agent.specs.Fits.{Fits, BucketFits}
 use Rattle.srm_agent_state.specs.TimersKept.{TimersFit}

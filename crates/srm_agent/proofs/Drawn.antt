@@ -19,7 +19,7 @@ use Rattle.srm_names.proofs.Lists.{Has, Has-append, Has-front, Has-back, Has-map
 use Rattle.srm_names.proofs.Snoc.{along, steps-snoc, last_of-snoc, first_of-snoc, or_else-none}
 use Rattle.srm_codec.specs.declared.datagram.Datagram.{Datagram}
 use Rattle.srm_codec.specs.declared.datagram.Datagram.TheVariants.{Data}
-use Rattle.srm_codec.specs.Spelling.{is_drawop, length_of, sender_of}
+use Rattle.srm_codec.specs.Spelling.{is_drawop, length_of, sender_of, is_session}
 use Rattle.srm_store.specs.Held.{page_of_drawop, page_of_name, pages_named, outgrow}
 use Rattle.srm_store.specs.Tables.{is_in}
 use Rattle.srm_store.specs.Finals.{Settling}
@@ -46,7 +46,7 @@ use Rattle.srm_entries.specs.Entries.{done, accepted, held, evidence_by, evidenc
 use Rattle.srm_entries.specs.Distances.{distance_calls, calls_in}
 use Rattle.srm_entries.specs.Timers.{last_ask, fix_running, held_off, asker, basis_of, fix_basis_of, ask_basis_of, ask_exponent, ArmsRight, TimersRight}
 use Rattle.srm_entries.specs.Verdicts.{first_cause, verdict_of, overflows, drawn_in, stream_on, settlings, settling_of}
-use Rattle.srm_entries.specs.Sessions.{session_due, interval_after, is_session}
+use Rattle.srm_entries.specs.Sessions.{session_due, interval_after}
 use Rattle.srm_entries.specs.Bucket.{Going, GoesAsCharged, bucket_calls, classed}
 use Rattle.srm_entries.specs.Runs.{EntryRight}
 use Rattle.srm_agent_state.specs.PageTables.{with_page}

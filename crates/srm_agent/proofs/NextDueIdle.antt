@@ -28,7 +28,8 @@ use Rattle.srm_entries.specs.Configs.{Config}
 use Rattle.srm_agent.specs.Contents.{Content}
 use Rattle.srm_entries.specs.Entries.{state, is_gone, is_leaving, ticked, last_moment, is_missing, drawn, sent}
 use Rattle.srm_entries.specs.Timers.{last_ask, fix_running, ArmsRight, TimersRight}
-use Rattle.srm_entries.specs.Sessions.{is_data, charged, all_data_sent, ending}
+use Rattle.srm_codec.specs.Spelling.{is_data}
+use Rattle.srm_entries.specs.Sessions.{charged, all_data_sent, ending}
 use Rattle.srm_entries.specs.Bucket.{Going, GoesAsCharged, BucketRight, entries_of, calls_by, bucket_calls}
 use Rattle.srm_entries.specs.Runs.{EntryRight}
 use Rattle.srm_agent.specs.Fits.{Fits, BucketFits}

@@ -17,7 +17,8 @@ use Rattle.srm_entries.specs.declared.entry.Input.TheVariants.{Ticked}
 use Rattle.srm_entries.specs.Configs.{Config}
 use Rattle.srm_entries.specs.Entries.{state, is_gone, is_tick, ticked}
 use Rattle.srm_entries.specs.Timers.{ask_due, fix_due}
-use Rattle.srm_entries.specs.Sessions.{is_session, charged, session_due, all_data_sent, ending, EndsWith}
+use Rattle.srm_codec.specs.Spelling.{is_session}
+use Rattle.srm_entries.specs.Sessions.{charged, session_due, all_data_sent, ending, EndsWith}
 use Rattle.srm_entries.specs.Bucket.{Going, GoesAsCharged, entries_of, datagrams_of, lets_go, pops, calls_by, bucket_calls}
 use Rattle.srm_entries.specs.Runs.{EntryRight, IsMemberRun}
 use Rattle.srm_entries.specs.Promises.{MayDoNothing, DoesNothing, NothingIsDue}

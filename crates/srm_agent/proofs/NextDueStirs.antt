@@ -25,7 +25,8 @@ use Rattle.srm_entries.specs.Configs.{Config}
 use Rattle.srm_agent.specs.Contents.{Content}
 use Rattle.srm_entries.specs.Entries.{state, is_gone, is_leaving, is_tick, ticked, is_missing}
 use Rattle.srm_entries.specs.Timers.{last_ask, fix_running}
-use Rattle.srm_entries.specs.Sessions.{is_session, charged, ending, EndsWith}
+use Rattle.srm_codec.specs.Spelling.{is_session}
+use Rattle.srm_entries.specs.Sessions.{charged, ending, EndsWith}
 use Rattle.srm_entries.specs.Bucket.{Going, GoesAsCharged, entries_of, datagrams_of, bucket_calls}
 use Rattle.srm_entries.specs.Runs.{EntryRight, IsMemberRun}
 use Rattle.srm_agent.specs.Fits.{Fits}

@@ -9,7 +9,7 @@ use Rattle.srm_names.specs.Histories.{greatest}
 use Rattle.srm_names.specs.Names.{same_stream, same_name, AreExactly}
 use Rattle.srm_codec.specs.declared.datagram.Datagram.{Datagram}
 use Rattle.srm_codec.specs.declared.datagram.Datagram.TheVariants.{Data, Repair}
-use Rattle.srm_codec.specs.Spelling.{names_in, IsSpellable}
+use Rattle.srm_codec.specs.Spelling.{names_in, is_farewell, IsSpellable}
 use Rattle.srm_store.specs.Stores.{StoreContent}
 use Rattle.srm_store.specs.Fits.{StillFits}
 use Rattle.srm_distance.specs.Distance as defined
@@ -22,7 +22,7 @@ use Rattle.srm_entries.specs.declared.state.AgentState.{AgentState}
 use Rattle.srm_entries.specs.Configs.{Config}
 use Rattle.srm_entries.specs.Entries.{is_gone, held, evidence_in, drawops_in}
 use Rattle.srm_entries.specs.Distances.{distance_calls, calls_in, calls_of}
-use Rattle.srm_entries.specs.Verdicts.{settlings, settling_of}
+use Rattle.srm_entries.specs.Verdicts.{settlings}
 use Rattle.srm_names.specs.Between.{is_between}
 use Rattle.srm_agent_state.specs.Growth.{HoldsToo}
 use Rattle.srm_agent_state.specs.PageTables.{with_pages_of}
@@ -42,7 +42,7 @@ use Rattle.srm_agent.proofs.Heeded.{Goes, Heeds, heard_enters}
 pub record BringsOne (d : Drawop) (g : Datagram) : Type 0 where
   pub drawops : drawops_in (Some g) ≡ d ∷ []
   pub names : names_in g ≡ d.name ∷ []
-  pub unsettled : settling_of (Some g) ≡ None
+  pub unparting : is_farewell g ≡ false
   pub uncalled : (me now : ℕ) → calls_of me now (Some g) ≡ []
   pub brings : (me moment : ℕ) (arms : List Arm) (s : AgentState) → Brings d (heard_entry me moment g arms s)
 
@@ -61,7 +61,7 @@ data_brings : (d : Drawop) → BringsOne d (Data d)
 data_brings d = record {
   drawops = refl;
   names = refl;
-  unsettled = refl;
+  unparting = refl;
   uncalled = λ me now. refl;
   brings = λ me moment arms s. record { shows = λ t. one_number d (same_stream t d.name.stream); gains = λ n. one_name d n };
 }
@@ -70,7 +70,7 @@ repair_brings : (sender : ℕ) (d : Drawop) → BringsOne d (Repair sender d)
 repair_brings sender d = record {
   drawops = refl;
   names = refl;
-  unsettled = refl;
+  unparting = refl;
   uncalled = λ me now. refl;
   brings = λ me moment arms s. record { shows = λ t. one_number d (same_stream t d.name.stream); gains = λ n. one_name d n };
 }
@@ -113,7 +113,7 @@ drawop_enters draw a b moment g is d fresh dist arms roomy e one it here spellab
       spellable = spellable;
       timers = hears.each c past (heard_entry c.me moment g arms a.state) g it (record { heard = refl; read = spellable; moment = refl; drawn = refl; arms = refl; asks = refl; fixes = refl }) h.timers
           (fresh_drawop past (heard_entry c.me moment g arms a.state) d _ fresh (one.brings c.me moment arms a.state) refl (below.each c made past h)) (after c made past h);
-      store = rw (one.drawops, one.names, one.unsettled, append-nil (settlings past)) (holds.each (held past) (evidence_in past) (settlings past) (kept.each (held past) (evidence_in past) (settlings past) h.store));
+      store = rw (one.drawops, one.names, one.unparting, append-nil (settlings past)) (holds.each (held past) (evidence_in past) (settlings past) (kept.each (held past) (evidence_in past) (settlings past) h.store));
       distances = rw (one.uncalled c.me moment, append-nil (distance_calls c.me past), same) h.distances;
       pages = rw one.names pages;
       goes = goes;

@@ -25,7 +25,8 @@ use Rattle.srm_entries.specs.Configs.{Config}
 use Rattle.srm_entries.specs.declared.entry.Entry.{Entry}
 use Rattle.srm_outbox.specs.declared.out.Outgoing.{Outgoing}
 use Rattle.srm_entries.specs.Entries.{shown, drawn, sent, held_at}
-use Rattle.srm_entries.specs.Sessions.{is_data, is_session, charged, all_data_sent}
+use Rattle.srm_codec.specs.Spelling.{is_data, is_session}
+use Rattle.srm_entries.specs.Sessions.{charged, all_data_sent}
 use Rattle.srm_entries.specs.Packing.{is_covered_by, packed_after, packed, mask_of}
 use Rattle.srm_entries.specs.Bucket.{Going, GoesAsCharged, class_for, page_of, answer_item, data_item, answers_in, handed_by, repair_for, entries_of, bucket_calls, datagrams_of}
 use Rattle.srm_entries.specs.Rates.{one_of_class, of_class, handed_so_far, departed_so_far}

@@ -18,6 +18,18 @@ sender_of (Request sender name mask) = sender
 sender_of (Repair sender drawop) = sender
 sender_of (Session sender sent farewell shown rows echoes) = sender
 
+abbrev pub is_session : Datagram → Bool
+is_session (Session sender sent farewell shown rows echoes) = true
+is_session _ = false
+
+abbrev pub is_data : Datagram → Bool
+is_data (Data drawop) = true
+is_data _ = false
+
+abbrev pub is_farewell : Datagram → Bool
+is_farewell (Session sender sent farewell shown rows echoes) = farewell
+is_farewell _ = false
+
 -- the numbers of the bits that are set in a mask of this many bits, with 0 for the lowest
 unfoldable pub bits_set : ℕ → ℕ → List ℕ
 bits_set zero mask = []

@@ -12,7 +12,8 @@ use Rattle.srm_entries.specs.declared.entry.Entry.{Entry}
 use Rattle.srm_entries.specs.declared.state.AgentState.{AgentState}
 use Rattle.srm_entries.specs.Configs.{Config}
 use Rattle.srm_entries.specs.Entries.{ticked, state, is_gone, is_leaving}
-use Rattle.srm_entries.specs.Sessions.{is_session, charged, session_interval, interval_after, session_due, all_data_sent, IsReport, ending, EndsWith, SessionRight}
+use Rattle.srm_codec.specs.Spelling.{is_session}
+use Rattle.srm_entries.specs.Sessions.{charged, session_interval, interval_after, session_due, all_data_sent, IsReport, ending, EndsWith, SessionRight}
 
 -- by the member's state, whether data that it drew waits, and whether a session message is due: nothing, or whether a farewell
 abbrev pub ending_of : AgentState → Bool → Bool → Option Bool

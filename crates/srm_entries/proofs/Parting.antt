@@ -24,7 +24,8 @@ use Rattle.srm_entries.specs.declared.entry.Input.TheVariants.{Drew, Heard, Nois
 use Rattle.srm_entries.specs.Entries.{done, ticked, is_tick, state, is_gone, is_leaving, sent, drawn, drawn_on, known}
 use Rattle.srm_store.specs.Finals.{row_number, number_or_zero}
 use Rattle.srm_entries.specs.Verdicts.{stream_on}
-use Rattle.srm_entries.specs.Sessions.{is_session, is_farewell, charged, all_data_sent, session_due, ending, EndsWith, IsReport, number_in_rows, if_positive}
+use Rattle.srm_codec.specs.Spelling.{is_session, is_farewell}
+use Rattle.srm_entries.specs.Sessions.{charged, all_data_sent, session_due, ending, EndsWith, IsReport, number_in_rows, if_positive}
 use Rattle.srm_entries.specs.Runs.{EntryRight, expected_state}
 use Rattle.srm_entries.proofs.Showing.{IsDrawing, kind, drawing_not_gone, leaving_not_gone, state-snoc, drawn-snoc, done_is}
 use Rattle.srm_entries.proofs.Drawing.{draws_right}

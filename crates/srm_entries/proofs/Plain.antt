@@ -13,7 +13,7 @@ use Rattle.srm_names.specs.Names.{named, same_stream}
 use Rattle.srm_names.proofs.Same.{same_stream-is}
 use Rattle.srm_codec.specs.declared.datagram.Datagram.{Datagram}
 use Rattle.srm_codec.specs.declared.datagram.Datagram.TheVariants.{Data}
-use Rattle.srm_codec.specs.Spelling.{sender_of, IsSpellable, is_name}
+use Rattle.srm_codec.specs.Spelling.{sender_of, IsSpellable, is_name, is_farewell}
 use Rattle.srm_bucket.specs.declared.class.Class.{Class}
 use Rattle.srm_bucket.specs.declared.class.Class.TheVariants.{Shown, New, Other}
 use Rattle.srm_bucket.specs.declared.item.Item.{Item}
@@ -30,7 +30,7 @@ use Rattle.srm_entries.specs.Entries.{heard_in, state, is_gone, is_missing, is_h
 use Rattle.srm_entries.specs.Timers.{asker, fix_running, held_off, ask_basis_of, fix_basis_of, basis_of, last_ask}
 use Rattle.srm_timers.specs.Arms.{ran_out}
 use Rattle.srm_entries.specs.Verdicts.{VerdictRight}
-use Rattle.srm_entries.specs.Sessions.{SessionRight, charged, is_farewell}
+use Rattle.srm_entries.specs.Sessions.{SessionRight, charged}
 use Rattle.srm_entries.specs.Bucket.{Going, GoesAsCharged, lets_go}
 use Rattle.srm_entries.specs.Giving.{MessageRight}
 use Rattle.srm_entries.specs.Runs.{EntryRight, MomentRight, expected_drawop, expected_state}

@@ -8,7 +8,7 @@ use Rattle.srm_names.specs.Names.{first_page, named, names_up_to}
 use Rattle.srm_names.specs.PageFeeds.{is_page_feed}
 use Rattle.srm_codec.specs.declared.datagram.Datagram.{Datagram}
 use Rattle.srm_codec.specs.declared.datagram.Datagram.TheVariants.{Data, Request, Repair, Session}
-use Rattle.srm_codec.specs.Spelling.{bits_set, length_of}
+use Rattle.srm_codec.specs.Spelling.{bits_set, length_of, is_farewell}
 use Rattle.srm_bucket.specs.declared.class.Class.TheVariants.{Shown, New}
 use Rattle.srm_timers.specs.Arms.{WaitBasis, wait_basis, arm_of}
 use Rattle.srm_entries.specs.Configs.{Config}
@@ -20,7 +20,7 @@ use Rattle.srm_entries.specs.declared.entry.Verdict.TheVariants.{Done, Refused}
 use Rattle.srm_entries.specs.Entries.{done, state, is_missing, released}
 use Rattle.srm_entries.specs.Timers.{basis_of, ask_due, fix_due, held_off, first_asker}
 use Rattle.srm_entries.specs.Verdicts.{verdict_of, final}
-use Rattle.srm_entries.specs.Sessions.{ending, expected_row, number_in_rows, echoes_owed, is_farewell, members_remaining}
+use Rattle.srm_entries.specs.Sessions.{ending, expected_row, number_in_rows, echoes_owed, members_remaining}
 use Rattle.srm_entries.specs.Bucket.{classed}
 use Rattle.srm_entries.specs.Giving.{given, GiveRight, may_leave}
 use Rattle.srm_entries.specs.Runs.{expected_drawop, expected_state}

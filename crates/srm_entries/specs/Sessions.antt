@@ -6,8 +6,8 @@ use Rattle.srm_names.specs.FullName.{FullName}
 use Rattle.srm_names.specs.Histories.{Step, steps, last_of, count_up}
 use Rattle.srm_names.specs.Names.{same_page, same_stream, ascending}
 use Rattle.srm_codec.specs.declared.datagram.Datagram.{Datagram}
-use Rattle.srm_codec.specs.declared.datagram.Datagram.TheVariants.{Data, Session}
-use Rattle.srm_codec.specs.Spelling.{length_of, row_below}
+use Rattle.srm_codec.specs.declared.datagram.Datagram.TheVariants.{Session}
+use Rattle.srm_codec.specs.Spelling.{length_of, row_below, is_session, is_data}
 use Rattle.srm_distance.specs.Echoes as echoes
 use Rattle.srm_entries.specs.declared.limits.TheConstants.{SECOND, SESSION_SHARE, SHORTEST_INTERVAL}
 use Rattle.srm_entries.specs.Configs.{Config}
@@ -15,18 +15,6 @@ use Rattle.srm_entries.specs.declared.entry.Entry.{Entry}
 use Rattle.srm_entries.specs.Entries.{ticked, state, is_gone, is_leaving, shown, sent, drawn, known}
 use Rattle.srm_entries.specs.Distances.{distance_calls}
 use Rattle.srm_entries.specs.Verdicts.{told}
-
-abbrev pub is_session : Datagram → Bool
-is_session (Session sender sent farewell shown rows echoes) = true
-is_session _ = false
-
-abbrev pub is_data : Datagram → Bool
-is_data (Data drawop) = true
-is_data _ = false
-
-abbrev pub is_farewell : Datagram → Bool
-is_farewell (Session sender sent farewell shown rows echoes) = farewell
-is_farewell _ = false
 
 -- what is charged to the bucket
 abbrev pub charged : Entry → List Datagram

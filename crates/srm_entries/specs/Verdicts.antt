@@ -9,10 +9,9 @@ use Rattle.srm_names.specs.FullName.{FullName}
 use Rattle.srm_names.specs.Histories.{firsts}
 use Rattle.srm_names.specs.Names.{same_page, same_stream}
 use Rattle.srm_codec.specs.declared.datagram.Datagram.{Datagram}
-use Rattle.srm_codec.specs.declared.datagram.Datagram.TheVariants.{Session}
 use Rattle.srm_codec.specs.declared.fault.DecodeFault.{DecodeFault}
 use Rattle.srm_codec.specs.declared.fault.DecodeFault.TheVariants as decoding
-use Rattle.srm_codec.specs.Spelling.{sender_of, names_in}
+use Rattle.srm_codec.specs.Spelling.{sender_of, names_in, is_farewell}
 use Rattle.srm_store.specs.Held.{same_drawop}
 use Rattle.srm_store.specs.Finals.{Settling, rows_of, row_number}
 use Rattle.srm_store.specs.Finals as finals
@@ -28,8 +27,8 @@ use Rattle.srm_entries.specs.Entries.{accepted, state, is_gone, is_leaving, slot
 
 -- the rows of a farewell, and whose they are
 abbrev pub settling_of : Option Datagram → Option Settling
-settling_of (Some (Session sender sent farewell shown rows echoes)) = if farewell then Some (record { member = sender; rows = rows }) else None
-settling_of _ = None
+settling_of None = None
+settling_of (Some g) = if is_farewell g then Some (record { member = sender_of g; rows = names_in g }) else None
 
 abbrev pub settlings : List Entry → List Settling
 settlings es = filter_map (λ e. settling_of (accepted e)) es
@@ -59,9 +58,7 @@ is_beyond me es n = exceeds n.number (final es n.stream) || (n.stream.source == 
 
 -- a farewell that says less than is known already
 abbrev pub says_too_little : List Entry → Datagram → Bool
-says_too_little es (Session sender sent farewell shown rows echoes) =
-    farewell && list_any (λ page. nat_lt (row_number rows (stream_on sender page)) (known es (stream_on sender page))) (slots es)
-says_too_little es _ = false
+says_too_little es g = is_farewell g && list_any (λ page. nat_lt (row_number (names_in g) (stream_on (sender_of g) page)) (known es (stream_on (sender_of g) page))) (slots es)
 
 abbrev pub differs : Drawop → Option Drawop → Bool
 differs d None = false

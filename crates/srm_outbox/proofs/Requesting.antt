@@ -16,10 +16,9 @@ use Rattle.srm_names.proofs.Orders.{name_order}
 use Rattle.srm_names.proofs.Same.{same_stream-is, same_stream-itself}
 use Rattle.srm_codec.specs.declared.datagram.Datagram.{Datagram}
 use Rattle.srm_codec.specs.declared.datagram.Datagram.TheVariants.{Request}
-use Rattle.srm_codec.specs.Spelling.{IsSpellable, is_name, sender_of}
+use Rattle.srm_codec.specs.Spelling.{IsSpellable, is_name, sender_of, is_session}
 use Rattle.srm_codec.proofs.ContentLaws.{asked_answer}
 use Rattle.srm_codec.proofs.Masks.{named_within}
-use Rattle.srm_entries.specs.Sessions.{is_session}
 use Rattle.srm_outbox.specs.Answering.{IsAnswerOf}
 use Rattle.srm_entries.specs.Packing.{is_covered, is_covered_by, mask_of, packed_after, packed}
 

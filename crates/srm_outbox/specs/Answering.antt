@@ -3,13 +3,12 @@ use Rattle.std.specs.Prelude.{◌≡◌, ℕ, false, List, map}
 use Rattle.std.specs.List.{AllByRecursion}
 use Rattle.srm_names.specs.declared.page.Page.{Page}
 use Rattle.srm_codec.specs.declared.datagram.Datagram.{Datagram}
-use Rattle.srm_codec.specs.Spelling.{sender_of, IsSpellable}
+use Rattle.srm_codec.specs.Spelling.{sender_of, IsSpellable, is_session}
 use Rattle.srm_bucket.specs.Calls.{Classed}
 use Rattle.srm_bucket.specs.Mapping.{read_classed}
 use Rattle.srm_bucket.specs.Waiting.{HasLength}
 use Rattle.srm_outbox.specs.declared.answers.Answer.{Answer}
 use Rattle.srm_outbox.specs.declared.out.Outgoing.{Outgoing}
-use Rattle.srm_entries.specs.Sessions.{is_session}
 use Rattle.srm_entries.specs.Bucket.{answer_item}
 use Rattle.srm_outbox.specs.Outs.{datagram_of, IsOwn}
 

@@ -2,10 +2,9 @@
 use Rattle.std.specs.Prelude.{◌≡◌, ℕ, false}
 use Rattle.std.specs.List.{AllByRecursion}
 use Rattle.srm_codec.specs.declared.datagram.Datagram.{Datagram}
-use Rattle.srm_codec.specs.Spelling.{Spells, sender_of}
+use Rattle.srm_codec.specs.Spelling.{Spells, sender_of, is_session}
 use Rattle.srm_bucket.specs.declared.class.Class.{Class}
 use Rattle.srm_bucket.specs.Waiting.{Waiting, queue}
-use Rattle.srm_entries.specs.Sessions.{is_session}
 use Rattle.srm_outbox.specs.declared.out.Out.{Out}
 use Rattle.srm_outbox.specs.declared.out.Outgoing.{Outgoing}
 

@@ -14,7 +14,8 @@ use Rattle.srm_codec.specs.declared.datagram.Datagram.{Datagram}
 use Rattle.srm_codec.specs.declared.datagram.Datagram.TheVariants.{Data, Request, Repair, Session}
 use Rattle.srm_entries.specs.declared.entry.Entry.{Entry}
 use Rattle.srm_entries.specs.Entries.{accepted, sent, drawn, held, held_by, drawops_in}
-use Rattle.srm_entries.specs.Sessions.{charged, is_session}
+use Rattle.srm_codec.specs.Spelling.{is_session}
+use Rattle.srm_entries.specs.Sessions.{charged}
 use Rattle.srm_store.specs.Finals.{Settling, rows_for, rows_of, row_number}
 use Rattle.srm_entries.specs.Verdicts.{told, settlings, settling_of, stream_on}
 use Rattle.srm_entries.proofs.Adding.{flat_map-append}
