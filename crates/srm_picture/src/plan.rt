@@ -34,26 +34,26 @@ const COLUMN: u64 = 9;
 /// Brackets side by side at a lifeline, at most: those past these lie on the last.
 const COLUMNS: usize = 8;
 
-/// Where the lines of each entry stand, and which lane each bracket has.
+/// Where the lines of each entry stand, and which column each bracket has.
 #[derive(Drop)]
 pub(crate) struct Plan {
     members: u64,
     /// The first line of each entry, and behind them the line after the last.
     lines: Vec<u64>,
     /// Of each bracket.
-    lanes: Vec<u64>,
-    /// Lanes that are used, at most [`COLUMNS`].
+    columns: Vec<u64>,
+    /// Columns that are used, at most [`COLUMNS`].
     used: u64,
 }
 
 impl Plan {
     pub fn of(alloc: Global, subject: &Subject<'_>, picture: &Picture) -> Result<Plan, AllocError> {
-        let lanes = lanes_of(alloc, picture.brackets.as_slice())?;
-        let used = lanes.iter().map(|lane| lane.saturating_add(1)).max();
+        let columns = columns_of(alloc, picture.brackets.as_slice())?;
+        let used = columns.iter().map(|column| column.saturating_add(1)).max();
         Ok(Plan {
             members: u64::from(subject.members),
             lines: lines_of(alloc, subject.entries)?,
-            lanes,
+            columns,
             used: used.unwrap_or(0),
         })
     }
@@ -88,10 +88,10 @@ impl Plan {
 
     /// Pixels from the left to a bracket.
     pub fn bracket_x(&self, index: usize, member: Member) -> u64 {
-        let lane = self.lanes.get(index).copied().unwrap_or(0);
+        let column = self.columns.get(index).copied().unwrap_or(0);
         self.x(member)
             .saturating_sub(10)
-            .saturating_sub(lane.saturating_mul(COLUMN))
+            .saturating_sub(column.saturating_mul(COLUMN))
     }
 
     pub fn width(&self) -> u64 {
@@ -143,9 +143,9 @@ fn lines_after(line: u64, entry: &Entry) -> u64 {
     line.saturating_add(sent.saturating_add(gone).max(1))
 }
 
-/// Of each bracket the first lane that is free at its member as it begins.
-fn lanes_of(alloc: Global, brackets: &[Bracket]) -> Result<Vec<u64>, AllocError> {
-    let mut lanes = Vec::new(alloc);
+/// Of each bracket the first column that is free at its member as it begins.
+fn columns_of(alloc: Global, brackets: &[Bracket]) -> Result<Vec<u64>, AllocError> {
+    let mut columns = Vec::new(alloc);
     let mut busy = vec![in alloc; 0; COLUMNS * usize::from(MEMBERS)]?;
     for bracket in brackets {
         let from = bracket.from.entry;
@@ -153,29 +153,29 @@ fn lanes_of(alloc: Global, brackets: &[Bracket]) -> Result<Vec<u64>, AllocError>
             Some(end) => end.entry,
             None => usize::MAX,
         };
-        lanes.push(lane_of(busy.as_mut_slice(), bracket.from.member, from, until))?;
+        columns.push(column_of(busy.as_mut_slice(), bracket.from.member, from, until))?;
     }
-    Ok(lanes)
+    Ok(columns)
 }
 
-/// The first lane of a member that is free from a row on, or the last; it is then busy up to another row.
-fn lane_of(busy: &mut [usize], member: Member, from: usize, until: usize) -> u64 {
+/// The first column of a member that is free from a row on, or the last; it is then busy up to another row.
+fn column_of(busy: &mut [usize], member: Member, from: usize, until: usize) -> u64 {
     let first = member.index() * COLUMNS;
-    let lane = free_lane(busy, first, from);
-    if let Some(busy_until) = busy.get_mut(first + lane) {
+    let column = free_column(busy, first, from);
+    if let Some(busy_until) = busy.get_mut(first + column) {
         *busy_until = until;
     }
-    lane as u64
+    column as u64
 }
 
-/// The first lane that is free from a row on, or the last.
-fn free_lane(busy: &[usize], first: usize, from: usize) -> usize
+/// The first column that is free from a row on, or the last.
+fn free_column(busy: &[usize], first: usize, from: usize) -> usize
     requires { first ≤ MEMBERS * COLUMNS }
     ensures { result < COLUMNS }
 {
-    for lane in 0..COLUMNS {
-        if is_free(busy, first + lane, from) {
-            return lane;
+    for column in 0..COLUMNS {
+        if is_free(busy, first + column, from) {
+            return column;
         }
     }
     COLUMNS - 1
