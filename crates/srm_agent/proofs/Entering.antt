@@ -1,6 +1,6 @@
 -- The entries of the calls that hear nothing and send nothing.
-use Rattle.std.proofs.Common.{◌≡◌, ℕ, ◌≤◌, max, Bool, true, false, not, ◌&&◌, List, [], ◌∷◌, ◌++◌, refl, ap, sym, ◌∙◌, subst, arith}
-use Rattle.std.specs.Prelude.{Some, None, Result, Ok, Err, unwrap_or, MatchBool}
+use Rattle.std.proofs.Common.{◌≡◌, ℕ, ◌≤◌, max, true, false, not, List, [], ◌∷◌, ◌++◌, refl, ap, sym, ◌∙◌, subst, arith}
+use Rattle.std.specs.Prelude.{Some, None, Result, Ok, Err, unwrap_or}
 use Rattle.srm_names.specs.declared.page.Page.{Page}
 use Rattle.srm_names.specs.Histories.{greatest}
 use Rattle.srm_entries.specs.declared.fault.AgentFault.{AgentFault}
@@ -23,7 +23,7 @@ use Rattle.srm_entries.specs.Still.{still_entry}
 use Rattle.srm_agent.specs.Noting.{AnswersAs, Enters, EntersStill, HasEntry, IsAllowed, verdict_answering}
 use Rattle.srm_entries.proofs.Running.{slots-same}
 use Rattle.srm_agent_state.proofs.Running.{slots-one}
-use Rattle.srm_agent.proofs.Still.{MayFollow, SameParts, still_fits, same_progress}
+use Rattle.srm_agent.proofs.Still.{MayFollow, SameParts, undone_follows, still_fits, same_progress}
 
 -- an entry of this agent is one of the member whose run it fits
 pub of_member : {W : Type 0} (c : Config) (made : ℕ) (past : List Entry) (a b : Content W) (e : Entry) (make : ℕ → Entry) → Fits c made past a → e ≡ make a.config.me → Fits c made (past ++ make c.me ∷ []) b → Fits c made (past ++ e ∷ []) b
@@ -89,15 +89,7 @@ pub refused_enters : {W : Type 0} (draw : W → ℕ × W) (a : Content W) (now m
     → ((c : Config) (made : ℕ) (past : List Entry) → Fits c made past a → VerdictRight c past input (Refused fault)) → Enters draw (Some now) input a a e
 refused_enters draw a now moment input fault e is at unticked takes ungiven message right =
     still_enters draw a a now moment input (Refused fault) a.state e is at refl (same_parts a) refl (stays_at a.last) refl
-    (λ c made past h late. record {
-      unheard = refl;
-      undrawn = refl;
-      idle = ap (λ b. b && not (is_gone (state past))) unticked;
-      moment_right = subst (λ (b : Bool). MatchBool b (last_moment made past ≤ moment) (moment ≡ last_moment made past)) (sym takes) late;
-      verdict_right = right c made past h;
-      message_right = message c past;
-      state_right = h.state;
-    })
+    (λ c made past h late. undone_follows c made past moment input (Refused fault) a.state refl unticked takes late (right c made past h) (message c past) h.state)
     (λ c made past h. h.pages ∙ sym (slots-same past _ refl)) (λ c made past h. same_progress past _ a.progress ungiven h.progress)
 
 pub leave_gone : {W : Type 0} (draw : W → ℕ × W) (a : Content W) (now moment : ℕ) (e : Entry) → a.state ≡ Gone → e ≡ still_entry a.config.me moment AskedLeave (Refused faults.Gone) None a.state → moment ≡ max now a.last → Enters draw (Some now) AskedLeave a a e

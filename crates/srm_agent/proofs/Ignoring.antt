@@ -1,6 +1,6 @@
 -- The entries of what is ignored: noise, and datagrams with a cause.
-use Rattle.std.proofs.Common.{◌≡◌, ◌≢◌, ℕ, ◌≤◌, max, Bool, true, false, not, ◌&&◌, inl, inr, List, [], ◌∷◌, refl, ap, sym, ◌∙◌, subst, arith}
-use Rattle.std.specs.Prelude.{Option, Some, None, Result, Ok, Err, IfOk, IsOk, OnErr, MatchBool, if◌then◌else◌}
+use Rattle.std.proofs.Common.{◌≡◌, ◌≢◌, ℕ, ◌≤◌, max, Bool, true, false, inl, inr, List, [], ◌∷◌, refl, ap, sym, ◌∙◌, subst, arith}
+use Rattle.std.specs.Prelude.{Option, Some, None, Result, Ok, Err, IfOk, IsOk, OnErr, if◌then◌else◌}
 use Rattle.srm_names.specs.Histories.{greatest}
 use Rattle.srm_codec.specs.declared.datagram.Datagram.{Datagram}
 use Rattle.srm_codec.specs.declared.fault.DecodeFault.{DecodeFault}
@@ -16,17 +16,17 @@ use Rattle.srm_entries.specs.declared.entry.Input.TheVariants.{Heard, Noise}
 use Rattle.srm_entries.specs.declared.entry.Verdict.TheVariants.{Done, Ignored}
 use Rattle.srm_entries.specs.Configs.{Config}
 use Rattle.srm_entries.specs.Causes.{ignored_for}
-use Rattle.srm_entries.specs.Entries.{is_tick, takes_moment, last_moment, is_gone, state}
+use Rattle.srm_entries.specs.Entries.{is_tick, takes_moment, is_gone}
 use Rattle.srm_entries.specs.Verdicts.{VerdictRight, verdict_of}
 use Rattle.srm_entries.specs.Giving.{MessageRight, given_in}
 use Rattle.srm_entries.specs.Hearing.{read_as}
-use Rattle.srm_agent.specs.Heeding.{IsJudgedBy, IsNoiseFor, IsAccepted}
+use Rattle.srm_agent.specs.Heeding.{IsJudgedBy, IsNoiseFor}
 use Rattle.srm_agent.specs.Contents.{Content}
 use Rattle.srm_agent.specs.Fits.{Fits}
 use Rattle.srm_entries.specs.Still.{still_entry}
-use Rattle.srm_agent.specs.Noting.{Enters, ReadsAs}
+use Rattle.srm_agent.specs.Noting.{Enters, IsAllowed, ReadsAs}
 use Rattle.srm_entries.proofs.Running.{slots-same}
-use Rattle.srm_agent.proofs.Still.{same_progress}
+use Rattle.srm_agent.proofs.Still.{undone_follows, same_progress}
 use Rattle.srm_agent.proofs.Entering.{still_enters, moves_on}
 
 ignored_enters : {W : Type 0} (draw : W → ℕ × W) (a : Content W) (now moment : ℕ) (input : Input) (cause : Cause) (e : Entry) → e ≡ still_entry a.config.me moment input (Ignored cause) None a.state → moment ≡ max now a.last
@@ -35,15 +35,7 @@ ignored_enters : {W : Type 0} (draw : W → ℕ × W) (a : Content W) (now momen
 ignored_enters draw a now moment input cause e is at unticked takes ungiven message right =
     still_enters draw a (record a { last = moment }) now moment input (Ignored cause) a.state e is at refl (record { config = refl; store = refl; distances = refl; timers = refl; bucket = refl; due = refl }) refl
     (subst (λ (b : Bool). moment ≡ max a.last (greatest (if b then moment ∷ [] else []))) (sym takes) (moves_on now a.last moment at)) refl
-    (λ c made past h late. record {
-      unheard = refl;
-      undrawn = refl;
-      idle = ap (λ b. b && not (is_gone (state past))) unticked;
-      moment_right = subst (λ (b : Bool). MatchBool b (last_moment made past ≤ moment) (moment ≡ last_moment made past)) (sym takes) late;
-      verdict_right = right c made past h;
-      message_right = message c past;
-      state_right = h.state;
-    })
+    (λ c made past h late. undone_follows c made past moment input (Ignored cause) a.state refl unticked takes late (right c made past h) (message c past) h.state)
     (λ c made past h. h.pages ∙ sym (slots-same past _ refl)) (λ c made past h. same_progress past _ a.progress ungiven h.progress)
 
 abbrev pub ignored_entry : {W : Type 0} → Content W → ℕ → Input → Cause → Entry
@@ -92,8 +84,8 @@ pub ignored_judged : {W : Type 0} (a : Content W) (moment : ℕ) (g : Datagram) 
 ignored_judged a moment g cause o e found judged is = record { each = λ c made past h. ap (λ (x : Entry). x.verdict) is ∙ ap ignored_for (sym found) ∙ judged c made past h }
 
 -- a datagram with no cause to ignore it is taken, and what is done with it is as judged
-pub taken_at_none : {W : Type 0} (a : Content W) (g : Datagram) (o : Option Cause) → o ≡ None → ((c : Config) (made : ℕ) (past : List Entry) → Fits c made past a → ignored_for o ≡ verdict_of c past (Heard g)) → IsAccepted g a
-taken_at_none a g o none judged = record { each = λ c made past h. ap ignored_for (sym none) ∙ judged c made past h }
+pub taken_at_none : {W : Type 0} (a : Content W) (g : Datagram) (o : Option Cause) → o ≡ None → ((c : Config) (made : ℕ) (past : List Entry) → Fits c made past a → ignored_for o ≡ verdict_of c past (Heard g)) → IsAllowed (Heard g) a
+taken_at_none a g o none judged = record { each = λ c made past h. sym (judged c made past h) ∙ ap ignored_for none }
 
 -- what was heard as a datagram was read as it
 pub read_enters : {W : Type 0} (draw : W → ℕ × W) (a b : Content W) (now moment : ℕ) (input : Input) (e : Entry) → moment ≡ max now a.last → Enters draw (Some moment) input a b e → Enters draw (Some now) e.input a b e

@@ -33,8 +33,8 @@ use Rattle.srm_agent_state.specs.TimersKept.{HaveSettings, TimersContent}
 use Rattle.srm_agent_state.specs.TimerCalls.{AreDistancesAfter, TimersHear, TimersStay, WaitsAreDrawn, IsSession}
 use Rattle.srm_agent.specs.Contents.{Content}
 use Rattle.srm_agent.specs.Fits.{Fits}
-use Rattle.srm_agent.specs.Heeding.{IsAccepted, heard_entry}
-use Rattle.srm_agent.specs.Noting.{Enters}
+use Rattle.srm_agent.specs.Heeding.{heard_entry}
+use Rattle.srm_agent.specs.Noting.{Enters, IsAllowed}
 use Rattle.srm_entries.proofs.Adding.{flat_map-snoc}
 use Rattle.srm_agent.proofs.Heeded.{Goes, Heeds, heard_enters}
 use Rattle.srm_agent.proofs.Joining.{ShowsRows, fresh_rows}
@@ -63,7 +63,7 @@ pub hears_roomy : (is : Datagram → Type 0) (fresh : List FullName) (dist : Lis
 hears_roomy is fresh dist now arms a b d stays hears = record { each = λ c past e g it with_this fits. hears.each c past e g it with_this (stays.each c past fits) }
 
 pub session_enters : {W : Type 0} (draw : W → ℕ × W) (a b : Content W) (moment : ℕ) (g : Datagram) (names fresh : List FullName) (dist : List ℕ) (arms : List Arm) (roomy : StoreContent) (after : DistancesContent) (e : Entry)
-    → IsSession g → names ≡ names_in g → is_gone a.state ≡ false → IsSpellable g → a.last ≤ moment → IsAccepted g a → IsFreshOf names a fresh → HearsToo a.config.me moment g a.distances after → IsTableOf after dist
+    → IsSession g → names ≡ names_in g → is_gone a.state ≡ false → IsSpellable g → a.last ≤ moment → IsAllowed (Heard g) a → IsFreshOf names a fresh → HearsToo a.config.me moment g a.distances after → IsTableOf after dist
     → TimersHear IsSession fresh dist moment arms a.timers b.timers → StillFits a.store roomy → LearnsToo g roomy b.store → b.pages ≡ with_pages_of a.pages names → b.distances ≡ after → Goes a b moment
     → HaveSettings a.config a.timers → WaitsAreDrawn draw a.timers a.words arms b.words → e ≡ heard_entry a.config.me moment g arms a.state
     → Enters draw (Some moment) (Heard g) a b e
@@ -84,7 +84,7 @@ session_enters draw a b moment g names fresh dist arms roomy after e is named he
       fits = h;
       later = subst (λ n. n ≤ moment) h.last late;
       here = ap is_gone (sym h.state) ∙ here;
-      taken = taken.each c made past h;
+      taken = sym (taken.each c made past h);
       spellable = spellable;
       timers = hears.each c past (heard_entry c.me moment g arms a.state) g is (record { heard = refl; read = spellable; moment = refl; drawn = refl; arms = refl; asks = refl; fixes = refl }) h.timers
           (fresh_rows past (heard_entry c.me moment g arms a.state) names fresh (subst (λ ns. ShowsRows ns (heard_entry c.me moment g arms a.state)) (sym named) (shows_rows g c.me moment arms a.state is)) (fresh_of.each c made past h)) (dist_after c made past h);

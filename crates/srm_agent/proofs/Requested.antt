@@ -30,8 +30,8 @@ use Rattle.srm_distance.specs.Fits.{IsTableOf}
 use Rattle.srm_agent_state.specs.TimerCalls.{AreDistancesAfter, TimersHearRequest, WaitsAreDrawn}
 use Rattle.srm_agent.specs.Contents.{Content}
 use Rattle.srm_agent.specs.Fits.{Fits}
-use Rattle.srm_agent.specs.Heeding.{IsAccepted, heard_entry}
-use Rattle.srm_agent.specs.Noting.{Enters}
+use Rattle.srm_agent.specs.Heeding.{heard_entry}
+use Rattle.srm_agent.specs.Noting.{Enters, IsAllowed}
 use Rattle.srm_entries.proofs.Adding.{flat_map-snoc}
 use Rattle.srm_agent.proofs.Evident.{fresh_request}
 use Rattle.srm_agent.proofs.Heeded.{Goes, Heeds, heard_enters}
@@ -47,7 +47,7 @@ no_calls : (me : ℕ) (past : List Entry) (moment sender : ℕ) (name : FullName
 no_calls me past moment sender name mask arms s = flat_map-snoc (calls_in me) past (heard_entry me moment (Request sender name mask) arms s) ∙ append-nil (distance_calls me past)
 
 pub request_enters : {W : Type 0} (draw : W → ℕ × W) (a b : Content W) (moment sender : ℕ) (name : FullName) (mask : ℕ) (names fresh : List FullName) (dist : List ℕ) (arms : List Arm) (roomy : StoreContent) (e : Entry)
-    → names ≡ asked_by name mask → is_gone a.state ≡ false → IsSpellable (Request sender name mask) → a.last ≤ moment → IsAccepted (Request sender name mask) a → IsFreshUpTo name.stream names a fresh → IsTableOf a.distances dist
+    → names ≡ asked_by name mask → is_gone a.state ≡ false → IsSpellable (Request sender name mask) → a.last ≤ moment → IsAllowed (Heard (Request sender name mask)) a → IsFreshUpTo name.stream names a fresh → IsTableOf a.distances dist
     → TimersHearRequest roomy sender names fresh dist moment arms a.timers b.timers → StillFits a.store roomy → LearnsNames names roomy b.store → b.pages ≡ with_pages_of a.pages names → b.distances ≡ a.distances → Goes a b moment
     → HaveSettings a.config a.timers → WaitsAreDrawn draw a.timers a.words arms b.words → e ≡ heard_entry a.config.me moment (Request sender name mask) arms a.state
     → Enters draw (Some moment) (Heard (Request sender name mask)) a b e
@@ -66,7 +66,7 @@ request_enters draw a b moment sender name mask names fresh dist arms roomy e as
           fits = h;
           later = subst (λ n. n ≤ moment) h.last late;
           here = ap is_gone (sym h.state) ∙ here;
-          taken = taken.each c made past h;
+          taken = sym (taken.each c made past h);
           spellable = spellable;
           timers = hears.each c past (heard_entry c.me moment (Request sender name mask) arms a.state) (Request sender name mask) (refl, sym asked)
               (record { heard = refl; read = spellable; moment = refl; drawn = refl; arms = refl; asks = refl; fixes = refl }) h.timers old_fits

@@ -28,8 +28,8 @@ use Rattle.srm_entries.specs.Verdicts.{verdict_of, settlings}
 use Rattle.srm_agent_state.specs.PageTables.{lacks_room_for, pages_of}
 use Rattle.srm_agent.specs.Contents.{Content}
 use Rattle.srm_agent.specs.Fits.{Fits}
-use Rattle.srm_agent.specs.Heeding.{IsJudgedBy, IsAccepted, MayAccept}
-use Rattle.srm_agent.specs.Noting.{Enters, Stays}
+use Rattle.srm_agent.specs.Heeding.{IsJudgedBy, MayAccept}
+use Rattle.srm_agent.specs.Noting.{Enters, IsAllowed, Stays}
 use Rattle.srm_agent.proofs.Drawn.{slots_suffice}
 use Rattle.srm_agent.proofs.Ignoring.{ignored_datagram, ignored_judged, ignored_entry}
 use Rattle.srm_agent.proofs.Taken.{stays, same_timers}
@@ -41,7 +41,7 @@ with_store a s = record a { store = s }
 pub stays_roomy : {W : Type 0} (a : Content W) (s : StoreContent) → StillFits a.store s → Stays a (with_store a s)
 stays_roomy a s kept = stays a s a.timers a.words kept (same_timers a.timers) refl
 
-pub taken_roomy : {W : Type 0} (g : Datagram) (a : Content W) (s : StoreContent) → StillFits s a.store → IsAccepted g a → IsAccepted g (with_store a s)
+pub taken_roomy : {W : Type 0} (g : Datagram) (a : Content W) (s : StoreContent) → StillFits s a.store → IsAllowed (Heard g) a → IsAllowed (Heard g) (with_store a s)
 taken_roomy g a s before taken = record { each = λ c made past h. taken.each c made past ((stays_roomy (with_store a s) a.store before).fits c made past h) }
 
 pub may_roomy : {W : Type 0} (g : Datagram) (names : List FullName) (moment : ℕ) (a : Content W) (s : StoreContent) → StillFits s a.store → MayAccept g names moment a → MayAccept g names moment (with_store a s)
@@ -67,8 +67,8 @@ enters_roomy draw a b s moment input e kept enters = record {
 pub stays_on_roomy : {W : Type 0} (a b : Content W) (s : StoreContent) → StillFits a.store s → Stays (with_store a s) b → Stays a b
 stays_on_roomy a b s kept on = record { fits = λ c made past h. on.fits c made past ((stays_roomy a s kept).fits c made past h); words = on.words }
 
-pub judged_taken : {W : Type 0} (g : Datagram) (a : Content W) (e : Entry) → IsAccepted g a → e.verdict ≡ Done → IsJudgedBy g a e
-judged_taken g a e taken done = record { each = λ c made past h. done ∙ taken.each c made past h }
+pub judged_taken : {W : Type 0} (g : Datagram) (a : Content W) (e : Entry) → IsAllowed (Heard g) a → e.verdict ≡ Done → IsJudgedBy g a e
+judged_taken g a e taken done = record { each = λ c made past h. done ∙ sym (taken.each c made past h) }
 
 -- the store has slots where the page table has
 abbrev pub Outgrows : StoreContent → List FullName → Type 0

@@ -1,6 +1,6 @@
 -- An agent after an entry without effects.
-use Rattle.std.proofs.Common.{◌≡◌, ℕ, max, false, not, ◌&&◌, List, [], ◌∷◌, ◌++◌, refl, ap, sym, ◌∙◌, subst}
-use Rattle.std.specs.Prelude.{Option, None, unwrap_or}
+use Rattle.std.proofs.Common.{◌≡◌, ℕ, ◌≤◌, max, Bool, true, false, not, ◌&&◌, List, [], ◌∷◌, ◌++◌, refl, ap, sym, ◌∙◌, subst}
+use Rattle.std.specs.Prelude.{Option, None, unwrap_or, MatchBool}
 use Rattle.std.specs.List.{cons_option}
 use Rattle.std.proofs.lemmas.List.{append-nil}
 use Rattle.srm_names.specs.declared.page_msg.PageMsg.{PageMsg}
@@ -10,7 +10,7 @@ use Rattle.srm_entries.specs.declared.entry.Entry.{Entry}
 use Rattle.srm_entries.specs.declared.entry.Input.{Input}
 use Rattle.srm_entries.specs.declared.entry.Verdict.{Verdict}
 use Rattle.srm_entries.specs.Configs.{Config}
-use Rattle.srm_entries.specs.Entries.{done_input, heard_in, page_shown, is_tick, clock_of, state, is_gone, slots}
+use Rattle.srm_entries.specs.Entries.{done_input, heard_in, page_shown, is_tick, takes_moment, last_moment, clock_of, state, is_gone, slots}
 use Rattle.srm_entries.specs.Verdicts.{VerdictRight}
 use Rattle.srm_entries.specs.Giving.{given, given_in, MessageRight}
 use Rattle.srm_entries.specs.Runs.{EntryRight, MomentRight, expected_drawop, expected_state}
@@ -32,6 +32,19 @@ pub record MayFollow (c : Config) (made : ℕ) (past : List Entry) (moment : ℕ
   pub verdict_right : VerdictRight c past input verdict
   pub message_right : MessageRight c past input message
   pub state_right : after ≡ expected_state (state past) false (done_input verdict input)
+
+-- a call that takes a moment, ticks nothing and does nothing may follow, whether it is refused or ignored
+pub undone_follows : (c : Config) (made : ℕ) (past : List Entry) (moment : ℕ) (input : Input) (verdict : Verdict) (after : AgentState) → done_input verdict input ≡ None → is_tick input ≡ false → takes_moment input ≡ true → last_moment made past ≤ moment
+    → VerdictRight c past input verdict → MessageRight c past input None → after ≡ state past → MayFollow c made past moment input verdict None after
+undone_follows c made past moment input verdict after undone unticked takes late right message same = record {
+  unheard = ap heard_in undone;
+  undrawn = ap (expected_drawop c past moment) undone;
+  idle = ap (λ b. b && not (is_gone (state past))) unticked;
+  moment_right = subst (λ (b : Bool). MatchBool b (last_moment made past ≤ moment) (moment ≡ last_moment made past)) (sym takes) late;
+  verdict_right = right;
+  message_right = message;
+  state_right = same ∙ sym (ap (expected_state (state past) false) undone);
+}
 
 quiet : (c : Config) (made : ℕ) (past : List Entry) (moment : ℕ) (input : Input) (verdict : Verdict) (message : Option PageMsg) (after : AgentState)
     → MayFollow c made past moment input verdict message after → Quiet (still_entry c.me moment input verdict message after)

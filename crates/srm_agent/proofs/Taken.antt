@@ -31,8 +31,8 @@ use Rattle.srm_distance.specs.Fits.{IsTableOf}
 use Rattle.srm_agent_state.specs.TimerCalls.{AreDistancesAfter, IsDrawopOf, TimersHear, TimersStay, WaitsAreDrawn}
 use Rattle.srm_agent.specs.Contents.{Content}
 use Rattle.srm_agent.specs.Fits.{Fits}
-use Rattle.srm_agent.specs.Heeding.{IsAccepted, IsFreshBelow, MayAccept, carrying, heard_entry}
-use Rattle.srm_agent.specs.Noting.{Enters, Stays}
+use Rattle.srm_agent.specs.Heeding.{IsFreshBelow, MayAccept, carrying, heard_entry}
+use Rattle.srm_agent.specs.Noting.{Enters, IsAllowed, Stays}
 use Rattle.srm_entries.proofs.Adding.{flat_map-snoc}
 use Rattle.srm_agent.proofs.Fitting.{refit}
 use Rattle.srm_agent.proofs.Fresh.{Brings, fresh_drawop}
@@ -92,7 +92,7 @@ no_calls me past moment d g arms s one =
     flat_map-snoc (calls_in me) past (heard_entry me moment g arms s) ∙ ap (λ cs. distance_calls me past ++ cs) (one.uncalled me moment) ∙ append-nil (distance_calls me past)
 
 pub drawop_enters : {W : Type 0} (draw : W → ℕ × W) (a b : Content W) (moment : ℕ) (g : Datagram) (is : Datagram → Type 0) (d : Drawop) (fresh : List FullName) (dist : List ℕ) (arms : List Arm) (roomy : StoreContent) (e : Entry)
-    → BringsOne d g → is g → is_gone a.state ≡ false → IsSpellable g → a.last ≤ moment → IsAccepted g a → IsFreshBelow d.name a fresh → IsTableOf a.distances dist
+    → BringsOne d g → is g → is_gone a.state ≡ false → IsSpellable g → a.last ≤ moment → IsAllowed (Heard g) a → IsFreshBelow d.name a fresh → IsTableOf a.distances dist
     → TimersHear is fresh dist moment arms a.timers b.timers → StillFits a.store roomy → HoldsToo d roomy b.store → b.pages ≡ with_pages_of a.pages (d.name ∷ []) → b.distances ≡ a.distances → Goes a b moment
     → HaveSettings a.config a.timers → WaitsAreDrawn draw a.timers a.words arms b.words → e ≡ heard_entry a.config.me moment g arms a.state
     → Enters draw (Some moment) (Heard g) a b e
@@ -109,7 +109,7 @@ drawop_enters draw a b moment g is d fresh dist arms roomy e one it here spellab
       fits = h;
       later = subst (λ n. n ≤ moment) h.last late;
       here = ap is_gone (sym h.state) ∙ here;
-      taken = taken.each c made past h;
+      taken = sym (taken.each c made past h);
       spellable = spellable;
       timers = hears.each c past (heard_entry c.me moment g arms a.state) g it (record { heard = refl; read = spellable; moment = refl; drawn = refl; arms = refl; asks = refl; fixes = refl }) h.timers
           (fresh_drawop past (heard_entry c.me moment g arms a.state) d _ fresh (one.brings c.me moment arms a.state) refl (below.each c made past h)) (after c made past h);

@@ -19,8 +19,8 @@ use Rattle.srm_entries.specs.declared.entry.Verdict.TheVariants.{Done, Ignored, 
 use Rattle.srm_entries.specs.Sample.{first_stream, first_drawop, third_drawop, draws, hears, gives, ask_arm}
 use Rattle.srm_agent.specs.declared.heard.Heard.{Heard}
 use Rattle.srm_entries.specs.Still.{still_entry}
-use Rattle.srm_agent.specs.Noting.{moment_that_counts, AnswersAs, IsOutcome, AnswersHeard, IsDrawnName}
-use Rattle.srm_agent.specs.Heeding.{verdict_of_outcome, entry_with}
+use Rattle.srm_agent.specs.Noting.{moment_that_counts, AnswersAs, AnswersHeard, IsDrawnName, verdict_of_outcome}
+use Rattle.srm_agent.specs.Heeding.{entry_with}
 use Rattle.srm_agent.specs.Waking.{sooner_of}
 
 -- ---- moments: a lower one than the last counts as the last, and a call that takes none has the last
@@ -68,11 +68,11 @@ taken_so = refl
 taken_sets_a_timer : AnswersHeard (hears 1 10 (Data third_drawop) (ask_arm 1 0 200000 ∷ [])) (Ok (record { arms = ask_arm 1 0 200000 ∷ []; outcome = outcomes.Taken }))
 taken_sets_a_timer = (refl, refl)
 
-ignored_with_its_cause : IsOutcome (Ignored (causes.Decode Short)) (outcomes.Ignored (causes.Decode Short))
+ignored_with_its_cause : Ignored (causes.Decode Short) ≡ verdict_of_outcome (outcomes.Ignored (causes.Decode Short))
 ignored_with_its_cause = refl
 
-never_refused : (fault : AgentFault) → IsOutcome (Refused fault) outcomes.Taken → ⊥
-never_refused fault h = h
+never_refused : (fault : AgentFault) → Refused fault ≡ verdict_of_outcome outcomes.Taken → ⊥
+never_refused fault h = absurd (let k : Refused fault ≡ Done = h in cc)
 
 -- ---- what a draw answers, and what giving the first message leaves
 

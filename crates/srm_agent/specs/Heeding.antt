@@ -1,5 +1,5 @@
 -- What hearing one datagram says of its entry.
-use Rattle.std.specs.Prelude.{◌≡◌, ◌≢◌, ℕ, ◌≤◌, false, List, [], Option, Some, None, Ok}
+use Rattle.std.specs.Prelude.{◌≡◌, ◌≢◌, ℕ, ◌≤◌, false, List, [], Option, Some, None}
 use Rattle.srm_names.specs.declared.limits.TheConstants.{LATEST_MOMENT}
 use Rattle.srm_names.specs.FullName.{FullName}
 use Rattle.srm_names.specs.Names.{AreExactly}
@@ -9,15 +9,13 @@ use Rattle.srm_codec.specs.declared.datagram.Datagram.TheVariants.{Data, Repair}
 use Rattle.srm_codec.specs.declared.fault.DecodeFault.{DecodeFault}
 use Rattle.srm_codec.specs.declared.fault.DecodeFault.TheVariants as decoding
 use Rattle.srm_timers.specs.declared.arm.Arm.{Arm}
-use Rattle.srm_entries.specs.declared.cause.Outcome.{Outcome}
 use Rattle.srm_entries.specs.declared.cause.Outcome.TheVariants as outcomes
 use Rattle.srm_entries.specs.declared.cause.Cause.TheVariants as causes
 use Rattle.srm_entries.specs.declared.state.AgentState.{AgentState}
 use Rattle.srm_entries.specs.declared.entry.Entry.{Entry}
 use Rattle.srm_entries.specs.declared.entry.Input.{Input}
-use Rattle.srm_entries.specs.declared.entry.Verdict.{Verdict}
 use Rattle.srm_entries.specs.declared.entry.Input.TheVariants.{Heard, Noise}
-use Rattle.srm_entries.specs.declared.entry.Verdict.TheVariants.{Done, Ignored}
+use Rattle.srm_entries.specs.declared.entry.Verdict.TheVariants.{Ignored}
 use Rattle.srm_entries.specs.Configs.{Config}
 use Rattle.srm_agent.specs.declared.heard.Heard as answers
 use Rattle.srm_agent.specs.Contents.{Content}
@@ -27,7 +25,7 @@ use Rattle.srm_entries.specs.Entries.{is_gone, known}
 use Rattle.srm_agent_state.specs.PageTables.{lacks_room_for}
 use Rattle.srm_names.specs.Between.{is_between}
 use Rattle.srm_entries.specs.Verdicts.{verdict_of}
-use Rattle.srm_agent.specs.Noting.{Enters, ReadsAs, AnswersHeard}
+use Rattle.srm_agent.specs.Noting.{Enters, IsAllowed, verdict_of_outcome}
 
 -- the verdict is that on the datagram, after whatever run the agent fitted
 pub record IsJudgedBy {W : Type 0} (datagram : Datagram) (old : Content W) (e : Entry) : Type 0 where
@@ -44,24 +42,15 @@ abbrev pub carrying : Option ℕ → Drawop → Datagram
 carrying None drawop = Data drawop
 carrying (Some repairer) drawop = Repair repairer drawop
 
--- the datagram is taken, after whatever run the agent fitted
-pub record IsAccepted {W : Type 0} (datagram : Datagram) (old : Content W) : Type 0 where
-  pub each : (c : Config) (made : ℕ) (past : List Entry) → Fits c made past old → Done ≡ verdict_of c past (Heard datagram)
-
 -- a member may take a datagram with these names at this moment: it isn't gone, and the table has room for their pages
 pub record MayAccept {W : Type 0} (datagram : Datagram) (names : List FullName) (moment : ℕ) (a : Content W) : Type 0 where
   pub here : is_gone a.state ≡ false
   pub spelled : IsSpellable datagram
   pub later : a.last ≤ moment
   pub in_range : moment ≤ LATEST_MOMENT
-  pub taken : IsAccepted datagram a
+  pub taken : IsAllowed (Heard datagram) a
   pub named : names ≡ names_in datagram
   pub pages : lacks_room_for a.pages names ≡ false
-
--- the verdict on what was heard, by what is answered
-abbrev pub verdict_of_outcome : Outcome → Verdict
-verdict_of_outcome outcomes.Taken = Done
-verdict_of_outcome (outcomes.Ignored cause) = Ignored cause
 
 -- the entry of what a member heard, by what is answered: it sets timers, and does nothing else
 abbrev pub entry_with : ℕ → ℕ → Input → AgentState → answers.Heard → Entry
@@ -84,10 +73,6 @@ entry_by a moment input heard = entry_with a.config.me moment input a.state hear
 -- the entry is of this datagram, and by what is answered
 abbrev pub EntersHeard : {W : Type 0} → (W → ℕ × W) → Datagram → ℕ → Content W → Content W → answers.Heard → Type 0
 EntersHeard draw datagram moment old new heard = Enters draw (Some moment) (Heard datagram) old new (entry_by old moment (Heard datagram) heard)
-
--- hearing bytes had an entry, and answered as it says
-abbrev pub HeardAs : {W : Type 0} → (W → ℕ × W) → ℕ → List ℕ → Content W → Content W → answers.Heard → Type 0
-HeardAs draw now bytes old new heard = (e : Entry) × Enters draw (Some now) e.input old new e × ReadsAs bytes old e × AnswersHeard e (Ok heard)
 
 -- the names are those below this one that aren't known of, in order, after whatever run the agent fitted
 pub record IsFreshBelow {W : Type 0} (name : FullName) (old : Content W) (names : List FullName) : Type 0 where

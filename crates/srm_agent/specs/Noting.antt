@@ -7,7 +7,6 @@ use Rattle.srm_names.specs.declared.page_msg.PageMsg.{PageMsg}
 use Rattle.srm_codec.specs.Judging.{judge}
 use Rattle.srm_timers.specs.Arms.{AreChosen}
 use Rattle.srm_entries.specs.declared.cause.Outcome.{Outcome}
-use Rattle.srm_entries.specs.declared.cause.Outcome.TheVariants.{Taken}
 use Rattle.srm_entries.specs.declared.cause.Outcome.TheVariants as outcomes
 use Rattle.srm_agent.specs.declared.heard.Heard.{Heard}
 use Rattle.srm_agent.specs.declared.ticked.Ticked.{Ticked}
@@ -84,21 +83,25 @@ Does draw now input is old new answer = HasEntry draw now input is old new answe
 pub record ReadsAs {W : Type 0} (bytes : List ℕ) (old : Content W) (e : Entry) : Type 0 where
   pub each : (c : Config) (made : ℕ) (past : List Entry) → Fits c made past old → (e.input, e.verdict) ≡ bytes_heard c past bytes
 
-abbrev pub IsOutcome : Verdict → Outcome → Type 0
-IsOutcome Done outcome = outcome ≡ Taken
-IsOutcome (Ignored cause) outcome = outcome ≡ outcomes.Ignored cause
-IsOutcome (Refused fault) outcome = ⊥
+-- the verdict on what was heard, by what is answered
+abbrev pub verdict_of_outcome : Outcome → Verdict
+verdict_of_outcome outcomes.Taken = Done
+verdict_of_outcome (outcomes.Ignored cause) = Ignored cause
 
 -- what hearing bytes answers is what its entry says
 abbrev pub AnswersHeard : Entry → Result Heard AgentFault → Type 0
-AnswersHeard e (Ok heard) = (heard.arms ≡ e.effects.arms) × IsOutcome e.verdict heard.outcome
+AnswersHeard e (Ok heard) = (heard.arms ≡ e.effects.arms) × (e.verdict ≡ verdict_of_outcome heard.outcome)
 AnswersHeard e (Err fault) = ⊥
+
+-- hearing bytes had an entry, and answered as it says
+abbrev pub HeardAs : {W : Type 0} → (W → ℕ × W) → ℕ → List ℕ → Content W → Content W → Result Heard AgentFault → Type 0
+HeardAs draw now bytes old new answer = (e : Entry) × Enters draw (Some now) e.input old new e × ReadsAs bytes old e × AnswersHeard e answer
 
 -- Hearing bytes had an entry, and answered as it says; or memory ran out, for a member that isn't gone and bytes that spell a datagram of
 -- its session.
 abbrev pub Hears : {W : Type 0} → (W → ℕ × W) → ℕ → List ℕ → Content W → Content W → Result Heard AgentFault → Type 0
 Hears draw now bytes old new answer =
-    ((e : Entry) × Enters draw (Some now) e.input old new e × ReadsAs bytes old e × AnswersHeard e answer) ⊎ ((answer ≡ Err Memory) × (is_gone old.state ≡ false) × IsOk (judge old.config.session bytes) × Stays old new)
+    HeardAs draw now bytes old new answer ⊎ ((answer ≡ Err Memory) × (is_gone old.state ≡ false) × IsOk (judge old.config.session bytes) × Stays old new)
 
 -- what a tick answers is what its entry says, and the bytes of each out spell its datagram in the session
 pub record IsTicked (session : ℕ) (e : Entry) (ticked : Ticked) : Type 0 where

@@ -7,9 +7,9 @@ ghost use Rattle.srm_codec.specs.Judging.{judge};
 ghost use Rattle.srm_codec.specs.Spelling.{IsSpellable, names_in};
 ghost use Rattle.srm_entries.specs.Entries.{is_gone};
 ghost use Rattle.srm_store.specs.Stores.{HavePlaces};
-ghost use Rattle.srm_agent.specs.Heeding.{EntersHeard, HeardAs, IsJudgedBy, IsNoiseFor, MayAccept, entry_by};
+ghost use Rattle.srm_agent.specs.Heeding.{EntersHeard, IsJudgedBy, IsNoiseFor, MayAccept, entry_by};
 ghost use Rattle.srm_entries.specs.declared.cause.Outcome.TheVariants.{Taken};
-ghost use Rattle.srm_agent.specs.Noting.{Enters, Stays, ReadsAs, AnswersHeard, Hears};
+ghost use Rattle.srm_agent.specs.Noting.{Enters, Stays, ReadsAs, AnswersHeard, HeardAs, Hears};
 
 use super::Agent;
 use super::noting::{Hearing, note};
@@ -65,7 +65,7 @@ impl<W: Words + Drop> Agent<W> {
     /// The same. Only want of memory refuses it.
     fn hear_bytes(&mut self, bytes: &[u8], now: u64) -> Result<Heard, AllocError>
         requires { now ≤ LATEST_MOMENT }
-        ensures ok { IfOk result (HeardAs W.draw now bytes.now self.old self.new) }
+        ensures ok { IfOk result (λ heard. HeardAs W.draw now bytes.now self.old self.new (Ok heard)) }
         ensures err { OnErr result (Stays self.old self.new) }
         ensures here { OnErr result (is_gone self.old.state ≡ false) }
         ensures spelled { OnErr result (IsOk (judge self.old.config.session bytes.now)) }

@@ -2,7 +2,8 @@
 
 ghost use Rattle.std.specs.Prelude.{◌≡◌, ◌≤◌, [], Ok, IfOk, length, true, vec_capacity};
 ghost use Rattle.srm_entries.specs.declared.cause.Outcome.TheVariants.{Taken};
-ghost use Rattle.srm_agent.specs.Heeding.{entry_with, verdict_of_outcome};
+ghost use Rattle.srm_agent.specs.Heeding.{entry_with};
+ghost use Rattle.srm_agent.specs.Noting.{verdict_of_outcome};
 
 use crate::heard::Heard;
 use crate::noted::Noted;

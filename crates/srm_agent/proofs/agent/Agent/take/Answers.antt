@@ -1,6 +1,6 @@
 use Rattle.std.proofs.Common.{◌∙◌, ap, Err}
 use Rattle.srm_agent.specs.Contents.{content_of}
-use Rattle.srm_agent.specs.Heeding.{verdict_of_outcome}
+use Rattle.srm_agent.specs.Noting.{verdict_of_outcome}
 use Rattle.srm_agent.proofs.Answered.{ignored_by}
 use Rattle.srm_agent.proofs.Ignoring.{if_one}
 use Rattle.srm_agent.proofs.Roomy.{may_roomy, enters_roomy, stays_on_roomy, stays_roomy, judged_taken, unslotted_enters, unslotted_judged, with_moment, if_err, at_full}
