@@ -29,12 +29,12 @@ use Rattle.srm_entries.specs.Sessions.{session_interval, IsReport, ending}
 use Rattle.srm_entries.specs.Runs.{expected_state}
 use Rattle.srm_agent.specs.Fits.{Fits, BucketFits}
 use Rattle.srm_agent_state.specs.TimersKept.{TimersFit}
-use Rattle.srm_outbox.specs.Outs.{IsOut, IsOutgoing, IsOwn, AreOwn}
+use Rattle.srm_outbox.specs.Outs.{IsOut, IsOutgoing, IsOwn, AreOwn, datagrams_of}
 use Rattle.srm_agent_state.specs.TimerCalls.{TicksWith, TimersAdd, TimersStay}
 use Rattle.srm_outbox.specs.Answering.{AreAnswers}
 use Rattle.srm_outbox.specs.Outbox.{WentContent}
 use Rattle.srm_agent.specs.Noting.{Stays}
-use Rattle.srm_agent.specs.Ticking.{TicksAs, datagrams_of, tick_entry, IsReportAt, IsReportIf, IsDue, HandsOut, SendsAll, data_waits, last_report, state_after, due_then}
+use Rattle.srm_agent.specs.Ticking.{TicksAs, tick_entry, IsReportAt, IsReportIf, IsDue, HandsOut, SendsAll, data_waits, last_report, state_after, due_then}
 use Rattle.srm_entries.proofs.Ending.{ending_of, ending_is, EndsIn, NoSessions, charged_is, due_by}
 use Rattle.srm_agent.proofs.Fitting.{refit, roomy}
 use Rattle.srm_agent.proofs.Sent.{bucket_ticks}

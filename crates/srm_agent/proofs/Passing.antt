@@ -75,7 +75,7 @@ ticks_at draw a b now moment t at h = subst (λ m. TicksAs draw now m a b t) at 
 
 -- what is answered is what its entry says
 answers_so : (me session moment : ℕ) (t : answers.Ticked) → AllByRecursion (IsOut session) t.outs → IsTicked session (ticked_with me moment t) t
-answers_so me session moment t spelled = record { asks = refl; fixes = refl; arms = refl; outs = refl; spelled = spelled; state = refl }
+answers_so me session moment t spelled = record { asks = refl; fixes = refl; arms = refl; outs = record { same = refl; spelled = spelled }; state = refl }
 
 -- a tick that isn't refused
 pub tick_enters : {W : Type 0} (draw : W → ℕ × W) (a b : Content W) (now : ℕ) (t : answers.Ticked) → TicksAs draw now (max now a.last) a b t → HasEntry draw (Some now) Ticked (IsTicked a.config.session) a b (Ok t)

@@ -1,6 +1,5 @@
 -- What a call of an agent says of its entry.
-use Rattle.std.specs.Prelude.{◌≡◌, ◌⊎◌, ℕ, ◌++◌, max, false, List, [], ◌∷◌, map, Option, Some, None, option_map, Result, Ok, Err, IsOk}
-use Rattle.std.specs.List.{AllByRecursion}
+use Rattle.std.specs.Prelude.{◌≡◌, ◌⊎◌, ℕ, ◌++◌, max, false, List, [], ◌∷◌, Option, Some, None, option_map, Result, Ok, Err, IsOk}
 use Rattle.srm_names.specs.declared.drawop.Drawop.{Drawop}
 use Rattle.srm_names.specs.FullName.{FullName}
 use Rattle.srm_names.specs.declared.page_msg.PageMsg.{PageMsg}
@@ -10,7 +9,6 @@ use Rattle.srm_entries.specs.declared.cause.Outcome.{Outcome}
 use Rattle.srm_entries.specs.declared.cause.Outcome.TheVariants as outcomes
 use Rattle.srm_agent.specs.declared.heard.Heard.{Heard}
 use Rattle.srm_agent.specs.declared.ticked.Ticked.{Ticked}
-use Rattle.srm_outbox.specs.declared.out.Out.{Out}
 use Rattle.srm_entries.specs.declared.fault.AgentFault.{AgentFault}
 use Rattle.srm_entries.specs.declared.fault.AgentFault.TheVariants.{Memory}
 use Rattle.srm_entries.specs.declared.entry.Entry.{Entry}
@@ -26,7 +24,7 @@ use Rattle.srm_agent.specs.Contents.{Content}
 use Rattle.srm_agent.specs.Fits.{Fits}
 use Rattle.srm_entries.specs.Timers.{low_of, high_of}
 use Rattle.srm_entries.specs.Hearing.{bytes_heard}
-use Rattle.srm_outbox.specs.Outs.{IsOut}
+use Rattle.srm_outbox.specs.Outs.{AreOutsOf}
 
 -- the verdict on a call, by what it answers
 abbrev pub verdict_answering : {A : Type 0} → Result A AgentFault → Verdict
@@ -103,13 +101,12 @@ abbrev pub Hears : {W : Type 0} → (W → ℕ × W) → ℕ → List ℕ → Co
 Hears draw now bytes old new answer =
     HeardAs draw now bytes old new answer ⊎ ((answer ≡ Err Memory) × (is_gone old.state ≡ false) × IsOk (judge old.config.session bytes) × Stays old new)
 
--- what a tick answers is what its entry says, and the bytes of each out spell its datagram in the session
+-- what a tick answers is what its entry says
 pub record IsTicked (session : ℕ) (e : Entry) (ticked : Ticked) : Type 0 where
   pub asks : ticked.asks ≡ e.effects.asks
   pub fixes : ticked.fixes ≡ e.effects.fixes
   pub arms : ticked.arms ≡ e.effects.arms
-  pub outs : map (λ (o : Out). o.datagram) ticked.outs ≡ e.effects.outs
-  pub spelled : AllByRecursion (IsOut session) ticked.outs
+  pub outs : AreOutsOf session ticked.outs e.effects.outs
   pub state : ticked.state ≡ e.effects.state
 
 -- what a draw answers is the name of the drawop that was made

@@ -1,5 +1,5 @@
 -- What a tick makes before anything changes, and what each of its steps does.
-use Rattle.std.specs.Prelude.{◌≡◌, ℕ, ◌+◌, ◌==◌, Bool, true, false, not, ◌&&◌, List, [], length, map, if◌then◌else◌, Option, Some, None, is_some, nat_le}
+use Rattle.std.specs.Prelude.{◌≡◌, ℕ, ◌+◌, ◌==◌, Bool, true, false, not, ◌&&◌, List, [], length, if◌then◌else◌, Option, Some, None, is_some, nat_le}
 use Rattle.std.specs.List.{AllByRecursion}
 use Rattle.srm_names.specs.FullName.{FullName}
 use Rattle.srm_names.specs.Names.{ascending, name_below}
@@ -16,9 +16,8 @@ use Rattle.srm_outbox.specs.declared.answers.Answer.{Answer}
 use Rattle.srm_entries.specs.declared.entry.Entry.{Entry}
 use Rattle.srm_entries.specs.declared.entry.Input.TheVariants.{Ticked}
 use Rattle.srm_entries.specs.declared.entry.Verdict.TheVariants.{Done}
-use Rattle.srm_outbox.specs.declared.out.Out.{Out}
 use Rattle.srm_outbox.specs.declared.out.Outgoing.{Outgoing}
-use Rattle.srm_outbox.specs.Outs.{IsOut}
+use Rattle.srm_outbox.specs.Outs.{IsOut, datagrams_of}
 use Rattle.srm_agent.specs.declared.ticked.Ticked as answers
 use Rattle.srm_entries.specs.declared.state.AgentState.{AgentState}
 use Rattle.srm_entries.specs.declared.state.AgentState.TheVariants.{Gone}
@@ -44,10 +43,6 @@ tick_entry me moment asks fixes arms outs after = record {
   verdict = Done;
   effects = record { drawn = None; arms = arms; asks = asks; fixes = fixes; outs = outs; message = None; state = after };
 }
-
--- the datagrams of what is sent
-abbrev pub datagrams_of : List Out → List Datagram
-datagrams_of outs = map (λ (o : Out). o.datagram) outs
 
 -- the entry of a member's tick, by what is answered
 abbrev pub ticked_with : ℕ → ℕ → answers.Ticked → Entry

@@ -12,7 +12,7 @@ use Rattle.srm_entries.specs.declared.entry.Input.TheVariants.{Gave, AskedLeave,
 use Rattle.srm_entries.specs.Giving.{given}
 use Rattle.srm_entries.specs.Admitting.{AdmitsDraw}
 use Rattle.srm_outbox.specs.declared.out.Out.{Out}
-use Rattle.srm_outbox.specs.Outs.{IsOut}
+use Rattle.srm_outbox.specs.Outs.{AreOutsOf}
 use Rattle.srm_world.specs.Traces.{Journal}
 use Rattle.srm_world.specs.Claims.{IsLawfulJournal}
 use Rattle.srm_world.specs.Recording.{with_entry, with_entries, IsAt, HearsEach}
@@ -147,8 +147,7 @@ pub record Leaves (now : ℕ) (leaves : Bool) (old new : Journal) : Type 0 where
 -- The entry is a tick's, which sends these, each spelled in the session.
 pub record IsTick (session : ℕ) (e : Entry) (outs : List Out) : Type 0 where
   pub input : e.input ≡ Ticked
-  pub outs_are : map (λ (o : Out). o.datagram) outs ≡ e.effects.outs
-  pub spelled : AllByRecursion (IsOut session) outs
+  pub outs : AreOutsOf session outs e.effects.outs
 
 -- the journal has one more entry, of a tick that sends these
 pub record Ticks (now : ℕ) (outs : List Out) (old new : Journal) : Type 0 where

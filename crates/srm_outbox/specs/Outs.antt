@@ -1,5 +1,5 @@
 -- What an agent sends: a datagram with its spelling in the session.
-use Rattle.std.specs.Prelude.{◌≡◌, ℕ, false}
+use Rattle.std.specs.Prelude.{◌≡◌, ℕ, false, List, map}
 use Rattle.std.specs.List.{AllByRecursion}
 use Rattle.srm_codec.specs.declared.datagram.Datagram.{Datagram}
 use Rattle.srm_codec.specs.Spelling.{Spells, sender_of, is_session}
@@ -13,6 +13,15 @@ datagram_of o = o.out.datagram
 
 pub record IsOut (session : ℕ) (o : Out) : Type 0 where
   pub spelled : Spells session o.datagram o.bytes
+
+-- the datagrams of what is sent
+abbrev pub datagrams_of : List Out → List Datagram
+datagrams_of outs = map (λ (o : Out). o.datagram) outs
+
+-- what is sent are these datagrams, each with its spelling in the session
+pub record AreOutsOf (session : ℕ) (outs : List Out) (datagrams : List Datagram) : Type 0 where
+  pub same : datagrams_of outs ≡ datagrams
+  pub spelled : AllByRecursion (IsOut session) outs
 
 pub record IsOutgoing (session : ℕ) (o : Outgoing) : Type 0 where
   pub out : IsOut session o.out

@@ -1,6 +1,6 @@
 -- A member of a world goes on with the entry of a call.
 use Rattle.std.proofs.Common.{◌≡◌, ℕ, ◌^◌, ◌≤◌, ◌<◌, max, Bool, true, false, List, [], ◌∷◌, ◌++◌, length, refl, ap, sym, ◌∙◌, subst, arith, append_assoc}
-use Rattle.std.specs.Prelude.{Option, Some, None, Result, Ok, Err, IfOk, OnErr, MatchBool, ◌==◌, cond, slice_get, option_to_list, map}
+use Rattle.std.specs.Prelude.{Option, Some, None, Result, Ok, Err, IfOk, OnErr, MatchBool, ◌==◌, cond, slice_get, option_to_list}
 use Rattle.std.specs.List.{cons_option, AllByRecursion}
 use Rattle.std.proofs.lemmas.List.{append-nil}
 use Rattle.std.proofs.lemmas.List.Elements.{filter_map-append}
@@ -28,7 +28,7 @@ use Rattle.srm_agent.specs.Contents as agents
 use Rattle.srm_entries.specs.Entries.{takes_moment, clock_of, last_moment, state, is_gone}
 use Rattle.srm_entries.specs.Giving.{given, taken, given_in, taken_in, next_taken}
 use Rattle.srm_entries.specs.Hearing.{read_as}
-use Rattle.srm_outbox.specs.Outs.{IsOut}
+use Rattle.srm_outbox.specs.Outs.{IsOut, datagrams_of}
 use Rattle.srm_entries.specs.Verdicts.{VerdictRight}
 use Rattle.srm_entries.specs.Runs.{EntryRight}
 use Rattle.srm_agent.specs.Fits as agents_fit
@@ -180,8 +180,8 @@ sends_outs draw now p b e answer outs enters answers are = record {
       let (ticked, is, t) = done_answers (IsTicked p.agent.config.session e) e.verdict answer answers verdict in
       let same : outs ≡ ticked.outs = if_answered (λ (x : Ticked). outs ≡ x.outs) answer ticked are is in
       record {
-        same = ap (map (λ (o : Out). o.datagram)) same ∙ t.outs;
-        spelled = subst (λ (s : Config). AllByRecursion (IsOut s.session) outs) h.agent.config (subst (AllByRecursion (IsOut p.agent.config.session)) (sym same) t.spelled);
+        same = ap datagrams_of same ∙ t.outs.same;
+        spelled = subst (λ (s : Config). AllByRecursion (IsOut s.session) outs) h.agent.config (subst (AllByRecursion (IsOut p.agent.config.session)) (sym same) t.outs.spelled);
       };
 }
   where

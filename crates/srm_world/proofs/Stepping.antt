@@ -19,7 +19,7 @@ use Rattle.srm_entries.specs.Entries.{accepted, heard_in, done_input, is_tick, s
 use Rattle.srm_entries.specs.Configs.{Config}
 use Rattle.srm_entries.specs.Timers.{low_of, high_of}
 use Rattle.srm_entries.specs.Runs.{EntryRight, IsMemberRun}
-use Rattle.srm_outbox.specs.Outs.{IsOut}
+use Rattle.srm_outbox.specs.Outs.{IsOut, AreOutsOf}
 use Rattle.srm_agent.specs.Noting.{moment_that_counts}
 use Rattle.srm_entries.proofs.Adding.{flat_map-snoc}
 use Rattle.srm_agent.proofs.Fitting.{fits_run}
@@ -31,7 +31,7 @@ use Rattle.srm_world.specs.Traces.{Trace, of_member, IsRoster, IsAtPlace, IsRunO
 use Rattle.srm_world.specs.Events.{member_of, moment_in, input_of, in_slot, input_heard, required_input, made_at, last_of_member, FollowsOne, Follows}
 use Rattle.srm_world.specs.Claims.{IsLawful}
 use Rattle.srm_world.specs.WaitWords.{WorldView, AreByOwnWords, PlaysByWords}
-use Rattle.srm_world.specs.Participants.{Content, Fits, Adds, GoesOn, Stays, HearsBytes, SendsOuts, AreOutsOf}
+use Rattle.srm_world.specs.Participants.{Content, Fits, Adds, GoesOn, Stays, HearsBytes, SendsOuts}
 use Rattle.srm_world.specs.Worlds.{words_of, AllFit, AreSent, AreWorld, EntersTrace, EntersAll, Skips, KeepsParticipants, Appends, after_entry}
 use Rattle.srm_world.proofs.Members.{of_member-append, of_member-own}
 use Rattle.srm_world.proofs.Laning.{get_set_same, get_set_other, get_map, at_place}
@@ -154,7 +154,7 @@ sends_nothing : (starts : List Start) (sents : List Out) (es : List Entry) (e : 
 sends_nothing starts sents es e s none = record { same = s.same ∙ sym (sent-snoc es e ∙ ap (λ gs. sent es ++ gs) none ∙ append-nil (sent es)); spelled = s.spelled }
 
 sends_these : (starts : List Start) (sents outs : List Out) (es : List Entry) (e : Entry) (m : ℕ) (a : Start) → ((n : ℕ) (b : Start) → slice_get starts n ≡ Some b → a.config.session ≡ b.config.session)
-    → AreSent starts sents es → AreOutsOf a.config.session e outs → AreSent starts (sents ++ outs) (es ++ e ∷ [])
+    → AreSent starts sents es → AreOutsOf a.config.session outs e.effects.outs → AreSent starts (sents ++ outs) (es ++ e ∷ [])
 sends_these starts sents outs es e m a session s o = record {
   same = map-append (λ (x : Out). x.datagram) sents outs ∙ ap (λ gs. gs ++ map (λ (x : Out). x.datagram) outs) s.same ∙ ap (λ gs. sent es ++ gs) o.same ∙ sym (sent-snoc es e);
   spelled = λ n b at. AllByRecursion-append (IsOut b.config.session) sents outs (s.spelled n b at) (subst (λ k. AllByRecursion (IsOut k) outs) (session n b at) o.spelled);

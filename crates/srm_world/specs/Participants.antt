@@ -1,6 +1,5 @@
 -- One member of a world: its agent, and what the world keeps of it beside.
-use Rattle.std.specs.Prelude.{◌≡◌, ℕ, List, [], ◌∷◌, ◌++◌, map, Option, Some, slice_get}
-use Rattle.std.specs.List.{AllByRecursion}
+use Rattle.std.specs.Prelude.{◌≡◌, ℕ, List, [], ◌∷◌, ◌++◌, Option, Some, slice_get}
 use Rattle.srm_codec.specs.declared.datagram.Datagram.{Datagram}
 use Rattle.srm_codec.specs.Spelling.{Spells}
 use Rattle.srm_outbox.specs.declared.out.Out.{Out}
@@ -17,7 +16,7 @@ use Rattle.srm_entries.specs.Entries.{state, is_gone, last_moment}
 use Rattle.srm_entries.specs.Giving.{given, taken}
 use Rattle.srm_agent.specs.Fits as agents_fit
 use Rattle.srm_agent.specs.Noting.{moment_that_counts}
-use Rattle.srm_outbox.specs.Outs.{IsOut}
+use Rattle.srm_outbox.specs.Outs.{AreOutsOf}
 use Rattle.srm_world.specs.declared.participant.Participant.TheInside.{Inside}
 use Rattle.srm_world.specs.Events.{input_heard}
 use Rattle.srm_world.specs.Lane.{LaneContent}
@@ -70,11 +69,6 @@ pub record HearsBytes {W : Type 0} (bytes : List ℕ) (old : Content W) (e : Ent
   pub each : (c : Config) (made : ℕ) (past : List Entry) (g : Datagram) → Fits c made past old → Spells c.session g bytes
       → e.input ≡ input_heard (is_gone (state past)) g
 
--- these are the datagrams of the entry, each with its spelling in the session
-pub record AreOutsOf (session : ℕ) (e : Entry) (outs : List Out) : Type 0 where
-  pub same : map (λ (o : Out). o.datagram) outs ≡ e.effects.outs
-  pub spelled : AllByRecursion (IsOut session) outs
-
--- the same of whatever entries the member fitted
+-- these are the datagrams of the entry, each with its spelling in the session, whatever entries the member fitted
 pub record SendsOuts {W : Type 0} (old : Content W) (e : Entry) (outs : List Out) : Type 0 where
-  pub each : (c : Config) (made : ℕ) (past : List Entry) → Fits c made past old → AreOutsOf c.session e outs
+  pub each : (c : Config) (made : ℕ) (past : List Entry) → Fits c made past old → AreOutsOf c.session outs e.effects.outs

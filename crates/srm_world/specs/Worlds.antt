@@ -4,7 +4,7 @@ use Rattle.std.specs.List.{AllByRecursion}
 use Rattle.srm_entries.specs.declared.entry.Entry.{Entry}
 use Rattle.srm_outbox.specs.declared.out.Out.{Out}
 use Rattle.srm_entries.specs.Entries.{sent, accepted}
-use Rattle.srm_outbox.specs.Outs.{IsOut}
+use Rattle.srm_outbox.specs.Outs.{IsOut, datagrams_of}
 use Rattle.srm_world.specs.declared.event.Event.{Event}
 use Rattle.srm_world.specs.declared.start.Start.{Start}
 use Rattle.srm_world.specs.declared.world.World.TheInside.{Inside}
@@ -21,7 +21,7 @@ AllFit {W = W} starts ps es = (m : ℕ) (a : Start) (p : Content W) → slice_ge
 
 -- what was sent is what the entries say, each with its spelling in the session of every member
 pub record AreSent (starts : List Start) (sents : List Out) (es : List Entry) : Type 0 where
-  pub same : map (λ (o : Out). o.datagram) sents ≡ sent es
+  pub same : datagrams_of sents ≡ sent es
   pub spelled : (m : ℕ) (a : Start) → slice_get starts m ≡ Some a → AllByRecursion (IsOut a.config.session) sents
 
 -- the members and what was sent are those of the trace, which is lawful

@@ -4,7 +4,8 @@ ghost use Rattle.std.specs.Prelude.{◌≡◌, ◌≤◌, Some, Ok, IfOk, OnErr,
 ghost use Rattle.srm_names.specs.declared.limits.TheConstants.{LATEST_MOMENT};
 ghost use Rattle.srm_entries.specs.Entries.{is_gone};
 ghost use Rattle.srm_agent.specs.Noting.{Enters, Stays, AnswersAs, Does, IsTicked};
-ghost use Rattle.srm_agent.specs.Ticking.{IsDue, IsIdle, TicksAs, datagrams_of, ticked_with};
+ghost use Rattle.srm_agent.specs.Ticking.{IsDue, IsIdle, TicksAs, ticked_with};
+ghost use Rattle.srm_outbox.specs.Outs.{datagrams_of};
 ghost use Rattle.srm_agent.specs.Waking.{IsEarly, Stirs};
 
 use super::Agent;
