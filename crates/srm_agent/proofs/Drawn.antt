@@ -44,13 +44,13 @@ use Rattle.srm_outbox.specs.declared.out.Outgoing.{Outgoing}
 use Rattle.srm_entries.specs.Configs.{Config}
 use Rattle.srm_entries.specs.Entries.{done, accepted, held, evidence_by, evidence_in, drawn, is_held, is_missing, known, slots, pages_in, state, is_gone, is_leaving, last_moment}
 use Rattle.srm_entries.specs.Distances.{distance_calls, calls_in}
-use Rattle.srm_entries.specs.Timers.{last_ask, fix_running, held_off, asker, basis_of, fix_basis_of, ask_basis_of, ask_exponent, ArmsRight, TimersRight}
+use Rattle.srm_entries.specs.Timers.{last_ask, fix_running, held_off, asker, basis_of, fix_basis_of, ask_basis_of, ask_exponent, ArmsRight, TimersRight, only_if}
 use Rattle.srm_entries.specs.Verdicts.{first_cause, verdict_of, overflows, drawn_in, stream_on, settlings, settling_of}
 use Rattle.srm_entries.specs.Sessions.{session_due, interval_after}
 use Rattle.srm_entries.specs.Bucket.{Going, GoesAsCharged, bucket_calls, classed}
 use Rattle.srm_entries.specs.Runs.{EntryRight}
 use Rattle.srm_agent_state.specs.PageTables.{with_page}
-use Rattle.srm_agent_state.specs.TimersKept.{TimersContent, TimersFit, only_if}
+use Rattle.srm_agent_state.specs.TimersKept.{TimersContent, TimersFit}
 use Rattle.srm_agent.specs.Contents.{Content}
 use Rattle.srm_agent.specs.Fits.{Fits, EachProgressFits, BucketFits}
 use Rattle.srm_outbox.specs.Outs.{datagram_of, IsOwn}

@@ -13,10 +13,10 @@ use Rattle.srm_entries.specs.declared.entry.Entry.{Entry}
 use Rattle.srm_entries.specs.Configs.{Config}
 use Rattle.srm_agent.specs.Contents.{Content}
 use Rattle.srm_entries.specs.Entries.{state, is_gone, last_moment}
-use Rattle.srm_entries.specs.Timers.{fix_running}
+use Rattle.srm_entries.specs.Timers.{fix_running, ask_running}
 use Rattle.srm_agent.specs.Fits.{Fits}
 use Rattle.srm_entries.specs.Promises.{MayDoNothing}
-use Rattle.srm_agent_state.specs.TimerCalls.{RunOutFirst, TimersNext, ask_running}
+use Rattle.srm_agent_state.specs.TimerCalls.{RunOutFirst, TimersNext}
 use Rattle.srm_agent.specs.Waking.{IsEarly, IsLate, IsNextAt, NextDue, Stirs, report_next, sooner_of}
 use Rattle.srm_agent.proofs.NextDueIdle.{idle_before}
 use Rattle.srm_agent.proofs.NextDueRests.{gone_rests, idle_rests}

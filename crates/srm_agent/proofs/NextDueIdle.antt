@@ -27,14 +27,13 @@ use Rattle.srm_entries.specs.declared.state.AgentState.TheVariants.{Active, Leav
 use Rattle.srm_entries.specs.Configs.{Config}
 use Rattle.srm_agent.specs.Contents.{Content}
 use Rattle.srm_entries.specs.Entries.{state, is_gone, is_leaving, ticked, last_moment, is_missing, drawn, sent}
-use Rattle.srm_entries.specs.Timers.{last_ask, fix_running, ArmsRight, TimersRight}
+use Rattle.srm_entries.specs.Timers.{last_ask, fix_running, ArmsRight, TimersRight, only_if}
 use Rattle.srm_codec.specs.Spelling.{is_data}
 use Rattle.srm_entries.specs.Sessions.{charged, all_data_sent, ending}
 use Rattle.srm_entries.specs.Bucket.{Going, GoesAsCharged, BucketRight, entries_of, calls_by, bucket_calls}
 use Rattle.srm_entries.specs.Runs.{EntryRight}
 use Rattle.srm_agent.specs.Fits.{Fits, BucketFits}
 use Rattle.srm_outbox.specs.Outs.{datagram_of}
-use Rattle.srm_agent_state.specs.TimersKept.{only_if}
 use Rattle.srm_entries.specs.Promises.{MayDoNothing}
 use Rattle.srm_agent_state.specs.TimerCalls.{RunOutFirst, IsBefore}
 use Rattle.srm_outbox.specs.declared.out.Outgoing.{Outgoing}

@@ -24,16 +24,14 @@ use Rattle.srm_entries.specs.declared.state.AgentState.TheVariants.{Active, Leav
 use Rattle.srm_entries.specs.Configs.{Config}
 use Rattle.srm_agent.specs.Contents.{Content}
 use Rattle.srm_entries.specs.Entries.{state, is_gone, is_leaving, is_tick, ticked, is_missing}
-use Rattle.srm_entries.specs.Timers.{last_ask, fix_running}
+use Rattle.srm_entries.specs.Timers.{last_ask, fix_running, ask_running, only_if}
 use Rattle.srm_codec.specs.Spelling.{is_session}
 use Rattle.srm_entries.specs.Sessions.{charged, ending, EndsWith}
 use Rattle.srm_entries.specs.Bucket.{Going, GoesAsCharged, entries_of, datagrams_of, bucket_calls}
 use Rattle.srm_entries.specs.Runs.{EntryRight, IsMemberRun}
 use Rattle.srm_agent.specs.Fits.{Fits}
 use Rattle.srm_outbox.specs.Outs.{datagram_of}
-use Rattle.srm_agent_state.specs.TimersKept.{only_if}
 use Rattle.srm_entries.specs.Promises.{MayDoNothing}
-use Rattle.srm_agent_state.specs.TimerCalls.{ask_running}
 use Rattle.srm_agent.specs.Waking.{report_next}
 use Rattle.srm_entries.proofs.Charging.{law_at}
 use Rattle.srm_entries.proofs.Ending.{ending_of}

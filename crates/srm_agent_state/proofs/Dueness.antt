@@ -27,9 +27,9 @@ use Rattle.srm_timers.proofs.FixSteps.{asked_first-repairs, fix_timer-repairs, i
 use Rattle.srm_entries.specs.declared.entry.Entry.{Entry}
 use Rattle.srm_entries.specs.Entries.{accepted, state, is_gone, evidence_by, drawops_in, names_heard, is_held, is_missing, known}
 use Rattle.srm_entries.specs.Distances.{distance}
-use Rattle.srm_entries.specs.Timers.{asker, asker_in, repaired, repairs_in, ask_exponent, ask_basis_of, fix_basis_of, basis_of, last_ask, fix_running, held_off, TimersRight}
-use Rattle.srm_agent_state.specs.TimersKept.{TimersContent, only_if}
-use Rattle.srm_agent_state.specs.TimerCalls.{TicksWith, TimersTick, AreToAsk, AreToFix, WaitsAreDrawn, ask_running}
+use Rattle.srm_entries.specs.Timers.{asker, asker_in, repaired, repairs_in, ask_exponent, ask_basis_of, fix_basis_of, basis_of, last_ask, fix_running, held_off, TimersRight, ask_running, only_if}
+use Rattle.srm_agent_state.specs.TimersKept.{TimersContent}
+use Rattle.srm_agent_state.specs.TimerCalls.{TicksWith, TimersTick, AreToAsk, AreToFix, WaitsAreDrawn}
 use Rattle.srm_entries.proofs.Adding.{shows, gains, is_missing-snoc}
 use Rattle.srm_entries.proofs.Arming.{find-holds, find-passed, ask_at}
 use Rattle.srm_entries.proofs.Setting.{is_ask, of_kind, ask_if, asks_of, fixes_of, is_armed, drawn_asks, drawn_waits}

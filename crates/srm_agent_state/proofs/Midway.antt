@@ -21,9 +21,9 @@ use Rattle.srm_entries.specs.declared.entry.Entry.{Entry}
 use Rattle.srm_entries.specs.Configs.{Config}
 use Rattle.srm_entries.specs.Entries.{is_missing}
 use Rattle.srm_entries.specs.Distances.{distance}
-use Rattle.srm_entries.specs.Timers.{arm_in, last_ask, asker, repaired, first_asker, fix_running, held_off, low_of, high_of}
-use Rattle.srm_agent_state.specs.TimersKept.{TimersContent, TimersFit, only_if}
-use Rattle.srm_agent_state.specs.TimerCalls.{KeepSettings, WaitsAreDrawn, TimersStay, AreDueAsks, AreDueFixes, AsksRanOut, FixesRanOut, IsBefore, TimersNext, ask_running}
+use Rattle.srm_entries.specs.Timers.{arm_in, last_ask, asker, repaired, first_asker, fix_running, held_off, low_of, high_of, ask_running, only_if}
+use Rattle.srm_agent_state.specs.TimersKept.{TimersContent, TimersFit}
+use Rattle.srm_agent_state.specs.TimerCalls.{KeepSettings, WaitsAreDrawn, TimersStay, AreDueAsks, AreDueFixes, AsksRanOut, FixesRanOut, IsBefore, TimersNext}
 use Rattle.srm_entries.proofs.Adding.{last_ask-snoc, fix_running-snoc, held_off-snoc}
 use Rattle.srm_entries.proofs.Setting.{of_kind, find_kind, all_asks, drawn_asks}
 

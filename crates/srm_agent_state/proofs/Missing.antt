@@ -33,9 +33,9 @@ use Rattle.srm_entries.specs.Configs.{Config}
 use Rattle.srm_entries.specs.declared.entry.Entry.{Entry}
 use Rattle.srm_entries.specs.Entries.{accepted, held, evidence_by, drawops_in, names_heard, is_held, is_missing, known}
 use Rattle.srm_entries.specs.Distances.{distance}
-use Rattle.srm_entries.specs.Timers.{asker, asker_in, first_asker, repaired, repairs_in, ask_exponent, ask_basis_of, fix_basis_of, basis_of, fix_running, held_off, ArmsRight}
+use Rattle.srm_entries.specs.Timers.{asker, asker_in, first_asker, repaired, repairs_in, ask_exponent, ask_basis_of, fix_basis_of, basis_of, fix_running, held_off, ArmsRight, ask_running}
 use Rattle.srm_agent_state.specs.TimersKept.{TimersContent, HaveSettings, TimersFit}
-use Rattle.srm_agent_state.specs.TimerCalls.{AreFresh, HearsWith, KeepSettings, AreDistancesAfter, TimersHear, WaitsAreDrawn, FixEnds, IsDataOf, IsDrawopOf, IsRepairOf, IsSession, ask_running}
+use Rattle.srm_agent_state.specs.TimerCalls.{AreFresh, HearsWith, KeepSettings, AreDistancesAfter, TimersHear, WaitsAreDrawn, FixEnds, IsDataOf, IsDrawopOf, IsRepairOf, IsSession}
 use Rattle.srm_entries.proofs.Adding.{shows, gains, is_missing-snoc}
 use Rattle.srm_entries.proofs.Arming.{ask_at}
 use Rattle.srm_entries.proofs.Setting.{of_kind, asks_of, fixes_of, is_armed, drawn_waits}

@@ -28,10 +28,10 @@ use Rattle.srm_timers.proofs.FixSteps.{asked_first-snoc, asked_first-append, no_
 use Rattle.srm_entries.specs.Configs.{Config}
 use Rattle.srm_entries.specs.declared.entry.Entry.{Entry}
 use Rattle.srm_entries.specs.Entries.{held, evidence_in, is_held}
-use Rattle.srm_entries.specs.Timers.{asker, fix_running, held_off}
+use Rattle.srm_entries.specs.Timers.{asker, fix_running, held_off, ask_running}
 use Rattle.srm_entries.specs.Verdicts.{settlings}
 use Rattle.srm_agent_state.specs.TimersKept.{TimersContent, TimersFit}
-use Rattle.srm_agent_state.specs.TimerCalls.{IsAnswered, ask_running}
+use Rattle.srm_agent_state.specs.TimerCalls.{IsAnswered}
 use Rattle.srm_entries.proofs.Adding.{list_any-append}
 use Rattle.srm_entries.proofs.Setting.{of_kind}
 use Rattle.srm_agent_state.proofs.Midway.{Midway}

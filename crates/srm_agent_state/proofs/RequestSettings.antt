@@ -23,9 +23,7 @@ use Rattle.srm_entries.specs.Configs.{Config}
 use Rattle.srm_entries.specs.declared.entry.Entry.{Entry}
 use Rattle.srm_entries.specs.Entries.{held, is_held, is_missing, known}
 use Rattle.srm_entries.specs.Distances.{distance}
-use Rattle.srm_entries.specs.Timers.{asker, ask_exponent, ask_basis_of, fix_basis_of, basis_of, last_ask, fix_running, held_off}
-use Rattle.srm_agent_state.specs.TimersKept.{only_if}
-use Rattle.srm_agent_state.specs.TimerCalls.{ask_running}
+use Rattle.srm_entries.specs.Timers.{asker, ask_exponent, ask_basis_of, fix_basis_of, basis_of, last_ask, fix_running, held_off, ask_running, only_if}
 use Rattle.srm_entries.proofs.Showing.{known_has, held_is_shown}
 use Rattle.srm_entries.proofs.Arming.{ask_at, fix_at}
 use Rattle.srm_entries.proofs.Setting.{of_kind}

@@ -22,9 +22,9 @@ use Rattle.srm_entries.specs.Configs.{Config}
 use Rattle.srm_entries.specs.declared.entry.Entry.{Entry}
 use Rattle.srm_entries.specs.Entries.{is_held, is_missing, known}
 use Rattle.srm_entries.specs.Distances.{distance}
-use Rattle.srm_entries.specs.Timers.{last_ask, fix_running, held_off}
+use Rattle.srm_entries.specs.Timers.{last_ask, fix_running, held_off, ask_running}
 use Rattle.srm_agent_state.specs.TimersKept.{TimersContent, TimersFit}
-use Rattle.srm_agent_state.specs.TimerCalls.{AreFresh, HearsWith, AreDistancesAfter, IsRequestOf, TimersAdd, TimersHearRequest, TimersStay, WaitsAreDrawn, ask_running}
+use Rattle.srm_agent_state.specs.TimerCalls.{AreFresh, HearsWith, AreDistancesAfter, IsRequestOf, TimersAdd, TimersHearRequest, TimersStay, WaitsAreDrawn}
 use Rattle.srm_entries.proofs.Adding.{gains}
 use Rattle.srm_entries.proofs.Setting.{of_kind, asks_of, fixes_of, is_armed, drawn_waits}
 use Rattle.srm_agent_state.proofs.Midway.{midway_fits, armed_as}

@@ -4,7 +4,8 @@ use Rattle.srm_timers.specs.AskCalls.{AskContent, AskFits}
 use Rattle.srm_timers.specs.FixCalls.{FixContent, FixFits}
 use Rattle.srm_entries.specs.Configs.{Config}
 use Rattle.srm_entries.specs.Entries.{is_missing}
-use Rattle.srm_agent_state.specs.TimersKept.{TimersContent, HaveSettings, TimersFit, only_if}
+use Rattle.srm_entries.specs.Timers.{only_if}
+use Rattle.srm_agent_state.specs.TimersKept.{TimersContent, HaveSettings, TimersFit}
 
 none_shown : (b : Bool) → None ≡ only_if b None
 none_shown true = refl

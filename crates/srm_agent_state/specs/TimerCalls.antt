@@ -9,7 +9,6 @@ use Rattle.srm_codec.specs.Spelling.{asked_by, IsSpellable}
 use Rattle.srm_store.specs.Fits as store
 use Rattle.srm_store.specs.Stores.{StoreContent}
 use Rattle.srm_timers.specs.declared.arm.Arm.{Arm}
-use Rattle.srm_timers.specs.declared.arm.Armed.{Armed}
 use Rattle.srm_timers.specs.declared.arm.ArmKind.TheVariants.{Ask, Fix}
 use Rattle.srm_timers.specs.Arms.{AreChosen, ran_out, plan_of, backs_off}
 use Rattle.srm_timers.specs.AskCalls.{AskCall, AskFits, AskAdds, AskDue, AskTimersRun, ask_timer, ask_plan, sets}
@@ -19,9 +18,9 @@ use Rattle.srm_entries.specs.declared.entry.Entry.{Entry}
 use Rattle.srm_entries.specs.Configs.{Config}
 use Rattle.srm_entries.specs.Entries.{accepted, ticked, state, is_gone, held, evidence_in, is_missing}
 use Rattle.srm_entries.specs.Distances.{distance}
-use Rattle.srm_entries.specs.Timers.{low_of, high_of, last_ask, fix_running, ArmsRight, TimersRight}
+use Rattle.srm_entries.specs.Timers.{low_of, high_of, last_ask, fix_running, ArmsRight, TimersRight, ask_running}
 use Rattle.srm_entries.specs.Verdicts.{settlings}
-use Rattle.srm_agent_state.specs.TimersKept.{TimersFit, only_if, TimersContent, HaveSettings}
+use Rattle.srm_agent_state.specs.TimersKept.{TimersFit, TimersContent, HaveSettings}
 
 -- settings and words
 
@@ -152,10 +151,6 @@ pub record IsAnswered (is_held : Bool) (name : FullName) (from : ℕ) (dist : Li
 pub record TimersTick (asks fixes : List FullName) (dist : List ℕ) (now : ℕ) (arms : List Arm) (old new : TimersContent) : Type 0 where
   pub each : (c : Config) (past : List Entry) (e : Entry) → TicksWith asks fixes now arms e → TimersFit c past old → is_gone (state past) ≡ false
       → AreToAsk now past asks → AreToFix now past fixes → AreDistancesAfter c (past ++ e ∷ []) dist → TimersAdd c past e new × TimersRight past e
-
--- the request timer of a name that is missing
-abbrev pub ask_running : List Entry → FullName → Option Armed
-ask_running past n = only_if (is_missing past n) (last_ask past n)
 
 abbrev pub IsBefore : ℕ → Option ℕ → Type 0
 IsBefore u None = Unit {0}

@@ -1,14 +1,12 @@
 -- The timers that a member keeps.
-use Rattle.std.specs.Prelude.{◌≡◌, ℕ, Bool, List, if◌then◌else◌, Option, None}
+use Rattle.std.specs.Prelude.{◌≡◌, ℕ, List}
 use Rattle.srm_names.specs.FullName.{FullName}
 use Rattle.srm_names.specs.Histories.{first_of}
-use Rattle.srm_timers.specs.declared.arm.Armed.{Armed}
 use Rattle.srm_timers.specs.AskCalls.{AskContent, AskCall, AskFits, ask_timer}
 use Rattle.srm_timers.specs.FixCalls.{FixContent, FixCall, FixFits, fix_timer, asked_first, is_off}
 use Rattle.srm_entries.specs.declared.entry.Entry.{Entry}
 use Rattle.srm_entries.specs.Configs.{Config}
-use Rattle.srm_entries.specs.Entries.{is_missing}
-use Rattle.srm_entries.specs.Timers.{last_ask, fix_running, held_off, asker}
+use Rattle.srm_entries.specs.Timers.{fix_running, held_off, asker, ask_running}
 use Rattle.srm_agent_state.specs.declared.timers.Timers.TheInside.{Inside}
 
 pub record TimersContent : Type 0 where
@@ -25,14 +23,11 @@ pub record HaveSettings (c : Config) (t : TimersContent) : Type 0 where
   pub d1 : t.fixes.d1 ≡ c.d1
   pub d2 : t.fixes.d2 ≡ c.d2
 
-abbrev pub only_if : Bool → Option Armed → Option Armed
-only_if b o = if b then o else None
-
 -- The timers are those of the names, by whatever calls they were set: a request timer runs exactly for each missing name.
 pub record TimersFit (c : Config) (past : List Entry) (t : TimersContent) : Type 0 where
   pub ask_calls : List AskCall
   pub asks : AskFits c.c1 c.c2 ask_calls t.asks
-  pub ask_timers : (n : FullName) → ask_timer ask_calls n ≡ only_if (is_missing past n) (last_ask past n)
+  pub ask_timers : (n : FullName) → ask_timer ask_calls n ≡ ask_running past n
   pub fix_calls : List FixCall
   pub fixes : FixFits c.d1 c.d2 fix_calls t.fixes
   pub fix_timers : (n : FullName) → fix_timer fix_calls n ≡ fix_running past n

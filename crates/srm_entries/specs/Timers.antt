@@ -47,6 +47,13 @@ repaired n e = repairs_in n (accepted e) || among e.effects.fixes n
 abbrev pub ask_due : List Entry → FullName → ℕ → Bool
 ask_due es n now = not (is_gone (state es)) && is_missing es n && ran_out now (last_ask es n)
 
+abbrev pub only_if : Bool → Option Armed → Option Armed
+only_if b o = if b then o else None
+
+-- the request timer of a name that is missing
+abbrev pub ask_running : List Entry → FullName → Option Armed
+ask_running es n = only_if (is_missing es n) (last_ask es n)
+
 abbrev pub first_asker : List Entry → FullName → ℕ
 first_asker es n = unwrap_or (first_of (asker n) es) n.stream.source
 
