@@ -14,7 +14,8 @@ use Rattle.srm_pages.specs.declared.board.BoardView.{BoardView}
 use Rattle.srm_pages.proofs.Views.{all_set, all_one, snoc_cases}
 use Rattle.srm_names.specs.declared.limits.TheConstants.{MEMBERS}
 use Rattle.srm_pages.proofs.Shown.{order_alike}
-use Rattle.srm_pages.specs.Board.{stride, count_register, number_register, total, drawops_posted, CountsPosted, registers_of_board, board_view, zeros, dealer, watcher, with_seen, FitsBoard, IsBoardState, BoardState, Raised, Looked}
+use Rattle.srm_pages.specs.declared.board.TheConstants.{BOARD_REGISTERS, STRIDE}
+use Rattle.srm_pages.specs.Board.{count_register, number_register, total, drawops_posted, CountsPosted, board_view, zeros, dealer, watcher, with_seen, FitsBoard, IsBoardState, BoardState, Raised, Looked}
 
 replicate_zero : (n i : ℕ) → get_or {A = ℕ} (replicate n 0) i 0 ≡ 0
 replicate_zero zero i = refl
@@ -23,11 +24,11 @@ replicate_zero (suc n) (suc i) = replicate_zero n i
 
 pub zeros_at : (i : ℕ) → get_or zeros i 0 ≡ 0
 unfolding zeros
-zeros_at i = replicate_zero registers_of_board i
+zeros_at i = replicate_zero BOARD_REGISTERS i
 
-pub zeros_length : length zeros ≡ registers_of_board
+pub zeros_length : length zeros ≡ BOARD_REGISTERS
 unfolding zeros
-zeros_length = length-replicate {A = ℕ} registers_of_board 0
+zeros_length = length-replicate {A = ℕ} BOARD_REGISTERS 0
 
 -- a list that is at most the words stays so when a word grows
 grown : (xs words : List ℕ) (i n : ℕ) → i < length words → get_or words i 0 ≤ n → ((k : ℕ) → get_or xs k 0 ≤ get_or words k 0) → (k : ℕ) → get_or xs k 0 ≤ get_or (set words i n) k 0
@@ -75,7 +76,7 @@ begins = record {
 }
 
 -- the tap of a slot raises one of its words
-pub raises : (slots id word n : ℕ) (m : Me ℕ BoardView) → m.0.taps ≡ true → word / stride ≡ m.0.slot → word < registers_of_board → get_or m.0.seen word 0 ≤ n → (word % stride ≢ 0 → n < 2 ^ 32) → CountsPosted (set m.0.seen word n) m.0.slot
+pub raises : (slots id word n : ℕ) (m : Me ℕ BoardView) → m.0.taps ≡ true → word / STRIDE ≡ m.0.slot → word < BOARD_REGISTERS → get_or m.0.seen word 0 ≤ n → (word % STRIDE ≢ 0 → n < 2 ^ 32) → CountsPosted (set m.0.seen word n) m.0.slot
     → Allows BoardState slots id m word (λ _. n) (λ _. Raised (step slots word n 0 none) m n)
 raises slots id word n m taps mine inside more narrow order s h _ at _ =
     let v = m.0 in
@@ -92,14 +93,14 @@ raises slots id word n m taps mine inside more narrow order s h _ at _ =
         dealt = h.dealt;
         sized = length-set s.words word n ∙ h.sized;
         narrow = λ i odd. dite (ℕ_discrete i word)
-            (λ (e : i ≡ word). subst (λ k. get_or (set s.words word n) k 0 < 2 ^ 32) (sym e) (subst (λ k. k < 2 ^ 32) (sym (get_or-set_same s.words word n 0 in_words)) (narrow (subst (λ k. k % stride ≢ 0) e odd))))
+            (λ (e : i ≡ word). subst (λ k. get_or (set s.words word n) k 0 < 2 ^ 32) (sym e) (subst (λ k. k < 2 ^ 32) (sym (get_or-set_same s.words word n 0 in_words)) (narrow (subst (λ k. k % STRIDE ≢ 0) e odd))))
             (λ (ne : i ≢ word). subst (λ k. k < 2 ^ 32) (sym (get_or-set_other s.words word i n 0 ne)) (h.narrow i odd));
         order = λ slot. dite (ℕ_discrete slot v.slot)
             (λ (e : slot ≡ v.slot). subst (λ k. CountsPosted (set s.words word n) k) (sym e)
             (order_alike (set v.seen word n) (set s.words word n) v.slot (λ i own. noted_exact v.seen s.words word n i in_words in_seen (λ _. my.exact taps i own)) order))
             (λ (ne : slot ≢ v.slot). order_alike s.words (set s.words word n) slot
-            (λ i own. sym (get_or-set_other s.words word i n 0 (λ (e : i ≡ word). ne (sym own ∙ ap (λ k. k / stride) e ∙ mine)))) (h.order slot));
-        blank = λ i late. let apart : i ≢ word = (λ (e : i ≡ word). let own = (my.tap taps).1 in let d : i / stride ≡ v.slot = ap (λ k. k / stride) e ∙ mine in let l : h.dealt ≤ v.slot = subst (λ k. h.dealt ≤ k) d late in omega arith) in get_or-set_other s.words word i n 0 apart ∙ h.blank i late;
+            (λ i own. sym (get_or-set_other s.words word i n 0 (λ (e : i ≡ word). ne (sym own ∙ ap (λ k. k / STRIDE) e ∙ mine)))) (h.order slot));
+        blank = λ i late. let apart : i ≢ word = (λ (e : i ≡ word). let own = (my.tap taps).1 in let d : i / STRIDE ≡ v.slot = ap (λ k. k / STRIDE) e ∙ mine in let l : h.dealt ≤ v.slot = subst (λ k. h.dealt ≤ k) d late in omega arith) in get_or-set_other s.words word i n 0 apart ∙ h.blank i late;
         fits = all_set (FitsBoard h.seat h.dealt (set s.words word n)) s.views id (with_seen v word n)
             record {
               sized = length-set v.seen word n ∙ my.sized;
@@ -112,7 +113,7 @@ raises slots id word n m taps mine inside more narrow order s h _ at _ =
               sized = its.sized;
               bound = grown u.seen s.words word n in_words less its.bound;
               tap = its.tap;
-              exact = λ t i d. let elsewhere : i ≢ word = (λ (same : i ≡ word). apart (sym (its.tap t).0 ∙ ap h.seat (sym d ∙ ap (λ k. k / stride) same ∙ mine) ∙ (my.tap taps).0)) in its.exact t i d ∙ sym (get_or-set_other s.words word i n 0 elsewhere);
+              exact = λ t i d. let elsewhere : i ≢ word = (λ (same : i ≡ word). apart (sym (its.tap t).0 ∙ ap h.seat (sym d ∙ ap (λ k. k / STRIDE) same ∙ mine) ∙ (my.tap taps).0)) in its.exact t i d ∙ sym (get_or-set_other s.words word i n 0 elsewhere);
               dealer = its.dealer;
             });
       },
@@ -120,7 +121,7 @@ raises slots id word n m taps mine inside more narrow order s h _ at _ =
     )
 
 -- whoever has a seat looks at a word
-pub looks : (slots id word : ℕ) (m : Me ℕ BoardView) → word < registers_of_board → Allows BoardState slots id m word (λ n. n) (Looked (step slots word 0 0 none) m)
+pub looks : (slots id word : ℕ) (m : Me ℕ BoardView) → word < BOARD_REGISTERS → Allows BoardState slots id m word (λ n. n) (Looked (step slots word 0 0 none) m)
 looks slots id word m inside s h _ at _ =
     let v = m.0 in
     let my = h.fits id v at in
@@ -135,9 +136,9 @@ looks slots id word m inside s h _ at _ =
         seat = h.seat;
         dealt = h.dealt;
         sized = length-set s.words word n ∙ h.sized;
-        narrow = subst (λ (ws : List ℕ). (i : ℕ) → i % stride ≢ 0 → get_or ws i 0 < 2 ^ 32) (sym same) h.narrow;
+        narrow = subst (λ (ws : List ℕ). (i : ℕ) → i % STRIDE ≢ 0 → get_or ws i 0 < 2 ^ 32) (sym same) h.narrow;
         order = subst (λ (ws : List ℕ). (slot : ℕ) → CountsPosted ws slot) (sym same) h.order;
-        blank = subst (λ (ws : List ℕ). (i : ℕ) → h.dealt ≤ i / stride → get_or ws i 0 ≡ 0) (sym same) h.blank;
+        blank = subst (λ (ws : List ℕ). (i : ℕ) → h.dealt ≤ i / STRIDE → get_or ws i 0 ≡ 0) (sym same) h.blank;
         fits = all_set (FitsBoard h.seat h.dealt (set s.words word n)) s.views id (with_seen v word n)
             record {
               sized = length-set v.seen word n ∙ my.sized;
@@ -211,9 +212,9 @@ watches id v s h at =
     }
 
 -- a word of the board lies in the table
-pub inside_table : (seat table : TableId) (word : ℕ) → seat ≡ table → seat.words ≡ registers_of_board → word < registers_of_board → word < table.words
+pub inside_table : (seat table : TableId) (word : ℕ) → seat ≡ table → seat.words ≡ BOARD_REGISTERS → word < BOARD_REGISTERS → word < table.words
 inside_table seat table word same words small = subst (λ (z : TableId). word < z.words) same (subst (λ n. word < n) (sym words) small)
 
 -- which has words
-pub has_words : (seat table : TableId) → seat ≡ table → seat.words ≡ registers_of_board → 0 < table.words
+pub has_words : (seat table : TableId) → seat ≡ table → seat.words ≡ BOARD_REGISTERS → 0 < table.words
 has_words seat table same words = inside_table seat table 0 same words (lit< tt)

@@ -3,25 +3,19 @@ use Rattle.std.specs.Prelude.{◌≡◌, ◌≢◌, ℕ, zero, suc, ◌*◌, ◌
 use mathlib.Core.Option.{some}
 use lib.ListN.{get_elem?}
 use Rattle.atomic_table.specs.Table.{State, Me, Step}
-use Rattle.srm_names.specs.declared.limits.TheConstants.{MEMBERS, PAGES}
+use Rattle.srm_names.specs.declared.limits.TheConstants.{MEMBERS}
+use Rattle.srm_pages.specs.declared.board.TheConstants.{BOARD_REGISTERS, STRIDE}
 use Rattle.srm_pages.specs.declared.board.BoardView.{BoardView}
-
--- how many words a slot has, one for its count and one for each member, and how many there are
-abbrev pub stride : ℕ
-stride = 1 + MEMBERS
-
-abbrev pub registers_of_board : ℕ
-registers_of_board = PAGES * stride
 
 abbrev pub board_view : Bool → ℕ → Bool → ℕ → List ℕ → BoardView
 board_view taps slot deals next seen = record { taps = taps; slot = slot; deals = deals; next = next; seen = seen }
 
 -- the word of a slot that counts the messages taken, and the word that has the number of a member's last drawop
 abbrev pub count_register : ℕ → ℕ
-count_register slot = slot * stride
+count_register slot = slot * STRIDE
 
 abbrev pub number_register : ℕ → ℕ → ℕ
-number_register slot member = slot * stride + (member + 1)
+number_register slot member = slot * STRIDE + (member + 1)
 
 -- f 0, f 1, .. up to below n, added up
 abbrev pub total : (ℕ → ℕ) → ℕ → ℕ
@@ -38,7 +32,7 @@ CountsPosted words slot = drawops_posted words slot ≤ slice_index words (count
 
 -- every word as it is at first
 unfoldable pub zeros : List ℕ
-zeros = replicate registers_of_board 0
+zeros = replicate BOARD_REGISTERS 0
 
 -- the first seat, which cuts off the seats of the taps in the order of their slots, and else only looks
 abbrev pub dealer : BoardView
@@ -53,20 +47,20 @@ with_seen v i n = board_view v.taps v.slot v.deals v.next (slice_set v.seen i n)
 
 -- What a seat has seen of a word is at most the word. The words of a slot are what the seat of its tap has. One seat deals, the first
 pub record FitsBoard (seat : ℕ → ℕ) (dealt : ℕ) (words : List ℕ) (id : ℕ) (v : BoardView) : Type 0 where
-  pub sized : length v.seen ≡ registers_of_board
+  pub sized : length v.seen ≡ BOARD_REGISTERS
   pub bound : (i : ℕ) → slice_index v.seen i ≤ slice_index words i
   pub tap : v.taps ≡ true → (seat v.slot ≡ id) × (v.slot < dealt)
-  pub exact : v.taps ≡ true → (i : ℕ) → i / stride ≡ v.slot → slice_index v.seen i ≡ slice_index words i
+  pub exact : v.taps ≡ true → (i : ℕ) → i / STRIDE ≡ v.slot → slice_index v.seen i ≡ slice_index words i
   pub dealer : v.deals ≡ true → (id ≡ 0) × (v.next ≡ dealt)
 
 -- The numbers of drawops fit a u32, a slot shows no more than it counts behind the first, and the words of slots that have no tap yet are 0
 pub record IsBoardState (words : List ℕ) (views : List BoardView) : Type 0 where
   pub seat : ℕ → ℕ
   pub dealt : ℕ
-  pub sized : length words ≡ registers_of_board
-  pub narrow : (i : ℕ) → i % stride ≢ 0 → slice_index words i < 2 ^ 32
+  pub sized : length words ≡ BOARD_REGISTERS
+  pub narrow : (i : ℕ) → i % STRIDE ≢ 0 → slice_index words i < 2 ^ 32
   pub order : (slot : ℕ) → CountsPosted words slot
-  pub blank : (i : ℕ) → dealt ≤ i / stride → slice_index words i ≡ 0
+  pub blank : (i : ℕ) → dealt ≤ i / STRIDE → slice_index words i ≡ 0
   pub fits : (id : ℕ) (v : BoardView) → get_elem? views id ≡ some v → FitsBoard seat dealt words id v
 
 abbrev pub BoardState : State ℕ BoardView → Type 0
@@ -76,4 +70,4 @@ abbrev pub Raised : Step ℕ → Me ℕ BoardView → ℕ → Me ℕ BoardView �
 Raised s m n r = (r ≡ (with_seen m.0 s.word n, m.1)) × (slice_index r.0.seen s.word ≡ n)
 
 abbrev pub Looked : Step ℕ → Me ℕ BoardView → ℕ → Me ℕ BoardView → Type 0
-Looked s m n r = (r ≡ (with_seen m.0 s.word n, m.1)) × (slice_index r.0.seen s.word ≡ n) × (slice_index m.0.seen s.word ≤ n) × (s.word % stride ≢ 0 → n < 2 ^ 32)
+Looked s m n r = (r ≡ (with_seen m.0 s.word n, m.1)) × (slice_index r.0.seen s.word ≡ n) × (slice_index m.0.seen s.word ≤ n) × (s.word % STRIDE ≢ 0 → n < 2 ^ 32)

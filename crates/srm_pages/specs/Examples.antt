@@ -10,12 +10,13 @@ use Rattle.srm_names.specs.Names.{first_page, named}
 use Rattle.srm_names.specs.PageFeeds.{drawops_of}
 use Rattle.srm_pages.specs.declared.stroke.Stroke.{Stroke}
 use Rattle.srm_pages.specs.declared.tap.Ended.TheVariants.{Closed, Broken}
-use Rattle.srm_pages.specs.Board.{registers_of_board, count_register, number_register, drawops_posted, CountsPosted}
+use Rattle.srm_pages.specs.declared.board.TheConstants.{BOARD_REGISTERS}
+use Rattle.srm_pages.specs.Board.{count_register, number_register, drawops_posted, CountsPosted}
 use Rattle.srm_pages.specs.Ends.{FeedView, TapView, LaneId, TookOrEnded, credit_of}
 use Rattle.srm_pages.specs.Ink.{strokes_of, SentIs}
 
 -- The board has a word for each slot's count and one for each slot and member.
-all_words : registers_of_board ≡ 264
+all_words : BOARD_REGISTERS ≡ 264
 all_words = refl
 
 first_count : count_register 0 ≡ 0
@@ -43,7 +44,7 @@ two_drawn source = Open first_page ∷ Draw (drawop source 1) ∷ Draw (drawop s
 abbrev seat : List ℕ
 seat = 3 ∷ 0 ∷ 2 ∷ replicate 261 0
 
-seat_is_whole : length seat ≡ registers_of_board
+seat_is_whole : length seat ≡ BOARD_REGISTERS
 seat_is_whole = refl
 
 three_taken : slice_index seat (count_register 0) ≡ length (two_drawn 1)
@@ -98,7 +99,7 @@ two_members = refl
 abbrev last_seat : List ℕ
 last_seat = replicate 231 0 ++ 3 ∷ replicate 31 0 ++ 2 ∷ []
 
-last_seat_is_whole : length last_seat ≡ registers_of_board
+last_seat_is_whole : length last_seat ≡ BOARD_REGISTERS
 last_seat_is_whole = refl
 
 three_taken_last : slice_index last_seat (count_register 7) ≡ length (two_drawn 31)

@@ -3,8 +3,11 @@
 //! The words of a slot stand side by side: how many messages its tap took, and then for each member the number of the last drawop
 //! taken.
 
+ghost use Rattle.std.specs.Prelude.{◌≡◌};
+ghost use Rattle.srm_pages.specs.Board.{count_register, number_register};
+
 use atomic_table::{Play, Seat, Split, Table, TableRule};
-use srm_names::{MEMBERS, PAGES};
+use srm_names::{MEMBERS, Member, PAGES};
 use std::alloc::Global;
 use std::collections::LinkedList;
 
@@ -13,6 +16,20 @@ pub const STRIDE: usize = 1 + MEMBERS as usize;
 
 /// How many words there are.
 pub const BOARD_REGISTERS: usize = PAGES as usize * STRIDE;
+
+/// The word of a slot that counts the messages taken.
+pub(crate) fn count_register(slot: u8) -> usize
+    ensures { result ≡ count_register slot }
+{
+    usize::from(slot) * STRIDE
+}
+
+/// The word of a slot that has the number of a member's last drawop.
+pub(crate) fn number_register(slot: u8, member: Member) -> usize
+    ensures { result ≡ number_register slot member }
+{
+    usize::from(slot) * STRIDE + (member.index() + 1)
+}
 
 /// What a seat knows: whether it is a tap's and of which slot, whether it deals the slots from `next` on, and the number that it
 /// has last seen of each word. No value of it is made.

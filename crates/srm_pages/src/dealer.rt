@@ -25,11 +25,12 @@ impl Model for Dealer {
 
     ghost use Rattle.std.specs.Prelude.{◌≡◌, true};
     ghost use Rattle.std.specs.Arc.{arc_value};
-    ghost use Rattle.srm_pages.specs.Board.{registers_of_board, zeros};
+    ghost use Rattle.srm_pages.specs.declared.board.TheConstants.{BOARD_REGISTERS};
+    ghost use Rattle.srm_pages.specs.Board.{zeros};
 
     ghost view = { λ d. record { next = d.seat.me.0.next; board = d.seat.table_id } };
 
-    ghost invariant = { λ d. (d.seat.table_id ≡ (arc_value d.board).shared.table_id) × (d.seat.table_id.words ≡ registers_of_board)
+    ghost invariant = { λ d. (d.seat.table_id ≡ (arc_value d.board).shared.table_id) × (d.seat.table_id.words ≡ BOARD_REGISTERS)
         × (d.seat.me.0.deals ≡ true) × (d.seat.me.0.seen ≡ zeros) };
 }
 

@@ -3,7 +3,7 @@ ghost use Rattle.std.specs.Prelude.{◌≡◌, ◌+◌, ◌<◌, ◌≤◌, [], 
 ghost use Rattle.srm_names.specs.PageFeeds.{is_page_feed};
 ghost use Rattle.srm_pages.specs.Ends.{credit_of};
 
-use crate::board::STRIDE;
+use crate::board::count_register;
 use crate::lane::{LanePass, Putting, Sender};
 use crate::lookout::Lookout;
 use srm_names::{LANE_MESSAGES, PageMsg};
@@ -65,7 +65,7 @@ impl Feed {
         ensures rises { self.old.seen ≤ self.new.seen }
         ensures same { self.new ≡ record self.old { seen = self.new.seen } }
     {
-        let seen = self.lookout.look(usize::from(self.slot) * STRIDE);
+        let seen = self.lookout.look(count_register(self.slot));
         u64::from(LANE_MESSAGES).saturating_sub(self.count.saturating_sub(seen)) as u32
     }
 

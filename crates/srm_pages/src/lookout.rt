@@ -1,7 +1,7 @@
 //! One who only looks at the board.
 
 ghost use Rattle.std.specs.Prelude.{◌≡◌, ◌≢◌, ◌%◌, ◌^◌, ◌<◌, ◌≤◌, slice_index, slice_set};
-ghost use Rattle.srm_pages.specs.Board.{stride, registers_of_board};
+ghost use Rattle.srm_pages.specs.declared.board.TheConstants.{BOARD_REGISTERS, STRIDE};
 
 use crate::board::{Board, BoardSeat, Looks};
 use std::alloc::Global;
@@ -22,21 +22,21 @@ impl Model for Lookout {
 
     ghost use Rattle.std.specs.Prelude.{◌≡◌};
     ghost use Rattle.std.specs.Arc.{arc_value};
-    ghost use Rattle.srm_pages.specs.Board.{registers_of_board};
+    ghost use Rattle.srm_pages.specs.declared.board.TheConstants.{BOARD_REGISTERS};
 
     ghost view = { λ l. record { seen = l.seat.me.0.seen; board = l.seat.table_id } };
 
-    ghost invariant = { λ l. (l.seat.table_id ≡ (arc_value l.board).shared.table_id) × (l.seat.table_id.words ≡ registers_of_board) };
+    ghost invariant = { λ l. (l.seat.table_id ≡ (arc_value l.board).shared.table_id) × (l.seat.table_id.words ≡ BOARD_REGISTERS) };
 }
 
 impl Lookout {
     /// The number in a word, which is never below one seen there before.
     pub fn look(&mut self, word: usize) -> u64
-        requires { word < registers_of_board }
+        requires { word < BOARD_REGISTERS }
         ensures seen { self.new ≡ record self.old { seen = slice_set self.old.seen word result } }
         ensures there { slice_index self.new.seen word ≡ result }
         ensures rises { slice_index self.old.seen word ≤ result }
-        ensures narrow { word % stride ≢ 0 → result < 2 ^ 32 }
+        ensures narrow { word % STRIDE ≢ 0 → result < 2 ^ 32 }
     {
         self.board.shared.load::<Looks>(&mut self.seat, word)
     }

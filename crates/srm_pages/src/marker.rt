@@ -2,10 +2,11 @@
 
 ghost use Rattle.std.specs.Prelude.{◌≡◌, ◌≢◌, ◌/◌, ◌%◌, ◌^◌, ◌<◌, ◌≤◌, length, slice_index, slice_set};
 ghost use Rattle.crossbeam_channel.specs.Claims.{view as knows};
-ghost use Rattle.srm_pages.specs.Board.{stride, count_register, registers_of_board, CountsPosted};
+ghost use Rattle.srm_pages.specs.declared.board.TheConstants.{BOARD_REGISTERS, STRIDE};
+ghost use Rattle.srm_pages.specs.Board.{count_register, CountsPosted};
 ghost use Rattle.srm_pages.specs.Seats.{MayPost, Posts};
 
-use crate::board::{Board, BoardSeat, Raises, STRIDE};
+use crate::board::{Board, BoardSeat, Raises, count_register, number_register};
 use crate::lane::LanePass;
 use srm_names::PageMsg;
 use std::alloc::Global;
@@ -28,11 +29,11 @@ impl Model for Marker {
     ghost use Rattle.std.specs.Prelude.{◌≡◌, ◌<◌, true};
     ghost use Rattle.std.specs.Arc.{arc_value};
     ghost use Rattle.srm_names.specs.declared.limits.TheConstants.{PAGES};
-    ghost use Rattle.srm_pages.specs.Board.{registers_of_board};
+    ghost use Rattle.srm_pages.specs.declared.board.TheConstants.{BOARD_REGISTERS};
 
     ghost view = { λ m. record { seat = m.seat.me.0.seen; slot = m.slot; board = m.seat.table_id } };
 
-    ghost invariant = { λ m. (m.seat.table_id ≡ (arc_value m.board).shared.table_id) × (m.seat.table_id.words ≡ registers_of_board)
+    ghost invariant = { λ m. (m.seat.table_id ≡ (arc_value m.board).shared.table_id) × (m.seat.table_id.words ≡ BOARD_REGISTERS)
         × (m.seat.me.0.taps ≡ true) × (m.seat.me.0.slot ≡ m.slot) × (m.slot < PAGES) };
 }
 
@@ -51,7 +52,7 @@ impl Marker {
         ensures seat { self.new ≡ record self.old { seat = slice_set self.old.seat (count_register self.old.slot) count } }
         ensures there { slice_index self.new.seat (count_register self.old.slot) ≡ count }
     {
-        self.raise(usize::from(self.slot) * STRIDE, count);
+        self.raise(count_register(self.slot), count);
     }
 
     /// Stores the number of a drawop, which is counted by then. Of another message it stores nothing.
@@ -60,9 +61,9 @@ impl Marker {
         ensures { Posts self.old msg.now self.new }
     {
         if let PageMsg::Draw(drawop) = msg {
-            let member = drawop.name.source().index();
+            let member = drawop.name.source();
             self.raise(
-                usize::from(self.slot) * STRIDE + (member + 1),
+                number_register(self.slot, member),
                 u64::from(drawop.name.number()),
             );
         }
@@ -70,9 +71,9 @@ impl Marker {
 
     // Stores a number that isn't below the one there.
     fn raise(&mut self, word: usize, number: u64)
-        requires mine { (word < registers_of_board) × (word / stride ≡ self.old.slot) }
+        requires mine { (word < BOARD_REGISTERS) × (word / STRIDE ≡ self.old.slot) }
         requires rises { slice_index self.old.seat word ≤ number }
-        requires narrow { word % stride ≢ 0 → number < 2 ^ 32 }
+        requires narrow { word % STRIDE ≢ 0 → number < 2 ^ 32 }
         requires order { CountsPosted (slice_set self.old.seat word number) self.old.slot }
         ensures seat { self.new ≡ record self.old { seat = slice_set self.old.seat word number } }
         ensures there { slice_index self.new.seat word ≡ number }

@@ -4,7 +4,7 @@ ghost use Rattle.std.specs.Prelude.{◌≡◌, ◌<◌, ◌≤◌, slice_index, 
 ghost use Rattle.srm_names.specs.declared.limits.TheConstants.{PAGES};
 ghost use Rattle.srm_pages.specs.Board.{number_register};
 
-use crate::board::STRIDE;
+use crate::board::number_register;
 use crate::lookout::Lookout;
 use srm_names::Member;
 use std::marker::Model;
@@ -32,7 +32,6 @@ impl Viewer {
         ensures there { slice_index self.new.seen (number_register slot member) ≡ result }
         ensures rises { slice_index self.old.seen (number_register slot member) ≤ result }
     {
-        let word = usize::from(slot) * STRIDE + (member.index() + 1);
-        self.lookout.look(word) as u32
+        self.lookout.look(number_register(slot, member)) as u32
     }
 }
