@@ -47,9 +47,7 @@ idle_before now l = (
   tick now,
   refl,
   refl,
-  refl,
-  refl,
-  refl,
+  record { asks = refl; fixes = refl; outs = refl },
   record {
     each = (right (config 0) 0 [] 0 now Ticked None [] None Active missing_none (missing_ticked now) (λ n. refl) (λ n. refl) refl (omega arith) refl refl tt tt tt (too_early now l) refl refl, tt);
     bucket = (idle (tick now) ∷ [], refl, (idle_right refl, tt), nothing_waits now);
@@ -66,9 +64,9 @@ ends_with_one e i m =
     ∙ ap (λ now. if nat_le 1000000 now then Some false else None) m
 
 then_a_report : MayDoNothing (config 0) 0 [] 1000000 → ⊥
-then_a_report (e, input, moment, asks, fixes, outs, run) =
+then_a_report (e, input, moment, nothing, run) =
     let (g, is, report) = subst (λ o. EndsWith (config 0) [] e o) (ends_with_one e input moment) run.each.0.session in
-    not_empty (charged e) g (sym outs ∙ is)
+    not_empty (charged e) g (sym nothing.outs ∙ is)
 
 due_after_a_second : IsNextDue (config 0) 0 [] (Some 1000000)
 due_after_a_second = (refl, lit≤ tt, (λ now l u. (idle_before now u, idle_rests (config 0) 0 [] now (idle_before now u))), then_a_report)
@@ -125,10 +123,10 @@ not_kept_back e run =
     too_much l = absurd (omega arith)
 
 data_goes : MayDoNothing (config 0) 0 (drawn ∷ []) 5 → ⊥
-data_goes (e, input, moment, asks, fixes, outs, run) =
+data_goes (e, input, moment, nothing, run) =
     let right : EntryRight (config 0) 0 (record { before = drawn ∷ []; this = e }) = run.each.1.0 in
     let none = tick_draws_nothing (config 0) 0 (drawn ∷ []) e right (ap is_tick input) in
-    not_kept_back e (subst (λ w. IsMemberRun (config 0) 0 (drawn ∷ w ∷ [])) (is_idle_tick e input moment asks fixes outs none) run)
+    not_kept_back e (subst (λ w. IsMemberRun (config 0) 0 (drawn ∷ w ∷ [])) (is_idle_tick e input moment nothing.asks nothing.fixes nothing.outs none) run)
 
 due_at_once : IsNextDue (config 0) 0 (drawn ∷ []) (Some 5)
 due_at_once = (refl, lit≤ tt, (λ now l u. absurd (omega arith)), data_goes)

@@ -222,9 +222,7 @@ module _ {W : Type 0} (c : Config) (made : ℕ) (past : List Entry) (a : Content
     idle_at c past u,
     refl,
     refl,
-    refl,
-    refl,
-    refl,
+    record { asks = refl; fixes = refl; outs = refl },
     record {
       each = steps_more (EntryRight c made) past (idle_at c past u) h.run (tick_right c made u past [] [] [] [] (state past) None [] None idle_right);
       bucket = idle_bucket c made past a at.1.waiting u h here at.1.waits l (to_come a u at).item;

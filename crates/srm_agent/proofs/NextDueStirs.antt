@@ -53,15 +53,15 @@ pub record DidNothing (c : Config) (made : ℕ) (past : List Entry) (now : ℕ) 
   pub run : IsMemberRun c made (past ++ e ∷ [])
 
 pub did_nothing : (c : Config) (made : ℕ) (past : List Entry) (now : ℕ) (i : MayDoNothing c made past now) → DidNothing c made past now i.0
-did_nothing c made past now (e, input, moment, asks, fixes, outs, run) =
+did_nothing c made past now (e, input, moment, nothing, run) =
     let right : EntryRight c made (record { before = past; this = e }) = (at_parts (EntryRight c made) past (e ∷ []) run.each).1.0 in
     record {
       ticks = ap is_tick input;
       moment = moment;
       drawn = tick_draws_nothing c made past e right (ap is_tick input);
-      asks = asks;
-      fixes = fixes;
-      outs = outs;
+      asks = nothing.asks;
+      fixes = nothing.fixes;
+      outs = nothing.outs;
       right = right;
       run = run;
     }

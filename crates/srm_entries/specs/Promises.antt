@@ -21,15 +21,15 @@ page_to_come c es =
     if nat_le PAGES (length (slots es)) || nat_le 65536 (next_number c.me (slots es)) then None
     else Some (record { creator = c.me; number = next_number c.me (slots es) })
 
--- a tick at this moment may do nothing
-abbrev pub MayDoNothing : Config → ℕ → List Entry → ℕ → Type 0
-MayDoNothing c made es now = (e : Entry) × (e.input ≡ Ticked) × (e.moment ≡ now) × (e.effects.asks ≡ []) × (e.effects.fixes ≡ []) × (e.effects.outs ≡ []) × IsMemberRun c made (es ++ e ∷ [])
-
 -- an entry hands out and sends nothing
 pub record DoesNothing (e : Entry) : Type 0 where
   pub asks : e.effects.asks ≡ []
   pub fixes : e.effects.fixes ≡ []
   pub outs : e.effects.outs ≡ []
+
+-- a tick at this moment may do nothing
+abbrev pub MayDoNothing : Config → ℕ → List Entry → ℕ → Type 0
+MayDoNothing c made es now = (e : Entry) × (e.input ≡ Ticked) × (e.moment ≡ now) × DoesNothing e × IsMemberRun c made (es ++ e ∷ [])
 
 -- whatever tick may come at this moment does nothing
 abbrev pub NothingIsDue : Config → ℕ → List Entry → ℕ → Type 0
