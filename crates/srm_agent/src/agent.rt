@@ -150,7 +150,7 @@ impl<W: Words + Drop> Agent<W> {
     fn is_gone(&self) -> bool
         ensures { result ≡ is_gone self.now.state }
     {
-        matches!(self.state, AgentState::Gone)
+        self.state.is_gone()
     }
 
     /// The moment that counts.

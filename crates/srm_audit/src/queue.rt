@@ -1,15 +1,13 @@
 //! What is left of a journal.
 
 ghost use Rattle.std.specs.Prelude.{◌≡◌, ◌<◌, ◌∷◌, ◌==◌, Some, length, IfOk, OnOk, OnErr};
-ghost use Rattle.std.specs.Option.{option_copied};
 ghost use Rattle.srm_codec.specs.Spelling.{IsSpellable};
-ghost use Rattle.srm_entries.specs.Entries.{accepted};
 ghost use Rattle.srm_audit.specs.Texts.{text_of};
 ghost use Rattle.srm_audit.specs.Queues.{AreReadable, IsReadable, MayGo, PopsReady};
 
 use crate::texts::{Texts, text_of};
 use srm_codec::Datagram;
-use srm_entries::{Entry, Input, Verdict};
+use srm_entries::Entry;
 use std::alloc::{AllocError, Global};
 use std::collections::VecDeque;
 use std::marker::Model;
@@ -70,7 +68,7 @@ impl Queue {
         let Some(entry) = self.entries.front() else {
             return Ok(false);
         };
-        let Some(datagram) = heard_in(entry) else {
+        let Some(datagram) = entry.accepted() else {
             return Ok(true);
         };
         write(alloc, &mut self.text, datagram)?;
@@ -85,16 +83,6 @@ impl Queue {
     {
         self.text.clear();
         self.entries.pop_front().unwrap()
-    }
-}
-
-/// The datagram that an entry hears and takes.
-fn heard_in(entry: &Entry) -> Option<&Datagram>
-    ensures { option_copied result ≡ accepted entry.now }
-{
-    match (&entry.verdict, &entry.input) {
-        (Verdict::Done, Input::Heard(datagram)) => Some(datagram),
-        _ => None,
     }
 }
 

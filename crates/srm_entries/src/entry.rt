@@ -1,6 +1,8 @@
 //! What one call of an agent was given, and what it did.
 
 ghost use Rattle.std.specs.Prelude.{◌≡◌};
+ghost use Rattle.std.specs.Option.{option_copied};
+ghost use Rattle.srm_entries.specs.Entries.{accepted};
 ghost use Rattle.srm_entries.specs.Still.{still_entry};
 
 use crate::cause::Cause;
@@ -96,6 +98,16 @@ impl Entry {
                 message,
                 state,
             },
+        }
+    }
+
+    /// The datagram that was heard and taken.
+    pub fn accepted(&self) -> Option<&Datagram>
+        ensures { option_copied result ≡ accepted self.now }
+    {
+        match (&self.verdict, &self.input) {
+            (Verdict::Done, Input::Heard(datagram)) => Some(datagram),
+            _ => None,
         }
     }
 }

@@ -1,5 +1,8 @@
 //! Whether a member takes part.
 
+ghost use Rattle.std.specs.Prelude.{◌≡◌};
+ghost use Rattle.srm_entries.specs.Entries.{is_gone};
+
 /// Whether a member takes part. It never goes back.
 #[derive(Clone, Copy, Debug, PartialEq, Eq)]
 pub enum AgentState {
@@ -9,4 +12,12 @@ pub enum AgentState {
     Leaving,
     /// It sent its farewell. It hears and sends nothing.
     Gone,
+}
+
+impl AgentState {
+    pub fn is_gone(self) -> bool
+        ensures { result ≡ is_gone self }
+    {
+        matches!(self, AgentState::Gone)
+    }
 }

@@ -23,14 +23,8 @@ pub fn is_ended(after: AgentState, feeds: &[Feed], closed: &[bool]) -> bool
     requires { closed.now ≡ map has_closed feeds.now }
     ensures { result ≡ (is_gone after && list_all has_nothing_more feeds.now) }
 {
-    let gone = is_gone(after);
+    let gone = after.is_gone();
     gone & are_done(feeds, closed)
-}
-
-fn is_gone(after: AgentState) -> bool
-    ensures { result ≡ is_gone after }
-{
-    matches!(after, AgentState::Gone)
 }
 
 // Whether each feed is lost, or put its close.

@@ -2,14 +2,13 @@
 
 ghost use Rattle.std.specs.Prelude.{◌≡◌, map, Some, IfOk};
 ghost use Rattle.std.specs.List.{enumerate_from};
-ghost use Rattle.srm_entries.specs.Entries.{is_gone as has_gone};
 ghost use Rattle.srm_picture.specs.Brackets.{answers, answered_by_kind, bracket, brackets_in, bracket_end as end_in, ended_in as how_ended_in, ending_in as how_ended, ends_later as how_ended_later, handed_out, sets_anew};
 ghost use Rattle.srm_names.specs.Names.{among};
 
 use crate::bracket::{Bracket, BracketEnd, TimerEnd};
 use crate::point::Point;
 use srm_codec::Datagram;
-use srm_entries::{AgentState, Arm, ArmKind, Entry, Input, Verdict};
+use srm_entries::{Arm, ArmKind, Entry};
 use std::alloc::{AllocError, Global};
 
 /// Each timer that was set, in order.
@@ -84,7 +83,7 @@ fn ending_in(entry: &Entry, arm: &Arm, itself: bool) -> Option<TimerEnd>
 {
     if !itself {
         ends_later(entry, arm)
-    } else if is_gone(entry) {
+    } else if entry.effects.state.is_gone() {
         Some(TimerEnd::Cancelled)
     } else {
         None
@@ -99,7 +98,7 @@ fn ends_later(entry: &Entry, arm: &Arm) -> Option<TimerEnd>
         Some(TimerEnd::RanOut)
     } else if is_set(entry, arm) {
         Some(TimerEnd::BackedOff)
-    } else if is_gone(entry) || is_answered(entry, arm) {
+    } else if entry.effects.state.is_gone() || is_answered(entry, arm) {
         Some(TimerEnd::Cancelled)
     } else {
         None
@@ -129,19 +128,13 @@ fn is_set(entry: &Entry, arm: &Arm) -> bool
         .any(|other| arm.kind == other.kind && arm.name == other.name)
 }
 
-fn is_gone(entry: &Entry) -> bool
-    ensures { result ≡ has_gone entry.now.effects.state }
-{
-    matches!(entry.effects.state, AgentState::Gone)
-}
-
 /// Whether the entry takes what the timer was to ask for, or a repair like the one that it was to make.
 fn is_answered(entry: &Entry, arm: &Arm) -> bool
     ensures { result ≡ answers arm.now.kind arm.now.name entry.now }
 {
-    match (&entry.verdict, &entry.input) {
-        (Verdict::Done, Input::Heard(datagram)) => is_answer(datagram, arm),
-        _ => false,
+    match entry.accepted() {
+        Some(datagram) => is_answer(datagram, arm),
+        None => false,
     }
 }
 
