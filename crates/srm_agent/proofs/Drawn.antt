@@ -222,7 +222,7 @@ module _ (me moment : ℕ) (page : Page) (body : List ℕ) (stamp : ℕ) (after 
           none false = refl
 
   drawn_arms : (c : Config) → ArmsRight c past e
-  drawn_arms c = record { in_order = refl; exact = λ n. sym (none n (is_held past n) refl); waits = tt }
+  drawn_arms c = record { are = record { in_order = refl; exact = λ n. sym (none n (is_held past n) refl) }; waits = tt }
     where
       nothing : (b : Bool) (o : Option WaitBasis) → o ≡ None → (if b then o else None) ≡ None
       nothing true o e = e

@@ -175,8 +175,10 @@ no_setting me past e n q = go (is_held past n) refl
 
 pub no_arms : (c : Config) (past : List Entry) (e : Entry) → Quiet e → ArmsRight c past e
 no_arms c past e q = record {
-  in_order = rw q.arms refl;
-  exact = λ n. ap (λ (as_ : List Arm). option_map wait_basis (arm_of n as_)) q.arms ∙ sym (no_setting c.me past e n q);
+  are = record {
+    in_order = rw q.arms refl;
+    exact = λ n. ap (λ (as_ : List Arm). option_map wait_basis (arm_of n as_)) q.arms ∙ sym (no_setting c.me past e n q);
+  };
   waits = rw q.arms tt;
 }
 

@@ -161,11 +161,13 @@ tick_ticks draw from to asked fixed names dist now arms old mid new ask_stays fi
       = λ n. ap (λ o. repairs_in n o || among e.effects.fixes n) t.heard ∙ ap (λ ns. among ns n) t.fixes ∙ tofix.exact n ∙ sym (fixed_are.exact n ∙ ap (ran_out now) (h.fix_timers n)) in (
         record {
           arms = record {
-            in_order = ap (λ as_. ascending name_below (arm_names as_)) t.arms ∙ are.in_order;
-            exact = λ n. ap (λ as_. option_map wait_basis (arm_of n as_)) t.arms ∙ exact n
-                ∙ again_by now (is_held past n) (is_missing past n) (among e.effects.asks n) (last_ask past n) (distance_to dist n.stream.source) (ask_at c.me (past ++ e ∷ []) n)
-                (held_not_missing past n) (ap (λ ns. among ns n) t.asks ∙ toask.exact n) (near n)
-                ∙ sym (unasked_tick c.me past e n (none n) (same n));
+            are = record {
+              in_order = ap (λ as_. ascending name_below (arm_names as_)) t.arms ∙ are.in_order;
+              exact = λ n. ap (λ as_. option_map wait_basis (arm_of n as_)) t.arms ∙ exact n
+                  ∙ again_by now (is_held past n) (is_missing past n) (among e.effects.asks n) (last_ask past n) (distance_to dist n.stream.source) (ask_at c.me (past ++ e ∷ []) n)
+                  (held_not_missing past n) (ap (λ ns. among ns n) t.asks ∙ toask.exact n) (near n)
+                  ∙ sym (unasked_tick c.me past e n (none n) (same n));
+            };
             waits = rw t.arms (drawn_waits draw c from to arms (drawn.each c (settings_fit c past old h)));
           };
           fits = midway_fits c past e now arms (λ n. false) (λ n. None) (among names) (hold_end now dist h.fix_calls) new

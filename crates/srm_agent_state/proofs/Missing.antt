@@ -213,9 +213,11 @@ arms_right : {W : Type 0} (draw : W → ℕ × W) (from to : W) (c : Config) (pa
     → TimersFit c past t → HearsWith g now arms e → ((n : FullName) → asker n e ≡ None) → AreFresh past e fresh → AreDistancesAfter c (past ++ e ∷ []) dist
     → AskedFirst fresh [] dist arms → WaitsAreDrawn draw t from arms to → ArmsRight c past e
 arms_right draw from to c past e g now arms fresh dist t h with_ none are d first drawn = record {
-  in_order = ap (λ as_. ascending name_below (arm_names as_)) with_.arms ∙ first.are.in_order;
-  exact = λ n. ap (λ as_. option_map wait_basis (arm_of n as_)) with_.arms ∙ first.are.exact n
-      ∙ found_by c.me past e n fresh dist (none n) with_.asks are (fresh_near c past e g now arms fresh dist n with_ are d);
+  are = record {
+    in_order = ap (λ as_. ascending name_below (arm_names as_)) with_.arms ∙ first.are.in_order;
+    exact = λ n. ap (λ as_. option_map wait_basis (arm_of n as_)) with_.arms ∙ first.are.exact n
+        ∙ found_by c.me past e n fresh dist (none n) with_.asks are (fresh_near c past e g now arms fresh dist n with_ are d);
+  };
   waits = rw with_.arms (drawn_waits draw c from to arms (drawn.each c (settings_fit c past t h)));
 }
 

@@ -49,12 +49,14 @@ request_adds : {W : Type 0} (draw : W → ℕ × W) (start to : W) (c : Config) 
     → WaitsAreDrawn draw old start arms to → arms ≡ answers ++ found → TimersAdd c past e new
 request_adds draw start to c past e g from asked fresh dist now answers found arms old mid new h with_ is says are d a adds same first drawn arms_are = record {
   arms = record {
-    in_order = ap (λ as_. ascending name_below (arm_names as_)) (with_.arms ∙ arms_are) ∙ rising;
-    exact = λ n. ap (λ as_. option_map wait_basis (arm_of n as_)) (with_.arms ∙ arms_are)
-        ∙ ap (option_map wait_basis) (arm_of-append n answers found) ∙ setting_or (arm_of n answers) (arm_of n found)
-        ∙ ap (λ o. or_else o (option_map wait_basis (arm_of n found))) (a.exact n) ∙ ap (or_else (if among asked n then wanted c past from dist now n else None)) (first.are.exact n)
-        ∙ request_setting c past e from asked fresh dist now n (asker_is e g from asked n with_.heard is) with_.asks with_.moment (are.exact n)
-        (d.each from says.member ∙ same_distance c.me past e g from with_.heard (says.far c.me e.moment)) (near n);
+    are = record {
+      in_order = ap (λ as_. ascending name_below (arm_names as_)) (with_.arms ∙ arms_are) ∙ rising;
+      exact = λ n. ap (λ as_. option_map wait_basis (arm_of n as_)) (with_.arms ∙ arms_are)
+          ∙ ap (option_map wait_basis) (arm_of-append n answers found) ∙ setting_or (arm_of n answers) (arm_of n found)
+          ∙ ap (λ o. or_else o (option_map wait_basis (arm_of n found))) (a.exact n) ∙ ap (or_else (if among asked n then wanted c past from dist now n else None)) (first.are.exact n)
+          ∙ request_setting c past e from asked fresh dist now n (asker_is e g from asked n with_.heard is) with_.asks with_.moment (are.exact n)
+          (d.each from says.member ∙ same_distance c.me past e g from with_.heard (says.far c.me e.moment)) (near n);
+    };
     waits = rw with_.arms (drawn_waits draw c start to arms (drawn.each c (settings_fit c past old h)));
   };
   fits = midway_fits c past e now (answers ++ found) no_name (asked_if asked from) no_name (λ n. 0) new

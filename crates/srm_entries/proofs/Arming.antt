@@ -14,6 +14,7 @@ use Rattle.srm_timers.specs.declared.arm.ArmKind.TheVariants.{Ask, Fix}
 use Rattle.srm_entries.specs.Distances.{distance}
 use Rattle.srm_timers.specs.declared.arm.Armed.{Armed}
 use Rattle.srm_timers.specs.Arms.{WaitBasis, wait_basis, same_kind, arm_of}
+use Rattle.srm_timers.specs.Timers.{armed_at}
 use Rattle.srm_entries.specs.Timers.{arm_in, basis_of, low_of, high_of, ArmsRight}
 
 -- finding by one test and by two
@@ -78,9 +79,6 @@ same_kind_tells Ask Fix e = absurd (cc)
 same_kind_tells Fix Ask e = absurd (cc)
 same_kind_tells Fix Fix e = refl
 
-abbrev pub armed_at : ℕ → Arm → Armed
-armed_at now x = record { set = now; arm = x }
-
 pub found_of : (now : ℕ) (a : Armed) (o : Option Arm) → option_map (armed_at now) o ≡ Some a → (o ≡ Some a.arm) × (a.set ≡ now)
 found_of now a None e = absurd (cc)
 found_of now a (Some x) e =
@@ -99,7 +97,7 @@ setting_found s (Some a) e = (a, refl, cc)
 pub armed_by : (kind : ArmKind) (n : FullName) (c : Config) (before : List Entry) (e : Entry) (s : WaitBasis) → ArmsRight c before e
     → basis_of c.me before e n ≡ Some s → s.kind ≡ kind → is_some (arm_in kind n e) ≡ true
 armed_by kind n c before e s r h k =
-    let (a, found, is) = setting_found s (arm_of n e.effects.arms) (r.exact n ∙ h) in
+    let (a, found, is) = setting_found s (arm_of n e.effects.arms) (r.are.exact n ∙ h) in
     let test : same_kind kind a.kind ≡ true = subst (λ j. same_kind kind j ≡ true) (sym k ∙ ap (λ (t : WaitBasis). t.kind) (sym is)) (same_kind_itself kind) in
     let f = find-refined (λ (x : Arm). same_name n x.name) (λ (x : Arm). same_kind kind x.kind) e.effects.arms a found test in
     ap (λ o. is_some (option_map (armed_at e.moment) o)) f
@@ -113,7 +111,7 @@ pub set_by : (kind : ArmKind) (n : FullName) (c : Config) (before : List Entry) 
     → arm_in kind n e ≡ Some a → is_some (basis_of c.me before e n) ≡ true
 set_by kind n c before e a r h =
     let (x, found) = some_of (arm_of n e.effects.arms) (find-coarser (λ (x : Arm). same_name n x.name) (λ (x : Arm). same_kind kind x.kind) e.effects.arms a.arm (arm_found kind n e a h).0) in
-    ap is_some (sym (r.exact n) ∙ ap (option_map wait_basis) found)
+    ap is_some (sym (r.are.exact n) ∙ ap (option_map wait_basis) found)
 
 -- where the law sets none, the entry has none
 pub unset_by : (kind : ArmKind) (n : FullName) (c : Config) (before : List Entry) (e : Entry) → ArmsRight c before e
@@ -170,8 +168,8 @@ pub kind_set : (kind : ArmKind) (n : FullName) (c : Config) (before : List Entry
     → arm_in kind n e ≡ Some a → basis_of c.me before e n ≡ Some s → s.kind ≡ kind
 kind_set kind n c before e a s r h k =
     let found = (arm_found kind n e a h).0 in
-    let one = only_arm n (λ (x : Arm). same_kind kind x.kind) e.effects.arms a.arm r.in_order found in
-    let is : Some (wait_basis a.arm) ≡ Some s = sym (ap (option_map wait_basis) one) ∙ r.exact n ∙ k in
+    let one = only_arm n (λ (x : Arm). same_kind kind x.kind) e.effects.arms a.arm r.are.in_order found in
+    let is : Some (wait_basis a.arm) ≡ Some s = sym (ap (option_map wait_basis) one) ∙ r.are.exact n ∙ k in
     let same : wait_basis a.arm ≡ s = cc in
     let test : same_kind kind a.arm.kind ≡ true = and_left (same_kind kind a.arm.kind) (same_name n a.arm.name) (find-passed (kind_and_name kind n) e.effects.arms a.arm found) in
     ap (λ (t : WaitBasis). t.kind) (sym same) ∙ sym (same_kind_tells kind a.arm.kind test)

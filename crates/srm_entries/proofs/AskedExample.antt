@@ -63,7 +63,7 @@ gap_right = record {
   moment = lit≤ tt;
   verdict = (refl, refl);
   drawn = refl;
-  arms = record { in_order = refl; exact = gap_armed; waits = ((lit≤ tt, lit≤ tt), tt) };
+  arms = record { are = record { in_order = refl; exact = gap_armed }; waits = ((lit≤ tt, lit≤ tt), tt) };
   timers = record { asks = record { in_order = refl; exact = λ n. refl }; fixes = record { in_order = refl; exact = λ n. refl } };
   senders = tt;
   spelled = tt;
@@ -117,7 +117,7 @@ asks_right = record {
   moment = lit≤ tt;
   verdict = refl;
   drawn = refl;
-  arms = record { in_order = refl; exact = armed_again; waits = ((lit≤ tt, lit≤ tt), tt) };
+  arms = record { are = record { in_order = refl; exact = armed_again }; waits = ((lit≤ tt, lit≤ tt), tt) };
   timers = record { asks = record { in_order = refl; exact = asked_exactly }; fixes = record { in_order = refl; exact = λ n. refl } };
   senders = (refl, tt);
   spelled = (request_spelled, tt);

@@ -146,7 +146,7 @@ right c made before m now input drawn outs message after here next ask fix p1 p2
   moment = p2;
   verdict = p3;
   drawn = p4;
-  arms = record { in_order = refl; exact = λ n. no_setting c.me before (plain m now input drawn outs message after) n (ask n) (here n) (next n); waits = tt };
+  arms = record { are = record { in_order = refl; exact = λ n. no_setting c.me before (plain m now input drawn outs message after) n (ask n) (here n) (next n) }; waits = tt };
   timers = record {
     asks = record { in_order = refl; exact = λ n. not_asked (ticked (plain m now input drawn outs message after)) (not (is_gone (state before))) (is_missing before n) (ran_out now (last_ask before n)) (here n) };
     fixes = record {

@@ -91,7 +91,7 @@ holds_right = record {
   moment = lit≤ tt;
   verdict = (refl, refl);
   drawn = refl;
-  arms = record { in_order = refl; exact = λ n. no_setting 2 [] holds n refl (missing_none n) (none_missing n); waits = tt };
+  arms = record { are = record { in_order = refl; exact = λ n. no_setting 2 [] holds n refl (missing_none n) (none_missing n) }; waits = tt };
   timers = record { asks = record { in_order = refl; exact = λ n. refl }; fixes = record { in_order = refl; exact = λ n. refl } };
   senders = tt;
   spelled = tt;
@@ -108,7 +108,7 @@ asked_right = record {
   moment = lit≤ tt;
   verdict = (refl, refl);
   drawn = refl;
-  arms = record { in_order = refl; exact = fixes_set; waits = ((lit≤ tt, lit≤ tt), tt) };
+  arms = record { are = record { in_order = refl; exact = fixes_set }; waits = ((lit≤ tt, lit≤ tt), tt) };
   timers = record { asks = record { in_order = refl; exact = λ n. refl }; fixes = record { in_order = refl; exact = λ n. refl } };
   senders = tt;
   spelled = tt;
@@ -134,7 +134,7 @@ repairs_right = record {
   moment = lit≤ tt;
   verdict = refl;
   drawn = refl;
-  arms = record { in_order = refl; exact = λ n. no_setting 2 (holds ∷ asked ∷ []) repairs n refl (none_missing_later n) (none_missing_last n); waits = tt };
+  arms = record { are = record { in_order = refl; exact = λ n. no_setting 2 (holds ∷ asked ∷ []) repairs n refl (none_missing_later n) (none_missing_last n) }; waits = tt };
   timers = record { asks = record { in_order = refl; exact = none_asked }; fixes = record { in_order = refl; exact = fixed_exactly } };
   senders = (refl, tt);
   spelled = ((lit< tt, one_spelled), tt);

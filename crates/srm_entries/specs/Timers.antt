@@ -1,9 +1,9 @@
 -- Request and repair timers: which arms an entry holds, and which timers a tick hands out.
-use Rattle.std.specs.Prelude.{◌≡◌, ℕ, ◌+◌, ◌*◌, ◌^◌, ◌≤◌, nat_lt, Bool, true, false, not, ◌&&◌, ◌||◌, List, [], ◌∷◌, ◌++◌, map, find, if◌then◌else◌, Option, Some, None, unwrap_or, option_map, is_some}
+use Rattle.std.specs.Prelude.{ℕ, ◌+◌, ◌*◌, ◌≤◌, nat_lt, Bool, false, not, ◌&&◌, ◌||◌, List, [], ◌∷◌, ◌++◌, find, if◌then◌else◌, Option, Some, None, unwrap_or, option_map, is_some}
 use Rattle.std.specs.List.{list_any, AllByRecursion}
 use Rattle.srm_names.specs.FullName.{FullName}
 use Rattle.srm_names.specs.Histories.{Step, steps, first_of, last_of, since}
-use Rattle.srm_names.specs.Names.{same_name, name_below, among, ascending, AreExactly}
+use Rattle.srm_names.specs.Names.{same_name, among, AreExactly}
 use Rattle.srm_codec.specs.declared.datagram.Datagram.{Datagram}
 use Rattle.srm_codec.specs.declared.datagram.Datagram.TheVariants.{Request, Repair}
 use Rattle.srm_codec.specs.Spelling.{asked_by}
@@ -15,12 +15,16 @@ use Rattle.srm_timers.specs.declared.arm.ArmKind.TheVariants.{Ask, Fix}
 use Rattle.srm_entries.specs.Entries.{accepted, ticked, state, is_gone, is_held, is_missing}
 use Rattle.srm_timers.specs.declared.arm.Armed.{Armed}
 use Rattle.srm_timers.specs.declared.limits.TheConstants.{HOLD_OFF}
-use Rattle.srm_timers.specs.Arms.{arm_of, same_kind, ran_out, WaitBasis, wait_basis, next_exponent, backs_off}
+use Rattle.srm_timers.specs.Arms as timers
+use Rattle.srm_timers.specs.Arms.{ArmsAre, same_kind, ran_out, WaitBasis, next_exponent, backs_off}
+use Rattle.srm_timers.specs.Timers.{armed_at}
+use Rattle.srm_timers.specs.AskCalls.{ask_basis}
+use Rattle.srm_timers.specs.FixCalls.{fix_basis}
 use Rattle.srm_entries.specs.Distances.{distance}
 
 abbrev pub arm_in : ArmKind → FullName → Entry → Option Armed
 arm_in kind n e =
-    option_map (λ a. record { set = e.moment; arm = a }) (find (λ a. same_kind kind a.kind && same_name n a.name) e.effects.arms)
+    option_map (armed_at e.moment) (find (λ a. same_kind kind a.kind && same_name n a.name) e.effects.arms)
 
 abbrev pub last_ask : List Entry → FullName → Option Armed
 last_ask es n = last_of (arm_in Ask n) es
@@ -82,13 +86,13 @@ ask_exponent before e n =
 
 abbrev pub ask_basis_of : ℕ → List Entry → Entry → FullName → Option WaitBasis
 ask_basis_of me before e n =
-    option_map (λ i. record { kind = Ask; exponent = i; distance = distance (before ++ e ∷ []) me n.stream.source }) (ask_exponent before e n)
+    option_map (λ i. ask_basis i (distance (before ++ e ∷ []) me n.stream.source)) (ask_exponent before e n)
 
 -- a request for a held name arms a repair, where none runs and the name isn't held off
 abbrev pub fix_basis_of : ℕ → List Entry → Entry → FullName → Option WaitBasis
 fix_basis_of me before e n =
     if is_held before n && not (is_some (fix_running before n)) && not (held_off me before n e.moment)
-    then option_map (λ a. record { kind = Fix; exponent = 0; distance = distance before me a }) (asker n e)
+    then option_map (λ a. fix_basis (distance before me a)) (asker n e)
     else None
 
 abbrev pub basis_of : ℕ → List Entry → Entry → FullName → Option WaitBasis
@@ -99,20 +103,19 @@ abbrev pub low_of : Config → Arm → ℕ
 low_of c a = times a.kind
   where
     times : ArmKind → ℕ
-    times Ask = 2 ^ a.exponent * c.c1 * a.distance
+    times Ask = timers.low_of c.c1 a
     times Fix = c.d1 * a.distance
 
 abbrev pub high_of : Config → Arm → ℕ
 high_of c a = times a.kind
   where
     times : ArmKind → ℕ
-    times Ask = 2 ^ a.exponent * (c.c1 + c.c2) * a.distance
+    times Ask = timers.high_of c.c1 c.c2 a
     times Fix = (c.d1 + c.d2) * a.distance
 
 -- the entry holds these arms and no others, in order of name
 pub record ArmsRight (c : Config) (before : List Entry) (e : Entry) : Type 0 where
-  pub in_order : ascending name_below (map (λ a. a.name) e.effects.arms) ≡ true
-  pub exact : (n : FullName) → option_map wait_basis (arm_of n e.effects.arms) ≡ basis_of c.me before e n
+  pub are : ArmsAre (basis_of c.me before e) e.effects.arms
   pub waits : AllByRecursion (λ a. (low_of c a ≤ a.wait) × (a.wait ≤ high_of c a)) e.effects.arms
 
 -- A tick hands out exactly the requests and repairs whose timers ran out. No other entry hands out any.
