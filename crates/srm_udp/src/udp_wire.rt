@@ -1,14 +1,14 @@
 //! A wire over UDP.
 
-ghost use Rattle.std.specs.Prelude.{◌≡◌, ◌<◌, ◌≤◌, [], None, length, vec_len, IfOk, IfSome, IsErr};
-ghost use Rattle.srm_wire.specs.Wires.{CountsFailure, RoseOrFull, TellsMore, answered, sent_by};
+ghost use Rattle.std.specs.Prelude.{◌≡◌, ◌<◌, ◌≤◌, [], None, length, vec_len, true, is_err, IfOk, IfSome, IsErr};
+ghost use Rattle.srm_wire.specs.Wires.{CountsIf, TellsMore, answered, sent_by};
 ghost use Rattle.srm_udp.specs.Udp.{CountsEach, new_wire, one_more_failure};
 
 use crate::loss::is_loss;
 use mio::net::UdpSocket;
 use mio::{Events, Interest, Poll, Token};
 use srm_names::Member;
-use srm_wire::{Wire, WireFault};
+use srm_wire::{Wire, WireFault, count_failure};
 use std::alloc::Global;
 use std::io;
 use std::io::ErrorKind;
@@ -84,10 +84,9 @@ impl UdpWire {
     // Counts a failure.
     fn fail(&mut self) -> WireFault
         ensures one { self.new ≡ one_more_failure self.old }
-        ensures counted { (self.old.failures ≤ self.new.failures) × RoseOrFull self.old.failures self.new.failures }
+        ensures counted { CountsIf true self.old.failures self.new.failures }
     {
-        self.failures = self.failures.saturating_add(1);
-        WireFault
+        count_failure(&mut self.failures)
     }
 }
 
@@ -99,7 +98,7 @@ impl Wire for UdpWire {
     /// One call of the system, which copies the bytes from where they lie. A member without an address is a failure, and a datagram that the
     /// system cuts.
     fn send(&mut self, to: Member, datagram: &[u8]) -> Result<(), WireFault>
-        ensures failures { CountsFailure result self.old.failures self.new.failures }
+        ensures failures { CountsIf (is_err result) self.old.failures self.new.failures }
         ensures each { CountsEach result self.old self.new }
         ensures tells { TellsMore [] (sent_by to datagram.now result) None None }
         ensures stranger { self.old.members ≤ to → IsErr result }
@@ -117,7 +116,7 @@ impl Wire for UdpWire {
     /// One call of the system, which copies the bytes to where they stay. What is longer than the buffer is cut to it.
     fn receive(&mut self, buffer: &mut [u8]) -> Result<Option<usize>, WireFault>
         ensures within { IfOk result (λ some. IfSome some (λ count. count ≤ length buffer.new)) }
-        ensures failures { CountsFailure result self.old.failures self.new.failures }
+        ensures failures { CountsIf (is_err result) self.old.failures self.new.failures }
         ensures each { CountsEach result self.old self.new }
         ensures tells { TellsMore (answered buffer.new result) [] None None }
     {

@@ -8,7 +8,7 @@ use Rattle.std.proofs.lemmas.List.Elements.{filter-append}
 use Rattle.srm_names.specs.Histories.{count_up}
 use Rattle.srm_names.proofs.Snoc.{up_to_more}
 use Rattle.srm_wire.specs.declared.sent.Sent.{Sent}
-use Rattle.srm_wire.specs.Wires.{Told, TellsMore, told_more, CountsIf, RoseOrFull, CountsFailure, counted_with, AreSomeOf, Sends, bytes_to, sent_by, but, others, sends_to}
+use Rattle.srm_wire.specs.Wires.{Told, TellsMore, told_more, CountsIf, RoseOrFull, counted_with, AreSomeOf, Sends, bytes_to, sent_by, but, others, sends_to}
 
 told_same : (o : Option Told) → o ≡ option_map (told_more [] []) o
 told_same None = refl
@@ -76,17 +76,17 @@ pub sends_none : (x : ℕ) (t : Option Told) → Sends false [] x x t t
 sends_none x t = record { failures = (omega arith, tt); went = []; some = tt; whole = refl; tells = tells_nothing t }
 
 -- one was sent, or the send failed
-pub sends_one : {T E : Type 0} (r : Result T E) (to : ℕ) (bytes : List ℕ) (all : List Sent) (x y : ℕ) (s t : Option Told) → all ≡ bytes_to to bytes ∷ [] → CountsFailure r x y → TellsMore [] (sent_by to bytes r) s t → Sends (is_err r) all x y s t
-sends_one (Ok a) to bytes all x y s t is counts tells = record { failures = (counts, tt); went = bytes_to to bytes ∷ []; some = rw is (inl (refl, tt)); whole = sym is; tells = tells }
-sends_one (Err e) to bytes all x y s t is counts tells = record { failures = (counts.0, counts.1); went = []; some = tt; whole = tt; tells = tells }
+pub sends_one : {T E : Type 0} (r : Result T E) (to : ℕ) (bytes : List ℕ) (all : List Sent) (x y : ℕ) (s t : Option Told) → all ≡ bytes_to to bytes ∷ [] → CountsIf (is_err r) x y → TellsMore [] (sent_by to bytes r) s t → Sends (is_err r) all x y s t
+sends_one (Ok a) to bytes all x y s t is counts tells = record { failures = counts; went = bytes_to to bytes ∷ []; some = rw is (inl (refl, tt)); whole = sym is; tells = tells }
+sends_one (Err e) to bytes all x y s t is counts tells = record { failures = counts; went = []; some = tt; whole = tt; tells = tells }
 
 -- one member more
 pub sends_to_more : (a b : Bool) (me n : ℕ) (bytes : List ℕ) (x y z : ℕ) (s t u : Option Told) → Sends a (sends_to (others me n) bytes) x y s t → Sends b (sends_to (but me (n ∷ [])) bytes) y z t u → Sends (a || b) (sends_to (others me (n + 1)) bytes) x z s u
 sends_to_more a b me n bytes x y z s t u h k = subst (λ went. Sends (a || b) went x z s u) (sym (sends_more me n bytes)) (sends_on a b (sends_to (others me n) bytes) (sends_to (but me (n ∷ [])) bytes) x y z s t u h k)
 
 -- a failure of the wire below
-pub counts_below : {T E : Type 0} (r : Result T E) (old new own : ℕ) → CountsFailure r old new → CountsFailure r (counted_with old own) (counted_with new own)
-counts_below (Ok x) old new own h = omega (arith, h)
+pub counts_below : {T E : Type 0} (r : Result T E) (old new own : ℕ) → CountsIf (is_err r) old new → CountsIf (is_err r) (counted_with old own) (counted_with new own)
+counts_below (Ok x) old new own h = (omega (arith, h.0), tt)
 counts_below (Err e) old new own h = (omega (arith, h.0), rose old new own h.1)
   where
     rose : (old new own : ℕ) → RoseOrFull old new → RoseOrFull (counted_with old own) (counted_with new own)

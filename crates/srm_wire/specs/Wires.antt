@@ -50,11 +50,6 @@ RoseOrFull old new = (old < new) ⊎ (2 ^ 64 - 1 ≤ new)
 abbrev pub CountsIf : Bool → ℕ → ℕ → Type 0
 CountsIf failed old new = (old ≤ new) × OnTrue failed (RoseOrFull old new)
 
--- nothing lowers the count, and an Err raises it up to the greatest
-abbrev pub CountsFailure : {T E : Type 0} → Result T E → ℕ → ℕ → Type 0
-CountsFailure (Ok _) old new = old ≤ new
-CountsFailure (Err _) old new = (old ≤ new) × RoseOrFull old new
-
 -- these members but one
 abbrev pub but : ℕ → List ℕ → List ℕ
 but me members = filter (λ m. not (m == me)) members

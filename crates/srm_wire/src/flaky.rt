@@ -3,7 +3,7 @@
 ghost use Rattle.std.specs.Prelude.{◌≡◌, ◌-◌, ◌==◌};
 ghost use Rattle.srm_wire.specs.Wires.{counted_with};
 
-use crate::wire::{Wire, WireFault};
+use crate::wire::{Wire, WireFault, count_failure};
 use srm_names::Member;
 use std::marker::Model;
 
@@ -63,8 +63,7 @@ impl<X: Wire + Drop> Wire for Flaky<X> {
     #[tactic(auto, using(crate::proofs::Telling::counts_below, crate::proofs::Telling::counts_own, crate::proofs::Telling::tells_nothing))]
     fn send(&mut self, to: Member, datagram: &[u8]) -> Result<(), WireFault> {
         if fails(&mut self.left) {
-            self.own = self.own.saturating_add(1);
-            return Err(WireFault);
+            return Err(count_failure(&mut self.own));
         }
         self.wire.send(to, datagram)
     }
@@ -72,8 +71,7 @@ impl<X: Wire + Drop> Wire for Flaky<X> {
     #[tactic(auto, using(crate::proofs::Telling::counts_below, crate::proofs::Telling::counts_own, crate::proofs::Telling::tells_nothing))]
     fn receive(&mut self, buffer: &mut [u8]) -> Result<Option<usize>, WireFault> {
         if fails(&mut self.left) {
-            self.own = self.own.saturating_add(1);
-            return Err(WireFault);
+            return Err(count_failure(&mut self.own));
         }
         self.wire.receive(buffer)
     }

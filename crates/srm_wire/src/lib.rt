@@ -23,4 +23,4 @@ pub use mem_wire::MemWire;
 pub use network::hub;
 pub use sending::send_to_others;
 pub use sent::Sent;
-pub use wire::{Wire, WireFault};
+pub use wire::{Wire, WireFault, count_failure};

@@ -2,12 +2,11 @@
 
 ghost use Rattle.std.specs.Prelude.{◌≡◌, ◌≤◌, length, take, Some, IfOk};
 ghost use Rattle.srm_wire.specs.Networks.{copies_at, new_wire_of};
-ghost use Rattle.srm_wire.specs.Wires.{RoseOrFull, one_more};
 
 use crate::fates::{Fate, coming};
 use crate::inboxes::Network;
 use crate::sent::{Sent, copy_of};
-use crate::wire::{Wire, WireFault};
+use crate::wire::{Wire, WireFault, count_failure};
 use srm_names::{Items, Member};
 use std::alloc::{AllocError, Global};
 use std::marker::Model;
@@ -67,19 +66,19 @@ impl<R: Wait + Drop> Wire for MemWire<R> {
     #[tactic(auto, using(crate::proofs::Fating::puts_more, crate::proofs::Fating::comes_more))]
     fn send(&mut self, to: Member, datagram: &[u8]) -> Result<(), WireFault> {
         let Ok(sent) = copy_of(self.alloc, to, datagram) else {
-            return Err(fail(&mut self.failures));
+            return Err(count_failure(&mut self.failures));
         };
         let Ok(mut numbers) = coming(self.alloc, self.fates.as_slice(), self.went.len()) else {
-            return Err(fail(&mut self.failures));
+            return Err(count_failure(&mut self.failures));
         };
         let Ok(copies) = copies_of(self.alloc, self.went.as_slice(), &sent, &numbers) else {
-            return Err(fail(&mut self.failures));
+            return Err(count_failure(&mut self.failures));
         };
         if self.went.reserve(1).is_err() || self.put.reserve(numbers.len()).is_err() {
-            return Err(fail(&mut self.failures));
+            return Err(count_failure(&mut self.failures));
         }
         if self.network.lock(&self.rt).put(copies).is_err() {
-            return Err(fail(&mut self.failures));
+            return Err(count_failure(&mut self.failures));
         }
         let _ = self.went.push(sent);
         let _ = self.put.append(&mut numbers);
@@ -88,7 +87,7 @@ impl<R: Wait + Drop> Wire for MemWire<R> {
 
     fn receive(&mut self, buffer: &mut [u8]) -> Result<Option<usize>, WireFault> {
         if self.came.reserve(1).is_err() {
-            return Err(fail(&mut self.failures));
+            return Err(count_failure(&mut self.failures));
         }
         let Some(bytes) = self.network.lock(&self.rt).take(self.me) else {
             let _ = self.came.push(None);
@@ -130,16 +129,6 @@ impl<R: Wait + Drop> MemWire<R> {
             put: Vec::new(alloc),
         }
     }
-}
-
-// Counts a failure.
-fn fail(failures: &mut u64) -> WireFault
-    ensures { (failures.new ≡ one_more failures.old) × (failures.old ≤ failures.new) × RoseOrFull failures.old failures.new }
-{
-    if *failures < u64::MAX {
-        *failures += 1;
-    }
-    WireFault
 }
 
 // Copies of those with these numbers, of what was sent before and then the last.

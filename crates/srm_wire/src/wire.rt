@@ -1,8 +1,8 @@
 //! What carries datagrams between members.
 
-ghost use Rattle.std.specs.Prelude.{◌≡◌, ◌≤◌, ℕ, Bool, List, [], length, Option, IfOk, IfSome, is_err};
+ghost use Rattle.std.specs.Prelude.{◌≡◌, ◌≤◌, ℕ, Bool, true, List, [], length, Option, IfOk, IfSome, is_err};
 ghost use Rattle.srm_wire.specs.declared.sent.Sent.{Sent};
-ghost use Rattle.srm_wire.specs.Wires.{Told, TellsMore, CountsFailure, answered, bytes_to, sent_by};
+ghost use Rattle.srm_wire.specs.Wires.{Told, TellsMore, CountsIf, answered, bytes_to, one_more, sent_by};
 
 use srm_names::Member;
 use thiserror::Error;
@@ -11,6 +11,17 @@ use thiserror::Error;
 #[derive(Clone, Copy, Debug, PartialEq, Eq, Error)]
 #[error("the wire failed")]
 pub struct WireFault;
+
+/// Counts a failure, up to the greatest u64.
+pub fn count_failure(failures: &mut u64) -> WireFault
+    ensures one { failures.new ≡ one_more failures.old }
+    ensures counted { CountsIf true failures.old failures.new }
+{
+    if *failures < u64::MAX {
+        *failures += 1;
+    }
+    WireFault
+}
 
 /// What carries datagrams between members. Each failure of `send` or `receive` raises its count, up to the greatest u64, and nothing
 /// lowers it.
@@ -30,14 +41,14 @@ pub trait Wire {
 
     /// Sends bytes to a member.
     fn send(&mut self, to: Member, datagram: &[u8]) -> Result<(), WireFault>
-        ensures failures { CountsFailure result (failed self.old) (failed self.new) }
+        ensures failures { CountsIf (is_err result) (failed self.old) (failed self.new) }
         ensures tells { TellsMore [] (sent_by to datagram.now result) (told self.old) (told self.new) }
         ensures sends { sends self.old (bytes_to to datagram.now) (is_err result) self.new };
 
     /// Receives a datagram into the buffer, of which it fills so many bytes. None where none is there.
     fn receive(&mut self, buffer: &mut [u8]) -> Result<Option<usize>, WireFault>
         ensures within { IfOk result (λ some. IfSome some (λ count. count ≤ length buffer.new)) }
-        ensures failures { CountsFailure result (failed self.old) (failed self.new) }
+        ensures failures { CountsIf (is_err result) (failed self.old) (failed self.new) }
         ensures tells { TellsMore (answered buffer.new result) [] (told self.old) (told self.new) }
         ensures receives { receives self.old (length buffer.new) (answered buffer.new result) self.new };
 

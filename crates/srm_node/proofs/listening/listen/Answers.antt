@@ -19,7 +19,7 @@ pub loop-count-preserved : goal.loop-count-preserved
 loop-count-preserved g c = record {
   lawful = c.in-Ok.ensures.lawful;
   words = waits_on g.W.Words.draw _ c.loop-count.recorder _ c.loop-count.invariant.words (waits_heard g.W.Words.draw c.args.now _ c.loop-count.recorder _ _ c.in-Ok.ensures.records c.in-Ok.ensures.words);
-  counts = omega (arith, c.loop-count.invariant.counts, c.in-Ok-Some.ensures.failures);
+  counts = omega (arith, c.loop-count.invariant.counts, c.in-Ok-Some.ensures.failures.0);
   listens = listens_more c.args.now c.loop-count.count _ _ c.loop-count.recorder.journal _ _ _ _ _ c.loop-count.invariant.listens c.in-Ok.ensures.records (rw c.in-Ok-Some.field-0-is at c.in-Ok-Some.ensures.tells);
 }
 
