@@ -28,5 +28,5 @@ mod table;
 
 pub use fault::StoreFault;
 pub use finals::row_number;
-pub use insert::Insert;
+pub use insert::{Insert, same_drawop};
 pub use store::Store;

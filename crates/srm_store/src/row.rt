@@ -7,7 +7,7 @@ ghost use Rattle.srm_store.specs.Places.{place_at, has_place, FilledTo};
 ghost use Rattle.srm_store.specs.Held.{insert_answer, names_after};
 ghost use Rattle.srm_store.specs.Rows.{blank_row, row_unheld, SameRow, RowStillHas, RowGains};
 
-use crate::insert::Insert;
+use crate::insert::{Insert, same_drawop};
 use crate::places::Places;
 use srm_names::{DRAWOPS, Drawop, Name, Stream};
 use std::alloc::{AllocError, Global};
@@ -150,7 +150,7 @@ impl StreamPlaces {
 fn compare(drawop: &Drawop, held: &Drawop) -> Insert
     ensures { result ≡ insert_answer drawop.now (Some held.now) }
 {
-    if drawop.stamp == held.stamp && drawop.body == held.body {
+    if same_drawop(drawop, held) {
         Insert::Known
     } else {
         Insert::Conflict

@@ -3,7 +3,6 @@
 ghost use Rattle.std.specs.Prelude.{◌≡◌, ◌||◌, ◌&&◌, ◌==◌, nat_lt, nat_le, ℕ, List, [], ◌∷◌, Some, None, false};
 ghost use Rattle.std.specs.List.{list_any};
 ghost use Rattle.srm_codec.specs.Spelling.{sender_of, names_in};
-ghost use Rattle.srm_store.specs.Held.{same_drawop};
 ghost use Rattle.srm_store.specs.Finals.{row_number};
 ghost use Rattle.srm_entries.specs.Configs.{Config as Settings};
 ghost use Rattle.srm_entries.specs.declared.entry.Entry.{Entry as AnEntry};
@@ -19,7 +18,7 @@ use super::Agent;
 use srm_codec::Datagram;
 use srm_entries::Cause;
 use srm_names::{Drawop, Member, Name, Stream};
-use srm_store::row_number;
+use srm_store::{row_number, same_drawop};
 use srm_timers::Words;
 
 /// What was found of a datagram: for each cause whether it holds.
@@ -182,17 +181,10 @@ impl<W: Words + Drop> Agent<W> {
         ensures { (c : Settings) (made : ℕ) (past : List AnEntry) → Fits c made past self.now → result ≡ differs drawop.now (held_at past drawop.now.name) }
     {
         match self.store.get(drawop.name) {
-            Some(held) => !is_same(drawop, held),
+            Some(held) => !same_drawop(drawop, held),
             None => false,
         }
     }
-}
-
-/// Whether two drawops of a name have the same stamp and body.
-fn is_same(drawop: &Drawop, other: &Drawop) -> bool
-    ensures { result ≡ same_drawop drawop.now other.now }
-{
-    drawop.stamp == other.stamp && drawop.body == other.body
 }
 
 /// Whether the source of one of the names isn't below this number.
