@@ -14,12 +14,11 @@ use Rattle.srm_timers.specs.declared.arm.ArmKind.{ArmKind}
 use Rattle.srm_timers.specs.declared.arm.ArmKind.TheVariants.{Ask, Fix}
 use Rattle.srm_entries.specs.Entries.{accepted, ticked, state, is_gone, is_held, is_missing}
 use Rattle.srm_timers.specs.declared.arm.Armed.{Armed}
-use Rattle.srm_timers.specs.declared.limits.TheConstants.{HOLD_OFF}
 use Rattle.srm_timers.specs.Arms as timers
 use Rattle.srm_timers.specs.Arms.{ArmsAre, same_kind, ran_out, WaitBasis, next_exponent, backs_off}
 use Rattle.srm_timers.specs.Timers.{armed_at}
 use Rattle.srm_timers.specs.AskCalls.{ask_basis}
-use Rattle.srm_timers.specs.FixCalls.{fix_basis}
+use Rattle.srm_timers.specs.FixCalls.{fix_basis, held_until}
 use Rattle.srm_entries.specs.Distances.{distance}
 
 abbrev pub arm_in : ArmKind → FullName → Entry → Option Armed
@@ -64,7 +63,7 @@ first_asker es n = unwrap_or (first_of (asker n) es) n.stream.source
 -- a repair holds the name off for three distances to the member that asked first, as both were known at that entry
 abbrev pub holds_off : ℕ → FullName → ℕ → Step Entry → Bool
 holds_off me n now s =
-    repaired n s.this && nat_lt now (s.this.moment + HOLD_OFF * distance (s.before ++ s.this ∷ []) me (first_asker s.before n))
+    repaired n s.this && nat_lt now (held_until s.this.moment (distance (s.before ++ s.this ∷ []) me (first_asker s.before n)))
 
 abbrev pub held_off : ℕ → List Entry → FullName → ℕ → Bool
 held_off me es n now = list_any (holds_off me n now) (steps es)

@@ -9,6 +9,7 @@ use Rattle.srm_timers.specs.declared.arm.ArmKind.TheVariants.{Ask}
 use Rattle.srm_deadlines.specs.declared.by_name.NamedValue.{NamedValue}
 use Rattle.srm_timers.specs.declared.limits.TheConstants.{GREATEST_TIMER_SETTING}
 use Rattle.srm_timers.specs.Arms.{WaitBasis, Plan, ArmsAre, RunsOutFirst, runs_out_at, ran_out, next_exponent, backs_off}
+use Rattle.srm_timers.specs.Timers.{armed_at}
 use Rattle.srm_timers.specs.Distances.{distance_to}
 use Rattle.srm_timers.specs.Ends.{EndContent, HaveRoom, KeepsRoom}
 use Rattle.srm_deadlines.specs.Places.{value_at, has_place}
@@ -33,7 +34,7 @@ pub data AskCall : Type 0 where
 
 -- what the call says of the name's timer: that it runs, that it is gone, or nothing
 abbrev pub timer_after : FullName → AskCall → Option (Option Armed)
-timer_after n (Set now arm) = if same_name n arm.name then Some (Some (record { set = now; arm = arm })) else None
+timer_after n (Set now arm) = if same_name n arm.name then Some (Some (armed_at now arm)) else None
 timer_after n (Gained name) = if same_name n name then Some None else None
 
 abbrev pub flat : {X : Type 0} → Option (Option X) → Option X

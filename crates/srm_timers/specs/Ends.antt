@@ -1,5 +1,5 @@
 -- The moments at which timers run out, and room to set several in one call.
-use Rattle.std.specs.Prelude.{◌≡◌, ℕ, ◌+◌, ◌≤◌, true, List, map, length, Option, option_map}
+use Rattle.std.specs.Prelude.{◌≡◌, ℕ, ◌≤◌, true, List, map, length, Option, option_map}
 use Rattle.std.specs.List.{AllByRecursion}
 use Rattle.srm_names.specs.FullName.{FullName}
 use Rattle.srm_names.specs.Histories.{or_else}
@@ -8,7 +8,8 @@ use Rattle.srm_timers.specs.declared.arm.Arm.{Arm}
 use Rattle.srm_deadlines.specs.declared.timed.Timed.{Timed}
 use Rattle.srm_deadlines.specs.declared.by_name.NamedValue.{NamedValue}
 use Rattle.srm_timers.specs.declared.limits.TheConstants.{LONGEST_WAIT}
-use Rattle.srm_timers.specs.Arms.{arm_of}
+use Rattle.srm_timers.specs.Arms.{arm_of, runs_out_at}
+use Rattle.srm_timers.specs.Timers.{armed_at}
 use Rattle.srm_deadlines.specs.Places.{value_at, has_place}
 
 -- what an Ends keeps
@@ -18,7 +19,7 @@ pub record EndContent : Type 0 where
   pub room : ℕ
 
 abbrev pub arm_end : ℕ → Arm → ℕ
-arm_end now a = now + a.wait
+arm_end now a = runs_out_at (armed_at now a)
 
 -- the end of an arm that is set at a moment
 abbrev pub timed_at : ℕ → Arm → Timed

@@ -12,6 +12,7 @@ use Rattle.srm_deadlines.specs.declared.by_name.NamedValue.{NamedValue}
 use Rattle.srm_timers.specs.declared.limits.TheConstants.{HOLD_OFF, GREATEST_TIMER_SETTING}
 use Rattle.srm_timers.specs.Arms.{WaitBasis, Plan, RunsOutFirst, plan_of, runs_out_at, ran_out}
 use Rattle.srm_timers.specs.AskCalls.{flat}
+use Rattle.srm_timers.specs.Timers.{armed_at}
 use Rattle.srm_timers.specs.Distances.{distance_to}
 use Rattle.srm_timers.specs.Ends.{EndContent, HaveRoom, KeepsRoom}
 use Rattle.srm_deadlines.specs.Places.{value_at, has_place}
@@ -47,7 +48,7 @@ first_asker calls n = unwrap_or (asked_first calls n) n.stream.source
 
 abbrev pub ran_by : FullName → FixCall → Option (Option Armed)
 ran_by n (Asked name from) = None
-ran_by n (SetFix now arm) = if same_name n arm.name then Some (Some (record { set = now; arm = arm })) else None
+ran_by n (SetFix now arm) = if same_name n arm.name then Some (Some (armed_at now arm)) else None
 ran_by n (Repaired name until) = if same_name n name then Some None else None
 
 -- the repair timer that runs
@@ -71,9 +72,12 @@ is_free calls n now = not (is_some (fix_timer calls n)) && not (is_off calls n n
 abbrev pub sets_fix : ℕ → List Arm → List FixCall
 sets_fix now arms = map (SetFix now) arms
 
--- until when a repair at a moment holds the name off: for three distances to the one who asked for it first
+-- until when a repair at a moment holds a name off, over the distance to the one who asked for it first
+abbrev pub held_until : ℕ → ℕ → ℕ
+held_until now distance = now + HOLD_OFF * distance
+
 abbrev pub hold_end : ℕ → List ℕ → List FixCall → FullName → ℕ
-hold_end now dist calls n = now + HOLD_OFF * distance_to dist (first_asker calls n)
+hold_end now dist calls n = held_until now (distance_to dist (first_asker calls n))
 
 abbrev pub repair_by : ℕ → List ℕ → List FixCall → FullName → FixCall
 repair_by now dist calls n = Repaired n (hold_end now dist calls n)
@@ -96,7 +100,7 @@ abbrev pub is_held_off : List (NamedValue ℕ) → FullName → ℕ → Bool
 is_held_off held_off n now = nat_lt now (unwrap_or (value_at held_off n) 0)
 
 abbrev pub held_off_until : ℕ → List ℕ → List (NamedValue ℕ) → FullName → ℕ
-held_off_until now dist askers n = now + HOLD_OFF * distance_to dist (asker_at askers n)
+held_off_until now dist askers n = held_until now (distance_to dist (asker_at askers n))
 
 pub record FixFits (d1 d2 : ℕ) (calls : List FixCall) (a : FixContent) : Type 0 where
   pub d1_is : a.d1 ≡ d1

@@ -1,10 +1,10 @@
 //! When a member answers others.
 
-ghost use Rattle.std.specs.Prelude.{◌≡◌, ◌≤◌, ◌+◌, ◌*◌, List, [], ◌∷◌, true, not, ◌&&◌, option_to_list, vec_capacity, IfOk, OnOk, OnErr, IsOk, IfSome};
+ghost use Rattle.std.specs.Prelude.{◌≡◌, ◌≤◌, ◌+◌, List, [], ◌∷◌, true, not, ◌&&◌, option_to_list, vec_capacity, IfOk, OnOk, OnErr, IsOk, IfSome};
 ghost use Rattle.srm_names.specs.FullName.{FullName};
 ghost use Rattle.srm_names.specs.Names.{ascending, name_below};
 ghost use Rattle.srm_timers.specs.Arms.{plan_of, arm_names, low_of, high_of, AreChosen, IsFix, AreFixes, wait_basis};
-ghost use Rattle.srm_timers.specs.FixCalls.{Asked, Repaired, sets_fix, fix_plan, FixFits, FixAdds, FixRepairs, FixDue, FixNext, FixIsFree, FixFirstAsker, FixAnswers, FixStays, FixPlace, FixPlaces, FixReady, FixKeepsRoom, fix_basis};
+ghost use Rattle.srm_timers.specs.FixCalls.{Asked, Repaired, sets_fix, fix_plan, FixFits, FixAdds, FixRepairs, FixDue, FixNext, FixIsFree, FixFirstAsker, FixAnswers, FixStays, FixPlace, FixPlaces, FixReady, FixKeepsRoom, fix_basis, held_until};
 ghost use Rattle.srm_deadlines.specs.Deadlines.{DueAmong, DueFit};
 ghost use Rattle.srm_timers.specs.Distances.{distance_to, AreDistances};
 ghost use Rattle.srm_timers.specs.Ends.{HaveRoom, AreShort};
@@ -13,7 +13,7 @@ ghost use Rattle.srm_deadlines.specs.Places.{HasPlaces, KeepsValues};
 use crate::arm::{Arm, ArmKind};
 use crate::distance::distance_in;
 use crate::ends::Expiries;
-use crate::limits::{GREATEST_TIMER_SETTING, HOLD_OFF, LONGEST_WAIT};
+use crate::limits::{GREATEST_TIMER_SETTING, LONGEST_WAIT};
 use crate::marks::Marks;
 use crate::wait::choose_wait;
 use crate::words::Words;
@@ -346,7 +346,7 @@ impl<D: Deadlines> Fixes<D> {
         requires place { FixPlace self.old name }
         requires distance { distance ≤ LONGEST_DISTANCE }
         requires now { now ≤ LATEST_MOMENT }
-        ensures fits { FixAdds (Repaired name (now + HOLD_OFF * distance) ∷ []) self.old self.new }
+        ensures fits { FixAdds (Repaired name (held_until now distance) ∷ []) self.old self.new }
         ensures held { FixKeepsRoom self.old self.new }
     {
         self.ends.clear(name);

@@ -4,7 +4,7 @@ ghost use Rattle.std.specs.Prelude.{◌≡◌, ◌≤◌, ◌<◌, ◌+◌, ◌*
 ghost use Rattle.srm_names.specs.declared.limits.TheConstants.{MEMBERS};
 ghost use Rattle.srm_deadlines.specs.Places.{value_at, has_place, KeepsPlaces, HasPlaces, KeepsValues};
 ghost use Rattle.srm_timers.specs.Distances.{AreDistances};
-ghost use Rattle.srm_timers.specs.FixCalls.{HoldsOff, HoldAllOff, asker_at, held_off_until};
+ghost use Rattle.srm_timers.specs.FixCalls.{HoldsOff, HoldAllOff, asker_at, held_off_until, held_until};
 ghost use Rattle.srm_timers.specs.Marks.{HaveMarks, MarksKeepPlaces, NotesAsker, OffAsBefore};
 
 use crate::distance::distance_in;
@@ -108,7 +108,7 @@ impl Marks {
         requires place { has_place self.old.held_off name ≡ true }
         requires distance { distance ≤ LONGEST_DISTANCE }
         requires now { now ≤ LATEST_MOMENT }
-        ensures off { HoldsOff name (now + HOLD_OFF * distance) self.old.held_off self.new.held_off }
+        ensures off { HoldsOff name (held_until now distance) self.old.held_off self.new.held_off }
         ensures askers { KeepsValues self.old.askers self.new.askers }
         ensures held { MarksKeepPlaces self.old self.new }
     {
