@@ -8,7 +8,7 @@ use Rattle.srm_names.specs.declared.drawop.Drawop.{Drawop}
 use Rattle.srm_names.specs.declared.echo.Echo.{Echo}
 use Rattle.srm_names.specs.FullName.{FullName}
 use Rattle.srm_names.specs.Names.{named, ascending, stream_below, echo_below}
-use Rattle.srm_codec.specs.declared.format.TheConstants.{PLAIN, PACKED, DATA, REQUEST, REPAIR, SESSION_MESSAGE, HEAD_BYTES, NAME_BYTES, MASK_BYTES, DRAWOP_BYTES, REPORT_BYTES, ECHO_BYTES}
+use Rattle.srm_codec.specs.declared.format.TheConstants.{PLAIN, PACKED, DATA, REQUEST, REPAIR, SESSION_MESSAGE, HEAD_BYTES, NAME_BYTES, MASK_BYTES, MASK_BITS, DRAWOP_BYTES, REPORT_BYTES, ECHO_BYTES}
 use Rattle.srm_codec.specs.declared.datagram.Datagram.{Datagram}
 use Rattle.srm_codec.specs.declared.datagram.Datagram.TheVariants.{Data, Request, Repair, Session}
 
@@ -37,7 +37,7 @@ bits_set (suc k) mask = (if mask % 2 == 1 then 0 ∷ [] else []) ++ map (λ bit.
 
 -- the names that a request asks for, in order
 abbrev pub asked_by : FullName → ℕ → List FullName
-asked_by name mask = name ∷ map (λ bit. named name.stream (name.number + 1 + bit)) (bits_set 32 mask)
+asked_by name mask = name ∷ map (λ bit. named name.stream (name.number + 1 + bit)) (bits_set MASK_BITS mask)
 
 -- the names that a datagram names, in order
 abbrev pub names_in : Datagram → List FullName
@@ -77,7 +77,7 @@ pub record AreEchoes (echoes : List Echo) : Type 0 where
 
 abbrev pub IsSpellable : Datagram → Type 0
 IsSpellable (Data drawop) = is_drawop drawop
-IsSpellable (Request sender name mask) = (sender < MEMBERS) × (mask < 2 ^ 32) × AllByRecursion is_name (asked_by name mask)
+IsSpellable (Request sender name mask) = (sender < MEMBERS) × (mask < 2 ^ MASK_BITS) × AllByRecursion is_name (asked_by name mask)
 IsSpellable (Repair sender drawop) = (sender < MEMBERS) × is_drawop drawop
 IsSpellable (Session sender sent farewell shown rows echoes) =
     (sender < MEMBERS) × (sent ≤ LATEST_MOMENT) × is_page shown × AreRows farewell sender rows × AreEchoes echoes

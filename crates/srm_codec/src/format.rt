@@ -30,6 +30,9 @@ pub const NAME_BYTES: usize = 8;
 /// Bytes of a mask.
 pub const MASK_BYTES: usize = 4;
 
+/// Bits of a mask: of so many names above the first it says whether they are asked for.
+pub const MASK_BITS: u32 = 8 * MASK_BYTES as u32;
+
 /// Bytes of a drawop but its body: name, stamp and length.
 pub const DRAWOP_BYTES: usize = 18;
 

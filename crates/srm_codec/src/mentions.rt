@@ -5,6 +5,7 @@ ghost use Rattle.std.specs.List.{AllByRecursion};
 ghost use Rattle.srm_codec.specs.Spelling.{names_in, asked_by, is_name, IsSpellable};
 
 use crate::datagram::Datagram;
+use crate::format::MASK_BITS;
 use srm_names::Name;
 use std::alloc::{AllocError, Global};
 
@@ -45,7 +46,7 @@ fn asked_names(alloc: Global, name: Name, mask: u32) -> Result<Vec<Name>, AllocE
 {
     let mut names = only(alloc, name)?;
     let mut rest = mask;
-    for bit in 0..u32::BITS {
+    for bit in 0..MASK_BITS {
         if rest % 2 == 1 {
             let stream = name.stream();
             let number = name.number() + 1 + bit;

@@ -2,12 +2,13 @@
 use Rattle.std.specs.Prelude.{ℕ, ◌+◌, ◌-◌, ◌^◌, nat_lt, nat_le, Bool, false, ◌&&◌, List, [], ◌∷◌, map, filter, sum, if◌then◌else◌, Option, Some, None}
 use Rattle.srm_names.specs.FullName.{FullName}
 use Rattle.srm_names.specs.Names.{same_stream}
+use Rattle.srm_codec.specs.declared.format.TheConstants.{MASK_BITS}
 use Rattle.srm_codec.specs.declared.datagram.Datagram.{Datagram}
 use Rattle.srm_codec.specs.declared.datagram.Datagram.TheVariants.{Request}
 
 -- the ask is named by a request that begins at this one
 abbrev pub is_covered : FullName → FullName → Bool
-is_covered first n = same_stream first.stream n.stream && nat_lt first.number n.number && nat_le n.number (first.number + 32)
+is_covered first n = same_stream first.stream n.stream && nat_lt first.number n.number && nat_le n.number (first.number + MASK_BITS)
 
 abbrev pub is_covered_by : Option FullName → FullName → Bool
 is_covered_by None n = false

@@ -9,13 +9,10 @@ ghost use Rattle.srm_codec.specs.Spelling.{IsSpellable, is_name};
 ghost use Rattle.srm_outbox.specs.Answering.{IsAnswerOf};
 ghost use Rattle.srm_entries.specs.Packing.{is_covered, is_covered_by, mask_of, packed};
 
-use srm_codec::Datagram;
+use srm_codec::{Datagram, MASK_BITS};
 use srm_names::{Member, Name};
 use std::alloc::{AllocError, Global};
 use std::collections::VecDeque;
-
-/// How far above the name at which it begins a request may name others.
-const REACH: u32 = 32;
 
 /// The requests of a member for these names, in order: each begins at the first name that the one before it doesn't cover,
 /// and names those that it covers. Only want of memory refuses it.
@@ -55,7 +52,7 @@ fn is_covered(first: Name, name: Name) -> bool
 {
     first.stream() == name.stream()
         && first.number() < name.number()
-        && name.number() <= first.number() + REACH
+        && name.number() <= first.number() + MASK_BITS
 }
 
 /// The request that begins at a name, with the names behind it.
