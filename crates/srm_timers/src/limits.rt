@@ -1,5 +1,7 @@
 //! The ranges of what timers are set from.
 
+use srm_names::LONGEST_DISTANCE;
+
 /// The largest of the four timer settings of a session. A setting says how many distances an end of an interval lies away.
 pub const GREATEST_TIMER_SETTING: u8 = 16;
 
@@ -10,4 +12,7 @@ pub const GREATEST_EXPONENT: u8 = 8;
 pub const HOLD_OFF: u64 = 3;
 
 /// The longest wait, in microseconds: both settings the largest, the exponent too, over the longest distance.
-pub const LONGEST_WAIT: u64 = 81_920_000_000;
+pub const LONGEST_WAIT: u64 = (1 << GREATEST_EXPONENT)
+    * 2
+    * GREATEST_TIMER_SETTING as u64
+    * LONGEST_DISTANCE;

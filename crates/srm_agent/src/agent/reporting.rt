@@ -18,7 +18,7 @@ use super::Agent;
 use srm_agent_state::{member, page_in_range, stream_in_range};
 use srm_codec::{Datagram, ECHO_BYTES, HEAD_BYTES, NAME_BYTES, REPORT_BYTES, length};
 use srm_entries::{SECOND, SESSION_SHARE, SHORTEST_INTERVAL};
-use srm_names::{Echo, Items, Member, Name, Page, Stream};
+use srm_names::{Echo, Items, MEMBERS, Member, Name, Page, Stream};
 use srm_outbox::Outgoing;
 use srm_timers::Words;
 use std::alloc::{AllocError, Global};
@@ -27,7 +27,7 @@ use std::alloc::{AllocError, Global};
 const LONGEST_REPORT: usize = HEAD_BYTES + REPORT_BYTES + 255 * (NAME_BYTES + ECHO_BYTES);
 
 /// No pause is longer, in microseconds: that of 32 members at one byte a second.
-pub const LONGEST_INTERVAL: u64 = 4_094_720_000_000;
+pub const LONGEST_INTERVAL: u64 = SESSION_SHARE * MEMBERS as u64 * LONGEST_REPORT as u64 * SECOND;
 
 impl<W: Words + Drop> Agent<W> {
     /// The session message, or the farewell, that this member sends at a moment, in microseconds. Only want of memory
