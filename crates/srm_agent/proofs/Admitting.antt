@@ -4,7 +4,7 @@ use Rattle.std.specs.Prelude.{Option, Some, None, IfSome, nat_le}
 use Rattle.std.proofs.lemmas.Bool.Decides.{nat_tests}
 use Rattle.srm_bucket.specs.declared.class.Class.TheVariants.{New}
 use Rattle.srm_bucket.specs.Ticks.{last_moment as last_of_calls}
-use Rattle.srm_bucket.specs.Admitting.{admits, is_from, Admits, AdmitsFrom}
+use Rattle.srm_bucket.specs.Admitting.{admits, Admits, AdmitsFrom}
 use Rattle.srm_bucket.specs.Law.{BucketLaw}
 use Rattle.srm_bucket.proofs.AdmittingRead.{admits-read}
 use Rattle.srm_bucket.proofs.Mapping.{law-read}

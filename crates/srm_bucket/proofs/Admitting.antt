@@ -16,7 +16,8 @@ use Rattle.srm_bucket.specs.Waiting.{Waiting, queue}
 use Rattle.srm_bucket.specs.Content.{Content}
 use Rattle.srm_bucket.specs.Fits.{Fits}
 use Rattle.srm_bucket.specs.Paying.{rest_after}
-use Rattle.srm_bucket.specs.Admitting.{ahead_of, cost_of_all, is_paid, admits, is_from, IsAdmittedFrom, Admits, AdmitsFrom}
+use Rattle.srm_names.specs.Moments.{has_come}
+use Rattle.srm_bucket.specs.Admitting.{ahead_of, cost_of_all, is_paid, admits, IsAdmittedFrom, Admits, AdmitsFrom}
 use Rattle.srm_bucket.proofs.Going.{left-is, refilled-is}
 use Rattle.srm_bucket.proofs.Paying.{rest-covers, rest-short}
 
@@ -94,7 +95,7 @@ admits_short b class bytes now some e =
 
 -- the first moment
 abbrev KeptFrom : {T : Type 0} → Content T → Class → ℕ → Option ℕ → Type 0
-KeptFrom b class bytes first = (now : ℕ) → b.tokens.last ≤ now → is_paid (ahead_in class b) bytes (refilled now b.tokens).level ≡ is_from first now
+KeptFrom b class bytes first = (now : ℕ) → b.tokens.last ≤ now → is_paid (ahead_in class b) bytes (refilled now b.tokens).level ≡ has_come now first
 
 from : {T : Type 0} (b : Content T) (class : Class) (bytes : ℕ) (first : Option ℕ) → IfSome first (λ t. b.tokens.last ≤ t) → KeptFrom b class bytes first → AdmitsFrom class bytes b first
 from b class bytes first low kept = record {

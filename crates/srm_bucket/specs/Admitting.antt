@@ -1,5 +1,6 @@
 -- Whether a bucket admits one more item: whether it would go at once, behind all that goes before it.
-use Rattle.std.specs.Prelude.{ℕ, ◌+◌, ◌≤◌, ◌≡◌, nat_le, Bool, true, false, ◌||◌, List, [], ◌∷◌, ◌++◌, length, ◌==◌, Option, Some, None, IfSome}
+use Rattle.std.specs.Prelude.{ℕ, ◌+◌, ◌≤◌, ◌≡◌, nat_le, Bool, true, ◌||◌, List, [], ◌∷◌, ◌++◌, length, ◌==◌, Option, IfSome}
+use Rattle.srm_names.specs.Moments.{has_come}
 use Rattle.srm_bucket.specs.declared.class.Class.{Class}
 use Rattle.srm_bucket.specs.declared.class.Class.TheVariants.{Shown, New, Other}
 use Rattle.srm_bucket.specs.declared.item.Item.{Item}
@@ -30,16 +31,11 @@ is_paid ahead bytes tokens = (length ahead == 0) || nat_le (cost_of_all ahead + 
 abbrev pub admits : {T : Type 0} → (rate depth : ℕ) → List (Call T) → Class → (bytes now : ℕ) → Bool
 admits rate depth calls class bytes now = is_paid (ahead_of class (queued calls)) bytes (level_at rate depth calls now)
 
--- whether a moment is at or after the first, if there is one
-abbrev pub is_from : Option ℕ → ℕ → Bool
-is_from None now = false
-is_from (Some first) now = nat_le first now
-
 -- The first moment, from the last one on, at which the item is admitted, where nothing else is handed in or goes: it is admitted from
 -- then on and not before, and never where there is no such moment.
 pub record IsAdmittedFrom {T : Type 0} (rate depth : ℕ) (calls : List (Call T)) (class : Class) (bytes : ℕ) (first : Option ℕ) : Type 0 where
   pub not_before : IfSome first (λ t. last_moment calls ≤ t)
-  pub exactly : (now : ℕ) → last_moment calls ≤ now → admits rate depth calls class bytes now ≡ is_from first now
+  pub exactly : (now : ℕ) → last_moment calls ≤ now → admits rate depth calls class bytes now ≡ has_come now first
 
 -- what a bucket answers, over all calls that it fits
 pub record Admits {T : Type 0} (class : Class) (bytes now : ℕ) (b : Content T) (answer : Bool) : Type 0 where

@@ -12,7 +12,8 @@ use Rattle.srm_names.proofs.Same.{same_name-is}
 use Rattle.srm_deadlines.specs.declared.by_name.NamedValue.{NamedValue}
 use Rattle.srm_deadlines.specs.declared.timed.Timed.{Timed}
 use Rattle.srm_deadlines.specs.Places.{is_timed, is_at, names_of, has_place, value_at}
-use Rattle.srm_deadlines.specs.Deadlines.{has_come, DueAmong, DueFit}
+use Rattle.srm_names.specs.Moments.{has_come}
+use Rattle.srm_deadlines.specs.Deadlines.{DueAmong, DueFit}
 use Rattle.srm_deadlines.specs.Agenda.{of_name, is_due, PairsFit}
 use Rattle.srm_deadlines.proofs.Agendas.{there_is_room, none_among, rising_once, short_of}
 use Rattle.srm_deadlines.proofs.Dues.{front_passes, any_both, among_names, names_counted, fewer}

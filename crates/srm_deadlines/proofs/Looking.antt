@@ -7,7 +7,7 @@ use Rattle.srm_names.specs.FullName.{FullName}
 use Rattle.srm_names.specs.Names.{same_name, name_below, ascending, among, AreExactly}
 use Rattle.srm_names.proofs.Same.{same_name-is}
 use Rattle.srm_deadlines.specs.declared.by_name.NamedValue.{NamedValue}
-use Rattle.srm_deadlines.specs.Deadlines.{has_come}
+use Rattle.srm_names.specs.Moments.{has_come}
 use Rattle.srm_deadlines.specs.Least.{lesser}
 use Rattle.srm_deadlines.specs.Places.{is_at, value_in, value_at, IsLeast}
 use Rattle.srm_deadlines.specs.Rows.{IsUnder}

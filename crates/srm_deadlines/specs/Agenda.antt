@@ -1,5 +1,5 @@
 -- Moments in order.
-use Rattle.std.specs.Prelude.{◌≡◌, ℕ, ◌≤◌, nat_le, Bool, true, List, [], ◌∷◌, filter, find, length, Option, Some, None}
+use Rattle.std.specs.Prelude.{◌≡◌, ℕ, ◌≤◌, Bool, true, List, [], ◌∷◌, filter, find, length, Option, Some, None}
 use Rattle.std.specs.List.{list_any}
 use Rattle.std.specs.declared.cmp.Ordering.{Ordering}
 use Rattle.std.specs.Ordering.{ordering_then, nat_cmp}
@@ -7,6 +7,7 @@ use Rattle.srm_names.specs.declared.page.Page.{Page}
 use Rattle.srm_names.specs.declared.stream.Stream.{Stream}
 use Rattle.srm_names.specs.FullName.{FullName}
 use Rattle.srm_names.specs.Names.{among}
+use Rattle.srm_names.specs.Moments.{has_come}
 use Rattle.srm_deadlines.specs.declared.by_name.NamedValue.{NamedValue}
 use Rattle.srm_deadlines.specs.declared.timed.Timed.{Timed}
 use Rattle.srm_deadlines.specs.Places.{is_timed, value_at}
@@ -46,7 +47,7 @@ abbrev pub timed_among : List Timed → FullName → List Timed → List Timed
 timed_among moments n before = timed_or (find (is_timed n) moments) before
 
 abbrev pub is_due : ℕ → Timed → Bool
-is_due now t = nat_le t.moment now
+is_due now t = has_come now (Some t.moment)
 
 -- what is due there are at most so many names
 pub record PairsFit (now : ℕ) (pairs : List Timed) (room : ℕ) : Type 0 where

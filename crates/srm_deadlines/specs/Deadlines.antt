@@ -1,14 +1,10 @@
 -- Which deadlines are due.
-use Rattle.std.specs.Prelude.{◌≡◌, ℕ, ◌≤◌, nat_le, Bool, true, false, List, length, Option, Some, None}
+use Rattle.std.specs.Prelude.{◌≡◌, ℕ, ◌≤◌, true, List, length}
 use Rattle.srm_names.specs.FullName.{FullName}
 use Rattle.srm_names.specs.Names.{among}
+use Rattle.srm_names.specs.Moments.{has_come}
 use Rattle.srm_deadlines.specs.declared.by_name.NamedValue.{NamedValue}
 use Rattle.srm_deadlines.specs.Places.{value_at}
-
--- the moment has come
-abbrev pub has_come : ℕ → Option ℕ → Bool
-has_come now None = false
-has_come now (Some moment) = nat_le moment now
 
 -- whatever is due is among these names
 pub record DueAmong (now : ℕ) (places : List (NamedValue ℕ)) (names : List FullName) : Type 0 where

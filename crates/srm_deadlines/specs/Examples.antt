@@ -8,7 +8,8 @@ use Rattle.srm_names.specs.Names.{first_page, named, same_name}
 use Rattle.srm_deadlines.specs.declared.by_name.NamedValue.{NamedValue}
 use Rattle.srm_deadlines.specs.declared.timed.Timed.{Timed}
 use Rattle.srm_deadlines.specs.Agenda.{timed_order, of_name, timed_for, timed_among, is_due}
-use Rattle.srm_deadlines.specs.Deadlines.{has_come, DueAmong, DueFit}
+use Rattle.srm_names.specs.Moments.{has_come}
+use Rattle.srm_deadlines.specs.Deadlines.{DueAmong, DueFit}
 use Rattle.srm_deadlines.specs.Least.{lesser}
 use Rattle.srm_deadlines.specs.Rows.{item_at, values_of, due_in, IsUnder, IsLeastIn, IsFirstIn, AreLeasts, Stands}
 use Rattle.srm_deadlines.specs.Places.{value_in, value_at, has_place, moment_among, KeepsPlaces, GivesPlaces, KeepsValues, Sets, SetsAll, ClearsAll, HasPlaces, IsLeast, place_names}

@@ -3,7 +3,8 @@
 ghost use Rattle.std.specs.Prelude.{◌≡◌, ℕ, ◌≤◌, List, [], true, vec_capacity, OnOk, IsOk, Some, None};
 ghost use Rattle.srm_names.specs.Names.{AreExactly, ascending, name_below};
 ghost use Rattle.srm_deadlines.specs.declared.by_name.NamedValue.{NamedValue as APlace};
-ghost use Rattle.srm_deadlines.specs.Deadlines.{has_come, DueFit};
+ghost use Rattle.srm_names.specs.Moments.{has_come};
+ghost use Rattle.srm_deadlines.specs.Deadlines.{DueFit};
 ghost use Rattle.srm_deadlines.specs.Places.{value_at, has_place, names_of, KeepsPlaces, GivesPlaces, KeepsValues, Sets, SetsAll, ClearsAll, HasPlaces, IsLeast};
 
 use crate::timed::Timed;

@@ -3,14 +3,15 @@
 ghost use Rattle.std.specs.Prelude.{◌≡◌, ℕ, ◌≤◌, ◌||◌, [], Bool, true, false, length, vec_capacity, take, drop, IfSome, OnOk, OnErr, IsOk, IsNone, Option};
 ghost use Rattle.srm_names.specs.FullName.{FullName};
 ghost use Rattle.srm_names.specs.Names.{among, ascending, name_below, same_name, AreExactly};
-ghost use Rattle.srm_deadlines.specs.Deadlines.{has_come, DueFit};
+ghost use Rattle.srm_names.specs.Moments.{has_come};
+ghost use Rattle.srm_deadlines.specs.Deadlines.{DueFit};
 ghost use Rattle.srm_deadlines.specs.Least.{lesser};
 ghost use Rattle.srm_deadlines.specs.Places.{value_at};
 
 use crate::by_name::ByName;
 use crate::deadlines::Deadlines;
 use crate::timed::Timed;
-use srm_names::Name;
+use srm_names::{Name, has_come};
 use std::alloc::{AllocError, Global};
 use std::marker::Model;
 
@@ -48,7 +49,7 @@ impl Scanned {
         names.clear();
         for i in 0..self.moments.len() {
             let name = self.moments.place(i).name;
-            if come(self.moments.get(name), now) {
+            if has_come(self.moments.get(name), now) {
                 insert_in_order(names, name)?;
             }
         }
@@ -94,16 +95,6 @@ impl Deadlines for Scanned {
             least = lesser(least, self.moments.get(name));
         }
         least
-    }
-}
-
-/// Whether a moment has come.
-pub(crate) fn come(moment: Option<u64>, now: u64) -> bool
-    ensures { result ≡ has_come now moment }
-{
-    match moment {
-        Some(moment) => moment <= now,
-        None => false,
     }
 }
 

@@ -2,7 +2,8 @@
 use Rattle.std.specs.Prelude.{◌≡◌, ℕ, ◌+◌, ◌≤◌, min, max, Bool, List, Option, IfSome}
 use Rattle.srm_bucket.specs.declared.limits.TheConstants.{GREATEST_LENGTH}
 use Rattle.srm_bucket.specs.declared.class.Class.TheVariants.{New}
-use Rattle.srm_bucket.specs.Admitting.{admits, is_from}
+use Rattle.srm_names.specs.Moments.{has_come}
+use Rattle.srm_bucket.specs.Admitting.{admits}
 use Rattle.srm_codec.specs.declared.format.TheConstants.{HEAD_BYTES, DRAWOP_BYTES}
 use Rattle.srm_entries.specs.Configs.{Config}
 use Rattle.srm_entries.specs.declared.entry.Entry.{Entry}
@@ -28,4 +29,4 @@ pub record AdmitsDraw (c : Config) (made : ℕ) (es : List Entry) (body now : �
 pub record AdmitsDrawFrom (c : Config) (made : ℕ) (es : List Entry) (body : ℕ) (first : Option ℕ) : Type 0 where
   pub marked : BucketRight c es
   pub not_before : IfSome first (λ t. last_moment made es ≤ t)
-  pub exactly : (now : ℕ) → last_moment made es ≤ now → admits_draw c made marked.0 body now ≡ is_from first now
+  pub exactly : (now : ℕ) → last_moment made es ≤ now → admits_draw c made marked.0 body now ≡ has_come now first

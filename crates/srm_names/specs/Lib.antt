@@ -1,6 +1,7 @@
 pub mod FullName
 pub mod Histories
 pub mod Names
+pub mod Moments
 pub mod Between
 pub mod NameOrder
 pub mod PageFeeds

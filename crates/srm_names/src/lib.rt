@@ -19,6 +19,7 @@ mod echo;
 mod items;
 mod limits;
 mod member;
+mod moments;
 mod name;
 mod page;
 mod page_msg;
@@ -35,6 +36,7 @@ pub use limits::{
     VIEWERS, WELL_STROKES,
 };
 pub use member::Member;
+pub use moments::has_come;
 pub use name::{Name, names_are_in_order};
 pub use page::Page;
 pub use page_msg::PageMsg;

@@ -8,7 +8,7 @@ use Rattle.srm_node.specs.declared.fault.NodeFault.{NodeFault}
 use Rattle.srm_node.specs.declared.fault.NodeFault.TheVariants.{Wire, Memory, Turns}
 use Rattle.srm_node.specs.declared.fault.OutOfMemory.{OutOfMemory}
 use Rattle.srm_wire.specs.Wires.{CountsIf, RoseOrFull}
-use Rattle.srm_bucket.specs.Admitting.{is_from}
+use Rattle.srm_names.specs.Moments.{has_come}
 use Rattle.srm_node.specs.Parts.{is_to_leave, still_asked, Leaves}
 use Rattle.srm_node.specs.Nodes.{NodeView, has_ended}
 use Rattle.srm_node.specs.Turns.{HearsNow, DrawsNow, LeavesNow, TicksNow, GivesNow, HearsCut, DrawsCut, GivesCut, IsCut, Turned, TurnedDeaf, TurnEnds, Paused, RunsOf, Runs, RunEnds}
@@ -16,7 +16,7 @@ use Rattle.srm_wire.proofs.Telling.{counts_on}
 
 -- a node that leaves isn't to leave again, unless memory ran out
 pub leaves_now : (now : ℕ) (none_left pens_done is_due_now leaves ok : Bool) (n : NodeView) (k : Journal) (asked : Option ℕ) (r : Result (Unit {0}) OutOfMemory)
-    → is_due_now ≡ is_from n.asked now → leaves ≡ (none_left && (pens_done && is_due_now)) → ok ≡ is_ok r → asked ≡ still_asked (leaves && ok) n.asked → MatchResult r (λ _. Leaves now leaves n.journal k) (λ _. k ≡ n.journal)
+    → is_due_now ≡ has_come now n.asked → leaves ≡ (none_left && (pens_done && is_due_now)) → ok ≡ is_ok r → asked ≡ still_asked (leaves && ok) n.asked → MatchResult r (λ _. Leaves now leaves n.journal k) (λ _. k ≡ n.journal)
     → MatchResult r (λ _. LeavesNow now none_left n (record n { journal = k; asked = asked })) (λ _. record n { journal = k; asked = asked } ≡ n)
 leaves_now now none_left pens_done is_due_now leaves ok n k asked (Ok u) due is left still leave = record {
   pens_done = pens_done;

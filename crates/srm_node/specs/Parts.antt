@@ -5,7 +5,7 @@ use Rattle.std.specs.List.{AllByRecursion, list_any}
 use Rattle.srm_names.specs.declared.limits.TheConstants.{PAGES}
 use Rattle.srm_pages.specs.declared.stroke.Stroke.{Stroke}
 use Rattle.srm_pages.specs.Ends.{FeedView, WellView, credit_of}
-use Rattle.srm_bucket.specs.Admitting.{is_from}
+use Rattle.srm_names.specs.Moments.{has_come}
 use Rattle.srm_entries.specs.declared.entry.Entry.{Entry}
 use Rattle.srm_entries.specs.declared.entry.Input.{Input}
 use Rattle.srm_entries.specs.declared.entry.Input.TheVariants.{Gave, AskedLeave, Ticked}
@@ -128,7 +128,7 @@ pub record DrewStrokesCut (now : ℕ) (old new : Journal) (from to : WellView) (
 
 -- it leaves where no stroke is left, its pens are done, and it is to by now
 abbrev pub is_to_leave : (none_left pens_done : Bool) → Option ℕ → ℕ → Bool
-is_to_leave none_left pens_done asked now = none_left && (pens_done && is_from asked now)
+is_to_leave none_left pens_done asked now = none_left && (pens_done && has_come now asked)
 
 -- one that left isn't to leave again
 abbrev pub still_asked : Bool → Option ℕ → Option ℕ

@@ -1,8 +1,8 @@
 //! A member that takes part in a session.
 
-ghost use Rattle.std.specs.Prelude.{◌≡◌, ◌≤◌, true, false, [], Some, None, IfOk, MatchResult};
+ghost use Rattle.std.specs.Prelude.{◌≡◌, ◌≤◌, true, [], Some, None, IfOk, MatchResult};
 ghost use Rattle.srm_names.specs.declared.limits.TheConstants.{LATEST_MOMENT, PAGES};
-ghost use Rattle.srm_bucket.specs.Admitting.{is_from};
+ghost use Rattle.srm_names.specs.Moments.{has_come};
 ghost use Rattle.srm_node.specs.Counting.{counts_of};
 ghost use Rattle.srm_node.specs.Nodes.{NodeKeepsLists, AreNewFeeds, IsNewJournal, IsNewNode, has_ended, recorded_in};
 ghost use Rattle.srm_node.specs.Parts.{still_asked};
@@ -23,7 +23,7 @@ use crate::spare::{Spare, make_spare};
 use crate::ticking::{leave, tick};
 use srm_agent::{Config, Entry};
 use srm_deadlines::lesser;
-use srm_names::LATEST_MOMENT;
+use srm_names::{LATEST_MOMENT, has_come};
 use srm_pages::ends::Well;
 use srm_pages::{Feed, Stroke};
 use srm_timers::Words;
@@ -362,7 +362,7 @@ impl<W: Words + Drop, X: Wire + Drop, C: Clock + Drop, P: Past<Entry> + Drop> No
         ensures words { WaitsByWords W.draw (recorded_in self.old) (recorded_in self.new) }
         ensures clock { self.new.clock ≡ self.old.clock }
     {
-        let due = done & is_due(self.asked, now);
+        let due = done & has_come(self.asked, now);
         let leaves = none_left & due;
         let left = leave(&mut self.recorder, leaves, now);
         self.asked = still_asked(leaves & left.is_ok(), self.asked);
@@ -396,15 +396,6 @@ impl<W: Words + Drop, X: Wire + Drop, C: Clock + Drop, P: Past<Entry> + Drop> No
         ensures clock { self.new.clock ≡ self.old.clock }
     {
         give_all(rt, &mut self.recorder, &mut self.feeds, &mut self.closed)
-    }
-}
-
-fn is_due(asked: Option<u64>, now: u64) -> bool
-    ensures { result ≡ is_from asked now }
-{
-    match asked {
-        Some(at) => at <= now,
-        None => false,
     }
 }
 

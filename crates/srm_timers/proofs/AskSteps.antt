@@ -11,7 +11,7 @@ use Rattle.srm_timers.specs.declared.arm.Armed.{Armed}
 use Rattle.srm_timers.specs.declared.arm.ArmKind.TheVariants.{Ask}
 use Rattle.srm_deadlines.specs.declared.by_name.NamedValue.{NamedValue}
 use Rattle.srm_timers.specs.Arms.{arm_names, arm_of, runs_out_at, ran_out, backs_off, next_exponent, RunsOutFirst, ArmsAre, WaitBasis, Plan, plan_of}
-use Rattle.srm_deadlines.specs.Deadlines.{has_come}
+use Rattle.srm_names.specs.Moments.{has_come}
 use Rattle.srm_timers.specs.Ends.{arm_end, SetsEnds}
 use Rattle.srm_timers.specs.Timers.{armed_at, SetsTimers}
 use Rattle.srm_deadlines.specs.Places.{value_at, value_in, is_at, has_place, KeepsValues, Sets, IsLeast}

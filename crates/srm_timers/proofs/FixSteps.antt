@@ -14,7 +14,7 @@ use Rattle.srm_timers.specs.declared.arm.Arm.{Arm}
 use Rattle.srm_timers.specs.declared.arm.Armed.{Armed}
 use Rattle.srm_deadlines.specs.declared.by_name.NamedValue.{NamedValue}
 use Rattle.srm_timers.specs.Arms.{Plan, plan_of, runs_out_at, ran_out, arm_names, arm_of}
-use Rattle.srm_deadlines.specs.Deadlines.{has_come}
+use Rattle.srm_names.specs.Moments.{has_come}
 use Rattle.srm_timers.specs.Distances.{distance_to}
 use Rattle.srm_timers.specs.Ends.{EndContent, arm_end, SetsEnds}
 use Rattle.srm_timers.specs.Timers.{armed_at}

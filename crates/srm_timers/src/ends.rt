@@ -3,7 +3,8 @@
 ghost use Rattle.std.specs.Prelude.{◌≡◌, ◌≤◌, ◌+◌, ◌++◌, true, map, length, vec_len, vec_capacity, Some, None, OnOk, IsOk};
 ghost use Rattle.srm_names.specs.Names.{AreExactly, ascending, name_below};
 ghost use Rattle.srm_timers.specs.Arms.{arm_names};
-ghost use Rattle.srm_deadlines.specs.Deadlines.{has_come, DueFit};
+ghost use Rattle.srm_names.specs.Moments.{has_come};
+ghost use Rattle.srm_deadlines.specs.Deadlines.{DueFit};
 ghost use Rattle.srm_timers.specs.Ends.{timed_at, SetsEnds, AreShort, HaveRoom, KeepsRoom};
 ghost use Rattle.srm_deadlines.specs.Places.{value_at, has_place, KeepsValues, Sets, ClearsAll, IsLeast, HasPlaces};
 
