@@ -5,24 +5,12 @@ ghost use Rattle.srm_names.specs.declared.limits.TheConstants.{MEMBERS};
 ghost use Rattle.srm_bucket.specs.declared.limits.TheConstants.{LEAST_RATE, GREATEST_RATE, LEAST_DEPTH, GREATEST_DEPTH};
 ghost use Rattle.srm_world.specs.Traces.{IsRoster, started};
 
-use srm_agent::Config;
+use srm_agent::{Config, Settings};
 use srm_names::Member;
 use std::alloc::{AllocError, Global};
 
 /// The number of the session of each script.
 const SCRIPT_SESSION: u32 = 1;
-
-/// A request waits from this many distances..
-const REQUEST_FROM: u8 = 2;
-
-/// ..to so many more.
-const REQUEST_MORE: u8 = 2;
-
-/// A repair waits from this many distances..
-const REPAIR_FROM: u8 = 1;
-
-/// ..to so many more.
-const REPAIR_MORE: u8 = 1;
 
 /// The settings of members of one roster, in order, in one session, with one rate and depth.
 pub fn roster(alloc: Global, members: u8, rate: u32, depth: u32) -> Result<Vec<Config>, AllocError>
@@ -33,21 +21,15 @@ pub fn roster(alloc: Global, members: u8, rate: u32, depth: u32) -> Result<Vec<C
     ensures roster { IfOk result (λ configs. IsRoster (started configs.items)) }
     ensures count { IfOk result (λ configs. length configs.items ≡ members) }
 {
+    let settings = Settings {
+        rate,
+        depth,
+        ..Settings::default()
+    };
     let mut configs = Vec::new(alloc);
     for number in 0..members {
         let me = Member::new(number).unwrap();
-        let config = Config::new(
-            me,
-            members,
-            SCRIPT_SESSION,
-            rate,
-            depth,
-            REQUEST_FROM,
-            REQUEST_MORE,
-            REPAIR_FROM,
-            REPAIR_MORE,
-        )
-        .unwrap();
+        let config = Config::with(me, members, SCRIPT_SESSION, settings).unwrap();
         configs.push(config)?;
     }
     Ok(configs)

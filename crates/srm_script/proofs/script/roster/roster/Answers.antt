@@ -10,7 +10,7 @@ loop-number-init c = record { count = ap length c.new-configs.ensures.items; eac
 pub loop-number-preserved : goal.loop-number-preserved
 loop-number-preserved c =
     let items = c.in_ok-push.ensures.items in
-    let is = rw c.unwrap-config.ensures at c.new-in-loop-number.ensures.value in
+    let is = rw c.unwrap-config.ensures at c.with.ensures.value in
     let me = rw c.unwrap-me.ensures at c.new.ensures.value in
     record {
       count = ap length items ∙ length_push c.loop-number.configs.items c.unwrap-config.result ∙ ap (λ n. n + 1) c.loop-number.invariant.count;
