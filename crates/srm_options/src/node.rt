@@ -26,13 +26,8 @@ const TURNS: u64 = 1_000_000;
 pub fn read_node<'a>(alloc: Global, words: &'a [&'a str]) -> Result<NodeOptions, Reply>
     ensures { IfOk result IsInRange }
 {
-    let Ok(mut command) = node_command(alloc) else {
-        return Err(Reply::Memory);
-    };
-    let matches = match command.try_get_matches_from_mut(words) {
-        Ok(matches) => matches,
-        Err(error) => return Err(Reply::from(error)),
-    };
+    let mut command = node_command(alloc)?;
+    let matches = command.try_get_matches_from_mut(words)?;
     let options = match options_in(alloc, &matches) {
         Ok(options) => options,
         Err(mistake) => return Err(told(alloc, &mut command, mistake)),
@@ -143,26 +138,14 @@ fn with_addresses<'a>(alloc: Global, command: Command<'a>) -> Result<Command<'a>
 
 /// What the words say.
 fn options_in<'a>(alloc: Global, matches: &ArgMatches<'a>) -> Result<NodeOptions, Mistake<'a>> {
-    let addresses = match addresses_in(alloc, matches.get_strs("ADDR").unwrap_or(&[])) {
-        Ok(addresses) => addresses,
-        Err(mistake) => return Err(mistake),
-    };
-    let Some(me) = member_in(matches, addresses.len()) else {
-        return Err(Mistake::NoPlace);
-    };
-    let Some(session) = matches.get_one::<u32>("session") else {
-        return Err(Mistake::Range);
-    };
-    let settings = match settings_in(matches) {
-        Ok(settings) => settings,
-        Err(mistake) => return Err(mistake),
-    };
+    let addresses = addresses_in(alloc, matches.get_strs("ADDR").unwrap_or(&[]))?;
+    let me = member_in(matches, addresses.len()).ok_or(Mistake::NoPlace)?;
+    let session = matches.get_one::<u32>("session").ok_or(Mistake::Range)?;
+    let settings = settings_in(matches)?;
     let Ok(members) = u8::try_from(addresses.len()) else {
         return Err(Mistake::TooMany);
     };
-    let Some(config) = Config::with(me, members, session, settings) else {
-        return Err(Mistake::Range);
-    };
+    let config = Config::with(me, members, session, settings).ok_or(Mistake::Range)?;
     let live = matches.get_flag("live");
     // How long a live member runs is for who types to say.
     let turns = if live { u64::MAX } else { TURNS };
@@ -180,10 +163,7 @@ fn options_in<'a>(alloc: Global, matches: &ArgMatches<'a>) -> Result<NodeOptions
 fn settings_in<'a>(matches: &ArgMatches<'a>) -> Result<Settings, Mistake<'a>> {
     let usual = Settings::default();
     let [c1, c2, d1, d2] = match matches.get_str("waits") {
-        Some(text) => match waits_in(text) {
-            Some(waits) => waits,
-            None => return Err(Mistake::Waits(text)),
-        },
+        Some(text) => waits_in(text).ok_or(Mistake::Waits(text))?,
         None => [usual.c1, usual.c2, usual.d1, usual.d2],
     };
     Ok(Settings {
@@ -251,11 +231,8 @@ fn told<'a>(alloc: Global, command: &mut Command<'a>, mistake: Mistake<'a>) -> R
     if matches!(mistake, Mistake::Memory) {
         return Reply::Memory;
     }
-    let Ok(text) = format!(in alloc; "{mistake}") else {
-        return Reply::Memory;
-    };
-    match command.error(ErrorKind::ValueValidation, text.as_str()) {
-        Ok(error) => Reply::from(error),
+    match format!(in alloc; "{mistake}") {
+        Ok(text) => Reply::to(command, ErrorKind::ValueValidation, text.as_str()),
         Err(_) => Reply::Memory,
     }
 }

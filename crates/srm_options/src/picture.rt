@@ -7,13 +7,9 @@ use std::alloc::{AllocError, Global};
 
 /// Reads the words behind `srm picture`, which takes none: Ok where there are none.
 pub fn read_picture<'a>(alloc: Global, words: &'a [&'a str]) -> Result<(), Reply> {
-    let Ok(mut command) = picture_command(alloc) else {
-        return Err(Reply::Memory);
-    };
-    match command.try_get_matches_from_mut(words) {
-        Ok(_) => Ok(()),
-        Err(error) => Err(Reply::from(error)),
-    }
+    let mut command = picture_command(alloc)?;
+    command.try_get_matches_from_mut(words)?;
+    Ok(())
 }
 
 /// The command, for its own words and for the help on all commands.

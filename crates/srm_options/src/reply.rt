@@ -1,7 +1,7 @@
 //! What a command line gets in place of being done.
 
-use clap::Error;
 use clap::error::ErrorKind;
+use clap::{Command, Error};
 use std::alloc::AllocError;
 use std::fmt;
 
@@ -14,6 +14,16 @@ pub enum Reply {
     Wrong(Text),
     /// Memory ran out.
     Memory,
+}
+
+impl Reply {
+    /// What this command says of such a mistake in its words.
+    pub(crate) fn to(command: &mut Command<'_>, kind: ErrorKind, text: &str) -> Reply {
+        match command.error(kind, text) {
+            Ok(error) => Reply::from(error),
+            Err(_) => Reply::Memory,
+        }
+    }
 }
 
 /// A text for the user, with its line ends.

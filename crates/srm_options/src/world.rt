@@ -4,19 +4,14 @@ use crate::help::{ABOUT, WORLD, WORLD_HELP};
 use crate::node::node_command;
 use crate::picture::picture_command;
 use crate::reply::Reply;
+use clap::Command;
 use clap::error::ErrorKind;
-use clap::{Command, Error};
 use std::alloc::{AllocError, Global};
 
 /// Reads the words behind `srm`, of which the first isn't `node` or `picture`: Ok where they ask for `srm world`.
 pub fn read_world<'a>(alloc: Global, words: &'a [&'a str]) -> Result<(), Reply> {
-    let Ok(mut command) = srm_command(alloc) else {
-        return Err(Reply::Memory);
-    };
-    let matches = match command.try_get_matches_from_mut(words) {
-        Ok(matches) => matches,
-        Err(error) => return Err(Reply::from(error)),
-    };
+    let mut command = srm_command(alloc)?;
+    let matches = command.try_get_matches_from_mut(words)?;
     match matches.subcommand_name() {
         Some("world") => Ok(()),
         Some("picture") => Err(told(&mut command, "'picture' has to be the first word")),
@@ -41,8 +36,5 @@ fn srm_command<'a>(alloc: Global) -> Result<Command<'a>, AllocError> {
 
 /// That `node` or `picture` comes first, for a caller who reads it here.
 fn told(command: &mut Command<'_>, text: &str) -> Reply {
-    match command.error(ErrorKind::InvalidSubcommand, text) {
-        Ok(error) => Reply::from(error),
-        Err(error) => Reply::from(Error::from(error)),
-    }
+    Reply::to(command, ErrorKind::InvalidSubcommand, text)
 }
