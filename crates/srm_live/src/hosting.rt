@@ -6,13 +6,11 @@ ghost use Rattle.srm_names.specs.declared.limits.TheConstants.{PAGES};
 use crate::desk::Desk;
 use crate::typing::draw_typed;
 use srm_agent::Entry;
-use srm_member::{MemberFault, Station};
+use srm_member::{MemberFault, Station, host_if};
 use srm_names::PageMsg;
-use srm_node::{Hosted, Node, PageSink, host};
-use srm_pages::{Inked, Pen, Tap};
+use srm_node::{Hosted, PageSink};
+use srm_pages::{Inked, Pen};
 use srm_script::ScriptFault;
-use srm_timers::Pcg;
-use srm_udp::SystemClock;
 use srm_wire::Wire;
 use srm_world::Past;
 use std::alloc::Global;
@@ -51,33 +49,6 @@ where
     desk.end();
     end_typing(rt, typing);
     fault_of(hosted)
-}
-
-// Runs the node with its workers where what is typed is drawn.
-fn host_if<R, X, P, S>(
-    rt: &R,
-    alloc: Global,
-    is_drawn: bool,
-    node: Node<Pcg, X, SystemClock<R>, P>,
-    taps: Vec<Tap>,
-    sinks: Vec<S>,
-    turns: u64,
-) -> Option<Hosted<P, Vec<PageMsg>>>
-where
-    R: time::Clock + Threads + Wait + Copy + Send + Drop + 'static,
-    X: Wire + Drop,
-    P: Past<Entry> + Drop,
-    S: PageSink + Send + Drop + 'static,
-    requires taps { vec_len taps ≡ PAGES }
-    requires sinks { vec_len sinks ≡ PAGES }
-{
-    if !is_drawn {
-        return None;
-    }
-    match host(rt, alloc, node, taps, sinks, turns) {
-        Ok(hosted) => Some(hosted),
-        Err(_) => None,
-    }
 }
 
 // Why the run was no whole one. Only for want of memory there is none.

@@ -29,4 +29,4 @@ pub use fault::MemberFault;
 pub use pens::draw;
 pub use replying::print_reply;
 pub use running::run_node;
-pub use station::Station;
+pub use station::{Station, host_if};

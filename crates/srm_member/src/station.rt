@@ -13,7 +13,7 @@ use crate::sink::{Unseen, sinks};
 use bytes::Bytes;
 use srm_agent::{Config, Entry};
 use srm_names::PageMsg;
-use srm_node::{Hosted, Node, host};
+use srm_node::{Hosted, Node, PageSink, host};
 use srm_options::NodeOptions;
 use srm_pages::ends::Well;
 use srm_pages::{Feed, Pen, Tap, lanes, well};
@@ -92,16 +92,7 @@ impl<R: time::Clock + Copy + Drop, X: Wire + Drop> Station<R, X> {
         ensures new { IfOk result (λ s. IsNewStation config stay (X.told wire) s.node.view s.taps.items s.pens.items) }
         ensures words { IfOk result (λ s. s.node.words ≡ words_of start) }
     {
-        let Parts {
-            clock,
-            feeds,
-            taps,
-            well,
-            pens,
-        } = make_parts(rt, alloc)?;
-        let mut node = Node::new(alloc, config, words(start), wire, clock, feeds, well)?;
-        node.ask_leave(stay);
-        Ok(Station { node, taps, pens })
+        Station::make(rt, alloc, config, start, stay, wire, Vec::new(alloc))
     }
 
     /// Runs the node in this thread, and its page workers and its pens, in threads of their own, until all have ended. The k-th pen draws the k-th list of bodies; more lists than
@@ -169,6 +160,32 @@ impl<R: time::Clock + Copy + Drop, X: Wire + Drop, P: Past<Entry> + Drop> Statio
         ensures new { IfOk result (λ s. IsNewStation options.now.config options.now.stay (X.told wire) s.node.view s.taps.items s.pens.items) }
         ensures words { IfOk result (λ s. s.node.words ≡ words_of options.now.start) }
     {
+        Station::make(
+            rt,
+            alloc,
+            options.config,
+            options.start,
+            options.stay,
+            wire,
+            past,
+        )
+    }
+
+    // The station of a member with these settings and this past, which leaves after so long.
+    fn make(
+        rt: &R,
+        alloc: Global,
+        config: Config,
+        start: u64,
+        stay: u64,
+        wire: X,
+        past: P,
+    ) -> Result<Station<R, X, P>, MemberFault>
+        requires wire { X.failed wire ≡ 0 }
+        requires past { P.entries past ≡ [] }
+        ensures new { IfOk result (λ s. IsNewStation config stay (X.told wire) s.node.view s.taps.items s.pens.items) }
+        ensures words { IfOk result (λ s. s.node.words ≡ words_of start) }
+    {
         let Parts {
             clock,
             feeds,
@@ -176,17 +193,9 @@ impl<R: time::Clock + Copy + Drop, X: Wire + Drop, P: Past<Entry> + Drop> Statio
             well,
             pens,
         } = make_parts(rt, alloc)?;
-        let mut node = Node::with_past(
-            alloc,
-            options.config,
-            words(options.start),
-            wire,
-            clock,
-            feeds,
-            well,
-            past,
-        )?;
-        node.ask_leave(options.stay);
+        let words = words(start);
+        let mut node = Node::with_past(alloc, config, words, wire, clock, feeds, well, past)?;
+        node.ask_leave(stay);
         Ok(Station { node, taps, pens })
     }
 }
@@ -250,18 +259,22 @@ impl Crew {
     }
 }
 
-/// Runs the node with its workers where all pens were started.
-fn host_if<R, X: Wire + Drop, L: Past<PageMsg> + Send + Drop + 'static>(
+/// Runs the node with its workers, unless a thread that draws for it couldn't be started. Then, and for want of memory before any worker is started, there is none.
+pub fn host_if<R, X, P, S, L>(
     rt: &R,
     alloc: Global,
     all: bool,
-    node: Node<Pcg, X, SystemClock<R>>,
+    node: Node<Pcg, X, SystemClock<R>, P>,
     taps: Vec<Tap>,
-    sinks: Vec<Unseen>,
+    sinks: Vec<S>,
     turns: u64,
-) -> Option<Hosted<Vec<Entry>, L>>
+) -> Option<Hosted<P, L>>
 where
     R: time::Clock + Threads + Wait + Copy + Send + Drop + 'static,
+    X: Wire + Drop,
+    P: Past<Entry> + Drop,
+    S: PageSink + Send + Drop + 'static,
+    L: Past<PageMsg> + Send + Drop + 'static,
     requires taps { vec_len taps ≡ PAGES }
     requires sinks { vec_len sinks ≡ PAGES }
     ensures hosts { IfSome result (λ h. MatchResult h.end (λ _. Hosts L.entries node.view taps.items turns h) (λ fault. (all : Bool) × HostFails L.entries all node.view taps.items turns fault h)) }
