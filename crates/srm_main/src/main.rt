@@ -2,7 +2,7 @@
 #![tactic(auto)]
 
 use srm_live::{PolledInput, run_live};
-use srm_member::{print_reply, run_node};
+use srm_member::{WRONG_USAGE, print_reply, run_node};
 use srm_options::{read_node, read_picture, read_world};
 use srm_played::run_picture;
 use srm_script::{ScriptFault, run_script};
@@ -15,9 +15,6 @@ use std::{env, io};
 
 /// The descriptor of standard input.
 const STDIN: RawFd = 0;
-
-/// The status of a command line that isn't text.
-const WRONG_USAGE: u8 = 2;
 
 fn main(rt: HostRuntime) -> ExitCode {
     let alloc = rt.alloc();

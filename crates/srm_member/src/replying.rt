@@ -7,7 +7,7 @@ use srm_script::ScriptFault;
 use std::io::Write;
 
 /// The status of a wrong command line.
-const WRONG_USAGE: u8 = 2;
+pub const WRONG_USAGE: u8 = 2;
 
 /// Prints what a command line gets in place of being done: what it asks for to `out`, what is wrong in it to `err`. Answers the program's
 /// status.
