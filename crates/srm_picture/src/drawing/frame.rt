@@ -5,6 +5,7 @@ use crate::picture::Picture;
 use crate::plan::{MOMENTS, Plan};
 use crate::subject::Subject;
 use crate::tick::LocalActionKind;
+use srm_entries::SECOND;
 use srm_names::Member;
 use std::io;
 use std::io::Write;
@@ -73,8 +74,8 @@ fn write_moment<W: Write>(out: &mut W, moment: u64, y: u64) -> io::Result<()> {
         "<text class=\"moment\" x=\"{}\" y=\"{}\">{}.{:06}</text>",
         MOMENTS - 12,
         y.saturating_add(4),
-        moment / 1_000_000,
-        moment % 1_000_000
+        moment / SECOND,
+        moment % SECOND
     )
 }
 
