@@ -119,10 +119,7 @@ impl Group {
     }
 
     fn draw(&mut self) -> Option<()> {
-        let first = Page {
-            creator: Member::new(0)?,
-            number: 0,
-        };
+        let first = Page::first();
         let body = Bytes::copy_from_slice(self.alloc, &[7; 64]).ok()?;
         let now = self.now.min(LATEST_MOMENT);
         self.agents.get_mut(0)?.draw(first, body, now).ok()?;

@@ -44,10 +44,7 @@ fn main(rt: HostRuntime) -> anyhow::Result<()> {
 fn play<O: Write>(alloc: Global, out: &mut O) -> anyhow::Result<()> {
     let mut drawer = join(alloc, 0)?;
     let mut viewer = join(alloc, 1)?;
-    let page = Page {
-        creator: Member::new(0).context("no such member")?,
-        number: 0,
-    };
+    let page = Page::first();
     for stroke in STROKES {
         drawer.draw(page, Bytes::copy_from_slice(alloc, stroke)?, 0)?;
     }
