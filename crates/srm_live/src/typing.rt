@@ -110,8 +110,7 @@ fn read_next<R: Clock, I: Read>(
                 thread::sleep(rt, Duration::from_micros(WAIT));
                 Ok(None)
             }
-            ErrorKind::OutOfMemory => Err(ReadingEnd::Fault(ScriptFault::Memory)),
-            _ => Err(ReadingEnd::Fault(ScriptFault::StandardInput)),
+            _ => Err(ReadingEnd::Fault(ScriptFault::of_input(error))),
         },
     }
 }

@@ -17,10 +17,7 @@ pub fn deal(alloc: Global, input: &[u8]) -> Result<Vec<Vec<Bytes>>, ScriptFault>
     if let Some(number) = first_bad_line(input) {
         return Err(ScriptFault::BadLine(number));
     }
-    match deal_all(alloc, input) {
-        Ok(dealt) => Ok(dealt),
-        Err(_) => Err(ScriptFault::Memory),
-    }
+    Ok(deal_all(alloc, input)?)
 }
 
 // The bodies of each pen.

@@ -3,6 +3,8 @@
 ghost use Rattle.std.specs.Prelude.{◌≡◌, ◌≤◌};
 ghost use Rattle.std.specs.List.{list_any};
 ghost use Rattle.std.specs.IoError.{error_kind};
+ghost use Rattle.srm_script.specs.declared.fault.ScriptFault.TheVariants.{Memory};
+ghost use Rattle.srm_member.specs.declared.fault.MemberFault.TheVariants.{Script};
 ghost use Rattle.srm_member.specs.Statuses.{fault_of, fault_of_live, fault_of_binding, lacks_memory, status_of_member};
 
 use srm_names::PageMsg;
@@ -87,12 +89,16 @@ impl MemberFault {
 }
 
 impl From<ScriptFault> for MemberFault {
+    ghost from_gives = { λ fault gives. gives ≡ Script fault };
+
     fn from(fault: ScriptFault) -> MemberFault {
         MemberFault::Script(fault)
     }
 }
 
 impl From<AllocError> for MemberFault {
+    ghost from_gives = { λ _ gives. gives ≡ Script Memory };
+
     fn from(_error: AllocError) -> MemberFault {
         MemberFault::Script(ScriptFault::Memory)
     }

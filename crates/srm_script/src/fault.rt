@@ -1,6 +1,7 @@
 //! Why a script isn't run to its end.
 
 ghost use Rattle.std.specs.Prelude.{◌≡◌};
+ghost use Rattle.srm_script.specs.declared.fault.ScriptFault.TheVariants.{Memory};
 ghost use Rattle.srm_script.specs.Statuses.{status_of};
 
 use srm_world::WorldFault;
@@ -45,6 +46,14 @@ impl ScriptFault {
         }
     }
 
+    /// The fault of a read of standard input.
+    pub fn of_input(error: io::Error) -> ScriptFault {
+        match error.kind() {
+            io::ErrorKind::OutOfMemory => ScriptFault::Memory,
+            _ => ScriptFault::StandardInput,
+        }
+    }
+
     /// The fault of a write to standard output.
     pub fn of_output(error: io::Error) -> ScriptFault {
         match error.kind() {
@@ -55,12 +64,16 @@ impl ScriptFault {
 }
 
 impl From<AllocError> for ScriptFault {
+    ghost from_gives = { λ _ gives. gives ≡ Memory };
+
     fn from(_error: AllocError) -> ScriptFault {
         ScriptFault::Memory
     }
 }
 
 impl From<WorldFault> for ScriptFault {
+    ghost from_gives = { λ _ gives. gives ≡ Memory };
+
     fn from(fault: WorldFault) -> ScriptFault {
         match fault {
             WorldFault::Memory => ScriptFault::Memory,

@@ -2,7 +2,7 @@
 
 use crate::fault::ScriptFault;
 use std::alloc::Global;
-use std::io::{ErrorKind, Read};
+use std::io::Read;
 
 /// Bytes of an input, at most.
 const INPUT: usize = 1_000_000;
@@ -13,7 +13,6 @@ pub fn read_input<I: Read>(alloc: Global, reader: &mut I) -> Result<Vec<u8>, Scr
     match reader.take(INPUT as u64 + 1).read_to_end(&mut bytes) {
         Ok(_) if bytes.len() > INPUT => Err(ScriptFault::TooLong),
         Ok(_) => Ok(bytes),
-        Err(error) if error.kind() == ErrorKind::OutOfMemory => Err(ScriptFault::Memory),
-        Err(_) => Err(ScriptFault::StandardInput),
+        Err(error) => Err(ScriptFault::of_input(error)),
     }
 }
