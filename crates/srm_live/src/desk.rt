@@ -6,7 +6,7 @@ ghost use Rattle.srm_member.specs.Statuses.{status_of_member};
 use crate::error_stream::ErrorStream;
 use srm_member::MemberFault;
 use srm_names::{Member, PageMsg};
-use srm_script::{PrintedMessage, ScriptFault};
+use srm_script::{PrintedGone, PrintedTake, ScriptFault};
 use std::alloc::Global;
 use std::io;
 use std::io::{IsTerminal, Write};
@@ -48,8 +48,12 @@ impl<O: Write, E: Write> Desk<O, E> {
 
     /// Prints at once what the worker of a slot took, unless an earlier line couldn't be printed.
     pub fn print_taken<R: Wait>(&self, rt: &R, alloc: Global, slot: u8, message: &PageMsg) {
-        let me = self.me.number();
-        match format!(in alloc; "took {me} {slot} {}\n", PrintedMessage(message)) {
+        let take = PrintedTake {
+            member: self.me,
+            slot,
+            message: Some(message),
+        };
+        match format!(in alloc; "{take}\n") {
             Ok(line) => self.print(rt, line.as_str()),
             Err(_) => self.note(&ScriptFault::Memory),
         }
@@ -57,8 +61,7 @@ impl<O: Write, E: Write> Desk<O, E> {
 
     /// Prints that the member is gone, unless an earlier line couldn't be printed.
     pub fn print_gone<R: Wait>(&self, rt: &R, alloc: Global) {
-        let me = self.me.number();
-        match format!(in alloc; "gone {me}\n") {
+        match format!(in alloc; "{}\n", PrintedGone(self.me)) {
             Ok(line) => self.print(rt, line.as_str()),
             Err(_) => self.note(&ScriptFault::Memory),
         }

@@ -2,7 +2,7 @@
 
 use srm_names::Member;
 use srm_node::Worked;
-use srm_script::{PrintedMessage, ScriptFault};
+use srm_script::{PrintedGone, PrintedTake, ScriptFault};
 use std::alloc::Global;
 use std::io;
 use std::io::{BufWriter, Write};
@@ -18,23 +18,28 @@ pub fn print_taken<O: Write>(
     let Ok(mut out) = BufWriter::new(alloc, out) else {
         return Err(ScriptFault::Memory);
     };
-    match print_all(&mut out, me.number(), worked) {
+    match print_all(&mut out, me, worked) {
         Ok(()) => Ok(()),
         Err(_) => Err(ScriptFault::Output),
     }
 }
 
-fn print_all<O: Write>(out: &mut O, me: u8, worked: &[Worked]) -> io::Result<()> {
+fn print_all<O: Write>(out: &mut O, me: Member, worked: &[Worked]) -> io::Result<()> {
     for (slot, worked) in (0..u8::MAX).zip(worked) {
         print_slot(out, me, slot, worked)?;
     }
-    writeln!(out, "gone {me}")?;
+    writeln!(out, "{}", PrintedGone(me))?;
     out.flush()
 }
 
-fn print_slot<O: Write>(out: &mut O, me: u8, slot: u8, worked: &Worked) -> io::Result<()> {
+fn print_slot<O: Write>(out: &mut O, me: Member, slot: u8, worked: &Worked) -> io::Result<()> {
     for message in worked.list.as_slice() {
-        writeln!(out, "took {me} {slot} {}", PrintedMessage(message))?;
+        let take = PrintedTake {
+            member: me,
+            slot,
+            message: Some(message),
+        };
+        writeln!(out, "{take}")?;
     }
     Ok(())
 }

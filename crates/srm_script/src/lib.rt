@@ -20,5 +20,5 @@ mod script;
 pub use fault::ScriptFault;
 pub use input::read_input;
 pub use play::{print_newest, run_event, run_script};
-pub use report::{EntryPrinter, PrintedMessage};
+pub use report::{EntryPrinter, PrintedGone, PrintedTake};
 pub use script::{Script, read_script};

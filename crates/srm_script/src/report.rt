@@ -5,11 +5,11 @@ ghost use Rattle.srm_codec.specs.Spelling.{IsSpellable};
 
 mod shown;
 
-pub use shown::PrintedMessage;
 use shown::{PrintedAnswer, PrintedArm, PrintedName, PrintedPage};
+pub use shown::{PrintedGone, PrintedTake};
 use srm_agent::{AgentState, Arm, Effects, Entry, Input, Verdict};
 use srm_codec::{Datagram, length};
-use srm_names::Name;
+use srm_names::{Member, Name};
 use std::io;
 use std::io::Write;
 
@@ -34,7 +34,7 @@ impl EntryPrinter {
     {
         let member = entry.member.number();
         match entry.verdict {
-            Verdict::Done => self.print_done(out, member, &entry.input, &entry.effects),
+            Verdict::Done => self.print_done(out, entry.member, &entry.input, &entry.effects),
             Verdict::Ignored(cause) => writeln!(out, "heard {member} ignored {}", cause.number()),
             Verdict::Refused(fault) => writeln!(out, "refused {member} {}", fault as u8),
         }
@@ -43,48 +43,51 @@ impl EntryPrinter {
     fn print_done<W: Write>(
         &mut self,
         out: &mut W,
-        member: u8,
+        by: Member,
         input: &Input,
         effects: &Effects,
     ) -> io::Result<()>
         requires { AllByRecursion IsSpellable effects.now.outs }
     {
+        let member = by.number();
         match input {
             Input::Drew(page, _) => print_drew(out, member, &PrintedPage(*page), effects),
             Input::Heard(_) | Input::Noise => {
                 writeln!(out, "heard {member} taken")?;
                 self.print_arms(out, member, effects.arms.as_slice())
             }
-            Input::Ticked => self.print_tick(out, member, effects),
+            Input::Ticked => self.print_tick(out, by, effects),
             Input::Showed(page) => writeln!(out, "shown {member} {}", PrintedPage(*page)),
             Input::AskedLeave => writeln!(out, "leaving {member}"),
             Input::Gave(slot) => {
                 writeln!(
                     out,
                     "gave {member} {slot} {}",
-                    PrintedAnswer(&effects.message)
+                    PrintedAnswer(effects.message.as_ref())
                 )
             }
             Input::Took(slot) => {
-                writeln!(
-                    out,
-                    "took {member} {slot} {}",
-                    PrintedAnswer(&effects.message)
-                )
+                let take = PrintedTake {
+                    member: by,
+                    slot: *slot,
+                    message: effects.message.as_ref(),
+                };
+                writeln!(out, "{take}")
             }
         }
     }
 
     /// What is asked for, repaired and sent, and whether the member is gone.
-    fn print_tick<W: Write>(&mut self, out: &mut W, member: u8, effects: &Effects) -> io::Result<()>
+    fn print_tick<W: Write>(&mut self, out: &mut W, by: Member, effects: &Effects) -> io::Result<()>
         requires { AllByRecursion IsSpellable effects.now.outs }
     {
+        let member = by.number();
         print_names(out, "ask", member, effects.asks.as_slice())?;
         print_names(out, "fix", member, effects.fixes.as_slice())?;
         self.print_arms(out, member, effects.arms.as_slice())?;
         self.print_outs(out, member, effects.outs.as_slice())?;
         if becomes_gone(effects) {
-            writeln!(out, "gone {member}")?;
+            writeln!(out, "{}", PrintedGone(by))?;
         }
         Ok(())
     }

@@ -1,7 +1,7 @@
 //! How pages, names, timers, messages and bodies are printed.
 
 use srm_agent::{Arm, ArmKind};
-use srm_names::{Name, Page, PageMsg};
+use srm_names::{Member, Name, Page, PageMsg};
 use std::fmt;
 
 /// A page, as the number of its creator, a dot and its own number.
@@ -47,7 +47,7 @@ impl fmt::Display for PrintedArm<'_> {
 
 /// What a slot's worker was given or took, if there was something.
 #[derive(Drop)]
-pub struct PrintedAnswer<'a>(pub &'a Option<PageMsg>);
+pub struct PrintedAnswer<'a>(pub Option<&'a PageMsg>);
 
 impl fmt::Display for PrintedAnswer<'_> {
     fn fmt<W: fmt::Write>(&self, f: &mut fmt::Formatter<W>) -> fmt::Result {
@@ -58,9 +58,35 @@ impl fmt::Display for PrintedAnswer<'_> {
     }
 }
 
+/// That a slot's worker took a message, or nothing: the line without its end.
+#[derive(Drop)]
+pub struct PrintedTake<'a> {
+    pub member: Member,
+    pub slot: u8,
+    pub message: Option<&'a PageMsg>,
+}
+
+impl fmt::Display for PrintedTake<'_> {
+    fn fmt<W: fmt::Write>(&self, f: &mut fmt::Formatter<W>) -> fmt::Result {
+        let member = self.member.number();
+        let slot = self.slot;
+        write!(f, "took {member} {slot} {}", PrintedAnswer(self.message))
+    }
+}
+
+/// That a member is gone: the line without its end.
+#[derive(Drop)]
+pub struct PrintedGone(pub Member);
+
+impl fmt::Display for PrintedGone {
+    fn fmt<W: fmt::Write>(&self, f: &mut fmt::Formatter<W>) -> fmt::Result {
+        write!(f, "gone {}", self.0.number())
+    }
+}
+
 /// A message of a page feed, as printed lines have it. A byte of a body that isn't printable ASCII is shown as `?`.
 #[derive(Drop)]
-pub struct PrintedMessage<'a>(pub &'a PageMsg);
+struct PrintedMessage<'a>(&'a PageMsg);
 
 impl fmt::Display for PrintedMessage<'_> {
     fn fmt<W: fmt::Write>(&self, f: &mut fmt::Formatter<W>) -> fmt::Result {
