@@ -8,7 +8,7 @@ use Rattle.srm_node.specs.declared.fault.NodeFault.TheVariants as node
 use Rattle.srm_member.specs.declared.fault.MemberFault.TheVariants.{Script, Wire, Turns}
 use Rattle.srm_member.specs.Lines.{lines_of, each_fourth, bad_line}
 use Rattle.srm_member.specs.Statuses.{fault_of, fault_of_live, fault_of_binding, status_of_member}
-use Rattle.srm_member.specs.Stations.{words_of}
+use Rattle.srm_timers.specs.Seeds.{words_of}
 
 no_lines : lines_of [] ≡ []
 no_lines = refl

@@ -1,18 +1,11 @@
 -- A member's station, as its options say.
 use Rattle.std.specs.Prelude.{◌≡◌, ℕ, List, length, Option, Some, None}
-use Rattle.rand_core.specs.Pcg32Seed.{pcg32_seed}
-use Rattle.rand_pcg.specs.Lcg.{Lcg}
-use Rattle.rand_pcg.specs.Pcg.{pcg64_of_seed}
 use Rattle.srm_names.specs.declared.limits.TheConstants.{PAGES}
 use Rattle.srm_pages.specs.Ends.{TapView, PenView, AreNewPens}
 use Rattle.srm_entries.specs.Configs.{Config}
 use Rattle.srm_wire.specs.Wires.{Told}
 use Rattle.srm_node.specs.Nodes.{NodeView, IsNewNode}
 use Rattle.srm_node.specs.Hosting.{AreEndsOfLanes}
-
--- the source of words that a number starts: PCG XSL RR 128/64, from a seed that PCG32 makes of the number
-unfoldable pub words_of : ℕ → Lcg
-words_of start = pcg64_of_seed (pcg32_seed 32 start)
 
 -- A node with these settings that did nothing yet and is to leave from a moment on, of whose wire no call failed and which told so much, the tap of each of
 -- its lanes, and the pens of its well.

@@ -5,7 +5,8 @@ ghost use Rattle.srm_names.specs.declared.limits.TheConstants.{PAGES};
 ghost use Rattle.srm_pages.specs.Ends.{AreNewPens};
 ghost use Rattle.srm_node.specs.Nodes.{AreNewFeeds};
 ghost use Rattle.srm_node.specs.Hosting.{Hosts, HostFails, AreEndsOfLanes};
-ghost use Rattle.srm_member.specs.Stations.{IsNewStation, words_of};
+ghost use Rattle.srm_timers.specs.Seeds.{words_of};
+ghost use Rattle.srm_member.specs.Stations.{IsNewStation};
 
 use crate::fault::MemberFault;
 use crate::pens::PenThreads;
@@ -193,18 +194,11 @@ impl<R: time::Clock + Copy + Drop, X: Wire + Drop, P: Past<Entry> + Drop> Statio
             well,
             pens,
         } = make_parts(rt, alloc)?;
-        let words = words(start);
+        let words = Pcg::new(start);
         let mut node = Node::with_past(alloc, config, words, wire, clock, feeds, well, past)?;
         node.ask_leave(stay);
         Ok(Station { node, taps, pens })
     }
-}
-
-/// The words that a number starts.
-fn words(start: u64) -> Pcg
-    ensures { result ≡ words_of start }
-{
-    Pcg::new(start)
 }
 
 /// The clock of a station's node, what its workers have of it and it of them, and the same of its pens.

@@ -1,4 +1,5 @@
 pub mod Draws
+pub mod Seeds
 pub mod Distances
 pub mod Arms
 pub mod Ends

@@ -1,8 +1,7 @@
 //! Words of a generator.
 
 ghost use Rattle.std.specs.Prelude.{◌≡◌};
-ghost use Rattle.rand_core.specs.Pcg32Seed.{pcg32_seed};
-ghost use Rattle.rand_pcg.specs.Pcg.{pcg64_of_seed};
+ghost use Rattle.srm_timers.specs.Seeds.{words_of};
 
 use crate::words::Words;
 use rand_core::SeedableRng;
@@ -27,8 +26,9 @@ impl Model for Pcg {
 
 impl Pcg {
     /// The generator that `seed_from_u64` makes of the number.
+    #[tactic(auto, unfolding(crate::specs::Seeds::words_of))]
     pub fn new(start: u64) -> Pcg
-        ensures { result ≡ pcg64_of_seed (pcg32_seed 32 start) }
+        ensures { result ≡ words_of start }
     {
         Pcg {
             generator: Lcg128Xsl64::seed_from_u64(start),
