@@ -11,6 +11,16 @@ pub enum ArmKind {
     Fix,
 }
 
+impl ArmKind {
+    /// Its word in what `srm world` prints.
+    pub fn name(self) -> &'static str {
+        match self {
+            ArmKind::Ask => "ask",
+            ArmKind::Fix => "fix",
+        }
+    }
+}
+
 /// A timer that was set.
 #[derive(Clone, Copy, Debug, PartialEq, Eq)]
 pub struct Arm {

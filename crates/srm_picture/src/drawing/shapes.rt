@@ -7,7 +7,6 @@ use crate::picture::Picture;
 use crate::plan::{LINE, Plan};
 use crate::point::Point;
 use crate::subject::Subject;
-use srm_entries::ArmKind;
 use srm_names::Member;
 use std::alloc::Global;
 use std::io;
@@ -28,10 +27,7 @@ pub(super) fn write_brackets<W: Write>(
 ) -> io::Result<()> {
     for (index, bracket) in picture.brackets.iter().enumerate() {
         let x = plan.bracket_x(index, bracket.from.member);
-        let class = match bracket.kind {
-            ArmKind::Ask => "ask",
-            ArmKind::Fix => "fix",
-        };
+        let class = bracket.kind.name();
         write!(out, "<g class=\"bracket {class}\"><title>")?;
         let line = line_of(subject.lines_of(bracket.from.entry), b"arm ", bracket.nth);
         write_text(alloc, out, line)?;

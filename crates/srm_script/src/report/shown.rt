@@ -1,6 +1,6 @@
 //! How pages, names, timers, messages and bodies are printed.
 
-use srm_agent::{Arm, ArmKind};
+use srm_agent::Arm;
 use srm_names::{Member, Name, Page, PageMsg};
 use std::fmt;
 
@@ -35,10 +35,7 @@ pub struct PrintedArm<'a>(pub &'a Arm);
 
 impl fmt::Display for PrintedArm<'_> {
     fn fmt<W: fmt::Write>(&self, f: &mut fmt::Formatter<W>) -> fmt::Result {
-        let kind = match self.0.kind {
-            ArmKind::Ask => "ask",
-            ArmKind::Fix => "fix",
-        };
+        let kind = self.0.kind.name();
         let exponent = self.0.exponent;
         let wait = self.0.wait;
         write!(f, "{kind} {} {exponent} {wait}", PrintedName(self.0.name))
