@@ -1,6 +1,8 @@
 pub mod Configs
 pub mod Entries
 pub mod Still
+pub mod Effects
+pub mod Kinds
 pub mod Distances
 pub mod Timers
 pub mod Verdicts

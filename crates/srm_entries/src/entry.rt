@@ -3,6 +3,7 @@
 ghost use Rattle.std.specs.Prelude.{◌≡◌};
 ghost use Rattle.std.specs.Option.{option_copied};
 ghost use Rattle.srm_entries.specs.Entries.{accepted};
+ghost use Rattle.srm_entries.specs.Effects.{becomes_gone};
 ghost use Rattle.srm_entries.specs.Still.{still_entry};
 
 use crate::cause::Cause;
@@ -58,6 +59,15 @@ pub struct Effects {
     pub message: Option<PageMsg>,
     /// Whether the member takes part after it.
     pub state: AgentState,
+}
+
+impl Effects {
+    /// Whether the farewell was sent and the member is gone. One that is gone sends nothing more.
+    pub fn becomes_gone(&self) -> bool
+        ensures { result ≡ becomes_gone self.now }
+    {
+        matches!(self.state, AgentState::Gone) && !self.outs.as_slice().is_empty()
+    }
 }
 
 /// One call of one member's agent.

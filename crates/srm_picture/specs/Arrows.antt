@@ -3,15 +3,13 @@ use Rattle.std.specs.Prelude.{◌≡◌, ℕ, ◌==◌, Bool, true, false, List,
 use Rattle.std.specs.List.{flat_map, enumerate_from, AllByRecursion}
 use Rattle.srm_names.specs.Histories.{Step, steps}
 use Rattle.srm_codec.specs.declared.datagram.Datagram.{Datagram}
-use Rattle.srm_codec.specs.declared.datagram.Datagram.TheVariants.{Data as AData, Request as ARequest, Repair as ARepair, Session as ASession}
 use Rattle.srm_entries.specs.declared.entry.Entry.{Entry}
 use Rattle.srm_entries.specs.declared.entry.Input.{Input}
 use Rattle.srm_entries.specs.declared.entry.Input.TheVariants.{Heard, Noise}
 use Rattle.srm_entries.specs.declared.entry.Verdict.{Verdict}
 use Rattle.srm_entries.specs.declared.entry.Verdict.TheVariants.{Done}
 use Rattle.srm_entries.specs.Entries.{sent}
-use Rattle.srm_picture.specs.declared.arrow.DatagramKind.{DatagramKind}
-use Rattle.srm_picture.specs.declared.arrow.DatagramKind.TheVariants.{Data, Request, Repair, Session}
+use Rattle.srm_entries.specs.Kinds.{kind_of}
 use Rattle.srm_picture.specs.declared.arrow.Launch.{Launch}
 use Rattle.srm_picture.specs.declared.arrow.Arrival.{Arrival}
 use Rattle.srm_picture.specs.declared.arrow.ArrowEnd.{ArrowEnd}
@@ -19,12 +17,6 @@ use Rattle.srm_picture.specs.declared.arrow.ArrowEnd.TheVariants.{Accepted, Igno
 use Rattle.srm_picture.specs.declared.arrow.Arrow.{Arrow}
 use Rattle.srm_picture.specs.declared.point.Point.{Point}
 use Rattle.srm_picture.specs.Rows.{by_entry, point_of}
-
-abbrev pub kind_of : Datagram → DatagramKind
-kind_of (AData drawop) = Data
-kind_of (ARequest sender name mask) = Request
-kind_of (ARepair sender drawop) = Repair
-kind_of (ASession sender sent farewell shown rows echoes) = Session
 
 abbrev pub launch : Point → ℕ × Datagram → Launch
 launch place p = record { from = place; nth = p.0; kind = kind_of p.1 }

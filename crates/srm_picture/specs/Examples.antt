@@ -1,7 +1,7 @@
 -- Arrows, text and ticks at worked values.
 use Rattle.std.specs.Prelude.{◌≡◌, true, false, [], ◌∷◌, map, codes, None, Some, refl}
 use Rattle.srm_names.specs.declared.page_msg.PageMsg.TheVariants.{Close}
-use Rattle.srm_picture.specs.declared.arrow.DatagramKind.TheVariants.{Data, Request}
+use Rattle.srm_entries.specs.declared.kind.DatagramKind.TheVariants.{Data, Request}
 use Rattle.srm_picture.specs.declared.arrow.Launch.{Launch}
 use Rattle.srm_picture.specs.declared.arrow.Arrival.{Arrival}
 use Rattle.srm_picture.specs.declared.arrow.ArrowEnd.TheVariants.{Accepted, Ignored, Lost}

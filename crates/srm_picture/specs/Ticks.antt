@@ -1,5 +1,5 @@
 -- What happens at a member by itself.
-use Rattle.std.specs.Prelude.{ℕ, ◌==◌, not, ◌&&◌, List, length, Option, Some, None, option_map, option_to_list, if◌then◌else◌}
+use Rattle.std.specs.Prelude.{ℕ, List, length, Option, Some, None, option_map, option_to_list, if◌then◌else◌}
 use Rattle.srm_names.specs.declared.page_msg.PageMsg.{PageMsg}
 use Rattle.srm_names.specs.declared.page_msg.PageMsg.TheVariants.{Draw}
 use Rattle.srm_entries.specs.declared.entry.Entry.{Entry}
@@ -8,7 +8,7 @@ use Rattle.srm_entries.specs.declared.entry.Input.{Input}
 use Rattle.srm_entries.specs.declared.entry.Input.TheVariants.{Drew as Draws, Ticked, Showed, AskedLeave, Gave as Gives, Took as Takes}
 use Rattle.srm_entries.specs.declared.entry.Verdict.{Verdict}
 use Rattle.srm_entries.specs.declared.entry.Verdict.TheVariants.{Done, Refused}
-use Rattle.srm_entries.specs.Entries.{is_gone}
+use Rattle.srm_entries.specs.Effects.{becomes_gone}
 use Rattle.srm_picture.specs.declared.tick.LocalActionKind.{LocalActionKind}
 use Rattle.srm_picture.specs.declared.tick.LocalActionKind.TheVariants.{Drew, Gave, Took, Other, Gone}
 use Rattle.srm_picture.specs.declared.tick.LocalAction.{LocalAction}
@@ -20,9 +20,8 @@ message_kind kind None = None
 message_kind kind (Some (Draw drawop)) = Some kind
 message_kind kind (Some message) = Some Other
 
--- the member sent its farewell: one that is gone sends nothing more
 abbrev pub going : Effects → Option LocalActionKind
-going f = if is_gone f.state && not (length f.outs == 0) then Some Gone else None
+going f = if becomes_gone f then Some Gone else None
 
 abbrev pub done_kind : Input → Effects → Option LocalActionKind
 done_kind (Draws page body) f = Some Drew

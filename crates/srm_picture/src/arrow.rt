@@ -1,43 +1,7 @@
 //! Datagrams on their way.
 
-ghost use Rattle.std.specs.Prelude.{◌≡◌};
-ghost use Rattle.srm_picture.specs.Arrows.{kind_of};
-
 use crate::point::Point;
-use srm_codec::Datagram;
-
-/// The kinds of datagrams.
-#[derive(Clone, Copy, Debug, PartialEq, Eq)]
-pub enum DatagramKind {
-    Data,
-    Request,
-    Repair,
-    Session,
-}
-
-impl DatagramKind {
-    /// The kind of a datagram.
-    pub fn of(datagram: &Datagram) -> DatagramKind
-        ensures { result ≡ kind_of datagram.now }
-    {
-        match datagram {
-            Datagram::Data(_) => DatagramKind::Data,
-            Datagram::Request { .. } => DatagramKind::Request,
-            Datagram::Repair { .. } => DatagramKind::Repair,
-            Datagram::Session { .. } => DatagramKind::Session,
-        }
-    }
-
-    /// What `srm world` calls it.
-    pub fn name(self) -> &'static str {
-        match self {
-            DatagramKind::Data => "data",
-            DatagramKind::Request => "request",
-            DatagramKind::Repair => "repair",
-            DatagramKind::Session => "session",
-        }
-    }
-}
+use srm_entries::DatagramKind;
 
 /// That a datagram was sent.
 #[derive(Clone, Copy, Debug, PartialEq, Eq)]

@@ -4,10 +4,10 @@ ghost use Rattle.std.specs.Prelude.{◌≡◌, map, IfOk};
 ghost use Rattle.std.specs.List.{enumerate_from};
 ghost use Rattle.srm_picture.specs.Arrows.{arrow_to, arrows_in, arrows_of as arrows_for, arrow_end as end_at, hearings_of, launch, launches_in};
 
-use crate::arrow::{Arrival, Arrow, ArrowEnd, DatagramKind, Launch};
+use crate::arrow::{Arrival, Arrow, ArrowEnd, Launch};
 use crate::point::Point;
 use srm_codec::Datagram;
-use srm_entries::Entry;
+use srm_entries::{DatagramKind, Entry};
 use std::alloc::{AllocError, Global};
 
 /// Each datagram that was sent, in order of sending.

@@ -23,11 +23,12 @@ mod point;
 mod subject;
 mod tick;
 
-pub use arrow::{Arrival, Arrow, ArrowEnd, DatagramKind, Launch};
+pub use arrow::{Arrival, Arrow, ArrowEnd, Launch};
 pub use bracket::{Bracket, BracketEnd, TimerEnd};
 pub use drawing::write_svg;
 pub use escaping::escaped;
 pub use picture::Picture;
 pub use point::Point;
+pub use srm_entries::DatagramKind;
 pub use subject::Subject;
 pub use tick::{LocalAction, LocalActionKind};

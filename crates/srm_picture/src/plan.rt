@@ -5,7 +5,6 @@ ghost use Rattle.std.specs.Prelude.{◌*◌, ◌<◌, ◌≤◌};
 use crate::bracket::Bracket;
 use crate::picture::Picture;
 use crate::subject::Subject;
-use crate::tick::becomes_gone;
 use srm_entries::Entry;
 use srm_names::{MEMBERS, Member};
 use std::alloc::{AllocError, Global};
@@ -139,7 +138,7 @@ fn lines_of(alloc: Global, entries: &[Entry]) -> Result<Vec<u64>, AllocError> {
 /// The line after those of an entry: it has one for each datagram that it sent, one for going, and at least one.
 fn lines_after(line: u64, entry: &Entry) -> u64 {
     let sent = entry.effects.outs.as_slice().len() as u64;
-    let gone = u64::from(becomes_gone(&entry.effects));
+    let gone = u64::from(entry.effects.becomes_gone());
     line.saturating_add(sent.saturating_add(gone).max(1))
 }
 

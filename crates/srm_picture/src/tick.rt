@@ -1,10 +1,10 @@
 //! What happens at a member by itself.
 
-ghost use Rattle.std.specs.Prelude.{◌≡◌, ◌++◌, is_some, IfOk, OnOk};
+ghost use Rattle.std.specs.Prelude.{◌≡◌, ◌++◌, IfOk, OnOk};
 ghost use Rattle.srm_picture.specs.Ticks.{done_kind, going, message_kind, tick_kind, ticks_at, ticks_in};
 
 use crate::point::Point;
-use srm_entries::{AgentState, Effects, Entry, Input, Verdict};
+use srm_entries::{Effects, Entry, Input, Verdict};
 use srm_names::PageMsg;
 use std::alloc::{AllocError, Global};
 
@@ -97,16 +97,9 @@ fn kind_of(message: &Option<PageMsg>, drawop: LocalActionKind) -> Option<LocalAc
 fn going(effects: &Effects) -> Option<LocalActionKind>
     ensures { result ≡ going effects.now }
 {
-    if becomes_gone(effects) {
+    if effects.becomes_gone() {
         Some(LocalActionKind::Gone)
     } else {
         None
     }
-}
-
-/// Whether this tick sent the farewell. One that is gone sends nothing more.
-pub(crate) fn becomes_gone(effects: &Effects) -> bool
-    ensures { result ≡ is_some (going effects.now) }
-{
-    matches!(effects.state, AgentState::Gone) && !effects.outs.as_slice().is_empty()
 }

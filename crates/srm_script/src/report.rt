@@ -7,8 +7,9 @@ mod shown;
 
 use shown::{PrintedAnswer, PrintedArm, PrintedName, PrintedPage};
 pub use shown::{PrintedGone, PrintedTake};
-use srm_agent::{AgentState, Arm, Effects, Entry, Input, Verdict};
+use srm_agent::{Arm, Effects, Entry, Input, Verdict};
 use srm_codec::{Datagram, length};
+use srm_entries::DatagramKind;
 use srm_names::{Member, Name};
 use std::io;
 use std::io::Write;
@@ -86,7 +87,7 @@ impl EntryPrinter {
         print_names(out, "fix", member, effects.fixes.as_slice())?;
         self.print_arms(out, member, effects.arms.as_slice())?;
         self.print_outs(out, member, effects.outs.as_slice())?;
-        if becomes_gone(effects) {
+        if effects.becomes_gone() {
             writeln!(out, "{}", PrintedGone(by))?;
         }
         Ok(())
@@ -107,7 +108,7 @@ impl EntryPrinter {
         requires { AllByRecursion IsSpellable outs.now }
     {
         for datagram in outs {
-            let kind = kind_of(datagram);
+            let kind = DatagramKind::of(datagram).name();
             writeln!(
                 out,
                 "out {} {member} {kind} {}",
@@ -119,11 +120,6 @@ impl EntryPrinter {
         }
         Ok(())
     }
-}
-
-/// Whether this tick sent the farewell. One that is gone sends nothing more.
-fn becomes_gone(effects: &Effects) -> bool {
-    matches!(effects.state, AgentState::Gone) && !effects.outs.as_slice().is_empty()
 }
 
 fn print_drew<W: Write>(
@@ -143,13 +139,4 @@ fn print_names<W: Write>(out: &mut W, what: &str, member: u8, names: &[Name]) ->
         writeln!(out, "{what} {member} {}", PrintedName(*name))?;
     }
     Ok(())
-}
-
-fn kind_of(datagram: &Datagram) -> &'static str {
-    match datagram {
-        Datagram::Data(_) => "data",
-        Datagram::Request { .. } => "request",
-        Datagram::Repair { .. } => "repair",
-        Datagram::Session { .. } => "session",
-    }
 }
