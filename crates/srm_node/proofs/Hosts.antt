@@ -63,8 +63,8 @@ lanes_kept : (a b : NodeView) → b.feeds ≡ a.feeds → SameLanes a b
 lanes_kept a b is = record { slots = ap length is; same = same_feeds a.feeds b.feeds is }
 
 lanes_of_turn : (a b : NodeView) → Turned false false a b → SameLanes a b
-lanes_of_turn a b t = lanes_on a t.ticked b
-    (lanes_kept a t.ticked (ap (λ (n : NodeView). n.feeds) t.ticks.same ∙ ap (λ (n : NodeView). n.feeds) t.leaves.same ∙ ap (λ (n : NodeView). n.feeds) t.draws.same ∙ ap (λ (n : NodeView). n.feeds) t.hears.same))
+lanes_of_turn a b t = let p = t.to_tick in lanes_on a t.ticked b
+    (lanes_kept a t.ticked (ap (λ (n : NodeView). n.feeds) p.ticks.same ∙ ap (λ (n : NodeView). n.feeds) p.leaves.same ∙ ap (λ (n : NodeView). n.feeds) p.draws.same ∙ ap (λ (n : NodeView). n.feeds) p.hears.same))
     (record { slots = t.gives.gives.slots; same = t.gives.gives.same })
 
 lanes_of_turns : (count : ℕ) (a b : NodeView) → RunsOf count a b → SameLanes a b

@@ -11,7 +11,7 @@ use Rattle.srm_wire.specs.Wires.{CountsIf, RoseOrFull}
 use Rattle.srm_names.specs.Moments.{has_come}
 use Rattle.srm_node.specs.Parts.{is_to_leave, still_asked, Leaves}
 use Rattle.srm_node.specs.Nodes.{NodeView, has_ended}
-use Rattle.srm_node.specs.Turns.{HearsNow, DrawsNow, LeavesNow, TicksNow, GivesNow, HearsCut, DrawsCut, GivesCut, IsCut, Turned, TurnedDeaf, TurnEnds, Paused, RunsOf, Runs, RunEnds}
+use Rattle.srm_node.specs.Turns.{HearsNow, DrawsNow, LeavesNow, TicksNow, GivesNow, HearsCut, DrawsCut, GivesCut, IsCut, TurnToTick, Turned, TurnedDeaf, TurnEnds, Paused, RunsOf, Runs, RunEnds}
 use Rattle.srm_wire.proofs.Telling.{counts_on}
 
 -- a node that leaves isn't to leave again, unless memory ran out
@@ -54,11 +54,14 @@ cut_leaving now u w a b c d r is h x same = ends_cut r a d is (inr (inr (inl (re
 pub cut_ticking : (now : ℕ) (u w : Bool) (a b c d e : NodeView) (r : Result (Unit {0}) NodeFault) → IsErrAnd r (λ fault. fault ≡ Memory) → HearsNow now u a b → DrawsNow now w b c → LeavesNow now w c d → e ≡ d → TurnEnds r a e
 cut_ticking now u w a b c d e r is h x l same = ends_cut r a e is (inr (inr (inr (inl (record { now = now; none_left = w; unheard = u; heard = b; drawn = c; hears = h; draws = x; leaves = subst (λ n. LeavesNow now w c n) (sym same) l })))))
 
+pub turned_to_tick : (now : ℕ) (u v w : Bool) (a b c d e : NodeView) → HearsNow now u a b → DrawsNow now w b c → LeavesNow now w c d → TicksNow now v d e → TurnToTick u v a e
+turned_to_tick now u v w a b c d e h x l t = record { now = now; none_left = w; heard = b; drawn = c; left = d; hears = h; draws = x; leaves = l; ticks = t }
+
 pub cut_giving : (now : ℕ) (u v w : Bool) (a b c d e f : NodeView) (r : Result (Unit {0}) NodeFault) → IsErrAnd r (λ fault. fault ≡ Memory) → HearsNow now u a b → DrawsNow now w b c → LeavesNow now w c d → TicksNow now v d e → GivesCut e f → TurnEnds r a f
-cut_giving now u v w a b c d e f r is h x l t g = ends_cut r a f is (inr (inr (inr (inr (record { now = now; none_left = w; unheard = u; unsent = v; heard = b; drawn = c; left = d; ticked = e; hears = h; draws = x; leaves = l; ticks = t; gives = g })))))
+cut_giving now u v w a b c d e f r is h x l t g = ends_cut r a f is (inr (inr (inr (inr (record { unheard = u; unsent = v; ticked = e; to_tick = turned_to_tick now u v w a b c d e h x l t; gives = g })))))
 
 pub turned : (now : ℕ) (u v w : Bool) (a b c d e f : NodeView) → HearsNow now u a b → DrawsNow now w b c → LeavesNow now w c d → TicksNow now v d e → GivesNow PAGES e f → Turned u v a f
-turned now u v w a b c d e f h x l t g = record { now = now; none_left = w; heard = b; drawn = c; left = d; ticked = e; hears = h; draws = x; leaves = l; ticks = t; gives = g }
+turned now u v w a b c d e f h x l t g = record { ticked = e; to_tick = turned_to_tick now u v w a b c d e h x l t; gives = g }
 
 pub turned_whole : (now : ℕ) (u v w : Bool) (a b c d e f : NodeView) → HearsNow now u a b → DrawsNow now w b c → LeavesNow now w c d → TicksNow now v d e → GivesNow PAGES e f → (u || v) ≡ false → Turned false false a f
 turned_whole now true v w a b c d e f h x l t g none = cc

@@ -262,16 +262,18 @@ gives_all lane well = record {
 
 pub turned : (lane : LaneId) (well : WellView) → Turned false false (asked_before lane well) (ended lane well)
 turned lane well = record {
-  now = 1;
-  none_left = true;
-  heard = heard lane well;
-  drawn = drawn lane well;
-  left = left lane well;
   ticked = ticked lane well;
-  hears = hears lane well;
-  draws = draws_none lane well;
-  leaves = leaves lane well;
-  ticks = ticks_once lane well;
+  to_tick = record {
+    now = 1;
+    none_left = true;
+    heard = heard lane well;
+    drawn = drawn lane well;
+    left = left lane well;
+    hears = hears lane well;
+    draws = draws_none lane well;
+    leaves = leaves lane well;
+    ticks = ticks_once lane well;
+  };
   gives = gives_all lane well;
 }
 

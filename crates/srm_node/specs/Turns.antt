@@ -37,19 +37,23 @@ pub record GivesNow (below : ℕ) (old new : NodeView) : Type 0 where
   pub gives : GivesUpTo below old.journal new.journal old.feeds new.feeds
   pub same : new ≡ record old { journal = new.journal; feeds = new.feeds }
 
--- A turn at the moment that the clock gave: what came is heard, strokes are drawn, the member leaves if that is due, it ticks once,
--- and all slots are served.
-pub record Turned (unheard unsent : Bool) (old new : NodeView) : Type 0 where
+-- A turn at the moment that the clock gave, up to its tick: what came is heard, strokes are drawn, the member leaves if that is due, and it
+-- ticks once.
+pub record TurnToTick (unheard unsent : Bool) (old new : NodeView) : Type 0 where
   pub now : ℕ
   pub none_left : Bool
   pub heard : NodeView
   pub drawn : NodeView
   pub left : NodeView
-  pub ticked : NodeView
   pub hears : HearsNow now unheard old heard
   pub draws : DrawsNow now none_left heard drawn
   pub leaves : LeavesNow now none_left drawn left
-  pub ticks : TicksNow now unsent left ticked
+  pub ticks : TicksNow now unsent left new
+
+-- a turn, by which all slots are served behind the tick
+pub record Turned (unheard unsent : Bool) (old new : NodeView) : Type 0 where
+  pub ticked : NodeView
+  pub to_tick : TurnToTick unheard unsent old ticked
   pub gives : GivesNow PAGES ticked new
 
 -- the turn was done to its end, though a receive or a send failed, which the wire's count shows
@@ -111,18 +115,10 @@ pub record CutTicking (old new : NodeView) : Type 0 where
 
 -- in its last
 pub record CutGiving (old new : NodeView) : Type 0 where
-  pub now : ℕ
-  pub none_left : Bool
   pub unheard : Bool
   pub unsent : Bool
-  pub heard : NodeView
-  pub drawn : NodeView
-  pub left : NodeView
   pub ticked : NodeView
-  pub hears : HearsNow now unheard old heard
-  pub draws : DrawsNow now none_left heard drawn
-  pub leaves : LeavesNow now none_left drawn left
-  pub ticks : TicksNow now unsent left ticked
+  pub to_tick : TurnToTick unheard unsent old ticked
   pub gives : GivesCut ticked new
 
 -- The turn was cut by want of memory, in one of its parts. The parts before were done, each as in a whole turn.

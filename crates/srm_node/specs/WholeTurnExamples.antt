@@ -290,16 +290,18 @@ gives_all lane well = record {
 
 pub whole : (lane : LaneId) (well : WellView) → Turned false false (before lane well) (after lane well)
 whole lane well = record {
-  now = 1;
-  none_left = true;
-  heard = heard lane well;
-  drawn = drawn lane well;
-  left = drawn lane well;
   ticked = ticked lane well;
-  hears = hears lane well;
-  draws = draws_it lane well;
-  leaves = stays lane well;
-  ticks = ticks_once lane well;
+  to_tick = record {
+    now = 1;
+    none_left = true;
+    heard = heard lane well;
+    drawn = drawn lane well;
+    left = drawn lane well;
+    hears = hears lane well;
+    draws = draws_it lane well;
+    leaves = stays lane well;
+    ticks = ticks_once lane well;
+  };
   gives = gives_all lane well;
 }
 
