@@ -39,9 +39,7 @@ pub fn give_all<R: Wait, W: Words + Drop, P: Past<Entry> + Drop>(
         let place = usize::from(slot);
         let feed = &mut feeds[place];
         let last = &mut closed[place];
-        let Ok(()) = give_slot(rt, recorder, feed, slot, last) else {
-            return Err(OutOfMemory);
-        };
+        give_slot(rt, recorder, feed, slot, last)?;
     }
     Ok(())
 }
@@ -70,9 +68,7 @@ fn give_slot<R: Wait, W: Words + Drop, P: Past<Entry> + Drop>(
         if feed.credit() == 0 {
             return Ok(());
         }
-        let Ok(ended) = give_next(rt, recorder, feed, slot, closed) else {
-            return Err(OutOfMemory);
-        };
+        let ended = give_next(rt, recorder, feed, slot, closed)?;
         if ended {
             return Ok(());
         }

@@ -329,9 +329,7 @@ impl<W: Words + Drop, X: Wire + Drop, C: Clock + Drop, P: Past<Entry> + Drop> No
             self.buffer.as_mut_slice(),
             now,
         );
-        let Ok(listening) = listened else {
-            return Err(OutOfMemory);
-        };
+        let listening = listened?;
         self.heard = listening.count;
         Ok(listening.failed)
     }
@@ -347,9 +345,7 @@ impl<W: Words + Drop, X: Wire + Drop, C: Clock + Drop, P: Past<Entry> + Drop> No
         let hand = self.hand.take();
         let (kept, drew) = draw_strokes(rt, &mut self.recorder, &mut self.well, hand, now);
         self.hand = kept;
-        let Ok(drawn) = drew else {
-            return Err(OutOfMemory);
-        };
+        let drawn = drew?;
         self.drawn = drawn.count;
         Ok(drawn.none_left)
     }
@@ -377,9 +373,7 @@ impl<W: Words + Drop, X: Wire + Drop, C: Clock + Drop, P: Past<Entry> + Drop> No
         ensures words { WaitsByWords W.draw (recorded_in self.old) (recorded_in self.new) }
         ensures clock { self.new.clock ≡ self.old.clock }
     {
-        let Ok(ticked) = tick(&mut self.recorder, now) else {
-            return Err(OutOfMemory);
-        };
+        let ticked = tick(&mut self.recorder, now)?;
         Ok(send_all(
             &mut self.wire,
             self.config.me(),

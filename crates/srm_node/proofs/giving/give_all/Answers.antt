@@ -13,17 +13,17 @@ give_slot-requires-clause-closed g c = closed_at c.from-place.result c.loop-slot
 
 pub loop-slot-preserved : goal.loop-slot-preserved
 loop-slot-preserved g c = record {
-  words = waits_on g.W.Words.draw _ c.loop-slot.recorder _ c.loop-slot.invariant.words c.in-Ok.ensures.words;
-  gives = up_step c.loop-slot.slot c.from-place.result _ c.loop-slot.recorder.journal _ _ c.loop-slot.feeds.items c.index_mut-feed.result.now c.give_slot.new.feed c.loop-slot.invariant.gives c.from-place.ensures (omega (arith, c.requires.slots, c.loop-slot-test.true)) c.index_mut-feed.ensures.value c.in-Ok.ensures.gives;
-  closed = closed_set c.from-place.result c.loop-slot.feeds.items c.loop-slot.closed.items c.give_slot.new.closed c.give_slot.new.feed c.loop-slot.invariant.closed c.in-Ok.ensures.closed;
+  words = waits_on g.W.Words.draw _ c.loop-slot.recorder _ c.loop-slot.invariant.words c.in_ok-give_slot.ensures.words;
+  gives = up_step c.loop-slot.slot c.from-place.result _ c.loop-slot.recorder.journal _ _ c.loop-slot.feeds.items c.index_mut-feed.result.now c.give_slot.new.feed c.loop-slot.invariant.gives c.from-place.ensures (omega (arith, c.requires.slots, c.loop-slot-test.true)) c.index_mut-feed.ensures.value c.in_ok-give_slot.ensures.gives;
+  closed = closed_set c.from-place.result c.loop-slot.feeds.items c.loop-slot.closed.items c.give_slot.new.closed c.give_slot.new.feed c.loop-slot.invariant.closed c.in_ok-give_slot.ensures.closed;
   many = length-set c.loop-slot.closed.items c.from-place.result c.give_slot.new.closed ∙ c.loop-slot.invariant.many;
 }
 
-pub returns-in_default-clause-closed : goal.returns-in_default-clause-closed
-returns-in_default-clause-closed g c = closed_set c.from-place.result c.loop-slot.feeds.items c.loop-slot.closed.items c.give_slot.new.closed c.give_slot.new.feed c.loop-slot.invariant.closed c.in_default.ensures.closed
+pub returns-in_err-give_slot-clause-closed : goal.returns-in_err-give_slot-clause-closed
+returns-in_err-give_slot-clause-closed g c = closed_set c.from-place.result c.loop-slot.feeds.items c.loop-slot.closed.items c.give_slot.new.closed c.give_slot.new.feed c.loop-slot.invariant.closed c.in_err-give_slot.ensures.closed
 
-pub returns-in_default-clause-gives : goal.returns-in_default-clause-gives
-returns-in_default-clause-gives g c = up_stop c.loop-slot.slot c.from-place.result _ c.loop-slot.recorder.journal _ _ c.loop-slot.feeds.items c.index_mut-feed.result.now c.give_slot.new.feed c.loop-slot.invariant.gives c.from-place.ensures (omega (arith, c.requires.slots, c.loop-slot-test.true)) c.loop-slot-test.true c.index_mut-feed.ensures.value c.in_default.ensures.gives
+pub returns-in_err-give_slot-clause-gives : goal.returns-in_err-give_slot-clause-gives
+returns-in_err-give_slot-clause-gives g c = up_stop c.loop-slot.slot c.from-place.result _ c.loop-slot.recorder.journal _ _ c.loop-slot.feeds.items c.index_mut-feed.result.now c.give_slot.new.feed c.loop-slot.invariant.gives c.from-place.ensures (omega (arith, c.requires.slots, c.loop-slot-test.true)) c.loop-slot-test.true c.index_mut-feed.ensures.value c.in_err-give_slot.ensures.gives
 
-pub returns-in_default-clause-words : goal.returns-in_default-clause-words
-returns-in_default-clause-words g c = waits_on g.W.Words.draw _ c.loop-slot.recorder _ c.loop-slot.invariant.words c.in_default.ensures.words
+pub returns-in_err-give_slot-clause-words : goal.returns-in_err-give_slot-clause-words
+returns-in_err-give_slot-clause-words g c = waits_on g.W.Words.draw _ c.loop-slot.recorder _ c.loop-slot.invariant.words c.in_err-give_slot.ensures.words
