@@ -12,8 +12,8 @@ use Rattle.srm_bucket.specs.declared.class.Class.TheVariants.{Shown, New, Other}
 use Rattle.srm_bucket.specs.Fits.{Stays as BucketStays}
 use Rattle.srm_bucket.specs.Waiting.{Waiting, SameQueues, queue, count_of}
 use Rattle.srm_agent.specs.declared.agent.due.Due.{Due}
-use Rattle.srm_agent.specs.declared.agent.due.Report.{Report}
-use Rattle.srm_outbox.specs.declared.answers.Answer.{Answer}
+use Rattle.srm_agent.specs.declared.agent.due.DueMessage.{DueMessage}
+use Rattle.srm_outbox.specs.declared.due_items.DueItem.{DueItem}
 use Rattle.srm_entries.specs.declared.entry.Entry.{Entry}
 use Rattle.srm_entries.specs.declared.entry.Input.TheVariants.{Ticked}
 use Rattle.srm_outbox.specs.declared.out.Out.{Out}
@@ -31,7 +31,7 @@ use Rattle.srm_agent.specs.Fits.{Fits, BucketFits}
 use Rattle.srm_agent_state.specs.TimersKept.{TimersFit}
 use Rattle.srm_outbox.specs.Outs.{IsOut, IsOutgoing, IsOwn, AreOwn, datagrams_of}
 use Rattle.srm_agent_state.specs.TimerCalls.{TicksWith, TimersAdd, TimersStay}
-use Rattle.srm_outbox.specs.Answering.{AreAnswers}
+use Rattle.srm_outbox.specs.DueItems.{AreDueItems}
 use Rattle.srm_outbox.specs.Outbox.{WentContent}
 use Rattle.srm_agent.specs.Noting.{Stays}
 use Rattle.srm_agent.specs.Ticking.{TicksAs, tick_entry, IsReportAt, IsReportIf, IsDue, HandsOut, SendsAll, data_waits, last_report, state_after, due_then}
@@ -48,10 +48,10 @@ pub count_same : {T : Type 0} (old new : Waiting T) → SameQueues old new → c
 count_same old new same = rw (same Shown, same New, same Other) refl
 
 -- the message that ends a tick: for its answer, and for its entry
-abbrev pub out_of : Report → Out
+abbrev pub out_of : DueMessage → Out
 out_of r = r.outgoing.out
 
-abbrev pub noted_of : Report → Datagram
+abbrev pub noted_of : DueMessage → Datagram
 noted_of r = r.outgoing.noted
 
 -- want of memory: there is room in the bucket, the timers stay, and no word was drawn
@@ -63,16 +63,16 @@ tick_stays a b d room bucket rest timers words = record {
 }
 
 -- all steps of a tick, from the agent as it was to the one after it
-pub record Acts {W : Type 0} (draw : W → ℕ × W) (a b d f z : Content W) (moment : ℕ) (due : Due) (arms : List Arm) (went : WentContent) (last : Option Report) (outs : List Datagram) : Type 0 where
+pub record Acts {W : Type 0} (next_word : W → ℕ × W) (a b d f z : Content W) (moment : ℕ) (due : Due) (arms : List Arm) (went : WentContent) (last : Option DueMessage) (outs : List Datagram) : Type 0 where
   pub here : is_gone a.state ≡ false
   pub later : a.last ≤ moment
   pub due_is : IsDue a moment due
   pub room : b ≡ record a { bucket = b.bucket }
   pub bucket : BucketStays a.bucket b.bucket
-  pub handed : HandsOut draw b due.handed moment arms d
+  pub handed_out : HandsOut next_word b due.handed_out moment arms d
   pub handed_rest : d ≡ record b { timers = d.timers; words = d.words }
   pub waited : AreOwn d.config.me d.config.session d.bucket.waiting
-  pub sent : SendsAll moment due.answers.items d.bucket f.bucket went
+  pub sent : SendsAll moment due.due_items.items d.bucket f.bucket went
   pub sent_rest : f ≡ record d { bucket = f.bucket }
   pub last_is : last ≡ last_report (data_waits f.bucket) due.farewell due.report
   pub ended : z ≡ record f { state = state_after (data_waits f.bucket) due.farewell f.state; last = moment; due = due_then last f.due }
@@ -91,36 +91,36 @@ went_charged me session (o ∷ items) own = (ap is_session own.0.spelled.noted �
 
 -- what ends a tick
 
-each_last : (P : Report → Type 0) (waits : Bool) (farewell report : Option Report) → IfSome farewell P → IfSome report P → IfSome (last_report waits farewell report) P
+each_last : (P : DueMessage → Type 0) (waits : Bool) (farewell report : Option DueMessage) → IfSome farewell P → IfSome report P → IfSome (last_report waits farewell report) P
 each_last P true farewell report p q = q
 each_last P false None report p q = q
 each_last P false (Some r) report p q = p
 
-if_some : {W : Type 0} (a : Content W) (moment : ℕ) (farewell : Bool) (P : Report → Type 0) → ((r : Report) → IsReportAt a moment farewell r → P r) → (wanted : Bool) (o : Option Report) → IsReportIf wanted a moment farewell o → IfSome o P
+if_some : {W : Type 0} (a : Content W) (moment : ℕ) (farewell : Bool) (P : DueMessage → Type 0) → ((r : DueMessage) → IsReportAt a moment farewell r → P r) → (wanted : Bool) (o : Option DueMessage) → IsReportIf wanted a moment farewell o → IfSome o P
 if_some a moment farewell P each wanted None h = tt
 if_some a moment farewell P each wanted (Some r) h = each r h.1
 
-report_sent : {W : Type 0} (a : Content W) (moment : ℕ) (farewell : Bool) (r : Report) → IsReportAt a moment farewell r → IsSent a.config.me r.outgoing.noted
+report_sent : {W : Type 0} (a : Content W) (moment : ℕ) (farewell : Bool) (r : DueMessage) → IsReportAt a moment farewell r → IsSent a.config.me r.outgoing.noted
 report_sent a moment farewell r h = subst (IsSent a.config.me) (sym h.report.outgoing.noted) (record { sender = h.report.report.sender; spellable = h.report.report.spellable })
 
-report_next : {W : Type 0} (c : Config) (made : ℕ) (past : List Entry) (a : Content W) (moment : ℕ) (farewell : Bool) (r : Report) → Fits c made past a → IsReportAt a moment farewell r
+report_next : {W : Type 0} (c : Config) (made : ℕ) (past : List Entry) (a : Content W) (moment : ℕ) (farewell : Bool) (r : DueMessage) → Fits c made past a → IsReportAt a moment farewell r
     → r.next ≡ moment + session_interval c past r.outgoing.noted
 report_next c made past a moment farewell r fits h = h.next c made past fits ∙ ap (λ g. moment + session_interval c past g) (sym h.report.outgoing.noted)
 
-report_is : {W : Type 0} (c : Config) (made : ℕ) (past : List Entry) (a : Content W) (moment : ℕ) (farewell : Bool) (r : Report) → Fits c made past a → IsReportAt a moment farewell r → IsReport c past moment farewell r.outgoing.noted
+report_is : {W : Type 0} (c : Config) (made : ℕ) (past : List Entry) (a : Content W) (moment : ℕ) (farewell : Bool) (r : DueMessage) → Fits c made past a → IsReportAt a moment farewell r → IsReport c past moment farewell r.outgoing.noted
 report_is c made past a moment farewell r fits h = subst (IsReport c past moment farewell) (sym h.report.outgoing.noted) (h.report.report.right c made past fits)
 
-report_leaves : {W : Type 0} (a : Content W) (moment : ℕ) (farewell : Bool) (r : Report) → IsReportAt a moment farewell r → is_farewell r.outgoing.noted ≡ farewell
+report_leaves : {W : Type 0} (a : Content W) (moment : ℕ) (farewell : Bool) (r : DueMessage) → IsReportAt a moment farewell r → is_farewell r.outgoing.noted ≡ farewell
 report_leaves a moment farewell r h = ap is_farewell h.report.outgoing.noted ∙ h.report.report.farewell
 
-report_ends : {W : Type 0} (c : Config) (made : ℕ) (past : List Entry) (a : Content W) (moment : ℕ) → Fits c made past a → (is_due : Bool) (report : Option Report) → IsReportIf is_due a moment false report
+report_ends : {W : Type 0} (c : Config) (made : ℕ) (past : List Entry) (a : Content W) (moment : ℕ) → Fits c made past a → (is_due : Bool) (report : Option DueMessage) → IsReportIf is_due a moment false report
     → EndsIn c past moment (if is_due then Some false else None) (option_map noted_of report)
 report_ends c made past a moment fits false None h = tt
 report_ends c made past a moment fits true None h = absurd (cc)
 report_ends c made past a moment fits false (Some r) h = absurd (let k : false ≡ true = h.0 in cc)
 report_ends c made past a moment fits true (Some r) h = report_is c made past a moment false r fits h.1
 
-ends_in : {W : Type 0} (c : Config) (made : ℕ) (past : List Entry) (a : Content W) (moment : ℕ) → Fits c made past a → (old : AgentState) (waits is_due : Bool) (farewell report : Option Report) → is_gone old ≡ false
+ends_in : {W : Type 0} (c : Config) (made : ℕ) (past : List Entry) (a : Content W) (moment : ℕ) → Fits c made past a → (old : AgentState) (waits is_due : Bool) (farewell report : Option DueMessage) → is_gone old ≡ false
     → IsReportIf (is_leaving old) a moment true farewell → IsReportIf is_due a moment false report → EndsIn c past moment (ending_of old waits is_due) (option_map noted_of (last_report waits farewell report))
 ends_in c made past a moment fits Gone waits is_due farewell report here f r = absurd (cc)
 ends_in c made past a moment fits Active true is_due farewell report here f r = report_ends c made past a moment fits is_due report r
@@ -130,7 +130,7 @@ ends_in c made past a moment fits Leaving true is_due farewell report here f r =
 ends_in c made past a moment fits Leaving false is_due None report here f r = absurd (let k : true ≡ false = f in cc)
 ends_in c made past a moment fits Leaving false is_due (Some x) report here f r = report_is c made past a moment true x fits f.1
 
-due_is_by : (c : Config) (past : List Entry) (moment old : ℕ) (last : Option Report) → IfSome last (λ r. r.next ≡ moment + session_interval c past r.outgoing.noted)
+due_is_by : (c : Config) (past : List Entry) (moment old : ℕ) (last : Option DueMessage) → IfSome last (λ r. r.next ≡ moment + session_interval c past r.outgoing.noted)
     → due_then last old ≡ due_by c past moment old (option_map noted_of last)
 due_is_by c past moment old None h = refl
 due_is_by c past moment old (Some r) h = h
@@ -152,12 +152,12 @@ stays_here Active h = refl
 stays_here Leaving h = refl
 stays_here Gone h = refl
 
-report_state : {W : Type 0} (a : Content W) (moment : ℕ) (old : AgentState) → is_gone old ≡ false → (is_due : Bool) (report : Option Report) → IsReportIf is_due a moment false report
+report_state : {W : Type 0} (a : Content W) (moment : ℕ) (old : AgentState) → is_gone old ≡ false → (is_due : Bool) (report : Option DueMessage) → IsReportIf is_due a moment false report
     → old ≡ expected_state old (list_any is_farewell (option_to_list (option_map noted_of report))) (Some Ticked)
 report_state a moment old here is_due None h = stays_here old here
 report_state a moment old here is_due (Some r) h = stays_here old here ∙ ap (λ b. expected_state old (b || false) (Some Ticked)) (sym (report_leaves a moment false r h.1))
 
-state_is : {W : Type 0} (a : Content W) (moment : ℕ) (old : AgentState) (waits is_due : Bool) (farewell report : Option Report) → is_gone old ≡ false
+state_is : {W : Type 0} (a : Content W) (moment : ℕ) (old : AgentState) (waits is_due : Bool) (farewell report : Option DueMessage) → is_gone old ≡ false
     → IsReportIf (is_leaving old) a moment true farewell → IsReportIf is_due a moment false report
     → state_after waits farewell old ≡ expected_state old (list_any is_farewell (option_to_list (option_map noted_of (last_report waits farewell report)))) (Some Ticked)
 state_is a moment old true is_due None report here f r = report_state a moment old here is_due report r
@@ -171,10 +171,10 @@ not_twice false = refl
 
 -- the run with the entry
 
-acts_fits : {W : Type 0} (draw : W → ℕ × W) (a b d f z : Content W) (moment : ℕ) (due : Due) (arms : List Arm) (went : WentContent) (last : Option Report) (outs : List Datagram) (c : Config) (made : ℕ) (past : List Entry)
-    → Acts draw a b d f z moment due arms went last outs → Fits c made past a → Fits c made (past ++ tick_entry c.me moment due.handed.asks due.handed.fixes arms outs z.state ∷ []) z
-acts_fits draw a b d f z moment due arms went last outs c made past s h =
-    tick_fits c made moment past due.handed.asks due.handed.fixes arms outs z.state wanted went.noted o a z h keeps right refl (ap (λ x. x.last) s.ended)
+acts_fits : {W : Type 0} (next_word : W → ℕ × W) (a b d f z : Content W) (moment : ℕ) (due : Due) (arms : List Arm) (went : WentContent) (last : Option DueMessage) (outs : List Datagram) (c : Config) (made : ℕ) (past : List Entry)
+    → Acts next_word a b d f z moment due arms went last outs → Fits c made past a → Fits c made (past ++ tick_entry c.me moment due.handed_out.asks due.handed_out.fixes arms outs z.state ∷ []) z
+acts_fits next_word a b d f z moment due arms went last outs c made past s h =
+    tick_fits c made moment past due.handed_out.asks due.handed_out.fixes arms outs z.state wanted went.noted o a z h keeps right refl (ap (λ x. x.last) s.ended)
     (subst (TimersFit c (past ++ e ∷ [])) (sym same_timers) ticked.0.fits) (subst (BucketFits c (past ++ e ∷ [])) (sym (ap (λ x. x.bucket) s.ended)) in_bucket) due_right
   where
     waits : Bool
@@ -190,7 +190,7 @@ acts_fits draw a b d f z moment due arms went last outs c made past s h =
     o = option_map noted_of last
 
     e : Entry
-    e = tick_entry c.me moment due.handed.asks due.handed.fixes arms outs z.state
+    e = tick_entry c.me moment due.handed_out.asks due.handed_out.fixes arms outs z.state
 
     d_config : d.config ≡ a.config
     d_config = ap (λ x. x.config) s.handed_rest ∙ ap (λ x. x.config) s.room
@@ -217,15 +217,15 @@ acts_fits draw a b d f z moment due arms went last outs c made past s h =
       distances = ap (λ x. x.distances) s.ended ∙ ap (λ x. x.distances) s.sent_rest ∙ ap (λ x. x.distances) s.handed_rest ∙ ap (λ x. x.distances) s.room;
     }
 
-    ticks_with : TicksWith due.handed.asks due.handed.fixes moment arms e
+    ticks_with : TicksWith due.handed_out.asks due.handed_out.fixes moment arms e
     ticks_with = record { ticked = refl; heard = refl; moment = refl; drawn = refl; arms = refl; asks = refl; fixes = refl }
 
     ticked : TimersAdd c past e d.timers × TimersRight past e
-    ticked = s.handed.ticks.each c made past e before ticks_with here (s.due_is.handed.asks.each c past h.timers) (s.due_is.handed.fixes.each c past h.timers)
+    ticked = s.handed_out.ticks.each c made past e before ticks_with here (s.due_is.handed_out.asks.each c past h.timers) (s.due_is.handed_out.fixes.each c past h.timers)
 
     own : AllByRecursion (IsOwn d.config.me d.config.session) s.sent.lets.items
     own = s.sent.lets.own d.config.me d.config.session (s.sent.hands.own d.config.me d.config.session s.waited
-        (subst (λ k. AllByRecursion (λ x. IsOwn k.me k.session x.item.value) due.answers.items) (sym d_config) s.due_is.answers.spelled.own))
+        (subst (λ k. AllByRecursion (λ x. IsOwn k.me k.session x.item.value) due.due_items.items) (sym d_config) s.due_is.due_items.spelled.own))
 
     me_is : d.config.me ≡ c.me
     me_is = ap (λ k. k.me) d_config ∙ ap (λ k. k.me) h.config
@@ -244,7 +244,7 @@ acts_fits draw a b d f z moment due arms went last outs c made past s h =
         (if_some a moment true (λ r. IsSent c.me r.outgoing.noted) (λ r k. subst (λ m. IsSent m r.outgoing.noted) (ap (λ k. k.me) h.config) (report_sent a moment true r k)) (is_leaving a.state) due.farewell s.due_is.farewell)
         (if_some a moment false (λ r. IsSent c.me r.outgoing.noted) (λ r k. subst (λ m. IsSent m r.outgoing.noted) (ap (λ k. k.me) h.config) (report_sent a moment false r k)) is_due due.report s.due_is.report)))
       where
-        listed : (l : Option Report) → IfSome l (λ r. IsSent c.me r.outgoing.noted) → AllByRecursion (IsSent c.me) (option_to_list (option_map noted_of l))
+        listed : (l : Option DueMessage) → IfSome l (λ r. IsSent c.me r.outgoing.noted) → AllByRecursion (IsSent c.me) (option_to_list (option_map noted_of l))
         listed None k = tt
         listed (Some r) k = (k, tt)
 
@@ -256,11 +256,11 @@ acts_fits draw a b d f z moment due arms went last outs c made past s h =
         (if_some a moment false (λ r. r.next ≡ moment + session_interval c past r.outgoing.noted) (λ r k. report_next c made past a moment false r h k) is_due due.report s.due_is.report)))
 
     in_bucket : BucketFits c (past ++ e ∷ []) f.bucket
-    in_bucket = bucket_ticks c d.config.session past e d.bucket s.sent.handed f.bucket a.showing s.due_is.answers.datagrams due.answers.items went
+    in_bucket = bucket_ticks c d.config.session past e d.bucket s.sent.after_hand_in f.bucket a.showing s.due_is.due_items.datagrams due.due_items.items went
         (subst (BucketFits c past) (sym d_bucket) before.bucket) (subst (λ m. AreOwn m d.config.session d.bucket.waiting) me_is s.waited)
-        (subst (λ m. AreAnswers m d.config.session a.showing s.due_is.answers.datagrams due.answers.items) (ap (λ k. k.me) h.config) (subst (λ k. AreAnswers a.config.me k.session a.showing s.due_is.answers.datagrams due.answers.items) (sym d_config) s.due_is.answers.spelled))
+        (subst (λ m. AreDueItems m d.config.session a.showing s.due_is.due_items.datagrams due.due_items.items) (ap (λ k. k.me) h.config) (subst (λ k. AreDueItems a.config.me k.session a.showing s.due_is.due_items.datagrams due.due_items.items) (sym d_config) s.due_is.due_items.spelled))
         h.showing s.sent.hands s.sent.lets
-        (record { ticked = refl; here = here; drawn = refl; answers_are = s.due_is.answers.value c made past h; charged_are = charged_is c past e wanted went.noted o none s.outs_are ends })
+        (record { ticked = refl; here = here; drawn = refl; datagrams_are = s.due_is.due_items.value c made past h; charged_are = charged_is c past e wanted went.noted o none s.outs_are ends })
 
     ending_right : ending c made past e ≡ wanted
     ending_right = ending_is c made past e a.state waits is_due refl h.state
@@ -297,18 +297,18 @@ sent_spelled : (me session : ℕ) (items : List Outgoing) → AllByRecursion (Is
 sent_spelled me session [] own = tt
 sent_spelled me session (o ∷ items) own = (own.0.spelled.out, sent_spelled me session items own.1)
 
-last_out : (session : ℕ) (last : Option Report) → IfSome last (λ r. IsOutgoing session r.outgoing) → map (λ (x : Out). x.datagram) (option_to_list (option_map out_of last)) ≡ option_to_list (option_map noted_of last)
+last_out : (session : ℕ) (last : Option DueMessage) → IfSome last (λ r. IsOutgoing session r.outgoing) → map (λ (x : Out). x.datagram) (option_to_list (option_map out_of last)) ≡ option_to_list (option_map noted_of last)
 last_out session None h = refl
 last_out session (Some r) h = ap (λ g. g ∷ []) (sym h.noted)
 
-last_spelled : (session : ℕ) (last : Option Report) → IfSome last (λ r. IsOutgoing session r.outgoing) → AllByRecursion (IsOut session) (option_to_list (option_map out_of last))
+last_spelled : (session : ℕ) (last : Option DueMessage) → IfSome last (λ r. IsOutgoing session r.outgoing) → AllByRecursion (IsOut session) (option_to_list (option_map out_of last))
 last_spelled session None h = tt
 last_spelled session (Some r) h = (h.out, tt)
 
 -- what is answered is spelled, and its datagrams are those that are noted
-pub acts_outs : {W : Type 0} (draw : W → ℕ × W) (a b d f z : Content W) (moment : ℕ) (due : Due) (arms : List Arm) (went : WentContent) (last : Option Report) (outs : List Datagram) (answered : List Out)
-    → Acts draw a b d f z moment due arms went last outs → answered ≡ went.outs ++ option_to_list (option_map out_of last) → (outs ≡ datagrams_of answered) × AllByRecursion (IsOut a.config.session) answered
-acts_outs draw a b d f z moment due arms went last outs answered s is = (
+pub acts_outs : {W : Type 0} (next_word : W → ℕ × W) (a b d f z : Content W) (moment : ℕ) (due : Due) (arms : List Arm) (went : WentContent) (last : Option DueMessage) (outs : List Datagram) (answered : List Out)
+    → Acts next_word a b d f z moment due arms went last outs → answered ≡ went.outs ++ option_to_list (option_map out_of last) → (outs ≡ datagrams_of answered) × AllByRecursion (IsOut a.config.session) answered
+acts_outs next_word a b d f z moment due arms went last outs answered s is = (
   sym (ap datagrams_of is ∙ map-append (λ (x : Out). x.datagram) went.outs (option_to_list (option_map out_of last))
       ∙ ap (λ xs. datagrams_of xs ++ datagrams_of (option_to_list (option_map out_of last))) s.sent.lets.outs
       ∙ ap (λ gs. gs ++ datagrams_of (option_to_list (option_map out_of last))) (sent_outs d.config.me d.config.session s.sent.lets.items own ∙ sym s.sent.lets.noted)
@@ -323,7 +323,7 @@ acts_outs draw a b d f z moment due arms went last outs answered s is = (
 
     own : AllByRecursion (IsOwn d.config.me d.config.session) s.sent.lets.items
     own = s.sent.lets.own d.config.me d.config.session (s.sent.hands.own d.config.me d.config.session s.waited
-        (subst (λ k. AllByRecursion (λ x. IsOwn k.me k.session x.item.value) due.answers.items) (sym d_config) s.due_is.answers.spelled.own))
+        (subst (λ k. AllByRecursion (λ x. IsOwn k.me k.session x.item.value) due.due_items.items) (sym d_config) s.due_is.due_items.spelled.own))
 
     ending : IfSome last (λ r. IsOutgoing a.config.session r.outgoing)
     ending = subst (λ l. IfSome l (λ r. IsOutgoing a.config.session r.outgoing)) (sym s.last_is) (each_last (λ r. IsOutgoing a.config.session r.outgoing) (data_waits f.bucket) due.farewell due.report
@@ -331,18 +331,18 @@ acts_outs draw a b d f z moment due arms went last outs answered s is = (
         (if_some a moment false (λ r. IsOutgoing a.config.session r.outgoing) (λ r k. k.report.outgoing) (nat_le a.due moment) due.report s.due_is.report))
 
 -- the entry of what is answered
-pub acts_ticks : {W : Type 0} (draw : W → ℕ × W) (a b d f z : Content W) (moment : ℕ) (due : Due) (arms : List Arm) (went : WentContent) (last : Option Report) (outs : List Datagram) (answered : List Out)
-    → Acts draw a b d f z moment due arms went last outs → answered ≡ went.outs ++ option_to_list (option_map out_of last)
-    → TicksAs draw moment moment a z (record { asks = due.handed.asks; fixes = due.handed.fixes; arms = arms; outs = answered; state = z.state })
-acts_ticks draw a b d f z moment due arms went last outs answered s is = record {
+pub acts_ticks : {W : Type 0} (next_word : W → ℕ × W) (a b d f z : Content W) (moment : ℕ) (due : Due) (arms : List Arm) (went : WentContent) (last : Option DueMessage) (outs : List Datagram) (answered : List Out)
+    → Acts next_word a b d f z moment due arms went last outs → answered ≡ went.outs ++ option_to_list (option_map out_of last)
+    → TicksAs next_word moment moment a z (record { asks = due.handed_out.asks; fixes = due.handed_out.fixes; arms = arms; outs = answered; state = z.state })
+acts_ticks next_word a b d f z moment due arms went last outs answered s is = record {
   enters = record {
     input_is = refl;
     moment_is = at_last a.last moment s.later;
     fits = λ c made past h. subst (λ x. Fits c made (past ++ x ∷ []) z)
-        (ap (λ gs. tick_entry c.me moment due.handed.asks due.handed.fixes arms gs z.state) same.0 ∙ ap (λ k. tick_entry k.me moment due.handed.asks due.handed.fixes arms (datagrams_of answered) z.state) (sym h.config))
-        (acts_fits draw a b d f z moment due arms went last outs c made past s h);
-    words = subst (λ w. AreChosen draw (low_of a.config) (high_of a.config) a.words arms w) (sym (ap (λ x. x.words) s.ended ∙ ap (λ x. x.words) s.sent_rest))
-        (subst (λ k. AreChosen draw (low_of k) (high_of k) a.words arms d.words) (ap (λ x. x.config) s.room) (subst (λ w. AreChosen draw (low_of b.config) (high_of b.config) w arms d.words) (ap (λ x. x.words) s.room) s.handed.drawn));
+        (ap (λ gs. tick_entry c.me moment due.handed_out.asks due.handed_out.fixes arms gs z.state) same.0 ∙ ap (λ k. tick_entry k.me moment due.handed_out.asks due.handed_out.fixes arms (datagrams_of answered) z.state) (sym h.config))
+        (acts_fits next_word a b d f z moment due arms went last outs c made past s h);
+    words = subst (λ w. AreChosen next_word (low_of a.config) (high_of a.config) a.words arms w) (sym (ap (λ x. x.words) s.ended ∙ ap (λ x. x.words) s.sent_rest))
+        (subst (λ k. AreChosen next_word (low_of k) (high_of k) a.words arms d.words) (ap (λ x. x.config) s.room) (subst (λ w. AreChosen next_word (low_of b.config) (high_of b.config) w arms d.words) (ap (λ x. x.words) s.room) s.handed_out.chosen));
   };
   spelled = same.1;
 }
@@ -351,15 +351,15 @@ acts_ticks draw a b d f z moment due arms went last outs answered s is = record 
     at_last last moment late = omega (arith, late)
 
     same : (outs ≡ datagrams_of answered) × AllByRecursion (IsOut a.config.session) answered
-    same = acts_outs draw a b d f z moment due arms went last outs answered s is
+    same = acts_outs next_word a b d f z moment due arms went last outs answered s is
 
 -- there is room for the answers, which are own
-pub room_to_send : {W : Type 0} (a b d : Content W) (answers count room : ℕ) → b ≡ record a { bucket = b.bucket } → SameQueues a.bucket.waiting b.bucket.waiting → d ≡ record b { timers = d.timers; words = d.words }
-    → count ≡ answers → count_of a.bucket.waiting + count < room → count_of d.bucket.waiting + answers < room
-room_to_send a b d answers count room is same rest counted less =
+pub room_to_send : {W : Type 0} (a b d : Content W) (due_items count room : ℕ) → b ≡ record a { bucket = b.bucket } → SameQueues a.bucket.waiting b.bucket.waiting → d ≡ record b { timers = d.timers; words = d.words }
+    → count ≡ due_items → count_of a.bucket.waiting + count < room → count_of d.bucket.waiting + due_items < room
+room_to_send a b d due_items count room is same rest counted less =
     let k : count_of d.bucket.waiting ≡ count_of a.bucket.waiting = ap (λ x. count_of x.bucket.waiting) rest ∙ count_same a.bucket.waiting b.bucket.waiting same in
     omega (arith, less, counted)
 
-pub own_to_send : {W : Type 0} (a b d : Content W) (answers : List Answer) → b ≡ record a { bucket = b.bucket } → d ≡ record b { timers = d.timers; words = d.words }
-    → AllByRecursion (λ x. IsOwn a.config.me a.config.session x.item.value) answers → AllByRecursion (λ x. IsOwn d.config.me d.config.session x.item.value) answers
-own_to_send a b d answers is rest own = subst (λ k. AllByRecursion (λ x. IsOwn k.me k.session x.item.value) answers) (sym (ap (λ x. x.config) rest ∙ ap (λ x. x.config) is)) own
+pub own_to_send : {W : Type 0} (a b d : Content W) (due_items : List DueItem) → b ≡ record a { bucket = b.bucket } → d ≡ record b { timers = d.timers; words = d.words }
+    → AllByRecursion (λ x. IsOwn a.config.me a.config.session x.item.value) due_items → AllByRecursion (λ x. IsOwn d.config.me d.config.session x.item.value) due_items
+own_to_send a b d due_items is rest own = subst (λ k. AllByRecursion (λ x. IsOwn k.me k.session x.item.value) due_items) (sym (ap (λ x. x.config) rest ∙ ap (λ x. x.config) is)) own

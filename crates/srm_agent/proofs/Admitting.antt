@@ -34,7 +34,7 @@ last_of c made past a h = ap (last_moment made) h.bucket.entries ∙ sym h.last
 pub admitted : {W : Type 0} (a : Content W) (body bytes now moment : ℕ) (answer : Bool) → bytes ≡ draw_length body → moment ≡ max now a.last → Admits New bytes moment a.bucket answer → DrawAdmitted body now a answer
 admitted a body bytes now moment answer length counts admits_at = record {
   each = λ c made past h. record {
-    marked = (h.bucket.goings, h.bucket.entries, h.bucket.goes, so_far c made past a h);
+    goings = (h.bucket.goings, h.bucket.entries, h.bucket.goes, so_far c made past a h);
     is = admits_at.each c.rate c.depth h.bucket.calls h.bucket.fits ∙ over_entries c made past a h bytes moment
         ∙ ap (λ n. admits c.rate c.depth (bucket_calls c.me h.bucket.goings) New n moment) length
         ∙ ap (λ m. admits c.rate c.depth (bucket_calls c.me h.bucket.goings) New (draw_length body) m) (counts ∙ ap (max now) (sym (last_of c made past a h)));
@@ -53,7 +53,7 @@ module _ {W : Type 0} (a : Content W) (body bytes : ℕ) (length : bytes ≡ dra
   pub never_admitted : AdmitsFrom New bytes a.bucket None → DrawAdmittedFrom body a None
   never_admitted none = record {
     each = λ c made past h. record {
-      marked = (h.bucket.goings, h.bucket.entries, h.bucket.goes, so_far c made past a h);
+      goings = (h.bucket.goings, h.bucket.entries, h.bucket.goes, so_far c made past a h);
       not_before = tt;
       exactly = λ now l.
           let k : last_of_calls h.bucket.calls ≤ last_moment made past = calls_before c made past a h in
@@ -65,7 +65,7 @@ module _ {W : Type 0} (a : Content W) (body bytes : ℕ) (length : bytes ≡ dra
   pub admitted_from : (first : ℕ) → AdmitsFrom New bytes a.bucket (Some first) → DrawAdmittedFrom body a (Some (max a.last first))
   admitted_from first some = record {
     each = λ c made past h. record {
-      marked = (h.bucket.goings, h.bucket.entries, h.bucket.goes, so_far c made past a h);
+      goings = (h.bucket.goings, h.bucket.entries, h.bucket.goes, so_far c made past a h);
       not_before = (let last : a.last ≡ last_moment made past = h.last in omega (arith, last));
       exactly = λ now l.
           let k : last_of_calls h.bucket.calls ≤ last_moment made past = calls_before c made past a h in

@@ -28,21 +28,21 @@ pub answers_by : {W : Type 0} (a : Content W) (moment : ℕ) (input : Input) (h 
 answers_by a moment input h = (refl, refl)
 
 -- what is answered of a datagram, of noise, and of a member that is gone
-pub hears_datagram : {W : Type 0} (draw : W → ℕ × W) (a b : Content W) (now moment session : ℕ) (bytes : List ℕ) (g : Datagram) (h : answers.Heard) → is_gone a.state ≡ false → session ≡ a.config.session → judge session bytes ≡ Ok g
-    → moment ≡ max now a.last → Enters draw (Some moment) (Heard g) a b (entry_by a moment (Heard g) h) → IsJudgedBy g a (entry_by a moment (Heard g) h) → HeardAs draw now bytes a b (Ok h)
-hears_datagram draw a b now moment session bytes g h here same judged at enters by =
+pub hears_datagram : {W : Type 0} (next_word : W → ℕ × W) (a b : Content W) (now moment session : ℕ) (bytes : List ℕ) (g : Datagram) (h : answers.Heard) → is_gone a.state ≡ false → session ≡ a.config.session → judge session bytes ≡ Ok g
+    → moment ≡ max now a.last → Enters next_word (Some moment) (Heard g) a b (entry_by a moment (Heard g) h) → IsJudgedBy g a (entry_by a moment (Heard g) h) → HeardAs next_word now bytes a b (Ok h)
+hears_datagram next_word a b now moment session bytes g h here same judged at enters by =
     let e = entry_by a moment (Heard g) h in
-    (e, read_enters draw a b now moment (Heard g) e at enters, heard_reads draw a b moment session bytes g e here same judged enters by, answers_by a moment (Heard g) h)
+    (e, read_enters next_word a b now moment (Heard g) e at enters, heard_reads next_word a b moment session bytes g e here same judged enters by, answers_by a moment (Heard g) h)
 
-pub hears_noise : {W : Type 0} (draw : W → ℕ × W) (a b : Content W) (now moment session : ℕ) (bytes : List ℕ) (fault : DecodeFault) (h : answers.Heard) → is_gone a.state ≡ false → session ≡ a.config.session
-    → IsJudged takes_memory (Err fault) (judge session bytes) → moment ≡ max now a.last → Enters draw (Some moment) Noise a b (entry_by a moment Noise h) → IsNoiseFor fault (entry_by a moment Noise h) → HeardAs draw now bytes a b (Ok h)
-hears_noise draw a b now moment session bytes fault h here same judged at enters noise =
+pub hears_noise : {W : Type 0} (next_word : W → ℕ × W) (a b : Content W) (now moment session : ℕ) (bytes : List ℕ) (fault : DecodeFault) (h : answers.Heard) → is_gone a.state ≡ false → session ≡ a.config.session
+    → IsJudged takes_memory (Err fault) (judge session bytes) → moment ≡ max now a.last → Enters next_word (Some moment) Noise a b (entry_by a moment Noise h) → IsNoiseFor fault (entry_by a moment Noise h) → HeardAs next_word now bytes a b (Ok h)
+hears_noise next_word a b now moment session bytes fault h here same judged at enters noise =
     let e = entry_by a moment Noise h in
-    (e, read_enters draw a b now moment Noise e at enters, noise_reads a session bytes fault e here same judged noise, answers_by a moment Noise h)
+    (e, read_enters next_word a b now moment Noise e at enters, noise_reads a session bytes fault e here same judged noise, answers_by a moment Noise h)
 
-pub hears_gone : {W : Type 0} (draw : W → ℕ × W) (a b : Content W) (now moment : ℕ) (bytes : List ℕ) (h : answers.Heard) → is_gone a.state ≡ true → b ≡ record a { last = moment } → h ≡ record { arms = []; outcome = outcomes.Ignored causes.Gone }
-    → moment ≡ max now a.last → HeardAs draw now bytes a b (Ok h)
-hears_gone draw a b now moment bytes h gone new is at =
+pub hears_gone : {W : Type 0} (next_word : W → ℕ × W) (a b : Content W) (now moment : ℕ) (bytes : List ℕ) (h : answers.Heard) → is_gone a.state ≡ true → b ≡ record a { last = moment } → h ≡ record { arms = []; outcome = outcomes.Ignored causes.Gone }
+    → moment ≡ max now a.last → HeardAs next_word now bytes a b (Ok h)
+hears_gone next_word a b now moment bytes h gone new is at =
     let e = entry_by a moment Noise h in
     let e_is = ignored_by a moment Noise causes.Gone h is in
-    (e, gone_enters draw a b now moment e gone new e_is at, gone_reads a moment bytes e gone e_is, answers_by a moment Noise h)
+    (e, gone_enters next_word a b now moment e gone new e_is at, gone_reads a moment bytes e gone e_is, answers_by a moment Noise h)

@@ -16,7 +16,7 @@ use Rattle.srm_entries.specs.Causes.{ignored_for}
 use Rattle.srm_entries.specs.Configs.{Config}
 use Rattle.srm_entries.specs.Entries.{is_gone, state, known, held_at, drawops_in}
 use Rattle.srm_agent_state.specs.PageTables.{lacks_room_for}
-use Rattle.srm_entries.specs.Verdicts.{verdict_of, first_cause, is_stranger, is_beyond, says_too_little, overflows, differs, drawn_in, stream_on}
+use Rattle.srm_entries.specs.Verdicts.{verdict_of, first_cause, is_stranger, is_beyond, says_too_little, lacks_slots_for, differs, drawn_in, stream_on}
 use Rattle.srm_agent.specs.Contents.{Content}
 use Rattle.srm_agent.specs.Fits.{Fits}
 
@@ -44,7 +44,7 @@ same_stranger : {W : Type 0} (c : Config) (made : ℕ) (past : List Entry) (a : 
 same_stranger c made past a g names b j e = ap (λ s. is_stranger s g) (sym j.fits.config) ∙ e
 
 same_room : {W : Type 0} (c : Config) (made : ℕ) (past : List Entry) (a : Content W) (g : Datagram) (names : List FullName) (b : Bool) → Judged c made past a g names → lacks_room_for a.pages names ≡ b
-    → overflows past (map (λ (n : FullName). n.stream.page) (names_in g)) ≡ b
+    → lacks_slots_for past (map (λ (n : FullName). n.stream.page) (names_in g)) ≡ b
 same_room c made past a g names b j e = ap (λ ps. lacks_room_for ps (names_in g)) (sym j.fits.pages) ∙ ap (lacks_room_for a.pages) (sym j.of) ∙ e
 
 same_beyond : {W : Type 0} (c : Config) (made : ℕ) (past : List Entry) (a : Content W) (g : Datagram) (names : List FullName) (b : Bool) → Judged c made past a g names → (list_any (is_beyond c.me past) names || says_too_little past g) ≡ b

@@ -45,7 +45,7 @@ use Rattle.srm_entries.specs.Configs.{Config}
 use Rattle.srm_entries.specs.Entries.{done, accepted, held, evidence_by, evidence_in, drawn, is_held, is_missing, known, slots, pages_in, state, is_gone, is_leaving, last_moment}
 use Rattle.srm_entries.specs.Distances.{distance_calls, calls_in}
 use Rattle.srm_entries.specs.Timers.{last_ask, fix_running, held_off, asker, basis_of, fix_basis_of, ask_basis_of, ask_exponent, ArmsRight, TimersRight, only_if}
-use Rattle.srm_entries.specs.Verdicts.{first_cause, verdict_of, overflows, drawn_in, stream_on, settlings, settling_of}
+use Rattle.srm_entries.specs.Verdicts.{first_cause, verdict_of, lacks_slots_for, drawn_in, stream_on, settlings, settling_of}
 use Rattle.srm_entries.specs.Sessions.{session_due, interval_after}
 use Rattle.srm_entries.specs.Bucket.{Going, GoesAsCharged, bucket_calls, classed}
 use Rattle.srm_entries.specs.Runs.{EntryRight}
@@ -128,7 +128,7 @@ in_append q xs ys zs more h = elim (Has-append q xs zs (in_has (xs ++ zs) q h)) 
   | inr r ↦ has_in (ys ++ zs) q (Has-back q ys zs r)
 ]
 
-pub slots_suffice : (c : Config) (made : ℕ) (es : List Entry) (pages : List Page) → AllByRecursion (EntryRight c made) (steps es) → overflows es pages ≡ false → outgrow (held es) (evidence_in es) pages ≡ false
+pub slots_suffice : (c : Config) (made : ℕ) (es : List Entry) (pages : List Page) → AllByRecursion (EntryRight c made) (steps es) → lacks_slots_for es pages ≡ false → outgrow (held es) (evidence_in es) pages ≡ false
 slots_suffice c made es pages all fine =
     let named : List Page = pages_named (held es) (evidence_in es) ++ pages in
     let table : List Page = slots es ++ pages in
@@ -252,7 +252,7 @@ module _ (me moment : ℕ) (page : Page) (body : List ℕ) (stamp : ℕ) (after 
     fixes = h.fixes;
     fix_timers = λ n. h.fix_timers n ∙ sym (fix_running-snoc past e n);
     askers = λ n. h.askers n ∙ sym (first_of-snoc (asker n) past e ∙ or_else-none (first_of (asker n) past));
-    offs = λ n now. h.offs n now ∙ sym (held_off-snoc c.me past e n now ∙ or_no (held_off c.me past n now));
+    hold_offs = λ n now. h.hold_offs n now ∙ sym (held_off-snoc c.me past e n now ∙ or_no (held_off c.me past n now));
   }
     where
       or_no : (b : Bool) → (b || false) ≡ b
@@ -375,14 +375,14 @@ full_last c past page = (nat_le DRAWOPS (drawn_in past (stream_on c.me page)), R
 
 -- the first four as the agent keeps them
 kept_refusals : {W : Type 0} (c : Config) (made : ℕ) (past : List Entry) (a : Content W) (page : Page) (body : List ℕ) (v : Verdict) → Fits c made past a
-    → v ≡ first_cause (refusals a.state a.pages page (length body)) → v ≡ first_cause (in_turn (is_gone (state past)) (is_leaving (state past)) (nat_lt LONGEST_BODY (length body)) (overflows past (page ∷ [])) [])
+    → v ≡ first_cause (refusals a.state a.pages page (length body)) → v ≡ first_cause (in_turn (is_gone (state past)) (is_leaving (state past)) (nat_lt LONGEST_BODY (length body)) (lacks_slots_for past (page ∷ [])) [])
 kept_refusals c made past a page body v h r = r ∙ ap (λ s. first_cause (refusals s a.pages page (length body))) h.state ∙ ap (λ ps. first_cause (refusals (state past) ps page (length body))) h.pages
 
-pub draw_refused : {W : Type 0} (draw : W → ℕ × W) (a : Content W) (now moment : ℕ) (page : Page) (body : List ℕ) (fault : AgentFault) (x : Entry) → Refused fault ≡ first_cause (refusals a.state a.pages page (length body))
-    → x ≡ still_entry a.config.me moment (Drew page body) (Refused fault) None a.state → moment ≡ max now a.last → Enters draw (Some now) (Drew page body) a a x
-draw_refused draw a now moment page body fault x refused is at =
-    refused_enters draw a now moment (Drew page body) fault x is at refl refl (λ j. refl) (λ c past. refl)
-    (λ c made past h. first_stays (is_gone (state past)) (is_leaving (state past)) (nat_lt LONGEST_BODY (length body)) (overflows past (page ∷ [])) (full_last c past page) fault (kept_refusals c made past a page body (Refused fault) h refused))
+pub draw_refused : {W : Type 0} (next_word : W → ℕ × W) (a : Content W) (now moment : ℕ) (page : Page) (body : List ℕ) (fault : AgentFault) (x : Entry) → Refused fault ≡ first_cause (refusals a.state a.pages page (length body))
+    → x ≡ still_entry a.config.me moment (Drew page body) (Refused fault) None a.state → moment ≡ max now a.last → Enters next_word (Some now) (Drew page body) a a x
+draw_refused next_word a now moment page body fault x refused is at =
+    refused_enters next_word a now moment (Drew page body) fault x is at refl refl (λ j. refl) (λ c past. refl)
+    (λ c made past h. first_stays (is_gone (state past)) (is_leaving (state past)) (nat_lt LONGEST_BODY (length body)) (lacks_slots_for past (page ∷ [])) (full_last c past page) fault (kept_refusals c made past a page body (Refused fault) h refused))
 
 full_name : (s : Stream) (k : ℕ) → None ≡ name_after s k → nat_le DRAWOPS k ≡ true
 full_name s k none = go (nat_le DRAWOPS k) refl
@@ -406,13 +406,13 @@ fullness : {W : Type 0} (c : Config) (made : ℕ) (past : List Entry) (a : Conte
     → (if b then Refused faults.StreamFull else Done) ≡ first_cause (full_last c past page)
 fullness c made past a page b h q = ap (λ (x : Bool). if x then Refused faults.StreamFull else Done) (sym q ∙ ap (nat_le DRAWOPS) (sym (h.own page)))
 
-pub draw_full : {W : Type 0} (draw : W → ℕ × W) (a : Content W) (now moment : ℕ) (page : Page) (body : List ℕ) (x : Entry) → Done ≡ first_cause (refusals a.state a.pages page (length body))
-    → Names a page None → x ≡ still_entry a.config.me moment (Drew page body) (Refused faults.StreamFull) None a.state → moment ≡ max now a.last → Enters draw (Some now) (Drew page body) a a x
-draw_full draw a now moment page body x fine none is at =
-    refused_enters draw a now moment (Drew page body) faults.StreamFull x is at refl refl (λ j. refl) (λ c past. refl)
+pub draw_full : {W : Type 0} (next_word : W → ℕ × W) (a : Content W) (now moment : ℕ) (page : Page) (body : List ℕ) (x : Entry) → Done ≡ first_cause (refusals a.state a.pages page (length body))
+    → Names a page None → x ≡ still_entry a.config.me moment (Drew page body) (Refused faults.StreamFull) None a.state → moment ≡ max now a.last → Enters next_word (Some now) (Drew page body) a a x
+draw_full next_word a now moment page body x fine none is at =
+    refused_enters next_word a now moment (Drew page body) faults.StreamFull x is at refl refl (λ j. refl) (λ c past. refl)
     (λ c made past h.
     fullness c made past a page true h (full_name (stream_on c.me page) (known past (stream_on c.me page)) (none c made past h))
-    ∙ last_counts (is_gone (state past)) (is_leaving (state past)) (nat_lt LONGEST_BODY (length body)) (overflows past (page ∷ [])) (full_last c past page) (kept_refusals c made past a page body Done h fine))
+    ∙ last_counts (is_gone (state past)) (is_leaving (state past)) (nat_lt LONGEST_BODY (length body)) (lacks_slots_for past (page ∷ [])) (full_last c past page) (kept_refusals c made past a page body Done h fine))
 
 four_fine : (gone leaving long full : Bool) → Done ≡ first_cause (in_turn gone leaving long full []) → full ≡ false
 four_fine true leaving long full r = absurd (refused_is_not_done _ (sym r))
@@ -422,15 +422,15 @@ four_fine false false false true r = absurd (refused_is_not_done _ (sym r))
 four_fine false false false false r = refl
 
 -- the store has slots where the page table has
-pub draw_unslotted : {W : Type 0} (draw : W → ℕ × W) (a b : Content W) (now moment : ℕ) (page : Page) (body : List ℕ) (name : FullName) (x : Entry) → Done ≡ first_cause (refusals a.state a.pages page (length body))
+pub draw_unslotted : {W : Type 0} (next_word : W → ℕ × W) (a b : Content W) (now moment : ℕ) (page : Page) (body : List ℕ) (name : FullName) (x : Entry) → Done ≡ first_cause (refusals a.state a.pages page (length body))
     → Names a page (Some name) → b ≡ a
     → ((inserted : List Drawop) (evidence : List FullName) (settled : List Settling) → store.Fits inserted evidence settled a.store → outgrow inserted evidence (name.stream.page ∷ []) ≡ true)
-    → x ≡ still_entry b.config.me moment (Drew page body) (Refused faults.PageLimit) None b.state → moment ≡ max now a.last → Enters draw (Some now) (Drew page body) a b x
-draw_unslotted draw a b now moment page body name x fine some same full is at = subst (λ y. Enters draw (Some now) (Drew page body) a y x) (sym same)
-    (refused_enters draw a now moment (Drew page body) faults.PageLimit x (subst (λ (y : Content _). x ≡ still_entry y.config.me moment (Drew page body) (Refused faults.PageLimit) None y.state) same is) at refl refl (λ j. refl) (λ c past. refl)
+    → x ≡ still_entry b.config.me moment (Drew page body) (Refused faults.PageLimit) None b.state → moment ≡ max now a.last → Enters next_word (Some now) (Drew page body) a b x
+draw_unslotted next_word a b now moment page body name x fine some same full is at = subst (λ y. Enters next_word (Some now) (Drew page body) a y x) (sym same)
+    (refused_enters next_word a now moment (Drew page body) faults.PageLimit x (subst (λ (y : Content _). x ≡ still_entry y.config.me moment (Drew page body) (Refused faults.PageLimit) None y.state) same is) at refl refl (λ j. refl) (λ c past. refl)
     (λ c made past h.
     let named_so = (next_of_name (stream_on c.me page) (known past (stream_on c.me page)) name (some c made past h)).1 in
-    let room = four_fine (is_gone (state past)) (is_leaving (state past)) (nat_lt LONGEST_BODY (length body)) (overflows past (page ∷ [])) (kept_refusals c made past a page body Done h fine) in
+    let room = four_fine (is_gone (state past)) (is_leaving (state past)) (nat_lt LONGEST_BODY (length body)) (lacks_slots_for past (page ∷ [])) (kept_refusals c made past a page body Done h fine) in
     let short = slots_suffice c made past (page ∷ []) h.run room in
     let long = full (held past) (evidence_in past) (settlings past) h.store in
     absurd (false≢true (sym short ∙ ap (λ (n : FullName). outgrow (held past) (evidence_in past) (n.stream.page ∷ [])) (sym named_so) ∙ long))))
@@ -458,19 +458,19 @@ judged_done : {W : Type 0} (c : Config) (made : ℕ) (past : List Entry) (a : Co
     → Done ≡ first_cause (refusals a.state a.pages page (length body)) → Names a page (Some name) → Fits c made past a → Done ≡ verdict_of c past (Drew page body)
 judged_done c made past a page body name fine some h =
     fullness c made past a page false h (next_of_name (stream_on c.me page) (known past (stream_on c.me page)) name (some c made past h)).0
-    ∙ last_counts (is_gone (state past)) (is_leaving (state past)) (nat_lt LONGEST_BODY (length body)) (overflows past (page ∷ [])) (full_last c past page) (kept_refusals c made past a page body Done h fine)
+    ∙ last_counts (is_gone (state past)) (is_leaving (state past)) (nat_lt LONGEST_BODY (length body)) (lacks_slots_for past (page ∷ [])) (full_last c past page) (kept_refusals c made past a page body Done h fine)
 
 pub draw_allowed : {W : Type 0} (a : Content W) (page : Page) (body : List ℕ) (name : FullName) → Done ≡ first_cause (refusals a.state a.pages page (length body)) → Names a page (Some name) → IsAllowed (Drew page body) a
 draw_allowed a page body name fine some = record { each = λ c made past h. sym (judged_done c made past a page body name fine some h) }
 
-pub draw_done : {W : Type 0} (draw : W → ℕ × W) (a b n : Content W) (now moment : ℕ) (page : Page) (body : List ℕ) (name : FullName) (draft : Draft) (x : Entry)
+pub draw_done : {W : Type 0} (next_word : W → ℕ × W) (a b n : Content W) (now moment : ℕ) (page : Page) (body : List ℕ) (name : FullName) (draft : Draft) (x : Entry)
     → Done ≡ first_cause (refusals a.state a.pages page (length body)) → Names a page (Some name) → moment ≡ max now a.last
     → b ≡ record a { store = b.store; bucket = b.bucket } → StillFits a.store b.store → bucket.Stays a.bucket b.bucket
     → IsDraftOf a.config.session (record { name = name; stamp = moment; body = body }) draft → is_drawop (record { name = name; stamp = moment; body = body })
     → n ≡ record b { last = moment; pages = with_page b.pages page; store = n.store; bucket = n.bucket } → HoldsToo draft.held b.store n.store
     → bucket.Adds (Handed (record { class = New; item = draft.going })) b.bucket n.bucket
-    → x ≡ drawn_entry b.config.me moment page body draft.held b.state → Enters draw (Some now) (Drew page body) a n x
-draw_done {W} draw a b n now moment page body name draft x fine some at roomy still stays drafted spellable is keeps adds entry_is = record {
+    → x ≡ drawn_entry b.config.me moment page body draft.held b.state → Enters next_word (Some now) (Drew page body) a n x
+draw_done {W} next_word a b n now moment page body name draft x fine some at roomy still stays drafted spellable is keeps adds entry_is = record {
   input_is = ap (λ (y : Entry). y.input) entry_is;
   moment_is = ap (λ (y : Entry). y.moment) entry_is ∙ at;
   fits = fits;
@@ -493,10 +493,10 @@ draw_done {W} draw a b n now moment page body name draft x fine some at roomy st
         (subst (λ y. HoldsToo y b.store n.store) (drafted.held ∙ drawop_is) keeps) (subst is_drawop drawop_is spellable) (drafted.going.of ∙ ap Data drawop_is) (drafted.length ∙ ap (λ y. length_of (Data y)) drawop_is) adds)
 
 -- what a draw answers that is refused, and one that is done
-pub draw_refuses : {W : Type 0} (draw : W → ℕ × W) (a b : Content W) (now moment : ℕ) (page : Page) (body : List ℕ) (fault : AgentFault) → Enters draw (Some now) (Drew page body) a b (still_entry a.config.me moment (Drew page body) (Refused fault) None a.state)
-    → HasEntry draw (Some now) (Drew page body) IsDrawnName a b (Err fault)
-draw_refuses draw a b now moment page body fault enters = (still_entry a.config.me moment (Drew page body) (Refused fault) None a.state, enters, refl)
+pub draw_refuses : {W : Type 0} (next_word : W → ℕ × W) (a b : Content W) (now moment : ℕ) (page : Page) (body : List ℕ) (fault : AgentFault) → Enters next_word (Some now) (Drew page body) a b (still_entry a.config.me moment (Drew page body) (Refused fault) None a.state)
+    → HasEntry next_word (Some now) (Drew page body) IsDrawnName a b (Err fault)
+draw_refuses next_word a b now moment page body fault enters = (still_entry a.config.me moment (Drew page body) (Refused fault) None a.state, enters, refl)
 
-pub draw_names : {W : Type 0} (draw : W → ℕ × W) (a b n : Content W) (now moment : ℕ) (page : Page) (body : List ℕ) (name : FullName) (draft : Draft) → IsDraftOf a.config.session (record { name = name; stamp = moment; body = body }) draft
-    → Enters draw (Some now) (Drew page body) a n (drawn_entry b.config.me moment page body draft.held b.state) → HasEntry draw (Some now) (Drew page body) IsDrawnName a n (Ok name)
-draw_names draw a b n now moment page body name draft drafted enters = (drawn_entry b.config.me moment page body draft.held b.state, enters, ap (λ (d : Drawop). Some d.name) drafted.held)
+pub draw_names : {W : Type 0} (next_word : W → ℕ × W) (a b n : Content W) (now moment : ℕ) (page : Page) (body : List ℕ) (name : FullName) (draft : Draft) → IsDraftOf a.config.session (record { name = name; stamp = moment; body = body }) draft
+    → Enters next_word (Some now) (Drew page body) a n (drawn_entry b.config.me moment page body draft.held b.state) → HasEntry next_word (Some now) (Drew page body) IsDrawnName a n (Ok name)
+draw_names next_word a b n now moment page body name draft drafted enters = (drawn_entry b.config.me moment page body draft.held b.state, enters, ap (λ (d : Drawop). Some d.name) drafted.held)

@@ -46,12 +46,12 @@ same_parts : {W : Type 0} (a : Content W) → SameParts a a
 same_parts a = record { config = refl; store = refl; distances = refl; timers = refl; bucket = refl; due = refl }
 
 -- an entry without effects: what the agent becomes by it, of the state, the last moment, the page, the pages and the progress
-pub still_enters : {W : Type 0} (draw : W → ℕ × W) (a b : Content W) (now moment : ℕ) (input : Input) (verdict : Verdict) (after : AgentState) (e : Entry) → e ≡ still_entry a.config.me moment input verdict None after → moment ≡ max now a.last
+pub still_enters : {W : Type 0} (next_word : W → ℕ × W) (a b : Content W) (now moment : ℕ) (input : Input) (verdict : Verdict) (after : AgentState) (e : Entry) → e ≡ still_entry a.config.me moment input verdict None after → moment ≡ max now a.last
     → b.words ≡ a.words → SameParts a b → b.state ≡ after → b.last ≡ max a.last (greatest (clock_of verdict (still_entry a.config.me moment input verdict None after))) → b.showing ≡ unwrap_or (page_shown (done_input verdict input)) a.showing
     → ((c : Config) (made : ℕ) (past : List Entry) → Fits c made past a → last_moment made past ≤ moment → MayFollow c made past moment input verdict None after)
     → ((c : Config) (made : ℕ) (past : List Entry) → Fits c made past a → b.pages ≡ slots (past ++ still_entry c.me moment input verdict None after ∷ []))
-    → ((c : Config) (made : ℕ) (past : List Entry) → Fits c made past a → EachProgressFits (past ++ still_entry c.me moment input verdict None after ∷ []) b.progress) → Enters draw (Some now) input a b e
-still_enters draw a b now moment input verdict after e is at words same is_state is_last is_showing may pages progress = record {
+    → ((c : Config) (made : ℕ) (past : List Entry) → Fits c made past a → EachProgressFits (past ++ still_entry c.me moment input verdict None after ∷ []) b.progress) → Enters next_word (Some now) input a b e
+still_enters next_word a b now moment input verdict after e is at words same is_state is_last is_showing may pages progress = record {
   input_is = ap (λ (x : Entry). x.input) is;
   words = rw is words;
   moment_is = ap (λ (x : Entry). x.moment) is ∙ at;
@@ -69,39 +69,39 @@ answers_still : {A : Type 0} (r : Result A AgentFault) → AnswersAs (λ _. Unit
 answers_still (Ok value) = tt
 answers_still (Err fault) = refl
 
-enters_at : {W A : Type 0} (draw : W → ℕ × W) (a b : Content W) (now moment : ℕ) (input : Input) (r : Result A AgentFault) → moment ≡ max now a.last → EntersStill draw moment input a b r
-    → Enters draw (Some now) input a b (still_entry b.config.me moment input (verdict_answering r) None b.state)
-enters_at draw a b now moment input r at enters = record { input_is = refl; moment_is = at; fits = enters.fits; words = enters.words }
+enters_at : {W A : Type 0} (next_word : W → ℕ × W) (a b : Content W) (now moment : ℕ) (input : Input) (r : Result A AgentFault) → moment ≡ max now a.last → EntersStill next_word moment input a b r
+    → Enters next_word (Some now) input a b (still_entry b.config.me moment input (verdict_answering r) None b.state)
+enters_at next_word a b now moment input r at enters = record { input_is = refl; moment_is = at; fits = enters.fits; words = enters.words }
 
-pub has_still : {W A : Type 0} (draw : W → ℕ × W) (a b : Content W) (now moment : ℕ) (input : Input) (r : Result A AgentFault) → moment ≡ max now a.last → EntersStill draw moment input a b r → HasEntry draw (Some now) input (λ _ _. Unit {0}) a b r
-has_still draw a b now moment input r at enters = (still_entry b.config.me moment input (verdict_answering r) None b.state, enters_at draw a b now moment input r at enters, answers_still r)
+pub has_still : {W A : Type 0} (next_word : W → ℕ × W) (a b : Content W) (now moment : ℕ) (input : Input) (r : Result A AgentFault) → moment ≡ max now a.last → EntersStill next_word moment input a b r → HasEntry next_word (Some now) input (λ _ _. Unit {0}) a b r
+has_still next_word a b now moment input r at enters = (still_entry b.config.me moment input (verdict_answering r) None b.state, enters_at next_word a b now moment input r at enters, answers_still r)
 
-pub noted_enters : {W A : Type 0} (draw : W → ℕ × W) (a b : Content W) (now moment : ℕ) (input : Input) (r : Result A AgentFault) (e : Entry) → moment ≡ max now a.last → EntersStill draw moment input a b r
-    → e ≡ still_entry b.config.me moment input (verdict_answering r) None b.state → Enters draw (Some now) input a b e
-noted_enters draw a b now moment input r e at enters is = subst (λ x. Enters draw (Some now) input a b x) (sym is) (enters_at draw a b now moment input r at enters)
+pub noted_enters : {W A : Type 0} (next_word : W → ℕ × W) (a b : Content W) (now moment : ℕ) (input : Input) (r : Result A AgentFault) (e : Entry) → moment ≡ max now a.last → EntersStill next_word moment input a b r
+    → e ≡ still_entry b.config.me moment input (verdict_answering r) None b.state → Enters next_word (Some now) input a b e
+noted_enters next_word a b now moment input r e at enters is = subst (λ x. Enters next_word (Some now) input a b x) (sym is) (enters_at next_word a b now moment input r at enters)
 
 pub noted_answers : {A : Type 0} (me moment : ℕ) (input : Input) (r answer : Result A AgentFault) (after : AgentState) (e : Entry) → e ≡ still_entry me moment input (verdict_answering r) None after → answer ≡ r → AnswersAs (λ _. Unit {0}) e.verdict answer
 noted_answers me moment input r answer after e is same = subst (λ (x : Entry). AnswersAs (λ _. Unit {0}) x.verdict answer) (sym is) (subst (λ x. AnswersAs (λ _. Unit {0}) (verdict_answering r) x) (sym same) (answers_still r))
 
 -- a refused call changes nothing, and its moment doesn't count
-pub refused_enters : {W : Type 0} (draw : W → ℕ × W) (a : Content W) (now moment : ℕ) (input : Input) (fault : AgentFault) (e : Entry) → e ≡ still_entry a.config.me moment input (Refused fault) None a.state → moment ≡ max now a.last
+pub refused_enters : {W : Type 0} (next_word : W → ℕ × W) (a : Content W) (now moment : ℕ) (input : Input) (fault : AgentFault) (e : Entry) → e ≡ still_entry a.config.me moment input (Refused fault) None a.state → moment ≡ max now a.last
     → is_tick input ≡ false → takes_moment input ≡ true → ((j : ℕ) → given_in j input None ≡ None) → ((c : Config) (past : List Entry) → MessageRight c past input None)
-    → ((c : Config) (made : ℕ) (past : List Entry) → Fits c made past a → VerdictRight c past input (Refused fault)) → Enters draw (Some now) input a a e
-refused_enters draw a now moment input fault e is at unticked takes ungiven message right =
-    still_enters draw a a now moment input (Refused fault) a.state e is at refl (same_parts a) refl (stays_at a.last) refl
+    → ((c : Config) (made : ℕ) (past : List Entry) → Fits c made past a → VerdictRight c past input (Refused fault)) → Enters next_word (Some now) input a a e
+refused_enters next_word a now moment input fault e is at unticked takes ungiven message right =
+    still_enters next_word a a now moment input (Refused fault) a.state e is at refl (same_parts a) refl (stays_at a.last) refl
     (λ c made past h late. undone_follows c made past moment input (Refused fault) a.state refl unticked takes late (right c made past h) (message c past) h.state)
     (λ c made past h. h.pages ∙ sym (slots-same past _ refl)) (λ c made past h. same_progress past _ a.progress ungiven h.progress)
 
-pub leave_gone : {W : Type 0} (draw : W → ℕ × W) (a : Content W) (now moment : ℕ) (e : Entry) → a.state ≡ Gone → e ≡ still_entry a.config.me moment AskedLeave (Refused faults.Gone) None a.state → moment ≡ max now a.last → Enters draw (Some now) AskedLeave a a e
-leave_gone draw a now moment e gone is at = refused_enters draw a now moment AskedLeave faults.Gone e is at refl refl (λ j. refl) (λ c past. refl) (λ c made past h. rw (sym h.state ∙ gone) refl)
+pub leave_gone : {W : Type 0} (next_word : W → ℕ × W) (a : Content W) (now moment : ℕ) (e : Entry) → a.state ≡ Gone → e ≡ still_entry a.config.me moment AskedLeave (Refused faults.Gone) None a.state → moment ≡ max now a.last → Enters next_word (Some now) AskedLeave a a e
+leave_gone next_word a now moment e gone is at = refused_enters next_word a now moment AskedLeave faults.Gone e is at refl refl (λ j. refl) (λ c past. refl) (λ c made past h. rw (sym h.state ∙ gone) refl)
 
-pub leave_leaving : {W : Type 0} (draw : W → ℕ × W) (a : Content W) (now moment : ℕ) (e : Entry) → a.state ≡ Leaving → e ≡ still_entry a.config.me moment AskedLeave (Refused faults.Leaving) None a.state → moment ≡ max now a.last → Enters draw (Some now) AskedLeave a a e
-leave_leaving draw a now moment e leaving is at = refused_enters draw a now moment AskedLeave faults.Leaving e is at refl refl (λ j. refl) (λ c past. refl) (λ c made past h. rw (sym h.state ∙ leaving) refl)
+pub leave_leaving : {W : Type 0} (next_word : W → ℕ × W) (a : Content W) (now moment : ℕ) (e : Entry) → a.state ≡ Leaving → e ≡ still_entry a.config.me moment AskedLeave (Refused faults.Leaving) None a.state → moment ≡ max now a.last → Enters next_word (Some now) AskedLeave a a e
+leave_leaving next_word a now moment e leaving is at = refused_enters next_word a now moment AskedLeave faults.Leaving e is at refl refl (λ j. refl) (λ c past. refl) (λ c made past h. rw (sym h.state ∙ leaving) refl)
 
-pub leave_done : {W : Type 0} (draw : W → ℕ × W) (a : Content W) (now moment : ℕ) (e : Entry) → a.state ≡ Active → e ≡ still_entry a.config.me moment AskedLeave Done None Leaving → moment ≡ max now a.last
-    → Enters draw (Some now) AskedLeave a (record a { state = Leaving; last = moment }) e
-leave_done draw a now moment e active is at =
-    still_enters draw a (record a { state = Leaving; last = moment }) now moment AskedLeave Done Leaving e is at refl (record { config = refl; store = refl; distances = refl; timers = refl; bucket = refl; due = refl }) refl (moves_on now a.last moment at) refl
+pub leave_done : {W : Type 0} (next_word : W → ℕ × W) (a : Content W) (now moment : ℕ) (e : Entry) → a.state ≡ Active → e ≡ still_entry a.config.me moment AskedLeave Done None Leaving → moment ≡ max now a.last
+    → Enters next_word (Some now) AskedLeave a (record a { state = Leaving; last = moment }) e
+leave_done next_word a now moment e active is at =
+    still_enters next_word a (record a { state = Leaving; last = moment }) now moment AskedLeave Done Leaving e is at refl (record { config = refl; store = refl; distances = refl; timers = refl; bucket = refl; due = refl }) refl (moves_on now a.last moment at) refl
     (λ c made past h late. record {
       unheard = refl;
       undrawn = refl;
@@ -113,22 +113,22 @@ leave_done draw a now moment e active is at =
     })
     (λ c made past h. h.pages ∙ sym (slots-same past _ refl)) (λ c made past h. same_progress past _ a.progress (λ j. refl) h.progress)
 
-pub show_gone : {W : Type 0} (draw : W → ℕ × W) (a : Content W) (now moment : ℕ) (page : Page) (e : Entry) → is_gone a.state ≡ true → e ≡ still_entry a.config.me moment (Showed page) (Refused faults.Gone) None a.state → moment ≡ max now a.last
-    → Enters draw (Some now) (Showed page) a a e
-show_gone draw a now moment page e gone is at =
-    refused_enters draw a now moment (Showed page) faults.Gone e is at refl refl (λ j. refl) (λ c past. refl) (λ c made past h. rw (ap is_gone (sym h.state) ∙ gone) refl)
+pub show_gone : {W : Type 0} (next_word : W → ℕ × W) (a : Content W) (now moment : ℕ) (page : Page) (e : Entry) → is_gone a.state ≡ true → e ≡ still_entry a.config.me moment (Showed page) (Refused faults.Gone) None a.state → moment ≡ max now a.last
+    → Enters next_word (Some now) (Showed page) a a e
+show_gone next_word a now moment page e gone is at =
+    refused_enters next_word a now moment (Showed page) faults.Gone e is at refl refl (λ j. refl) (λ c past. refl) (λ c made past h. rw (ap is_gone (sym h.state) ∙ gone) refl)
 
-pub show_full : {W : Type 0} (draw : W → ℕ × W) (a : Content W) (now moment : ℕ) (page : Page) (e : Entry) → is_gone a.state ≡ false → lacks_room a.pages page ≡ true
-    → e ≡ still_entry a.config.me moment (Showed page) (Refused faults.PageLimit) None a.state → moment ≡ max now a.last → Enters draw (Some now) (Showed page) a a e
-show_full draw a now moment page e here full is at =
-    refused_enters draw a now moment (Showed page) faults.PageLimit e is at refl refl (λ j. refl) (λ c past. refl)
+pub show_full : {W : Type 0} (next_word : W → ℕ × W) (a : Content W) (now moment : ℕ) (page : Page) (e : Entry) → is_gone a.state ≡ false → lacks_room a.pages page ≡ true
+    → e ≡ still_entry a.config.me moment (Showed page) (Refused faults.PageLimit) None a.state → moment ≡ max now a.last → Enters next_word (Some now) (Showed page) a a e
+show_full next_word a now moment page e here full is at =
+    refused_enters next_word a now moment (Showed page) faults.PageLimit e is at refl refl (λ j. refl) (λ c past. refl)
     (λ c made past h. rw (ap is_gone (sym h.state) ∙ here, ap (λ ps. lacks_room ps page) (sym h.pages) ∙ full) refl)
 
-pub show_done : {W : Type 0} (draw : W → ℕ × W) (a : Content W) (now moment : ℕ) (page : Page) (pages : List Page) (e : Entry) → is_gone a.state ≡ false → lacks_room a.pages page ≡ false → pages ≡ with_page a.pages page
+pub show_done : {W : Type 0} (next_word : W → ℕ × W) (a : Content W) (now moment : ℕ) (page : Page) (pages : List Page) (e : Entry) → is_gone a.state ≡ false → lacks_room a.pages page ≡ false → pages ≡ with_page a.pages page
     → e ≡ still_entry a.config.me moment (Showed page) Done None a.state → moment ≡ max now a.last
-    → Enters draw (Some now) (Showed page) a (record a { last = moment; showing = page; pages = pages }) e
-show_done draw a now moment page pages e here room added is at =
-    still_enters draw a (record a { last = moment; showing = page; pages = pages }) now moment (Showed page) Done a.state e is at refl (record { config = refl; store = refl; distances = refl; timers = refl; bucket = refl; due = refl }) refl (moves_on now a.last moment at) refl
+    → Enters next_word (Some now) (Showed page) a (record a { last = moment; showing = page; pages = pages }) e
+show_done next_word a now moment page pages e here room added is at =
+    still_enters next_word a (record a { last = moment; showing = page; pages = pages }) now moment (Showed page) Done a.state e is at refl (record { config = refl; store = refl; distances = refl; timers = refl; bucket = refl; due = refl }) refl (moves_on now a.last moment at) refl
     (λ c made past h late. record {
       unheard = refl;
       undrawn = refl;
@@ -141,10 +141,10 @@ show_done draw a now moment page pages e here room added is at =
     (λ c made past h. added ∙ ap (λ ps. with_page ps page) h.pages ∙ sym (slots-one past _ page refl)) (λ c made past h. same_progress past _ a.progress (λ j. refl) h.progress)
 
 -- the tick of a member that is gone
-pub rest_gone : {W : Type 0} (draw : W → ℕ × W) (a b : Content W) (now moment : ℕ) (e : Entry) → is_gone a.state ≡ true → b ≡ record a { last = moment } → e ≡ still_entry a.config.me moment Ticked Done None a.state
-    → moment ≡ max now a.last → Enters draw (Some now) Ticked a b e
-rest_gone draw a b now moment e gone new is at = subst (λ x. Enters draw (Some now) Ticked a x e) (sym new)
-    (still_enters draw a (record a { last = moment }) now moment Ticked Done a.state e is at refl (record { config = refl; store = refl; distances = refl; timers = refl; bucket = refl; due = refl }) refl (moves_on now a.last moment at) refl
+pub rest_gone : {W : Type 0} (next_word : W → ℕ × W) (a b : Content W) (now moment : ℕ) (e : Entry) → is_gone a.state ≡ true → b ≡ record a { last = moment } → e ≡ still_entry a.config.me moment Ticked Done None a.state
+    → moment ≡ max now a.last → Enters next_word (Some now) Ticked a b e
+rest_gone next_word a b now moment e gone new is at = subst (λ x. Enters next_word (Some now) Ticked a x e) (sym new)
+    (still_enters next_word a (record a { last = moment }) now moment Ticked Done a.state e is at refl (record { config = refl; store = refl; distances = refl; timers = refl; bucket = refl; due = refl }) refl (moves_on now a.last moment at) refl
     (λ c made past h late. record {
       unheard = refl;
       undrawn = refl;

@@ -18,7 +18,7 @@ use Rattle.srm_entries.specs.declared.state.AgentState.{AgentState}
 use Rattle.srm_entries.specs.Entries.{is_held, is_missing, known}
 use Rattle.srm_names.specs.Between.{is_between}
 use Rattle.srm_agent.specs.Heeding.{heard_entry}
-use Rattle.srm_agent_state.specs.TimerCalls.{AreFresh}
+use Rattle.srm_agent_state.specs.TimerCalls.{AreNewlyMissing}
 use Rattle.srm_entries.proofs.Adding.{shows, is_missing-snoc}
 use Rattle.srm_agent.proofs.Fresh.{held_known}
 
@@ -45,7 +45,7 @@ request_law false true n k d known = grind (arith, nat_tests)
 request_law false false n k d known = grind (arith, nat_tests)
 
 pub fresh_request : (past : List Entry) (me moment sender : ℕ) (name : FullName) (mask : ℕ) (arms : List Arm) (state : AgentState) (names : List FullName)
-    → AreExactly (is_between name.stream (known past name.stream) (greatest_in (asked_by name mask) name.stream + 1)) names → AreFresh past (heard_entry me moment (Request sender name mask) arms state) names
+    → AreExactly (is_between name.stream (known past name.stream) (greatest_in (asked_by name mask) name.stream + 1)) names → AreNewlyMissing past (heard_entry me moment (Request sender name mask) arms state) names
 fresh_request past me moment sender name mask arms state names exactly = record { in_order = exactly.in_order; exact = λ n. exactly.exact n ∙ same n (same_stream n.stream name.stream) refl }
   where
     e : Entry

@@ -13,7 +13,7 @@ use Rattle.srm_store.specs.Held.{has_name}
 use Rattle.srm_entries.specs.declared.entry.Entry.{Entry}
 use Rattle.srm_entries.specs.Entries.{held, is_held, is_missing, known}
 use Rattle.srm_names.specs.Between.{is_between}
-use Rattle.srm_agent_state.specs.TimerCalls.{AreFresh}
+use Rattle.srm_agent_state.specs.TimerCalls.{AreNewlyMissing}
 use Rattle.srm_entries.proofs.Adding.{shows, gains, is_missing-snoc}
 use Rattle.srm_entries.proofs.Showing.{held_is_shown, known_has}
 
@@ -44,7 +44,7 @@ pub record Brings (d : Drawop) (e : Entry) : Type 0 where
   pub shows : (s : Stream) → shows e s ≡ (if same_stream s d.name.stream then d.name.number else 0)
   pub gains : (n : FullName) → gains e n ≡ same_name n d.name
 
-pub fresh_drawop : (past : List Entry) (e : Entry) (d : Drawop) (k : ℕ) (names : List FullName) → Brings d e → k ≡ known past d.name.stream → AreExactly (is_between d.name.stream k d.name.number) names → AreFresh past e names
+pub fresh_drawop : (past : List Entry) (e : Entry) (d : Drawop) (k : ℕ) (names : List FullName) → Brings d e → k ≡ known past d.name.stream → AreExactly (is_between d.name.stream k d.name.number) names → AreNewlyMissing past e names
 fresh_drawop past e d k names brings k_is exactly = record { in_order = exactly.in_order; exact = λ n. exactly.exact n ∙ same n (same_stream n.stream d.name.stream) refl }
   where
     after : (n : FullName) → is_missing (past ++ e ∷ []) n

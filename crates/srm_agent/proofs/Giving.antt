@@ -47,9 +47,9 @@ not_given j slot = go (j == slot) None refl
     go true o e = e
     go false o e = refl
 
-pub gives_nothing : {W : Type 0} (draw : W → ℕ × W) (a : Content W) (slot : ℕ) (e : Entry) → e ≡ still_entry a.config.me a.last (Gave slot) Done None a.state
-    → ((c : Config) (made : ℕ) (past : List Entry) → Fits c made past a → GiveRight c past slot None) → Enters draw None (Gave slot) a a e
-gives_nothing draw a slot e is right = record {
+pub gives_nothing : {W : Type 0} (next_word : W → ℕ × W) (a : Content W) (slot : ℕ) (e : Entry) → e ≡ still_entry a.config.me a.last (Gave slot) Done None a.state
+    → ((c : Config) (made : ℕ) (past : List Entry) → Fits c made past a → GiveRight c past slot None) → Enters next_word None (Gave slot) a a e
+gives_nothing next_word a slot e is right = record {
   input_is = ap (λ (x : Entry). x.input) is;
   words = rw is refl;
   moment_is = ap (λ (x : Entry). x.moment) is;
@@ -87,11 +87,11 @@ progress_more past e progress slot i f m input message at h more = record { each
       | inr other ↦ subst (λ g. ProgressFits g x) (sym (given_then j false (ne_eqb j slot (λ k. other (k ∙ sym at))) ∙ append-nil (given past j))) (h.each j x (sym (set_elsewhere progress i f j other) ∙ there))
     ]
 
-pub gives_message : {W : Type 0} (draw : W → ℕ × W) (a : Content W) (slot i : ℕ) (m : PageMsg) (f : ProgressContent) (e : Entry) → e ≡ still_entry a.config.me a.last (Gave slot) Done (Some m) a.state → i ≡ slot
+pub gives_message : {W : Type 0} (next_word : W → ℕ × W) (a : Content W) (slot i : ℕ) (m : PageMsg) (f : ProgressContent) (e : Entry) → e ≡ still_entry a.config.me a.last (Gave slot) Done (Some m) a.state → i ≡ slot
     → ((c : Config) (made : ℕ) (past : List Entry) → Fits c made past a → GiveRight c past slot (Some m))
     → ((c : Config) (made : ℕ) (past : List Entry) → Fits c made past a → ProgressFits (given past slot ++ m ∷ []) f)
-    → Enters draw None (Gave slot) a (record a { progress = slice_set a.progress i f }) e
-gives_message draw a slot i m f e is at right more = record {
+    → Enters next_word None (Gave slot) a (record a { progress = slice_set a.progress i f }) e
+gives_message next_word a slot i m f e is at right more = record {
   input_is = ap (λ (x : Entry). x.input) is;
   words = rw is refl;
   moment_is = ap (λ (x : Entry). x.moment) is;
@@ -102,10 +102,10 @@ gives_message draw a slot i m f e is at right more = record {
 }
 
 -- a give that isn't refused
-pub give_enters : {W : Type 0} (draw : W → ℕ × W) (a b : Content W) (slot : ℕ) (m : Option PageMsg) → Enters draw None (Gave slot) a b (gave_by a slot m) → HasEntry draw None (Gave slot) (λ e message. message ≡ e.effects.message) a b (Ok m)
-give_enters draw a b slot m enters = (gave_by a slot m, enters, refl)
+pub give_enters : {W : Type 0} (next_word : W → ℕ × W) (a b : Content W) (slot : ℕ) (m : Option PageMsg) → Enters next_word None (Gave slot) a b (gave_by a slot m) → HasEntry next_word None (Gave slot) (λ e message. message ≡ e.effects.message) a b (Ok m)
+give_enters next_word a b slot m enters = (gave_by a slot m, enters, refl)
 
 -- and its entry, where it is noted
-pub give_notes : {W : Type 0} (draw : W → ℕ × W) (a b : Content W) (slot : ℕ) (m n : Option PageMsg) (e : Entry) → Enters draw None (Gave slot) a b (gave_by a slot m) → b ≡ record a { progress = b.progress } → n ≡ m → e ≡ gave_by b slot n
-    → Enters draw None (Gave slot) a b e
-give_notes draw a b slot m n e enters rest same is = subst (Enters draw None (Gave slot) a b) (sym (is ∙ ap (gave_by b slot) same ∙ ap (λ x. gave_by x slot m) rest)) enters
+pub give_notes : {W : Type 0} (next_word : W → ℕ × W) (a b : Content W) (slot : ℕ) (m n : Option PageMsg) (e : Entry) → Enters next_word None (Gave slot) a b (gave_by a slot m) → b ≡ record a { progress = b.progress } → n ≡ m → e ≡ gave_by b slot n
+    → Enters next_word None (Gave slot) a b e
+give_notes next_word a b slot m n e enters rest same is = subst (Enters next_word None (Gave slot) a b) (sym (is ∙ ap (gave_by b slot) same ∙ ap (λ x. gave_by x slot m) rest)) enters

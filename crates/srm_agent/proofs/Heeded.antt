@@ -30,7 +30,7 @@ use Rattle.srm_entries.specs.Configs.{Config}
 use Rattle.srm_entries.specs.Entries.{done, accepted, is_gone, state, slots, pages_in, last_moment, held, evidence_in, known, drawn, drawops_in}
 use Rattle.srm_entries.specs.Distances.{distance_calls, calls_in, calls_of}
 use Rattle.srm_entries.specs.Timers.{TimersRight}
-use Rattle.srm_agent_state.specs.TimerCalls.{TimersAdd, WaitsAreDrawn}
+use Rattle.srm_agent_state.specs.TimerCalls.{TimersAdd, WaitsAreChosen}
 use Rattle.srm_agent_state.specs.TimersKept.{HaveSettings}
 use Rattle.srm_agent_state.specs.PageTables.{with_pages_of}
 use Rattle.srm_entries.specs.Verdicts.{verdict_of, settlings, settling_of, drawn_in, stream_on, exceeds, is_beyond, final}
@@ -65,7 +65,7 @@ pub record Heeds {W : Type 0} (c : Config) (made : ℕ) (past : List Entry) (a b
   pub fits : Fits c made past a
   pub later : last_moment made past ≤ moment
   pub here : is_gone (state past) ≡ false
-  pub taken : Done ≡ verdict_of c past (Heard g)
+  pub accepted : Done ≡ verdict_of c past (Heard g)
   pub spellable : IsSpellable g
   pub timers : TimersAdd c past e b.timers
   pub store : store.Fits (held past ++ drawops_in (Some g)) (evidence_in past ++ names_in g) (settlings past ++ cons_option (settling_of (Some g)) []) b.store
@@ -83,7 +83,7 @@ pub heard_right : {W : Type 0} (c : Config) (made : ℕ) (past : List Entry) (a 
 heard_right c made past a b moment g arms h = record {
   member = refl;
   moment = h.later;
-  verdict = (h.here, h.taken);
+  verdict = (h.here, h.accepted);
   drawn = refl;
   arms = h.timers.arms;
   timers = no_timers past c.me moment g arms a.state;
@@ -192,9 +192,9 @@ heard_fits c made past a b moment g arms h =
     clock l m k = omega (arith, k)
 
 -- the entry is of the datagram, at the moment, and its waits are by the next words
-pub heard_enters : {W : Type 0} (draw : W → ℕ × W) (a b : Content W) (moment : ℕ) (g : Datagram) (arms : List Arm) (e : Entry) → a.last ≤ moment → HaveSettings a.config a.timers → WaitsAreDrawn draw a.timers a.words arms b.words
-    → e ≡ heard_entry a.config.me moment g arms a.state → ((c : Config) (made : ℕ) (past : List Entry) → Fits c made past a → Heeds c made past a b moment g (heard_entry c.me moment g arms a.state)) → Enters draw (Some moment) (Heard g) a b e
-heard_enters draw a b moment g arms e late settings drawn e_is heeds = record {
+pub heard_enters : {W : Type 0} (next_word : W → ℕ × W) (a b : Content W) (moment : ℕ) (g : Datagram) (arms : List Arm) (e : Entry) → a.last ≤ moment → HaveSettings a.config a.timers → WaitsAreChosen next_word a.timers a.words arms b.words
+    → e ≡ heard_entry a.config.me moment g arms a.state → ((c : Config) (made : ℕ) (past : List Entry) → Fits c made past a → Heeds c made past a b moment g (heard_entry c.me moment g arms a.state)) → Enters next_word (Some moment) (Heard g) a b e
+heard_enters next_word a b moment g arms e late settings drawn e_is heeds = record {
   input_is = ap (λ (x : Entry). x.input) e_is;
   moment_is = ap (λ (x : Entry). x.moment) e_is ∙ at_least a.last moment late;
   words = rw e_is (drawn.each a.config settings);

@@ -26,11 +26,11 @@ use Rattle.srm_entries.specs.Configs.{Config}
 use Rattle.srm_entries.specs.Entries.{is_gone, held, evidence_in, drawops_in}
 use Rattle.srm_entries.specs.Distances.{distance_calls, calls_in, calls_of}
 use Rattle.srm_entries.specs.Verdicts.{settlings, settling_of}
-use Rattle.srm_agent.specs.Growth.{IsFreshOf}
+use Rattle.srm_agent.specs.Growth.{AreNewlyMissingByRows}
 use Rattle.srm_agent_state.specs.Growth.{HearsToo, LearnsToo}
 use Rattle.srm_agent_state.specs.PageTables.{with_pages_of}
 use Rattle.srm_agent_state.specs.TimersKept.{HaveSettings, TimersContent}
-use Rattle.srm_agent_state.specs.TimerCalls.{AreDistancesAfter, TimersHear, TimersStay, WaitsAreDrawn, IsSession}
+use Rattle.srm_agent_state.specs.TimerCalls.{AreDistancesAfter, TimersHear, TimersStay, WaitsAreChosen, IsSession}
 use Rattle.srm_agent.specs.Contents.{Content}
 use Rattle.srm_agent.specs.Fits.{Fits}
 use Rattle.srm_agent.specs.Heeding.{heard_entry}
@@ -62,13 +62,13 @@ shows_rows (Repair sender drawop) me moment arms state is = absurd is
 pub hears_roomy : (is : Datagram → Type 0) (fresh : List FullName) (dist : List ℕ) (now : ℕ) (arms : List Arm) (a b d : TimersContent) → TimersStay a b → TimersHear is fresh dist now arms b d → TimersHear is fresh dist now arms a d
 hears_roomy is fresh dist now arms a b d stays hears = record { each = λ c past e g it with_this fits. hears.each c past e g it with_this (stays.each c past fits) }
 
-pub session_enters : {W : Type 0} (draw : W → ℕ × W) (a b : Content W) (moment : ℕ) (g : Datagram) (names fresh : List FullName) (dist : List ℕ) (arms : List Arm) (roomy : StoreContent) (after : DistancesContent) (e : Entry)
-    → IsSession g → names ≡ names_in g → is_gone a.state ≡ false → IsSpellable g → a.last ≤ moment → IsAllowed (Heard g) a → IsFreshOf names a fresh → HearsToo a.config.me moment g a.distances after → IsTableOf after dist
+pub session_enters : {W : Type 0} (next_word : W → ℕ × W) (a b : Content W) (moment : ℕ) (g : Datagram) (names fresh : List FullName) (dist : List ℕ) (arms : List Arm) (roomy : StoreContent) (after : DistancesContent) (e : Entry)
+    → IsSession g → names ≡ names_in g → is_gone a.state ≡ false → IsSpellable g → a.last ≤ moment → IsAllowed (Heard g) a → AreNewlyMissingByRows names a fresh → HearsToo a.config.me moment g a.distances after → IsTableOf after dist
     → TimersHear IsSession fresh dist moment arms a.timers b.timers → StillFits a.store roomy → LearnsToo g roomy b.store → b.pages ≡ with_pages_of a.pages names → b.distances ≡ after → Goes a b moment
-    → HaveSettings a.config a.timers → WaitsAreDrawn draw a.timers a.words arms b.words → e ≡ heard_entry a.config.me moment g arms a.state
-    → Enters draw (Some moment) (Heard g) a b e
-session_enters draw a b moment g names fresh dist arms roomy after e is named here spellable late taken fresh_of hears_too table hears kept learns pages same goes settings drawn e_is =
-    heard_enters draw a b moment g arms e late settings drawn e_is heeds
+    → HaveSettings a.config a.timers → WaitsAreChosen next_word a.timers a.words arms b.words → e ≡ heard_entry a.config.me moment g arms a.state
+    → Enters next_word (Some moment) (Heard g) a b e
+session_enters next_word a b moment g names fresh dist arms roomy after e is named here spellable late taken fresh_of hears_too table hears kept learns pages same goes settings drawn e_is =
+    heard_enters next_word a b moment g arms e late settings drawn e_is heeds
   where
     hears_by : (c : Config) (made : ℕ) (past : List Entry) → Fits c made past a → distances.Fits c.me (distance_calls c.me past ++ calls_of c.me moment (Some g)) after
     hears_by c made past h = (subst (λ (s : Config). HearsToo s.me moment g a.distances after) h.config hears_too).each (distance_calls c.me past) h.distances
@@ -84,7 +84,7 @@ session_enters draw a b moment g names fresh dist arms roomy after e is named he
       fits = h;
       later = subst (λ n. n ≤ moment) h.last late;
       here = ap is_gone (sym h.state) ∙ here;
-      taken = sym (taken.each c made past h);
+      accepted = sym (taken.each c made past h);
       spellable = spellable;
       timers = hears.each c past (heard_entry c.me moment g arms a.state) g is (record { heard = refl; read = spellable; moment = refl; drawn = refl; arms = refl; asks = refl; fixes = refl }) h.timers
           (fresh_rows past (heard_entry c.me moment g arms a.state) names fresh (subst (λ ns. ShowsRows ns (heard_entry c.me moment g arms a.state)) (sym named) (shows_rows g c.me moment arms a.state is)) (fresh_of.each c made past h)) (dist_after c made past h);

@@ -17,9 +17,9 @@ use Rattle.srm_store.specs.Held.{greatest_in, number_in}
 use Rattle.srm_deadlines.proofs.Same.{same_itself}
 use Rattle.srm_entries.specs.declared.entry.Entry.{Entry}
 use Rattle.srm_entries.specs.Entries.{is_held, is_missing, known}
-use Rattle.srm_agent.specs.Growth.{is_fresh_of}
+use Rattle.srm_agent.specs.Growth.{is_newly_missing_by_rows}
 use Rattle.srm_names.specs.Between.{is_between}
-use Rattle.srm_agent_state.specs.TimerCalls.{AreFresh}
+use Rattle.srm_agent_state.specs.TimerCalls.{AreNewlyMissing}
 use Rattle.srm_entries.proofs.Adding.{shows, gains, greatest-append, is_missing-snoc}
 use Rattle.srm_agent.proofs.Fresh.{held_known}
 
@@ -111,10 +111,10 @@ within_more rows fresh more joined i r s above below l is s_is within exactly jo
         (ap (λ (k : FullName). same_stream n.stream k.stream) (sym is) ∙ ap (same_stream n.stream) (sym s_is) ∙ within_one s above below more n exactly h)
 
 pub exact_more : (past : List Entry) (rows fresh more joined : List FullName) (i : ℕ) (r : FullName) (s : Stream) (above below : ℕ) → i < length rows → r ≡ get_or rows i r → s ≡ r.stream → above ≡ known past r.stream → below ≡ r.number + 1
-    → ((n : FullName) → among fresh n ≡ is_fresh_of past (take i rows) n) → AreExactly (is_between s above below) more → joined ≡ fresh ++ more → (n : FullName) → among joined n ≡ is_fresh_of past (take (i + 1) rows) n
+    → ((n : FullName) → among fresh n ≡ is_newly_missing_by_rows past (take i rows) n) → AreExactly (is_between s above below) more → joined ≡ fresh ++ more → (n : FullName) → among joined n ≡ is_newly_missing_by_rows past (take (i + 1) rows) n
 exact_more past rows fresh more joined i r s above below l is s_is above_is below_is exact exactly join n =
-    ap (λ ns. among ns n) join ∙ list_any-append (same_name n) fresh more ∙ ap (λ b. b || among more n) (exact n) ∙ ap (λ b. is_fresh_of past (take i rows) n || b) one
-    ∙ sym (ap (λ rs. is_fresh_of past rs n) (take_more rows i r l) ∙ list_any-append (λ (x : FullName). is_between x.stream (known past x.stream) (x.number + 1) n) (take i rows) (get_or rows i r ∷ []))
+    ap (λ ns. among ns n) join ∙ list_any-append (same_name n) fresh more ∙ ap (λ b. b || among more n) (exact n) ∙ ap (λ b. is_newly_missing_by_rows past (take i rows) n || b) one
+    ∙ sym (ap (λ rs. is_newly_missing_by_rows past rs n) (take_more rows i r l) ∙ list_any-append (λ (x : FullName). is_between x.stream (known past x.stream) (x.number + 1) n) (take i rows) (get_or rows i r ∷ []))
   where
     or_nothing : (b : Bool) → b ≡ (b || false)
     or_nothing true = refl
@@ -137,11 +137,11 @@ greatest_row s r rows = greatest-append (number_in s r) (flat_map (number_in s) 
     one true n = omega arith
     one false n = refl
 
-fresh_shown : (past : List Entry) (rows : List FullName) (n : FullName) → is_fresh_of past rows n ≡ (nat_lt (known past n.stream) n.number && nat_le n.number (greatest_in rows n.stream))
+fresh_shown : (past : List Entry) (rows : List FullName) (n : FullName) → is_newly_missing_by_rows past rows n ≡ (nat_lt (known past n.stream) n.number && nat_le n.number (greatest_in rows n.stream))
 fresh_shown past [] n = grind (arith, nat_tests)
 fresh_shown past (r ∷ rows) n =
-    ap (λ b. b || is_fresh_of past rows n) (same (same_stream n.stream r.stream) refl)
-    ∙ rows_law (same_stream n.stream r.stream) (known past n.stream) n.number r.number (greatest_in rows n.stream) (is_fresh_of past rows n) (fresh_shown past rows n)
+    ap (λ b. b || is_newly_missing_by_rows past rows n) (same (same_stream n.stream r.stream) refl)
+    ∙ rows_law (same_stream n.stream r.stream) (known past n.stream) n.number r.number (greatest_in rows n.stream) (is_newly_missing_by_rows past rows n) (fresh_shown past rows n)
     ∙ ap (λ x. nat_lt (known past n.stream) n.number && nat_le n.number x) (sym (greatest_row n.stream r rows))
   where
     same : (b : Bool) → same_stream n.stream r.stream ≡ b → (b && nat_lt (known past r.stream) n.number && nat_lt n.number (r.number + 1)) ≡ (b && nat_lt (known past n.stream) n.number && nat_lt n.number (r.number + 1))
@@ -158,7 +158,7 @@ pub record ShowsRows (rows : List FullName) (e : Entry) : Type 0 where
   pub shows : (s : Stream) → shows e s ≡ greatest_in rows s
   pub gains : (n : FullName) → gains e n ≡ false
 
-pub fresh_rows : (past : List Entry) (e : Entry) (rows names : List FullName) → ShowsRows rows e → AreExactly (is_fresh_of past rows) names → AreFresh past e names
+pub fresh_rows : (past : List Entry) (e : Entry) (rows names : List FullName) → ShowsRows rows e → AreExactly (is_newly_missing_by_rows past rows) names → AreNewlyMissing past e names
 fresh_rows past e rows names shown exactly = record { in_order = exactly.in_order; exact = λ n. exactly.exact n ∙ same n }
   where
     after : (n : FullName) → is_missing (past ++ e ∷ []) n ≡ (nat_le 1 n.number && nat_le n.number (max (known past n.stream) (greatest_in rows n.stream)) && not (is_held past n || false))
@@ -166,5 +166,5 @@ fresh_rows past e rows names shown exactly = record { in_order = exactly.in_orde
         ∙ ap (λ x. nat_le 1 n.number && nat_le n.number (max (known past n.stream) x) && not (is_held past n || gains e n)) (shown.shows n.stream)
         ∙ ap (λ x. nat_le 1 n.number && nat_le n.number (max (known past n.stream) (greatest_in rows n.stream)) && not (is_held past n || x)) (shown.gains n)
 
-    same : (n : FullName) → is_fresh_of past rows n ≡ (not (is_missing past n) && is_missing (past ++ e ∷ []) n)
+    same : (n : FullName) → is_newly_missing_by_rows past rows n ≡ (not (is_missing past n) && is_missing (past ++ e ∷ []) n)
     same n = fresh_shown past rows n ∙ shown_law (is_held past n) n.number (known past n.stream) (greatest_in rows n.stream) (held_known past n) ∙ ap (λ b. not (is_missing past n) && b) (sym (after n))

@@ -23,7 +23,7 @@ pub mod Fresh
 pub mod Taken
 pub mod Roomy
 pub mod Answered
-pub mod AnswersDue
+pub mod DueItems
 pub mod Evident
 pub mod Requested
 pub mod Joining

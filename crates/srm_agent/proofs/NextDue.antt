@@ -16,7 +16,7 @@ use Rattle.srm_entries.specs.Entries.{state, is_gone, last_moment}
 use Rattle.srm_entries.specs.Timers.{fix_running, ask_running}
 use Rattle.srm_agent.specs.Fits.{Fits}
 use Rattle.srm_entries.specs.Promises.{MayDoNothing}
-use Rattle.srm_agent_state.specs.TimerCalls.{RunOutFirst, TimersNext}
+use Rattle.srm_agent_state.specs.TimerCalls.{FirstOfBothRunsOut, TimersNext}
 use Rattle.srm_agent.specs.Waking.{IsEarly, IsLate, IsNextAt, NextDue, Stirs, report_next, sooner_of}
 use Rattle.srm_agent.proofs.NextDueIdle.{idle_before}
 use Rattle.srm_agent.proofs.NextDueRests.{gone_rests, idle_rests}
@@ -57,7 +57,7 @@ still_out now later None l e = absurd (cc)
 still_out now later (Some a) l e = grind (arith, nat_tests)
 
 module _ {W : Type 0} (c : Config) (made : ℕ) (past : List Entry) (a : Content W) (t : ℕ) (h : Fits c made past a) (here : is_gone (state past) ≡ false) where
-  timer_stirs : (timers : Option ℕ) → RunOutFirst past timers → HasCome t timers → MayDoNothing c made past t → ⊥
+  timer_stirs : (timers : Option ℕ) → FirstOfBothRunsOut past timers → HasCome t timers → MayDoNothing c made past t → ⊥
   timer_stirs None first come idle = absurd come
   timer_stirs (Some r) first come idle =
       let (n, out) = first.is_one in

@@ -35,7 +35,7 @@ use Rattle.srm_entries.specs.Runs.{EntryRight}
 use Rattle.srm_agent.specs.Fits.{Fits, BucketFits}
 use Rattle.srm_outbox.specs.Outs.{datagram_of}
 use Rattle.srm_entries.specs.Promises.{MayDoNothing}
-use Rattle.srm_agent_state.specs.TimerCalls.{RunOutFirst, IsBefore}
+use Rattle.srm_agent_state.specs.TimerCalls.{FirstOfBothRunsOut, IsBefore}
 use Rattle.srm_outbox.specs.declared.out.Outgoing.{Outgoing}
 use Rattle.srm_agent_state.proofs.Midway.{before_first, before_second}
 use Rattle.srm_agent.specs.Ticking.{tick_entry}
@@ -78,7 +78,7 @@ not_fixed : (b x : Bool) → x ≡ false → false ≡ (b && x)
 not_fixed true x e = sym e
 not_fixed false x e = refl
 
-idle_timers : (c : Config) (past : List Entry) (moment : Option ℕ) (u : ℕ) → RunOutFirst past moment → IsBefore u moment → TimersRight past (idle_at c past u)
+idle_timers : (c : Config) (past : List Entry) (moment : Option ℕ) (u : ℕ) → FirstOfBothRunsOut past moment → IsBefore u moment → TimersRight past (idle_at c past u)
 idle_timers c past moment u first before = record {
   asks = record { in_order = refl; exact = λ n. not_asked u (not (is_gone (state past))) (is_missing past n) (last_ask past n) (first.no_ask u before n) };
   fixes = record { in_order = refl; exact = λ n. not_fixed (not (is_gone (state past))) (ran_out u (fix_running past n)) (first.no_fix u before n) };

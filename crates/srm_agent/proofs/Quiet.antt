@@ -107,7 +107,7 @@ timers_stay c past e t q h = record {
   fixes = h.fixes;
   fix_timers = λ n. h.fix_timers n ∙ sym (same_fix past e n q);
   askers = λ n. h.askers n ∙ sym (same_asker past e n q);
-  offs = λ n now. h.offs n now ∙ sym (same_off c.me past e n now q);
+  hold_offs = λ n now. h.hold_offs n now ∙ sym (same_off c.me past e n now q);
 }
 
 -- the bucket

@@ -21,13 +21,13 @@ use Rattle.srm_entries.specs.Configs.{Config}
 use Rattle.srm_entries.specs.Entries.{is_gone, known, held, evidence_in}
 use Rattle.srm_entries.specs.Distances.{distance_calls, calls_in}
 use Rattle.srm_entries.specs.Verdicts.{settlings}
-use Rattle.srm_agent.specs.Growth.{IsFreshUpTo}
+use Rattle.srm_agent.specs.Growth.{AreNewlyMissingUpTo}
 use Rattle.srm_names.specs.Between.{is_between}
 use Rattle.srm_agent_state.specs.Growth.{LearnsNames}
 use Rattle.srm_agent_state.specs.PageTables.{with_pages_of}
 use Rattle.srm_agent_state.specs.TimersKept.{HaveSettings}
 use Rattle.srm_distance.specs.Fits.{IsTableOf}
-use Rattle.srm_agent_state.specs.TimerCalls.{AreDistancesAfter, TimersHearRequest, WaitsAreDrawn}
+use Rattle.srm_agent_state.specs.TimerCalls.{AreDistancesAfter, TimersHearRequest, WaitsAreChosen}
 use Rattle.srm_agent.specs.Contents.{Content}
 use Rattle.srm_agent.specs.Fits.{Fits}
 use Rattle.srm_agent.specs.Heeding.{heard_entry}
@@ -40,19 +40,19 @@ use Rattle.srm_agent.proofs.Heeded.{Goes, Heeds, heard_enters}
 pub up_to_is : (s : Stream) (k l known_of greatest : ℕ) (names : List FullName) → known_of ≡ k → greatest ≡ l → AreExactly (is_between s known_of (greatest + 1)) names → AreExactly (is_between s k (l + 1)) names
 up_to_is s k l known_of greatest names e f h = rw (sym e, sym f) h
 
-pub fresh_in : {W : Type 0} {a : Content W} {s t : Stream} {names fresh : List FullName} → s ≡ t → IsFreshUpTo s names a fresh → IsFreshUpTo t names a fresh
-fresh_in {a = a} {names = names} {fresh = fresh} e h = subst (λ s. IsFreshUpTo s names a fresh) e h
+pub fresh_in : {W : Type 0} {a : Content W} {s t : Stream} {names fresh : List FullName} → s ≡ t → AreNewlyMissingUpTo s names a fresh → AreNewlyMissingUpTo t names a fresh
+fresh_in {a = a} {names = names} {fresh = fresh} e h = subst (λ s. AreNewlyMissingUpTo s names a fresh) e h
 
 no_calls : (me : ℕ) (past : List Entry) (moment sender : ℕ) (name : FullName) (mask : ℕ) (arms : List Arm) (s : AgentState) → distance_calls me (past ++ heard_entry me moment (Request sender name mask) arms s ∷ []) ≡ distance_calls me past
 no_calls me past moment sender name mask arms s = flat_map-snoc (calls_in me) past (heard_entry me moment (Request sender name mask) arms s) ∙ append-nil (distance_calls me past)
 
-pub request_enters : {W : Type 0} (draw : W → ℕ × W) (a b : Content W) (moment sender : ℕ) (name : FullName) (mask : ℕ) (names fresh : List FullName) (dist : List ℕ) (arms : List Arm) (roomy : StoreContent) (e : Entry)
-    → names ≡ asked_by name mask → is_gone a.state ≡ false → IsSpellable (Request sender name mask) → a.last ≤ moment → IsAllowed (Heard (Request sender name mask)) a → IsFreshUpTo name.stream names a fresh → IsTableOf a.distances dist
+pub request_enters : {W : Type 0} (next_word : W → ℕ × W) (a b : Content W) (moment sender : ℕ) (name : FullName) (mask : ℕ) (names fresh : List FullName) (dist : List ℕ) (arms : List Arm) (roomy : StoreContent) (e : Entry)
+    → names ≡ asked_by name mask → is_gone a.state ≡ false → IsSpellable (Request sender name mask) → a.last ≤ moment → IsAllowed (Heard (Request sender name mask)) a → AreNewlyMissingUpTo name.stream names a fresh → IsTableOf a.distances dist
     → TimersHearRequest roomy sender names fresh dist moment arms a.timers b.timers → StillFits a.store roomy → LearnsNames names roomy b.store → b.pages ≡ with_pages_of a.pages names → b.distances ≡ a.distances → Goes a b moment
-    → HaveSettings a.config a.timers → WaitsAreDrawn draw a.timers a.words arms b.words → e ≡ heard_entry a.config.me moment (Request sender name mask) arms a.state
-    → Enters draw (Some moment) (Heard (Request sender name mask)) a b e
-request_enters draw a b moment sender name mask names fresh dist arms roomy e asked here spellable late taken up_to table hears kept shows pages same goes settings drawn e_is =
-    heard_enters draw a b moment (Request sender name mask) arms e late settings drawn e_is heeds
+    → HaveSettings a.config a.timers → WaitsAreChosen next_word a.timers a.words arms b.words → e ≡ heard_entry a.config.me moment (Request sender name mask) arms a.state
+    → Enters next_word (Some moment) (Heard (Request sender name mask)) a b e
+request_enters next_word a b moment sender name mask names fresh dist arms roomy e asked here spellable late taken up_to table hears kept shows pages same goes settings drawn e_is =
+    heard_enters next_word a b moment (Request sender name mask) arms e late settings drawn e_is heeds
   where
     after : (c : Config) (made : ℕ) (past : List Entry) → Fits c made past a → AreDistancesAfter c (past ++ heard_entry c.me moment (Request sender name mask) arms a.state ∷ []) dist
     after c made past h = record {
@@ -66,7 +66,7 @@ request_enters draw a b moment sender name mask names fresh dist arms roomy e as
           fits = h;
           later = subst (λ n. n ≤ moment) h.last late;
           here = ap is_gone (sym h.state) ∙ here;
-          taken = sym (taken.each c made past h);
+          accepted = sym (taken.each c made past h);
           spellable = spellable;
           timers = hears.each c past (heard_entry c.me moment (Request sender name mask) arms a.state) (Request sender name mask) (refl, sym asked)
               (record { heard = refl; read = spellable; moment = refl; drawn = refl; arms = refl; asks = refl; fixes = refl }) h.timers old_fits

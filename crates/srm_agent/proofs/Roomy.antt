@@ -41,8 +41,8 @@ with_store a s = record a { store = s }
 pub stays_roomy : {W : Type 0} (a : Content W) (s : StoreContent) → StillFits a.store s → Stays a (with_store a s)
 stays_roomy a s kept = stays a s a.timers a.words kept (same_timers a.timers) refl
 
-pub taken_roomy : {W : Type 0} (g : Datagram) (a : Content W) (s : StoreContent) → StillFits s a.store → IsAllowed (Heard g) a → IsAllowed (Heard g) (with_store a s)
-taken_roomy g a s before taken = record { each = λ c made past h. taken.each c made past ((stays_roomy (with_store a s) a.store before).fits c made past h) }
+pub accepted_roomy : {W : Type 0} (g : Datagram) (a : Content W) (s : StoreContent) → StillFits s a.store → IsAllowed (Heard g) a → IsAllowed (Heard g) (with_store a s)
+accepted_roomy g a s before taken = record { each = λ c made past h. taken.each c made past ((stays_roomy (with_store a s) a.store before).fits c made past h) }
 
 pub may_roomy : {W : Type 0} (g : Datagram) (names : List FullName) (moment : ℕ) (a : Content W) (s : StoreContent) → StillFits s a.store → MayAccept g names moment a → MayAccept g names moment (with_store a s)
 may_roomy g names moment a s before may = record {
@@ -50,14 +50,14 @@ may_roomy g names moment a s before may = record {
   spelled = may.spelled;
   later = may.later;
   in_range = may.in_range;
-  taken = taken_roomy g a s before may.taken;
+  allowed = accepted_roomy g a s before may.allowed;
   named = may.named;
   pages = may.pages;
 }
 
 -- what is done once there is room is done
-pub enters_roomy : {W : Type 0} (draw : W → ℕ × W) (a b : Content W) (s : StoreContent) (moment : ℕ) (input : Input) (e : Entry) → StillFits a.store s → Enters draw (Some moment) input (with_store a s) b e → Enters draw (Some moment) input a b e
-enters_roomy draw a b s moment input e kept enters = record {
+pub enters_roomy : {W : Type 0} (next_word : W → ℕ × W) (a b : Content W) (s : StoreContent) (moment : ℕ) (input : Input) (e : Entry) → StillFits a.store s → Enters next_word (Some moment) input (with_store a s) b e → Enters next_word (Some moment) input a b e
+enters_roomy next_word a b s moment input e kept enters = record {
   input_is = enters.input_is;
   moment_is = enters.moment_is;
   fits = λ c made past h. enters.fits c made past ((stays_roomy a s kept).fits c made past h);
@@ -67,8 +67,8 @@ enters_roomy draw a b s moment input e kept enters = record {
 pub stays_on_roomy : {W : Type 0} (a b : Content W) (s : StoreContent) → StillFits a.store s → Stays (with_store a s) b → Stays a b
 stays_on_roomy a b s kept on = record { fits = λ c made past h. on.fits c made past ((stays_roomy a s kept).fits c made past h); words = on.words }
 
-pub judged_taken : {W : Type 0} (g : Datagram) (a : Content W) (e : Entry) → IsAllowed (Heard g) a → e.verdict ≡ Done → IsJudgedBy g a e
-judged_taken g a e taken done = record { each = λ c made past h. done ∙ sym (taken.each c made past h) }
+pub judged_accepted : {W : Type 0} (g : Datagram) (a : Content W) (e : Entry) → IsAllowed (Heard g) a → e.verdict ≡ Done → IsJudgedBy g a e
+judged_accepted g a e taken done = record { each = λ c made past h. done ∙ sym (taken.each c made past h) }
 
 -- the store has slots where the page table has
 abbrev pub Outgrows : StoreContent → List FullName → Type 0
@@ -80,9 +80,9 @@ never_full g a names room full c made past h =
     let fine : nat_lt PAGES (length (firsts same_page (slots past ++ pages_of names))) ≡ false = subst (λ (ps : List Page). nat_lt PAGES (length (firsts same_page (ps ++ pages_of names))) ≡ false) h.pages room in
     absurd (false≢true (sym (slots_suffice c made past (pages_of names) h.run fine) ∙ full (held past) (evidence_in past) (settlings past) h.store))
 
-pub unslotted_enters : {W : Type 0} (draw : W → ℕ × W) (a b : Content W) (moment : ℕ) (g : Datagram) (names : List FullName) (e : Entry) → is_gone a.state ≡ false → a.last ≤ moment
-    → lacks_room_for a.pages names ≡ false → Outgrows a.store names → b ≡ record a { last = moment } → e ≡ ignored_entry a moment (Heard g) causes.PageLimit → Enters draw (Some moment) (Heard g) a b e
-unslotted_enters draw a b moment g names e here late room full new is = ignored_datagram draw a b moment g causes.PageLimit (Some causes.PageLimit) e here late refl (never_full g a names room full) new is
+pub unslotted_enters : {W : Type 0} (next_word : W → ℕ × W) (a b : Content W) (moment : ℕ) (g : Datagram) (names : List FullName) (e : Entry) → is_gone a.state ≡ false → a.last ≤ moment
+    → lacks_room_for a.pages names ≡ false → Outgrows a.store names → b ≡ record a { last = moment } → e ≡ ignored_entry a moment (Heard g) causes.PageLimit → Enters next_word (Some moment) (Heard g) a b e
+unslotted_enters next_word a b moment g names e here late room full new is = ignored_datagram next_word a b moment g causes.PageLimit (Some causes.PageLimit) e here late refl (never_full g a names room full) new is
 
 pub unslotted_judged : {W : Type 0} (a : Content W) (moment : ℕ) (g : Datagram) (names : List FullName) (e : Entry)
     → lacks_room_for a.pages names ≡ false → Outgrows a.store names → e ≡ ignored_entry a moment (Heard g) causes.PageLimit → IsJudgedBy g a e

@@ -9,16 +9,16 @@ use Rattle.srm_codec.specs.declared.datagram.Datagram.{Datagram}
 use Rattle.srm_bucket.specs.Calls.{Classed, Handed, Popped}
 use Rattle.srm_bucket.specs.Content.{Content as BucketContent}
 use Rattle.srm_bucket.specs.Mapping.{read_classed, read_call}
-use Rattle.srm_outbox.specs.declared.answers.Answer.{Answer}
+use Rattle.srm_outbox.specs.declared.due_items.DueItem.{DueItem}
 use Rattle.srm_entries.specs.declared.entry.Entry.{Entry}
 use Rattle.srm_outbox.specs.declared.out.Outgoing.{Outgoing}
 use Rattle.srm_entries.specs.Configs.{Config}
 use Rattle.srm_entries.specs.Entries.{ticked, state, is_gone, shown}
 use Rattle.srm_entries.specs.Sessions.{charged}
-use Rattle.srm_entries.specs.Bucket.{Going, GoesAsCharged, entries_of, lets_go, pops, bucket_calls, handed_by, answers_in, answer_item, data_item, datagrams_of}
+use Rattle.srm_entries.specs.Bucket.{Going, GoesAsCharged, entries_of, lets_go, pops, bucket_calls, handed_in_by, requests_and_repairs, due_item, data_item, datagrams_of}
 use Rattle.srm_agent.specs.Fits.{BucketFits}
 use Rattle.srm_outbox.specs.Outs.{datagram_of, IsOwn, AreOwn}
-use Rattle.srm_outbox.specs.Answering.{AreAnswers, classed_of}
+use Rattle.srm_outbox.specs.DueItems.{AreDueItems, classed_of}
 use Rattle.srm_outbox.specs.Outbox.{WentContent, HandsIn, Goes, LetsGo}
 use Rattle.srm_entries.proofs.Running.{steps_more}
 use Rattle.srm_entries.proofs.Marking.{bucket_calls-snoc, entries-snoc}
@@ -36,32 +36,32 @@ pops_read : (now : ℕ) (goes : List (Classed Outgoing)) → map (read_call data
 pops_read now [] = refl
 pops_read now (i ∷ goes) = ap (λ cs. Popped now (Some (read_classed datagram_of i)) ∷ cs) (pops_read now goes)
 
-handed_read : (answers : List Answer) → map (read_call datagram_of) (map Handed (map classed_of answers)) ≡ map Handed (map (λ a. read_classed datagram_of (classed_of a)) answers)
+handed_read : (due_items : List DueItem) → map (read_call datagram_of) (map Handed (map classed_of due_items)) ≡ map Handed (map (λ a. read_classed datagram_of (classed_of a)) due_items)
 handed_read [] = refl
-handed_read (a ∷ answers) = ap (λ cs. Handed (read_classed datagram_of (classed_of a)) ∷ cs) (handed_read answers)
+handed_read (a ∷ due_items) = ap (λ cs. Handed (read_classed datagram_of (classed_of a)) ∷ cs) (handed_read due_items)
 
 -- the entry of a tick, by what it hands in and lets go
-pub record TickSends (c : Config) (past : List Entry) (e : Entry) (answers : List Datagram) (went : List Datagram) : Type 0 where
+pub record TickSends (c : Config) (past : List Entry) (e : Entry) (datagrams : List Datagram) (went : List Datagram) : Type 0 where
   pub ticked : ticked e ≡ true
   pub here : is_gone (state past) ≡ false
   pub drawn : e.effects.drawn ≡ None
-  pub answers_are : answers ≡ answers_in c.me (record { before = past; this = e })
+  pub datagrams_are : datagrams ≡ requests_and_repairs c.me (record { before = past; this = e })
   pub charged_are : charged e ≡ went
 
-pub bucket_ticks : (c : Config) (session : ℕ) (past : List Entry) (e : Entry) (old handed new : BucketContent Outgoing) (showing : Page) (gs : List Datagram) (answers : List Answer) (went : WentContent)
-    → BucketFits c past old → AreOwn c.me session old.waiting → AreAnswers c.me session showing gs answers → showing ≡ shown past
-    → HandsIn answers old handed → LetsGo e.moment handed new went → TickSends c past e gs went.noted → BucketFits c (past ++ e ∷ []) new
-bucket_ticks c session past e old handed new showing gs answers went h own spelled page hands goes sends = record {
+pub bucket_ticks : (c : Config) (session : ℕ) (past : List Entry) (e : Entry) (old after_hand_in new : BucketContent Outgoing) (showing : Page) (gs : List Datagram) (due_items : List DueItem) (went : WentContent)
+    → BucketFits c past old → AreOwn c.me session old.waiting → AreDueItems c.me session showing gs due_items → showing ≡ shown past
+    → HandsIn due_items old after_hand_in → LetsGo e.moment after_hand_in new went → TickSends c past e gs went.noted → BucketFits c (past ++ e ∷ []) new
+bucket_ticks c session past e old after_hand_in new showing gs due_items went h own spelled page hands goes sends = record {
   goings = h.goings ++ x ∷ [];
   entries = entries-snoc h.goings x ∙ ap (λ es. es ++ e ∷ []) h.entries;
   goes = steps_more GoesAsCharged h.goings x h.goes right;
-  calls = (h.calls ++ map Handed (map classed_of answers)) ++ pops e.moment g.goes;
+  calls = (h.calls ++ map Handed (map classed_of due_items)) ++ pops e.moment g.goes;
   read = read;
   fits = g.fits;
 }
   where
-    g : Goes c.rate c.depth e.moment (h.calls ++ map Handed (map classed_of answers)) goes.items new
-    g = goes.fits c.rate c.depth (h.calls ++ map Handed (map classed_of answers)) (hands.fits c.rate c.depth h.calls h.fits)
+    g : Goes c.rate c.depth e.moment (h.calls ++ map Handed (map classed_of due_items)) goes.items new
+    g = goes.fits c.rate c.depth (h.calls ++ map Handed (map classed_of due_items)) (hands.fits c.rate c.depth h.calls h.fits)
 
     x : Going
     x = record { entry = e; goes = map (read_classed datagram_of) g.goes }
@@ -78,19 +78,19 @@ bucket_ticks c session past e old handed new showing gs answers went h own spell
       at_ticks = subst (λ b. OnTrue (not b) (x.goes ≡ [])) (sym lets) tt;
     }
 
-    items : map (λ a. read_classed datagram_of (classed_of a)) answers ≡ handed_by c.me (record { before = entries_of h.goings; this = e })
+    items : map (λ a. read_classed datagram_of (classed_of a)) due_items ≡ handed_in_by c.me (record { before = entries_of h.goings; this = e })
     items =
-        spelled.read ∙ ap (λ p. map (answer_item p) gs) page ∙ ap (map (answer_item (shown past))) sends.answers_are
-        ∙ ap (λ o. data_item o ++ map (answer_item (shown past)) (answers_in c.me (record { before = past; this = e }))) (sym sends.drawn)
-        ∙ ap (λ es. handed_by c.me (record { before = es; this = e })) (sym h.entries)
+        spelled.read ∙ ap (λ p. map (due_item p) gs) page ∙ ap (map (due_item (shown past))) sends.datagrams_are
+        ∙ ap (λ o. data_item o ++ map (due_item (shown past)) (requests_and_repairs c.me (record { before = past; this = e }))) (sym sends.drawn)
+        ∙ ap (λ es. handed_in_by c.me (record { before = es; this = e })) (sym h.entries)
 
-    read : map (read_call datagram_of) ((h.calls ++ map Handed (map classed_of answers)) ++ pops e.moment g.goes) ≡ bucket_calls c.me (h.goings ++ x ∷ [])
+    read : map (read_call datagram_of) ((h.calls ++ map Handed (map classed_of due_items)) ++ pops e.moment g.goes) ≡ bucket_calls c.me (h.goings ++ x ∷ [])
     read =
-        map-append (read_call datagram_of) (h.calls ++ map Handed (map classed_of answers)) (pops e.moment g.goes)
-        ∙ ap (λ cs. cs ++ map (read_call datagram_of) (pops e.moment g.goes)) (map-append (read_call datagram_of) h.calls (map Handed (map classed_of answers)))
-        ∙ ap (λ cs. (map (read_call datagram_of) h.calls ++ map (read_call datagram_of) (map Handed (map classed_of answers))) ++ cs) (pops_read e.moment g.goes)
-        ∙ ap (λ cs. (map (read_call datagram_of) h.calls ++ cs) ++ pops e.moment x.goes) (handed_read answers ∙ ap (map Handed) items)
-        ∙ ap (λ cs. (cs ++ map Handed (handed_by c.me (record { before = entries_of h.goings; this = e }))) ++ pops e.moment x.goes) h.read
-        ∙ append_assoc (bucket_calls c.me h.goings) (map Handed (handed_by c.me (record { before = entries_of h.goings; this = e }))) (pops e.moment x.goes)
-        ∙ ap (λ b. bucket_calls c.me h.goings ++ (map Handed (handed_by c.me (record { before = entries_of h.goings; this = e })) ++ (if b then pops e.moment x.goes else []))) (sym lets)
+        map-append (read_call datagram_of) (h.calls ++ map Handed (map classed_of due_items)) (pops e.moment g.goes)
+        ∙ ap (λ cs. cs ++ map (read_call datagram_of) (pops e.moment g.goes)) (map-append (read_call datagram_of) h.calls (map Handed (map classed_of due_items)))
+        ∙ ap (λ cs. (map (read_call datagram_of) h.calls ++ map (read_call datagram_of) (map Handed (map classed_of due_items))) ++ cs) (pops_read e.moment g.goes)
+        ∙ ap (λ cs. (map (read_call datagram_of) h.calls ++ cs) ++ pops e.moment x.goes) (handed_read due_items ∙ ap (map Handed) items)
+        ∙ ap (λ cs. (cs ++ map Handed (handed_in_by c.me (record { before = entries_of h.goings; this = e }))) ++ pops e.moment x.goes) h.read
+        ∙ append_assoc (bucket_calls c.me h.goings) (map Handed (handed_in_by c.me (record { before = entries_of h.goings; this = e }))) (pops e.moment x.goes)
+        ∙ ap (λ b. bucket_calls c.me h.goings ++ (map Handed (handed_in_by c.me (record { before = entries_of h.goings; this = e })) ++ (if b then pops e.moment x.goes else []))) (sym lets)
         ∙ sym (bucket_calls-snoc c.me h.goings x)

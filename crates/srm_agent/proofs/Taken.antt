@@ -28,10 +28,10 @@ use Rattle.srm_agent_state.specs.Growth.{HoldsToo}
 use Rattle.srm_agent_state.specs.PageTables.{with_pages_of}
 use Rattle.srm_agent_state.specs.TimersKept.{HaveSettings, TimersContent}
 use Rattle.srm_distance.specs.Fits.{IsTableOf}
-use Rattle.srm_agent_state.specs.TimerCalls.{AreDistancesAfter, IsDrawopOf, TimersHear, TimersStay, WaitsAreDrawn}
+use Rattle.srm_agent_state.specs.TimerCalls.{AreDistancesAfter, IsDrawopOf, TimersHear, TimersStay, WaitsAreChosen}
 use Rattle.srm_agent.specs.Contents.{Content}
 use Rattle.srm_agent.specs.Fits.{Fits}
-use Rattle.srm_agent.specs.Heeding.{IsFreshBelow, MayAccept, carrying, heard_entry}
+use Rattle.srm_agent.specs.Heeding.{AreNewlyMissingBelow, MayAccept, carrying, heard_entry}
 use Rattle.srm_agent.specs.Noting.{Enters, IsAllowed, Stays}
 use Rattle.srm_entries.proofs.Adding.{flat_map-snoc}
 use Rattle.srm_agent.proofs.Fitting.{refit}
@@ -91,13 +91,13 @@ no_calls : (me : ℕ) (past : List Entry) (moment : ℕ) (d : Drawop) (g : Datag
 no_calls me past moment d g arms s one =
     flat_map-snoc (calls_in me) past (heard_entry me moment g arms s) ∙ ap (λ cs. distance_calls me past ++ cs) (one.uncalled me moment) ∙ append-nil (distance_calls me past)
 
-pub drawop_enters : {W : Type 0} (draw : W → ℕ × W) (a b : Content W) (moment : ℕ) (g : Datagram) (is : Datagram → Type 0) (d : Drawop) (fresh : List FullName) (dist : List ℕ) (arms : List Arm) (roomy : StoreContent) (e : Entry)
-    → BringsOne d g → is g → is_gone a.state ≡ false → IsSpellable g → a.last ≤ moment → IsAllowed (Heard g) a → IsFreshBelow d.name a fresh → IsTableOf a.distances dist
+pub drawop_enters : {W : Type 0} (next_word : W → ℕ × W) (a b : Content W) (moment : ℕ) (g : Datagram) (is : Datagram → Type 0) (d : Drawop) (fresh : List FullName) (dist : List ℕ) (arms : List Arm) (roomy : StoreContent) (e : Entry)
+    → BringsOne d g → is g → is_gone a.state ≡ false → IsSpellable g → a.last ≤ moment → IsAllowed (Heard g) a → AreNewlyMissingBelow d.name a fresh → IsTableOf a.distances dist
     → TimersHear is fresh dist moment arms a.timers b.timers → StillFits a.store roomy → HoldsToo d roomy b.store → b.pages ≡ with_pages_of a.pages (d.name ∷ []) → b.distances ≡ a.distances → Goes a b moment
-    → HaveSettings a.config a.timers → WaitsAreDrawn draw a.timers a.words arms b.words → e ≡ heard_entry a.config.me moment g arms a.state
-    → Enters draw (Some moment) (Heard g) a b e
-drawop_enters draw a b moment g is d fresh dist arms roomy e one it here spellable late taken below table hears kept holds pages same goes settings drawn e_is =
-    heard_enters draw a b moment g arms e late settings drawn e_is heeds
+    → HaveSettings a.config a.timers → WaitsAreChosen next_word a.timers a.words arms b.words → e ≡ heard_entry a.config.me moment g arms a.state
+    → Enters next_word (Some moment) (Heard g) a b e
+drawop_enters next_word a b moment g is d fresh dist arms roomy e one it here spellable late taken below table hears kept holds pages same goes settings drawn e_is =
+    heard_enters next_word a b moment g arms e late settings drawn e_is heeds
   where
     after : (c : Config) (made : ℕ) (past : List Entry) → Fits c made past a → AreDistancesAfter c (past ++ heard_entry c.me moment g arms a.state ∷ []) dist
     after c made past h = record {
@@ -109,7 +109,7 @@ drawop_enters draw a b moment g is d fresh dist arms roomy e one it here spellab
       fits = h;
       later = subst (λ n. n ≤ moment) h.last late;
       here = ap is_gone (sym h.state) ∙ here;
-      taken = sym (taken.each c made past h);
+      accepted = sym (taken.each c made past h);
       spellable = spellable;
       timers = hears.each c past (heard_entry c.me moment g arms a.state) g it (record { heard = refl; read = spellable; moment = refl; drawn = refl; arms = refl; asks = refl; fixes = refl }) h.timers
           (fresh_drawop past (heard_entry c.me moment g arms a.state) d _ fresh (one.brings c.me moment arms a.state) refl (below.each c made past h)) (after c made past h);

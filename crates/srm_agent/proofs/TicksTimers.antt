@@ -16,7 +16,7 @@ use Rattle.srm_entries.specs.Distances.{distance_calls, calls_in, calls_of}
 use Rattle.srm_outbox.specs.Outs.{IsOwn, AreOwn}
 use Rattle.srm_agent_state.specs.TimersKept.{TimersContent, HaveSettings}
 use Rattle.srm_distance.specs.Fits.{IsTableOf}
-use Rattle.srm_agent_state.specs.TimerCalls.{AreDistancesAfter, TimersTick, WaitsAreDrawn}
+use Rattle.srm_agent_state.specs.TimerCalls.{AreDistancesAfter, TimersTick, WaitsAreChosen}
 use Rattle.srm_agent.specs.Ticking.{TicksTimers, HandsOut}
 use Rattle.srm_entries.proofs.Adding.{flat_map-snoc}
 
@@ -33,10 +33,10 @@ ticks_timers a asks fixes dist moment arms new table ticks = record {
       ticks.each c past e t h.timers here to_ask to_fix after;
 }
 
-pub hands_out : {W : Type 0} (draw : W → ℕ × W) (a b : Content W) (handed : HandedOut) (dist : List ℕ) (moment : ℕ) (arms : List Arm)
-    → HaveSettings a.config a.timers → IsTableOf a.distances dist → TimersTick handed.asks handed.fixes dist moment arms a.timers b.timers → WaitsAreDrawn draw a.timers a.words arms b.words → HandsOut draw a handed moment arms b
-hands_out draw a b handed dist moment arms settings table ticks drawn =
-    record { ticks = ticks_timers a handed.asks handed.fixes dist moment arms b.timers table ticks; drawn = drawn.each a.config settings }
+pub hands_out : {W : Type 0} (next_word : W → ℕ × W) (a b : Content W) (handed_out : HandedOut) (dist : List ℕ) (moment : ℕ) (arms : List Arm)
+    → HaveSettings a.config a.timers → IsTableOf a.distances dist → TimersTick handed_out.asks handed_out.fixes dist moment arms a.timers b.timers → WaitsAreChosen next_word a.timers a.words arms b.words → HandsOut next_word a handed_out moment arms b
+hands_out next_word a b handed_out dist moment arms settings table ticks drawn =
+    record { ticks = ticks_timers a handed_out.asks handed_out.fixes dist moment arms b.timers table ticks; chosen = drawn.each a.config settings }
 
 -- what waits is own where the queues are the same
 pub own_same : (me session : ℕ) (old new : Waiting Outgoing) → AreOwn me session old → SameQueues old new → AreOwn me session new

@@ -28,7 +28,7 @@ use Rattle.srm_entries.specs.Entries.{shown, drawn, sent, held_at}
 use Rattle.srm_codec.specs.Spelling.{is_data, is_session}
 use Rattle.srm_entries.specs.Sessions.{charged, all_data_sent}
 use Rattle.srm_entries.specs.Packing.{is_covered_by, packed_after, packed, mask_of}
-use Rattle.srm_entries.specs.Bucket.{Going, GoesAsCharged, class_for, page_of, answer_item, data_item, answers_in, handed_by, repair_for, entries_of, bucket_calls, datagrams_of}
+use Rattle.srm_entries.specs.Bucket.{Going, GoesAsCharged, class_for, page_of, due_item, data_item, requests_and_repairs, handed_in_by, repair_for, entries_of, bucket_calls, datagrams_of}
 use Rattle.srm_entries.specs.Rates.{one_of_class, of_class, handed_so_far, departed_so_far}
 use Rattle.srm_agent.specs.Fits.{BucketFits}
 use Rattle.srm_outbox.specs.Outs.{datagram_of}
@@ -70,10 +70,10 @@ repairs_no_data : (me : ℕ) (before : List Entry) (g : Datagram) (fixes : List 
 repairs_no_data me before g [] h = absurd h
 repairs_no_data me before g (n ∷ ns) h = repair_no_data me g (filter_map (repair_for me before) ns) (held_at before n) (repairs_no_data me before g ns) h
 
-handed_marked : (me : ℕ) (s : Step Entry) (j : Classed Datagram) → Has j (handed_by me s) → IsMarked j
-handed_marked me s j h = elim (Has-append j (data_item s.this.effects.drawn) (map (answer_item (shown s.before)) (answers_in me s)) h) [
+handed_marked : (me : ℕ) (s : Step Entry) (j : Classed Datagram) → Has j (handed_in_by me s) → IsMarked j
+handed_marked me s j h = elim (Has-append j (data_item s.this.effects.drawn) (map (due_item (shown s.before)) (requests_and_repairs me s)) h) [
   | inl l ↦ of_data s.this.effects.drawn l
-  | inr r ↦ of_answers (Has-map (answer_item (shown s.before)) j (answers_in me s) r)
+  | inr r ↦ of_answers (Has-map (due_item (shown s.before)) j (requests_and_repairs me s) r)
 ]
   where
     of_data : (o : Option Drawop) → Has j (data_item o) → IsMarked j
@@ -81,7 +81,7 @@ handed_marked me s j h = elim (Has-append j (data_item s.this.effects.drawn) (ma
     of_data (Some d) (inl e) = subst IsMarked (sym e) refl
     of_data (Some d) (inr k) = absurd k
 
-    of_answers : ((g : Datagram) × Has g (answers_in me s) × (j ≡ answer_item (shown s.before) g)) → IsMarked j
+    of_answers : ((g : Datagram) × Has g (requests_and_repairs me s) × (j ≡ due_item (shown s.before) g)) → IsMarked j
     of_answers (g, k, e) =
         let none : is_data g ≡ false = elim (Has-append g (packed me s.this.effects.asks) (filter_map (repair_for me s.before) s.this.effects.fixes) k) [
           | inl l ↦ packed_no_data me g None s.this.effects.asks l
@@ -105,7 +105,7 @@ went_marked c gs all law i h =
     let there : Has i.item (of_class i.class (handed_so_far c.me (entries_of gs))) =
     subst (λ xs. Has i.item xs) (e ∙ handed_is c.me i.class gs all) (Has-front i.item (departed i.class (bucket_calls c.me gs)) rest (subst (λ xs. Has i.item xs) (sym (gone_is c.me i.class gs all)) here)) in
     let (j, k, m) = Has-flat_map (one_of_class i.class) i.item (handed_so_far c.me (entries_of gs)) there in
-    let (s, at, p) = Has-flat_map (handed_by c.me) j (steps (entries_of gs)) k in
+    let (s, at, p) = Has-flat_map (handed_in_by c.me) j (steps (entries_of gs)) k in
     let both = in_class_both i.class i.item j m in
     ap (λ n. n == rank New) (sym both.0) ∙ handed_marked c.me s j p ∙ ap (λ (x : Item Datagram). is_data x.value) (sym both.1)
 
@@ -125,26 +125,26 @@ count_marked (i ∷ is) h =
     length-append (in_class New (Some i)) (of_class New is) ∙ ap (λ n. n + length (of_class New is)) one ∙ ap (λ n. cond (is_data i.item.value) 1 0 + n) (count_marked is (λ x k. h x (inr k)))
     ∙ sym (sum_by-cons (λ g. cond (is_data g) 1 0) i.item.value (datagrams_of is))
 
-none_new : (showing : Page) (gs : List Datagram) → of_class New (map (answer_item showing) gs) ≡ []
+none_new : (showing : Page) (gs : List Datagram) → of_class New (map (due_item showing) gs) ≡ []
 none_new showing [] = refl
-none_new showing (g ∷ gs) = ap (λ b. (if b then (answer_item showing g).item ∷ [] else []) ++ of_class New (map (answer_item showing) gs)) (not_new showing (page_of g)) ∙ none_new showing gs
+none_new showing (g ∷ gs) = ap (λ b. (if b then (due_item showing g).item ∷ [] else []) ++ of_class New (map (due_item showing) gs)) (not_new showing (page_of g)) ∙ none_new showing gs
 
-step_drawn : (me : ℕ) (s : Step Entry) → length (of_class New (handed_by me s)) ≡ length (option_to_list s.this.effects.drawn)
+step_drawn : (me : ℕ) (s : Step Entry) → length (of_class New (handed_in_by me s)) ≡ length (option_to_list s.this.effects.drawn)
 step_drawn me s =
-    ap length (flat_map-append (one_of_class New) (data_item s.this.effects.drawn) (map (answer_item (shown s.before)) (answers_in me s)) ∙ ap (λ xs. of_class New (data_item s.this.effects.drawn) ++ xs) (none_new (shown s.before) (answers_in me s)))
+    ap length (flat_map-append (one_of_class New) (data_item s.this.effects.drawn) (map (due_item (shown s.before)) (requests_and_repairs me s)) ∙ ap (λ xs. of_class New (data_item s.this.effects.drawn) ++ xs) (none_new (shown s.before) (requests_and_repairs me s)))
     ∙ by_case s.this.effects.drawn
   where
     by_case : (o : Option Drawop) → length (of_class New (data_item o) ++ []) ≡ length (option_to_list o)
     by_case None = refl
     by_case (Some d) = refl
 
-drawn_after : (me : ℕ) (before es : List Entry) → length (of_class New (flat_map (handed_by me) (steps_after before es))) ≡ length (drawn es)
+drawn_after : (me : ℕ) (before es : List Entry) → length (of_class New (flat_map (handed_in_by me) (steps_after before es))) ≡ length (drawn es)
 drawn_after me before [] = refl
 drawn_after me before (e ∷ es) =
     let s : Step Entry = record { before = before; this = e } in
-    ap length (flat_map-append (one_of_class New) (handed_by me s) (flat_map (handed_by me) (steps_after (before ++ e ∷ []) es)))
-    ∙ length-append (of_class New (handed_by me s)) (of_class New (flat_map (handed_by me) (steps_after (before ++ e ∷ []) es)))
-    ∙ ap (λ n. n + length (of_class New (flat_map (handed_by me) (steps_after (before ++ e ∷ []) es)))) (step_drawn me s)
+    ap length (flat_map-append (one_of_class New) (handed_in_by me s) (flat_map (handed_in_by me) (steps_after (before ++ e ∷ []) es)))
+    ∙ length-append (of_class New (handed_in_by me s)) (of_class New (flat_map (handed_in_by me) (steps_after (before ++ e ∷ []) es)))
+    ∙ ap (λ n. n + length (of_class New (flat_map (handed_in_by me) (steps_after (before ++ e ∷ []) es)))) (step_drawn me s)
     ∙ ap (λ n. length (option_to_list e.effects.drawn) + n) (drawn_after me (before ++ e ∷ []) es)
     ∙ sym (length-append (option_to_list e.effects.drawn) (drawn es))
 

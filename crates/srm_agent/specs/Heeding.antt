@@ -48,7 +48,7 @@ pub record MayAccept {W : Type 0} (datagram : Datagram) (names : List FullName) 
   pub spelled : IsSpellable datagram
   pub later : a.last ≤ moment
   pub in_range : moment ≤ LATEST_MOMENT
-  pub taken : IsAllowed (Heard datagram) a
+  pub allowed : IsAllowed (Heard datagram) a
   pub named : names ≡ names_in datagram
   pub pages : lacks_room_for a.pages names ≡ false
 
@@ -72,8 +72,8 @@ entry_by a moment input heard = entry_with a.config.me moment input a.state hear
 
 -- the entry is of this datagram, and by what is answered
 abbrev pub EntersHeard : {W : Type 0} → (W → ℕ × W) → Datagram → ℕ → Content W → Content W → answers.Heard → Type 0
-EntersHeard draw datagram moment old new heard = Enters draw (Some moment) (Heard datagram) old new (entry_by old moment (Heard datagram) heard)
+EntersHeard next_word datagram moment old new heard = Enters next_word (Some moment) (Heard datagram) old new (entry_by old moment (Heard datagram) heard)
 
 -- the names are those below this one that aren't known of, in order, after whatever run the agent fitted
-pub record IsFreshBelow {W : Type 0} (name : FullName) (old : Content W) (names : List FullName) : Type 0 where
+pub record AreNewlyMissingBelow {W : Type 0} (name : FullName) (old : Content W) (names : List FullName) : Type 0 where
   pub each : (c : Config) (made : ℕ) (past : List Entry) → Fits c made past old → AreExactly (is_between name.stream (known past name.stream) name.number) names

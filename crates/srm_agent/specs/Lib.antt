@@ -6,7 +6,7 @@ pub mod Fits
 pub mod Heeding
 pub mod Noting
 pub mod Reports
-pub mod Answering
+pub mod DueItems
 pub mod Waking
 pub mod Admitting
 pub mod Ticking

@@ -42,15 +42,15 @@ moment_that_counts (Some now) last = max now last
 
 -- The entry is of this input, at the moment that counts. Whatever run the agent fitted, it fits the run with this entry added.
 -- The waits of its arms are by the next words, one word an arm, in order; no other word is drawn.
-pub record Enters {W : Type 0} (draw : W → ℕ × W) (now : Option ℕ) (input : Input) (old new : Content W) (e : Entry) : Type 0 where
+pub record Enters {W : Type 0} (next_word : W → ℕ × W) (now : Option ℕ) (input : Input) (old new : Content W) (e : Entry) : Type 0 where
   pub input_is : e.input ≡ input
   pub moment_is : e.moment ≡ moment_that_counts now old.last
   pub fits : (c : Config) (made : ℕ) (past : List Entry) → Fits c made past old → Fits c made (past ++ e ∷ []) new
-  pub words : AreChosen draw (low_of old.config) (high_of old.config) old.words e.effects.arms new.words
+  pub words : AreChosen next_word (low_of old.config) (high_of old.config) old.words e.effects.arms new.words
 
 -- a call without effects has the entry of the agent that it leaves, with the verdict of what it answers
 abbrev pub EntersStill : {W A : Type 0} → (W → ℕ × W) → ℕ → Input → Content W → Content W → Result A AgentFault → Type 0
-EntersStill draw moment input old new answer = Enters draw (Some moment) input old new (still_entry new.config.me moment input (verdict_answering answer) None new.state)
+EntersStill next_word moment input old new answer = Enters next_word (Some moment) input old new (still_entry new.config.me moment input (verdict_answering answer) None new.state)
 
 -- whatever run the agent fitted, it still fits, and no word was drawn
 pub record Stays {W : Type 0} (old new : Content W) : Type 0 where
@@ -66,7 +66,7 @@ AnswersAs is Done (Err fault) = ⊥
 
 -- a call had an entry, and answered as it says
 abbrev pub HasEntry : {W A : Type 0} → (W → ℕ × W) → Option ℕ → Input → (Entry → A → Type 0) → Content W → Content W → Result A AgentFault → Type 0
-HasEntry draw now input is old new answer = (e : Entry) × Enters draw now input old new e × AnswersAs (is e) e.verdict answer
+HasEntry next_word now input is old new answer = (e : Entry) × Enters next_word now input old new e × AnswersAs (is e) e.verdict answer
 
 -- whatever run the agent fitted, this input would be done after it
 pub record IsAllowed {W : Type 0} (input : Input) (old : Content W) : Type 0 where
@@ -75,7 +75,7 @@ pub record IsAllowed {W : Type 0} (input : Input) (old : Content W) : Type 0 whe
 -- A call had an entry, and answered as it says; or memory ran out for what would else be done, and whatever run the agent fitted, it
 -- still fits.
 abbrev pub Does : {W A : Type 0} → (W → ℕ × W) → Option ℕ → Input → (Entry → A → Type 0) → Content W → Content W → Result A AgentFault → Type 0
-Does draw now input is old new answer = HasEntry draw now input is old new answer ⊎ ((answer ≡ Err Memory) × IsAllowed input old × Stays old new)
+Does next_word now input is old new answer = HasEntry next_word now input is old new answer ⊎ ((answer ≡ Err Memory) × IsAllowed input old × Stays old new)
 
 -- To the agent the bytes are what the entry heard: the datagram that they spell, else noise with their fault.
 pub record ReadsAs {W : Type 0} (bytes : List ℕ) (old : Content W) (e : Entry) : Type 0 where
@@ -93,13 +93,13 @@ AnswersHeard e (Err fault) = ⊥
 
 -- hearing bytes had an entry, and answered as it says
 abbrev pub HeardAs : {W : Type 0} → (W → ℕ × W) → ℕ → List ℕ → Content W → Content W → Result Heard AgentFault → Type 0
-HeardAs draw now bytes old new answer = (e : Entry) × Enters draw (Some now) e.input old new e × ReadsAs bytes old e × AnswersHeard e answer
+HeardAs next_word now bytes old new answer = (e : Entry) × Enters next_word (Some now) e.input old new e × ReadsAs bytes old e × AnswersHeard e answer
 
 -- Hearing bytes had an entry, and answered as it says; or memory ran out, for a member that isn't gone and bytes that spell a datagram of
 -- its session.
 abbrev pub Hears : {W : Type 0} → (W → ℕ × W) → ℕ → List ℕ → Content W → Content W → Result Heard AgentFault → Type 0
-Hears draw now bytes old new answer =
-    HeardAs draw now bytes old new answer ⊎ ((answer ≡ Err Memory) × (is_gone old.state ≡ false) × IsOk (judge old.config.session bytes) × Stays old new)
+Hears next_word now bytes old new answer =
+    HeardAs next_word now bytes old new answer ⊎ ((answer ≡ Err Memory) × (is_gone old.state ≡ false) × IsOk (judge old.config.session bytes) × Stays old new)
 
 -- what a tick answers is what its entry says
 pub record IsTicked (session : ℕ) (e : Entry) (ticked : Ticked) : Type 0 where

@@ -10,9 +10,9 @@ use Rattle.srm_bucket.specs.declared.class.Class.TheVariants.{New}
 use Rattle.srm_bucket.specs.Content.{Content as BucketContent}
 use Rattle.srm_bucket.specs.Waiting.{queue}
 use Rattle.srm_agent.specs.declared.agent.due.Due.{Due}
-use Rattle.srm_agent.specs.declared.agent.due.Report.{Report}
+use Rattle.srm_agent.specs.declared.agent.due.DueMessage.{DueMessage}
 use Rattle.srm_agent.specs.declared.agent.due.HandedOut.{HandedOut}
-use Rattle.srm_outbox.specs.declared.answers.Answer.{Answer}
+use Rattle.srm_outbox.specs.declared.due_items.DueItem.{DueItem}
 use Rattle.srm_entries.specs.declared.entry.Entry.{Entry}
 use Rattle.srm_entries.specs.declared.entry.Input.TheVariants.{Ticked}
 use Rattle.srm_entries.specs.declared.entry.Verdict.TheVariants.{Done}
@@ -31,7 +31,7 @@ use Rattle.srm_agent_state.specs.TimersKept.{TimersContent}
 use Rattle.srm_agent_state.specs.TimerCalls.{AreDueAsks, AreDueFixes, AsksRanOut, FixesRanOut, AreToAsk, AreToFix, TicksWith, TimersAdd}
 use Rattle.srm_agent.specs.Noting.{Enters}
 use Rattle.srm_agent.specs.Reports.{IsReportSpelled}
-use Rattle.srm_agent.specs.Answering.{AnswersDue}
+use Rattle.srm_agent.specs.DueItems.{DueItems}
 use Rattle.srm_outbox.specs.Outbox.{WentContent, HandsIn, LetsGo}
 
 -- the entry of a tick: what it hands out, which timers it sets, what it sends, and the state after it
@@ -53,8 +53,8 @@ abbrev pub ticked_by : {W : Type 0} → Content W → ℕ → answers.Ticked →
 ticked_by a moment ticked = ticked_with a.config.me moment ticked
 
 -- a tick had the entry of what is answered, and the bytes of each out spell its datagram in the session
-pub record TicksAs {W : Type 0} (draw : W → ℕ × W) (now moment : ℕ) (old new : Content W) (ticked : answers.Ticked) : Type 0 where
-  pub enters : Enters draw (Some now) Ticked old new (ticked_by old moment ticked)
+pub record TicksAs {W : Type 0} (next_word : W → ℕ × W) (now moment : ℕ) (old new : Content W) (ticked : answers.Ticked) : Type 0 where
+  pub enters : Enters next_word (Some now) Ticked old new (ticked_by old moment ticked)
   pub spelled : AllByRecursion (IsOut old.config.session) ticked.outs
 
 -- nothing was handed out or sent
@@ -65,12 +65,12 @@ pub record IsIdle (ticked : answers.Ticked) : Type 0 where
   pub outs : ticked.outs ≡ []
 
 -- a session message or a farewell of an agent at a moment, and when the next one is due after it
-pub record IsReportAt {W : Type 0} (a : Content W) (moment : ℕ) (farewell : Bool) (r : Report) : Type 0 where
+pub record IsReportAt {W : Type 0} (a : Content W) (moment : ℕ) (farewell : Bool) (r : DueMessage) : Type 0 where
   pub report : IsReportSpelled a moment farewell r.outgoing
   pub next : (c : Config) (made : ℕ) (past : List Entry) → Fits c made past a → r.next ≡ moment + session_interval c past r.outgoing.out.datagram
 
 -- there is one exactly where it is wanted
-abbrev pub IsReportIf : {W : Type 0} → Bool → Content W → ℕ → Bool → Option Report → Type 0
+abbrev pub IsReportIf : {W : Type 0} → Bool → Content W → ℕ → Bool → Option DueMessage → Type 0
 IsReportIf wanted a moment farewell None = wanted ≡ false
 IsReportIf wanted a moment farewell (Some r) = (wanted ≡ true) × IsReportAt a moment farewell r
 
@@ -85,8 +85,8 @@ pub record IsToHandOut {W : Type 0} (a : Content W) (moment : ℕ) (h : HandedOu
 -- All that a tick hands out, sends and answers: the names whose timers ran out, the requests and repairs for them, the farewell of a
 -- member that is leaving, and the session message that is due.
 pub record IsDue {W : Type 0} (a : Content W) (moment : ℕ) (d : Due) : Type 0 where
-  pub handed : IsToHandOut a moment d.handed
-  pub answers : AnswersDue a d.handed.asks d.handed.fixes d.answers.items
+  pub handed_out : IsToHandOut a moment d.handed_out
+  pub due_items : DueItems a d.handed_out.asks d.handed_out.fixes d.due_items.items
   pub farewell : IsReportIf (is_leaving a.state) a moment true d.farewell
   pub report : IsReportIf (nat_le a.due moment) a moment false d.report
 
@@ -96,31 +96,31 @@ pub record TicksTimers {W : Type 0} (a : Content W) (asks fixes : List FullName)
       → AreToAsk moment past asks → AreToFix moment past fixes → TimersAdd c past e new × TimersRight past e
 
 -- these names were handed out, and these timers set by the next words
-pub record HandsOut {W : Type 0} (draw : W → ℕ × W) (a : Content W) (handed : HandedOut) (moment : ℕ) (arms : List Arm) (b : Content W) : Type 0 where
-  pub ticks : TicksTimers a handed.asks handed.fixes moment arms b.timers
-  pub drawn : AreChosen draw (low_of a.config) (high_of a.config) a.words arms b.words
+pub record HandsOut {W : Type 0} (next_word : W → ℕ × W) (a : Content W) (handed_out : HandedOut) (moment : ℕ) (arms : List Arm) (b : Content W) : Type 0 where
+  pub ticks : TicksTimers a handed_out.asks handed_out.fixes moment arms b.timers
+  pub chosen : AreChosen next_word (low_of a.config) (high_of a.config) a.words arms b.words
 
 -- answers are handed in, and what may go at a moment goes
-pub record SendsAll (moment : ℕ) (answers : List Answer) (old new : BucketContent Outgoing) (went : WentContent) : Type 0 where
-  pub handed : BucketContent Outgoing
-  pub hands : HandsIn answers old handed
-  pub lets : LetsGo moment handed new went
+pub record SendsAll (moment : ℕ) (due_items : List DueItem) (old new : BucketContent Outgoing) (went : WentContent) : Type 0 where
+  pub after_hand_in : BucketContent Outgoing
+  pub hands : HandsIn due_items old after_hand_in
+  pub lets : LetsGo moment after_hand_in new went
 
 -- whether data that this member drew still waits
 abbrev pub data_waits : BucketContent Outgoing → Bool
 data_waits b = not (length (queue b.waiting New) == 0)
 
 -- the message that a tick ends with: the farewell of a member that is leaving, once no data of its own waits, else the session message
-abbrev pub last_report : (waits : Bool) → (farewell report : Option Report) → Option Report
+abbrev pub last_report : (waits : Bool) → (farewell report : Option DueMessage) → Option DueMessage
 last_report true farewell report = report
 last_report false None report = report
 last_report false (Some farewell) report = Some farewell
 
 -- the state after it
-abbrev pub state_after : (waits : Bool) → (farewell : Option Report) → AgentState → AgentState
+abbrev pub state_after : (waits : Bool) → (farewell : Option DueMessage) → AgentState → AgentState
 state_after waits farewell old = if is_some farewell && not waits then Gone else old
 
 -- when the next session message is due after it
-abbrev pub due_then : Option Report → ℕ → ℕ
+abbrev pub due_then : Option DueMessage → ℕ → ℕ
 due_then None old = old
 due_then (Some r) old = r.next

@@ -10,6 +10,9 @@ ghost use Rattle.srm_entries.specs.Runs.{IsMemberRun};
 ghost use Rattle.srm_entries.specs.Still.{still_entry};
 ghost use Rattle.srm_agent.specs.Noting.{Does, verdict_answering};
 
+mod accepting;
+mod accepting_request;
+mod accepting_session;
 mod admitting;
 mod drafting;
 mod drawing;
@@ -25,9 +28,6 @@ mod noting;
 mod reporting;
 mod sending;
 mod showing;
-mod taking;
-mod taking_request;
-mod taking_session;
 mod ticking;
 
 use crate::noted::Noted;

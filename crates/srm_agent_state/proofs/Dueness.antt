@@ -17,22 +17,22 @@ use Rattle.srm_timers.specs.declared.arm.Armed.{Armed}
 use Rattle.srm_timers.specs.declared.arm.ArmKind.TheVariants.{Ask}
 use Rattle.srm_timers.specs.Arms as timers
 use Rattle.srm_timers.specs.Arms.{WaitBasis, wait_basis, arm_names, ran_out, next_exponent, ArmsAre, IsAsk, AreAsks, AreOfMembers, AreChosen, arm_of}
-use Rattle.srm_timers.specs.AskCalls.{AskContent, AskStays, AskAdds, AskedAgain, ask_timer, sets, due_basis, again_basis, again_exponent}
+use Rattle.srm_timers.specs.AskCalls.{AskContent, AskStays, AskAdds, ArmsSetAgain, ask_timer, sets, due_basis, again_basis, again_exponent}
 use Rattle.srm_timers.specs.AskCalls as asks
-use Rattle.srm_timers.specs.FixCalls.{FixStays, FixDue, FixRepairs, repair_calls, hold_end}
+use Rattle.srm_timers.specs.FixCalls.{FixStays, FixDue, FixRepairs, repair_calls, repair_holds_until}
 use Rattle.srm_timers.specs.Timers.{armed_at}
 use Rattle.srm_timers.specs.Distances.{distance_to}
 use Rattle.srm_timers.proofs.AskSteps.{ask_timer-sets}
-use Rattle.srm_timers.proofs.FixSteps.{asked_first-repairs, fix_timer-repairs, is_off-repairs}
+use Rattle.srm_timers.proofs.FixSteps.{asked_first-repairs, fix_timer-repairs, calls_hold_off-repairs}
 use Rattle.srm_entries.specs.declared.entry.Entry.{Entry}
 use Rattle.srm_entries.specs.Entries.{accepted, state, is_gone, evidence_by, drawops_in, names_heard, is_held, is_missing, known}
 use Rattle.srm_entries.specs.Distances.{distance}
 use Rattle.srm_entries.specs.Timers.{asker, asker_in, repaired, repairs_in, ask_exponent, ask_basis_of, fix_basis_of, basis_of, last_ask, fix_running, held_off, TimersRight, ask_running, only_if}
 use Rattle.srm_agent_state.specs.TimersKept.{TimersContent}
-use Rattle.srm_agent_state.specs.TimerCalls.{TicksWith, TimersTick, AreToAsk, AreToFix, WaitsAreDrawn}
+use Rattle.srm_agent_state.specs.TimerCalls.{TicksWith, TimersTick, AreToAsk, AreToFix, WaitsAreChosen}
 use Rattle.srm_entries.proofs.Adding.{shows, gains, is_missing-snoc}
 use Rattle.srm_entries.proofs.Arming.{find-holds, find-passed, ask_at}
-use Rattle.srm_entries.proofs.Setting.{is_ask, of_kind, ask_if, asks_of, fixes_of, is_armed, drawn_asks, drawn_waits}
+use Rattle.srm_entries.proofs.Setting.{is_ask, of_kind, ask_if, asks_of, fixes_of, is_armed, chosen_asks, chosen_waits}
 use Rattle.srm_agent_state.proofs.Midway.{midway_fits}
 use Rattle.srm_agent_state.proofs.Missing.{held_not_missing, settings_fit, holds_until}
 
@@ -129,18 +129,18 @@ ticks_right now past e arms asked fixed t active toask tofix = record {
 }
 
 -- arms that are requests wait by the words
-pub due_drawn : {W : Type 0} (draw : W → ℕ × W) (t : TimersContent) (from to : W) (arms : List Arm) → AreAsks arms
-    → AreChosen draw (timers.low_of t.asks.c1) (timers.high_of t.asks.c1 t.asks.c2) from arms to → WaitsAreDrawn draw t from arms to
-due_drawn draw t from to arms all drawn = record { each = λ c s. drawn_asks draw c t.asks.c1 t.asks.c2 from to arms s.c1 s.c2 (kinds arms all.each) drawn }
+pub due_drawn : {W : Type 0} (next_word : W → ℕ × W) (t : TimersContent) (from to : W) (arms : List Arm) → AreAsks arms
+    → AreChosen next_word (timers.low_of t.asks.c1) (timers.high_of t.asks.c1 t.asks.c2) from arms to → WaitsAreChosen next_word t from arms to
+due_drawn next_word t from to arms all drawn = record { each = λ c s. chosen_asks next_word c t.asks.c1 t.asks.c2 from to arms s.c1 s.c2 (kinds arms all.each) drawn }
   where
     kinds : (as_ : List Arm) → AllByRecursion IsAsk as_ → AllByRecursion is_ask as_
     kinds [] each = tt
     kinds (a ∷ as_) each = (each.0.kind, kinds as_ each.1)
 
-pub tick_ticks : {W : Type 0} (draw : W → ℕ × W) (from to : W) (asked fixed names : List FullName) (dist : List ℕ) (now : ℕ) (arms : List Arm) (old mid new : TimersContent)
-    → AskStays old.asks mid.asks → FixStays old.fixes mid.fixes → AskAdds (sets now arms) mid.asks new.asks → AskedAgain now dist old.asks arms → AreOfMembers arms → WaitsAreDrawn draw old from arms to
+pub tick_ticks : {W : Type 0} (next_word : W → ℕ × W) (from to : W) (asked fixed names : List FullName) (dist : List ℕ) (now : ℕ) (arms : List Arm) (old mid new : TimersContent)
+    → AskStays old.asks mid.asks → FixStays old.fixes mid.fixes → AskAdds (sets now arms) mid.asks new.asks → ArmsSetAgain now dist old.asks arms → AreOfMembers arms → WaitsAreChosen next_word old from arms to
     → FixRepairs now dist names mid.fixes new.fixes → FixDue now old.fixes names → TimersTick asked fixed dist now arms old new
-tick_ticks draw from to asked fixed names dist now arms old mid new ask_stays fix_stays adds again members drawn repaired_ due = record {
+tick_ticks next_word from to asked fixed names dist now arms old mid new ask_stays fix_stays adds again members drawn repaired_ due = record {
   each = λ c past e t h active toask tofix d.
       let kept = ask_stays.each c.c1 c.c2 h.ask_calls h.asks in
       let held = fix_stays.each c.d1 c.d2 h.fix_calls h.fixes in
@@ -168,9 +168,9 @@ tick_ticks draw from to asked fixed names dist now arms old mid new ask_stays fi
                   (held_not_missing past n) (ap (λ ns. among ns n) t.asks ∙ toask.exact n) (near n)
                   ∙ sym (unasked_tick c.me past e n (none n) (same n));
             };
-            waits = rw t.arms (drawn_waits draw c from to arms (drawn.each c (settings_fit c past old h)));
+            waits = rw t.arms (chosen_waits next_word c from to arms (drawn.each c (settings_fit c past old h)));
           };
-          fits = midway_fits c past e now arms (λ n. false) (λ n. None) (among names) (hold_end now dist h.fix_calls) new
+          fits = midway_fits c past e now arms (λ n. false) (λ n. None) (among names) (repair_holds_until now dist h.fix_calls) new
               (record {
                 moment = t.moment;
                 arms_are = t.arms;
@@ -194,7 +194,7 @@ tick_ticks draw from to asked fixed names dist now arms old mid new ask_stays fi
                 fix_timers = λ n. fix_timer-repairs now dist h.fix_calls names n ∙ ap (λ o. if among names n then None else o) (h.fix_timers n)
                     ∙ ap (λ o. or_else (option_map (armed_at now) o) (if among names n then None else fix_running past n)) (sym (fixes_of (arm_of n arms) _ _ _ (as_ask n)));
                 askers = λ n. asked_first-repairs now dist h.fix_calls names n ∙ h.askers n ∙ sym (or_else-none (first_of (asker n) past));
-                offs = λ n u. is_off-repairs now dist h.fix_calls names n u ∙ ap (λ b. b || among names n && nat_lt u (hold_end now dist h.fix_calls n)) (h.offs n u);
+                hold_offs = λ n u. calls_hold_off-repairs now dist h.fix_calls names n u ∙ ap (λ b. b || among names n && nat_lt u (repair_holds_until now dist h.fix_calls n)) (h.hold_offs n u);
               });
         },
         ticks_right now past e arms asked fixed t active toask tofix,

@@ -14,8 +14,8 @@ use Rattle.srm_timers.specs.Arms as timers
 use Rattle.srm_timers.specs.Arms.{wait_basis, arm_names, AreChosen, runs_out_at, ran_out, RunsOutFirst, ArmsAre, arm_of}
 use Rattle.srm_timers.specs.Timers.{armed_at}
 use Rattle.srm_deadlines.specs.Least.{lesser}
-use Rattle.srm_timers.specs.AskCalls.{AskCall, AskContent, AskFits, AskStays, AskDue, AskTimersRun, AskNext, AskedFirst, AskKeepsRoom, ask_timer, first_exponent, AskReady, AnswerReady}
-use Rattle.srm_timers.specs.FixCalls.{FixCall, FixContent, FixFits, FixStays, FixDue, FixNext, FixKeepsRoom, FixPlace, fix_timer, asked_first, is_off, FixPlaces}
+use Rattle.srm_timers.specs.AskCalls.{AskCall, AskContent, AskFits, AskStays, AskDue, AskTimersRun, AskNext, ArmsOfFound, AskKeepsRoom, ask_timer, first_exponent, AskReady, DetectAndDueReady}
+use Rattle.srm_timers.specs.FixCalls.{FixCall, FixContent, FixFits, FixStays, FixDue, FixNext, FixKeepsRoom, FixPlace, fix_timer, asked_first, calls_hold_off, FixPlaces}
 use Rattle.srm_timers.specs.Distances.{distance_to}
 use Rattle.srm_entries.specs.declared.entry.Entry.{Entry}
 use Rattle.srm_entries.specs.Configs.{Config}
@@ -23,9 +23,9 @@ use Rattle.srm_entries.specs.Entries.{is_missing}
 use Rattle.srm_entries.specs.Distances.{distance}
 use Rattle.srm_entries.specs.Timers.{arm_in, last_ask, asker, repaired, first_asker, fix_running, held_off, low_of, high_of, ask_running, only_if}
 use Rattle.srm_agent_state.specs.TimersKept.{TimersContent, TimersFit}
-use Rattle.srm_agent_state.specs.TimerCalls.{KeepSettings, WaitsAreDrawn, TimersStay, AreDueAsks, AreDueFixes, AsksRanOut, FixesRanOut, IsBefore, TimersNext}
+use Rattle.srm_agent_state.specs.TimerCalls.{KeepSettings, WaitsAreChosen, TimersStay, AreDueAsks, AreDueFixes, AsksRanOut, FixesRanOut, IsBefore, TimersNext}
 use Rattle.srm_entries.proofs.Adding.{last_ask-snoc, fix_running-snoc, held_off-snoc}
-use Rattle.srm_entries.proofs.Setting.{of_kind, find_kind, all_asks, drawn_asks}
+use Rattle.srm_entries.proofs.Setting.{of_kind, find_kind, all_asks, chosen_asks}
 
 -- the timer that an arm of a kind made, by these arms
 abbrev pub armed_as : ArmKind → ℕ → List Arm → FullName → Option Armed
@@ -40,7 +40,7 @@ pub record Midway (c : Config) (past : List Entry) (now : ℕ) (arms : List Arm)
   pub fixes : FixFits c.d1 c.d2 fix_calls t.fixes
   pub fix_timers : (n : FullName) → fix_timer fix_calls n ≡ or_else (armed_as Fix now arms n) (if ended n then None else fix_running past n)
   pub askers : (n : FullName) → asked_first fix_calls n ≡ or_else (first_of (asker n) past) (asked n)
-  pub offs : (n : FullName) (u : ℕ) → is_off fix_calls n u ≡ held_off c.me past n u || ended n && nat_lt u (until n)
+  pub hold_offs : (n : FullName) (u : ℕ) → calls_hold_off fix_calls n u ≡ held_off c.me past n u || ended n && nat_lt u (until n)
 
 -- The entry with these arms does just that.
 pub record Does (c : Config) (past : List Entry) (e : Entry) (now : ℕ) (arms : List Arm) (gained : FullName → Bool) (asked : FullName → Option ℕ) (ended : FullName → Bool) (until : FullName → ℕ) : Type 0 where
@@ -91,7 +91,7 @@ midway_fits c past e now arms gained asked ended until t d m = record {
       ∙ sym (fix_running-snoc past e n ∙ ap (λ (b : Bool). if b then None else or_else (arm_in Fix n e) (fix_running past n)) (d.ended_is n)
       ∙ ap (λ o. if ended n then None else or_else o (fix_running past n)) (arm_is Fix n now arms e d.moment d.arms_are d.rising));
   askers = λ n. m.askers n ∙ sym (first_of-snoc (asker n) past e ∙ ap (or_else (first_of (asker n) past)) (d.asked_is n));
-  offs = λ n u. m.offs n u
+  hold_offs = λ n u. m.hold_offs n u
       ∙ ap (λ b. held_off c.me past n u || b) (offs_join (ended n) u (until n) (e.moment + 3 * distance (past ++ e ∷ []) c.me (first_asker past n))
       (λ en. d.until_is n en ∙ ap (λ k. k + 3 * distance (past ++ e ∷ []) c.me (first_asker past n)) (sym d.moment)))
       ∙ sym (held_off-snoc c.me past e n u ∙ ap (λ b. held_off c.me past n u || (b && nat_lt u (e.moment + 3 * distance (past ++ e ∷ []) c.me (first_asker past n)))) (d.ended_is n));
@@ -109,7 +109,7 @@ asks_stay asks asks' fixes p = record {
     fixes = h.fixes;
     fix_timers = h.fix_timers;
     askers = h.askers;
-    offs = h.offs;
+    hold_offs = h.hold_offs;
   };
 }
 
@@ -123,7 +123,7 @@ fixes_stay asks fixes fixes' p = record {
     fixes = p.each c.d1 c.d2 h.fix_calls h.fixes;
     fix_timers = h.fix_timers;
     askers = h.askers;
-    offs = h.offs;
+    hold_offs = h.hold_offs;
   };
 }
 
@@ -154,8 +154,8 @@ asks_keep_with asks asks' fixes p q = record { each = λ c s. record { c1 = p �
 pub fixes_keep_with : (asks : AskContent) (fixes fixes' : FixContent) → fixes'.d1 ≡ fixes.d1 → fixes'.d2 ≡ fixes.d2 → KeepSettings (record { asks = asks; fixes = fixes }) (record { asks = asks; fixes = fixes' })
 fixes_keep_with asks fixes fixes' p q = record { each = λ c s. record { c1 = s.c1; c2 = s.c2; d1 = p ∙ s.d1; d2 = q ∙ s.d2 } }
 
-pub waits_before : {W : Type 0} (draw : W → ℕ × W) (a b : TimersContent) (from to : W) (arms : List Arm) → KeepSettings a b → WaitsAreDrawn draw b from arms to → WaitsAreDrawn draw a from arms to
-waits_before draw a b from to arms k h = record { each = λ c s. h.each c (k.each c s) }
+pub waits_before : {W : Type 0} (next_word : W → ℕ × W) (a b : TimersContent) (from to : W) (arms : List Arm) → KeepSettings a b → WaitsAreChosen next_word b from arms to → WaitsAreChosen next_word a from arms to
+waits_before next_word a b from to arms k h = record { each = λ c s. h.each c (k.each c s) }
 
 -- room for one name
 pub first_placed : (name : FullName) (a b : FixContent) → FixPlace a name → b ≡ a → FixPlace b name
@@ -175,10 +175,10 @@ pub settings_same : (t : TimersContent) → KeepSettings t t
 settings_same t = record { each = λ c s. s }
 
 -- the waits of arms of requests
-pub waits_drawn : {W : Type 0} (draw : W → ℕ × W) (asks : AskContent) (fixes : FixContent) (names asked : List FullName) (dist : List ℕ) (from to : W) (arms : List Arm) → AskedFirst names asked dist arms
-    → AreChosen draw (timers.low_of asks.c1) (timers.high_of asks.c1 asks.c2) from arms to → WaitsAreDrawn draw (record { asks = asks; fixes = fixes }) from arms to
-waits_drawn draw asks fixes names asked dist from to arms first drawn = record {
-  each = λ c s. drawn_asks draw c asks.c1 asks.c2 from to arms s.c1 s.c2
+pub waits_drawn : {W : Type 0} (next_word : W → ℕ × W) (asks : AskContent) (fixes : FixContent) (names asked : List FullName) (dist : List ℕ) (from to : W) (arms : List Arm) → ArmsOfFound names asked dist arms
+    → AreChosen next_word (timers.low_of asks.c1) (timers.high_of asks.c1 asks.c2) from arms to → WaitsAreChosen next_word (record { asks = asks; fixes = fixes }) from arms to
+waits_drawn next_word asks fixes names asked dist from to arms first drawn = record {
+  each = λ c s. chosen_asks next_word c asks.c1 asks.c2 from to arms s.c1 s.c2
       (all_asks arms (among names) (first_exponent asked) (λ n. distance_to dist n.stream.source) first.are.in_order first.are.exact) drawn;
 }
 
@@ -283,7 +283,7 @@ first_of_both t a b asks fixes = record {
 }
 
 -- rooms that stay
-pub room_stays : (names : List FullName) (a b : AskContent) → AnswerReady names a → AskKeepsRoom a b → AnswerReady names b
+pub room_stays : (names : List FullName) (a b : AskContent) → DetectAndDueReady names a → AskKeepsRoom a b → DetectAndDueReady names b
 room_stays names a b ready holds =
     let set : AskReady names b = record {
       ends = record { places = λ n at. holds.ends.places n (ready.detect.set.ends.places n at); room = omega (arith, ready.detect.set.ends.room, holds.ends.room) };
@@ -301,9 +301,9 @@ pub settings_keep : (a b : TimersContent) → AskKeepsRoom a.asks b.asks → Fix
 settings_keep a b p q = record { each = λ c s. record { c1 = p.c1 ∙ s.c1; c2 = p.c2 ∙ s.c2; d1 = q.d1 ∙ s.d1; d2 = q.d2 ∙ s.d2 } }
 
 -- words that are drawn one after another
-drawn_append : {W : Type 0} (draw : W → ℕ × W) (low high : Arm → ℕ) (from mid to : W) (xs ys : List Arm) → AreChosen draw low high from xs mid → AreChosen draw low high mid ys to → AreChosen draw low high from (xs ++ ys) to
-drawn_append draw low high from mid to [] ys h k = subst (λ w. AreChosen draw low high w ys to) h k
-drawn_append draw low high from mid to (x ∷ xs) ys h k = (h.0, drawn_append draw low high (draw from).1 mid to xs ys h.1 k)
+drawn_append : {W : Type 0} (next_word : W → ℕ × W) (low high : Arm → ℕ) (from mid to : W) (xs ys : List Arm) → AreChosen next_word low high from xs mid → AreChosen next_word low high mid ys to → AreChosen next_word low high from (xs ++ ys) to
+drawn_append next_word low high from mid to [] ys h k = subst (λ w. AreChosen next_word low high w ys to) h k
+drawn_append next_word low high from mid to (x ∷ xs) ys h k = (h.0, drawn_append next_word low high (next_word from).1 mid to xs ys h.1 k)
 
-pub waits_join : {W : Type 0} (draw : W → ℕ × W) (t : TimersContent) (from mid to : W) (xs ys all : List Arm) → all ≡ xs ++ ys → WaitsAreDrawn draw t from xs mid → WaitsAreDrawn draw t mid ys to → WaitsAreDrawn draw t from all to
-waits_join draw t from mid to xs ys all is h k = rw is (record { each = λ c s. drawn_append draw (low_of c) (high_of c) from mid to xs ys (h.each c s) (k.each c s) })
+pub waits_join : {W : Type 0} (next_word : W → ℕ × W) (t : TimersContent) (from mid to : W) (xs ys all : List Arm) → all ≡ xs ++ ys → WaitsAreChosen next_word t from xs mid → WaitsAreChosen next_word t mid ys to → WaitsAreChosen next_word t from all to
+waits_join next_word t from mid to xs ys all is h k = rw is (record { each = λ c s. drawn_append next_word (low_of c) (high_of c) from mid to xs ys (h.each c s) (k.each c s) })

@@ -20,14 +20,14 @@ use Rattle.srm_timers.specs.declared.arm.Arm.{Arm}
 use Rattle.srm_timers.specs.declared.arm.Armed.{Armed}
 use Rattle.srm_timers.specs.declared.arm.ArmKind.TheVariants.{Ask, Fix}
 use Rattle.srm_timers.specs.Arms.{WaitBasis, wait_basis, arm_names, arm_of}
-use Rattle.srm_timers.specs.AskCalls.{AskCall, Gained, AskContent, AskFits, AskAdds, AskedFirst, sets, ask_timer, found_basis, first_exponent}
+use Rattle.srm_timers.specs.AskCalls.{AskCall, Gained, AskContent, AskFits, AskAdds, ArmsOfFound, sets, ask_timer, found_basis, first_exponent}
 use Rattle.srm_timers.specs.AskCalls as asks
-use Rattle.srm_timers.specs.FixCalls.{FixCall, FixContent, FixFits, FixStays, FixRepairs, repair_calls, hold_end}
+use Rattle.srm_timers.specs.FixCalls.{FixCall, FixContent, FixFits, FixStays, FixRepairs, repair_calls, repair_holds_until}
 use Rattle.srm_timers.specs.FixCalls as fixes
 use Rattle.srm_timers.specs.Timers.{armed_at}
 use Rattle.srm_deadlines.proofs.Same.{same_flip}
 use Rattle.srm_timers.proofs.AskSteps.{ask_timer-sets, ask_timer-gained}
-use Rattle.srm_timers.proofs.FixSteps.{asked_first-repairs, fix_timer-repairs, is_off-repairs}
+use Rattle.srm_timers.proofs.FixSteps.{asked_first-repairs, fix_timer-repairs, calls_hold_off-repairs}
 use Rattle.srm_timers.specs.Distances.{distance_to}
 use Rattle.srm_entries.specs.Configs.{Config}
 use Rattle.srm_entries.specs.declared.entry.Entry.{Entry}
@@ -35,10 +35,10 @@ use Rattle.srm_entries.specs.Entries.{accepted, held, evidence_by, drawops_in, n
 use Rattle.srm_entries.specs.Distances.{distance}
 use Rattle.srm_entries.specs.Timers.{asker, asker_in, first_asker, repaired, repairs_in, ask_exponent, ask_basis_of, fix_basis_of, basis_of, fix_running, held_off, ArmsRight, ask_running}
 use Rattle.srm_agent_state.specs.TimersKept.{TimersContent, HaveSettings, TimersFit}
-use Rattle.srm_agent_state.specs.TimerCalls.{AreFresh, HearsWith, KeepSettings, AreDistancesAfter, TimersHear, WaitsAreDrawn, FixEnds, IsDataOf, IsDrawopOf, IsRepairOf, IsSession}
+use Rattle.srm_agent_state.specs.TimerCalls.{AreNewlyMissing, HearsWith, KeepSettings, AreDistancesAfter, TimersHear, WaitsAreChosen, FixEnds, IsDataOf, IsDrawopOf, IsRepairOf, IsSession}
 use Rattle.srm_entries.proofs.Adding.{shows, gains, is_missing-snoc}
 use Rattle.srm_entries.proofs.Arming.{ask_at}
-use Rattle.srm_entries.proofs.Setting.{of_kind, asks_of, fixes_of, is_armed, drawn_waits}
+use Rattle.srm_entries.proofs.Setting.{of_kind, asks_of, fixes_of, is_armed, chosen_waits}
 use Rattle.srm_agent_state.proofs.Midway.{Does, midway_fits, armed_as, waits_before}
 
 -- what an entry that hears a datagram gains and shows
@@ -192,7 +192,7 @@ fresh_by f h m m' wanted armed e q s = ap (λ (b : Bool). if b then Some wanted 
     go false false true q s = ap Some (s refl)
     go false false false q s = refl
 
-found_by : (me : ℕ) (past : List Entry) (e : Entry) (n : FullName) (fresh : List FullName) (dist : List ℕ) → asker n e ≡ None → e.effects.asks ≡ [] → AreFresh past e fresh
+found_by : (me : ℕ) (past : List Entry) (e : Entry) (n : FullName) (fresh : List FullName) (dist : List ℕ) → asker n e ≡ None → e.effects.asks ≡ [] → AreNewlyMissing past e fresh
     → (among fresh n ≡ true → distance_to dist n.stream.source ≡ distance (past ++ e ∷ []) me n.stream.source) → found_basis fresh [] dist n ≡ basis_of me past e n
 found_by me past e n fresh dist none nothing are near =
     fresh_by (among fresh n) (is_held past n) (is_missing past n) (is_missing (past ++ e ∷ []) n) (asks.ask_basis 0 (distance_to dist n.stream.source)) (ask_at me (past ++ e ∷ []) n)
@@ -202,28 +202,28 @@ found_by me past e n fresh dist none nothing are near =
 pub settings_fit : (c : Config) (past : List Entry) (t : TimersContent) → TimersFit c past t → HaveSettings c t
 settings_fit c past t h = record { c1 = h.asks.c1_is; c2 = h.asks.c2_is; d1 = h.fixes.d1_is; d2 = h.fixes.d2_is }
 
-pub fresh_near : (c : Config) (past : List Entry) (e : Entry) (g : Datagram) (now : ℕ) (arms : List Arm) (fresh : List FullName) (dist : List ℕ) (n : FullName) → HearsWith g now arms e → AreFresh past e fresh
+pub fresh_near : (c : Config) (past : List Entry) (e : Entry) (g : Datagram) (now : ℕ) (arms : List Arm) (fresh : List FullName) (dist : List ℕ) (n : FullName) → HearsWith g now arms e → AreNewlyMissing past e fresh
     → AreDistancesAfter c (past ++ e ∷ []) dist → among fresh n ≡ true → distance_to dist n.stream.source ≡ distance (past ++ e ∷ []) c.me n.stream.source
 fresh_near c past e g now arms fresh dist n with_ are d f =
     let k = fresh_then past e n (sym (are.exact n) ∙ f) in
     d.each n.stream.source (fresh_source past e g n with_.heard with_.drawn with_.read k.0 k.1)
 
 -- the arms of an entry that hears no request
-arms_right : {W : Type 0} (draw : W → ℕ × W) (from to : W) (c : Config) (past : List Entry) (e : Entry) (g : Datagram) (now : ℕ) (arms : List Arm) (fresh : List FullName) (dist : List ℕ) (t : TimersContent)
-    → TimersFit c past t → HearsWith g now arms e → ((n : FullName) → asker n e ≡ None) → AreFresh past e fresh → AreDistancesAfter c (past ++ e ∷ []) dist
-    → AskedFirst fresh [] dist arms → WaitsAreDrawn draw t from arms to → ArmsRight c past e
-arms_right draw from to c past e g now arms fresh dist t h with_ none are d first drawn = record {
+arms_right : {W : Type 0} (next_word : W → ℕ × W) (from to : W) (c : Config) (past : List Entry) (e : Entry) (g : Datagram) (now : ℕ) (arms : List Arm) (fresh : List FullName) (dist : List ℕ) (t : TimersContent)
+    → TimersFit c past t → HearsWith g now arms e → ((n : FullName) → asker n e ≡ None) → AreNewlyMissing past e fresh → AreDistancesAfter c (past ++ e ∷ []) dist
+    → ArmsOfFound fresh [] dist arms → WaitsAreChosen next_word t from arms to → ArmsRight c past e
+arms_right next_word from to c past e g now arms fresh dist t h with_ none are d first drawn = record {
   are = record {
     in_order = ap (λ as_. ascending name_below (arm_names as_)) with_.arms ∙ first.are.in_order;
     exact = λ n. ap (λ as_. option_map wait_basis (arm_of n as_)) with_.arms ∙ first.are.exact n
         ∙ found_by c.me past e n fresh dist (none n) with_.asks are (fresh_near c past e g now arms fresh dist n with_ are d);
   };
-  waits = rw with_.arms (drawn_waits draw c from to arms (drawn.each c (settings_fit c past t h)));
+  waits = rw with_.arms (chosen_waits next_word c from to arms (drawn.each c (settings_fit c past t h)));
 }
 
 -- What it does to the timers, where it gains such names and repairs such names.
 does_so : (c : Config) (past : List Entry) (e : Entry) (g : Datagram) (now : ℕ) (arms : List Arm) (fresh : List FullName) (dist : List ℕ) (gained ended : FullName → Bool) (until : FullName → ℕ)
-    → HearsWith g now arms e → ((n : FullName) → asker n e ≡ None) → AreFresh past e fresh → AskedFirst fresh [] dist arms
+    → HearsWith g now arms e → ((n : FullName) → asker n e ≡ None) → AreNewlyMissing past e fresh → ArmsOfFound fresh [] dist arms
     → ((n : FullName) → gains e n ≡ gained n) → ((n : FullName) → repaired n e ≡ ended n)
     → ((n : FullName) → ended n ≡ true → until n ≡ now + 3 * distance (past ++ e ∷ []) c.me (first_asker past n))
     → Does c past e now arms gained (λ n. None) ended until
@@ -320,7 +320,7 @@ repair_repairs n name (Request sender other mask) is = absurd is
 
 -- requests are set, and none of the names is gained
 asks_set : (c : Config) (past : List Entry) (now : ℕ) (arms : List Arm) (calls : List AskCall) (fresh : List FullName) (dist : List ℕ) (n : FullName)
-    → ask_timer calls n ≡ ask_running past n → AskedFirst fresh [] dist arms
+    → ask_timer calls n ≡ ask_running past n → ArmsOfFound fresh [] dist arms
     → ask_timer (calls ++ sets now arms) n ≡ or_else (armed_as Ask now arms n) (ask_running past n)
 asks_set c past now arms calls fresh dist n h first =
     ask_timer-sets calls now arms n first.are.in_order
@@ -333,7 +333,7 @@ gained_last false o last e = refl
 
 -- and a name is gained that isn't among them
 asks_gained : (c : Config) (past : List Entry) (e : Entry) (now : ℕ) (arms : List Arm) (calls : List AskCall) (fresh : List FullName) (dist : List ℕ) (name n : FullName)
-    → ask_timer calls n ≡ ask_running past n → AskedFirst fresh [] dist arms → AreFresh past e fresh → gains e n ≡ same_name n name
+    → ask_timer calls n ≡ ask_running past n → ArmsOfFound fresh [] dist arms → AreNewlyMissing past e fresh → gains e n ≡ same_name n name
     → ask_timer ((calls ++ sets now arms) ++ Gained name ∷ []) n ≡ or_else (armed_as Ask now arms n) (if same_name n name then None else ask_running past n)
 asks_gained c past e now arms calls fresh dist name n h first are gain =
     ask_timer-gained (calls ++ sets now arms) name n
@@ -352,19 +352,19 @@ asks_gained c past e now arms calls fresh dist name n h first are gain =
     unset m = none (arm_of n arms)
         (is_armed (arm_of n arms) (among fresh n) (first_exponent [] n) (distance_to dist n.stream.source) (first.are.exact n) ∙ are.exact n ∙ no_fresh (is_missing past n) (is_missing (past ++ e ∷ []) n) m)
 
-fixes_as_they_were : (past : List Entry) (now : ℕ) (arms : List Arm) (fresh : List FullName) (dist : List ℕ) (n : FullName) (last : Option Armed) → AskedFirst fresh [] dist arms
+fixes_as_they_were : (past : List Entry) (now : ℕ) (arms : List Arm) (fresh : List FullName) (dist : List ℕ) (n : FullName) (last : Option Armed) → ArmsOfFound fresh [] dist arms
     → last ≡ or_else (armed_as Fix now arms n) last
 fixes_as_they_were past now arms fresh dist n last first =
     ap (λ o. or_else (option_map (armed_at now) o) last) (sym (fixes_of (arm_of n arms) (among fresh n) (first_exponent [] n) (distance_to dist n.stream.source) (first.are.exact n)))
 
 -- a session message
-pub rows_hear : {W : Type 0} (draw : W → ℕ × W) (from to : W) (fresh : List FullName) (dist : List ℕ) (now : ℕ) (arms : List Arm) (old new : TimersContent)
-    → AskAdds (sets now arms) old.asks new.asks → new.fixes ≡ old.fixes → AskedFirst fresh [] dist arms → WaitsAreDrawn draw old from arms to → TimersHear IsSession fresh dist now arms old new
-rows_hear draw from to fresh dist now arms old new adds same first drawn = record {
+pub rows_hear : {W : Type 0} (next_word : W → ℕ × W) (from to : W) (fresh : List FullName) (dist : List ℕ) (now : ℕ) (arms : List Arm) (old new : TimersContent)
+    → AskAdds (sets now arms) old.asks new.asks → new.fixes ≡ old.fixes → ArmsOfFound fresh [] dist arms → WaitsAreChosen next_word old from arms to → TimersHear IsSession fresh dist now arms old new
+rows_hear next_word from to fresh dist now arms old new adds same first drawn = record {
   each = λ c past e g is with_ h are d.
       let none : (n : FullName) → asker n e ≡ None = λ n. no_asker e g n with_.heard (session_asks n g is) in
       record {
-        arms = arms_right draw from to c past e g now arms fresh dist old h with_ none are d first drawn;
+        arms = arms_right next_word from to c past e g now arms fresh dist old h with_ none are d first drawn;
         fits = midway_fits c past e now arms no_name (λ n. None) no_name (λ n. 0) new
             (does_so c past e g now arms fresh dist no_name no_name (λ n. 0) with_ none are first
             (λ n. gains_heard e g n with_.heard with_.drawn ∙ session_gains n g is)
@@ -378,24 +378,24 @@ rows_hear draw from to fresh dist now arms old new adds same first drawn = recor
               fixes = rw same h.fixes;
               fix_timers = λ n. h.fix_timers n ∙ fixes_as_they_were past now arms fresh dist n (fix_running past n) first;
               askers = λ n. h.askers n ∙ sym (or_else-none (first_of (asker n) past));
-              offs = λ n u. h.offs n u ∙ sym (or_false (held_off c.me past n u));
+              hold_offs = λ n u. h.hold_offs n u ∙ sym (or_false (held_off c.me past n u));
             });
       };
 }
 
 -- data
-data_hears : {W : Type 0} (draw : W → ℕ × W) (from to : W) (name : FullName) (fresh : List FullName) (dist : List ℕ) (now : ℕ) (arms : List Arm) (old roomy set held new : TimersContent)
+data_hears : {W : Type 0} (next_word : W → ℕ × W) (from to : W) (name : FullName) (fresh : List FullName) (dist : List ℕ) (now : ℕ) (arms : List Arm) (old roomy set held new : TimersContent)
     → roomy.asks ≡ old.asks → FixStays old.fixes roomy.fixes → KeepSettings old roomy
-    → AskAdds (sets now arms) roomy.asks set.asks → set.fixes ≡ roomy.fixes → AskedFirst fresh [] dist arms → WaitsAreDrawn draw roomy from arms to
+    → AskAdds (sets now arms) roomy.asks set.asks → set.fixes ≡ roomy.fixes → ArmsOfFound fresh [] dist arms → WaitsAreChosen next_word roomy from arms to
     → AskAdds (Gained name ∷ []) set.asks held.asks → held.fixes ≡ set.fixes
     → new.fixes ≡ held.fixes → new.asks ≡ held.asks → TimersHear (IsDataOf name) fresh dist now arms old new
-data_hears draw from to name fresh dist now arms old roomy set held new roomy_asks stays keeps adds set_fixes first roomy_drawn gained held_fixes new_fixes new_asks = record {
+data_hears next_word from to name fresh dist now arms old roomy set held new roomy_asks stays keeps adds set_fixes first roomy_drawn gained held_fixes new_fixes new_asks = record {
   each = λ c past e g is with_ h are d.
       let none : (n : FullName) → asker n e ≡ None = λ n. no_asker e g n with_.heard (data_asks n name g is) in
       let gain : (n : FullName) → gains e n ≡ same_name n name = λ n. gains_heard e g n with_.heard with_.drawn ∙ data_gains n name g is in
-      let drawn : WaitsAreDrawn draw old from arms to = waits_before draw old roomy from to arms keeps roomy_drawn in
+      let drawn : WaitsAreChosen next_word old from arms to = waits_before next_word old roomy from to arms keeps roomy_drawn in
       record {
-        arms = arms_right draw from to c past e g now arms fresh dist old h with_ none are d first drawn;
+        arms = arms_right next_word from to c past e g now arms fresh dist old h with_ none are d first drawn;
         fits = midway_fits c past e now arms (λ n. same_name n name) (λ n. None) no_name (λ n. 0) new
             (does_so c past e g now arms fresh dist (λ n. same_name n name) no_name (λ n. 0) with_ none are first gain
             (λ n. unrepaired e g n with_.heard with_.fixes ∙ data_repairs n name g is)
@@ -409,7 +409,7 @@ data_hears draw from to name fresh dist now arms old roomy set held new roomy_as
               fixes = subst (FixFits c.d1 c.d2 h.fix_calls) (sym (new_fixes ∙ held_fixes ∙ set_fixes)) (stays.each c.d1 c.d2 h.fix_calls h.fixes);
               fix_timers = λ n. h.fix_timers n ∙ fixes_as_they_were past now arms fresh dist n (fix_running past n) first;
               askers = λ n. h.askers n ∙ sym (or_else-none (first_of (asker n) past));
-              offs = λ n u. h.offs n u ∙ sym (or_false (held_off c.me past n u));
+              hold_offs = λ n u. h.hold_offs n u ∙ sym (or_false (held_off c.me past n u));
             });
       };
 }
@@ -417,26 +417,26 @@ data_hears draw from to name fresh dist now arms old roomy set held new roomy_as
 -- until when a repair holds a name off, by the calls and by the entries
 pub holds_until : (c : Config) (past : List Entry) (e : Entry) (now : ℕ) (dist : List ℕ) (calls : List FixCall) (n : FullName) → AreDistancesAfter c (past ++ e ∷ []) dist
     → fixes.asked_first calls n ≡ first_of (asker n) past → fixes.first_asker calls n < MEMBERS
-    → hold_end now dist calls n ≡ now + 3 * distance (past ++ e ∷ []) c.me (first_asker past n)
+    → repair_holds_until now dist calls n ≡ now + 3 * distance (past ++ e ∷ []) c.me (first_asker past n)
 holds_until c past e now dist calls n d asked near =
     ap (λ k. now + 3 * k) (d.each (fixes.first_asker calls n) near ∙ ap (λ o. distance (past ++ e ∷ []) c.me (unwrap_or o n.stream.source)) asked)
 
 -- a repair
-repair_hears : {W : Type 0} (draw : W → ℕ × W) (from to : W) (name : FullName) (fresh : List FullName) (dist : List ℕ) (now : ℕ) (arms : List Arm) (old roomy set held new : TimersContent)
+repair_hears : {W : Type 0} (next_word : W → ℕ × W) (from to : W) (name : FullName) (fresh : List FullName) (dist : List ℕ) (now : ℕ) (arms : List Arm) (old roomy set held new : TimersContent)
     → roomy.asks ≡ old.asks → FixStays old.fixes roomy.fixes → KeepSettings old roomy
-    → AskAdds (sets now arms) roomy.asks set.asks → set.fixes ≡ roomy.fixes → AskedFirst fresh [] dist arms → WaitsAreDrawn draw roomy from arms to
+    → AskAdds (sets now arms) roomy.asks set.asks → set.fixes ≡ roomy.fixes → ArmsOfFound fresh [] dist arms → WaitsAreChosen next_word roomy from arms to
     → AskAdds (Gained name ∷ []) set.asks held.asks → held.fixes ≡ set.fixes
     → FixRepairs now dist (name ∷ []) held.fixes new.fixes → new.asks ≡ held.asks → TimersHear (IsRepairOf name) fresh dist now arms old new
-repair_hears draw from to name fresh dist now arms old roomy set held new roomy_asks stays keeps adds set_fixes first roomy_drawn gained held_fixes repaired_ new_asks = record {
+repair_hears next_word from to name fresh dist now arms old roomy set held new roomy_asks stays keeps adds set_fixes first roomy_drawn gained held_fixes repaired_ new_asks = record {
   each = λ c past e g is with_ h are d.
       let none : (n : FullName) → asker n e ≡ None = λ n. no_asker e g n with_.heard (repair_asks n name g is) in
       let gain : (n : FullName) → gains e n ≡ same_name n name = λ n. gains_heard e g n with_.heard with_.drawn ∙ repair_gains n name g is in
-      let drawn : WaitsAreDrawn draw old from arms to = waits_before draw old roomy from to arms keeps roomy_drawn in
+      let drawn : WaitsAreChosen next_word old from arms to = waits_before next_word old roomy from to arms keeps roomy_drawn in
       let kept : FixFits c.d1 c.d2 h.fix_calls held.fixes = subst (FixFits c.d1 c.d2 h.fix_calls) (sym (held_fixes ∙ set_fixes)) (stays.each c.d1 c.d2 h.fix_calls h.fixes) in
       record {
-        arms = arms_right draw from to c past e g now arms fresh dist old h with_ none are d first drawn;
-        fits = midway_fits c past e now arms (λ n. same_name n name) (λ n. None) (λ n. among (name ∷ []) n) (hold_end now dist h.fix_calls) new
-            (does_so c past e g now arms fresh dist (λ n. same_name n name) (λ n. among (name ∷ []) n) (hold_end now dist h.fix_calls) with_ none are first gain
+        arms = arms_right next_word from to c past e g now arms fresh dist old h with_ none are d first drawn;
+        fits = midway_fits c past e now arms (λ n. same_name n name) (λ n. None) (λ n. among (name ∷ []) n) (repair_holds_until now dist h.fix_calls) new
+            (does_so c past e g now arms fresh dist (λ n. same_name n name) (λ n. among (name ∷ []) n) (repair_holds_until now dist h.fix_calls) with_ none are first gain
             (λ n. unrepaired e g n with_.heard with_.fixes ∙ repair_repairs n name g is)
             (λ n at. holds_until c past e now dist h.fix_calls n d (h.askers n) (repaired_.near c.d1 c.d2 h.fix_calls kept n at)))
             (record {
@@ -449,18 +449,18 @@ repair_hears draw from to name fresh dist now arms old roomy set held new roomy_
               fix_timers = λ n. fix_timer-repairs now dist h.fix_calls (name ∷ []) n ∙ ap (λ o. if among (name ∷ []) n then None else o) (h.fix_timers n)
                   ∙ fixes_as_they_were past now arms fresh dist n (if among (name ∷ []) n then None else fix_running past n) first;
               askers = λ n. asked_first-repairs now dist h.fix_calls (name ∷ []) n ∙ h.askers n ∙ sym (or_else-none (first_of (asker n) past));
-              offs = λ n u. is_off-repairs now dist h.fix_calls (name ∷ []) n u ∙ ap (λ b. b || among (name ∷ []) n && nat_lt u (hold_end now dist h.fix_calls n)) (h.offs n u);
+              hold_offs = λ n u. calls_hold_off-repairs now dist h.fix_calls (name ∷ []) n u ∙ ap (λ b. b || among (name ∷ []) n && nat_lt u (repair_holds_until now dist h.fix_calls n)) (h.hold_offs n u);
             });
       };
 }
 
 -- either
-pub drawop_hears : {W : Type 0} (draw : W → ℕ × W) (from to : W) (repaired : Bool) (name : FullName) (fresh : List FullName) (dist : List ℕ) (now : ℕ) (arms : List Arm) (old roomy set held new : TimersContent)
+pub drawop_hears : {W : Type 0} (next_word : W → ℕ × W) (from to : W) (repaired : Bool) (name : FullName) (fresh : List FullName) (dist : List ℕ) (now : ℕ) (arms : List Arm) (old roomy set held new : TimersContent)
     → roomy.asks ≡ old.asks → FixStays old.fixes roomy.fixes → KeepSettings old roomy
-    → AskAdds (sets now arms) roomy.asks set.asks → set.fixes ≡ roomy.fixes → AskedFirst fresh [] dist arms → WaitsAreDrawn draw roomy from arms to
+    → AskAdds (sets now arms) roomy.asks set.asks → set.fixes ≡ roomy.fixes → ArmsOfFound fresh [] dist arms → WaitsAreChosen next_word roomy from arms to
     → AskAdds (Gained name ∷ []) set.asks held.asks → held.fixes ≡ set.fixes
     → FixEnds repaired now dist name held.fixes new.fixes → new.asks ≡ held.asks → TimersHear (IsDrawopOf repaired name) fresh dist now arms old new
-drawop_hears draw from to false name fresh dist now arms old roomy set held new roomy_asks stays keeps adds set_fixes first drawn gained held_fixes ends new_asks =
-    data_hears draw from to name fresh dist now arms old roomy set held new roomy_asks stays keeps adds set_fixes first drawn gained held_fixes ends new_asks
-drawop_hears draw from to true name fresh dist now arms old roomy set held new roomy_asks stays keeps adds set_fixes first drawn gained held_fixes ends new_asks =
-    repair_hears draw from to name fresh dist now arms old roomy set held new roomy_asks stays keeps adds set_fixes first drawn gained held_fixes ends new_asks
+drawop_hears next_word from to false name fresh dist now arms old roomy set held new roomy_asks stays keeps adds set_fixes first drawn gained held_fixes ends new_asks =
+    data_hears next_word from to name fresh dist now arms old roomy set held new roomy_asks stays keeps adds set_fixes first drawn gained held_fixes ends new_asks
+drawop_hears next_word from to true name fresh dist now arms old roomy set held new roomy_asks stays keeps adds set_fixes first drawn gained held_fixes ends new_asks =
+    repair_hears next_word from to name fresh dist now arms old roomy set held new roomy_asks stays keeps adds set_fixes first drawn gained held_fixes ends new_asks

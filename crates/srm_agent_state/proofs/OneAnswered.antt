@@ -20,11 +20,11 @@ use Rattle.srm_timers.specs.Timers.{armed_at}
 use Rattle.srm_timers.specs.Distances.{distance_to}
 use Rattle.srm_timers.specs.AskCalls.{AskCall, AskContent, AskFits, AskAdds, ask_timer, sets, ask_plan}
 use Rattle.srm_timers.specs.AskCalls as asks
-use Rattle.srm_timers.specs.FixCalls.{FixCall, Asked, FixAdds, fix_timer, asked_first, is_off, is_free, sets_fix}
+use Rattle.srm_timers.specs.FixCalls.{FixCall, Asked, FixAdds, fix_timer, asked_first, calls_hold_off, is_free, sets_fix}
 use Rattle.srm_timers.specs.FixCalls as fixes
 use Rattle.srm_timers.proofs.Arming.{same_itself}
 use Rattle.srm_timers.proofs.AskSteps.{ask_timer-sets}
-use Rattle.srm_timers.proofs.FixSteps.{asked_first-snoc, asked_first-append, no_asker-sets, fix_timer-asked, fix_timer-sets, is_off-asked, is_off-append, none_off-sets}
+use Rattle.srm_timers.proofs.FixSteps.{asked_first-snoc, asked_first-append, no_asker-sets, fix_timer-asked, fix_timer-sets, calls_hold_off-asked, calls_hold_off-append, none_off-sets}
 use Rattle.srm_entries.specs.Configs.{Config}
 use Rattle.srm_entries.specs.declared.entry.Entry.{Entry}
 use Rattle.srm_entries.specs.Entries.{held, evidence_in, is_held}
@@ -150,12 +150,12 @@ asked_more true name from now arm calls n =
 asked_more false name from now arm calls n = asked_first-snoc calls (Asked name from) n
 
 off_more : (held : Bool) (name : FullName) (from now : ℕ) (arm : Option Arm) (calls : List FixCall) (n : FullName) (u : ℕ)
-    → is_off (calls ++ Asked name from ∷ (if held then sets_fix now (option_to_list arm) else [])) n u ≡ is_off calls n u
+    → calls_hold_off (calls ++ Asked name from ∷ (if held then sets_fix now (option_to_list arm) else [])) n u ≡ calls_hold_off calls n u
 off_more true name from now arm calls n u =
-    ap (λ cs. is_off cs n u) (sym (append_assoc calls (Asked name from ∷ []) (sets_fix now (option_to_list arm))))
-    ∙ is_off-append (calls ++ Asked name from ∷ []) (sets_fix now (option_to_list arm)) n u (none_off-sets now (option_to_list arm) n u)
-    ∙ is_off-asked calls name from n u
-off_more false name from now arm calls n u = is_off-asked calls name from n u
+    ap (λ cs. calls_hold_off cs n u) (sym (append_assoc calls (Asked name from ∷ []) (sets_fix now (option_to_list arm))))
+    ∙ calls_hold_off-append (calls ++ Asked name from ∷ []) (sets_fix now (option_to_list arm)) n u (none_off-sets now (option_to_list arm) n u)
+    ∙ calls_hold_off-asked calls name from n u
+off_more false name from now arm calls n u = calls_hold_off-asked calls name from n u
 
 asker_joins : (a s : Bool) (from : ℕ) (first : Option ℕ) → or_else (or_else first (if a then Some from else None)) (if s then Some from else None) ≡ or_else first (if (a || (s || false)) then Some from else None)
 asker_joins a s from (Some x) = refl
@@ -188,8 +188,8 @@ wants c past from dist now done arms t t' held name arm a is ans new = go held i
     ask_at_name = a.mid.ask_timers name ∙ ap (λ o. or_else (option_map (armed_at now) (of_kind Ask o)) (ask_running past name)) none
 
     free : is_free a.mid.fix_calls name now ≡ (not (is_some (fix_running past name)) && not (held_off c.me past name now))
-    free = ap (λ o. not (is_some o) && not (is_off a.mid.fix_calls name now)) fix_at_name
-        ∙ ap (λ b. not (is_some (fix_running past name)) && not b) (a.mid.offs name now ∙ or_false (held_off c.me past name now))
+    free = ap (λ o. not (is_some o) && not (calls_hold_off a.mid.fix_calls name now)) fix_at_name
+        ∙ ap (λ b. not (is_some (fix_running past name)) && not b) (a.mid.hold_offs name now ∙ or_false (held_off c.me past name now))
 
     go : (b : Bool) → b ≡ is_held past name → IsAnswered b name from dist now arm t t' → option_map plan_of arm ≡ option_map (plan_at name) (wanted c past from dist now name)
     go true e r =
@@ -226,7 +226,7 @@ one_answered c past from dist now done arms t t' held name arm a is ans rising =
         ∙ ap (λ o. or_else o (if same_name n name then Some from else None)) (a.mid.askers n)
         ∙ asker_joins (among done n) (same_name n name) from (first_of (asker n) past)
         ∙ ap (λ (b : Bool). or_else (first_of (asker n) past) (if b then Some from else None)) (sym (list_any-append (same_name n) done (name ∷ [])));
-    offs = λ n u. off_more held name from now arm a.mid.fix_calls n u ∙ a.mid.offs n u;
+    hold_offs = λ n u. off_more held name from now arm a.mid.fix_calls n u ∙ a.mid.hold_offs n u;
   };
   rising = ap (ascending name_below) (map-append (λ (x : Arm). x.name) arms (option_to_list arm))
       ∙ rises_join (arm_names arms) (arm_names (option_to_list arm)) a.rising (one_rises arm)

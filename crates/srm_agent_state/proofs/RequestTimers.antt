@@ -16,7 +16,7 @@ use Rattle.srm_timers.specs.declared.arm.ArmKind.TheVariants.{Ask, Fix}
 use Rattle.srm_timers.specs.Arms.{WaitBasis, wait_basis, arm_names, arm_of}
 use Rattle.srm_timers.specs.Timers.{armed_at}
 use Rattle.srm_timers.specs.Distances.{distance_to}
-use Rattle.srm_timers.specs.AskCalls.{AskAdds, AskedFirst, ask_timer, sets, first_exponent}
+use Rattle.srm_timers.specs.AskCalls.{AskAdds, ArmsOfFound, ask_timer, sets, first_exponent}
 use Rattle.srm_timers.proofs.AskSteps.{ask_timer-sets}
 use Rattle.srm_entries.specs.Configs.{Config}
 use Rattle.srm_entries.specs.declared.entry.Entry.{Entry}
@@ -24,9 +24,9 @@ use Rattle.srm_entries.specs.Entries.{is_held, is_missing, known}
 use Rattle.srm_entries.specs.Distances.{distance}
 use Rattle.srm_entries.specs.Timers.{last_ask, fix_running, held_off, ask_running}
 use Rattle.srm_agent_state.specs.TimersKept.{TimersContent, TimersFit}
-use Rattle.srm_agent_state.specs.TimerCalls.{AreFresh, HearsWith, AreDistancesAfter, IsRequestOf, TimersAdd, TimersHearRequest, TimersStay, WaitsAreDrawn}
+use Rattle.srm_agent_state.specs.TimerCalls.{AreNewlyMissing, HearsWith, AreDistancesAfter, IsRequestOf, TimersAdd, TimersHearRequest, TimersStay, WaitsAreChosen}
 use Rattle.srm_entries.proofs.Adding.{gains}
-use Rattle.srm_entries.proofs.Setting.{of_kind, asks_of, fixes_of, is_armed, drawn_waits}
+use Rattle.srm_entries.proofs.Setting.{of_kind, asks_of, fixes_of, is_armed, chosen_waits}
 use Rattle.srm_agent_state.proofs.Midway.{midway_fits, armed_as}
 use Rattle.srm_agent_state.proofs.Missing.{no_name, others_then, fresh_then, fresh_above, fresh_shown, fresh_near, stays_missing, settings_fit}
 use Rattle.srm_agent_state.proofs.RisingNames.{rises_join, among_all, names_no_more}
@@ -37,17 +37,17 @@ use Rattle.srm_agent_state.proofs.RequestSays.{asker_is, request_gains, request_
 use Rattle.srm_agent_state.proofs.RequestSettings.{request_setting, wanted_known, fresh_unwanted, ask_wanted, no_setting_no_arm}
 
 -- as many arms as names, at most
-pub found_fits : (fresh asked : List FullName) (dist : List ℕ) (found : List Arm) → ascending name_below fresh ≡ true → AskedFirst fresh asked dist found → length found ≤ length fresh
+pub found_fits : (fresh asked : List FullName) (dist : List ℕ) (found : List Arm) → ascending name_below fresh ≡ true → ArmsOfFound fresh asked dist found → length found ≤ length fresh
 found_fits fresh asked dist found rising first =
     let k : length (arm_names found) ≤ length fresh = names_no_more fresh (arm_names found) rising first.are.in_order
     (λ n at. sym (is_armed (arm_of n found) (among fresh n) (first_exponent asked n) (distance_to dist n.stream.source) (first.are.exact n)) ∙ arm_named n found ∙ at) in
     omega (arith, k, length-map found (λ (a : Arm). a.name))
 
-request_adds : {W : Type 0} (draw : W → ℕ × W) (start to : W) (c : Config) (past : List Entry) (e : Entry) (g : Datagram) (from : ℕ) (asked fresh : List FullName) (dist : List ℕ) (now : ℕ) (answers found arms : List Arm) (old mid new : TimersContent)
-    → TimersFit c past old → HearsWith g now arms e → IsRequestOf from asked g → RequestSays from asked g → AreFresh past e fresh → AreDistancesAfter c (past ++ e ∷ []) dist
-    → AnsweredIn c past from dist now asked answers mid → AskAdds (sets now found) mid.asks new.asks → new.fixes ≡ mid.fixes → AskedFirst fresh asked dist found
-    → WaitsAreDrawn draw old start arms to → arms ≡ answers ++ found → TimersAdd c past e new
-request_adds draw start to c past e g from asked fresh dist now answers found arms old mid new h with_ is says are d a adds same first drawn arms_are = record {
+request_adds : {W : Type 0} (next_word : W → ℕ × W) (start to : W) (c : Config) (past : List Entry) (e : Entry) (g : Datagram) (from : ℕ) (asked fresh : List FullName) (dist : List ℕ) (now : ℕ) (answers found arms : List Arm) (old mid new : TimersContent)
+    → TimersFit c past old → HearsWith g now arms e → IsRequestOf from asked g → RequestSays from asked g → AreNewlyMissing past e fresh → AreDistancesAfter c (past ++ e ∷ []) dist
+    → AnsweredIn c past from dist now asked answers mid → AskAdds (sets now found) mid.asks new.asks → new.fixes ≡ mid.fixes → ArmsOfFound fresh asked dist found
+    → WaitsAreChosen next_word old start arms to → arms ≡ answers ++ found → TimersAdd c past e new
+request_adds next_word start to c past e g from asked fresh dist now answers found arms old mid new h with_ is says are d a adds same first drawn arms_are = record {
   arms = record {
     are = record {
       in_order = ap (λ as_. ascending name_below (arm_names as_)) (with_.arms ∙ arms_are) ∙ rising;
@@ -57,7 +57,7 @@ request_adds draw start to c past e g from asked fresh dist now answers found ar
           ∙ request_setting c past e from asked fresh dist now n (asker_is e g from asked n with_.heard is) with_.asks with_.moment (are.exact n)
           (d.each from says.member ∙ same_distance c.me past e g from with_.heard (says.far c.me e.moment)) (near n);
     };
-    waits = rw with_.arms (drawn_waits draw c start to arms (drawn.each c (settings_fit c past old h)));
+    waits = rw with_.arms (chosen_waits next_word c start to arms (drawn.each c (settings_fit c past old h)));
   };
   fits = midway_fits c past e now (answers ++ found) no_name (asked_if asked from) no_name (λ n. 0) new
       (record {
@@ -87,7 +87,7 @@ request_adds draw start to c past e g from asked fresh dist now answers found ar
             ∙ joined now Fix (arm_of n answers) (arm_of n found) (fix_running past n) (apart n)
             ∙ ap (λ o. or_else (option_map (armed_at now) (of_kind Fix o)) (fix_running past n)) (sym (arm_of-append n answers found));
         askers = a.mid.askers;
-        offs = a.mid.offs;
+        hold_offs = a.mid.hold_offs;
       });
 }
   where
@@ -171,14 +171,14 @@ request_adds draw start to c past e g from asked fresh dist now answers found ar
         let wrong : true ≡ false = sym all ∙ unset in
         absurd (cc)
 
-pub request_hears : {W : Type 0} (draw : W → ℕ × W) (start to : W) (s : StoreContent) (from : ℕ) (asked fresh : List FullName) (dist : List ℕ) (now : ℕ) (i : ℕ) (answers found arms : List Arm) (old begun mid new : TimersContent)
+pub request_hears : {W : Type 0} (next_word : W → ℕ × W) (start to : W) (s : StoreContent) (from : ℕ) (asked fresh : List FullName) (dist : List ℕ) (now : ℕ) (i : ℕ) (answers found arms : List Arm) (old begun mid new : TimersContent)
     → TimersStay old begun → AnsweredSoFar s from dist now asked i answers begun mid → length asked ≤ i → AskAdds (sets now found) mid.asks new.asks → new.fixes ≡ mid.fixes
-    → AskedFirst fresh asked dist found → WaitsAreDrawn draw old start arms to → arms ≡ answers ++ found → TimersHearRequest s from asked fresh dist now arms old new
-request_hears draw start to s from asked fresh dist now i answers found arms old begun mid new stays so_far all adds same first drawn arms_are = record {
+    → ArmsOfFound fresh asked dist found → WaitsAreChosen next_word old start arms to → arms ≡ answers ++ found → TimersHearRequest s from asked fresh dist now arms old new
+request_hears next_word start to s from asked fresh dist now i answers found arms old begun mid new stays so_far all adds same first drawn arms_are = record {
   each = λ c past e g is with_ h f are d.
       let says = request_says from asked g is with_.read in
       let a = subst (λ ns. AnsweredIn c past from dist now ns answers mid) (take_all i asked all) (so_far.each c past (stays.each c past h) f says.rising) in
-      request_adds draw start to c past e g from asked fresh dist now answers found arms old mid new h with_ is says are d a adds same first drawn arms_are;
+      request_adds next_word start to c past e g from asked fresh dist now answers found arms old mid new h with_ is says are d a adds same first drawn arms_are;
 }
 
 pub one_more_at_most : (xs ys : List Arm) (o : Option Arm) → ys ≡ xs ++ option_to_list o → length ys ≤ length xs + 1

@@ -21,7 +21,7 @@ timers_begin c t asks fixes = record {
   fixes = fixes;
   fix_timers = λ n. refl;
   askers = λ n. refl;
-  offs = λ n now. refl;
+  hold_offs = λ n now. refl;
 }
 
 -- and the settings are those that they were made with

@@ -29,8 +29,8 @@ pub record KeepSettings (old new : TimersContent) : Type 0 where
   pub each : (c : Config) → HaveSettings c old → HaveSettings c new
 
 -- the waits of the arms are by the next words, one word an arm, in order; no other word is drawn
-pub record WaitsAreDrawn {W : Type 0} (draw : W → ℕ × W) (t : TimersContent) (from : W) (arms : List Arm) (to : W) : Type 0 where
-  pub each : (c : Config) → HaveSettings c t → AreChosen draw (low_of c) (high_of c) from arms to
+pub record WaitsAreChosen {W : Type 0} (next_word : W → ℕ × W) (t : TimersContent) (from : W) (arms : List Arm) (to : W) : Type 0 where
+  pub each : (c : Config) → HaveSettings c t → AreChosen next_word (low_of c) (high_of c) from arms to
 
 -- distances
 
@@ -41,8 +41,8 @@ pub record AreDistancesAfter (c : Config) (es : List Entry) (dist : List ℕ) : 
 -- entries
 
 -- the names become missing by the entry: they are all that do, in order of name
-abbrev pub AreFresh : List Entry → Entry → List FullName → Type 0
-AreFresh past e names = AreExactly (λ n. not (is_missing past n) && is_missing (past ++ e ∷ []) n) names
+abbrev pub AreNewlyMissing : List Entry → Entry → List FullName → Type 0
+AreNewlyMissing past e names = AreExactly (λ n. not (is_missing past n) && is_missing (past ++ e ∷ []) n) names
 
 -- a datagram was heard and taken at a moment, and these timers were set; nothing was handed out
 pub record HearsWith (g : Datagram) (now : ℕ) (set : List Arm) (e : Entry) : Type 0 where
@@ -99,7 +99,7 @@ pub record TimersStay (old new : TimersContent) : Type 0 where
 -- such a datagram is heard, by which these names become missing; the distances are those after it
 pub record TimersHear (is : Datagram → Type 0) (fresh : List FullName) (dist : List ℕ) (now : ℕ) (arms : List Arm) (old new : TimersContent) : Type 0 where
   pub each : (c : Config) (past : List Entry) (e : Entry) (g : Datagram) → is g → HearsWith g now arms e → TimersFit c past old
-      → AreFresh past e fresh → AreDistancesAfter c (past ++ e ∷ []) dist → TimersAdd c past e new
+      → AreNewlyMissing past e fresh → AreDistancesAfter c (past ++ e ∷ []) dist → TimersAdd c past e new
 
 -- a repair of a name ends its repair timer and holds it off; data changes nothing of these
 abbrev pub FixEnds : Bool → ℕ → List ℕ → FullName → FixContent → FixContent → Type 0
@@ -110,7 +110,7 @@ FixEnds true now dist name old new = FixRepairs now dist (name ∷ []) old new
 pub record TimersHearRequest (s : StoreContent) (from : ℕ) (asked fresh : List FullName) (dist : List ℕ) (now : ℕ) (arms : List Arm) (old new : TimersContent) : Type 0 where
   pub each : (c : Config) (past : List Entry) (e : Entry) (g : Datagram) → IsRequestOf from asked g → HearsWith g now arms e → TimersFit c past old
       → store.Fits (held past) (evidence_in past) (settlings past) s
-      → AreFresh past e fresh → AreDistancesAfter c (past ++ e ∷ []) dist → TimersAdd c past e new
+      → AreNewlyMissing past e fresh → AreDistancesAfter c (past ++ e ∷ []) dist → TimersAdd c past e new
 
 -- the names are those whose request timers ran out, in order
 abbrev pub AreToAsk : ℕ → List Entry → List FullName → Type 0
@@ -157,10 +157,10 @@ IsBefore u None = Unit {0}
 IsBefore u (Some t) = u < t
 
 -- the first timer of the names runs out at this moment, and none runs where there is none
-pub record RunOutFirst (past : List Entry) (moment : Option ℕ) : Type 0 where
+pub record FirstOfBothRunsOut (past : List Entry) (moment : Option ℕ) : Type 0 where
   pub no_ask : (u : ℕ) → IsBefore u moment → (n : FullName) → ran_out u (ask_running past n) ≡ false
   pub no_fix : (u : ℕ) → IsBefore u moment → (n : FullName) → ran_out u (fix_running past n) ≡ false
   pub is_one : IfSome moment (λ t. (n : FullName) × ((ran_out t (ask_running past n) ≡ true) ⊎ (ran_out t (fix_running past n) ≡ true)))
 
 pub record TimersNext (t : TimersContent) (moment : Option ℕ) : Type 0 where
-  pub each : (c : Config) (past : List Entry) → TimersFit c past t → RunOutFirst past moment
+  pub each : (c : Config) (past : List Entry) → TimersFit c past t → FirstOfBothRunsOut past moment

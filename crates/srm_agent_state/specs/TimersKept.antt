@@ -3,7 +3,7 @@ use Rattle.std.specs.Prelude.{◌≡◌, ℕ, List}
 use Rattle.srm_names.specs.FullName.{FullName}
 use Rattle.srm_names.specs.Histories.{first_of}
 use Rattle.srm_timers.specs.AskCalls.{AskContent, AskCall, AskFits, ask_timer}
-use Rattle.srm_timers.specs.FixCalls.{FixContent, FixCall, FixFits, fix_timer, asked_first, is_off}
+use Rattle.srm_timers.specs.FixCalls.{FixContent, FixCall, FixFits, fix_timer, asked_first, calls_hold_off}
 use Rattle.srm_entries.specs.declared.entry.Entry.{Entry}
 use Rattle.srm_entries.specs.Configs.{Config}
 use Rattle.srm_entries.specs.Timers.{fix_running, held_off, asker, ask_running}
@@ -32,4 +32,4 @@ pub record TimersFit (c : Config) (past : List Entry) (t : TimersContent) : Type
   pub fixes : FixFits c.d1 c.d2 fix_calls t.fixes
   pub fix_timers : (n : FullName) → fix_timer fix_calls n ≡ fix_running past n
   pub askers : (n : FullName) → asked_first fix_calls n ≡ first_of (asker n) past
-  pub offs : (n : FullName) (now : ℕ) → is_off fix_calls n now ≡ held_off c.me past n now
+  pub hold_offs : (n : FullName) (now : ℕ) → calls_hold_off fix_calls n now ≡ held_off c.me past n now

@@ -28,6 +28,6 @@ pub use evidence::{greatest_in, learn_all};
 pub use keeping::keep;
 pub use page_table::PageTable;
 pub use progress::Progress;
-pub use reports::{hear_report, learn};
+pub use reports::{hear_session_message, learn_datagram};
 pub use roster::{member, page_in_range, stream_in_range};
 pub use timers::Timers;

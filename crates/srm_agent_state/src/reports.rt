@@ -14,7 +14,7 @@ use srm_names::{Echo, Member, Name};
 use srm_store::Store;
 
 /// A datagram was heard at a moment, by which more is known of the others: session messages change it alone. It takes no memory.
-pub fn hear_report(distances: &mut Distances, me: Member, datagram: &Datagram, now: u64)
+pub fn hear_session_message(distances: &mut Distances, me: Member, datagram: &Datagram, now: u64)
     requires { IsSpellable datagram.now }
     ensures { HearsToo me now datagram.now distances.old distances.new }
 {
@@ -43,7 +43,7 @@ fn echo_for(echoes: &[Echo], me: &Member) -> Option<(u64, u64)>
 
 /// The names of a datagram, for which there is room, are known to exist from now on, and a farewell settles its sender. It
 /// takes no memory.
-pub fn learn(store: &mut Store, datagram: &Datagram, names: &[Name])
+pub fn learn_datagram(store: &mut Store, datagram: &Datagram, names: &[Name])
     requires names { names.now ≡ names_in datagram.now }
     requires ready { HavePlaces names.now store.old }
     ensures { LearnsToo datagram.now store.old store.new }

@@ -3,11 +3,11 @@
 ghost use Rattle.std.specs.Prelude.{◌≡◌, ◌≤◌, [], true, IfOk, IsOk, OnErr, length};
 ghost use Rattle.srm_names.specs.declared.limits.TheConstants.{LATEST_MOMENT};
 ghost use Rattle.srm_names.specs.Names.{ascending, name_below};
-ghost use Rattle.srm_timers.specs.AskCalls.{AskAdds, AskedFirst, AnswerReady, sets};
+ghost use Rattle.srm_timers.specs.AskCalls.{AskAdds, ArmsOfFound, DetectAndDueReady, sets};
 ghost use Rattle.srm_deadlines.specs.Deadlines.{DueAmong};
 ghost use Rattle.srm_timers.specs.Distances.{AreDistances};
 ghost use Rattle.srm_agent_state.specs.TimersKept.{TimersFit, HaveSettings};
-ghost use Rattle.srm_agent_state.specs.TimerCalls.{AreDueAsks, AreDueFixes, AsksRanOut, FixesRanOut, KeepSettings, TimersNext, TimersStay, WaitsAreDrawn};
+ghost use Rattle.srm_agent_state.specs.TimerCalls.{AreDueAsks, AreDueFixes, AsksRanOut, FixesRanOut, KeepSettings, TimersNext, TimersStay, WaitsAreChosen};
 
 mod hearing;
 mod requests;
@@ -91,14 +91,14 @@ impl Timers {
         requires distances { AreDistances dist.now }
         requires now { now ≤ LATEST_MOMENT }
         ensures fits { IfOk result (λ arms. AskAdds (sets now arms.items) self.old.asks self.new.asks) }
-        ensures arms { IfOk result (λ arms. AskedFirst fresh.now asked.now dist.now arms.items) }
+        ensures arms { IfOk result (λ arms. ArmsOfFound fresh.now asked.now dist.now arms.items) }
         ensures few { IfOk result (λ arms. length arms.items ≤ length fresh.now) }
-        ensures chosen { IfOk result (λ arms. WaitsAreDrawn W.draw self.old words.old arms.items words.new) }
+        ensures chosen { IfOk result (λ arms. WaitsAreChosen W.next_word self.old words.old arms.items words.new) }
         ensures fixes { self.new.fixes ≡ self.old.fixes }
         ensures kept { OnErr result (TimersStay self.old self.new) }
         ensures unchosen { OnErr result (words.new ≡ words.old) }
         ensures settings { KeepSettings self.old self.new }
-        ensures room { AnswerReady fresh.now self.old.asks → IsOk result }
+        ensures room { DetectAndDueReady fresh.now self.old.asks → IsOk result }
     {
         let arms = self.asks.detect(fresh, asked, dist, now, words)?;
         Ok(arms)

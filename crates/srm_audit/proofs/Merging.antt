@@ -16,7 +16,7 @@ use Rattle.srm_world.proofs.Laning.{get_set_same, get_set_other}
 use Rattle.srm_world.proofs.Members.{of_member-append, of_member-own}
 use Rattle.srm_world.proofs.Stepping.{sent-snoc}
 use Rattle.srm_audit.specs.Audits.{entries_at}
-use Rattle.srm_audit.specs.Texts.{Knows, Learns}
+use Rattle.srm_audit.specs.Spellings.{Knows, Learns}
 use Rattle.srm_audit.specs.Queues.{HearsSent, MayGo, PopsReady}
 use Rattle.srm_audit.specs.Merging.{Content, entries_remaining, Merges, KeepsJournals, Advances, IsStalled, Moves, TriesMember, Tries}
 
@@ -30,29 +30,29 @@ set_same [] k x at = absurd (none-some x at)
 set_same (y ∷ xs) zero x at = ap (λ z. z ∷ xs) (sym (same_Some y x at))
 set_same (y ∷ xs) (suc k) x at = ap (λ zs. y ∷ zs) (set_same xs k x at)
 
-parts : (m new : Content) → new.queues ≡ m.queues → new.entries ≡ m.entries → new.texts ≡ m.texts → new ≡ m
+parts : (m new : Content) → new.queues ≡ m.queues → new.entries ≡ m.entries → new.spellings ≡ m.spellings → new ≡ m
 parts m new e f g =
-    let one : List (List Entry) → Content = λ qs. record { queues = qs; entries = new.entries; texts = new.texts } in
-    let two : List Entry → Content = λ es. record { queues = m.queues; entries = es; texts = new.texts } in
-    let three : List (List ℕ) → Content = λ ts. record { queues = m.queues; entries = m.entries; texts = ts } in
+    let one : List (List Entry) → Content = λ qs. record { queues = qs; entries = new.entries; spellings = new.spellings } in
+    let two : List Entry → Content = λ es. record { queues = m.queues; entries = es; spellings = new.spellings } in
+    let three : List (List ℕ) → Content = λ ts. record { queues = m.queues; entries = m.entries; spellings = ts } in
     ap one e ∙ ap two f ∙ ap three g
 
-pub waits_here : (m new : Content) (k : ℕ) (queue rest : List Entry) → k < length m.queues → queue ≡ get_or m.queues k queue → rest ≡ queue → new.queues ≡ slice_set m.queues k rest → new.entries ≡ m.entries → new.texts ≡ m.texts → MayGo m.texts queue false
+pub waits_here : (m new : Content) (k : ℕ) (queue rest : List Entry) → k < length m.queues → queue ≡ get_or m.queues k queue → rest ≡ queue → new.queues ≡ slice_set m.queues k rest → new.entries ≡ m.entries → new.spellings ≡ m.spellings → MayGo m.spellings queue false
     → (new ≡ m) × IsStalled m k
-waits_here m new k queue rest l is same queues entries texts waits =
+waits_here m new k queue rest l is same queues entries spellings waits =
     let at : slice_get m.queues k ≡ Some queue = at_queue m.queues k queue l is in (
-      parts m new (queues ∙ ap (slice_set m.queues k) same ∙ set_same m.queues k queue at) entries texts,
+      parts m new (queues ∙ ap (slice_set m.queues k) same ∙ set_same m.queues k queue at) entries spellings,
       record { queue = queue; at = at; next = waits },
     )
 
-pub waits_after : (m new : Content) (k : ℕ) (queue rest : List Entry) (popped : Option Entry) → k < length m.queues → queue ≡ get_or m.queues k queue → PopsReady m.texts queue rest popped → popped ≡ None → new.queues ≡ slice_set m.queues k rest → new.entries ≡ m.entries
-    → new.texts ≡ m.texts → (new ≡ m) × IsStalled m k
-waits_after m new k queue rest popped l is pops none queues entries texts =
-    let (same, waits) : PopsReady m.texts queue rest None = subst (PopsReady m.texts queue rest) none pops in
-    waits_here m new k queue rest l is same queues entries texts waits
+pub waits_after : (m new : Content) (k : ℕ) (queue rest : List Entry) (popped : Option Entry) → k < length m.queues → queue ≡ get_or m.queues k queue → PopsReady m.spellings queue rest popped → popped ≡ None → new.queues ≡ slice_set m.queues k rest → new.entries ≡ m.entries
+    → new.spellings ≡ m.spellings → (new ≡ m) × IsStalled m k
+waits_after m new k queue rest popped l is pops none queues entries spellings =
+    let (same, waits) : PopsReady m.spellings queue rest None = subst (PopsReady m.spellings queue rest) none pops in
+    waits_here m new k queue rest l is same queues entries spellings waits
 
-pub advances : (m new : Content) (k : ℕ) (queue rest : List Entry) (e : Entry) → k < length m.queues → queue ≡ get_or m.queues k queue → queue ≡ e ∷ rest → HearsSent m.texts e → new.queues ≡ slice_set m.queues k rest → new.entries ≡ m.entries ++ e ∷ []
-    → (outs : List Datagram) → outs ≡ e.effects.outs → Learns outs m.texts new.texts → Advances k m new
+pub advances : (m new : Content) (k : ℕ) (queue rest : List Entry) (e : Entry) → k < length m.queues → queue ≡ get_or m.queues k queue → queue ≡ e ∷ rest → HearsSent m.spellings e → new.queues ≡ slice_set m.queues k rest → new.entries ≡ m.entries ++ e ∷ []
+    → (outs : List Datagram) → outs ≡ e.effects.outs → Learns outs m.spellings new.spellings → Advances k m new
 advances m new k queue rest e l is split hears queues entries outs outs_are learns = record {
   entry = e;
   rest = rest;
@@ -60,13 +60,13 @@ advances m new k queue rest e l is split hears queues entries outs outs_are lear
   queues = queues;
   entries = entries;
   hears = hears;
-  learns = subst (λ gs. Learns gs m.texts new.texts) outs_are learns;
+  learns = subst (λ gs. Learns gs m.spellings new.spellings) outs_are learns;
 }
 
-pub goes_after : (m new : Content) (k : ℕ) (queue rest : List Entry) (popped : Option Entry) (e : Entry) → k < length m.queues → queue ≡ get_or m.queues k queue → PopsReady m.texts queue rest popped → popped ≡ Some e → new.queues ≡ slice_set m.queues k rest
-    → new.entries ≡ m.entries ++ e ∷ [] → (outs : List Datagram) → outs ≡ e.effects.outs → Learns outs m.texts new.texts → Advances k m new
+pub goes_after : (m new : Content) (k : ℕ) (queue rest : List Entry) (popped : Option Entry) (e : Entry) → k < length m.queues → queue ≡ get_or m.queues k queue → PopsReady m.spellings queue rest popped → popped ≡ Some e → new.queues ≡ slice_set m.queues k rest
+    → new.entries ≡ m.entries ++ e ∷ [] → (outs : List Datagram) → outs ≡ e.effects.outs → Learns outs m.spellings new.spellings → Advances k m new
 goes_after m new k queue rest popped e l is pops some queues entries outs outs_are learns =
-    let (split, hears, readable) : PopsReady m.texts queue rest (Some e) = subst (PopsReady m.texts queue rest) some pops in
+    let (split, hears, readable) : PopsReady m.spellings queue rest (Some e) = subst (PopsReady m.spellings queue rest) some pops in
     advances m new k queue rest e l is split hears queues entries outs outs_are learns
 
 -- one entry more keeps all
@@ -86,7 +86,7 @@ advances_keeps k old new a q m = record {
   each = λ j rest at. which j rest at (cases_eq j k);
   inside = subst (AllByRecursion (λ (e : Entry). e.member < length q)) (sym a.entries) (AllByRecursion-snoc (λ (e : Entry). e.member < length q) old.entries a.entry m.inside (subst (λ n. n < length q) (sym mine) (subst (λ n. k < n) m.count (within old.queues k (a.entry ∷ a.rest) a.next))));
   honest = subst IsHonest (sym a.entries) (steps_more (λ (s : Step Entry). IfSome (accepted s.this) (Contains (sent s.before))) old.entries a.entry m.honest (a.hears (sent old.entries) m.knows));
-  knows = subst (λ gs. Knows gs new.texts) (sym (ap sent a.entries ∙ sent-snoc old.entries a.entry)) (a.learns.each (sent old.entries) m.knows);
+  knows = subst (λ gs. Knows gs new.spellings) (sym (ap sent a.entries ∙ sent-snoc old.entries a.entry)) (a.learns.each (sent old.entries) m.knows);
 }
   where
     split : of_member k old.entries ++ a.entry ∷ a.rest ≡ entries_at q k

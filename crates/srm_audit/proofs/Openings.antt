@@ -16,7 +16,7 @@ use Rattle.srm_world.specs.declared.start.Start.{Start}
 use Rattle.srm_world.specs.Traces.{Journal, of_member, IsHonest, IsRoster}
 use Rattle.srm_world.specs.Claims.{IsLawfulJournal}
 use Rattle.srm_audit.specs.Audits.{entries_at, starts_of, next_entry_of, ArePrefixes, AreStuck, IsUnsent, HearsUnsent, IsFound, AreFound}
-use Rattle.srm_audit.specs.Texts.{Knows, HearsOther}
+use Rattle.srm_audit.specs.Spellings.{Knows, HearsOther}
 use Rattle.srm_audit.specs.Queues.{AreReadable}
 use Rattle.srm_audit.specs.Merging.{Content, Merges, IsStalled, Stops, IsEmptied, IsFirstNonEmpty, Completes, Orders, LeadNoFurther, Refuses, IsUnsentAt, Opens}
 use Rattle.srm_audit.specs.declared.got.Got.{Got}
@@ -82,7 +82,7 @@ merges q m roster known o = record {
   each = λ k rest at. ap (λ es. of_member k es ++ rest) o.entries ∙ queue_at q k rest (ap (λ qs. slice_get qs k) (sym o.queues) ∙ at);
   inside = subst (AllByRecursion (λ (e : Entry). e.member < length q)) (sym o.entries) tt;
   honest = subst IsHonest (sym o.entries) tt;
-  knows = subst (λ es. Knows (sent es) m.texts) (sym o.entries) o.knows;
+  knows = subst (λ es. Knows (sent es) m.spellings) (sym o.entries) o.knows;
 }
 
 -- the end of the order
@@ -132,7 +132,7 @@ stuck q m h waits = record {
   waits = λ k. elim (cases_lt k (length m.queues)) [
     | inl l ↦ let w = waits k l in
         subst (λ o. IfSome o (HearsUnsent m.entries)) (sym (next_is q m k w.queue h w.at))
-        (some_of (λ e. (gs : List Datagram) → Knows gs m.texts → HearsOther gs e) (HearsUnsent m.entries) (slice_get w.queue 0) (λ e f. f (sent m.entries) h.knows) w.next)
+        (some_of (λ e. (gs : List Datagram) → Knows gs m.spellings → HearsOther gs e) (HearsUnsent m.entries) (slice_get w.queue 0) (λ e f. f (sent m.entries) h.knows) w.next)
     | inr l ↦ subst (λ o. IfSome o (HearsUnsent m.entries)) (sym (no_next q m.entries k (subst (λ n. n ≤ k) h.count l))) tt
   ];
 }

@@ -11,8 +11,8 @@ use Rattle.srm_names.proofs.Lists.{Has, Has-append, Has-front, Has-back, Has-con
 use Rattle.srm_codec.specs.declared.datagram.Datagram.{Datagram}
 use Rattle.srm_codec.specs.Spelling.{IsSpellable}
 use Rattle.srm_codec.proofs.JudgingLaws as judging
-use Rattle.srm_audit.specs.declared.texts.TheConstants.{ANY_SESSION}
-use Rattle.srm_audit.specs.Texts.{text_of, is_text, Knows, Learns}
+use Rattle.srm_audit.specs.declared.spellings.TheConstants.{ANY_SESSION}
+use Rattle.srm_audit.specs.Spellings.{spelling_of, is_spelling, Knows, Learns}
 use Rattle.srm_audit.proofs.Stuck.{Has-Contains}
 
 pub list_any-map : {X Y : Type 0} (p : Y → Bool) (f : X → Y) (xs : List X) → list_any p (map f xs) ≡ list_any (λ x. p (f x)) xs
@@ -21,7 +21,7 @@ list_any-map p f (x ∷ xs) = ap (λ b. p (f x) || b) (list_any-map p f xs)
 
 -- the texts with these bytes more
 pub record Gains (bytes : List ℕ) (old new : List (List ℕ)) : Type 0 where
-  pub each : (text : List ℕ) → is_text new text ≡ (bytes_eq text bytes || is_text old text)
+  pub each : (text : List ℕ) → is_spelling new text ≡ (bytes_eq text bytes || is_spelling old text)
 
 -- a key was put into a set, or one with its bytes was there
 pub text_gained : {X : Type 0} (items : X → List ℕ) (old new : List X) (key : X) (added : Bool) → MatchBool added (IsPermutation (key ∷ old) new) (new ≡ old)
@@ -46,41 +46,41 @@ gains_text items old new key added bytes same keys is = record {
 }
 
 -- whether a set has the bytes
-pub text_found : {X : Type 0} (items : X → List ℕ) (keys : List X) (bytes text : List ℕ) (found : Bool) → found ≡ list_any (λ k. bytes_eq text (items k)) keys → text ≡ bytes → found ≡ is_text (map items keys) bytes
+pub text_found : {X : Type 0} (items : X → List ℕ) (keys : List X) (bytes text : List ℕ) (found : Bool) → found ≡ list_any (λ k. bytes_eq text (items k)) keys → text ≡ bytes → found ≡ is_spelling (map items keys) bytes
 text_found items keys bytes text found is same = is ∙ ap (λ bs. list_any (λ k. bytes_eq bs (items k)) keys) same ∙ sym (list_any-map (bytes_eq bytes) items keys)
 
-learns_one : (g : Datagram) (old new : List (List ℕ)) → IsSpellable g → Gains (text_of g) old new → (gs : List Datagram) → Knows gs old → Knows (gs ++ g ∷ []) new
+learns_one : (g : Datagram) (old new : List (List ℕ)) → IsSpellable g → Gains (spelling_of g) old new → (gs : List Datagram) → Knows gs old → Knows (gs ++ g ∷ []) new
 learns_one g old new fits gains gs knows = record {
   each = λ h is. (to h is, from h is);
 }
   where
-    sent_is : (h : Datagram) → is_text new (text_of h) ≡ (bytes_eq (text_of h) (text_of g) || is_text old (text_of h))
-    sent_is h = gains.each (text_of h)
+    sent_is : (h : Datagram) → is_spelling new (spelling_of h) ≡ (bytes_eq (spelling_of h) (spelling_of g) || is_spelling old (spelling_of h))
+    sent_is h = gains.each (spelling_of h)
 
-    same : (h : Datagram) → IsSpellable h → bytes_eq (text_of h) (text_of g) ≡ true → h ≡ g
-    same h is e = (judging.unique ANY_SESSION ANY_SESSION (text_of h) h g (lit< tt) (lit< tt) (record { fits = is; text = refl })
-        (record { fits = fits; text = (bytes_decides (text_of h) (text_of g)).0 e })).1
+    same : (h : Datagram) → IsSpellable h → bytes_eq (spelling_of h) (spelling_of g) ≡ true → h ≡ g
+    same h is e = (judging.unique ANY_SESSION ANY_SESSION (spelling_of h) h g (lit< tt) (lit< tt) (record { fits = is; text = refl })
+        (record { fits = fits; text = (bytes_decides (spelling_of h) (spelling_of g)).0 e })).1
 
-    to : (h : Datagram) → IsSpellable h → is_text new (text_of h) ≡ true → Contains (gs ++ g ∷ []) h
-    to h is e = which (bytes_eq (text_of h) (text_of g)) refl (sym (sent_is h) ∙ e)
+    to : (h : Datagram) → IsSpellable h → is_spelling new (spelling_of h) ≡ true → Contains (gs ++ g ∷ []) h
+    to h is e = which (bytes_eq (spelling_of h) (spelling_of g)) refl (sym (sent_is h) ∙ e)
       where
-        which : (b : Bool) → bytes_eq (text_of h) (text_of g) ≡ b → (b || is_text old (text_of h)) ≡ true → Contains (gs ++ g ∷ []) h
+        which : (b : Bool) → bytes_eq (spelling_of h) (spelling_of g) ≡ b → (b || is_spelling old (spelling_of h)) ≡ true → Contains (gs ++ g ∷ []) h
         which true q e = Has-Contains h (gs ++ g ∷ []) (Has-back h gs (g ∷ []) (inl (same h is q)))
         which false q e = Has-Contains h (gs ++ g ∷ []) (Has-front h gs (g ∷ []) (Has-contained h gs ((knows.each h is).0 e)))
 
-    from : (h : Datagram) → IsSpellable h → Contains (gs ++ g ∷ []) h → is_text new (text_of h) ≡ true
+    from : (h : Datagram) → IsSpellable h → Contains (gs ++ g ∷ []) h → is_spelling new (spelling_of h) ≡ true
     from h is there = sent_is h ∙ which (Has-append h gs (g ∷ []) (Has-contained h (gs ++ g ∷ []) there))
       where
         settled : (b c : Bool) → c ≡ true → (b || c) ≡ true
         settled true c e = refl
         settled false c e = e
 
-        which : Has h gs ⊎ Has h (g ∷ []) → (bytes_eq (text_of h) (text_of g) || is_text old (text_of h)) ≡ true
-        which (inl k) = settled (bytes_eq (text_of h) (text_of g)) (is_text old (text_of h)) ((knows.each h is).1 (Has-Contains h gs k))
-        which (inr (inl e)) = ap (λ b. b || is_text old (text_of h)) ((bytes_decides (text_of h) (text_of g)).1 (ap text_of e))
+        which : Has h gs ⊎ Has h (g ∷ []) → (bytes_eq (spelling_of h) (spelling_of g) || is_spelling old (spelling_of h)) ≡ true
+        which (inl k) = settled (bytes_eq (spelling_of h) (spelling_of g)) (is_spelling old (spelling_of h)) ((knows.each h is).1 (Has-Contains h gs k))
+        which (inr (inl e)) = ap (λ b. b || is_spelling old (spelling_of h)) ((bytes_decides (spelling_of h) (spelling_of g)).1 (ap spelling_of e))
         which (inr (inr k)) = absurd k
 
-pub learns : (g : Datagram) (old new : List (List ℕ)) → IsSpellable g → Gains (text_of g) old new → Learns (g ∷ []) old new
+pub learns : (g : Datagram) (old new : List (List ℕ)) → IsSpellable g → Gains (spelling_of g) old new → Learns (g ∷ []) old new
 learns g old new fits gains = record { each = learns_one g old new fits gains }
 
 pub learns_nothing : (t : List (List ℕ)) → Learns [] t t

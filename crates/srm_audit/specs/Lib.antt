@@ -1,6 +1,6 @@
 pub mod Audits
 pub mod Numbers
-pub mod Texts
+pub mod Spellings
 pub mod Queues
 pub mod Merging
 pub mod Rosters

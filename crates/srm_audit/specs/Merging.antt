@@ -9,17 +9,17 @@ use Rattle.srm_audit.specs.declared.mismatch.Mismatch.{Mismatch}
 use Rattle.srm_audit.specs.declared.mismatch.Mismatch.TheVariants.{Unsent, Memory}
 use Rattle.srm_audit.specs.declared.merge.Merge.TheInside.{Inside}
 use Rattle.srm_audit.specs.Audits.{entries_at, starts_of, IsUnsent}
-use Rattle.srm_audit.specs.Texts.{Knows, Learns}
+use Rattle.srm_audit.specs.Spellings.{Knows, Learns}
 use Rattle.srm_audit.specs.Queues.{HearsSent, HearsUnknown}
 
 -- what is left of each journal, the entries in their order so far, and what these sent
 pub record Content : Type 0 where
   pub queues : List (List Entry)
   pub entries : List Entry
-  pub texts : List (List ℕ)
+  pub spellings : List (List ℕ)
 
 abbrev pub content_of : Inside → Content
-content_of m = record { queues = m.queues.items; entries = m.entries.items; texts = m.texts }
+content_of m = record { queues = m.queues.items; entries = m.entries.items; spellings = m.spellings }
 
 -- how many entries are left
 abbrev pub entries_remaining : List (List Entry) → ℕ
@@ -33,7 +33,7 @@ pub record Merges (q : List Journal) (m : Content) : Type 0 where
   pub each : (k : ℕ) (rest : List Entry) → slice_get m.queues k ≡ Some rest → of_member k m.entries ++ rest ≡ entries_at q k
   pub inside : AllByRecursion (λ (e : Entry). e.member < length q) m.entries
   pub honest : IsHonest m.entries
-  pub knows : Knows (sent m.entries) m.texts
+  pub knows : Knows (sent m.entries) m.spellings
 
 -- whatever journals they were, they still are
 pub record KeepsJournals (old new : Content) : Type 0 where
@@ -47,14 +47,14 @@ pub record Advances (member : ℕ) (old new : Content) : Type 0 where
   pub next : slice_get old.queues member ≡ Some (entry ∷ rest)
   pub queues : new.queues ≡ slice_set old.queues member rest
   pub entries : new.entries ≡ old.entries ++ entry ∷ []
-  pub hears : HearsSent old.texts entry
-  pub learns : Learns entry.effects.outs old.texts new.texts
+  pub hears : HearsSent old.spellings entry
+  pub learns : Learns entry.effects.outs old.spellings new.spellings
 
 -- nothing is left of a member, or what comes next hears what wasn't sent
 pub record IsStalled (m : Content) (member : ℕ) : Type 0 where
   pub queue : List Entry
   pub at : slice_get m.queues member ≡ Some queue
-  pub next : IfSome (slice_get queue 0) (HearsUnknown m.texts)
+  pub next : IfSome (slice_get queue 0) (HearsUnknown m.spellings)
 
 -- whether a member went on by one entry
 abbrev pub TriesOne : ℕ → Content → Content → Bool → Type 0
@@ -114,7 +114,7 @@ Refuses starts old _ = ⊥
 pub record Opens (q : List Journal) (m : Content) : Type 0 where
   pub queues : m.queues ≡ map (λ (j : Journal). j.entries) q
   pub entries : m.entries ≡ []
-  pub knows : Knows [] m.texts
+  pub knows : Knows [] m.spellings
 
 -- the next entry of the member at a place
 abbrev pub IsUnsentAt : List Start → List Entry → ℕ → Mismatch → Type 0

@@ -5,7 +5,7 @@ use Rattle.srm_codec.specs.declared.datagram.Datagram.{Datagram}
 use Rattle.srm_codec.specs.Spelling.{IsSpellable}
 use Rattle.srm_entries.specs.declared.entry.Entry.{Entry}
 use Rattle.srm_entries.specs.Entries.{accepted}
-use Rattle.srm_audit.specs.Texts.{text_of, Knows, HearsOther}
+use Rattle.srm_audit.specs.Spellings.{spelling_of, Knows, HearsOther}
 
 -- what the entry sends and hears has a spelling
 pub record IsReadable (e : Entry) : Type 0 where
@@ -17,7 +17,7 @@ AreReadable es = AllByRecursion IsReadable es
 
 -- the entry hears the datagram that has this text
 abbrev pub HearsText : List ℕ → Entry → Type 0
-HearsText text e = (g : Datagram) × (accepted e ≡ Some g) × (text ≡ text_of g)
+HearsText text e = (g : Datagram) × (accepted e ≡ Some g) × (text ≡ spelling_of g)
 
 -- all entries are readable, and a text that is kept is that of what the first one hears
 pub record IsQueue (entries : List Entry) (text : List ℕ) : Type 0 where
@@ -26,18 +26,18 @@ pub record IsQueue (entries : List Entry) (text : List ℕ) : Type 0 where
 
 -- whatever was sent of which these are the texts, the entry hears nothing, or what was sent
 abbrev pub HearsSent : List (List ℕ) → Entry → Type 0
-HearsSent texts e = (gs : List Datagram) → Knows gs texts → IfSome (accepted e) (Contains gs)
+HearsSent spellings e = (gs : List Datagram) → Knows gs spellings → IfSome (accepted e) (Contains gs)
 
 -- it hears what wasn't
 abbrev pub HearsUnknown : List (List ℕ) → Entry → Type 0
-HearsUnknown texts e = (gs : List Datagram) → Knows gs texts → HearsOther gs e
+HearsUnknown spellings e = (gs : List Datagram) → Knows gs spellings → HearsOther gs e
 
 -- whether an entry comes next that can go
 abbrev pub MayGo : List (List ℕ) → List Entry → Bool → Type 0
-MayGo texts entries true = (e : Entry) × (slice_get entries 0 ≡ Some e) × HearsSent texts e
-MayGo texts entries false = IfSome (slice_get entries 0) (HearsUnknown texts)
+MayGo spellings entries true = (e : Entry) × (slice_get entries 0 ≡ Some e) × HearsSent spellings e
+MayGo spellings entries false = IfSome (slice_get entries 0) (HearsUnknown spellings)
 
 -- the entry was taken, and it could go; or nothing was, as none could
 abbrev pub PopsReady : List (List ℕ) → List Entry → List Entry → Option Entry → Type 0
-PopsReady texts old new (Some e) = (old ≡ e ∷ new) × HearsSent texts e × IsReadable e
-PopsReady texts old new None = (new ≡ old) × MayGo texts old false
+PopsReady spellings old new (Some e) = (old ≡ e ∷ new) × HearsSent spellings e × IsReadable e
+PopsReady spellings old new None = (new ≡ old) × MayGo spellings old false

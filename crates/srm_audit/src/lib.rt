@@ -24,8 +24,8 @@ mod opening;
 mod queue;
 mod reconciling;
 mod roster;
+mod spellings;
 mod take;
-mod texts;
 
 pub use got::Got;
 pub use laws::never_reached;

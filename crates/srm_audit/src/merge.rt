@@ -7,7 +7,7 @@ ghost use Rattle.srm_audit.specs.Merging.{IsEmptied, IsFirstNonEmpty, IsUnsentAt
 
 use crate::mismatch::Mismatch;
 use crate::queue::Queue;
-use crate::texts::Texts;
+use crate::spellings::Spellings;
 use srm_entries::Entry;
 use srm_world::Start;
 use std::alloc::{AllocError, Global};
@@ -19,7 +19,7 @@ use std::marker::Model;
 pub struct Merge {
     pub(crate) queues: Vec<Queue>,
     pub(crate) entries: Vec<Entry>,
-    pub(crate) texts: Texts,
+    pub(crate) spellings: Spellings,
 }
 
 impl Model for Merge {
@@ -36,10 +36,11 @@ impl Merge {
         requires { member < length self.old.queues }
         ensures { IfOk result (TriesOne member self.old self.new) }
     {
-        let Some(entry) = self.queues[member].pop_ready(alloc, &self.texts)? else {
+        let Some(entry) = self.queues[member].pop_ready(alloc, &self.spellings)? else {
             return Ok(false);
         };
-        self.texts.add_all(alloc, entry.effects.outs.as_slice())?;
+        self.spellings
+            .add_all(alloc, entry.effects.outs.as_slice())?;
         self.entries.push(entry)?;
         Ok(true)
     }

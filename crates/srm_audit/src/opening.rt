@@ -8,7 +8,7 @@ ghost use Rattle.srm_audit.specs.Merging.{Opens};
 
 use crate::merge::Merge;
 use crate::queue::Queue;
-use crate::texts::Texts;
+use crate::spellings::Spellings;
 use srm_world::{Journal, Start};
 use std::alloc::{AllocError, Global};
 
@@ -38,7 +38,7 @@ pub fn open(alloc: Global, journals: Vec<Journal>) -> Result<(Vec<Start>, Merge)
     let merge = Merge {
         queues,
         entries: Vec::new(alloc),
-        texts: Texts::new(alloc),
+        spellings: Spellings::new(alloc),
     };
     Ok((starts, merge))
 }

@@ -2,10 +2,10 @@
 
 ghost use Rattle.std.specs.Prelude.{◌≡◌, ◌<◌, ◌∷◌, ◌==◌, Some, length, IfOk, OnOk, OnErr};
 ghost use Rattle.srm_codec.specs.Spelling.{IsSpellable};
-ghost use Rattle.srm_audit.specs.Texts.{text_of};
+ghost use Rattle.srm_audit.specs.Spellings.{spelling_of};
 ghost use Rattle.srm_audit.specs.Queues.{AreReadable, IsReadable, MayGo, PopsReady};
 
-use crate::texts::{Texts, text_of};
+use crate::spellings::{Spellings, spelling_of};
 use srm_codec::Datagram;
 use srm_entries::Entry;
 use std::alloc::{AllocError, Global};
@@ -50,10 +50,14 @@ impl Queue {
     }
 
     /// Takes the entry that comes next, if it hears nothing or what was sent. Only want of memory refuses it.
-    pub fn pop_ready(&mut self, alloc: Global, texts: &Texts) -> Result<Option<Entry>, AllocError>
-        ensures { IfOk result (PopsReady texts.now self.old self.new) }
+    pub fn pop_ready(
+        &mut self,
+        alloc: Global,
+        spellings: &Spellings,
+    ) -> Result<Option<Entry>, AllocError>
+        ensures { IfOk result (PopsReady spellings.now self.old self.new) }
     {
-        if !self.may_go(alloc, texts)? {
+        if !self.may_go(alloc, spellings)? {
             return Ok(None);
         }
         Ok(Some(self.pop()))
@@ -61,9 +65,9 @@ impl Queue {
 
     /// Whether there is an entry that comes next, and it hears nothing or what was sent. The bytes that it hears are written once, however
     /// often it is asked.
-    fn may_go(&mut self, alloc: Global, texts: &Texts) -> Result<bool, AllocError>
+    fn may_go(&mut self, alloc: Global, spellings: &Spellings) -> Result<bool, AllocError>
         ensures same { self.new ≡ self.old }
-        ensures goes { IfOk result (MayGo texts.now self.old) }
+        ensures goes { IfOk result (MayGo spellings.now self.old) }
     {
         let Some(entry) = self.entries.front() else {
             return Ok(false);
@@ -72,7 +76,7 @@ impl Queue {
             return Ok(true);
         };
         write(alloc, &mut self.text, datagram)?;
-        Ok(texts.has(self.text.as_slice()))
+        Ok(spellings.has(self.text.as_slice()))
     }
 
     /// Takes the entry that comes next.
@@ -89,12 +93,12 @@ impl Queue {
 /// Writes the bytes of a datagram, unless they stand there.
 fn write(alloc: Global, text: &mut Vec<u8>, datagram: &Datagram) -> Result<(), AllocError>
     requires fits { IsSpellable datagram.now }
-    requires kept { 0 < length text.old.items → text.old.items ≡ text_of datagram.now }
-    ensures ok { OnOk result (text.new.items ≡ text_of datagram.now) }
+    requires kept { 0 < length text.old.items → text.old.items ≡ spelling_of datagram.now }
+    ensures ok { OnOk result (text.new.items ≡ spelling_of datagram.now) }
     ensures err { OnErr result (text.new.items ≡ text.old.items) }
 {
     if text.is_empty() {
-        *text = text_of(alloc, datagram)?;
+        *text = spelling_of(alloc, datagram)?;
     }
     Ok(())
 }

@@ -9,7 +9,7 @@ pub record Classed (T : Type 0) : Type 0 where
   pub item : Item T
 
 pub data Call (T : Type 0) : Type 0 where
-  Handed : (entry : Classed T) → Call T
+  Handed : (item : Classed T) → Call T
   Refilled : (now : ℕ) → Call T
   -- a pop at a moment, with the item that went in it, if one did
   Popped : (now : ℕ) (went : Option (Classed T)) → Call T

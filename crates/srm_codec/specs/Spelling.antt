@@ -8,7 +8,7 @@ use Rattle.srm_names.specs.declared.drawop.Drawop.{Drawop}
 use Rattle.srm_names.specs.declared.echo.Echo.{Echo}
 use Rattle.srm_names.specs.FullName.{FullName}
 use Rattle.srm_names.specs.Names.{named, ascending, stream_below, echo_below}
-use Rattle.srm_codec.specs.declared.format.TheConstants.{PLAIN, PACKED, DATA, REQUEST, REPAIR, SESSION_MESSAGE, HEAD_BYTES, NAME_BYTES, MASK_BYTES, MASK_BITS, DRAWOP_BYTES, REPORT_BYTES, ECHO_BYTES}
+use Rattle.srm_codec.specs.declared.format.TheConstants.{PLAIN, PACKED, DATA, REQUEST, REPAIR, SESSION_MESSAGE, HEAD_BYTES, NAME_BYTES, MASK_BYTES, MASK_BITS, DRAWOP_BYTES, SESSION_MESSAGE_BYTES, ECHO_BYTES}
 use Rattle.srm_codec.specs.declared.datagram.Datagram.{Datagram}
 use Rattle.srm_codec.specs.declared.datagram.Datagram.TheVariants.{Data, Request, Repair, Session}
 
@@ -130,4 +130,4 @@ abbrev pub length_of : Datagram → ℕ
 length_of (Data drawop) = HEAD_BYTES + DRAWOP_BYTES + length drawop.body
 length_of (Request sender name mask) = if mask == 0 then HEAD_BYTES + NAME_BYTES else HEAD_BYTES + NAME_BYTES + MASK_BYTES
 length_of (Repair sender drawop) = HEAD_BYTES + DRAWOP_BYTES + length drawop.body
-length_of (Session sender sent farewell shown rows echoes) = HEAD_BYTES + REPORT_BYTES + NAME_BYTES * length rows + ECHO_BYTES * length echoes
+length_of (Session sender sent farewell shown rows echoes) = HEAD_BYTES + SESSION_MESSAGE_BYTES + NAME_BYTES * length rows + ECHO_BYTES * length echoes

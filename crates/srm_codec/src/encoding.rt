@@ -11,7 +11,7 @@ use crate::datagram::Datagram;
 use crate::fields::{head_field, name_field, page_field};
 use crate::format::{
     DATA, DRAWOP_BYTES, ECHO_BYTES, HEAD_BYTES, MASK_BYTES, NAME_BYTES, PACKED, PLAIN, REPAIR,
-    REPORT_BYTES, REQUEST, SESSION_MESSAGE,
+    REQUEST, SESSION_MESSAGE, SESSION_MESSAGE_BYTES,
 };
 use srm_names::{Drawop, Echo, Member, Name};
 use std::alloc::{AllocError, Global};
@@ -45,7 +45,7 @@ pub fn length(datagram: &Datagram) -> usize
         Datagram::Session { rows, echoes, .. } => {
             let rows = NAME_BYTES * rows.as_slice().len();
             let echoes = ECHO_BYTES * echoes.as_slice().len();
-            HEAD_BYTES + REPORT_BYTES + rows + echoes
+            HEAD_BYTES + SESSION_MESSAGE_BYTES + rows + echoes
         }
     }
 }

@@ -37,7 +37,7 @@ pub const MASK_BITS: u32 = 8 * MASK_BYTES as u32;
 pub const DRAWOP_BYTES: usize = 18;
 
 /// Bytes of a session message between its head and its rows and echoes: sent, flags, shown page and the two counts.
-pub const REPORT_BYTES: usize = 14;
+pub const SESSION_MESSAGE_BYTES: usize = 14;
 
 /// Bytes of an echo.
 pub const ECHO_BYTES: usize = 17;

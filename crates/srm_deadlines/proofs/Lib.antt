@@ -1,7 +1,7 @@
 pub mod Same
 pub mod Tables
 pub mod Order
-pub mod Rows
+pub mod MomentLists
 pub mod Puts
 pub mod Looking
 pub mod Moments

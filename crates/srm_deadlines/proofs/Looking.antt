@@ -10,8 +10,8 @@ use Rattle.srm_deadlines.specs.declared.by_name.NamedValue.{NamedValue}
 use Rattle.srm_names.specs.Moments.{has_come}
 use Rattle.srm_deadlines.specs.Least.{lesser}
 use Rattle.srm_deadlines.specs.Places.{is_at, value_in, value_at, IsLeast}
-use Rattle.srm_deadlines.specs.Rows.{IsUnder}
-use Rattle.srm_deadlines.proofs.Rows.{under_lesser, lesser_under, lesser_is}
+use Rattle.srm_deadlines.specs.MomentLists.{IsUnder}
+use Rattle.srm_deadlines.proofs.MomentLists.{under_lesser, lesser_under, lesser_is}
 use Rattle.srm_deadlines.proofs.Tables.{any_find, either}
 
 -- the names that came, so far

@@ -47,7 +47,7 @@ more (x ∷ xs) (suc i) t n o asc lt is = go (more xs i t n o (ascending_tail x.
 -- what a loop has set so far
 pub record SetSoFar (moments : List Timed) (old new : List (NamedValue ℕ)) : Type 0 where
   pub sets : SetsAll moments old new
-  pub held : KeepsPlaces old new
+  pub keeps_places : KeepsPlaces old new
   pub only : GivesPlaces [] old new
   pub length : length new ≡ length old
 
@@ -62,7 +62,7 @@ pub one_more : (moments : List Timed) (i : ℕ) (t : Timed) (old now new : List 
     → SetSoFar (take i moments) old now → Sets t.name (Some t.moment) now new → KeepsPlaces now new → GivesPlaces [] now new → length new ≡ length now → SetSoFar (take (i + 1) moments) old new
 one_more moments i t old now new asc lt is so sets held only len = record {
   sets = more_sets moments i t old now new asc lt is so.sets sets;
-  held = record { each = λ n h. held.each n (so.held.each n h) };
+  keeps_places = record { each = λ n h. held.each n (so.keeps_places.each n h) };
   only = given_on old now new so.only only;
   length = len ∙ so.length;
 }

@@ -11,7 +11,7 @@ use Rattle.srm_deadlines.specs.Agenda.{timed_order, of_name, timed_for, timed_am
 use Rattle.srm_names.specs.Moments.{has_come}
 use Rattle.srm_deadlines.specs.Deadlines.{DueAmong, DueFit}
 use Rattle.srm_deadlines.specs.Least.{lesser}
-use Rattle.srm_deadlines.specs.Rows.{item_at, values_of, due_in, IsUnder, IsLeastIn, IsFirstIn, AreLeasts, Stands}
+use Rattle.srm_deadlines.specs.MomentLists.{item_at, values_of, due_in, IsUnder, IsLeastIn, IsFirstIn, AreLeasts, Stands}
 use Rattle.srm_deadlines.specs.Places.{value_in, value_at, has_place, moment_among, KeepsPlaces, GivesPlaces, KeepsValues, Sets, SetsAll, ClearsAll, HasPlaces, IsLeast, place_names}
 
 -- ---- places: three names, of which the second has no moment, and a fourth without a place

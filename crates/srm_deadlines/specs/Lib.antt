@@ -2,6 +2,6 @@ pub mod Places
 pub mod PlacesOf
 pub mod Deadlines
 pub mod Least
-pub mod Rows
+pub mod MomentLists
 pub mod Agenda
 pub mod Examples

@@ -4,7 +4,7 @@ ghost use Rattle.std.specs.Prelude.{◌≡◌, ℕ, ◌≤◌, ◌<◌, ◌+◌,
 ghost use Rattle.std.specs.List.{IsDistinct};
 ghost use Rattle.srm_names.specs.FullName.{FullName};
 ghost use Rattle.srm_names.specs.Names.{among, ascending, name_below, same_name};
-ghost use Rattle.srm_deadlines.specs.Rows.{item_at, values_of};
+ghost use Rattle.srm_deadlines.specs.MomentLists.{item_at, values_of};
 ghost use Rattle.srm_deadlines.specs.Places.{value_at, has_place, names_of, place_names, KeepsPlaces, GivesPlaces, KeepsValues, Sets, SetsAll, ClearsAll, HasPlaces};
 
 use crate::timed::Timed;
@@ -85,7 +85,7 @@ impl<V: Copy> ByName<V> {
     /// Makes a place for a name, unless it has one. No value changes. Only want of memory refuses it.
     pub fn make_place(&mut self, name: Name) -> Result<(), AllocError>
         ensures kept { KeepsValues self.old self.new }
-        ensures held { KeepsPlaces self.old self.new }
+        ensures keeps_places { KeepsPlaces self.old self.new }
         ensures only { GivesPlaces (name ∷ []) self.old self.new }
         ensures ok { OnOk result (has_place self.new name ≡ true) }
         ensures again { has_place self.old name ≡ true → IsOk result }
@@ -102,7 +102,7 @@ impl<V: Copy> ByName<V> {
     /// Makes places for names. No value changes. Only want of memory refuses it, and then some of the names may have got one.
     pub fn room(&mut self, names: &[Name]) -> Result<(), AllocError>
         ensures kept { KeepsValues self.old self.new }
-        ensures held { KeepsPlaces self.old self.new }
+        ensures keeps_places { KeepsPlaces self.old self.new }
         ensures only { GivesPlaces names.now self.old self.new }
         ensures ok { OnOk result (HasPlaces names.now self.new) }
         ensures again { HasPlaces names.now self.old → IsOk result }
@@ -117,7 +117,7 @@ impl<V: Copy> ByName<V> {
     pub fn set(&mut self, name: Name, value: Option<V>)
         requires { has_place self.old name ≡ true }
         ensures sets { Sets name value self.old self.new }
-        ensures held { KeepsPlaces self.old self.new }
+        ensures keeps_places { KeepsPlaces self.old self.new }
         ensures only { GivesPlaces [] self.old self.new }
         ensures length { length self.new ≡ length self.old }
     {
@@ -129,7 +129,7 @@ impl<V: Copy> ByName<V> {
     pub fn put(&mut self, name: Name, value: Option<V>) -> usize
         requires { has_place self.old name ≡ true }
         ensures sets { Sets name value self.old self.new }
-        ensures held { KeepsPlaces self.old self.new }
+        ensures keeps_places { KeepsPlaces self.old self.new }
         ensures only { GivesPlaces [] self.old self.new }
         ensures length { length self.new ≡ length self.old }
         ensures within { result < length self.old }
@@ -142,7 +142,7 @@ impl<V: Copy> ByName<V> {
     /// Takes a name's value away, if it has one.
     pub fn clear(&mut self, name: Name)
         ensures sets { Sets name None self.old self.new }
-        ensures held { KeepsPlaces self.old self.new }
+        ensures keeps_places { KeepsPlaces self.old self.new }
         ensures only { GivesPlaces [] self.old self.new }
         ensures length { length self.new ≡ length self.old }
     {
@@ -155,7 +155,7 @@ impl<V: Copy> ByName<V> {
     #[tactic(auto, using(crate::proofs::Tables::clears_more, crate::proofs::Tables::holds_on, crate::proofs::Tables::given_on))]
     pub fn clear_all(&mut self, names: &[Name])
         ensures sets { ClearsAll names.now self.old self.new }
-        ensures held { KeepsPlaces self.old self.new }
+        ensures keeps_places { KeepsPlaces self.old self.new }
         ensures only { GivesPlaces [] self.old self.new }
         ensures length { length self.new ≡ length self.old }
     {
@@ -171,7 +171,7 @@ impl ByName<u64> {
         requires rising { ascending name_below (names_of moments.now) ≡ true }
         requires places { HasPlaces (names_of moments.now) self.old }
         ensures sets { SetsAll moments.now self.old self.new }
-        ensures held { KeepsPlaces self.old self.new }
+        ensures keeps_places { KeepsPlaces self.old self.new }
         ensures only { GivesPlaces [] self.old self.new }
         ensures length { length self.new ≡ length self.old }
     {

@@ -22,7 +22,7 @@ pub trait Deadlines {
     /// Makes places for names. No moment changes. Only want of memory refuses it, and then no place is lost.
     fn room(&mut self, names: &[Name]) -> Result<(), AllocError>
         ensures kept { KeepsValues (places self.old) (places self.new) }
-        ensures held { KeepsPlaces (places self.old) (places self.new) }
+        ensures keeps_places { KeepsPlaces (places self.old) (places self.new) }
         ensures only { GivesPlaces names.now (places self.old) (places self.new) }
         ensures ok { OnOk result (HasPlaces names.now (places self.new)) }
         ensures again { HasPlaces names.now (places self.old) → IsOk result };
@@ -31,7 +31,7 @@ pub trait Deadlines {
     fn set(&mut self, name: Name, moment: u64)
         requires { has_place (places self.old) name ≡ true }
         ensures sets { Sets name (Some moment) (places self.old) (places self.new) }
-        ensures held { KeepsPlaces (places self.old) (places self.new) }
+        ensures keeps_places { KeepsPlaces (places self.old) (places self.new) }
         ensures only { GivesPlaces [] (places self.old) (places self.new) };
 
     /// Sets the moments of names that have places and stand in rising order.
@@ -39,20 +39,20 @@ pub trait Deadlines {
         requires rising { ascending name_below (names_of moments.now) ≡ true }
         requires places { HasPlaces (names_of moments.now) (places self.old) }
         ensures sets { SetsAll moments.now (places self.old) (places self.new) }
-        ensures held { KeepsPlaces (places self.old) (places self.new) }
+        ensures keeps_places { KeepsPlaces (places self.old) (places self.new) }
         ensures only { GivesPlaces [] (places self.old) (places self.new) };
 
     /// Takes a name's moment away, if it has one. Its place stays.
     fn clear(&mut self, name: Name)
         ensures sets { Sets name None (places self.old) (places self.new) }
-        ensures held { KeepsPlaces (places self.old) (places self.new) }
+        ensures keeps_places { KeepsPlaces (places self.old) (places self.new) }
         ensures only { GivesPlaces [] (places self.old) (places self.new) };
 
     /// Takes the moments of names away, where they have one, that stand in rising order. Their places stay.
     fn clear_all(&mut self, names: &[Name])
         requires { ascending name_below names.now ≡ true }
         ensures sets { ClearsAll names.now (places self.old) (places self.new) }
-        ensures held { KeepsPlaces (places self.old) (places self.new) }
+        ensures keeps_places { KeepsPlaces (places self.old) (places self.new) }
         ensures only { GivesPlaces [] (places self.old) (places self.new) };
 
     /// The moment of a name, in microseconds.

@@ -51,7 +51,7 @@ impl Ordered {
     /// Makes a place for a name, unless it has one: room in the order, and then a place by name.
     fn make_place(&mut self, name: Name) -> Result<(), AllocError>
         ensures kept { KeepsValues self.old self.new }
-        ensures held { KeepsPlaces self.old self.new }
+        ensures keeps_places { KeepsPlaces self.old self.new }
         ensures only { GivesPlaces (name ∷ []) self.old self.new }
         ensures ok { OnOk result (has_place self.new name ≡ true) }
         ensures again { has_place self.old name ≡ true → IsOk result }
@@ -68,7 +68,7 @@ impl Ordered {
         requires rising { ascending name_below (names_of moments.now) ≡ true }
         requires places { HasPlaces (names_of moments.now) self.old }
         ensures sets { SetsAll moments.now self.old self.new }
-        ensures held { KeepsPlaces self.old self.new }
+        ensures keeps_places { KeepsPlaces self.old self.new }
         ensures only { GivesPlaces [] self.old self.new }
     {
         for timed in moments {
@@ -81,7 +81,7 @@ impl Ordered {
         requires rising { ascending name_below (names_of moments.now) ≡ true }
         requires places { HasPlaces (names_of moments.now) self.old }
         ensures sets { SetsAll moments.now self.old self.new }
-        ensures held { KeepsPlaces self.old self.new }
+        ensures keeps_places { KeepsPlaces self.old self.new }
         ensures only { GivesPlaces [] self.old self.new }
     {
         self.agenda.remove_timed(moments);
@@ -93,7 +93,7 @@ impl Ordered {
     fn clear_many(&mut self, names: &[Name])
         requires { ascending name_below names.now ≡ true }
         ensures sets { ClearsAll names.now self.old self.new }
-        ensures held { KeepsPlaces self.old self.new }
+        ensures keeps_places { KeepsPlaces self.old self.new }
         ensures only { GivesPlaces [] self.old self.new }
     {
         self.agenda.remove_all(names);

@@ -10,7 +10,7 @@ use Rattle.srm_names.specs.declared.limits.TheConstants.{MEMBERS}
 use Rattle.srm_names.specs.Histories.{first_best}
 use Rattle.srm_names.proofs.Snoc.{later, first_best-snoc, list_any-snoc}
 use Rattle.srm_distance.specs.declared.returned.Returned.{Returned}
-use Rattle.srm_distance.specs.declared.report.Report.{Report}
+use Rattle.srm_distance.specs.declared.heard_message.HeardMessage.{HeardMessage}
 use Rattle.srm_distance.specs.declared.peer.Peer.{Peer}
 use Rattle.srm_distance.specs.Calls.{Call, Heard, Forgot}
 use Rattle.srm_distance.specs.Distance.{returned_at, returned, newest}
@@ -45,10 +45,10 @@ newest_heard calls b sent echo now =
     ∙ ap (kept_with (λ (r : Returned). r.t1) (newest calls b)) (own b (returned_at now echo))
 
 pub latest_heard : (calls : List Call) (b sent : ℕ) (echo : Option (ℕ × ℕ)) (now : ℕ)
-    → latest (calls ++ Heard b sent echo now ∷ []) b ≡ Some (later (λ (r : Report). r.sent) (latest calls b) (record { sent = sent; came = now }))
+    → latest (calls ++ Heard b sent echo now ∷ []) b ≡ Some (later (λ (r : HeardMessage). r.sent) (latest calls b) (record { sent = sent; came = now }))
 latest_heard calls b sent echo now =
-    first_best-found (λ (r : Report). r.sent) (reported b) calls (Heard b sent echo now)
-    ∙ ap (kept_with (λ (r : Report). r.sent) (latest calls b)) (own b (Some (record { sent = sent; came = now })))
+    first_best-found (λ (r : HeardMessage). r.sent) (reported b) calls (Heard b sent echo now)
+    ∙ ap (kept_with (λ (r : HeardMessage). r.sent) (latest calls b)) (own b (Some (record { sent = sent; came = now })))
 
 or_false : (x : Bool) → x || false ≡ x
 or_false true = refl
@@ -58,7 +58,7 @@ or_true : (x : Bool) → x || true ≡ true
 or_true true = refl
 or_true false = refl
 
-pub same_peer : (r r' : Option Returned) (s s' : Option Report) (f f' : Bool) → r ≡ r' → s ≡ s' → f ≡ f'
+pub same_peer : (r r' : Option Returned) (s s' : Option HeardMessage) (f f' : Bool) → r ≡ r' → s ≡ s' → f ≡ f'
     → ◌≡◌ {A = Peer} (record { returned = r; report = s; forgotten = f }) (record { returned = r'; report = s'; forgotten = f' })
 same_peer r r' s s' f f' p q e = cc
 
@@ -66,7 +66,7 @@ pub peer_of_forgot : (calls : List Call) (b : ℕ) → peer_of (calls ++ Forgot 
 peer_of_forgot calls b =
     same_peer _ _ _ _ _ _
     (first_best-found (λ (r : Returned). r.t1) (returned b) calls (Forgot b))
-    (first_best-found (λ (r : Report). r.sent) (reported b) calls (Forgot b))
+    (first_best-found (λ (r : HeardMessage). r.sent) (reported b) calls (Forgot b))
     (list_any-snoc (forgets b) calls (Forgot b) ∙ ap (λ x. is_forgotten calls b || x) (eq-eqb b b refl) ∙ or_true (is_forgotten calls b))
 
 -- a call that is about another member
@@ -74,7 +74,7 @@ peer_of-other : (calls : List Call) (c : Call) (b : ℕ) → returned b c ≡ No
 peer_of-other calls c b r s f =
     same_peer _ _ _ _ _ _
     (first_best-found (λ (r : Returned). r.t1) (returned b) calls c ∙ ap (kept_with (λ (r : Returned). r.t1) (newest calls b)) r)
-    (first_best-found (λ (r : Report). r.sent) (reported b) calls c ∙ ap (kept_with (λ (r : Report). r.sent) (latest calls b)) s)
+    (first_best-found (λ (r : HeardMessage). r.sent) (reported b) calls c ∙ ap (kept_with (λ (r : HeardMessage). r.sent) (latest calls b)) s)
     (list_any-snoc (forgets b) calls c ∙ ap (λ x. is_forgotten calls b || x) f ∙ or_false (is_forgotten calls b))
 
 pub heard-other : (a sent : ℕ) (echo : Option (ℕ × ℕ)) (now : ℕ) (calls : List Call) (b : ℕ) → a ≢ b → peer_of (calls ++ Heard a sent echo now ∷ []) b ≡ peer_of calls b

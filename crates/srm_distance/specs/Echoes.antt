@@ -5,17 +5,17 @@ use Rattle.srm_names.specs.declared.echo.Echo.{Echo}
 use Rattle.srm_names.specs.declared.limits.TheConstants.{MEMBERS, LATEST_MOMENT}
 use Rattle.srm_names.specs.Histories.{first_best, count_up}
 use Rattle.srm_names.specs.Names.{ascending, echo_below}
-use Rattle.srm_distance.specs.declared.report.Report.{Report}
+use Rattle.srm_distance.specs.declared.heard_message.HeardMessage.{HeardMessage}
 use Rattle.srm_distance.specs.Calls.{Call, Heard, Forgot}
 
 -- the session message that a call brings from b
-abbrev pub reported : ℕ → Call → Option Report
+abbrev pub reported : ℕ → Call → Option HeardMessage
 reported b (Heard from sent echo now) = if from == b then Some (record { sent = sent; came = now }) else None
 reported b (Forgot member) = None
 
 -- of the session messages from b the newest, as it was heard first
-abbrev pub latest : List Call → ℕ → Option Report
-latest calls b = first_best (λ (r : Report). r.sent) (filter_map (reported b) calls)
+abbrev pub latest : List Call → ℕ → Option HeardMessage
+latest calls b = first_best (λ (r : HeardMessage). r.sent) (filter_map (reported b) calls)
 
 abbrev pub forgets : ℕ → Call → Bool
 forgets b (Heard from sent echo now) = false
@@ -24,7 +24,7 @@ forgets b (Forgot member) = member == b
 abbrev pub is_forgotten : List Call → ℕ → Bool
 is_forgotten calls b = list_any (forgets b) calls
 
-abbrev pub echo_of : ℕ → ℕ → Report → Echo
+abbrev pub echo_of : ℕ → ℕ → HeardMessage → Echo
 echo_of now b r = record { member = b; t1 = r.sent; delay = now - r.came }
 
 -- the echo that is owed to b at a moment
@@ -35,7 +35,7 @@ echo_to calls me now b = if (b == me) || is_forgotten calls b then None else opt
 abbrev pub echoes_owed : List Call → ℕ → ℕ → List Echo
 echoes_owed calls me now = filter_map (echo_to calls me now) (count_up 0 MEMBERS)
 
-abbrev pub SentWithin : Option Report → Type 0
+abbrev pub SentWithin : Option HeardMessage → Type 0
 SentWithin report = IfSome report (λ r. r.sent ≤ LATEST_MOMENT)
 
 -- an echo to another member, of a moment and with a delay that a session message can hold

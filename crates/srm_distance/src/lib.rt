@@ -19,9 +19,9 @@
 #![tactic(auto)]
 
 mod distances;
+mod heard_message;
 mod limits;
 mod peer;
-mod report;
 mod returned;
 #[cfg(test)]
 mod tests;

@@ -3,8 +3,8 @@
 ghost use Rattle.std.specs.Prelude.{◌≡◌, ◌≤◌, ℕ, List, [], ◌∷◌, ◌++◌};
 ghost use Rattle.srm_distance.specs.Calls.{Call, Heard, Forgot};
 
+use crate::heard_message::HeardMessage;
 use crate::limits::FIRST_DISTANCE;
-use crate::report::Report;
 use crate::returned::Returned;
 use srm_names::{Echo, LATEST_MOMENT, Member};
 
@@ -13,7 +13,7 @@ use srm_names::{Echo, LATEST_MOMENT, Member};
 #[derive(Clone, Copy, Debug)]
 pub(crate) struct Peer {
     returned: Option<Returned>,
-    report: Option<Report>,
+    report: Option<HeardMessage>,
     forgotten: bool,
 }
 
@@ -43,7 +43,7 @@ impl Peer {
     {
         Peer {
             returned: Returned::newer(self.returned, echo, now),
-            report: Report::newer(self.report, sent, now),
+            report: HeardMessage::newer(self.report, sent, now),
             forgotten: self.forgotten,
         }
     }

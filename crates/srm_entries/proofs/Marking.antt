@@ -18,7 +18,7 @@ use Rattle.srm_bucket.specs.Law.{BucketLaw}
 use Rattle.srm_entries.specs.Configs.{Config}
 use Rattle.srm_entries.specs.declared.entry.Entry.{Entry}
 use Rattle.srm_entries.specs.Entries.{shown}
-use Rattle.srm_entries.specs.Bucket.{Going, GoesAsCharged, data_item, answer_item, answers_in, handed_by, entries_of, lets_go, pops, calls_by, bucket_calls}
+use Rattle.srm_entries.specs.Bucket.{Going, GoesAsCharged, data_item, due_item, requests_and_repairs, handed_in_by, entries_of, lets_go, pops, calls_by, bucket_calls}
 use Rattle.srm_entries.specs.Rates.{one_of_class, of_class, handed_so_far, departed_so_far}
 use Rattle.srm_entries.proofs.Adding.{flat_map-append, flat_map-snoc}
 use Rattle.srm_entries.proofs.Sending.{went_first, handed_in_entry, popped}
@@ -33,12 +33,12 @@ entries-snoc before x = map-append (λ (g : Going). g.entry) before (x ∷ [])
 
 -- what an entry hands in
 abbrev pub hands : ℕ → List Going → Going → List (Classed Datagram)
-hands me before x = handed_by me (record { before = entries_of before; this = x.entry })
+hands me before x = handed_in_by me (record { before = entries_of before; this = x.entry })
 
 handed_so_far-snoc : (me : ℕ) (before : List Going) (x : Going) → handed_so_far me (entries_of (before ++ x ∷ [])) ≡ handed_so_far me (entries_of before) ++ hands me before x
 handed_so_far-snoc me before x =
-    ap (handed_so_far me) (entries-snoc before x) ∙ ap (flat_map (handed_by me)) (steps-snoc (entries_of before) x.entry)
-    ∙ flat_map-snoc (handed_by me) (steps (entries_of before)) (record { before = entries_of before; this = x.entry })
+    ap (handed_so_far me) (entries-snoc before x) ∙ ap (flat_map (handed_in_by me)) (steps-snoc (entries_of before) x.entry)
+    ∙ flat_map-snoc (handed_in_by me) (steps (entries_of before)) (record { before = entries_of before; this = x.entry })
 
 -- by class
 
@@ -138,10 +138,10 @@ handed_until me class before x first all =
 abbrev HasItsLength : Classed Datagram → Type 0
 HasItsLength i = i.item.length ≡ length_of i.item.value
 
-handed_length : (me : ℕ) (s : Step Entry) (j : Classed Datagram) → Has j (handed_by me s) → HasItsLength j
-handed_length me s j h = elim (Has-append j (data_item s.this.effects.drawn) (map (answer_item (shown s.before)) (answers_in me s)) h) [
+handed_length : (me : ℕ) (s : Step Entry) (j : Classed Datagram) → Has j (handed_in_by me s) → HasItsLength j
+handed_length me s j h = elim (Has-append j (data_item s.this.effects.drawn) (map (due_item (shown s.before)) (requests_and_repairs me s)) h) [
   | inl l ↦ of_data s.this.effects.drawn l
-  | inr r ↦ (let (g, k, e) = Has-map (answer_item (shown s.before)) j (answers_in me s) r in subst HasItsLength (sym e) refl)
+  | inr r ↦ (let (g, k, e) = Has-map (due_item (shown s.before)) j (requests_and_repairs me s) r in subst HasItsLength (sym e) refl)
 ]
   where
     of_data : (o : Option Drawop) → Has j (data_item o) → HasItsLength j
@@ -155,5 +155,5 @@ went_length c gs all law i h =
     let (rest, e) = went_first c.rate c.depth (bucket_calls c.me gs) law i.class in
     let inside : Has i.item (handed i.class (bucket_calls c.me gs)) = subst (λ w. Has i.item w) e (Has-front i.item (departed i.class (bucket_calls c.me gs)) rest (popped gs i c.me all h)) in
     let (j, k, q) = handed_in_entry c.me gs i.class i.item inside in
-    let (s, there, m) = Has-flat_map (handed_by c.me) j (steps (entries_of gs)) k in
+    let (s, there, m) = Has-flat_map (handed_in_by c.me) j (steps (entries_of gs)) k in
     subst (λ (x : Item Datagram). x.length ≡ length_of x.value) q (handed_length c.me s j m)

@@ -15,7 +15,7 @@ use Rattle.srm_bucket.specs.Classes.{rank, in_class, handed_in, departed_in, han
 use Rattle.srm_bucket.specs.Law.{BucketLaw, GoesRight as CallRight}
 use Rattle.srm_entries.specs.Configs.{Config}
 use Rattle.srm_entries.specs.declared.entry.Entry.{Entry}
-use Rattle.srm_entries.specs.Bucket.{Going, GoesAsCharged, handed_by, entries_of, datagrams_of, lets_go, pops, calls_by, bucket_calls}
+use Rattle.srm_entries.specs.Bucket.{Going, GoesAsCharged, handed_in_by, entries_of, datagrams_of, lets_go, pops, calls_by, bucket_calls}
 use Rattle.srm_entries.proofs.Adding.{flat_map-snoc}
 use Rattle.srm_entries.proofs.Charging.{law_at}
 use Rattle.srm_entries.proofs.Cutting.{bucket_calls-append}
@@ -94,18 +94,18 @@ module _ (c : Config) (before : List Going) (e : Entry) (xs ys : List (Classed D
     (other : BucketLaw c.rate c.depth (bucket_calls c.me before ++ (calls_by c.me (record { before = before; this = record { entry = e; goes = ys } }) ++ others))) where
   in_tick : (zs : List (Classed Datagram)) (rest : List (Call Datagram)) (b : Bool) → lets_go (record { before = before; this = record { entry = e; goes = zs } }) ≡ b → b ≡ true
       → bucket_calls c.me before ++ (calls_by c.me (record { before = before; this = record { entry = e; goes = zs } }) ++ rest)
-      ≡ (bucket_calls c.me before ++ map Handed (handed_by c.me (record { before = entries_of before; this = e }))) ++ (map (λ i. Popped e.moment (Some i)) zs ++ (Popped e.moment None ∷ rest))
+      ≡ (bucket_calls c.me before ++ map Handed (handed_in_by c.me (record { before = entries_of before; this = e }))) ++ (map (λ i. Popped e.moment (Some i)) zs ++ (Popped e.moment None ∷ rest))
   in_tick zs rest b q t =
-      ap (λ (x : Bool). bucket_calls c.me before ++ ((map Handed (handed_by c.me (record { before = entries_of before; this = e })) ++ (if x then pops e.moment zs else [])) ++ rest)) (q ∙ t)
-      ∙ ap (λ cs. bucket_calls c.me before ++ cs) (append_assoc (map Handed (handed_by c.me (record { before = entries_of before; this = e }))) (pops e.moment zs) rest
-      ∙ ap (λ cs. map Handed (handed_by c.me (record { before = entries_of before; this = e })) ++ cs) (append_assoc (map (λ i. Popped e.moment (Some i)) zs) (Popped e.moment None ∷ []) rest))
-      ∙ sym (append_assoc (bucket_calls c.me before) (map Handed (handed_by c.me (record { before = entries_of before; this = e }))) (map (λ i. Popped e.moment (Some i)) zs ++ (Popped e.moment None ∷ rest)))
+      ap (λ (x : Bool). bucket_calls c.me before ++ ((map Handed (handed_in_by c.me (record { before = entries_of before; this = e })) ++ (if x then pops e.moment zs else [])) ++ rest)) (q ∙ t)
+      ∙ ap (λ cs. bucket_calls c.me before ++ cs) (append_assoc (map Handed (handed_in_by c.me (record { before = entries_of before; this = e }))) (pops e.moment zs) rest
+      ∙ ap (λ cs. map Handed (handed_in_by c.me (record { before = entries_of before; this = e })) ++ cs) (append_assoc (map (λ i. Popped e.moment (Some i)) zs) (Popped e.moment None ∷ []) rest))
+      ∙ sym (append_assoc (bucket_calls c.me before) (map Handed (handed_in_by c.me (record { before = entries_of before; this = e }))) (map (λ i. Popped e.moment (Some i)) zs ++ (Popped e.moment None ∷ rest)))
 
   same_marks_here : xs ≡ ys
   same_marks_here = go (lets_go (record { before = before; this = record { entry = e; goes = xs } })) refl
     where
       go : (b : Bool) → lets_go (record { before = before; this = record { entry = e; goes = xs } }) ≡ b → xs ≡ ys
-      go true q = same_goes c.rate c.depth e.moment (bucket_calls c.me before ++ map Handed (handed_by c.me (record { before = entries_of before; this = e }))) xs ys (Popped e.moment None ∷ more) (Popped e.moment None ∷ others)
+      go true q = same_goes c.rate c.depth e.moment (bucket_calls c.me before ++ map Handed (handed_in_by c.me (record { before = entries_of before; this = e }))) xs ys (Popped e.moment None ∷ more) (Popped e.moment None ∷ others)
           (sym (length-datagrams xs) ∙ ap length (right.same ∙ sym also.same) ∙ length-datagrams ys)
           (subst (BucketLaw c.rate c.depth) (in_tick xs more true q refl) law) (subst (BucketLaw c.rate c.depth) (in_tick ys others true q refl) other)
       go false q = OnTrue_at (ap not q) right.at_ticks ∙ sym (OnTrue_at (ap not q) also.at_ticks)

@@ -22,7 +22,7 @@ use Rattle.srm_store.specs.Held.{has_name}
 use Rattle.srm_entries.specs.Entries.{drawn, held, held_by, held_at, shown}
 use Rattle.srm_entries.specs.Sessions.{charged}
 use Rattle.srm_entries.specs.Packing.{is_covered_by, packed_after, packed, mask_of}
-use Rattle.srm_entries.specs.Bucket.{Going, GoesAsCharged, BucketRight, repair_for, answers_in, answer_item, data_item, handed_by, entries_of, lets_go, pops, calls_by, bucket_calls, datagrams_of}
+use Rattle.srm_entries.specs.Bucket.{Going, GoesAsCharged, BucketRight, repair_for, requests_and_repairs, due_item, data_item, handed_in_by, entries_of, lets_go, pops, calls_by, bucket_calls, datagrams_of}
 use Rattle.std.proofs.lemmas.List.{map-append}
 use Rattle.std.proofs.lemmas.Bool.{OnTrue_at}
 use Rattle.srm_entries.proofs.Adding.{flat_map-append, flat_map-snoc}
@@ -51,22 +51,22 @@ from_data d i (Some x) (inl p) e = let q : i.item.value ≡ Data x = ap (λ (j :
 from_data d i (Some x) (inr h) e = absurd h
 
 -- data that a step hands in was drawn in it
-from_step : (me : ℕ) (d : Drawop) (s : Step Entry) (i : Classed Datagram) → Has i (handed_by me s) → i.item.value ≡ Data d → Has d (option_to_list s.this.effects.drawn)
-from_step me d s i h e = elim (Has-append i (data_item s.this.effects.drawn) (map (answer_item (shown s.before)) (answers_in me s)) h) [
+from_step : (me : ℕ) (d : Drawop) (s : Step Entry) (i : Classed Datagram) → Has i (handed_in_by me s) → i.item.value ≡ Data d → Has d (option_to_list s.this.effects.drawn)
+from_step me d s i h e = elim (Has-append i (data_item s.this.effects.drawn) (map (due_item (shown s.before)) (requests_and_repairs me s)) h) [
   | inl l ↦ from_data d i s.this.effects.drawn l e
-  | inr r ↦ absurd (none (Has-map (answer_item (shown s.before)) i (answers_in me s) r))
+  | inr r ↦ absurd (none (Has-map (due_item (shown s.before)) i (requests_and_repairs me s) r))
 ]
   where
-    none : ((g : Datagram) × Has g (answers_in me s) × (i ≡ answer_item (shown s.before) g)) → ⊥
+    none : ((g : Datagram) × Has g (requests_and_repairs me s) × (i ≡ due_item (shown s.before) g)) → ⊥
     none (g, k, q) =
         let same : g ≡ Data d = sym (ap (λ (j : Classed Datagram). j.item.value) q) ∙ e in
-        elim (Has-append (Data d) (packed me s.this.effects.asks) (filter_map (repair_for me s.before) s.this.effects.fixes) (subst (λ w. Has w (answers_in me s)) same k)) [
+        elim (Has-append (Data d) (packed me s.this.effects.asks) (filter_map (repair_for me s.before) s.this.effects.fixes) (subst (λ w. Has w (requests_and_repairs me s)) same k)) [
           | inl l ↦ no_data_packed me d None s.this.effects.asks l
           | inr r ↦ no_data_repairs me s.before d s.this.effects.fixes r
         ]
 
 abbrev pub handed : ℕ → List Entry → List (Classed Datagram)
-handed me es = flat_map (handed_by me) (steps es)
+handed me es = flat_map (handed_in_by me) (steps es)
 
 abbrev pub gone_of : List Going → List (Classed Datagram)
 gone_of gs = flat_map (λ g. g.goes) gs
@@ -74,7 +74,7 @@ gone_of gs = flat_map (λ g. g.goes) gs
 -- data that was handed in was drawn
 handed_data : (me : ℕ) (d : Drawop) (es : List Entry) (i : Classed Datagram) → Has i (handed me es) → i.item.value ≡ Data d → Has d (drawn es)
 handed_data me d es i h e =
-    let (s, k, m) = Has-flat_map (handed_by me) i (steps es) h in
+    let (s, k, m) = Has-flat_map (handed_in_by me) i (steps es) h in
     flat_map-Has (λ (x : Entry). option_to_list x.effects.drawn) d s.this es (Has-steps s [] es k) (from_step me d s i m e)
 
 -- what went, by class, was handed in
@@ -114,7 +114,7 @@ popped gs i me all h =
     at : (before : List Going) (g : Going) → GoesAsCharged (record { before = before; this = g }) → Has i g.goes → (b : Bool) → lets_go (record { before = before; this = g }) ≡ b
         → Has (Popped g.entry.moment (Some i)) (calls_by me (record { before = before; this = g }))
     at before g right m true e =
-        Has-back (Popped g.entry.moment (Some i)) (map Handed (handed_by me (record { before = entries_of before; this = g.entry }))) (if lets_go (record { before = before; this = g }) then pops g.entry.moment g.goes else [])
+        Has-back (Popped g.entry.moment (Some i)) (map Handed (handed_in_by me (record { before = entries_of before; this = g.entry }))) (if lets_go (record { before = before; this = g }) then pops g.entry.moment g.goes else [])
         (rw e (Has-front (Popped g.entry.moment (Some i)) (map (λ (x : Classed Datagram). Popped g.entry.moment (Some x)) g.goes) (Popped g.entry.moment None ∷ []) (map-Has (λ (x : Classed Datagram). Popped g.entry.moment (Some x)) i g.goes m)))
     at before g right m false e = absurd (subst (λ w. Has i w) (OnTrue_at (ap not e) right.at_ticks) m)
 
@@ -132,7 +132,7 @@ pub handed_in_entry : (me : ℕ) (gs : List Going) (class : Class) (x : Item Dat
 handed_in_entry me gs class x h =
     let (call, k, m) = Has-flat_map (handed_in class) x (bucket_calls me gs) h in
     let (s, p, q) = Has-flat_map (calls_by me) call (steps gs) k in
-    by s call p (Has-append call (map Handed (handed_by me (record { before = entries_of s.before; this = s.this.entry }))) (if lets_go s then pops s.this.entry.moment s.this.goes else []) q) m
+    by s call p (Has-append call (map Handed (handed_in_by me (record { before = entries_of s.before; this = s.this.entry }))) (if lets_go s then pops s.this.entry.moment s.this.goes else []) q) m
   where
     never : (now : ℕ) (goes : List (Classed Datagram)) (b : Bool) (call : Call Datagram) → Has call (if b then pops now goes else []) → Has x (handed_in class call) → ⊥
     never now goes false call h m = h
@@ -141,12 +141,12 @@ handed_in_entry me gs class x h =
       | inr r ↦ elim r [ inl e ↦ subst (λ c. Has x (handed_in class c)) e m | inr f ↦ f ]
     ]
 
-    by : (s : Step Going) (call : Call Datagram) → Has s (steps gs) → Has call (map Handed (handed_by me (record { before = entries_of s.before; this = s.this.entry }))) ⊎ Has call (if lets_go s then pops s.this.entry.moment s.this.goes else [])
+    by : (s : Step Going) (call : Call Datagram) → Has s (steps gs) → Has call (map Handed (handed_in_by me (record { before = entries_of s.before; this = s.this.entry }))) ⊎ Has call (if lets_go s then pops s.this.entry.moment s.this.goes else [])
         → Has x (handed_in class call) → (j : Classed Datagram) × Has j (handed me (entries_of gs)) × (j.item ≡ x)
     by s call p (inl l) m =
-        let (j, w, e) = Has-map Handed call (handed_by me (record { before = entries_of s.before; this = s.this.entry })) l in
+        let (j, w, e) = Has-map Handed call (handed_in_by me (record { before = entries_of s.before; this = s.this.entry })) l in
         let same : x ≡ j.item = class_of_one class x j (subst (λ c. Has x (handed_in class c)) e m) in
-        (j, flat_map-Has (handed_by me) j (record { before = entries_of s.before; this = s.this.entry }) (steps (entries_of gs)) (step_of_entries s gs p) w, sym same)
+        (j, flat_map-Has (handed_in_by me) j (record { before = entries_of s.before; this = s.this.entry }) (steps (entries_of gs)) (step_of_entries s gs p) w, sym same)
     by s call p (inr r) m = absurd (never s.this.entry.moment s.this.goes (lets_go s) call r m)
 
 item_handed : (c : Config) (gs : List Going) (i : Classed Datagram) → AllByRecursion GoesAsCharged (steps gs) → BucketLaw c.rate c.depth (bucket_calls c.me gs) → Has i (gone_of gs)
@@ -201,23 +201,23 @@ no_repair_data s d i (Some x) (inl p) e = let q : i.item.value ≡ Data x = ap (
 no_repair_data s d i (Some x) (inr h) e = h
 
 -- a repair that a step hands in is of a drawop that was held before it
-repair_from_step : (me s : ℕ) (d : Drawop) (t : Step Entry) (i : Classed Datagram) → Has i (handed_by me t) → i.item.value ≡ Repair s d → Has d (held t.before)
-repair_from_step me s d t i h e = elim (Has-append i (data_item t.this.effects.drawn) (map (answer_item (shown t.before)) (answers_in me t)) h) [
+repair_from_step : (me s : ℕ) (d : Drawop) (t : Step Entry) (i : Classed Datagram) → Has i (handed_in_by me t) → i.item.value ≡ Repair s d → Has d (held t.before)
+repair_from_step me s d t i h e = elim (Has-append i (data_item t.this.effects.drawn) (map (due_item (shown t.before)) (requests_and_repairs me t)) h) [
   | inl l ↦ absurd (no_repair_data s d i t.this.effects.drawn l e)
-  | inr r ↦ of_these (Has-map (answer_item (shown t.before)) i (answers_in me t) r)
+  | inr r ↦ of_these (Has-map (due_item (shown t.before)) i (requests_and_repairs me t) r)
 ]
   where
-    of_these : ((g : Datagram) × Has g (answers_in me t) × (i ≡ answer_item (shown t.before) g)) → Has d (held t.before)
+    of_these : ((g : Datagram) × Has g (requests_and_repairs me t) × (i ≡ due_item (shown t.before) g)) → Has d (held t.before)
     of_these (g, k, q) =
         let same : g ≡ Repair s d = sym (ap (λ (j : Classed Datagram). j.item.value) q) ∙ e in
-        elim (Has-append (Repair s d) (packed me t.this.effects.asks) (filter_map (repair_for me t.before) t.this.effects.fixes) (subst (λ w. Has w (answers_in me t)) same k)) [
+        elim (Has-append (Repair s d) (packed me t.this.effects.asks) (filter_map (repair_for me t.before) t.this.effects.fixes) (subst (λ w. Has w (requests_and_repairs me t)) same k)) [
           | inl l ↦ absurd (no_repair_packed me s d None t.this.effects.asks l)
           | inr r ↦ repairs_held me s t.before d t.this.effects.fixes r
         ]
 
 handed_repair : (me s : ℕ) (d : Drawop) (es : List Entry) (i : Classed Datagram) → Has i (handed me es) → i.item.value ≡ Repair s d → Has d (held es)
 handed_repair me s d es i h e =
-    let (t, k, m) = Has-flat_map (handed_by me) i (steps es) h in
+    let (t, k, m) = Has-flat_map (handed_in_by me) i (steps es) h in
     let (rest, q) = Has-step_split t [] es k in
     subst (λ w. Has d (held w)) (sym q) (subst (λ w. Has d w) (sym (flat_map-append held_by t.before (t.this ∷ rest))) (Has-front d (held t.before) (held (t.this ∷ rest)) (repair_from_step me s d t i m e)))
 

@@ -110,12 +110,12 @@ ask_high c a e = rw e refl
 one_drawn : (wait word low low' high high' : ℕ) → low ≡ low' → high ≡ high' → wait ≡ low + word % (high - low + 1) → wait ≡ low' + word % (high' - low' + 1)
 one_drawn wait word low low' high high' p q e = rw (sym p, sym q) e
 
-pub drawn_asks : {W : Type 0} (draw : W → ℕ × W) (c : Config) (c1 c2 : ℕ) (from to : W) (arms : List Arm) → c1 ≡ c.c1 → c2 ≡ c.c2 → AllByRecursion is_ask arms
-    → AreChosen draw (timers.low_of c1) (timers.high_of c1 c2) from arms to → AreChosen draw (low_of c) (high_of c) from arms to
-drawn_asks draw c c1 c2 from to [] p q all h = h
-drawn_asks draw c c1 c2 from to (a ∷ arms) p q all h = (
+pub chosen_asks : {W : Type 0} (next_word : W → ℕ × W) (c : Config) (c1 c2 : ℕ) (from to : W) (arms : List Arm) → c1 ≡ c.c1 → c2 ≡ c.c2 → AllByRecursion is_ask arms
+    → AreChosen next_word (timers.low_of c1) (timers.high_of c1 c2) from arms to → AreChosen next_word (low_of c) (high_of c) from arms to
+chosen_asks next_word c c1 c2 from to [] p q all h = h
+chosen_asks next_word c c1 c2 from to (a ∷ arms) p q all h = (
   one_drawn a.wait _ _ _ _ _ (ap (λ x. timers.low_of x a) p ∙ ask_low c a all.0) (ap (λ x. timers.high_of x c2 a) p ∙ ap (λ x. timers.high_of c.c1 x a) q ∙ ask_high c a all.0) h.0,
-  drawn_asks draw c c1 c2 (draw from).1 to arms p q all.1 h.1,
+  chosen_asks next_word c c1 c2 (next_word from).1 to arms p q all.1 h.1,
 )
 
 -- what is drawn between two ends lies there
@@ -129,7 +129,7 @@ ends_rise c a = go a.kind refl
     go Ask e = rw e (mul-le-mul_right a.distance (mul-le-mul_left (2 ^ a.exponent) (omega arith)))
     go Fix e = rw e (mul-le-mul_right a.distance (omega arith))
 
-pub drawn_waits : {W : Type 0} (draw : W → ℕ × W) (c : Config) (from to : W) (arms : List Arm) → AreChosen draw (low_of c) (high_of c) from arms to
+pub chosen_waits : {W : Type 0} (next_word : W → ℕ × W) (c : Config) (from to : W) (arms : List Arm) → AreChosen next_word (low_of c) (high_of c) from arms to
     → AllByRecursion (λ a. (low_of c a ≤ a.wait) × (a.wait ≤ high_of c a)) arms
-drawn_waits draw c from to [] h = tt
-drawn_waits draw c from to (a ∷ arms) h = (between_ends a.wait _ (low_of c a) (high_of c a) (ends_rise c a) h.0, drawn_waits draw c (draw from).1 to arms h.1)
+chosen_waits next_word c from to [] h = tt
+chosen_waits next_word c from to (a ∷ arms) h = (between_ends a.wait _ (low_of c a) (high_of c a) (ends_rise c a) h.0, chosen_waits next_word c (next_word from).1 to arms h.1)

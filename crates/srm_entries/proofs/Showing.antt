@@ -27,7 +27,7 @@ use Rattle.srm_entries.specs.declared.entry.Verdict.{Verdict}
 use Rattle.srm_entries.specs.declared.entry.Verdict.TheVariants.{Done, Ignored, Refused}
 use Rattle.srm_store.specs.Held.{number_in, greatest_in}
 use Rattle.srm_entries.specs.Entries.{done, done_input, accepted, heard_in, state, is_gone, is_leaving, drawn, held, held_by, held_at, evidence_by, evidence_in, names_heard, drawops_in, known}
-use Rattle.srm_entries.specs.Verdicts.{first_cause, verdict_of, VerdictRight, is_stranger, overflows, is_beyond, says_too_little, differs, drawn_in, stream_on}
+use Rattle.srm_entries.specs.Verdicts.{first_cause, verdict_of, VerdictRight, is_stranger, lacks_slots_for, is_beyond, says_too_little, differs, drawn_in, stream_on}
 use Rattle.srm_entries.specs.Runs.{EntryRight, expected_drawop}
 use Rattle.srm_entries.proofs.Adding.{flat_map-snoc}
 
@@ -95,7 +95,7 @@ abbrev from_beyond : Config → List Entry → Datagram → List (Bool × Verdic
 from_beyond c es g = (list_any (is_beyond c.me es) (names_in g) || says_too_little es g, Ignored causes.BeyondFinal) ∷ from_conflict es g
 
 abbrev from_limit : Config → List Entry → Datagram → List (Bool × Verdict)
-from_limit c es g = (overflows es (map (λ (n : FullName). n.stream.page) (names_in g)), Ignored causes.PageLimit) ∷ from_beyond c es g
+from_limit c es g = (lacks_slots_for es (map (λ (n : FullName). n.stream.page) (names_in g)), Ignored causes.PageLimit) ∷ from_beyond c es g
 
 abbrev from_stranger : Config → List Entry → Datagram → List (Bool × Verdict)
 from_stranger c es g = (is_stranger c g, Ignored causes.Stranger) ∷ from_limit c es g
@@ -108,7 +108,7 @@ heard_fine c es g e =
     let a = no_cause (is_gone (state es)) (Ignored causes.Gone) (from_own c es g) (ignored_is_not_done _) e in
     let b = no_cause (sender_of g == c.me) (Ignored causes.Own) (from_stranger c es g) (ignored_is_not_done _) a.1 in
     let d = no_cause (is_stranger c g) (Ignored causes.Stranger) (from_limit c es g) (ignored_is_not_done _) b.1 in
-    let f = no_cause (overflows es (map (λ (n : FullName). n.stream.page) (names_in g))) (Ignored causes.PageLimit) (from_beyond c es g) (ignored_is_not_done _) d.1 in
+    let f = no_cause (lacks_slots_for es (map (λ (n : FullName). n.stream.page) (names_in g))) (Ignored causes.PageLimit) (from_beyond c es g) (ignored_is_not_done _) d.1 in
     let h = no_cause (list_any (is_beyond c.me es) (names_in g) || says_too_little es g) (Ignored causes.BeyondFinal) (from_conflict es g) (ignored_is_not_done _) f.1 in
     let parts = or_parts (list_any (is_beyond c.me es) (names_in g)) (says_too_little es g) h.0 in
     record { other = b.0; inside = (or_parts (nat_le c.members (sender_of g)) (list_any (λ n. nat_le c.members n.stream.source) (names_in g)) d.0).1; not_beyond = parts.0; not_short = parts.1 }
@@ -122,7 +122,7 @@ hearing_fine c made before e g right d = heard_fine c before g (verdict_done c b
 pub drawing_not_gone : (c : Config) (made : ℕ) (before : List Entry) (e : Entry) (page : Page) (body : List ℕ) → EntryRight c made (record { before = before; this = e }) → done e ≡ Some (Drew page body) → is_gone (state before) ≡ false
 drawing_not_gone c made before e page body right d =
     (no_cause (is_gone (state before)) (Refused faults.Gone)
-    ((is_leaving (state before), Refused faults.Leaving) ∷ (nat_lt LONGEST_BODY (length body), Refused faults.BodyLong) ∷ (overflows before (page ∷ []), Refused faults.PageLimit) ∷ (nat_le DRAWOPS (drawn_in before (stream_on c.me page)), Refused faults.StreamFull) ∷ [])
+    ((is_leaving (state before), Refused faults.Leaving) ∷ (nat_lt LONGEST_BODY (length body), Refused faults.BodyLong) ∷ (lacks_slots_for before (page ∷ []), Refused faults.PageLimit) ∷ (nat_le DRAWOPS (drawn_in before (stream_on c.me page)), Refused faults.StreamFull) ∷ [])
     (refused_is_not_done _) (verdict_done c before e (Drew page body) right.verdict d)).0
 
 pub leaving_not_gone : (c : Config) (made : ℕ) (before : List Entry) (e : Entry) → EntryRight c made (record { before = before; this = e }) → done e ≡ Some AskedLeave → is_gone (state before) ≡ false

@@ -21,12 +21,12 @@ admits_draw c made gs body now = admits c.rate c.depth (bucket_calls c.me gs) Ne
 
 -- the same of entries: they are marked with what the bucket let go in them, as they can be in one way alone
 pub record AdmitsDraw (c : Config) (made : ℕ) (es : List Entry) (body now : ℕ) (answer : Bool) : Type 0 where
-  pub marked : BucketRight c es
-  pub is : answer ≡ admits_draw c made marked.0 body now
+  pub goings : BucketRight c es
+  pub is : answer ≡ admits_draw c made goings.0 body now
 
 -- The first moment, from the last one on, at which a draw is admitted, if there is no entry before: it is admitted from then on and not
 -- before, and never where there is no such moment.
 pub record AdmitsDrawFrom (c : Config) (made : ℕ) (es : List Entry) (body : ℕ) (first : Option ℕ) : Type 0 where
-  pub marked : BucketRight c es
+  pub goings : BucketRight c es
   pub not_before : IfSome first (λ t. last_moment made es ≤ t)
-  pub exactly : (now : ℕ) → last_moment made es ≤ now → admits_draw c made marked.0 body now ≡ has_come now first
+  pub exactly : (now : ℕ) → last_moment made es ≤ now → admits_draw c made goings.0 body now ≡ has_come now first

@@ -36,8 +36,8 @@ page_of (Request sender name mask) = Some name.stream.page
 page_of (Repair sender drawop) = Some drawop.name.stream.page
 page_of (Session sender sent farewell shown rows echoes) = None
 
-abbrev pub answer_item : Page → Datagram → Classed Datagram
-answer_item showing g = classed (class_for showing (page_of g)) g
+abbrev pub due_item : Page → Datagram → Classed Datagram
+due_item showing g = classed (class_for showing (page_of g)) g
 
 abbrev pub data_item : Option Drawop → List (Classed Datagram)
 data_item None = []
@@ -47,11 +47,11 @@ abbrev pub repair_for : ℕ → List Entry → FullName → Option Datagram
 repair_for me before n = option_map (Repair me) (held_at before n)
 
 -- the requests and the repairs that an entry hands in
-abbrev pub answers_in : ℕ → Step Entry → List Datagram
-answers_in me s = packed me s.this.effects.asks ++ filter_map (repair_for me s.before) s.this.effects.fixes
+abbrev pub requests_and_repairs : ℕ → Step Entry → List Datagram
+requests_and_repairs me s = packed me s.this.effects.asks ++ filter_map (repair_for me s.before) s.this.effects.fixes
 
-abbrev pub handed_by : ℕ → Step Entry → List (Classed Datagram)
-handed_by me s = data_item s.this.effects.drawn ++ map (answer_item (shown s.before)) (answers_in me s)
+abbrev pub handed_in_by : ℕ → Step Entry → List (Classed Datagram)
+handed_in_by me s = data_item s.this.effects.drawn ++ map (due_item (shown s.before)) (requests_and_repairs me s)
 
 -- an entry, and what the bucket lets go in it
 pub record Going : Type 0 where
@@ -71,7 +71,7 @@ pops now goes = map (λ i. Popped now (Some i)) goes ++ Popped now None ∷ []
 
 abbrev pub calls_by : ℕ → Step Going → List (Call Datagram)
 calls_by me s =
-    map Handed (handed_by me (record { before = entries_of s.before; this = s.this.entry }))
+    map Handed (handed_in_by me (record { before = entries_of s.before; this = s.this.entry }))
     ++ (if lets_go s then pops s.this.entry.moment s.this.goes else [])
 
 abbrev pub bucket_calls : ℕ → List Going → List (Call Datagram)

@@ -21,7 +21,7 @@ use Rattle.srm_entries.specs.declared.entry.Verdict.TheVariants.{Done, Ignored, 
 use Rattle.srm_entries.specs.Entries.{last_moment, shown, slots, held_at}
 use Rattle.srm_entries.specs.Verdicts.{verdict_of, stream_on, final, VerdictRight}
 use Rattle.srm_entries.specs.Sessions.{ending, session_due, echoes_owed, expected_row, members_remaining}
-use Rattle.srm_entries.specs.Bucket.{classed, answer_item}
+use Rattle.srm_entries.specs.Bucket.{classed, due_item}
 use Rattle.srm_entries.specs.Hearing.{bytes_heard}
 use Rattle.srm_entries.specs.Promises.{page_to_come}
 use Rattle.srm_entries.specs.Runs.{MomentRight, expected_drawop}
@@ -86,7 +86,7 @@ in_the_next_slot : slots (shows_another ∷ draws 0 3 (drawop_of 1 3 []) ∷ dra
 in_the_next_slot = refl
 
 -- the class of an answer is by the page shown when it is handed in
-other_class : map (λ p. (answer_item p (Request 0 (named first_stream 1) 0)).class) (page 1 3 ∷ []) ≡ Other ∷ []
+other_class : map (λ p. (due_item p (Request 0 (named first_stream 1) 0)).class) (page 1 3 ∷ []) ≡ Other ∷ []
 other_class = refl
 
 -- bytes: noise with its fault, the datagram that they spell, and noise to a gone member

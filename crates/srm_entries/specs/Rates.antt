@@ -15,7 +15,7 @@ use Rattle.srm_entries.specs.Configs.{Config}
 use Rattle.srm_entries.specs.declared.entry.Entry.{Entry}
 use Rattle.srm_entries.specs.Entries.{ticked}
 use Rattle.srm_entries.specs.Sessions.{charged}
-use Rattle.srm_entries.specs.Bucket.{Going, GoesAsCharged, entries_of, handed_by, lets_go}
+use Rattle.srm_entries.specs.Bucket.{Going, GoesAsCharged, entries_of, handed_in_by, lets_go}
 use Rattle.srm_entries.specs.Runs.{IsMemberRun}
 
 abbrev pub one_of_class : Class → Classed Datagram → List (Item Datagram)
@@ -27,7 +27,7 @@ of_class class items = flat_map (one_of_class class) items
 
 -- what the entries handed in, and what went in them
 abbrev pub handed_so_far : ℕ → List Entry → List (Classed Datagram)
-handed_so_far me es = flat_map (handed_by me) (steps es)
+handed_so_far me es = flat_map (handed_in_by me) (steps es)
 
 abbrev pub departed_so_far : List Going → List (Classed Datagram)
 departed_so_far gs = flat_map (λ g. g.goes) gs

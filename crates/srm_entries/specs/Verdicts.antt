@@ -67,8 +67,8 @@ differs d (Some other) = not (same_drawop d other)
 abbrev pub is_stranger : Config → Datagram → Bool
 is_stranger c g = nat_le c.members (sender_of g) || list_any (λ n. nat_le c.members n.stream.source) (names_in g)
 
-abbrev pub overflows : List Entry → List Page → Bool
-overflows es pages = nat_lt PAGES (length (firsts same_page (slots es ++ pages)))
+abbrev pub lacks_slots_for : List Entry → List Page → Bool
+lacks_slots_for es pages = nat_lt PAGES (length (firsts same_page (slots es ++ pages)))
 
 -- the first of the causes that holds
 abbrev pub first_cause : List (Bool × Verdict) → Verdict
@@ -80,18 +80,18 @@ verdict_of c es (Drew page body) = first_cause (
     (is_gone (state es), Refused faults.Gone)
     ∷ (is_leaving (state es), Refused faults.Leaving)
     ∷ (nat_lt LONGEST_BODY (length body), Refused faults.BodyLong)
-    ∷ (overflows es (page ∷ []), Refused faults.PageLimit)
+    ∷ (lacks_slots_for es (page ∷ []), Refused faults.PageLimit)
     ∷ (nat_le DRAWOPS (drawn_in es (stream_on c.me page)), Refused faults.StreamFull) ∷ [])
 verdict_of c es (Heard g) = first_cause (
     (is_gone (state es), Ignored causes.Gone)
     ∷ (sender_of g == c.me, Ignored causes.Own)
     ∷ (is_stranger c g, Ignored causes.Stranger)
-    ∷ (overflows es (map (λ n. n.stream.page) (names_in g)), Ignored causes.PageLimit)
+    ∷ (lacks_slots_for es (map (λ n. n.stream.page) (names_in g)), Ignored causes.PageLimit)
     ∷ (list_any (is_beyond c.me es) (names_in g) || says_too_little es g, Ignored causes.BeyondFinal)
     ∷ (list_any (λ d. differs d (held_at es d.name)) (drawops_in (Some g)), Ignored causes.Conflict) ∷ [])
 verdict_of c es (Showed page) = first_cause (
     (is_gone (state es), Refused faults.Gone)
-    ∷ (overflows es (page ∷ []), Refused faults.PageLimit) ∷ [])
+    ∷ (lacks_slots_for es (page ∷ []), Refused faults.PageLimit) ∷ [])
 verdict_of c es AskedLeave = first_cause (
     (is_gone (state es), Refused faults.Gone)
     ∷ (is_leaving (state es), Refused faults.Leaving) ∷ [])

@@ -10,7 +10,7 @@ use Rattle.srm_timers.specs.declared.arm.Arm.{Arm}
 use Rattle.srm_timers.specs.declared.arm.Armed.{Armed}
 use Rattle.srm_timers.specs.declared.arm.ArmKind.TheVariants.{Ask}
 use Rattle.srm_timers.specs.Arms.{AreChosen, runs_out_at, ignored_until}
-use Rattle.srm_timers.specs.Draws.{draw_listed}
+use Rattle.srm_timers.specs.ListedWords.{next_listed}
 use Rattle.srm_entries.specs.Configs.{Config}
 use Rattle.srm_entries.specs.declared.entry.Entry.{Entry}
 use Rattle.srm_entries.specs.declared.entry.Verdict.TheVariants.{Done}
@@ -27,7 +27,7 @@ one_of_four = in_roster 1 4 4204
 
 -- all words of a list go to the waits of these arms
 abbrev WaitsBy : Config → List Arm → List ℕ → Type 0
-WaitsBy c arms words = AreChosen draw_listed (low_of c) (high_of c) words arms []
+WaitsBy c arms words = AreChosen next_listed (low_of c) (high_of c) words arms []
 
 -- the wait is the word's remainder above the lower end
 first_wait : WaitsBy one_of_four (ask_arm 1 0 200000 ∷ []) (0 ∷ [])

@@ -4,12 +4,12 @@
 //! The program is the network too: what a tick sends comes to the other member at once. A program of your own sends it to all others.
 #![tactic(auto)]
 
-mod shown;
+mod printed;
 
 ghost use Rattle.std.specs.Prelude.{◌≤◌, IfSome};
 ghost use Rattle.srm_example.specs.declared.TheConstants.{END};
 
-use crate::shown::ShownMessage;
+use crate::printed::PrintedMessage;
 use anyhow::Context;
 use bytes::Bytes;
 use srm_agent::{Agent, Config, Settings, Ticked};
@@ -125,7 +125,7 @@ fn print_given<O: Write>(viewer: &mut Agent<Pcg>, out: &mut O) -> anyhow::Result
         let Some(message) = viewer.give(FIRST_SLOT)? else {
             break;
         };
-        writeln!(out, "given {}", ShownMessage(&message))?;
+        writeln!(out, "given {}", PrintedMessage(&message))?;
     }
     Ok(())
 }

@@ -11,7 +11,7 @@ use Rattle.srm_live.specs.declared.typed.Typed.TheVariants.{Stroke, TooLong}
 use Rattle.srm_member.specs.Lines.{lines_of, before_first}
 use Rattle.srm_member.specs.Strokes.{stroke_of}
 use Rattle.srm_member.proofs.Splitting.{other}
-use Rattle.srm_live.specs.Typing.{short_lines, strokes_in, LineView, with_byte, typed_of, bodies_in, PenSent, HasNoEnd, DrawsTyped, DrawsSome, DrawsLast, ReadsOf, DrewAllOf, DrewPrefixOf}
+use Rattle.srm_live.specs.Typing.{short_lines, strokes_in, LineView, with_byte, typed_of, bodies_in, PenSent, HasNoEnd, DrawsTyped, DrawsSome, DrawsLast, ReadsOf, PenSentAllOf, PenSentPrefixOf}
 
 -- THE LINES OF A FRONT AND WHAT IS BEHIND IT
 
@@ -165,7 +165,7 @@ reads_none None pen = tt
 reads_none (Some text) pen = record { rest = text; left_is = refl; drawn = []; strokes = refl; one = tt; sent = sent_none pen }
 
 -- nothing is drawn yet
-pub front_none : (known : Option (List ℕ)) (pen : PenView) → DrewPrefixOf known pen pen
+pub front_none : (known : Option (List ℕ)) (pen : PenView) → PenSentPrefixOf known pen pen
 front_none None pen = tt
 front_none (Some text) pen = (strokes_in text, record { sent = []; split = refl; is = sent_none pen })
 
@@ -191,12 +191,12 @@ reads_more (Some text) left after bytes begun old mid next new h took draws =
     }
 
 -- reading ended, and the pen stays as it is
-pub reads_cut : (known left : Option (List ℕ)) (begun : List ℕ) (old mid new : PenView) → ReadsOf known left begun old mid → new ≡ mid → DrewPrefixOf known old new
+pub reads_cut : (known left : Option (List ℕ)) (begun : List ℕ) (old mid new : PenView) → ReadsOf known left begun old mid → new ≡ mid → PenSentPrefixOf known old new
 reads_cut None left begun old mid new h is = tt
 reads_cut (Some text) left begun old mid new h is = (strokes_in (begun ++ h.rest), record { sent = h.drawn; split = h.strokes; is = is ∙ h.sent })
 
 -- it ended within these bytes
-reads_some : (known left after : Option (List ℕ)) (bytes begun : List ℕ) (old mid new : PenView) → ReadsOf known left begun old mid → Consumes left after bytes → DrawsSome bytes begun mid new → DrewPrefixOf known old new
+reads_some : (known left after : Option (List ℕ)) (bytes begun : List ℕ) (old mid new : PenView) → ReadsOf known left begun old mid → Consumes left after bytes → DrawsSome bytes begun mid new → PenSentPrefixOf known old new
 reads_some None left after bytes begun old mid new h took draws = tt
 reads_some (Some text) left after bytes begun old mid new h took some =
     let r = rest_is left after bytes h.rest h.left_is took in
@@ -218,7 +218,7 @@ at_end (Some xs) rest is end =
     sym same ∙ end
 
 -- the input ended, and the last line was drawn
-reads_all : (known left : Option (List ℕ)) (begun : List ℕ) (old mid new : PenView) → ReadsOf known left begun old mid → IsAtEnd left → DrawsLast begun mid new → DrewAllOf known old new
+reads_all : (known left : Option (List ℕ)) (begun : List ℕ) (old mid new : PenView) → ReadsOf known left begun old mid → IsAtEnd left → DrawsLast begun mid new → PenSentAllOf known old new
 reads_all None left begun old mid new h end last = tt
 reads_all (Some text) left begun old mid new h end last =
     let none : h.rest ≡ [] = at_end left h.rest h.left_is end in
@@ -228,7 +228,7 @@ reads_all (Some text) left begun old mid new h end last =
       is = sent_more h.drawn last.drawn old mid new h.sent last.sent;
     }
 
-front_of_all : (known : Option (List ℕ)) (old new : PenView) → DrewAllOf known old new → DrewPrefixOf known old new
+front_of_all : (known : Option (List ℕ)) (old new : PenView) → PenSentAllOf known old new → PenSentPrefixOf known old new
 front_of_all None old new h = tt
 front_of_all (Some text) old new h = ([], h)
 
@@ -248,7 +248,7 @@ read_drawn known left after some n buffer begun old mid next new h took is draws
 
 -- so many were read, and some of them drawn
 pub read_cut : (known left after : Option (List ℕ)) (some : Option ℕ) (n : ℕ) (buffer begun : List ℕ) (old mid new : PenView) → ReadsOf known left begun old mid → Took some buffer left after → some ≡ Some n
-    → DrawsSome (take n buffer) begun mid new → DrewPrefixOf known old new
+    → DrawsSome (take n buffer) begun mid new → PenSentPrefixOf known old new
 read_cut known left after some n buffer begun old mid new h took is draws = reads_some known left after (take n buffer) begun old mid new h (took_bytes some n buffer left after took is) draws
 
 ended_known : (known left after : Option (List ℕ)) (some : Option ℕ) (buffer begun : List ℕ) (old mid : PenView) → ReadsOf known left begun old mid → Took some buffer left after → some ≡ Some 0 → ReadsOf known after begun old mid
@@ -256,7 +256,7 @@ ended_known known left after some buffer begun old mid h took is = reads_more kn
 
 -- the input ended, and the last line was drawn or not
 pub read_last : {T E : Type 0} (r : Result T E) (known left after : Option (List ℕ)) (some : Option ℕ) (buffer begun : List ℕ) (old mid new : PenView) → ReadsOf known left begun old mid → Took some buffer left after → some ≡ Some 0
-    → IfSome some (λ n. n ≡ 0 → IsAtEnd after) → OnOk r (DrawsLast begun mid new) → OnErr r (new ≡ mid) → OnOk r (DrewAllOf known old new) × DrewPrefixOf known old new
+    → IfSome some (λ n. n ≡ 0 → IsAtEnd after) → OnOk r (DrawsLast begun mid new) → OnErr r (new ≡ mid) → OnOk r (PenSentAllOf known old new) × PenSentPrefixOf known old new
 read_last r known left after some buffer begun old mid new h took is end last cut = go r last cut
   where
     here : ReadsOf known after begun old mid
@@ -265,7 +265,7 @@ read_last r known left after some buffer begun old mid new h took is end last cu
     none : IsAtEnd after
     none = (subst (λ o. IfSome o (λ n. n ≡ 0 → IsAtEnd after)) is end) refl
 
-    go : {X Y : Type 0} (r : Result X Y) → OnOk r (DrawsLast begun mid new) → OnErr r (new ≡ mid) → OnOk r (DrewAllOf known old new) × DrewPrefixOf known old new
+    go : {X Y : Type 0} (r : Result X Y) → OnOk r (DrawsLast begun mid new) → OnErr r (new ≡ mid) → OnOk r (PenSentAllOf known old new) × PenSentPrefixOf known old new
     go (Ok _) last cut =
         let all = reads_all known after begun old mid new here none last in
         (all, front_of_all known old new all)

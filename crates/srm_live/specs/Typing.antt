@@ -6,7 +6,7 @@ use Rattle.srm_live.specs.declared.typed.Typed.{Typed}
 use Rattle.srm_live.specs.declared.typed.Typed.TheVariants.{Stroke, TooLong}
 use Rattle.srm_wire.specs.Wires.{one_more}
 use Rattle.srm_member.specs.Lines.{lines_of}
-use Rattle.srm_member.specs.Strokes.{stroke_of, Drew, DrewPrefix}
+use Rattle.srm_member.specs.Strokes.{stroke_of, PenSentAllBut, PenSentPrefix}
 
 -- the lines that are short enough for a body, in order
 abbrev pub short_lines : List (List ℕ) → List (List ℕ)
@@ -84,9 +84,9 @@ abbrev pub ReadsOf : (known left : Option (List ℕ)) → List ℕ → PenView �
 ReadsOf known left begun old new = IfSome known (λ text. Reads text left begun old new)
 
 -- of a text that is known the pen sent each stroke, once and in order
-abbrev pub DrewAllOf : Option (List ℕ) → PenView → PenView → Type 0
-DrewAllOf known old new = IfSome known (λ text. Drew (strokes_in text) [] old new)
+abbrev pub PenSentAllOf : Option (List ℕ) → PenView → PenView → Type 0
+PenSentAllOf known old new = IfSome known (λ text. PenSentAllBut (strokes_in text) [] old new)
 
 -- of a text that is known the pen sent a front of the strokes, each once and in order
-abbrev pub DrewPrefixOf : Option (List ℕ) → PenView → PenView → Type 0
-DrewPrefixOf known old new = IfSome known (λ text. DrewPrefix (strokes_in text) old new)
+abbrev pub PenSentPrefixOf : Option (List ℕ) → PenView → PenView → Type 0
+PenSentPrefixOf known old new = IfSome known (λ text. PenSentPrefix (strokes_in text) old new)

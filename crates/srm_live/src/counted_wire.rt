@@ -41,7 +41,7 @@ impl<X: Wire + Drop> CountedWire<X> {
 impl<X: Wire + Drop> Wire for CountedWire<X> {
     ghost use Rattle.std.specs.Prelude.{◌≡◌};
 
-    ghost failed = { λ w. X.failed w.wire };
+    ghost failure_count = { λ w. X.failure_count w.wire };
 
     ghost told = { λ w. X.told w.wire };
 

@@ -89,9 +89,9 @@ impl<O: Write, E: Write> Desk<O, E> {
     }
 
     /// Shows what goes on, where standard error is a terminal.
-    pub fn show<R: Wait>(&self, rt: &R, status: &str) {
+    pub fn show_line<R: Wait>(&self, rt: &R, status: &str) {
         if self.has_terminal {
-            self.err.lock(rt).show(status);
+            self.err.lock(rt).show_line(status);
         }
     }
 

@@ -35,7 +35,7 @@ impl<E: Write> ErrorStream<E> {
     }
 
     /// Shows a status in place of the one before.
-    pub fn show(&mut self, status: &str) {
+    pub fn show_line(&mut self, status: &str) {
         self.write(WIPE);
         self.write(status);
         self.has_status = true;

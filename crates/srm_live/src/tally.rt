@@ -69,7 +69,7 @@ impl Tally {
     }
 
     /// What goes on by now, in a session of so many others.
-    pub fn status(&self, others: u8) -> Activity {
+    pub fn activity(&self, others: u8) -> Activity {
         Activity {
             others,
             heard: self.heard.load(Ordering::SeqCst).count_ones(),

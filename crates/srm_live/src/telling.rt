@@ -83,8 +83,8 @@ fn show<R: Wait, O: Write, E: Write>(
     others: u8,
     desk: &Desk<O, E>,
 ) {
-    let status = tally.status(others);
-    if let Ok(line) = format!(in alloc; "{status}") {
-        desk.show(rt, line.as_str());
+    let activity = tally.activity(others);
+    if let Ok(line) = format!(in alloc; "{activity}") {
+        desk.show_line(rt, line.as_str());
     }
 }

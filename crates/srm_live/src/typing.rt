@@ -2,13 +2,13 @@
 
 ghost use Rattle.std.specs.Prelude.{◌≡◌, ◌<◌, ◌≤◌, ◌∷◌, [], length, take, IfOk, IfSome, OnOk, OnErr, MatchResult, MatchOption};
 ghost use Rattle.std.specs.Io.KnownBytes.{Consumes, Keeps, IsAtEnd};
-ghost use Rattle.srm_live.specs.Typing.{bodies_in, PenSent, DrawsTyped, DrawsSome, DrawsLast, DrewAllOf, DrewPrefixOf};
+ghost use Rattle.srm_live.specs.Typing.{bodies_in, PenSent, DrawsTyped, DrawsSome, DrawsLast, PenSentAllOf, PenSentPrefixOf};
 
 use crate::cut::ReadingEnd;
 use crate::desk::Desk;
 use crate::remaining::remain;
 use crate::typed::{Line, Typed};
-use srm_member::draw;
+use srm_member::send_stroke;
 use srm_pages::{Inked, Pen};
 use srm_script::ScriptFault;
 use std::alloc::Global;
@@ -33,7 +33,7 @@ pub fn draw_typed<R: Clock + Wait, I: Read + Drop, O: Write, E: Write>(
     stay: u64,
     desk: &Desk<O, E>,
 ) -> Inked
-    ensures { DrewPrefixOf (I.remaining reader) pen result }
+    ensures { PenSentPrefixOf (I.remaining reader) pen result }
 {
     let mut reader = reader;
     let mut pen = pen;
@@ -53,8 +53,8 @@ fn draw_lines<R: Clock + Wait, I: Read, O: Write, E: Write>(
     pen: &mut Pen,
     desk: &Desk<O, E>,
 ) -> Result<(), ReadingEnd>
-    ensures all { OnOk result (DrewAllOf (I.remaining reader.old) pen.old pen.new) }
-    ensures front { DrewPrefixOf (I.remaining reader.old) pen.old pen.new }
+    ensures all { OnOk result (PenSentAllOf (I.remaining reader.old) pen.old pen.new) }
+    ensures prefix { PenSentPrefixOf (I.remaining reader.old) pen.old pen.new }
 {
     let mut line = Line::new(alloc);
     let mut buffer = vec![in alloc; 0; READ]?;
@@ -73,8 +73,8 @@ fn draw_read<R: Clock + Wait, I: Read, O: Write, E: Write>(
 ) -> Result<(), ReadingEnd>
     requires room { 0 < length buffer.old }
     requires none { line.old.kept ≡ [] }
-    ensures all { OnOk result (DrewAllOf (I.remaining reader.old) pen.old pen.new) }
-    ensures front { DrewPrefixOf (I.remaining reader.old) pen.old pen.new }
+    ensures all { OnOk result (PenSentAllOf (I.remaining reader.old) pen.old pen.new) }
+    ensures prefix { PenSentPrefixOf (I.remaining reader.old) pen.old pen.new }
 {
     for _ in rt.forever() {
         if desk.is_over() {
@@ -186,7 +186,7 @@ fn draw_line<R: Clock + Wait, O: Write, E: Write>(
     }
     match typed {
         Typed::Stroke(body) => {
-            if !draw(rt, pen, body, desk.ended()) {
+            if !send_stroke(rt, pen, body, desk.ended()) {
                 return Err(ReadingEnd::Closed);
             }
         }

@@ -35,7 +35,7 @@ impl Watched {
 }
 
 impl Past<Entry> for Watched {
-    ghost entries = { λ w. w.past };
+    ghost appended = { λ w. w.past };
 
     ghost has_room = { λ _. Unit {0} };
 

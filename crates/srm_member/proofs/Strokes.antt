@@ -3,13 +3,13 @@ use Rattle.std.proofs.Common.{◌≡◌, ℕ, List, [], ◌∷◌, ◌++◌, ref
 use Rattle.std.specs.Prelude.{map}
 use Rattle.std.proofs.lemmas.List.{append-nil, append_assoc, map-append}
 use Rattle.srm_pages.specs.Ends.{PenView}
-use Rattle.srm_member.specs.Strokes.{Drew, stroke_of}
+use Rattle.srm_member.specs.Strokes.{PenSentAllBut, stroke_of}
 
-pub drew_none : (bodies : List (List ℕ)) (pen : PenView) → Drew bodies bodies pen pen
+pub drew_none : (bodies : List (List ℕ)) (pen : PenView) → PenSentAllBut bodies bodies pen pen
 drew_none bodies pen = record { sent = []; split = refl; is = ap (λ sent. record pen { sent = sent }) (sym (append-nil pen.sent)) }
 
-pub drew_more : (bodies left : List (List ℕ)) (body : List ℕ) (old new : PenView) → Drew bodies (body ∷ left) old new
-    → Drew bodies left old (record new { sent = new.sent ++ stroke_of new.place body ∷ [] })
+pub drew_more : (bodies left : List (List ℕ)) (body : List ℕ) (old new : PenView) → PenSentAllBut bodies (body ∷ left) old new
+    → PenSentAllBut bodies left old (record new { sent = new.sent ++ stroke_of new.place body ∷ [] })
 drew_more bodies left body old new drew = rw drew.is (record {
   sent = drew.sent ++ body ∷ [];
   split = drew.split ∙ sym (append_assoc drew.sent (body ∷ []) left);

@@ -9,11 +9,11 @@ abbrev pub stroke_of : ℕ → List ℕ → Stroke
 stroke_of pen body = record { pen = pen; page = first_page; body = body }
 
 -- The pen sent all of these bodies but those that are left behind them, each once and in order.
-pub record Drew (bodies left : List (List ℕ)) (old new : PenView) : Type 0 where
+pub record PenSentAllBut (bodies left : List (List ℕ)) (old new : PenView) : Type 0 where
   pub sent : List (List ℕ)
   pub split : bodies ≡ sent ++ left
   pub is : new ≡ record old { sent = old.sent ++ map (stroke_of old.place) sent }
 
 -- the pen sent a front of these bodies
-abbrev pub DrewPrefix : List (List ℕ) → PenView → PenView → Type 0
-DrewPrefix bodies old new = (left : List (List ℕ)) × Drew bodies left old new
+abbrev pub PenSentPrefix : List (List ℕ) → PenView → PenView → Type 0
+PenSentPrefix bodies old new = (left : List (List ℕ)) × PenSentAllBut bodies left old new

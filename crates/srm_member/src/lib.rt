@@ -8,7 +8,7 @@
 //! ```
 //!
 //! The member's node runs in the calling thread, its four pens and eight page workers in threads of their own. [`run_node`] reads all of the
-//! input before it binds the socket, and prints once all of them have ended. [`deal`], [`draw`] and [`Station`] are its parts, for a program that binds
+//! input before it binds the socket, and prints once all of them have ended. [`deal`], [`send_stroke`] and [`Station`] are its parts, for a program that binds
 //! its sockets itself, or that draws strokes as they come.
 //!
 //! **What is refused**, in this order: a wrong command line; an input that fails, is too long or has a line that is; an address that can't be
@@ -26,7 +26,7 @@ mod station;
 
 pub use dealing::deal;
 pub use fault::MemberFault;
-pub use pens::draw;
+pub use pens::send_stroke;
 pub use replying::{WRONG_USAGE, print_reply};
 pub use running::run_node;
 pub use station::{Station, host_if};

@@ -2,7 +2,7 @@
 
 ghost use Rattle.std.specs.Prelude.{◌≡◌, [], ◌∷◌, ◌++◌};
 ghost use Rattle.std.specs.Bool.{OnTrue, OnFalse};
-ghost use Rattle.srm_member.specs.Strokes.{stroke_of, DrewPrefix};
+ghost use Rattle.srm_member.specs.Strokes.{stroke_of, PenSentPrefix};
 
 use bytes::Bytes;
 use srm_names::Page;
@@ -93,11 +93,11 @@ fn draw_all<R: time::Clock + Wait>(
     bodies: Vec<Bytes>,
     ended: &AtomicBool,
 ) -> Inked
-    ensures { DrewPrefix bodies.items pen result }
+    ensures { PenSentPrefix bodies.items pen result }
 {
     let mut pen = pen;
     for body in bodies {
-        if !draw(rt, &mut pen, body, ended) {
+        if !send_stroke(rt, &mut pen, body, ended) {
             break;
         }
     }
@@ -106,7 +106,12 @@ fn draw_all<R: time::Clock + Wait>(
 
 /// Sends a stroke with this body on the first page, and each millisecond again while it comes back from a full well, until the flag says that the node
 /// has ended. Whether it was sent.
-pub fn draw<R: time::Clock + Wait>(rt: &R, pen: &mut Pen, body: Bytes, ended: &AtomicBool) -> bool
+pub fn send_stroke<R: time::Clock + Wait>(
+    rt: &R,
+    pen: &mut Pen,
+    body: Bytes,
+    ended: &AtomicBool,
+) -> bool
     ensures sent { OnTrue result (pen.new ≡ record pen.old { sent = pen.old.sent ++ stroke_of pen.old.place body ∷ [] }) }
     ensures ended { OnFalse result (pen.new ≡ pen.old) }
 {

@@ -49,17 +49,17 @@ impl<R: time::Clock + Copy + Drop> Station<R> {
     where
         R: Net,
         ensures new { IfOk result (λ s. IsNewStation options.config options.stay None s.node.view s.taps.items s.pens.items) }
-        ensures words { IfOk result (λ s. s.node.words ≡ words_of options.start) }
+        ensures words { IfOk result (λ s. s.node.words ≡ words_of options.seed) }
     {
         let NodeOptions {
             config,
-            start,
+            seed,
             stay,
             addresses,
             ..
         } = options;
         match UdpWire::bind(rt, alloc, config.me(), addresses) {
-            Ok(wire) => Station::new(rt, alloc, config, start, stay, wire),
+            Ok(wire) => Station::new(rt, alloc, config, seed, stay, wire),
             Err(error) => Err(MemberFault::of_binding(error)),
         }
     }
@@ -74,26 +74,26 @@ impl<R: time::Clock + Copy + Drop, X: Wire + Drop> Station<R, X> {
         options: &NodeOptions,
         wire: X,
     ) -> Result<Station<R, X>, MemberFault>
-        requires { X.failed wire ≡ 0 }
+        requires { X.failure_count wire ≡ 0 }
         ensures new { IfOk result (λ s. IsNewStation options.now.config options.now.stay (X.told wire) s.node.view s.taps.items s.pens.items) }
-        ensures words { IfOk result (λ s. s.node.words ≡ words_of options.now.start) }
+        ensures words { IfOk result (λ s. s.node.words ≡ words_of options.now.seed) }
     {
-        Station::new(rt, alloc, options.config, options.start, options.stay, wire)
+        Station::new(rt, alloc, options.config, options.seed, options.stay, wire)
     }
 
     fn new(
         rt: &R,
         alloc: Global,
         config: Config,
-        start: u64,
+        seed: u64,
         stay: u64,
         wire: X,
     ) -> Result<Station<R, X>, MemberFault>
-        requires { X.failed wire ≡ 0 }
+        requires { X.failure_count wire ≡ 0 }
         ensures new { IfOk result (λ s. IsNewStation config stay (X.told wire) s.node.view s.taps.items s.pens.items) }
-        ensures words { IfOk result (λ s. s.node.words ≡ words_of start) }
+        ensures words { IfOk result (λ s. s.node.words ≡ words_of seed) }
     {
-        Station::make(rt, alloc, config, start, stay, wire, Vec::new(alloc))
+        Station::make(rt, alloc, config, seed, stay, wire, Vec::new(alloc))
     }
 
     /// Runs the node in this thread, and its page workers and its pens, in threads of their own, until all have ended. The k-th pen draws the k-th list of bodies; more lists than
@@ -109,7 +109,7 @@ impl<R: time::Clock + Copy + Drop, X: Wire + Drop> Station<R, X> {
     where
         R: Threads + Wait + Send + 'static,
         requires { vec_len self.taps ≡ PAGES }
-        ensures hosts { IfOk result (λ h. MatchResult h.end (λ _. Hosts L.entries self.node.view self.taps.items turns h) (λ fault. (all : Bool) × HostFails L.entries all self.node.view self.taps.items turns fault h)) }
+        ensures hosts { IfOk result (λ h. MatchResult h.end (λ _. Hosts L.appended self.node.view self.taps.items turns h) (λ fault. (all : Bool) × HostFails L.appended all self.node.view self.taps.items turns fault h)) }
         ensures lanes { IfOk result (λ h. IfOk h.end (λ _. AreEndsOfLanes self.node.view.feeds self.taps.items → AreEndsOfLanes h.feeds.items (map (λ w. w.tap) h.worked.items))) }
     {
         match Crew::new(alloc) {
@@ -132,7 +132,7 @@ impl<R: time::Clock + Copy + Drop, X: Wire + Drop> Station<R, X> {
         R: Threads + Wait + Send + 'static,
         requires taps { vec_len self.taps ≡ PAGES }
         requires sinks { vec_len crew.sinks ≡ PAGES }
-        ensures hosts { IfOk result (λ h. MatchResult h.end (λ _. Hosts L.entries self.node.view self.taps.items turns h) (λ fault. (all : Bool) × HostFails L.entries all self.node.view self.taps.items turns fault h)) }
+        ensures hosts { IfOk result (λ h. MatchResult h.end (λ _. Hosts L.appended self.node.view self.taps.items turns h) (λ fault. (all : Bool) × HostFails L.appended all self.node.view self.taps.items turns fault h)) }
         ensures lanes { IfOk result (λ h. IfOk h.end (λ _. AreEndsOfLanes self.node.view.feeds self.taps.items → AreEndsOfLanes h.feeds.items (map (λ w. w.tap) h.worked.items))) }
     {
         let Station { node, taps, pens } = self;
@@ -156,16 +156,16 @@ impl<R: time::Clock + Copy + Drop, X: Wire + Drop, P: Past<Entry> + Drop> Statio
         wire: X,
         past: P,
     ) -> Result<Station<R, X, P>, MemberFault>
-        requires wire { X.failed wire ≡ 0 }
-        requires past { P.entries past ≡ [] }
+        requires wire { X.failure_count wire ≡ 0 }
+        requires past { P.appended past ≡ [] }
         ensures new { IfOk result (λ s. IsNewStation options.now.config options.now.stay (X.told wire) s.node.view s.taps.items s.pens.items) }
-        ensures words { IfOk result (λ s. s.node.words ≡ words_of options.now.start) }
+        ensures words { IfOk result (λ s. s.node.words ≡ words_of options.now.seed) }
     {
         Station::make(
             rt,
             alloc,
             options.config,
-            options.start,
+            options.seed,
             options.stay,
             wire,
             past,
@@ -177,15 +177,15 @@ impl<R: time::Clock + Copy + Drop, X: Wire + Drop, P: Past<Entry> + Drop> Statio
         rt: &R,
         alloc: Global,
         config: Config,
-        start: u64,
+        seed: u64,
         stay: u64,
         wire: X,
         past: P,
     ) -> Result<Station<R, X, P>, MemberFault>
-        requires wire { X.failed wire ≡ 0 }
-        requires past { P.entries past ≡ [] }
+        requires wire { X.failure_count wire ≡ 0 }
+        requires past { P.appended past ≡ [] }
         ensures new { IfOk result (λ s. IsNewStation config stay (X.told wire) s.node.view s.taps.items s.pens.items) }
-        ensures words { IfOk result (λ s. s.node.words ≡ words_of start) }
+        ensures words { IfOk result (λ s. s.node.words ≡ words_of seed) }
     {
         let Parts {
             clock,
@@ -194,7 +194,7 @@ impl<R: time::Clock + Copy + Drop, X: Wire + Drop, P: Past<Entry> + Drop> Statio
             well,
             pens,
         } = make_parts(rt, alloc)?;
-        let words = Pcg::new(start);
+        let words = Pcg::new(seed);
         let mut node = Node::with_past(alloc, config, words, wire, clock, feeds, well, past)?;
         node.ask_leave(stay);
         Ok(Station { node, taps, pens })
@@ -271,7 +271,7 @@ where
     L: Past<PageMsg> + Send + Drop + 'static,
     requires taps { vec_len taps ≡ PAGES }
     requires sinks { vec_len sinks ≡ PAGES }
-    ensures hosts { IfSome result (λ h. MatchResult h.end (λ _. Hosts L.entries node.view taps.items turns h) (λ fault. (all : Bool) × HostFails L.entries all node.view taps.items turns fault h)) }
+    ensures hosts { IfSome result (λ h. MatchResult h.end (λ _. Hosts L.appended node.view taps.items turns h) (λ fault. (all : Bool) × HostFails L.appended all node.view taps.items turns fault h)) }
     ensures lanes { IfSome result (λ h. IfOk h.end (λ _. AreEndsOfLanes node.view.feeds taps.items → AreEndsOfLanes h.feeds.items (map (λ w. w.tap) h.worked.items))) }
 {
     if !all {

@@ -11,7 +11,7 @@ use Rattle.srm_wire.specs.Wires.{CountsIf, RoseOrFull}
 use Rattle.srm_names.specs.Moments.{has_come}
 use Rattle.srm_node.specs.Parts.{is_to_leave, still_asked, Leaves}
 use Rattle.srm_node.specs.Nodes.{NodeView, has_ended}
-use Rattle.srm_node.specs.Turns.{HearsNow, DrawsNow, LeavesNow, TicksNow, GivesNow, HearsCut, DrawsCut, GivesCut, IsCut, TurnToTick, Turned, TurnedDeaf, TurnEnds, Paused, RunsOf, Runs, RunEnds}
+use Rattle.srm_node.specs.Turns.{HearsNow, DrawsNow, LeavesNow, TicksNow, GivesNow, HearsCut, DrawsCut, GivesCut, IsCut, TurnToTick, Turned, TurnedDeaf, TurnEnds, Paused, RunsOf, WholeTurns, RunEnds}
 use Rattle.srm_wire.proofs.Telling.{counts_on}
 
 -- a node that leaves isn't to leave again, unless memory ran out
@@ -88,15 +88,15 @@ turned_deaf now u v w a b c d e f h x l t g some = record {
 
 -- RUNS
 
-pub runs_more : (count : ℕ) (a b p c : NodeView) (ended : Bool) → Runs count a b → ended ≡ has_ended b → ended ≡ false → Paused b p → Turned false false p c → Runs (count + 1) a c
+pub runs_more : (count : ℕ) (a b p c : NodeView) (ended : Bool) → WholeTurns count a b → ended ≡ has_ended b → ended ≡ false → Paused b p → Turned false false p c → WholeTurns (count + 1) a c
 runs_more count a b p c ended h is goes_on paused t = record { turns = subst (λ k. RunsOf k a c) (sym (add-one count)) (b, p, h.turns, sym is ∙ goes_on, paused, t) }
 
-pub runs_into : (fault : NodeFault) (count limit : ℕ) (a b p c : NodeView) (ended : Bool) → count < limit → Runs count a b → ended ≡ has_ended b → ended ≡ false → Paused b p → TurnEnds (Err fault) p c → RunEnds (Err fault) limit a c
-runs_into Wire count limit a b p c ended few h is goes_on paused t = record { count = count; few = few; before = b; paused = p; runs = h; goes_on = sym is ∙ goes_on; waits = paused; ends = t }
-runs_into Memory count limit a b p c ended few h is goes_on paused t = record { count = count; few = few; before = b; paused = p; runs = h; goes_on = sym is ∙ goes_on; waits = paused; ends = t }
+pub runs_into : (fault : NodeFault) (count limit : ℕ) (a b p c : NodeView) (ended : Bool) → count < limit → WholeTurns count a b → ended ≡ has_ended b → ended ≡ false → Paused b p → TurnEnds (Err fault) p c → RunEnds (Err fault) limit a c
+runs_into Wire count limit a b p c ended few h is goes_on paused t = record { count = count; few = few; before = b; paused = p; runs = h; goes_on = sym is ∙ goes_on; pauses = paused; ends = t }
+runs_into Memory count limit a b p c ended few h is goes_on paused t = record { count = count; few = few; before = b; paused = p; runs = h; goes_on = sym is ∙ goes_on; pauses = paused; ends = t }
 runs_into Turns count limit a b p c ended few h is goes_on paused t = absurd t
 
 -- the same by what the run answered
-pub runs_ended : (r : Result (Unit {0}) NodeFault) (fault : NodeFault) (count limit : ℕ) (a b p c : NodeView) (ended : Bool) → IsErrAnd r (λ e. e ≡ fault) → count < limit → Runs count a b → ended ≡ has_ended b → ended ≡ false → Paused b p → TurnEnds (Err fault) p c → RunEnds r limit a c
+pub runs_ended : (r : Result (Unit {0}) NodeFault) (fault : NodeFault) (count limit : ℕ) (a b p c : NodeView) (ended : Bool) → IsErrAnd r (λ e. e ≡ fault) → count < limit → WholeTurns count a b → ended ≡ has_ended b → ended ≡ false → Paused b p → TurnEnds (Err fault) p c → RunEnds r limit a c
 runs_ended (Ok u) fault count limit a b p c ended is few h at goes_on paused t = absurd is
 runs_ended (Err e) fault count limit a b p c ended is few h at goes_on paused t = subst (λ f. RunEnds (Err f) limit a c) (sym is) (runs_into fault count limit a b p c ended few h at goes_on paused t)

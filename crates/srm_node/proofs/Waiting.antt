@@ -12,29 +12,29 @@ use Rattle.srm_node.specs.Nodes.{NodeView, NodeState, recorded_in}
 use Rattle.srm_node.specs.Turns.{Paused}
 use Rattle.srm_node.specs.Waits.{WaitsByWords}
 
-pub waits_none : {W : Type 0} (draw : W → ℕ × W) (r : RecorderView W) → WaitsByWords draw r r
-waits_none draw r = record { start = refl; words = no_words_recorded draw r r refl }
+pub waits_none : {W : Type 0} (next_word : W → ℕ × W) (r : RecorderView W) → WaitsByWords next_word r r
+waits_none next_word r = record { start = refl; words = no_words_recorded next_word r r refl }
 
-pub waits_on : {W : Type 0} (draw : W → ℕ × W) (a b c : RecorderView W) → WaitsByWords draw a b → WaitsByWords draw b c → WaitsByWords draw a c
-waits_on draw a b c h k = record {
+pub waits_on : {W : Type 0} (next_word : W → ℕ × W) (a b c : RecorderView W) → WaitsByWords next_word a b → WaitsByWords next_word b c → WaitsByWords next_word a c
+waits_on next_word a b c h k = record {
   start = k.start ∙ h.start;
   words = record {
     added = h.words.added ++ k.words.added;
     grown = k.words.grown ∙ ap (λ es. es ++ k.words.added) h.words.grown ∙ append_assoc a.journal.entries h.words.added k.words.added;
-    words = by_more draw a.journal.start.config a.words b.words c.words h.words.added k.words.added h.words.words
-        (subst (λ (s : Config). AreByWords draw s b.words k.words.added c.words) (ap (λ s. s.config) h.start) k.words.words);
+    words = by_more next_word a.journal.start.config a.words b.words c.words h.words.added k.words.added h.words.words
+        (subst (λ (s : Config). AreByWords next_word s b.words k.words.added c.words) (ap (λ s. s.config) h.start) k.words.words);
   };
 }
 
-pub waits_heard : {W : Type 0} (draw : W → ℕ × W) (now : ℕ) (bytes : List ℕ) (a b : RecorderView W) (answer : Result Heard AgentFault) → RecordsHeard now bytes a.journal b.journal answer → RecordsByWords draw a b → WaitsByWords draw a b
-waits_heard draw now bytes a b answer (inl (e, grows, hearing, answers)) words = record { start = ap (λ (j : Journal). j.start) grows.grown; words = words }
-waits_heard draw now bytes a b answer (inr (wrong, same)) words = record { start = ap (λ (j : Journal). j.start) same; words = words }
+pub waits_heard : {W : Type 0} (next_word : W → ℕ × W) (now : ℕ) (bytes : List ℕ) (a b : RecorderView W) (answer : Result Heard AgentFault) → RecordsHeard now bytes a.journal b.journal answer → RecordsByWords next_word a b → WaitsByWords next_word a b
+waits_heard next_word now bytes a b answer (inl (e, grows, hearing, answers)) words = record { start = ap (λ (j : Journal). j.start) grows.grown; words = words }
+waits_heard next_word now bytes a b answer (inr (wrong, same)) words = record { start = ap (λ (j : Journal). j.start) same; words = words }
 
 -- a pause draws none
-pub waits_paused : {W C : Type 0} (draw : W → ℕ × W) (a b : NodeState W C) → Paused a.view b.view → b.words ≡ a.words → WaitsByWords draw (recorded_in a) (recorded_in b)
-waits_paused draw a b paused words = record {
+pub waits_paused : {W C : Type 0} (next_word : W → ℕ × W) (a b : NodeState W C) → Paused a.view b.view → b.words ≡ a.words → WaitsByWords next_word (recorded_in a) (recorded_in b)
+waits_paused next_word a b paused words = record {
   start = ap (λ (j : Journal). j.start) journal;
-  words = no_words_recorded draw (recorded_in a) (recorded_in b) (ap (λ (j : Journal). record { journal = j; words = b.words }) journal ∙ ap (λ w. record { journal = a.view.journal; words = w }) words);
+  words = no_words_recorded next_word (recorded_in a) (recorded_in b) (ap (λ (j : Journal). record { journal = j; words = b.words }) journal ∙ ap (λ w. record { journal = a.view.journal; words = w }) words);
 }
   where
     journal : b.view.journal ≡ a.view.journal

@@ -4,7 +4,7 @@ use Rattle.std.proofs.Common.{arith, ap, inl, inr, ◌∙◌}
 use Rattle.srm_names.specs.declared.limits.TheConstants.{LATEST_MOMENT}
 use Rattle.srm_names.specs.Names.{first_page}
 use Rattle.srm_codec.specs.declared.datagram.Datagram.TheVariants.{Data}
-use Rattle.srm_timers.specs.Draws.{draw_listed}
+use Rattle.srm_timers.specs.ListedWords.{next_listed}
 use Rattle.srm_pages.specs.declared.stroke.Stroke.{Stroke}
 use Rattle.srm_pages.specs.Ends.{WellView}
 use Rattle.srm_entries.specs.declared.entry.Entry.{Entry}
@@ -46,7 +46,7 @@ short = record { pen = 0; page = first_page; body = 7 ∷ [] }
 
 -- nothing waits, and so the first is admitted
 first_admitted : IsAdmitted 5 (journal []) full true
-first_admitted = record { marked = ([], refl, tt, tt); is = refl }
+first_admitted = record { goings = ([], refl, tt, tt); is = refl }
 
 -- a turn that takes both out of the well has drawn the first, and the second is in hand
 abbrev after : WellView → WellView
@@ -96,7 +96,7 @@ before_it = record { journal = journal []; words = 5 ∷ 9 ∷ [] }
 abbrev behind_it : (wait : ℕ) → List ℕ → RecorderView (List ℕ)
 behind_it wait words = record { journal = journal (first_drawn ∷ one_missing wait ∷ []); words = words }
 
-waits_by_one_word : WaitsByWords draw_listed before_it (behind_it 200005 (9 ∷ []))
+waits_by_one_word : WaitsByWords next_listed before_it (behind_it 200005 (9 ∷ []))
 waits_by_one_word = record { start = refl; words = record { added = first_drawn ∷ one_missing 200005 ∷ []; grown = refl; words = (refl, refl) } }
 
 -- THE CLOCK

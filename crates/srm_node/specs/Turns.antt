@@ -141,7 +141,7 @@ abbrev pub RunsOf : ℕ → NodeView → NodeView → Type 0
 RunsOf zero old new = new ≡ old
 RunsOf (suc n) old new = (before : NodeView) × (paused : NodeView) × RunsOf n old before × (has_ended before ≡ false) × Paused before paused × Turned false false paused new
 
-pub record Runs (count : ℕ) (old new : NodeView) : Type 0 where
+pub record WholeTurns (count : ℕ) (old new : NodeView) : Type 0 where
   pub turns : RunsOf count old new
 
 -- whole turns, and then one that ends with this fault
@@ -150,26 +150,26 @@ pub record RunsInto (fault : NodeFault) (limit : ℕ) (old new : NodeView) : Typ
   pub few : count < limit
   pub before : NodeView
   pub paused : NodeView
-  pub runs : Runs count old before
+  pub runs : WholeTurns count old before
   pub goes_on : has_ended before ≡ false
-  pub waits : Paused before paused
+  pub pauses : Paused before paused
   pub ends : TurnEnds (Err fault) paused new
 
 -- whole turns, until the node has ended
 pub record RunsToEnd (limit : ℕ) (old new : NodeView) : Type 0 where
   pub count : ℕ
   pub few : count ≤ limit
-  pub runs : Runs count old new
+  pub runs : WholeTurns count old new
   pub ended : has_ended new ≡ true
 
 -- whole turns, until all are spent
-pub record RunsOut (limit : ℕ) (old new : NodeView) : Type 0 where
-  pub runs : Runs limit old new
+pub record SpendsTurns (limit : ℕ) (old new : NodeView) : Type 0 where
+  pub runs : WholeTurns limit old new
   pub goes_on : has_ended new ≡ false
 
 -- At no fault some turns were whole, and then the node has ended; at fault 3 all were, and it hasn't; at another fault the last one ended
 -- with it.
 abbrev pub RunEnds : Result (Unit {0}) NodeFault → ℕ → NodeView → NodeView → Type 0
 RunEnds (Ok _) turns old new = RunsToEnd turns old new
-RunEnds (Err Turns) turns old new = RunsOut turns old new
+RunEnds (Err Turns) turns old new = SpendsTurns turns old new
 RunEnds (Err fault) turns old new = RunsInto fault turns old new

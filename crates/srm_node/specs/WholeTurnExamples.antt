@@ -237,7 +237,7 @@ hears lane well = record {
 }
 
 admitted : IsAdmitted 1 (journal []) stroke true
-admitted = record { marked = ([], refl, tt, tt); is = refl }
+admitted = record { goings = ([], refl, tt, tt); is = refl }
 
 draws_it : (lane : LaneId) (well : WellView) → DrawsNow 1 true (heard lane well) (drawn lane well)
 draws_it lane well = record {

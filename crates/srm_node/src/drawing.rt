@@ -43,7 +43,7 @@ pub fn draw_strokes<R: Wait, W: Words + Drop, P: Past<Entry> + Drop>(
     requires moment { now ≤ LATEST_MOMENT }
     requires lawful { IsLawfulJournal recorder.old.journal }
     ensures lawful { IsLawfulJournal recorder.new.journal }
-    ensures words { WaitsByWords W.draw recorder.old recorder.new }
+    ensures words { WaitsByWords W.next_word recorder.old recorder.new }
     ensures draws { MatchResult result.1 (λ drawn. DrewStrokes now drawn.none_left recorder.old.journal recorder.new.journal well.old well.new hand result.0)
         (λ _. DrewStrokesCut now recorder.old.journal recorder.new.journal well.old well.new hand result.0) }
 {
@@ -94,7 +94,7 @@ fn draw_stroke<W: Words + Drop, P: Past<Entry> + Drop>(
     requires lawful { IsLawfulJournal recorder.old.journal }
     requires admitted { IsAdmitted now recorder.old.journal stroke.now true }
     ensures lawful { IsLawfulJournal recorder.new.journal }
-    ensures words { WaitsByWords W.draw recorder.old recorder.new }
+    ensures words { WaitsByWords W.next_word recorder.old recorder.new }
     ensures draws { MatchResult result (λ _. DrawsOne now stroke.now recorder.old.journal recorder.new.journal) (λ _. recorder.new.journal ≡ recorder.old.journal) }
 {
     let Ok(body) = stroke.body.clone() else {

@@ -31,7 +31,7 @@ pub fn give_all<R: Wait, W: Words + Drop, P: Past<Entry> + Drop>(
     requires carries { CarriesEach recorder.old.journal feeds.old.items }
     requires closed { closed.old.items ≡ map has_closed feeds.old.items }
     ensures closed { closed.new.items ≡ map has_closed feeds.new.items }
-    ensures words { WaitsByWords W.draw recorder.old recorder.new }
+    ensures words { WaitsByWords W.next_word recorder.old recorder.new }
     ensures gives { MatchResult result (λ _. GivesUpTo PAGES recorder.old.journal recorder.new.journal feeds.old.items feeds.new.items)
         (λ _. GaveSome recorder.old.journal recorder.new.journal feeds.old.items feeds.new.items) }
 {
@@ -57,7 +57,7 @@ fn give_slot<R: Wait, W: Words + Drop, P: Past<Entry> + Drop>(
     requires carries { Carries (given recorder.old.journal.entries slot) feed.old }
     requires closed { closed.old ≡ has_closed feed.old }
     ensures closed { closed.new ≡ has_closed feed.new }
-    ensures words { WaitsByWords W.draw recorder.old recorder.new }
+    ensures words { WaitsByWords W.next_word recorder.old recorder.new }
     ensures gives { MatchResult result (λ _. Gives slot true recorder.old.journal recorder.new.journal feed.old feed.new)
         (λ _. Gives slot false recorder.old.journal recorder.new.journal feed.old feed.new) }
 {
@@ -91,7 +91,7 @@ fn give_next<R: Wait, W: Words + Drop, P: Past<Entry> + Drop>(
     requires carries { Carries (given recorder.old.journal.entries slot) feed.old }
     requires closed { closed.old ≡ has_closed feed.old }
     ensures closed { closed.new ≡ has_closed feed.new }
-    ensures words { WaitsByWords W.draw recorder.old recorder.new }
+    ensures words { WaitsByWords W.next_word recorder.old recorder.new }
     ensures gives { MatchResult result (λ ended. Gives slot ended recorder.old.journal recorder.new.journal feed.old feed.new)
         (λ _. Gives slot false recorder.old.journal recorder.new.journal feed.old feed.new) }
 {

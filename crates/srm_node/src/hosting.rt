@@ -32,7 +32,7 @@ pub struct WorksOn(Snapshot<Tap>);
 impl<L: Past<PageMsg> + Drop> Promise<Worked<L>> for WorksOn {
     ghost use Rattle.srm_node.specs.Working.{WorkedFrom};
 
-    ghost kept_by = { λ p w. WorkedFrom L.entries p.0.value w };
+    ghost kept_by = { λ p w. WorkedFrom L.appended p.0.value w };
 }
 
 /// A worker in its thread.
@@ -74,7 +74,7 @@ pub fn host<
 ) -> Result<Hosted<P, L>, AllocError>
     requires taps { vec_len taps ≡ PAGES }
     requires sinks { vec_len sinks ≡ PAGES }
-    ensures hosts { IfOk result (λ h. MatchResult h.end (λ _. Hosts L.entries node.view taps.items turns h) (λ fault. (all : Bool) × HostFails L.entries all node.view taps.items turns fault h)) }
+    ensures hosts { IfOk result (λ h. MatchResult h.end (λ _. Hosts L.appended node.view taps.items turns h) (λ fault. (all : Bool) × HostFails L.appended all node.view taps.items turns fault h)) }
     ensures lanes { IfOk result (λ h. IfOk h.end (λ _. AreEndsOfLanes node.view.feeds taps.items → AreEndsOfLanes h.feeds.items (map (λ w. w.tap) h.worked.items))) }
 {
     let (mut workers, mut worked) = places(alloc)?;
@@ -114,7 +114,7 @@ fn go<
 ) -> Hosted<P, L>
     requires room { vec_len worked + length workers.items ≤ vec_capacity worked }
     requires none { worked.items ≡ [] }
-    ensures { MatchResult result.end (λ _. (all ≡ true) × Hosts L.entries node.view (map tap_of_worker workers.items) turns result) (λ fault. HostFails L.entries all node.view (map tap_of_worker workers.items) turns fault result) }
+    ensures { MatchResult result.end (λ _. (all ≡ true) × Hosts L.appended node.view (map tap_of_worker workers.items) turns result) (λ fault. HostFails L.appended all node.view (map tap_of_worker workers.items) turns fault result) }
 {
     let mut node = node;
     let end = run_if(rt, &mut node, all, turns);
@@ -292,7 +292,7 @@ fn join_all<R: Threads, L: Past<PageMsg> + Drop>(
 ) -> Vec<Worked<L>>
     requires room { vec_len worked + length workers.items ≤ vec_capacity worked }
     requires none { worked.items ≡ [] }
-    ensures { WorkedEach L.entries (map tap_of_worker workers.items) result.items }
+    ensures { WorkedEach L.appended (map tap_of_worker workers.items) result.items }
 {
     let mut left = workers;
     let mut worked = worked;
@@ -307,7 +307,7 @@ fn join_all<R: Threads, L: Past<PageMsg> + Drop>(
 }
 
 fn join_one<R: Threads, L: Past<PageMsg> + Drop>(rt: &R, worker: Worker<L>) -> Worked<L>
-    ensures { WorkedFrom L.entries (tap_of_worker worker) result }
+    ensures { WorkedFrom L.appended (tap_of_worker worker) result }
 {
     let Worker { handle } = worker;
     handle.join(rt)

@@ -32,8 +32,8 @@ pub fn listen<W: Words + Drop, P: Past<Entry> + Drop, X: Wire>(
     requires moment { now ≤ LATEST_MOMENT }
     requires lawful { IsLawfulJournal recorder.old.journal }
     ensures lawful { IsLawfulJournal recorder.new.journal }
-    ensures words { WaitsByWords W.draw recorder.old recorder.new }
-    ensures failures { MatchResult result (λ heard. CountsIf heard.failed (X.failed wire.old) (X.failed wire.new)) (λ _. CountsIf false (X.failed wire.old) (X.failed wire.new)) }
+    ensures words { WaitsByWords W.next_word recorder.old recorder.new }
+    ensures failures { MatchResult result (λ heard. CountsIf heard.failed (X.failure_count wire.old) (X.failure_count wire.new)) (λ _. CountsIf false (X.failure_count wire.old) (X.failure_count wire.new)) }
     ensures hears { MatchResult result (λ heard. Listened now heard.failed recorder.old.journal recorder.new.journal (X.told wire.old) (X.told wire.new))
         (λ _. ListenedCut now recorder.old.journal recorder.new.journal (X.told wire.old) (X.told wire.new)) }
 {

@@ -73,7 +73,7 @@ impl<W: Words + Drop, X: Wire + Drop, C: Clock + Drop, P: Past<Entry> + Drop> Mo
         well = n.well;
         hand = n.hand;
         asked = n.asked;
-        failures = X.failed n.wire;
+        failures = X.failure_count n.wire;
         told = X.told n.wire;
       };
       words = n.recorder.words;
@@ -86,7 +86,7 @@ impl<W: Words + Drop, X: Wire + Drop, C: Clock + Drop, P: Past<Entry> + Drop> Mo
       well = n.well;
       hand = n.hand;
       asked = n.asked;
-      failures = X.failed n.wire;
+      failures = X.failure_count n.wire;
       told = X.told n.wire;
     }) n.config (vec_len n.buffer) n.closed.items };
 }
@@ -105,7 +105,7 @@ impl<W: Words + Drop, X: Wire + Drop, C: Clock + Drop> Node<W, X, C> {
     ) -> Result<Node<W, X, C>, AllocError>
         requires feeds { AreNewFeeds feeds.items }
         requires well { well.received ≡ [] }
-        ensures value { IfOk result (λ node. IsNewNode config feeds.items well (X.failed wire) (X.told wire) node.view) }
+        ensures value { IfOk result (λ node. IsNewNode config feeds.items well (X.failure_count wire) (X.told wire) node.view) }
         ensures words { IfOk result (λ node. node.words ≡ words) }
         ensures clock { IfOk result (λ node. node.clock ≡ clock) }
         ensures made { IfOk result (λ node. IsTold (C.tells clock) node.view.journal.start.made) }
@@ -135,7 +135,7 @@ impl<W: Words + Drop, X: Wire + Drop, C: Clock + Drop> Node<W, X, C, Forgotten<E
     ) -> Result<Node<W, X, C, Forgotten<Entry>>, AllocError>
         requires feeds { AreNewFeeds feeds.items }
         requires well { well.received ≡ [] }
-        ensures value { IfOk result (λ node. IsNewNode config feeds.items well (X.failed wire) (X.told wire) node.view) }
+        ensures value { IfOk result (λ node. IsNewNode config feeds.items well (X.failure_count wire) (X.told wire) node.view) }
         ensures words { IfOk result (λ node. node.words ≡ words) }
         ensures clock { IfOk result (λ node. node.clock ≡ clock) }
         ensures made { IfOk result (λ node. IsTold (C.tells clock) node.view.journal.start.made) }
@@ -159,8 +159,8 @@ impl<W: Words + Drop, X: Wire + Drop, C: Clock + Drop, P: Past<Entry> + Drop> No
     ) -> Result<Node<W, X, C, P>, AllocError>
         requires feeds { AreNewFeeds feeds.items }
         requires well { well.received ≡ [] }
-        requires past { P.entries past ≡ [] }
-        ensures value { IfOk result (λ node. IsNewNode config feeds.items well (X.failed wire) (X.told wire) node.view) }
+        requires past { P.appended past ≡ [] }
+        ensures value { IfOk result (λ node. IsNewNode config feeds.items well (X.failure_count wire) (X.told wire) node.view) }
         ensures words { IfOk result (λ node. node.words ≡ words) }
         ensures clock { IfOk result (λ node. node.clock ≡ clock) }
         ensures made { IfOk result (λ node. IsTold (C.tells clock) node.view.journal.start.made) }
@@ -183,7 +183,7 @@ impl<W: Words + Drop, X: Wire + Drop, C: Clock + Drop, P: Past<Entry> + Drop> No
         requires recorder { IsNewJournal config recorder.journal }
         requires feeds { AreNewFeeds feeds.items }
         requires well { well.received ≡ [] }
-        ensures value { IfOk result (λ node. IsNewNode config feeds.items well (X.failed wire) (X.told wire) node.view) }
+        ensures value { IfOk result (λ node. IsNewNode config feeds.items well (X.failure_count wire) (X.told wire) node.view) }
         ensures words { IfOk result (λ node. node.words ≡ recorder.words) }
         ensures clock { IfOk result (λ node. node.clock ≡ clock) }
         ensures journal { IfOk result (λ node. node.view.journal ≡ recorder.journal) }
@@ -225,7 +225,7 @@ impl<W: Words + Drop, X: Wire + Drop, C: Clock + Drop, P: Past<Entry> + Drop> No
         ensures keeps { NodeKeepsLists self.new.view }
         ensures turns { TurnEnds result self.old.view self.new.view }
         ensures moments { GrowsAtTold (C.tells self.old.clock) self.old.view self.new.view }
-        ensures words { WaitsByWords W.draw (recorded_in self.old) (recorded_in self.new) }
+        ensures words { WaitsByWords W.next_word (recorded_in self.old) (recorded_in self.new) }
         ensures clock { self.new.clock ≡ self.old.clock }
     {
         let now = self.clock.now().min(LATEST_MOMENT);
@@ -243,7 +243,7 @@ impl<W: Words + Drop, X: Wire + Drop, C: Clock + Drop, P: Past<Entry> + Drop> No
 
     /// What the member did so far, as it is kept. It takes no memory.
     pub fn past(&self) -> &P
-        ensures { P.entries result.now ≡ self.now.view.journal.entries }
+        ensures { P.appended result.now ≡ self.now.view.journal.entries }
     {
         self.recorder.past()
     }
@@ -265,7 +265,7 @@ impl<W: Words + Drop, X: Wire + Drop, C: Clock + Drop, P: Past<Entry> + Drop> No
         ensures keeps { NodeKeepsLists self.new.view }
         ensures runs { RunEnds result turns self.old.view self.new.view }
         ensures moments { GrowsAtTold (C.tells self.old.clock) self.old.view self.new.view }
-        ensures words { WaitsByWords W.draw (recorded_in self.old) (recorded_in self.new) }
+        ensures words { WaitsByWords W.next_word (recorded_in self.old) (recorded_in self.new) }
         ensures clock { self.new.clock ≡ self.old.clock }
     {
         let _ = &self.feeds;
@@ -320,7 +320,7 @@ impl<W: Words + Drop, X: Wire + Drop, C: Clock + Drop, P: Past<Entry> + Drop> No
         requires { now ≤ LATEST_MOMENT }
         ensures keeps { NodeKeepsLists self.new.view }
         ensures hears { MatchResult result (λ unheard. HearsNow now unheard self.old.view self.new.view) (λ _. HearsCut now self.old.view self.new.view) }
-        ensures words { WaitsByWords W.draw (recorded_in self.old) (recorded_in self.new) }
+        ensures words { WaitsByWords W.next_word (recorded_in self.old) (recorded_in self.new) }
         ensures clock { self.new.clock ≡ self.old.clock }
     {
         let listened = listen(
@@ -339,7 +339,7 @@ impl<W: Words + Drop, X: Wire + Drop, C: Clock + Drop, P: Past<Entry> + Drop> No
         requires { now ≤ LATEST_MOMENT }
         ensures keeps { NodeKeepsLists self.new.view }
         ensures draws { MatchResult result (λ none_left. DrawsNow now none_left self.old.view self.new.view) (λ _. DrawsCut now self.old.view self.new.view) }
-        ensures words { WaitsByWords W.draw (recorded_in self.old) (recorded_in self.new) }
+        ensures words { WaitsByWords W.next_word (recorded_in self.old) (recorded_in self.new) }
         ensures clock { self.new.clock ≡ self.old.clock }
     {
         let hand = self.hand.take();
@@ -355,7 +355,7 @@ impl<W: Words + Drop, X: Wire + Drop, C: Clock + Drop, P: Past<Entry> + Drop> No
         requires { now ≤ LATEST_MOMENT }
         ensures keeps { NodeKeepsLists self.new.view }
         ensures leaves { MatchResult result (λ _. LeavesNow now none_left self.old.view self.new.view) (λ _. self.new.view ≡ self.old.view) }
-        ensures words { WaitsByWords W.draw (recorded_in self.old) (recorded_in self.new) }
+        ensures words { WaitsByWords W.next_word (recorded_in self.old) (recorded_in self.new) }
         ensures clock { self.new.clock ≡ self.old.clock }
     {
         let due = done & has_come(self.asked, now);
@@ -370,7 +370,7 @@ impl<W: Words + Drop, X: Wire + Drop, C: Clock + Drop, P: Past<Entry> + Drop> No
         requires { now ≤ LATEST_MOMENT }
         ensures keeps { NodeKeepsLists self.new.view }
         ensures ticks { MatchResult result (λ unsent. TicksNow now unsent self.old.view self.new.view) (λ _. self.new.view ≡ self.old.view) }
-        ensures words { WaitsByWords W.draw (recorded_in self.old) (recorded_in self.new) }
+        ensures words { WaitsByWords W.next_word (recorded_in self.old) (recorded_in self.new) }
         ensures clock { self.new.clock ≡ self.old.clock }
     {
         let ticked = tick(&mut self.recorder, now)?;
@@ -386,7 +386,7 @@ impl<W: Words + Drop, X: Wire + Drop, C: Clock + Drop, P: Past<Entry> + Drop> No
     fn give_now<R: Wait>(&mut self, rt: &R) -> Result<(), OutOfMemory>
         ensures keeps { NodeKeepsLists self.new.view }
         ensures gives { MatchResult result (λ _. GivesNow PAGES self.old.view self.new.view) (λ _. GivesCut self.old.view self.new.view) }
-        ensures words { WaitsByWords W.draw (recorded_in self.old) (recorded_in self.new) }
+        ensures words { WaitsByWords W.next_word (recorded_in self.old) (recorded_in self.new) }
         ensures clock { self.new.clock ≡ self.old.clock }
     {
         give_all(rt, &mut self.recorder, &mut self.feeds, &mut self.closed)

@@ -12,7 +12,7 @@ use srm_wire::{Wire, send_to_others};
 /// Sends each of these to every other member, rising, whatever fails. Whether a send failed.
 pub fn send_all<X: Wire>(wire: &mut X, me: Member, members: u8, outs: &[Out]) -> bool
     requires { members ≤ MEMBERS }
-    ensures { Sends result (dispatched me members (map (λ (o : SentOut). o.bytes) outs.now)) (X.failed wire.old) (X.failed wire.new) (X.told wire.old) (X.told wire.new) }
+    ensures { Sends result (dispatched me members (map (λ (o : SentOut). o.bytes) outs.now)) (X.failure_count wire.old) (X.failure_count wire.new) (X.told wire.old) (X.told wire.new) }
 {
     let mut failed = false;
     for out in outs {

@@ -18,7 +18,7 @@ pub fn tick<W: Words + Drop, P: Past<Entry> + Drop>(
 ) -> Result<Ticked, OutOfMemory>
     requires { now ≤ LATEST_MOMENT }
     ensures lawful { IsLawfulJournal recorder.new.journal }
-    ensures words { WaitsByWords W.draw recorder.old recorder.new }
+    ensures words { WaitsByWords W.next_word recorder.old recorder.new }
     ensures ticks { MatchResult result (λ ticked. Ticks now ticked.outs recorder.old.journal recorder.new.journal) (λ _. recorder.new.journal ≡ recorder.old.journal) }
 {
     match recorder.tick(now) {
@@ -36,7 +36,7 @@ pub fn leave<W: Words + Drop, P: Past<Entry> + Drop>(
     requires moment { now ≤ LATEST_MOMENT }
     requires lawful { IsLawfulJournal recorder.old.journal }
     ensures lawful { IsLawfulJournal recorder.new.journal }
-    ensures words { WaitsByWords W.draw recorder.old recorder.new }
+    ensures words { WaitsByWords W.next_word recorder.old recorder.new }
     ensures leaves { MatchResult result (λ _. Leaves now leaves recorder.old.journal recorder.new.journal) (λ _. recorder.new.journal ≡ recorder.old.journal) }
 {
     if !leaves {

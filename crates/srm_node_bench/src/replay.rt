@@ -19,7 +19,7 @@ impl Replay {
 }
 
 impl Wire for Replay {
-    ghost failed = { λ _. 0 };
+    ghost failure_count = { λ _. 0 };
 
     ghost told = { λ _. None };
 

@@ -20,7 +20,7 @@ pub(crate) struct Broken {
 }
 
 impl Wire for Broken {
-    ghost failed = { λ w. w.failures };
+    ghost failure_count = { λ w. w.failures };
 
     ghost told = { λ _. None };
 

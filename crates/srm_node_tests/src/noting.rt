@@ -49,7 +49,7 @@ pub(crate) fn make_noting(rt: &impl Abort, notes: &Arc<Notes, Global>) -> Noting
 }
 
 impl Wire for Noting {
-    ghost failed = { λ _. 0 };
+    ghost failure_count = { λ _. 0 };
 
     ghost told = { λ _. None };
 

@@ -14,7 +14,7 @@ pub(crate) struct Passing<X: Wire + Drop> {
 }
 
 impl<X: Wire + Drop> Wire for Passing<X> {
-    ghost failed = { λ w. X.failed w.wire };
+    ghost failure_count = { λ w. X.failure_count w.wire };
 
     ghost told = { λ w. X.told w.wire };
 

@@ -151,7 +151,7 @@ fn options_in<'a>(alloc: Global, matches: &ArgMatches<'a>) -> Result<NodeOptions
     let turns = if live { u64::MAX } else { TURNS };
     Ok(NodeOptions {
         config,
-        start: matches.get_one::<u64>("start").unwrap_or(0),
+        seed: matches.get_one::<u64>("start").unwrap_or(0),
         stay: matches.get_one::<u64>("stay").unwrap_or(STAY),
         turns: matches.get_one::<u64>("turns").unwrap_or(turns),
         live,

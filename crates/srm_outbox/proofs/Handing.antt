@@ -13,10 +13,10 @@ use Rattle.srm_bucket.specs.Content.{Content as BucketContent}
 use Rattle.srm_bucket.specs.Fits.{Fits, Adds, Pops}
 use Rattle.srm_bucket.specs.Law.{may_go}
 use Rattle.srm_bucket.specs.Waiting.{Waiting, HasLength, Gains, TakesNext, queue, next_in, count_of}
-use Rattle.srm_outbox.specs.declared.answers.Answer.{Answer}
+use Rattle.srm_outbox.specs.declared.due_items.DueItem.{DueItem}
 use Rattle.srm_outbox.specs.declared.out.Outgoing.{Outgoing}
 use Rattle.srm_outbox.specs.Outs.{IsOwn, AreOwn}
-use Rattle.srm_outbox.specs.Answering.{classed_of}
+use Rattle.srm_outbox.specs.DueItems.{classed_of}
 use Rattle.srm_outbox.specs.Outbox.{Passes, WentContent, NothingWent, HandsIn, LetsGo}
 
 pub all-front : {X : Type 0} (P : X → Type 0) (xs ys : List X) → AllByRecursion P (xs ++ ys) → AllByRecursion P xs
@@ -60,7 +60,7 @@ hands_nothing b = record {
   count = omega arith;
 }
 
-hands_more : (done : List Answer) (a : Answer) (old now new : BucketContent Outgoing) → HandsIn done old now → Adds (Handed (classed_of a)) now new → Gains (classed_of a) now.waiting new.waiting → HandsIn (done ++ a ∷ []) old new
+hands_more : (done : List DueItem) (a : DueItem) (old now new : BucketContent Outgoing) → HandsIn done old now → Adds (Handed (classed_of a)) now new → Gains (classed_of a) now.waiting new.waiting → HandsIn (done ++ a ∷ []) old new
 hands_more done a old now new h adds gains = record {
   fits = λ rate depth calls f.
       subst (λ cs. Fits rate depth cs new) (append_assoc calls (map Handed (map classed_of done)) (Handed (classed_of a) ∷ []) ∙ ap (λ cs. calls ++ cs) (sym (ap (map Handed) (map-append classed_of done (a ∷ [])) ∙ map-append Handed (map classed_of done) (classed_of a ∷ []))))
@@ -71,19 +71,19 @@ hands_more done a old now new h adds gains = record {
 }
 
 -- A loop has handed in some of the answers, and has the others left, with room for them.
-pub record HandedSoFar (answers left : List Answer) (old now : BucketContent Outgoing) : Type 0 where
-  pub done : List Answer
-  pub split : done ++ left ≡ answers
+pub record HandedSoFar (due_items left : List DueItem) (old now : BucketContent Outgoing) : Type 0 where
+  pub done : List DueItem
+  pub split : done ++ left ≡ due_items
   pub hands : HandsIn done old now
   pub lengths : AllByRecursion (λ a. HasLength a.item) left
   pub room : length left ≤ now.waiting.room
 
-pub handing_begins : (answers : List Answer) (b : BucketContent Outgoing) → AllByRecursion (λ a. HasLength a.item) answers → length answers ≤ b.waiting.room → HandedSoFar answers answers b b
-handing_begins answers b lengths room = record { done = []; split = refl; hands = hands_nothing b; lengths = lengths; room = room }
+pub handing_begins : (due_items : List DueItem) (b : BucketContent Outgoing) → AllByRecursion (λ a. HasLength a.item) due_items → length due_items ≤ b.waiting.room → HandedSoFar due_items due_items b b
+handing_begins due_items b lengths room = record { done = []; split = refl; hands = hands_nothing b; lengths = lengths; room = room }
 
-pub handing_goes_on : (answers left rest : List Answer) (a : Answer) (old now new : BucketContent Outgoing) → left ≡ a ∷ rest → HandedSoFar answers left old now → Adds (Handed (classed_of a)) now new → Gains (classed_of a) now.waiting new.waiting
-    → now.waiting.room ≤ new.waiting.room + 1 → HandedSoFar answers rest old new
-handing_goes_on answers left rest a old now new e h adds gains room = record {
+pub handing_goes_on : (due_items left rest : List DueItem) (a : DueItem) (old now new : BucketContent Outgoing) → left ≡ a ∷ rest → HandedSoFar due_items left old now → Adds (Handed (classed_of a)) now new → Gains (classed_of a) now.waiting new.waiting
+    → now.waiting.room ≤ new.waiting.room + 1 → HandedSoFar due_items rest old new
+handing_goes_on due_items left rest a old now new e h adds gains room = record {
   done = h.done ++ a ∷ [];
   split = append_assoc h.done (a ∷ []) rest ∙ ap (λ xs. h.done ++ xs) (sym e) ∙ h.split;
   hands = hands_more h.done a old now new h.hands adds gains;
@@ -91,14 +91,14 @@ handing_goes_on answers left rest a old now new e h adds gains room = record {
   room = omega (arith, h.room, ap length e);
 }
 
-pub handing_length : (answers left rest : List Answer) (a : Answer) (old now : BucketContent Outgoing) → left ≡ a ∷ rest → HandedSoFar answers left old now → HasLength a.item
-handing_length answers left rest a old now e h = (subst (AllByRecursion (λ x. HasLength x.item)) e h.lengths).0
+pub handing_length : (due_items left rest : List DueItem) (a : DueItem) (old now : BucketContent Outgoing) → left ≡ a ∷ rest → HandedSoFar due_items left old now → HasLength a.item
+handing_length due_items left rest a old now e h = (subst (AllByRecursion (λ x. HasLength x.item)) e h.lengths).0
 
-pub handing_room : (answers left rest : List Answer) (a : Answer) (old now : BucketContent Outgoing) → left ≡ a ∷ rest → HandedSoFar answers left old now → 0 < now.waiting.room
-handing_room answers left rest a old now e h = omega (arith, h.room, ap length e)
+pub handing_room : (due_items left rest : List DueItem) (a : DueItem) (old now : BucketContent Outgoing) → left ≡ a ∷ rest → HandedSoFar due_items left old now → 0 < now.waiting.room
+handing_room due_items left rest a old now e h = omega (arith, h.room, ap length e)
 
-pub handing_ends : (answers left : List Answer) (old now : BucketContent Outgoing) → left ≡ [] → HandedSoFar answers left old now → HandsIn answers old now
-handing_ends answers left old now e h = subst (λ as_. HandsIn as_ old now) (sym (append-nil h.done) ∙ ap (λ xs. h.done ++ xs) (sym e) ∙ h.split) h.hands
+pub handing_ends : (due_items left : List DueItem) (old now : BucketContent Outgoing) → left ≡ [] → HandedSoFar due_items left old now → HandsIn due_items old now
+handing_ends due_items left old now e h = subst (λ as_. HandsIn as_ old now) (sym (append-nil h.done) ∙ ap (λ xs. h.done ++ xs) (sym e) ∙ h.split) h.hands
 
 -- letting go
 

@@ -19,7 +19,7 @@ use Rattle.srm_codec.specs.declared.datagram.Datagram.TheVariants.{Request}
 use Rattle.srm_codec.specs.Spelling.{IsSpellable, is_name, sender_of, is_session}
 use Rattle.srm_codec.proofs.ContentLaws.{asked_answer}
 use Rattle.srm_codec.proofs.Masks.{named_within}
-use Rattle.srm_outbox.specs.Answering.{IsAnswerOf}
+use Rattle.srm_outbox.specs.DueItems.{MayHandIn}
 use Rattle.srm_entries.specs.Packing.{is_covered, is_covered_by, mask_of, packed_after, packed}
 
 never : (b : Bool) → (b ≡ true → ⊥) → b ≡ false
@@ -194,7 +194,7 @@ left_at i n names lt at = drop_more names i n lt ∙ ap (λ m. m ∷ drop (i + 1
 -- A loop has made these requests, the last of which begins at this name, and has these asks left.
 pub record PackedSoFar (me : ℕ) (asks left : List FullName) (last : Option FullName) (requests : List Datagram) : Type 0 where
   pub packs : requests ++ packed_after me last left ≡ packed me asks
-  pub each : AllByRecursion (IsAnswerOf me) requests
+  pub each : AllByRecursion (MayHandIn me) requests
 
 pub packs_covered : (me : ℕ) (asks ns : List FullName) (n : FullName) (last : Option FullName) (requests : List Datagram) → is_covered_by last n ≡ true → PackedSoFar me asks (n ∷ ns) last requests → PackedSoFar me asks ns last requests
 packs_covered me asks ns n last requests e p = record {
@@ -216,7 +216,7 @@ packs_more me asks ns n last requests r e is spelled p = record {
     at : (b : Bool) → b ≡ false → (if b then packed_after me last ns else Request me n (mask_of n ns) ∷ packed_after me (Some n) ns) ≡ Request me n (mask_of n ns) ∷ packed_after me (Some n) ns
     at b e = ap (λ (x : Bool). if x then packed_after me last ns else Request me n (mask_of n ns) ∷ packed_after me (Some n) ns) e
 
-    one_more : (gs : List Datagram) → AllByRecursion (IsAnswerOf me) gs → AllByRecursion (IsAnswerOf me) (gs ++ r ∷ [])
+    one_more : (gs : List Datagram) → AllByRecursion (MayHandIn me) gs → AllByRecursion (MayHandIn me) (gs ++ r ∷ [])
     one_more [] all = (record { sender = ap sender_of is; charged = ap is_session is; spellable = spelled }, tt)
     one_more (g ∷ gs) all = (all.0, one_more gs all.1)
 

@@ -17,10 +17,10 @@ use Rattle.srm_store.specs.Fits.{Fits}
 use Rattle.srm_store.specs.Stores.{StoreContent}
 use Rattle.srm_bucket.specs.Mapping.{read_classed}
 use Rattle.srm_bucket.specs.Waiting.{HasLength}
-use Rattle.srm_outbox.specs.declared.answers.Answer.{Answer}
-use Rattle.srm_entries.specs.Bucket.{answer_item}
+use Rattle.srm_outbox.specs.declared.due_items.DueItem.{DueItem}
+use Rattle.srm_entries.specs.Bucket.{due_item}
 use Rattle.srm_outbox.specs.Outs.{datagram_of, IsOwn}
-use Rattle.srm_outbox.specs.Answering.{IsAnswerOf, IsAnswer, AreAnswers, classed_of}
+use Rattle.srm_outbox.specs.DueItems.{MayHandIn, IsDueItem, AreDueItems, classed_of}
 
 -- a held drawop can be spelled in a repair
 spellable_at : (held : List Drawop) (n : FullName) → AllByRecursion is_drawop held → IfSome (held_at held n) is_drawop
@@ -31,25 +31,25 @@ spellable_at held n all = go (held_at held n) refl
     go (Some d) e = All-Has is_drawop d held all (find-Has (has_name n) held d e).0
 
 -- A loop has added the repairs of some of the names.
-pub record RepairedSoFar (me : ℕ) (s : StoreContent) (requests : List Datagram) (names : List FullName) (answers : List Datagram) : Type 0 where
+pub record RepairedSoFar (me : ℕ) (s : StoreContent) (requests : List Datagram) (names : List FullName) (datagrams : List Datagram) : Type 0 where
   pub value : (held : List Drawop) (evidence : List FullName) (settled : List Settling) → Fits held evidence settled s → AllByRecursion is_drawop held
-      → answers ≡ requests ++ filter_map (λ n. option_map (Repair me) (held_at held n)) names
-  pub each : AllByRecursion (IsAnswerOf me) answers
+      → datagrams ≡ requests ++ filter_map (λ n. option_map (Repair me) (held_at held n)) names
+  pub each : AllByRecursion (MayHandIn me) datagrams
 
-pub repairing_begins : (me : ℕ) (s : StoreContent) (requests answers : List Datagram) → answers ≡ requests → AllByRecursion (IsAnswerOf me) answers → RepairedSoFar me s requests [] answers
-repairing_begins me s requests answers e all = record { value = λ held evidence settled fits spellable. e ∙ sym (append-nil requests); each = all }
+pub repairing_begins : (me : ℕ) (s : StoreContent) (requests datagrams : List Datagram) → datagrams ≡ requests → AllByRecursion (MayHandIn me) datagrams → RepairedSoFar me s requests [] datagrams
+repairing_begins me s requests datagrams e all = record { value = λ held evidence settled fits spellable. e ∙ sym (append-nil requests); each = all }
 
-pub repairing_goes_on : (me : ℕ) (s : StoreContent) (requests : List Datagram) (names : List FullName) (i : ℕ) (n : FullName) (answers : List Datagram) (here : Option Drawop) (o : Option Datagram) → i < length names → n ≡ get_or names i n
-    → ((held : List Drawop) (evidence : List FullName) (settled : List Settling) → Fits held evidence settled s → here ≡ held_at held n) → (IfSome here is_drawop → o ≡ option_map (Repair me) here) → IfSome o (IsAnswerOf me)
-    → RepairedSoFar me s requests (take i names) answers → RepairedSoFar me s requests (take (i + 1) names) (answers ++ option_to_list o)
-repairing_goes_on me s requests names i n answers here o lt at there is fine h = record {
+pub repairing_goes_on : (me : ℕ) (s : StoreContent) (requests : List Datagram) (names : List FullName) (i : ℕ) (n : FullName) (datagrams : List Datagram) (here : Option Drawop) (o : Option Datagram) → i < length names → n ≡ get_or names i n
+    → ((held : List Drawop) (evidence : List FullName) (settled : List Settling) → Fits held evidence settled s → here ≡ held_at held n) → (IfSome here is_drawop → o ≡ option_map (Repair me) here) → IfSome o (MayHandIn me)
+    → RepairedSoFar me s requests (take i names) datagrams → RepairedSoFar me s requests (take (i + 1) names) (datagrams ++ option_to_list o)
+repairing_goes_on me s requests names i n datagrams here o lt at there is fine h = record {
   value = λ held evidence settled fits spellable.
       ap (λ xs. xs ++ option_to_list o) (h.value held evidence settled fits spellable)
       ∙ append_assoc requests (filter_map (λ n. option_map (Repair me) (held_at held n)) (take i names)) (option_to_list o)
       ∙ ap (λ xs. requests ++ (filter_map (λ n. option_map (Repair me) (held_at held n)) (take i names) ++ xs)) (ap option_to_list (repaired held spellable (there held evidence settled fits)) ∙ as_list (option_map (Repair me) (held_at held n)))
       ∙ ap (λ xs. requests ++ xs) (sym (ap (filter_map (λ n. option_map (Repair me) (held_at held n))) (take_more names i n lt ∙ ap (λ m. take i names ++ m ∷ []) (sym at))
       ∙ filter_map-append (λ n. option_map (Repair me) (held_at held n)) (take i names) (n ∷ [])));
-  each = AllByRecursion-append (IsAnswerOf me) answers (option_to_list o) h.each (fine_list o fine);
+  each = AllByRecursion-append (MayHandIn me) datagrams (option_to_list o) h.each (fine_list o fine);
 }
   where
     repaired : (held : List Drawop) → AllByRecursion is_drawop held → here ≡ held_at held n → o ≡ option_map (Repair me) (held_at held n)
@@ -59,41 +59,41 @@ repairing_goes_on me s requests names i n answers here o lt at there is fine h =
     as_list None = refl
     as_list (Some g) = refl
 
-    fine_list : (p : Option Datagram) → IfSome p (IsAnswerOf me) → AllByRecursion (IsAnswerOf me) (option_to_list p)
+    fine_list : (p : Option Datagram) → IfSome p (MayHandIn me) → AllByRecursion (MayHandIn me) (option_to_list p)
     fine_list None f = tt
     fine_list (Some g) f = (f, tt)
 
 -- A loop has spelled some of the answers, and has these left.
-pub record SpelledSoFar (me session : ℕ) (showing : Page) (answers left : List Datagram) (items : List Answer) : Type 0 where
+pub record SpelledSoFar (me session : ℕ) (showing : Page) (datagrams left : List Datagram) (items : List DueItem) : Type 0 where
   pub done : List Datagram
-  pub split : done ++ left ≡ answers
-  pub spelled : AreAnswers me session showing done items
-  pub each : AllByRecursion (IsAnswerOf me) left
+  pub split : done ++ left ≡ datagrams
+  pub spelled : AreDueItems me session showing done items
+  pub each : AllByRecursion (MayHandIn me) left
 
-pub spelling_begins : (me session : ℕ) (showing : Page) (answers : List Datagram) (items : List Answer) → items ≡ [] → AllByRecursion (IsAnswerOf me) answers → SpelledSoFar me session showing answers answers items
-spelling_begins me session showing answers items e all = record {
+pub spelling_begins : (me session : ℕ) (showing : Page) (datagrams : List Datagram) (items : List DueItem) → items ≡ [] → AllByRecursion (MayHandIn me) datagrams → SpelledSoFar me session showing datagrams datagrams items
+spelling_begins me session showing datagrams items e all = record {
   done = [];
   split = refl;
-  spelled = subst (λ xs. AreAnswers me session showing [] xs) (sym e) (record { own = tt; read = refl; lengths = tt });
+  spelled = subst (λ xs. AreDueItems me session showing [] xs) (sym e) (record { own = tt; read = refl; lengths = tt });
   each = all;
 }
 
-pub spelling_goes_on : (me session : ℕ) (showing : Page) (answers left rest : List Datagram) (g : Datagram) (items : List Answer) (a : Answer) → left ≡ g ∷ rest → IsAnswer me session showing g a → SpelledSoFar me session showing answers left items
-    → SpelledSoFar me session showing answers rest (items ++ a ∷ [])
-spelling_goes_on me session showing answers left rest g items a e is h = record {
+pub spelling_goes_on : (me session : ℕ) (showing : Page) (datagrams left rest : List Datagram) (g : Datagram) (items : List DueItem) (a : DueItem) → left ≡ g ∷ rest → IsDueItem me session showing g a → SpelledSoFar me session showing datagrams left items
+    → SpelledSoFar me session showing datagrams rest (items ++ a ∷ [])
+spelling_goes_on me session showing datagrams left rest g items a e is h = record {
   done = h.done ++ g ∷ [];
   split = append_assoc h.done (g ∷ []) rest ∙ ap (λ xs. h.done ++ xs) (sym e) ∙ h.split;
   spelled = record {
     own = AllByRecursion-append (λ x. IsOwn me session x.item.value) items (a ∷ []) h.spelled.own (is.own, tt);
-    read = map-append (λ (x : Answer). read_classed datagram_of (classed_of x)) items (a ∷ []) ∙ ap (λ xs. xs ++ read_classed datagram_of (classed_of a) ∷ []) h.spelled.read
-        ∙ ap (λ x. map (answer_item showing) h.done ++ x ∷ []) is.read ∙ sym (map-append (answer_item showing) h.done (g ∷ []));
+    read = map-append (λ (x : DueItem). read_classed datagram_of (classed_of x)) items (a ∷ []) ∙ ap (λ xs. xs ++ read_classed datagram_of (classed_of a) ∷ []) h.spelled.read
+        ∙ ap (λ x. map (due_item showing) h.done ++ x ∷ []) is.read ∙ sym (map-append (due_item showing) h.done (g ∷ []));
     lengths = AllByRecursion-append (λ x. HasLength x.item) items (a ∷ []) h.spelled.lengths (is.length, tt);
   };
-  each = (subst (AllByRecursion (IsAnswerOf me)) e h.each).1;
+  each = (subst (AllByRecursion (MayHandIn me)) e h.each).1;
 }
 
-pub spelling_next : (me session : ℕ) (showing : Page) (answers left rest : List Datagram) (g : Datagram) (items : List Answer) → left ≡ g ∷ rest → SpelledSoFar me session showing answers left items → IsAnswerOf me g
-spelling_next me session showing answers left rest g items e h = (subst (AllByRecursion (IsAnswerOf me)) e h.each).0
+pub spelling_next : (me session : ℕ) (showing : Page) (datagrams left rest : List Datagram) (g : Datagram) (items : List DueItem) → left ≡ g ∷ rest → SpelledSoFar me session showing datagrams left items → MayHandIn me g
+spelling_next me session showing datagrams left rest g items e h = (subst (AllByRecursion (MayHandIn me)) e h.each).0
 
-pub spelling_ends : (me session : ℕ) (showing : Page) (answers left : List Datagram) (items : List Answer) → left ≡ [] → SpelledSoFar me session showing answers left items → AreAnswers me session showing answers items
-spelling_ends me session showing answers left items e h = subst (λ gs. AreAnswers me session showing gs items) (sym (append-nil h.done) ∙ ap (λ xs. h.done ++ xs) (sym e) ∙ h.split) h.spelled
+pub spelling_ends : (me session : ℕ) (showing : Page) (datagrams left : List Datagram) (items : List DueItem) → left ≡ [] → SpelledSoFar me session showing datagrams left items → AreDueItems me session showing datagrams items
+spelling_ends me session showing datagrams left items e h = subst (λ gs. AreDueItems me session showing gs items) (sym (append-nil h.done) ∙ ap (λ xs. h.done ++ xs) (sym e) ∙ h.split) h.spelled

@@ -7,7 +7,7 @@ use Rattle.srm_names.specs.Names.{first_page}
 use Rattle.srm_entries.specs.Bucket.{pops}
 use Rattle.srm_entries.specs.Sample.{first_drawop}
 use Rattle.std.proofs.Common.{arith}
-use Rattle.srm_outbox.specs.Answering.{IsAnswerOf}
+use Rattle.srm_outbox.specs.DueItems.{MayHandIn}
 use Rattle.srm_outbox.specs.Outbox.{NothingWent}
 
 -- a tick pops until nothing comes
@@ -21,8 +21,8 @@ something_went : NothingWent (record { outs = []; noted = Data first_drawop ∷ 
 something_went h = let k : Data first_drawop ∷ [] ≡ [] = h.noted in absurd (cc)
 
 -- a session message doesn't wait for the bucket
-no_session_message : (me sent : ℕ) → IsAnswerOf me (Session me sent false first_page [] []) → ⊥
+no_session_message : (me sent : ℕ) → MayHandIn me (Session me sent false first_page [] []) → ⊥
 no_session_message me sent h = let k : true ≡ false = h.charged in absurd (cc)
 
-nor_another_s_data : IsAnswerOf 1 (Data first_drawop) → ⊥
+nor_another_s_data : MayHandIn 1 (Data first_drawop) → ⊥
 nor_another_s_data h = let k : 0 ≡ 1 = h.sender in absurd (omega (arith, k))

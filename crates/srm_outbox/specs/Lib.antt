@@ -1,4 +1,4 @@
 pub mod Outs
-pub mod Answering
+pub mod DueItems
 pub mod Outbox
 pub mod Examples

@@ -8,11 +8,11 @@ use Rattle.srm_bucket.specs.Fits.{Fits}
 use Rattle.srm_bucket.specs.Law.{may_go}
 use Rattle.srm_bucket.specs.Waiting.{count_of}
 use Rattle.srm_entries.specs.Bucket.{pops}
-use Rattle.srm_outbox.specs.declared.answers.Answer.{Answer}
+use Rattle.srm_outbox.specs.declared.due_items.DueItem.{DueItem}
 use Rattle.srm_outbox.specs.declared.out.Out.{Out}
 use Rattle.srm_outbox.specs.declared.out.Outgoing.{Outgoing}
 use Rattle.srm_outbox.specs.Outs.{IsOwn, AreOwn}
-use Rattle.srm_outbox.specs.Answering.{classed_of}
+use Rattle.srm_outbox.specs.DueItems.{classed_of}
 
 -- what went, and for how much more there is room
 pub record WentContent : Type 0 where
@@ -25,10 +25,10 @@ pub record NothingWent (w : WentContent) : Type 0 where
   pub noted : w.noted ≡ []
 
 -- these answers were handed in, in order
-pub record HandsIn (answers : List Answer) (old new : BucketContent Outgoing) : Type 0 where
-  pub fits : (rate depth : ℕ) (calls : List (Call Outgoing)) → Fits rate depth calls old → Fits rate depth (calls ++ map Handed (map classed_of answers)) new
-  pub own : (me session : ℕ) → AreOwn me session old.waiting → AllByRecursion (λ a. IsOwn me session a.item.value) answers → AreOwn me session new.waiting
-  pub count : count_of new.waiting ≡ count_of old.waiting + length answers
+pub record HandsIn (due_items : List DueItem) (old new : BucketContent Outgoing) : Type 0 where
+  pub fits : (rate depth : ℕ) (calls : List (Call Outgoing)) → Fits rate depth calls old → Fits rate depth (calls ++ map Handed (map classed_of due_items)) new
+  pub own : (me session : ℕ) → AreOwn me session old.waiting → AllByRecursion (λ a. IsOwn me session a.item.value) due_items → AreOwn me session new.waiting
+  pub count : count_of new.waiting ≡ count_of old.waiting + length due_items
 
 -- the calls so far are followed by pops in which these went
 pub record Goes (rate depth now : ℕ) (calls : List (Call Outgoing)) (items : List Outgoing) (new : BucketContent Outgoing) : Type 0 where

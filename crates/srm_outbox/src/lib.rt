@@ -6,7 +6,7 @@
 //! It is for `srm_agent`, and nothing else needs it.
 //!
 //! ```
-//! let answers = answering(alloc, me, &store, &asks, &fixes)?;
+//! let answers = requests_and_repairs(alloc, me, &store, &asks, &fixes)?;
 //! let answers = spelled(alloc, me, session, &showing, answers)?;
 //! bucket.room(answers.len())?;
 //! hand_in(&mut bucket, answers);
@@ -16,11 +16,11 @@
 //! **What is refused.** All is refused for want of memory alone, before anything is handed in.
 #![tactic(auto)]
 
-mod answers;
+mod due_items;
 mod out;
 mod outbox;
 mod packing;
 
-pub use answers::{Answer, answering, spelled};
+pub use due_items::{DueItem, requests_and_repairs, spelled};
 pub use out::{Out, Outgoing};
 pub use outbox::{Went, hand_in, let_go, pass};

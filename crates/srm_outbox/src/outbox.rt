@@ -6,7 +6,7 @@ ghost use Rattle.srm_names.specs.declared.limits.TheConstants.{LATEST_MOMENT};
 ghost use Rattle.srm_bucket.specs.Waiting.{HasLength, count_of};
 ghost use Rattle.srm_outbox.specs.Outbox.{HandsIn, LetsGo, NothingWent, Passes};
 
-use crate::answers::Answer;
+use crate::due_items::DueItem;
 use crate::out::{Out, Outgoing};
 use srm_bucket::Bucket;
 use srm_codec::Datagram;
@@ -69,13 +69,13 @@ impl Went {
 }
 
 /// Hands in answers, for which the bucket has room.
-pub fn hand_in(bucket: &mut Bucket<Outgoing>, mut answers: VecDeque<Answer>)
-    requires room { length answers.items ≤ bucket.old.waiting.room }
-    requires lengths { AllByRecursion (λ answer. HasLength answer.item) answers.items }
-    ensures { HandsIn answers.items bucket.old bucket.new }
+pub fn hand_in(bucket: &mut Bucket<Outgoing>, mut due_items: VecDeque<DueItem>)
+    requires room { length due_items.items ≤ bucket.old.waiting.room }
+    requires lengths { AllByRecursion (λ due_item. HasLength due_item.item) due_items.items }
+    ensures { HandsIn due_items.items bucket.old bucket.new }
 {
-    while let Some(answer) = answers.pop_front() {
-        bucket.hand(answer.class, answer.item).unwrap();
+    while let Some(due_item) = due_items.pop_front() {
+        bucket.hand(due_item.class, due_item.item).unwrap();
     }
 }
 

@@ -6,7 +6,7 @@ ghost use Rattle.srm_names.specs.declared.limits.TheConstants.{DRAWOPS};
 ghost use Rattle.srm_names.specs.Names.{ascending, name_below};
 ghost use Rattle.srm_codec.specs.declared.datagram.Datagram.TheVariants.{Request};
 ghost use Rattle.srm_codec.specs.Spelling.{IsSpellable, is_name};
-ghost use Rattle.srm_outbox.specs.Answering.{IsAnswerOf};
+ghost use Rattle.srm_outbox.specs.DueItems.{MayHandIn};
 ghost use Rattle.srm_entries.specs.Packing.{is_covered, is_covered_by, mask_of, packed};
 
 use srm_codec::{Datagram, MASK_BITS};
@@ -23,7 +23,7 @@ pub(crate) fn packed(
 ) -> Result<VecDeque<Datagram>, AllocError>
     requires { ascending name_below asks.now ≡ true }
     ensures value { IfOk result (λ requests. requests.items ≡ packed me asks.now) }
-    ensures each { IfOk result (λ requests. AllByRecursion (IsAnswerOf me) requests.items) }
+    ensures each { IfOk result (λ requests. AllByRecursion (MayHandIn me) requests.items) }
 {
     let mut requests = VecDeque::new(alloc);
     let mut last: Option<Name> = None;

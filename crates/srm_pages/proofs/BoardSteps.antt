@@ -15,7 +15,7 @@ use Rattle.srm_pages.proofs.Views.{all_set, all_one, snoc_cases}
 use Rattle.srm_names.specs.declared.limits.TheConstants.{MEMBERS}
 use Rattle.srm_pages.proofs.Shown.{order_alike}
 use Rattle.srm_pages.specs.declared.board.TheConstants.{BOARD_REGISTERS, STRIDE}
-use Rattle.srm_pages.specs.Board.{count_register, number_register, total, drawops_posted, CountsPosted, board_view, zeros, dealer, watcher, with_seen, FitsBoard, IsBoardState, BoardState, Raised, Looked}
+use Rattle.srm_pages.specs.Board.{count_register, number_register, total, drawops_posted, CountsPosted, board_view, zeros, dealer, looking, with_seen, FitsBoard, IsBoardState, BoardState, Raised, Looked}
 
 replicate_zero : (n i : ℕ) → get_or {A = ℕ} (replicate n 0) i 0 ≡ 0
 replicate_zero zero i = refl
@@ -189,7 +189,7 @@ next_tap id v deals s h at =
     }
 
 -- any seat cuts off the seat of one who only looks
-pub watches : (id : ℕ) (v : BoardView) → Splits BoardState id v v watcher
+pub watches : (id : ℕ) (v : BoardView) → Splits BoardState id v v looking
 watches id v s h at =
     record {
       seat = h.seat;
@@ -200,7 +200,7 @@ watches id v s h at =
       blank = h.blank;
       fits = λ j u e. ⊎_elim
           (λ f. h.fits j u (subst (λ (l : List BoardView). get_elem? l j ≡ some u) (set_again s.views id v at) f))
-          (λ (t : (j ≡ length (set s.views id v)) × (watcher ≡ u)). subst (λ (w : BoardView). FitsBoard h.seat h.dealt s.words j w) t.1
+          (λ (t : (j ≡ length (set s.views id v)) × (looking ≡ u)). subst (λ (w : BoardView). FitsBoard h.seat h.dealt s.words j w) t.1
           record {
             sized = zeros_length;
             bound = λ i. let z = zeros_at i in omega arith;
@@ -208,7 +208,7 @@ watches id v s h at =
             exact = λ d. absurd (true≢false (sym d));
             dealer = λ d. absurd (true≢false (sym d));
           })
-          (snoc_cases (set s.views id v) watcher u j e);
+          (snoc_cases (set s.views id v) looking u j e);
     }
 
 -- a word of the board lies in the table

@@ -38,8 +38,8 @@ zeros = replicate BOARD_REGISTERS 0
 abbrev pub dealer : BoardView
 dealer = board_view false 0 true 0 zeros
 
-abbrev pub watcher : BoardView
-watcher = board_view false 0 false 0 zeros
+abbrev pub looking : BoardView
+looking = board_view false 0 false 0 zeros
 
 -- after the number n was seen in the word i, or stored there
 abbrev pub with_seen : BoardView → ℕ → ℕ → BoardView

@@ -11,7 +11,7 @@ use Rattle.srm_pages.specs.declared.lane.LaneView.{LaneView}
 use Rattle.srm_pages.specs.declared.stroke.Stroke.{Stroke}
 use Rattle.srm_pages.specs.declared.tap.Ended.{Ended}
 use Rattle.srm_pages.specs.declared.tap.Ended.TheVariants.{Closed}
-use Rattle.srm_pages.specs.Seats.{LookoutView, CountsTaken, new_sight}
+use Rattle.srm_pages.specs.Seats.{LookoutView, CountsTaken, new_lookout}
 
 -- Which lane it is, by the two tables of its channel, and how many messages it holds at most
 pub record LaneId : Type 0 where
@@ -66,7 +66,7 @@ pub record AreNewLanes (board : TableId) (feeds : List FeedView) (taps : List Ta
 abbrev pub AreLanes : ℕ → List FeedView → List TapView → List LookoutView → Type 0
 AreLanes asked feeds taps viewers =
     (board : TableId) × (length feeds ≡ PAGES) × (length taps ≡ PAGES) × AreNewLanes board feeds taps
-    × (length viewers ≡ asked) × All (λ v. v ≡ new_sight board) viewers
+    × (length viewers ≡ asked) × All (λ v. v ≡ new_lookout board) viewers
 
 -- at Ok the message stands behind those taken, at Err nothing changed, and the lane is at its end
 abbrev pub TookOrEnded : Result PageMsg Ended → TapView → TapView → Type 0

@@ -23,11 +23,11 @@ pub record DealerView : Type 0 where
   pub next : ℕ
   pub board : TableId
 
-abbrev pub new_sight : TableId → LookoutView
-new_sight board = record { seen = zeros; board = board }
+abbrev pub new_lookout : TableId → LookoutView
+new_lookout board = record { seen = zeros; board = board }
 
-abbrev pub new_mark : ℕ → TableId → MarkerView
-new_mark slot board = record { seat = zeros; slot = slot; board = board }
+abbrev pub new_marker : ℕ → TableId → MarkerView
+new_marker slot board = record { seat = zeros; slot = slot; board = board }
 
 -- the words of the slot count the list: all its messages, and the drawops of each member
 pub record CountsTaken (seat : List ℕ) (slot : ℕ) (taken : List PageMsg) : Type 0 where

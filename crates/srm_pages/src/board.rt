@@ -65,14 +65,14 @@ impl Split<BoardView> for NextTap {
 }
 
 /// Cuts off the seat of one who only looks.
-pub struct Watcher;
+pub struct NextLookout;
 
-impl Split<BoardView> for Watcher {
-    ghost use Rattle.srm_pages.specs.Board.{watcher};
+impl Split<BoardView> for NextLookout {
+    ghost use Rattle.srm_pages.specs.Board.{looking};
 
     ghost left = { λ v. v };
 
-    ghost right = { λ v. watcher };
+    ghost right = { λ v. looking };
 }
 
 /// What a store tells its tap: the word is the number stored.

@@ -2,9 +2,9 @@
 
 ghost use Rattle.std.specs.Prelude.{◌≡◌, ◌+◌, ◌<◌, IfOk, OnOk};
 ghost use Rattle.srm_names.specs.declared.limits.TheConstants.{PAGES};
-ghost use Rattle.srm_pages.specs.Seats.{new_mark, new_sight};
+ghost use Rattle.srm_pages.specs.Seats.{new_marker, new_lookout};
 
-use crate::board::{BOARD_REGISTERS, Board, BoardSeat, NextTap, Watcher};
+use crate::board::{BOARD_REGISTERS, Board, BoardSeat, NextLookout, NextTap};
 use crate::lookout::Lookout;
 use crate::marker::Marker;
 use std::alloc::{AllocError, Global};
@@ -50,7 +50,7 @@ impl Dealer {
     pub fn marker(&mut self, slot: u8) -> Result<Marker, AllocError>
         requires { (slot ≡ self.old.next) × (slot < PAGES) }
         ensures dealer { OnOk result (self.new ≡ record self.old { next = self.old.next + 1 }) }
-        ensures marker { IfOk result (λ m. m ≡ new_mark slot self.old.board) }
+        ensures marker { IfOk result (λ m. m ≡ new_marker slot self.old.board) }
     {
         let board = Arc::try_clone(&self.board)?;
         let seat = self.board.shared.split_seat::<NextTap>(&mut self.seat);
@@ -60,16 +60,16 @@ impl Dealer {
     /// The seat of one who only looks.
     pub fn lookout(&mut self) -> Result<Lookout, AllocError>
         ensures dealer { self.new ≡ self.old }
-        ensures lookout { IfOk result (λ l. l ≡ new_sight self.old.board) }
+        ensures lookout { IfOk result (λ l. l ≡ new_lookout self.old.board) }
     {
         let board = Arc::try_clone(&self.board)?;
-        let seat = self.board.shared.split_seat::<Watcher>(&mut self.seat);
+        let seat = self.board.shared.split_seat::<NextLookout>(&mut self.seat);
         Ok(Lookout { board, seat })
     }
 
     /// This seat itself as the last one, which deals no more.
     pub fn into_lookout(self) -> Lookout
-        ensures { result ≡ new_sight self.board }
+        ensures { result ≡ new_lookout self.board }
     {
         let Dealer { board, seat } = self;
         Lookout { board, seat }

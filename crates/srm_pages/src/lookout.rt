@@ -8,7 +8,7 @@ use std::alloc::Global;
 use std::marker::Model;
 use std::sync::Arc;
 
-/// A seat at the board that only looks. Contracts see what it last saw in each word.
+/// A seat at the board that only looks. Contracts see what it last saw in each register.
 #[derive(Drop)]
 pub struct Lookout {
     pub(crate) board: Arc<Board, Global>,
@@ -30,14 +30,14 @@ impl Model for Lookout {
 }
 
 impl Lookout {
-    /// The number in a word, which is never below one seen there before.
-    pub fn look(&mut self, word: usize) -> u64
-        requires { word < BOARD_REGISTERS }
-        ensures seen { self.new ≡ record self.old { seen = slice_set self.old.seen word result } }
-        ensures there { slice_index self.new.seen word ≡ result }
-        ensures rises { slice_index self.old.seen word ≤ result }
-        ensures narrow { word % STRIDE ≢ 0 → result < 2 ^ 32 }
+    /// The number in a register, which is never below one seen there before.
+    pub fn look(&mut self, register: usize) -> u64
+        requires { register < BOARD_REGISTERS }
+        ensures seen { self.new ≡ record self.old { seen = slice_set self.old.seen register result } }
+        ensures there { slice_index self.new.seen register ≡ result }
+        ensures rises { slice_index self.old.seen register ≤ result }
+        ensures narrow { register % STRIDE ≢ 0 → result < 2 ^ 32 }
     {
-        self.board.shared.load::<Looks>(&mut self.seat, word)
+        self.board.shared.load::<Looks>(&mut self.seat, register)
     }
 }

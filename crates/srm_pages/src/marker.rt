@@ -13,7 +13,7 @@ use std::alloc::Global;
 use std::marker::Model;
 use std::sync::Arc;
 
-/// The seat of a slot's tap at the board. Contracts see what it stored in each word.
+/// The seat of a slot's tap at the board. Contracts see what it stored in each register.
 #[derive(Drop)]
 pub struct Marker {
     pub(crate) board: Arc<Board, Global>,
@@ -44,7 +44,7 @@ impl Marker {
         self.slot
     }
 
-    /// Stores how many messages were taken. The tap's pass, which has no bytes, shows that they were: the word is never raised before.
+    /// Stores how many messages were taken. The tap's pass, which has no bytes, shows that they were: the register is never raised before.
     pub fn count(&mut self, pass: &LanePass, count: u64)
         requires taken { count ≤ length (knows pass.now).taken }
         requires rises { slice_index self.old.seat (count_register self.old.slot) ≤ count }
@@ -70,16 +70,16 @@ impl Marker {
     }
 
     // Stores a number that isn't below the one there.
-    fn raise(&mut self, word: usize, number: u64)
-        requires mine { (word < BOARD_REGISTERS) × (word / STRIDE ≡ self.old.slot) }
-        requires rises { slice_index self.old.seat word ≤ number }
-        requires narrow { word % STRIDE ≢ 0 → number < 2 ^ 32 }
-        requires order { CountsPosted (slice_set self.old.seat word number) self.old.slot }
-        ensures seat { self.new ≡ record self.old { seat = slice_set self.old.seat word number } }
-        ensures there { slice_index self.new.seat word ≡ number }
+    fn raise(&mut self, register: usize, number: u64)
+        requires mine { (register < BOARD_REGISTERS) × (register / STRIDE ≡ self.old.slot) }
+        requires rises { slice_index self.old.seat register ≤ number }
+        requires narrow { register % STRIDE ≢ 0 → number < 2 ^ 32 }
+        requires order { CountsPosted (slice_set self.old.seat register number) self.old.slot }
+        ensures seat { self.new ≡ record self.old { seat = slice_set self.old.seat register number } }
+        ensures there { slice_index self.new.seat register ≡ number }
     {
         self.board
             .shared
-            .store::<Raises>(&mut self.seat, word, number);
+            .store::<Raises>(&mut self.seat, register, number);
     }
 }

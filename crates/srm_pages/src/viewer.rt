@@ -9,7 +9,7 @@ use crate::lookout::Lookout;
 use srm_names::Member;
 use std::marker::Model;
 
-/// One who looks at the board, in a thread of its own. Contracts see what it last saw in each word.
+/// One who looks at the board, in a thread of its own. Contracts see what it last saw in each register.
 #[derive(Drop)]
 pub struct Viewer {
     pub(crate) lookout: Lookout,

@@ -57,7 +57,7 @@ abbrev pub coming_in : ℕ × Entry → List Point
 coming_in r = if something_comes r.1.input then point_of r ∷ [] else []
 
 -- each is a hearing, and each entry in which something came has one, in order
-pub record AreHearings (es : List Entry) (hs : List Arrival) : Type 0 where
+pub record AreArrivals (es : List Entry) (hs : List Arrival) : Type 0 where
   pub each : AllByRecursion (IsArrival es) hs
   pub places : map (λ (h : Arrival). h.at) hs ≡ by_entry coming_in es
 
@@ -67,8 +67,8 @@ arrow_end h = if h.accepted then Accepted h.at else Ignored h.at
 abbrev pub arrow_to : ℕ × Launch → Arrival → Arrow
 arrow_to p h = record { number = p.0; launch = p.1; end = arrow_end h }
 
-abbrev pub hearings_of : ℕ → List Arrival → List Arrival
-hearings_of n hs = filter (λ (h : Arrival). h.number == n) hs
+abbrev pub arrivals_of : ℕ → List Arrival → List Arrival
+arrivals_of n hs = filter (λ (h : Arrival). h.number == n) hs
 
 -- where there is none, one to nobody
 abbrev pub or_lost : ℕ × Launch → List Arrow → List Arrow
@@ -77,7 +77,7 @@ or_lost p (a ∷ arrows) = a ∷ arrows
 
 -- a datagram's arrows: one to each hearing, or one to nobody where it never came
 abbrev pub arrows_of : List Arrival → ℕ × Launch → List Arrow
-arrows_of hs p = or_lost p (map (arrow_to p) (hearings_of p.0 hs))
+arrows_of hs p = or_lost p (map (arrow_to p) (arrivals_of p.0 hs))
 
 abbrev pub arrows_in : List Launch → List Arrival → List Arrow
 arrows_in ls hs = by_entry (arrows_of hs) ls

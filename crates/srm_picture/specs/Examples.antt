@@ -5,10 +5,10 @@ use Rattle.srm_entries.specs.declared.kind.DatagramKind.TheVariants.{Data, Reque
 use Rattle.srm_picture.specs.declared.arrow.Launch.{Launch}
 use Rattle.srm_picture.specs.declared.arrow.Arrival.{Arrival}
 use Rattle.srm_picture.specs.declared.arrow.ArrowEnd.TheVariants.{Accepted, Ignored, Lost}
-use Rattle.srm_picture.specs.declared.tick.LocalActionKind.TheVariants.{Gave, Other}
+use Rattle.srm_picture.specs.declared.action.LocalActionKind.TheVariants.{Gave, Other}
 use Rattle.srm_picture.specs.Arrows.{arrows_in}
 use Rattle.srm_picture.specs.Escaping.{escaped}
-use Rattle.srm_picture.specs.Ticks.{message_kind}
+use Rattle.srm_picture.specs.Actions.{message_kind}
 
 -- entry 3 of member 0 sends data and a request
 abbrev stroke : Launch

@@ -4,4 +4,4 @@ pub mod Escaping
 pub mod Examples
 pub mod Pictures
 pub mod Rows
-pub mod Ticks
+pub mod Actions

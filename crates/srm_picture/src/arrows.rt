@@ -2,7 +2,7 @@
 
 ghost use Rattle.std.specs.Prelude.{◌≡◌, map, IfOk};
 ghost use Rattle.std.specs.List.{enumerate_from};
-ghost use Rattle.srm_picture.specs.Arrows.{arrow_to, arrows_in, arrows_of as arrows_for, arrow_end as end_at, hearings_of, launch, launches_in};
+ghost use Rattle.srm_picture.specs.Arrows.{arrow_to, arrows_in, arrows_of as arrows_for, arrow_end as end_at, arrivals_of, launch, launches_in};
 
 use crate::arrow::{Arrival, Arrow, ArrowEnd, Launch};
 use crate::point::Point;
@@ -50,13 +50,13 @@ fn launch_of(from: &Point, nth: usize, datagram: &Datagram) -> Launch
 pub(crate) fn arrows(
     alloc: Global,
     launches: &[Launch],
-    hearings: &[Arrival],
+    arrivals: &[Arrival],
 ) -> Result<Vec<Arrow>, AllocError>
-    ensures { IfOk result (λ arrows. arrows.items ≡ arrows_in launches.now hearings.now) }
+    ensures { IfOk result (λ arrows. arrows.items ≡ arrows_in launches.now arrivals.now) }
 {
     let mut arrows = Vec::new(alloc);
     for (number, launch) in launches.iter().enumerate() {
-        arrows.append(&mut arrows_of(alloc, number, launch, hearings)?)?;
+        arrows.append(&mut arrows_of(alloc, number, launch, arrivals)?)?;
     }
     Ok(arrows)
 }
@@ -66,11 +66,11 @@ fn arrows_of(
     alloc: Global,
     number: usize,
     launch: &Launch,
-    hearings: &[Arrival],
+    arrivals: &[Arrival],
 ) -> Result<Vec<Arrow>, AllocError>
-    ensures { IfOk result (λ arrows. arrows.items ≡ arrows_for hearings.now (number, launch.now)) }
+    ensures { IfOk result (λ arrows. arrows.items ≡ arrows_for arrivals.now (number, launch.now)) }
 {
-    let mut arrows = reaching(alloc, number, launch, hearings)?;
+    let mut arrows = reaching(alloc, number, launch, arrivals)?;
     if arrows.is_empty() {
         arrows.push(Arrow {
             number,
@@ -86,11 +86,11 @@ fn reaching(
     alloc: Global,
     number: usize,
     launch: &Launch,
-    hearings: &[Arrival],
+    arrivals: &[Arrival],
 ) -> Result<Vec<Arrow>, AllocError>
-    ensures { IfOk result (λ arrows. arrows.items ≡ map (arrow_to (number, launch.now)) (hearings_of number hearings.now)) }
+    ensures { IfOk result (λ arrows. arrows.items ≡ map (arrow_to (number, launch.now)) (arrivals_of number arrivals.now)) }
 {
-    hearings
+    arrivals
         .iter()
         .filter(|hearing| hearing.number == number)
         .map(|hearing| Arrow {

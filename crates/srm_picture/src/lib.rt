@@ -1,7 +1,7 @@
 //! Pictures of sessions: a lifeline for each member, time downwards, and each datagram an arrow.
 //!
 //! ```
-//! let picture = Picture::of(alloc, entries, hearings)?;
+//! let picture = Picture::of(alloc, entries, arrivals)?;
 //! write_svg(alloc, &mut out, &Subject { members: 2, entries, lines }, &picture)?;
 //! ```
 //!
@@ -11,6 +11,7 @@
 //! **What is refused.** Want of memory, and what the output refuses.
 #![tactic(auto)]
 
+mod action;
 mod arrow;
 mod arrows;
 mod bracket;
@@ -21,8 +22,8 @@ mod picture;
 mod plan;
 mod point;
 mod subject;
-mod tick;
 
+pub use action::{LocalAction, LocalActionKind};
 pub use arrow::{Arrival, Arrow, ArrowEnd, Launch};
 pub use bracket::{Bracket, BracketEnd, TimerEnd};
 pub use drawing::write_svg;
@@ -31,4 +32,3 @@ pub use picture::Picture;
 pub use point::Point;
 pub use srm_entries::DatagramKind;
 pub use subject::Subject;
-pub use tick::{LocalAction, LocalActionKind};

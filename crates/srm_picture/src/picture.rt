@@ -3,11 +3,11 @@
 ghost use Rattle.std.specs.Prelude.{IfOk};
 ghost use Rattle.srm_picture.specs.Pictures.{Depicts};
 
+use crate::action::{LocalAction, actions};
 use crate::arrow::{Arrival, Arrow};
 use crate::arrows::{arrows, launches};
 use crate::bracket::Bracket;
 use crate::brackets::brackets;
-use crate::tick::{LocalAction, ticks};
 use srm_entries::Entry;
 use std::alloc::{AllocError, Global};
 
@@ -19,19 +19,19 @@ pub struct Picture {
     /// In the order in which the timers were set.
     pub brackets: Vec<Bracket>,
     /// In the order of the entries.
-    pub ticks: Vec<LocalAction>,
+    pub actions: Vec<LocalAction>,
 }
 
 impl Picture {
     /// The picture of what happened, in which these datagrams came. Only want of memory refuses it.
-    pub fn of(alloc: Global, entries: &[Entry], hearings: &[Arrival]) -> Result<Picture, AllocError>
-        ensures { IfOk result (Depicts entries.now hearings.now) }
+    pub fn of(alloc: Global, entries: &[Entry], arrivals: &[Arrival]) -> Result<Picture, AllocError>
+        ensures { IfOk result (Depicts entries.now arrivals.now) }
     {
         let launches = launches(alloc, entries)?;
         Ok(Picture {
-            arrows: arrows(alloc, launches.as_slice(), hearings)?,
+            arrows: arrows(alloc, launches.as_slice(), arrivals)?,
             brackets: brackets(alloc, entries)?,
-            ticks: ticks(alloc, entries)?,
+            actions: actions(alloc, entries)?,
         })
     }
 }

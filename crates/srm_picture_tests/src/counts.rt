@@ -15,7 +15,7 @@ pub(crate) struct Counts {
     /// Timers that ran out, backed off, were cancelled, and still run.
     pub brackets: [usize; 4],
     /// Drawops drawn, given and taken, other things, and members gone.
-    pub ticks: [usize; 5],
+    pub actions: [usize; 5],
 }
 
 /// The counts of a script's picture.
@@ -35,12 +35,12 @@ pub(crate) fn counts_of(alloc: Global, script: &str) -> Result<Counts, PictureFa
             brackets(&picture, Some(TimerEnd::Cancelled)),
             brackets(&picture, None),
         ],
-        ticks: [
-            ticks(&picture, LocalActionKind::Drew),
-            ticks(&picture, LocalActionKind::Gave),
-            ticks(&picture, LocalActionKind::Took),
-            ticks(&picture, LocalActionKind::Other),
-            ticks(&picture, LocalActionKind::Gone),
+        actions: [
+            actions(&picture, LocalActionKind::Drew),
+            actions(&picture, LocalActionKind::Gave),
+            actions(&picture, LocalActionKind::Took),
+            actions(&picture, LocalActionKind::Other),
+            actions(&picture, LocalActionKind::Gone),
         ],
     })
 }
@@ -82,10 +82,10 @@ fn brackets(picture: &Picture, ending: Option<TimerEnd>) -> usize {
         .count()
 }
 
-fn ticks(picture: &Picture, kind: LocalActionKind) -> usize {
+fn actions(picture: &Picture, kind: LocalActionKind) -> usize {
     picture
-        .ticks
+        .actions
         .iter()
-        .filter(|tick| tick.kind == kind)
+        .filter(|action| action.kind == kind)
         .count()
 }

@@ -11,7 +11,7 @@ const WORKED: &[(&str, Counts)] = &[
             arrows: [3, 0, 0, 0],
             crosses: [0, 1],
             brackets: [0, 0, 0, 1],
-            ticks: [3, 1, 1, 2, 0],
+            actions: [3, 1, 1, 2, 0],
         },
     ),
     // The second stroke comes twice; the timer for the first is cancelled as it comes.
@@ -21,7 +21,7 @@ const WORKED: &[(&str, Counts)] = &[
             arrows: [3, 0, 0, 0],
             crosses: [0, 0],
             brackets: [0, 0, 1, 0],
-            ticks: [2, 2, 0, 1, 0],
+            actions: [2, 2, 0, 1, 0],
         },
     ),
     // The second stroke and the session message of member 1 are never delivered. Its request timer runs out, the next is cancelled.
@@ -31,7 +31,7 @@ const WORKED: &[(&str, Counts)] = &[
             arrows: [2, 1, 1, 2],
             crosses: [0, 2],
             brackets: [2, 0, 1, 0],
-            ticks: [2, 2, 0, 1, 0],
+            actions: [2, 2, 0, 1, 0],
         },
     ),
     // Data 0 and 2 come to both others and data 1 to one of them, the farewell, the request and the repair to one each.
@@ -41,7 +41,7 @@ const WORKED: &[(&str, Counts)] = &[
             arrows: [5, 1, 1, 1],
             crosses: [0, 0],
             brackets: [2, 0, 1, 0],
-            ticks: [3, 3, 0, 3, 1],
+            actions: [3, 3, 0, 3, 1],
         },
     ),
     (
@@ -50,7 +50,7 @@ const WORKED: &[(&str, Counts)] = &[
             arrows: [3, 0, 0, 0],
             crosses: [0, 0],
             brackets: [0, 0, 0, 0],
-            ticks: [3, 3, 0, 4, 0],
+            actions: [3, 3, 0, 4, 0],
         },
     ),
     // Data 0 and 2 come to both others, data 1 to nobody. The request comes to the other that misses it, which backs off, and to the source,
@@ -61,7 +61,7 @@ const WORKED: &[(&str, Counts)] = &[
             arrows: [5, 2, 0, 0],
             crosses: [0, 1],
             brackets: [1, 1, 0, 3],
-            ticks: [3, 0, 0, 0, 0],
+            actions: [3, 0, 0, 0, 0],
         },
     ),
     // The stroke is ignored twice, the farewell never delivered. Beside the strokes stand the leaving and the refusal.
@@ -71,7 +71,7 @@ const WORKED: &[(&str, Counts)] = &[
             arrows: [2, 0, 0, 1],
             crosses: [2, 1],
             brackets: [0, 0, 0, 0],
-            ticks: [1, 0, 0, 2, 1],
+            actions: [1, 0, 0, 2, 1],
         },
     ),
 ];

@@ -21,9 +21,9 @@ use Rattle.srm_world.specs.Events.{required_input, input_heard, input_of, in_slo
 use Rattle.srm_picture.specs.declared.arrow.Arrival.{Arrival}
 use Rattle.srm_picture.specs.declared.point.Point.{Point}
 use Rattle.srm_picture.specs.Rows.{by_entry, point_of}
-use Rattle.srm_picture.specs.Arrows.{IsComing, IsArrival, AreHearings, something_comes, coming_in}
+use Rattle.srm_picture.specs.Arrows.{IsComing, IsArrival, AreArrivals, something_comes, coming_in}
 use Rattle.srm_picture.proofs.Rows.{enumerate_from-append}
-use Rattle.srm_played.specs.Plays.{came, hearing_in, delivered_number}
+use Rattle.srm_played.specs.Plays.{came, arrival_in, delivered_number}
 
 length-steps_after : {X : Type 0} (before xs : List X) → length (steps_after before xs) ≡ length xs
 length-steps_after before [] = refl
@@ -133,29 +133,29 @@ come_one row e some = ap (λ b. cond b (point_of (row, e) ∷ []) []) some
 come_none : (row : ℕ) (e : Entry) → something_comes e.input ≡ false → coming_in (row, e) ≡ []
 come_none row e none = ap (λ b. cond b (point_of (row, e) ∷ []) []) none
 
-right_one : (es : List Entry) (e : Entry) (hs : List Arrival) (number : ℕ) → Brings es number e.input → AreHearings es hs → AreHearings (es ++ e ∷ []) (hs ++ hearing_in (length es, e) number ∷ [])
+right_one : (es : List Entry) (e : Entry) (hs : List Arrival) (number : ℕ) → Brings es number e.input → AreArrivals es hs → AreArrivals (es ++ e ∷ []) (hs ++ arrival_in (length es, e) number ∷ [])
 right_one es e hs number b all = record {
-  each = AllByRecursion-append (IsArrival (es ++ e ∷ [])) hs (hearing_in (length es, e) number ∷ []) (all_still es e hs all.each) (newest, tt);
-  places = map-append (λ (x : Arrival). x.at) hs (hearing_in (length es, e) number ∷ []) ∙ ap (λ ps. ps ++ point_of (length es, e) ∷ []) all.places
+  each = AllByRecursion-append (IsArrival (es ++ e ∷ [])) hs (arrival_in (length es, e) number ∷ []) (all_still es e hs all.each) (newest, tt);
+  places = map-append (λ (x : Arrival). x.at) hs (arrival_in (length es, e) number ∷ []) ∙ ap (λ ps. ps ++ point_of (length es, e) ∷ []) all.places
       ∙ ap (λ ps. by_entry coming_in es ++ ps) (sym (come_one (length es) e b.something)) ∙ sym (comings-snoc es e);
 }
   where
-    newest : IsArrival (es ++ e ∷ []) (hearing_in (length es, e) number)
+    newest : IsArrival (es ++ e ∷ []) (arrival_in (length es, e) number)
     newest = record { step = record { before = es; this = e }; datagram = b.datagram; at = newest_step es e; member = refl; sent = b.sent; comes = b.comes; accepted = refl }
 
-right_none : (es : List Entry) (e : Entry) (hs : List Arrival) → something_comes e.input ≡ false → AreHearings es hs → AreHearings (es ++ e ∷ []) (hs ++ [])
+right_none : (es : List Entry) (e : Entry) (hs : List Arrival) → something_comes e.input ≡ false → AreArrivals es hs → AreArrivals (es ++ e ∷ []) (hs ++ [])
 right_none es e hs none all = record {
   each = AllByRecursion-append (IsArrival (es ++ e ∷ [])) hs [] (all_still es e hs all.each) tt;
   places = ap (map (λ (x : Arrival). x.at)) (append-nil hs) ∙ all.places ∙ sym (comings-snoc es e ∙ ap (λ ps. by_entry coming_in es ++ ps) (come_none (length es) e none) ∙ append-nil (by_entry coming_in es));
 }
 
 -- an event that left an entry
-pub right_more : (starts : List Start) (es : List Entry) (event : Event) (e : Entry) (hs : List Arrival) → required_input starts es event ≡ Some e.input → AreHearings es hs → AreHearings (es ++ e ∷ []) (hs ++ came (delivered_number event) (length es, e))
+pub right_more : (starts : List Start) (es : List Entry) (event : Event) (e : Entry) (hs : List Arrival) → required_input starts es event ≡ Some e.input → AreArrivals es hs → AreArrivals (es ++ e ∷ []) (hs ++ came (delivered_number event) (length es, e))
 right_more starts es event e hs asks all = which (delivered_number event) refl
   where
     asks_it : input_of es event ≡ Some e.input
     asks_it = asked_input starts es event e.input asks
 
-    which : (o : Option ℕ) → delivered_number event ≡ o → AreHearings (es ++ e ∷ []) (hs ++ came o (length es, e))
+    which : (o : Option ℕ) → delivered_number event ≡ o → AreArrivals (es ++ e ∷ []) (hs ++ came o (length es, e))
     which (Some number) is = right_one es e hs number (brings es event number e.input is asks_it) all
     which None is = right_none es e hs (quiet es event e.input is asks_it) all

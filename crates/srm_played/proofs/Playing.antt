@@ -9,7 +9,7 @@ use Rattle.srm_world.specs.declared.event.Event.{Event}
 use Rattle.srm_world.specs.Traces.{Trace}
 use Rattle.srm_world.specs.Events.{IsEntryOf, required_input}
 use Rattle.srm_picture.specs.declared.arrow.Arrival.{Arrival}
-use Rattle.srm_picture.specs.Arrows.{AreHearings}
+use Rattle.srm_picture.specs.Arrows.{AreArrivals}
 use Rattle.srm_played.specs.Plays.{Content, Plays, PlaysOne, added, came, delivered_number}
 use Rattle.srm_played.proofs.Coming.{right_more}
 
@@ -28,20 +28,20 @@ one_added es e = ap (enumerate_from (length es)) (drop_front es)
     drop_front (x ∷ xs) = drop_front xs
 
 -- after an event each hearing is right still
-pub right_after : (old new : Trace) (event : Event) (hs heard : List Arrival) → PlaysOne (record { trace = old; hearings = hs }) event (record { trace = new; hearings = heard }) → AreHearings old.entries hs → AreHearings new.entries heard
+pub right_after : (old new : Trace) (event : Event) (hs heard : List Arrival) → PlaysOne (record { trace = old; arrivals = hs }) event (record { trace = new; arrivals = heard }) → AreArrivals old.entries hs → AreArrivals new.entries heard
 right_after old new event hs heard one all = which (required_input old.starts old.entries event) refl one.follows
   where
     which : (o : Option Input) → required_input old.starts old.entries event ≡ o
         → MatchOption o (new.entries ≡ old.entries) (λ input. (e : Entry) × IsEntryOf old.starts old.entries event input e × (new.entries ≡ old.entries ++ e ∷ []))
-        → AreHearings new.entries heard
+        → AreArrivals new.entries heard
     which None a same =
-        let quiet : heard ≡ hs = one.hearings ∙ ap (λ rs. hs ++ flat_map (came (delivered_number event)) rs) (ap (added old.entries) same ∙ none_added old.entries) ∙ append-nil hs in
-        subst (λ xs. AreHearings new.entries xs) (sym quiet) (subst (λ es. AreHearings es hs) (sym same) all)
+        let quiet : heard ≡ hs = one.arrivals ∙ ap (λ rs. hs ++ flat_map (came (delivered_number event)) rs) (ap (added old.entries) same ∙ none_added old.entries) ∙ append-nil hs in
+        subst (λ xs. AreArrivals new.entries xs) (sym quiet) (subst (λ es. AreArrivals es hs) (sym same) all)
     which (Some input) a (e, is, grown) =
         let more : heard ≡ hs ++ came (delivered_number event) (length old.entries, e) =
-        one.hearings ∙ ap (λ rs. hs ++ flat_map (came (delivered_number event)) rs) (ap (added old.entries) grown ∙ one_added old.entries e) ∙ ap (λ xs. hs ++ xs) (append-nil (came (delivered_number event) (length old.entries, e))) in
-        subst (λ xs. AreHearings new.entries xs) (sym more)
-        (subst (λ es. AreHearings es (hs ++ came (delivered_number event) (length old.entries, e))) (sym grown) (right_more old.starts old.entries event e hs (a ∙ ap Some (sym is.input_is)) all))
+        one.arrivals ∙ ap (λ rs. hs ++ flat_map (came (delivered_number event)) rs) (ap (added old.entries) grown ∙ one_added old.entries e) ∙ ap (λ xs. hs ++ xs) (append-nil (came (delivered_number event) (length old.entries, e))) in
+        subst (λ xs. AreArrivals new.entries xs) (sym more)
+        (subst (λ es. AreArrivals es (hs ++ came (delivered_number event) (length old.entries, e))) (sym grown) (right_more old.starts old.entries event e hs (a ∙ ap Some (sym is.input_is)) all))
 
 -- whatever the events that are left come to from here, all events come to from the beginning
 pub record Reaches (begun : Content) (events : List Event) (now : Content) (left : List Event) : Type 0 where

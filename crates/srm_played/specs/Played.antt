@@ -1,11 +1,11 @@
 -- Scripts that were played.
-use Rattle.srm_picture.specs.Arrows.{AreHearings}
+use Rattle.srm_picture.specs.Arrows.{AreArrivals}
 use Rattle.srm_played.specs.declared.played.Played.TheInside.{Inside}
 use Rattle.srm_played.specs.Plays.{Content}
 
 abbrev pub content_of : Inside → Content
-content_of p = record { trace = p.world.trace; hearings = p.hearings.items }
+content_of p = record { trace = p.world.trace; arrivals = p.arrivals.items }
 
 -- each hearing is right
 abbrev pub IsPlayed : Inside → Type 0
-IsPlayed p = AreHearings p.world.trace.entries p.hearings.items
+IsPlayed p = AreArrivals p.world.trace.entries p.arrivals.items

@@ -14,11 +14,11 @@ use Rattle.srm_picture.specs.Arrows.{is_done}
 -- what happened, and which datagrams came in which entries
 pub record Content : Type 0 where
   pub trace : Trace
-  pub hearings : List Arrival
+  pub arrivals : List Arrival
 
 -- members that began so, and did nothing yet
 abbrev pub unplayed : List Start → Content
-unplayed starts = record { trace = record { starts = starts; entries = [] }; hearings = [] }
+unplayed starts = record { trace = record { starts = starts; entries = [] }; arrivals = [] }
 
 -- the number of the datagram that an event delivers
 abbrev pub delivered_number : Event → Option ℕ
@@ -26,12 +26,12 @@ delivered_number (Deliver member now index) = Some index
 delivered_number _ = None
 
 -- that the datagram with this number came in an entry
-abbrev pub hearing_in : ℕ × Entry → ℕ → Arrival
-hearing_in r number = record { number = number; at = point_of r; accepted = is_done r.1.verdict }
+abbrev pub arrival_in : ℕ × Entry → ℕ → Arrival
+arrival_in r number = record { number = number; at = point_of r; accepted = is_done r.1.verdict }
 
 -- what came in an entry, by the number that its event has
 abbrev pub came : Option ℕ → ℕ × Entry → List Arrival
-came number r = option_to_list (option_map (hearing_in r) number)
+came number r = option_to_list (option_map (arrival_in r) number)
 
 -- the new entries behind the old ones, each with its row
 abbrev pub added : List Entry → List Entry → List (ℕ × Entry)
@@ -41,7 +41,7 @@ added old new = enumerate_from (length old) (drop (length old) new)
 pub record PlaysOne (old : Content) (event : Event) (new : Content) : Type 0 where
   pub starts : new.trace.starts ≡ old.trace.starts
   pub follows : FollowsOne old.trace.starts old.trace.entries event new.trace.entries
-  pub hearings : new.hearings ≡ old.hearings ++ flat_map (came (delivered_number event)) (added old.trace.entries new.trace.entries)
+  pub arrivals : new.arrivals ≡ old.arrivals ++ flat_map (came (delivered_number event)) (added old.trace.entries new.trace.entries)
 
 -- events in order
 abbrev pub Plays : Content → List Event → Content → Type 0

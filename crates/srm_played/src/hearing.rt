@@ -13,21 +13,21 @@ use srm_world::{Event, World, WorldFault};
 /// memory, and then all is as before.
 pub(crate) fn advance(
     world: &mut World<Listed>,
-    hearings: &mut Vec<Arrival>,
+    arrivals: &mut Vec<Arrival>,
     event: Event,
 ) -> Result<bool, WorldFault>
     requires { IsTimely event }
-    ensures plays { OnOk result (PlaysOne (record { trace = world.old.trace; hearings = hearings.old.items }) event (record { trace = world.new.trace; hearings = hearings.new.items })) }
+    ensures plays { OnOk result (PlaysOne (record { trace = world.old.trace; arrivals = arrivals.old.items }) event (record { trace = world.new.trace; arrivals = arrivals.new.items })) }
     ensures world { OnErr result (world.new.trace ≡ world.old.trace) }
-    ensures hearings { OnErr result (hearings.new.items ≡ hearings.old.items) }
+    ensures arrivals { OnErr result (arrivals.new.items ≡ arrivals.old.items) }
 {
     let number = number_of(&event);
     let row = world.trace().entries().len();
-    hearings.reserve(1)?;
+    arrivals.reserve(1)?;
     if !world.apply(event)? {
         return Ok(false);
     }
-    note(hearings, number, row, &world.trace().entries()[row]);
+    note(arrivals, number, row, &world.trace().entries()[row]);
     Ok(true)
 }
 
@@ -42,14 +42,14 @@ fn number_of(event: &Event) -> Option<usize>
 }
 
 /// Notes that the datagram with this number came in an entry, where there is a number. There is room for it.
-fn note(hearings: &mut Vec<Arrival>, number: Option<usize>, row: usize, entry: &Entry)
-    requires { vec_len hearings.old < vec_capacity hearings.old }
-    ensures { hearings.new.items ≡ hearings.old.items ++ came number (row, entry.now) }
+fn note(arrivals: &mut Vec<Arrival>, number: Option<usize>, row: usize, entry: &Entry)
+    requires { vec_len arrivals.old < vec_capacity arrivals.old }
+    ensures { arrivals.new.items ≡ arrivals.old.items ++ came number (row, entry.now) }
 {
     let Some(number) = number else {
         return;
     };
-    let _ = hearings.push(Arrival {
+    let _ = arrivals.push(Arrival {
         number,
         at: Point {
             entry: row,

@@ -21,7 +21,7 @@ use std::marker::Model;
 #[derive(Drop)]
 pub struct Played {
     world: World<Listed>,
-    hearings: Vec<Arrival>,
+    arrivals: Vec<Arrival>,
     /// The lines of each entry, as `srm world` prints them with timers.
     lines: Vec<Vec<u8>>,
 }
@@ -63,19 +63,19 @@ impl Played {
     ghost use Rattle.std.specs.Prelude.{◌≡◌, length, All, IfOk, OnOk};
     ghost use Rattle.srm_world.specs.Traces.{IsRoster, started};
     ghost use Rattle.srm_world.specs.Events.{IsTimely};
-    ghost use Rattle.srm_picture.specs.Arrows.{AreHearings};
+    ghost use Rattle.srm_picture.specs.Arrows.{AreArrivals};
     ghost use Rattle.srm_picture.specs.Pictures.{Depicts};
     ghost use Rattle.srm_played.specs.Plays.{Plays, PlaysOne, unplayed};
 
     /// The picture of what happened. Only want of memory refuses it.
     pub fn picture(&self, alloc: Global) -> Result<Picture, AllocError>
-        ensures draws { IfOk result (Depicts self.now.trace.entries self.now.hearings) }
-        ensures heard { AreHearings self.now.trace.entries self.now.hearings }
+        ensures draws { IfOk result (Depicts self.now.trace.entries self.now.arrivals) }
+        ensures heard { AreArrivals self.now.trace.entries self.now.arrivals }
     {
         Picture::of(
             alloc,
             self.world.trace().entries(),
-            self.hearings.as_slice(),
+            self.arrivals.as_slice(),
         )
     }
 
@@ -106,7 +106,7 @@ impl Played {
     {
         Ok(Played {
             world: World::new(alloc, configs, words)?,
-            hearings: Vec::new(alloc),
+            arrivals: Vec::new(alloc),
             lines: Vec::new(alloc),
         })
     }
@@ -117,9 +117,9 @@ impl Played {
         requires { All IsTimely events.items }
         ensures { OnOk result (Plays self.old events.items self.new) }
     {
-        let mut report = EntryPrinter::new(true);
+        let mut printer = EntryPrinter::new(true);
         for event in events {
-            self.apply(alloc, &mut report, event)?;
+            self.apply(alloc, &mut printer, event)?;
         }
         Ok(())
     }
@@ -128,16 +128,16 @@ impl Played {
     fn apply(
         &mut self,
         alloc: Global,
-        report: &mut EntryPrinter,
+        printer: &mut EntryPrinter,
         event: Event,
     ) -> Result<(), ScriptFault>
         requires { IsTimely event }
         ensures { OnOk result (PlaysOne self.old event self.new) }
     {
-        if !advance(&mut self.world, &mut self.hearings, event)? {
+        if !advance(&mut self.world, &mut self.arrivals, event)? {
             return Ok(());
         }
-        keep_lines(alloc, &self.world, report, &mut self.lines)
+        keep_lines(alloc, &self.world, printer, &mut self.lines)
     }
 }
 
@@ -145,10 +145,10 @@ impl Played {
 fn keep_lines(
     alloc: Global,
     world: &World<Listed>,
-    report: &mut EntryPrinter,
+    printer: &mut EntryPrinter,
     lines: &mut Vec<Vec<u8>>,
 ) -> Result<(), ScriptFault> {
     let mut printed = Vec::new(alloc);
-    print_newest(world, report, &mut printed).map_err(ScriptFault::of_output)?;
+    print_newest(world, printer, &mut printed).map_err(ScriptFault::of_output)?;
     Ok(lines.push(printed).map_err(AllocError::from)?)
 }

@@ -19,7 +19,7 @@ fn numbers(alloc: Global, line: &str) -> Option<Numbers> {
     Some((
         options.config.session(),
         options.config.me().number(),
-        options.start,
+        options.seed,
         options.stay,
         options.turns,
         options.config.rate(),

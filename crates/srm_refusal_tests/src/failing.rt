@@ -30,7 +30,7 @@ fn fails(left: &mut u64) -> bool {
 }
 
 impl<X: Wire + Drop> Wire for Failing<X> {
-    ghost failed = { λ w. w.failures };
+    ghost failure_count = { λ w. w.failures };
 
     ghost told = { λ _. None };
 

@@ -16,7 +16,7 @@ use std::thread::Threads;
 struct Silent;
 
 impl Wire for Silent {
-    ghost failed = { λ _. 0 };
+    ghost failure_count = { λ _. 0 };
 
     ghost told = { λ _. None };
 

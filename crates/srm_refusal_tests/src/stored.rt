@@ -55,7 +55,7 @@ fn step(
     rt: &impl Abort,
     world: &mut World<Listed>,
     event: &Event,
-    report: &mut EntryPrinter,
+    printer: &mut EntryPrinter,
     out: &mut Vec<u8>,
 )
     requires { IsTimely event.now }
@@ -63,20 +63,20 @@ fn step(
     if world.run(from_ref(event)).is_err() {
         assert!(rt; world.run(from_ref(event)).is_ok());
     }
-    assert!(rt; print_newest(world, report, out).is_ok());
+    assert!(rt; print_newest(world, printer, out).is_ok());
 }
 
 fn run_each(
     rt: &impl Abort,
     world: &mut World<Listed>,
     events: &[Event],
-    report: &mut EntryPrinter,
+    printer: &mut EntryPrinter,
     out: &mut Vec<u8>,
 )
     requires { All IsTimely events.now }
 {
     for event in events {
-        step(rt, world, event, report, out);
+        step(rt, world, event, printer, out);
     }
 }
 
@@ -87,9 +87,9 @@ fn play(rt: &impl Abort, alloc: Global, script: &str, wanted: &str) -> String {
         events,
         timers,
     } = begin(rt, alloc, script);
-    let mut report = EntryPrinter::new(timers);
+    let mut printer = EntryPrinter::new(timers);
     let mut out = buffer(rt, alloc);
-    run_each(rt, &mut world, events.as_slice(), &mut report, &mut out);
+    run_each(rt, &mut world, events.as_slice(), &mut printer, &mut out);
     assert_eq!(rt; out.as_slice(), wanted.as_bytes());
     text(rt, alloc, world.trace())
 }

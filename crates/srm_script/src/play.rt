@@ -50,13 +50,13 @@ fn run<I: Read, O: Write>(alloc: Global, reader: &mut I, out: &mut O) -> Result<
 fn run_events<O: Write>(
     world: &mut World<Listed>,
     events: Vec<Event>,
-    report: &mut EntryPrinter,
+    printer: &mut EntryPrinter,
     out: &mut O,
 ) -> Result<(), ScriptFault>
     requires { All IsTimely events.items }
 {
     for event in events {
-        run_event(world, event, report, out)?;
+        run_event(world, event, printer, out)?;
     }
     Ok(())
 }
@@ -65,13 +65,13 @@ fn run_events<O: Write>(
 pub fn run_event<O: Write>(
     world: &mut World<Listed>,
     event: Event,
-    report: &mut EntryPrinter,
+    printer: &mut EntryPrinter,
     out: &mut O,
 ) -> Result<(), ScriptFault>
     requires { IsTimely event }
 {
     let printed = if world.apply(event)? {
-        print_newest(world, report, out)
+        print_newest(world, printer, out)
     } else {
         writeln!(out, "skipped")
     };
@@ -81,11 +81,11 @@ pub fn run_event<O: Write>(
 /// Prints the newest entry of a world, if there is one. Refused is what the output refuses.
 pub fn print_newest<O: Write>(
     world: &World<Listed>,
-    report: &mut EntryPrinter,
+    printer: &mut EntryPrinter,
     out: &mut O,
 ) -> io::Result<()> {
     match world.trace().entries().last() {
         None => Ok(()),
-        Some(entry) => report.print_entry(out, entry),
+        Some(entry) => printer.print_entry(out, entry),
     }
 }

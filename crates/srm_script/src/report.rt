@@ -3,10 +3,10 @@
 ghost use Rattle.std.specs.List.{AllByRecursion};
 ghost use Rattle.srm_codec.specs.Spelling.{IsSpellable};
 
-mod shown;
+mod printed;
 
-use shown::{PrintedAnswer, PrintedArm, PrintedName, PrintedPage};
-pub use shown::{PrintedGone, PrintedTake};
+use printed::{PrintedAnswer, PrintedArm, PrintedName, PrintedPage};
+pub use printed::{PrintedGone, PrintedTake};
 use srm_agent::{Arm, Effects, Entry, Input, Verdict};
 use srm_codec::{Datagram, length};
 use srm_entries::DatagramKind;

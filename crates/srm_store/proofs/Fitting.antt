@@ -17,11 +17,11 @@ use Rattle.srm_names.specs.Histories.{or_else, greatest, firsts}
 use Rattle.srm_names.specs.Names.{first_page, same_page, same_stream, same_name}
 use Rattle.srm_names.proofs.Same.{same_stream-is, same_stream-itself, same_name-is}
 use Rattle.srm_names.proofs.Snoc.{firsts-snoc, first_of-snoc, or_else-none}
-use Rattle.srm_store.specs.Held.{has_name, held_at, number_in, known, page_of_drawop, page_of_name, pages_named, overflows}
+use Rattle.srm_store.specs.Held.{has_name, held_at, number_in, known, page_of_drawop, page_of_name, pages_named, lacks_room}
 use Rattle.srm_store.specs.Finals.{Settling, rows_for, rows_of, rows_kept, FinalsContent, SameFinals, Settles}
 use Rattle.srm_store.specs.Places.{place_at}
-use Rattle.srm_store.specs.Rows.{RowContent}
-use Rattle.srm_store.specs.Tables.{TableContent, is_in, slot_of, row_at, drawop_in_table, each_once, IsNewTable, SameTable, TableGains, TableLearns}
+use Rattle.srm_store.specs.StreamPlaces.{StreamContent}
+use Rattle.srm_store.specs.Tables.{TableContent, is_in, slot_of, places_of_stream, drawop_in_table, each_once, IsNewTable, SameTable, TableGains, TableLearns}
 use Rattle.srm_store.specs.Stores.{StoreContent}
 use Rattle.srm_store.specs.Rooms.{RoomContent}
 use Rattle.srm_store.specs.Fits.{Fits, StillFits}
@@ -66,28 +66,28 @@ gains_at d old new g n lt = go (same_stream n.stream d.name.stream) refl
     go : (b : Bool) → same_stream n.stream d.name.stream ≡ b → drawop_in_table new n ≡ (if same_name d.name n then or_else (drawop_in_table old n) (Some d) else drawop_in_table old n)
     go true e =
         let s = same_stream-is n.stream d.name.stream e in
-        rw (name_here d.name n s) (subst (λ (u : Stream). place_at (row_at new u).places n.number ≡ (if n.number == d.name.number then or_else (place_at (row_at old u).places n.number) (Some d) else place_at (row_at old u).places n.number)) (sym s) (g.row.each n.number))
+        rw (name_here d.name n s) (subst (λ (u : Stream). place_at (places_of_stream new u).places n.number ≡ (if n.number == d.name.number then or_else (place_at (places_of_stream old u).places n.number) (Some d) else place_at (places_of_stream old u).places n.number)) (sym s) (g.stream.each n.number))
     go false e = rw (name_elsewhere d.name n e) ((g.others n.stream lt e).each n.number)
 
-gains_known : (d : Drawop) (old new : TableContent) → TableGains d old new → (s : Stream) → s.source < MEMBERS → (row_at new s).known ≡ (row_at old s).known
+gains_known : (d : Drawop) (old new : TableContent) → TableGains d old new → (s : Stream) → s.source < MEMBERS → (places_of_stream new s).known ≡ (places_of_stream old s).known
 gains_known d old new g s lt = go (same_stream s d.name.stream) refl
   where
-    go : (b : Bool) → same_stream s d.name.stream ≡ b → (row_at new s).known ≡ (row_at old s).known
-    go true e = subst (λ u. (row_at new u).known ≡ (row_at old u).known) (sym (same_stream-is s d.name.stream e)) g.row.known
+    go : (b : Bool) → same_stream s d.name.stream ≡ b → (places_of_stream new s).known ≡ (places_of_stream old s).known
+    go true e = subst (λ u. (places_of_stream new u).known ≡ (places_of_stream old u).known) (sym (same_stream-is s d.name.stream e)) g.stream.known
     go false e = (g.others s lt e).known
 
 learns_at : (a : FullName) (old new : TableContent) → TableLearns a old new → (n : FullName) → n.stream.source < MEMBERS → drawop_in_table new n ≡ drawop_in_table old n
 learns_at a old new g n lt = go (same_stream n.stream a.stream) refl
   where
     go : (b : Bool) → same_stream n.stream a.stream ≡ b → drawop_in_table new n ≡ drawop_in_table old n
-    go true e = subst (λ u. place_at (row_at new u).places n.number ≡ place_at (row_at old u).places n.number) (sym (same_stream-is n.stream a.stream e)) (ap (λ (r : RowContent). place_at r.places n.number) g.row)
+    go true e = subst (λ u. place_at (places_of_stream new u).places n.number ≡ place_at (places_of_stream old u).places n.number) (sym (same_stream-is n.stream a.stream e)) (ap (λ (r : StreamContent). place_at r.places n.number) g.stream)
     go false e = (g.others n.stream lt e).each n.number
 
-pub learns_known : (a : FullName) (old new : TableContent) → TableLearns a old new → (s : Stream) → s.source < MEMBERS → (row_at new s).known ≡ (if same_stream s a.stream then max (row_at old s).known a.number else (row_at old s).known)
+pub learns_known : (a : FullName) (old new : TableContent) → TableLearns a old new → (s : Stream) → s.source < MEMBERS → (places_of_stream new s).known ≡ (if same_stream s a.stream then max (places_of_stream old s).known a.number else (places_of_stream old s).known)
 learns_known a old new g s lt = go (same_stream s a.stream) refl
   where
-    go : (b : Bool) → same_stream s a.stream ≡ b → (row_at new s).known ≡ (if b then max (row_at old s).known a.number else (row_at old s).known)
-    go true e = subst (λ u. (row_at new u).known ≡ max (row_at old u).known a.number) (sym (same_stream-is s a.stream e)) (ap (λ (r : RowContent). r.known) g.row)
+    go : (b : Bool) → same_stream s a.stream ≡ b → (places_of_stream new s).known ≡ (if b then max (places_of_stream old s).known a.number else (places_of_stream old s).known)
+    go true e = subst (λ u. (places_of_stream new u).known ≡ max (places_of_stream old u).known a.number) (sym (same_stream-is s a.stream e)) (ap (λ (r : StreamContent). r.known) g.stream)
     go false e = (g.others s lt e).known
 
 -- the greatest number, and one more
@@ -146,7 +146,7 @@ module _ {inserted : List Drawop} {evidence : List FullName} {settled : List Set
       let down = length-included (firsts same_page (pages_named inserted evidence)) s.table.pages (each_once-firsts (pages_named inserted evidence)) (λ q there. h.pages q ∙ sym (is_in-firsts (pages_named inserted evidence) q) ∙ there) in
       omega arith
 
-  counted : (b : Bool) → is_in s.table.pages p ≡ b → overflows inserted evidence p ≡ nat_lt PAGES (if b then length s.table.pages else length s.table.pages + 1)
+  counted : (b : Bool) → is_in s.table.pages p ≡ b → lacks_room inserted evidence p ≡ nat_lt PAGES (if b then length s.table.pages else length s.table.pages + 1)
   counted b e =
       ap (λ ps. nat_lt PAGES (length ps)) (firsts-snoc same_page (pages_named inserted evidence) p ∙ ap (λ (x : Bool). if x then firsts same_page (pages_named inserted evidence) else firsts same_page (pages_named inserted evidence) ++ p ∷ []) (sym (h.pages p) ∙ e))
       ∙ go b
@@ -155,15 +155,15 @@ module _ {inserted : List Drawop} {evidence : List FullName} {settled : List Set
       go true = ap (nat_lt PAGES) count
       go false = let e : length (firsts same_page (pages_named inserted evidence) ++ p ∷ []) ≡ length s.table.pages + 1 = omega (arith, length-append (firsts same_page (pages_named inserted evidence)) (p ∷ []), count) in ap (nat_lt PAGES) e
 
-  pub full_overflows : slot_of s.table.pages p ≡ PAGES → overflows inserted evidence p ≡ true
-  full_overflows full = go (is_in s.table.pages p) refl
+  pub full_lacks_room : slot_of s.table.pages p ≡ PAGES → lacks_room inserted evidence p ≡ true
+  full_lacks_room full = go (is_in s.table.pages p) refl
     where
-      go : (b : Bool) → is_in s.table.pages p ≡ b → overflows inserted evidence p ≡ true
+      go : (b : Bool) → is_in s.table.pages p ≡ b → lacks_room inserted evidence p ≡ true
       go true e = absurd (omega (arith, slot_of-in s.table.pages p e))
       go false e = counted false e ∙ (let past : PAGES < length s.table.pages + 1 = omega (arith, slot_of-absent s.table.pages p e) in grind (arith, nat_tests))
 
-  pub overflows_full : overflows inserted evidence p ≡ true → slot_of s.table.pages p ≡ PAGES
-  overflows_full over = go (is_in s.table.pages p) refl
+  pub lacks_room_full : lacks_room inserted evidence p ≡ true → slot_of s.table.pages p ≡ PAGES
+  lacks_room_full over = go (is_in s.table.pages p) refl
     where
       go : (b : Bool) → is_in s.table.pages p ≡ b → slot_of s.table.pages p ≡ PAGES
       go true e = let past : nat_lt PAGES (length s.table.pages) ≡ true = sym (counted true e) ∙ over in absurd (grind (arith, nat_tests))
@@ -174,8 +174,8 @@ pub fits_new : (t : TableContent) (f : FinalsContent) (s : StoreContent) → s.t
 fits_new t f s ts fs new none = record {
   pages = λ p. ap (λ (x : TableContent). is_in x.pages p) ts ∙ ap (λ ps. is_in ps p) new.pages;
   once = ap (λ (x : TableContent). each_once x.pages) ts ∙ ap each_once new.pages;
-  held = λ n lt. ap (λ x. drawop_in_table x n) ts ∙ (new.rows n.stream lt).each n.number ∙ place_at-blank n.number;
-  known = λ stream lt. ap (λ x. (row_at x stream).known) ts ∙ (new.rows stream lt).known;
+  held = λ n lt. ap (λ x. drawop_in_table x n) ts ∙ (new.streams n.stream lt).each n.number ∙ place_at-blank n.number;
+  known = λ stream lt. ap (λ x. (places_of_stream x stream).known) ts ∙ (new.streams stream lt).known;
   rows = λ m. ap (λ x. rows_kept x m) fs ∙ none m;
 }
 
@@ -202,8 +202,8 @@ module _ {inserted : List Drawop} {evidence : List FullName} {settled : List Set
   fits_same t f = record {
     pages = λ p. ap (λ ps. is_in ps p) t.pages ∙ h.pages p;
     once = ap each_once t.pages ∙ h.once;
-    held = λ n lt. (t.rows n.stream lt).each n.number ∙ h.held n lt;
-    known = λ stream lt. (t.rows stream lt).known ∙ h.known stream lt;
+    held = λ n lt. (t.streams n.stream lt).each n.number ∙ h.held n lt;
+    known = λ stream lt. (t.streams stream lt).known ∙ h.known stream lt;
     rows = λ m. f.each m ∙ h.rows m;
   }
 
@@ -212,7 +212,7 @@ module _ {inserted : List Drawop} {evidence : List FullName} {settled : List Set
     pages = λ p. ap (λ (x : TableContent). is_in x.pages p) t ∙ h.pages p;
     once = ap (λ (x : TableContent). each_once x.pages) t ∙ h.once;
     held = λ n lt. ap (λ x. drawop_in_table x n) t ∙ h.held n lt;
-    known = λ stream lt. ap (λ x. (row_at x stream).known) t ∙ h.known stream lt;
+    known = λ stream lt. ap (λ x. (places_of_stream x stream).known) t ∙ h.known stream lt;
     rows = λ m. f.each m ∙ ap (λ o. if m == member then or_else o (Some rows) else o) (h.rows m) ∙ sym (rows_more m);
   }
     where

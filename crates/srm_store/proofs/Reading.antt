@@ -13,8 +13,8 @@ use Rattle.srm_names.proofs.Same.{same_name-is, same_stream-itself}
 use Rattle.srm_store.specs.Held.{has_name, held_at, is_held, number_in, greatest_in, known, unheld, names_after, missing, newly_missing, released}
 use Rattle.srm_store.specs.Finals.{Settling}
 use Rattle.srm_store.specs.Places.{place_at, FilledTo}
-use Rattle.srm_store.specs.Rows.{RowContent, row_unheld}
-use Rattle.srm_store.specs.Tables.{TableContent, row_at}
+use Rattle.srm_store.specs.StreamPlaces.{StreamContent, unheld_in_stream}
+use Rattle.srm_store.specs.Tables.{TableContent, places_of_stream}
 use Rattle.srm_store.specs.Stores.{StoreContent}
 use Rattle.srm_store.specs.Fits.{Fits}
 use Rattle.srm_store.proofs.Fitting.{greatest-append}
@@ -28,34 +28,34 @@ any_found p (x ∷ xs) = go (p x) x (any_found p xs)
     go false y h = h
 
 -- The row of a stream, read from the table of a store.
-pub record Reads (s : StoreContent) (u : Stream) (row : RowContent) : Type 0 where
+pub record Reads (s : StoreContent) (u : Stream) (content : StreamContent) : Type 0 where
   pub table : TableContent
   pub is : table ≡ s.table
-  pub row_is : row ≡ row_at table u
+  pub row_is : content ≡ places_of_stream table u
   pub source : u.source < MEMBERS
 
-module _ {inserted : List Drawop} {evidence : List FullName} {settled : List Settling} {s : StoreContent} (h : Fits inserted evidence settled s) {u : Stream} {row : RowContent} (r : Reads s u row) where
-  row_here : row ≡ row_at s.table u
-  row_here = r.row_is ∙ ap (λ t. row_at t u) r.is
+module _ {inserted : List Drawop} {evidence : List FullName} {settled : List Settling} {s : StoreContent} (h : Fits inserted evidence settled s) {u : Stream} {content : StreamContent} (r : Reads s u content) where
+  row_here : content ≡ places_of_stream s.table u
+  row_here = r.row_is ∙ ap (λ t. places_of_stream t u) r.is
 
-  pub held_here : (k : ℕ) → place_at row.places k ≡ held_at inserted (named u k)
-  held_here k = ap (λ (x : RowContent). place_at x.places k) row_here ∙ h.held (named u k) r.source
+  pub held_here : (k : ℕ) → place_at content.places k ≡ held_at inserted (named u k)
+  held_here k = ap (λ (x : StreamContent). place_at x.places k) row_here ∙ h.held (named u k) r.source
 
-  pub known_here : row.known ≡ known evidence u
-  known_here = ap (λ (x : RowContent). x.known) row_here ∙ h.known u r.source
+  pub known_here : content.known ≡ known evidence u
+  known_here = ap (λ (x : StreamContent). x.known) row_here ∙ h.known u r.source
 
-  pub holds_here : (k : ℕ) → is_some (place_at row.places k) ≡ is_held inserted (named u k)
+  pub holds_here : (k : ℕ) → is_some (place_at content.places k) ≡ is_held inserted (named u k)
   holds_here k = ap is_some (held_here k) ∙ sym (any_found (has_name (named u k)) inserted)
 
-  pub unheld_here : (ks : List ℕ) → row_unheld row (map (named u) ks) ≡ unheld inserted (map (named u) ks)
+  pub unheld_here : (ks : List ℕ) → unheld_in_stream content (map (named u) ks) ≡ unheld inserted (map (named u) ks)
   unheld_here [] = refl
-  unheld_here (k ∷ ks) = ap (λ (b : Bool). if not b then named u k ∷ row_unheld row (map (named u) ks) else row_unheld row (map (named u) ks)) (holds_here k)
+  unheld_here (k ∷ ks) = ap (λ (b : Bool). if not b then named u k ∷ unheld_in_stream content (map (named u) ks) else unheld_in_stream content (map (named u) ks)) (holds_here k)
       ∙ ap (λ ns. if not (is_held inserted (named u k)) then named u k ∷ ns else ns) (unheld_here ks)
 
-  pub missing_here : (n : ℕ) → n ≡ row.known → row_unheld row (names_after u 0 n) ≡ missing inserted evidence u
+  pub missing_here : (n : ℕ) → n ≡ content.known → unheld_in_stream content (names_after u 0 n) ≡ missing inserted evidence u
   missing_here n e = unheld_here (count_up 1 n) ∙ ap (λ k. unheld inserted (map (named u) (count_up 1 k))) (e ∙ known_here)
 
-  pub newly_here : (after count : ℕ) (n : FullName) → u ≡ n.stream → after ≡ row.known → count ≡ n.number - after → row_unheld row (names_after u after count) ≡ newly_missing inserted evidence n
+  pub newly_here : (after count : ℕ) (n : FullName) → u ≡ n.stream → after ≡ content.known → count ≡ n.number - after → unheld_in_stream content (names_after u after count) ≡ newly_missing inserted evidence n
   newly_here after count n stream a c =
       unheld_here (count_up (after + 1) count)
       ∙ ap (λ k. unheld inserted (names_after u after k)) c
@@ -64,11 +64,11 @@ module _ {inserted : List Drawop} {evidence : List FullName} {settled : List Set
 
 -- the names that the row of a stream doesn't hold, from its first number on, and from the first that wasn't known
 pub missing_is : {inserted : List Drawop} {evidence : List FullName} {settled : List Settling} {s : StoreContent} (names : List FullName) (u : Stream) (table : TableContent) (last : ℕ) → Fits inserted evidence settled s
-    → table ≡ s.table → u.source < MEMBERS → names ≡ row_unheld (row_at table u) (names_after u 0 last) → last ≡ (row_at table u).known → names ≡ missing inserted evidence u
+    → table ≡ s.table → u.source < MEMBERS → names ≡ unheld_in_stream (places_of_stream table u) (names_after u 0 last) → last ≡ (places_of_stream table u).known → names ≡ missing inserted evidence u
 missing_is names u table last h same source is known_is = is ∙ missing_here h (record { table = table; is = same; row_is = refl; source = source }) last known_is
 
 pub newly_is : {inserted : List Drawop} {evidence : List FullName} {settled : List Settling} {s : StoreContent} (names : List FullName) (n : FullName) (u : Stream) (table : TableContent) (after count : ℕ) → Fits inserted evidence settled s
-    → table ≡ s.table → u ≡ n.stream → u.source < MEMBERS → names ≡ row_unheld (row_at table u) (names_after u after count) → after ≡ (row_at table u).known → count ≡ n.number - after → names ≡ newly_missing inserted evidence n
+    → table ≡ s.table → u ≡ n.stream → u.source < MEMBERS → names ≡ unheld_in_stream (places_of_stream table u) (names_after u after count) → after ≡ (places_of_stream table u).known → count ≡ n.number - after → names ≡ newly_missing inserted evidence n
 newly_is names n u table after count h same stream source is after_is count_is = is ∙ newly_here h (record { table = table; is = same; row_is = refl; source = source }) after count n stream after_is count_is
 
 -- the held numbers in front of the first gap

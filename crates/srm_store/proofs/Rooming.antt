@@ -9,7 +9,7 @@ use Rattle.srm_names.specs.FullName.{FullName}
 use Rattle.srm_names.specs.Names.{same_name, same_stream, among}
 use Rattle.srm_names.proofs.Same.{same_name-is, same_stream-itself}
 use Rattle.srm_store.specs.Rooms.{RoomContent, fits_answer, has_room, StillHasOthers}
-use Rattle.srm_store.specs.Tables.{row_at, TableLearns, StillHasPlaces}
+use Rattle.srm_store.specs.Tables.{places_of_stream, TableLearns, StillHasPlaces}
 use Rattle.srm_store.specs.Stores.{StoreContent, IsReady, StaysReady}
 use Rattle.srm_store.specs.declared.fault.StoreFault.{StoreFault}
 use Rattle.srm_store.specs.declared.fault.StoreFault.TheVariants.{PageLimit, Memory}
@@ -78,7 +78,7 @@ ready_learns old new a learns still others = record {
   each = λ n had. record {
     source = had.source;
     place = still.each n had.place;
-    answer = go n (row_at old.table n.stream).known (row_at new.table n.stream).known (same_name a n) refl (same_stream n.stream a.stream) refl (learns_known a old.table new.table learns n.stream had.source) (nat_le n.number (row_at old.table n.stream).known) refl had.answer;
+    answer = go n (places_of_stream old.table n.stream).known (places_of_stream new.table n.stream).known (same_name a n) refl (same_stream n.stream a.stream) refl (learns_known a old.table new.table learns n.stream had.source) (nat_le n.number (places_of_stream old.table n.stream).known) refl had.answer;
   };
 }
   where

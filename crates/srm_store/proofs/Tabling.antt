@@ -11,119 +11,119 @@ use Rattle.srm_names.specs.FullName.{FullName}
 use Rattle.srm_names.specs.Names.{same_page, same_stream}
 use Rattle.srm_names.proofs.Same.{same_page-is}
 use Rattle.srm_store.specs.Places.{has_place}
-use Rattle.srm_store.specs.Rows.{RowContent, blank_row, SameRow, RowStillHas, RowGains}
-use Rattle.srm_store.specs.Tables.{TableContent, is_in, slot_of, row_in, row_at, with_page, slots_end, SameTable, TableGains, TableLearns, HasPlaceFor, StillHasPlaces}
+use Rattle.srm_store.specs.StreamPlaces.{StreamContent, blank_stream, SameStreamPlaces, StreamStillHas, StreamGains}
+use Rattle.srm_store.specs.Tables.{TableContent, is_in, slot_of, stream_in, places_of_stream, with_page, slots_end, SameTable, TableGains, TableLearns, HasPlaceFor, StillHasPlaces}
 use Rattle.srm_store.proofs.Slots.{slot_of-absent, with_page-slot, with_page-has, with_page-longer, with_page-few, others_slot, others_apart, others_absent, slots_shrink}
 
-pub same_row : (r : RowContent) → SameRow r r
+pub same_row : (r : StreamContent) → SameStreamPlaces r r
 same_row r = record { each = λ n. refl; known = refl }
 
-pub same_row_on : (a b c : RowContent) → SameRow a b → SameRow b c → SameRow a c
+pub same_row_on : (a b c : StreamContent) → SameStreamPlaces a b → SameStreamPlaces b c → SameStreamPlaces a c
 same_row_on a b c h k = record { each = λ n. k.each n ∙ h.each n; known = k.known ∙ h.known }
 
-pub same_row_back : (a b : RowContent) → SameRow a b → SameRow b a
+pub same_row_back : (a b : StreamContent) → SameStreamPlaces a b → SameStreamPlaces b a
 same_row_back a b h = record { each = λ n. sym (h.each n); known = sym h.known }
 
-pub same_row_is : (a b c : RowContent) → SameRow a b → c ≡ b → SameRow a c
-same_row_is a b c h e = subst (SameRow a) (sym e) h
+pub same_row_is : (a b c : StreamContent) → SameStreamPlaces a b → c ≡ b → SameStreamPlaces a c
+same_row_is a b c h e = subst (SameStreamPlaces a) (sym e) h
 
 -- the rows behind the last page are blank
-abbrev pub AreBlank : List Page → List RowContent → Type 0
-AreBlank pages rows = (slot source : ℕ) → length pages ≤ slot → source < MEMBERS → SameRow blank_row (row_in rows slot source)
+abbrev pub AreBlank : List Page → List StreamContent → Type 0
+AreBlank pages streams = (slot source : ℕ) → length pages ≤ slot → source < MEMBERS → SameStreamPlaces blank_stream (stream_in streams slot source)
 
-module _ (rows : List RowContent) (slot source : ℕ) (r : RowContent) (inside : slot * 32 + source < length rows) where
-  abbrev after : List RowContent
-  after = set rows (slot * 32 + source) r
+module _ (streams : List StreamContent) (slot source : ℕ) (r : StreamContent) (inside : slot * 32 + source < length streams) where
+  abbrev after : List StreamContent
+  after = set streams (slot * 32 + source) r
 
-  pub set_here : row_in after slot source ≡ r
-  set_here = get_or-set_same rows (slot * 32 + source) r blank_row inside
+  pub set_here : stream_in after slot source ≡ r
+  set_here = get_or-set_same streams (slot * 32 + source) r blank_stream inside
 
   -- another slot, or another source
-  pub set_slot : (a b : ℕ) → source < MEMBERS → b < MEMBERS → a ≢ slot → row_in after a b ≡ row_in rows a b
-  set_slot a b here there other = get_or-set_other rows (slot * 32 + source) (a * 32 + b) r blank_row (λ e. other (omega arith))
+  pub set_slot : (a b : ℕ) → source < MEMBERS → b < MEMBERS → a ≢ slot → stream_in after a b ≡ stream_in streams a b
+  set_slot a b here there other = get_or-set_other streams (slot * 32 + source) (a * 32 + b) r blank_stream (λ e. other (omega arith))
 
-  pub set_source : (b : ℕ) → b ≢ source → row_in after slot b ≡ row_in rows slot b
-  set_source b other = get_or-set_other rows (slot * 32 + source) (slot * 32 + b) r blank_row (λ e. other (omega arith))
+  pub set_source : (b : ℕ) → b ≢ source → stream_in after slot b ≡ stream_in streams slot b
+  set_source b other = get_or-set_other streams (slot * 32 + source) (slot * 32 + b) r blank_stream (λ e. other (omega arith))
 
   -- the row holds the same
-  pub set_same : SameRow (row_in rows slot source) r → (a b : ℕ) → SameRow (row_in rows a b) (row_in after a b)
+  pub set_same : SameStreamPlaces (stream_in streams slot source) r → (a b : ℕ) → SameStreamPlaces (stream_in streams a b) (stream_in after a b)
   set_same h a b = go (cases_eq (a * 32 + b) (slot * 32 + source))
     where
-      go : ((a * 32 + b ≡ slot * 32 + source) ⊎ (a * 32 + b ≢ slot * 32 + source)) → SameRow (row_in rows a b) (row_in after a b)
+      go : ((a * 32 + b ≡ slot * 32 + source) ⊎ (a * 32 + b ≢ slot * 32 + source)) → SameStreamPlaces (stream_in streams a b) (stream_in after a b)
       go (inl e) = rw e (rw set_here h)
-      go (inr ne) = rw (get_or-set_other rows (slot * 32 + source) (a * 32 + b) r blank_row ne) (same_row (row_in rows a b))
+      go (inr ne) = rw (get_or-set_other streams (slot * 32 + source) (a * 32 + b) r blank_stream ne) (same_row (stream_in streams a b))
 
   -- places stay
-  pub set_still : RowStillHas (row_in rows slot source) r → (a b n : ℕ) → has_place (row_in rows a b).places n ≡ true → has_place (row_in after a b).places n ≡ true
+  pub set_still : StreamStillHas (stream_in streams slot source) r → (a b n : ℕ) → has_place (stream_in streams a b).places n ≡ true → has_place (stream_in after a b).places n ≡ true
   set_still h a b n there = go (cases_eq (a * 32 + b) (slot * 32 + source))
     where
-      go : ((a * 32 + b ≡ slot * 32 + source) ⊎ (a * 32 + b ≢ slot * 32 + source)) → has_place (row_in after a b).places n ≡ true
-      go (inl e) = ap (λ k. has_place (get_or after k blank_row).places n) e ∙ ap (λ (x : RowContent). has_place x.places n) set_here ∙ h.each n (sym (ap (λ k. has_place (get_or rows k blank_row).places n) e) ∙ there)
-      go (inr ne) = ap (λ (x : RowContent). has_place x.places n) (get_or-set_other rows (slot * 32 + source) (a * 32 + b) r blank_row ne) ∙ there
+      go : ((a * 32 + b ≡ slot * 32 + source) ⊎ (a * 32 + b ≢ slot * 32 + source)) → has_place (stream_in after a b).places n ≡ true
+      go (inl e) = ap (λ k. has_place (get_or after k blank_stream).places n) e ∙ ap (λ (x : StreamContent). has_place x.places n) set_here ∙ h.each n (sym (ap (λ k. has_place (get_or streams k blank_stream).places n) e) ∙ there)
+      go (inr ne) = ap (λ (x : StreamContent). has_place x.places n) (get_or-set_other streams (slot * 32 + source) (a * 32 + b) r blank_stream ne) ∙ there
 
-row_moved : (rows : List RowContent) (a b source : ℕ) → a ≡ b → row_in rows a source ≡ row_in rows b source
-row_moved rows a b source e = ap (λ k. row_in rows k source) e
+row_moved : (streams : List StreamContent) (a b source : ℕ) → a ≡ b → stream_in streams a source ≡ stream_in streams b source
+row_moved streams a b source e = ap (λ k. stream_in streams k source) e
 
-same_content : (ps qs : List Page) (xs ys : List RowContent) → ps ≡ qs → xs ≡ ys → ◌≡◌ {A = TableContent} (record { pages = ps; rows = xs }) (record { pages = qs; rows = ys })
+same_content : (ps qs : List Page) (xs ys : List StreamContent) → ps ≡ qs → xs ≡ ys → ◌≡◌ {A = TableContent} (record { pages = ps; streams = xs }) (record { pages = qs; streams = ys })
 same_content ps qs xs ys e f = cc
 
-module _ (t : TableContent) (p : Page) (source : ℕ) (r : RowContent) (few : length (with_page t.pages p) ≤ PAGES) (size : length t.rows ≡ 288) (blank : AreBlank t.pages t.rows) (known : source < MEMBERS) where
+module _ (t : TableContent) (p : Page) (source : ℕ) (r : StreamContent) (few : length (with_page t.pages p) ≤ PAGES) (size : length t.streams ≡ 288) (blank : AreBlank t.pages t.streams) (known : source < MEMBERS) where
   abbrev slot : ℕ
   slot = slot_of t.pages p
 
   abbrev pub changed : TableContent
-  changed = record { pages = with_page t.pages p; rows = set t.rows (slot * 32 + source) r }
+  changed = record { pages = with_page t.pages p; streams = set t.streams (slot * 32 + source) r }
 
-  inside : slot * 32 + source < length t.rows
+  inside : slot * 32 + source < length t.streams
   inside = omega (arith, with_page-has t.pages p, few, size, known)
 
-  pub changed_row : row_in changed.rows (slot_of changed.pages p) source ≡ r
-  changed_row = row_moved changed.rows (slot_of changed.pages p) slot source (with_page-slot t.pages p) ∙ set_here t.rows slot source r inside
+  pub changed_row : stream_in changed.streams (slot_of changed.pages p) source ≡ r
+  changed_row = row_moved changed.streams (slot_of changed.pages p) slot source (with_page-slot t.pages p) ∙ set_here t.streams slot source r inside
 
-  pub changed_blank : AreBlank changed.pages changed.rows
-  changed_blank a b past there = same_row_is blank_row _ _ (blank a b (omega (arith, past, with_page-longer t.pages p)) there)
-      (set_slot t.rows slot source r inside a b known there (λ e. absurd (omega (arith, with_page-has t.pages p, past))))
+  pub changed_blank : AreBlank changed.pages changed.streams
+  changed_blank a b past there = same_row_is blank_stream _ _ (blank a b (omega (arith, past, with_page-longer t.pages p)) there)
+      (set_slot t.streams slot source r inside a b known there (λ e. absurd (omega (arith, with_page-has t.pages p, past))))
 
-  pub changed_others : (s : Stream) → s.source < MEMBERS → ((s.source == source) && same_page s.page p) ≡ false → SameRow (row_at t s) (row_at changed s)
+  pub changed_others : (s : Stream) → s.source < MEMBERS → ((s.source == source) && same_page s.page p) ≡ false → SameStreamPlaces (places_of_stream t s) (places_of_stream changed s)
   changed_others s there other = go (same_page s.page p) refl (is_in t.pages s.page) refl
     where
-      go : (b : Bool) → same_page s.page p ≡ b → (d : Bool) → is_in t.pages s.page ≡ d → SameRow (row_at t s) (row_at changed s)
+      go : (b : Bool) → same_page s.page p ≡ b → (d : Bool) → is_in t.pages s.page ≡ d → SameStreamPlaces (places_of_stream t s) (places_of_stream changed s)
       go true e d f =
           let page = same_page-is s.page p e in
           let apart : s.source ≢ source = λ same. absurd (false≢true (sym other ∙ and_from _ _ (eq-eqb s.source source same) e)) in
-          same_row_is _ _ _ (same_row (row_at t s))
-          (row_moved changed.rows (slot_of changed.pages s.page) slot s.source (ap (slot_of changed.pages) page ∙ with_page-slot t.pages p)
-          ∙ set_source t.rows slot source r inside s.source apart
-          ∙ row_moved t.rows slot (slot_of t.pages s.page) s.source (ap (slot_of t.pages) (sym page)))
+          same_row_is _ _ _ (same_row (places_of_stream t s))
+          (row_moved changed.streams (slot_of changed.pages s.page) slot s.source (ap (slot_of changed.pages) page ∙ with_page-slot t.pages p)
+          ∙ set_source t.streams slot source r inside s.source apart
+          ∙ row_moved t.streams slot (slot_of t.pages s.page) s.source (ap (slot_of t.pages) (sym page)))
       go false e true f =
-          same_row_is _ _ _ (same_row (row_at t s))
-          (row_moved changed.rows (slot_of changed.pages s.page) (slot_of t.pages s.page) s.source (others_slot t.pages p s.page f)
-          ∙ set_slot t.rows slot source r inside (slot_of t.pages s.page) s.source known there (others_apart t.pages p s.page e f))
+          same_row_is _ _ _ (same_row (places_of_stream t s))
+          (row_moved changed.streams (slot_of changed.pages s.page) (slot_of t.pages s.page) s.source (others_slot t.pages p s.page f)
+          ∙ set_slot t.streams slot source r inside (slot_of t.pages s.page) s.source known there (others_apart t.pages p s.page e f))
       go false e false f =
           let was = slot_of-absent t.pages s.page f in
           let now = others_absent t.pages p s.page e f in
           same_row_on _ _ _ (same_row_back _ _ (blank (slot_of t.pages s.page) s.source (omega (arith, was)) there)) (changed_blank (slot_of changed.pages s.page) s.source (omega (arith, now)) there)
 
-  pub changed_still : RowStillHas (row_in t.rows slot source) r → StillHasPlaces t changed
+  pub changed_still : StreamStillHas (stream_in t.streams slot source) r → StillHasPlaces t changed
   changed_still h = record {
     each = λ n had. let fewer = slots_shrink t.pages p n.stream.page few in record {
-      each = λ a low high. set_still t.rows slot source r inside h a n.stream.source n.number (had.each a (omega (arith, fewer.0, low)) (omega (arith, fewer.1, high)));
+      each = λ a low high. set_still t.streams slot source r inside h a n.stream.source n.number (had.each a (omega (arith, fewer.0, low)) (omega (arith, fewer.1, high)));
     };
   }
 
 -- In the words of a method: the fields are the value, and a row was read and written at its place.
-pub record Wrote (t old : TableContent) (s : Stream) (slot k : ℕ) (read r : RowContent) : Type 0 where
+pub record Wrote (t old : TableContent) (s : Stream) (slot k : ℕ) (read r : StreamContent) : Type 0 where
   pub is : t ≡ old
   pub few : length t.pages ≤ PAGES
-  pub size : length t.rows ≡ 288
-  pub blank : AreBlank t.pages t.rows
+  pub size : length t.streams ≡ 288
+  pub blank : AreBlank t.pages t.streams
   pub known : s.source < MEMBERS
   pub at : slot ≡ slot_of t.pages s.page
   pub below : slot < PAGES
   pub place : k ≡ slot * 32 + s.source
-  pub found : read ≡ get_or t.rows k read
+  pub found : read ≡ get_or t.streams k read
 
-module _ {t old : TableContent} {s : Stream} {slot k : ℕ} {read r : RowContent} (w : Wrote t old s slot k read r) where
+module _ {t old : TableContent} {s : Stream} {slot k : ℕ} {read r : StreamContent} (w : Wrote t old s slot k read r) where
   abbrev pub home : ℕ
   home = slot_of t.pages s.page * 32 + s.source
 
@@ -133,40 +133,40 @@ module _ {t old : TableContent} {s : Stream} {slot k : ℕ} {read r : RowContent
   more_few : length (with_page t.pages s.page) ≤ PAGES
   more_few = with_page-few t.pages s.page w.few (omega (arith, w.at, w.below))
 
-  there : home < length t.rows
+  there : home < length t.streams
   there = omega (arith, w.at, w.below, w.size, w.known)
 
-  pub read_is : read ≡ row_at t s
-  read_is = w.found ∙ ap (λ i. get_or t.rows i read) k_is ∙ get_or_default t.rows home read blank_row there
+  pub read_is : read ≡ places_of_stream t s
+  read_is = w.found ∙ ap (λ i. get_or t.streams i read) k_is ∙ get_or_default t.streams home read blank_stream there
 
-  rows_are : set t.rows k r ≡ set t.rows home r
-  rows_are = ap (λ i. set t.rows i r) k_is
+  rows_are : set t.streams k r ≡ set t.streams home r
+  rows_are = ap (λ i. set t.streams i r) k_is
 
-  pub in_size : length (set t.rows k r) ≡ 288
-  in_size = length-set t.rows k r ∙ w.size
+  pub in_size : length (set t.streams k r) ≡ 288
+  in_size = length-set t.streams k r ∙ w.size
 
   -- the row holds the same, and the pages stay
-  module _ (same : SameRow read r) where
-    kept : (a b : ℕ) → SameRow (row_in t.rows a b) (row_in (set t.rows k r) a b)
-    kept a b = subst (λ rows. SameRow (row_in t.rows a b) (row_in rows a b)) (sym rows_are) (set_same t.rows (slot_of t.pages s.page) s.source r there (subst (λ x. SameRow x r) read_is same) a b)
+  module _ (same : SameStreamPlaces read r) where
+    kept : (a b : ℕ) → SameStreamPlaces (stream_in t.streams a b) (stream_in (set t.streams k r) a b)
+    kept a b = subst (λ streams. SameStreamPlaces (stream_in t.streams a b) (stream_in streams a b)) (sym rows_are) (set_same t.streams (slot_of t.pages s.page) s.source r there (subst (λ x. SameStreamPlaces x r) read_is same) a b)
 
-    pub in_kept_blank : AreBlank t.pages (set t.rows k r)
+    pub in_kept_blank : AreBlank t.pages (set t.streams k r)
     in_kept_blank a b past lt = same_row_on _ _ _ (w.blank a b past lt) (kept a b)
 
-    pub in_kept : SameTable old (record { pages = t.pages; rows = set t.rows k r })
-    in_kept = subst (λ x. SameTable x (record { pages = t.pages; rows = set t.rows k r })) w.is (record { pages = refl; rows = λ u lt. kept (slot_of t.pages u.page) u.source })
+    pub in_kept : SameTable old (record { pages = t.pages; streams = set t.streams k r })
+    in_kept = subst (λ x. SameTable x (record { pages = t.pages; streams = set t.streams k r })) w.is (record { pages = refl; streams = λ u lt. kept (slot_of t.pages u.page) u.source })
 
-  pub in_kept_still : RowStillHas read r → StillHasPlaces old (record { pages = t.pages; rows = set t.rows k r })
-  in_kept_still h = subst (λ x. StillHasPlaces x (record { pages = t.pages; rows = set t.rows k r })) w.is (record {
+  pub in_kept_still : StreamStillHas read r → StillHasPlaces old (record { pages = t.pages; streams = set t.streams k r })
+  in_kept_still h = subst (λ x. StillHasPlaces x (record { pages = t.pages; streams = set t.streams k r })) w.is (record {
     each = λ n had. record {
-      each = λ a low high. subst (λ rows. has_place (row_in rows a n.stream.source).places n.number ≡ true) (sym rows_are)
-          (set_still t.rows (slot_of t.pages s.page) s.source r there (subst (λ x. RowStillHas x r) read_is h) a n.stream.source n.number (had.each a low high));
+      each = λ a low high. subst (λ streams. has_place (stream_in streams a n.stream.source).places n.number ≡ true) (sym rows_are)
+          (set_still t.streams (slot_of t.pages s.page) s.source r there (subst (λ x. StreamStillHas x r) read_is h) a n.stream.source n.number (had.each a low high));
     };
   })
 
   module _ (pages : List Page) (seated : pages ≡ with_page t.pages s.page) where
     abbrev new : TableContent
-    new = record { pages = pages; rows = set t.rows k r }
+    new = record { pages = pages; streams = set t.streams k r }
 
     new_is : new ≡ changed t s.page s.source r more_few w.size w.blank w.known
     new_is = same_content _ _ _ _ seated rows_are
@@ -174,46 +174,46 @@ module _ {t old : TableContent} {s : Stream} {slot k : ℕ} {read r : RowContent
     pub in_few : length pages ≤ PAGES
     in_few = omega (arith, ap length seated, more_few)
 
-    pub in_blank : AreBlank pages (set t.rows k r)
-    in_blank = subst (λ (x : TableContent). AreBlank x.pages x.rows) (sym new_is) (changed_blank t s.page s.source r more_few w.size w.blank w.known)
+    pub in_blank : AreBlank pages (set t.streams k r)
+    in_blank = subst (λ (x : TableContent). AreBlank x.pages x.streams) (sym new_is) (changed_blank t s.page s.source r more_few w.size w.blank w.known)
 
-    in_row : row_at new s ≡ r
-    in_row = ap (λ x. row_at x s) new_is ∙ changed_row t s.page s.source r more_few w.size w.blank w.known
+    in_row : places_of_stream new s ≡ r
+    in_row = ap (λ x. places_of_stream x s) new_is ∙ changed_row t s.page s.source r more_few w.size w.blank w.known
 
-    in_others : (u : Stream) → u.source < MEMBERS → same_stream u s ≡ false → SameRow (row_at old u) (row_at new u)
-    in_others u lt other = subst (λ x. SameRow (row_at x u) (row_at new u)) w.is (subst (λ x. SameRow (row_at t u) (row_at x u)) (sym new_is) (changed_others t s.page s.source r more_few w.size w.blank w.known u lt other))
+    in_others : (u : Stream) → u.source < MEMBERS → same_stream u s ≡ false → SameStreamPlaces (places_of_stream old u) (places_of_stream new u)
+    in_others u lt other = subst (λ x. SameStreamPlaces (places_of_stream x u) (places_of_stream new u)) w.is (subst (λ x. SameStreamPlaces (places_of_stream t u) (places_of_stream x u)) (sym new_is) (changed_others t s.page s.source r more_few w.size w.blank w.known u lt other))
 
     in_pages : new.pages ≡ with_page old.pages s.page
     in_pages = seated ∙ ap (λ (x : TableContent). with_page x.pages s.page) w.is
 
-    pub in_still : RowStillHas read r → StillHasPlaces old new
-    in_still h = subst (λ x. StillHasPlaces x new) w.is (subst (StillHasPlaces t) (sym new_is) (changed_still t s.page s.source r more_few w.size w.blank w.known (subst (λ x. RowStillHas x r) read_is h)))
+    pub in_still : StreamStillHas read r → StillHasPlaces old new
+    in_still h = subst (λ x. StillHasPlaces x new) w.is (subst (StillHasPlaces t) (sym new_is) (changed_still t s.page s.source r more_few w.size w.blank w.known (subst (λ x. StreamStillHas x r) read_is h)))
 
     pub in_learns : (n : FullName) → s ≡ n.stream → r ≡ record read { known = max read.known n.number } → TableLearns n old new
     in_learns n e wrote = record {
       pages = subst (λ (u : Stream). new.pages ≡ with_page old.pages u.page) e in_pages;
-      row = subst (λ (u : Stream). row_at new u ≡ record (row_at old u) { known = max (row_at old u).known n.number }) e
-          (in_row ∙ wrote ∙ ap (λ (x : RowContent). let y : RowContent = record x { known = max x.known n.number } in y) (read_is ∙ ap (λ x. row_at x s) w.is));
-      others = subst (λ (v : Stream). (u : Stream) → u.source < MEMBERS → same_stream u v ≡ false → SameRow (row_at old u) (row_at new u)) e in_others;
+      stream = subst (λ (u : Stream). places_of_stream new u ≡ record (places_of_stream old u) { known = max (places_of_stream old u).known n.number }) e
+          (in_row ∙ wrote ∙ ap (λ (x : StreamContent). let y : StreamContent = record x { known = max x.known n.number } in y) (read_is ∙ ap (λ x. places_of_stream x s) w.is));
+      others = subst (λ (v : Stream). (u : Stream) → u.source < MEMBERS → same_stream u v ≡ false → SameStreamPlaces (places_of_stream old u) (places_of_stream new u)) e in_others;
     }
 
-    pub in_gains : (d : Drawop) → s ≡ d.name.stream → RowGains d read r → TableGains d old new
+    pub in_gains : (d : Drawop) → s ≡ d.name.stream → StreamGains d read r → TableGains d old new
     in_gains d e wrote = record {
       pages = subst (λ (u : Stream). new.pages ≡ with_page old.pages u.page) e in_pages;
-      row = subst (λ (u : Stream). RowGains d (row_at old u) (row_at new u)) e
-          (subst (RowGains d (row_at old s)) (sym in_row) (subst (λ x. RowGains d x r) (read_is ∙ ap (λ x. row_at x s) w.is) wrote));
-      others = subst (λ (v : Stream). (u : Stream) → u.source < MEMBERS → same_stream u v ≡ false → SameRow (row_at old u) (row_at new u)) e in_others;
+      stream = subst (λ (u : Stream). StreamGains d (places_of_stream old u) (places_of_stream new u)) e
+          (subst (StreamGains d (places_of_stream old s)) (sym in_row) (subst (λ x. StreamGains d x r) (read_is ∙ ap (λ x. places_of_stream x s) w.is) wrote));
+      others = subst (λ (v : Stream). (u : Stream) → u.source < MEMBERS → same_stream u v ≡ false → SameStreamPlaces (places_of_stream old u) (places_of_stream new u)) e in_others;
     }
 
-pub knows_still : (read r : RowContent) (k : ℕ) → r ≡ record read { known = k } → RowStillHas read r
-knows_still read r k e = record { each = λ n there. ap (λ (x : RowContent). has_place x.places n) e ∙ there }
+pub knows_still : (read r : StreamContent) (k : ℕ) → r ≡ record read { known = k } → StreamStillHas read r
+knows_still read r k e = record { each = λ n there. ap (λ (x : StreamContent). has_place x.places n) e ∙ there }
 
 pub places_made : (t old : TableContent) (n : FullName) (s : Stream) (first end source number : ℕ)
     → t.pages ≡ old.pages → s ≡ n.stream → first ≡ slot_of old.pages s.page → source ≡ s.source → number ≡ n.number → slots_end old.pages s.page ≡ end
-    → ((slot : ℕ) → first ≤ slot → slot < end → has_place (row_in t.rows slot source).places number ≡ true) → HasPlaceFor n t
+    → ((slot : ℕ) → first ≤ slot → slot < end → has_place (stream_in t.streams slot source).places number ≡ true) → HasPlaceFor n t
 places_made t old n s first end source number pages stream first_is source_is number_is end_is made = record {
   each = λ slot low high.
       let starts : slot_of t.pages n.stream.page ≡ first = ap (λ ps. slot_of ps n.stream.page) pages ∙ ap (λ (u : Stream). slot_of old.pages u.page) (sym stream) ∙ sym first_is in
       let ends : slots_end t.pages n.stream.page ≡ end = ap (λ ps. slots_end ps n.stream.page) pages ∙ ap (λ (u : Stream). slots_end old.pages u.page) (sym stream) ∙ end_is in
-      ap (λ k. has_place (row_in t.rows slot k).places n.number) (sym (source_is ∙ ap (λ (u : Stream). u.source) stream)) ∙ ap (has_place (row_in t.rows slot source).places) (sym number_is) ∙ made slot (omega (arith, starts, low)) (omega (arith, ends, high));
+      ap (λ k. has_place (stream_in t.streams slot k).places n.number) (sym (source_is ∙ ap (λ (u : Stream). u.source) stream)) ∙ ap (has_place (stream_in t.streams slot source).places) (sym number_is) ∙ made slot (omega (arith, starts, low)) (omega (arith, ends, high));
 }

@@ -5,7 +5,7 @@ use Rattle.srm_names.specs.declared.drawop.Drawop.{Drawop}
 use Rattle.srm_names.specs.FullName.{FullName}
 use Rattle.srm_names.specs.Names.{named}
 use Rattle.srm_store.specs.declared.insert.Insert.TheVariants.{Fresh, Known, Conflict}
-use Rattle.srm_store.specs.Held.{held_at, is_held, is_missing, insert_answer, known, missing, newly_missing, released, overflows, outgrow, page_of_name}
+use Rattle.srm_store.specs.Held.{held_at, is_held, is_missing, insert_answer, known, missing, newly_missing, released, lacks_room, outgrow, page_of_name}
 use Rattle.srm_store.specs.Tables.{with_pages}
 use Rattle.srm_store.specs.Finals.{Settling, final}
 
@@ -67,10 +67,10 @@ another_body = refl
 abbrev seven : List FullName
 seven = map (λ k. named (on_page 0 k) 1) (1 ∷ 2 ∷ 3 ∷ 4 ∷ 5 ∷ 6 ∷ 7 ∷ [])
 
-a_ninth : overflows [] seven (record { creator = 0; number = 8 }) ≡ true
+a_ninth : lacks_room [] seven (record { creator = 0; number = 8 }) ≡ true
 a_ninth = refl
 
-one_of_the_eight : overflows [] seven (record { creator = 0; number = 7 }) ≡ false
+one_of_the_eight : lacks_room [] seven (record { creator = 0; number = 7 }) ≡ false
 one_of_the_eight = refl
 
 -- four names on three pages, one of them in the table

@@ -8,14 +8,14 @@ use Rattle.srm_names.specs.declared.drawop.Drawop.{Drawop}
 use Rattle.srm_names.specs.FullName.{FullName}
 use Rattle.srm_store.specs.Held.{held_at, known, pages_named}
 use Rattle.srm_store.specs.Finals.{Settling, rows_of, rows_kept}
-use Rattle.srm_store.specs.Tables.{is_in, each_once, row_at, drawop_in_table}
+use Rattle.srm_store.specs.Tables.{is_in, each_once, places_of_stream, drawop_in_table}
 use Rattle.srm_store.specs.Stores.{StoreContent}
 
 pub record Fits (inserted : List Drawop) (evidence : List FullName) (settled : List Settling) (s : StoreContent) : Type 0 where
   pub pages : (p : Page) → is_in s.table.pages p ≡ is_in (pages_named inserted evidence) p
   pub once : each_once s.table.pages ≡ true
   pub held : (n : FullName) → n.stream.source < MEMBERS → drawop_in_table s.table n ≡ held_at inserted n
-  pub known : (stream : Stream) → stream.source < MEMBERS → (row_at s.table stream).known ≡ known evidence stream
+  pub known : (stream : Stream) → stream.source < MEMBERS → (places_of_stream s.table stream).known ≡ known evidence stream
   pub rows : (m : ℕ) → rows_kept s.finals m ≡ rows_of settled m
 
 -- what fits goes on to fit the same

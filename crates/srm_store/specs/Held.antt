@@ -78,5 +78,5 @@ abbrev pub outgrow : List Drawop → List FullName → List Page → Bool
 outgrow inserted evidence pages = nat_lt PAGES (length (firsts same_page (pages_named inserted evidence ++ pages)))
 
 -- and with this one
-abbrev pub overflows : List Drawop → List FullName → Page → Bool
-overflows inserted evidence page = outgrow inserted evidence (page ∷ [])
+abbrev pub lacks_room : List Drawop → List FullName → Page → Bool
+lacks_room inserted evidence page = outgrow inserted evidence (page ∷ [])

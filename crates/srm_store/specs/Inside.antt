@@ -2,35 +2,35 @@
 use Rattle.std.specs.Prelude.{◌≡◌, ℕ, ◌≤◌, ◌<◌, [], length, vec_capacity}
 use Rattle.srm_names.specs.declared.limits.TheConstants.{DRAWOPS, MEMBERS, PAGES}
 use Rattle.srm_store.specs.Places.{FilledTo}
-use Rattle.srm_store.specs.Rows.{RowContent, blank_row, SameRow}
-use Rattle.srm_store.specs.Tables.{TableContent, row_in}
+use Rattle.srm_store.specs.StreamPlaces.{StreamContent, blank_stream, SameStreamPlaces}
+use Rattle.srm_store.specs.Tables.{TableContent, stream_in}
 use Rattle.srm_store.specs.Rooms.{RoomContent}
 use Rattle.srm_store.specs.Finals.{FinalsContent}
-use Rattle.srm_store.specs.declared.table.TheConstants.{ROWS}
-use Rattle.srm_store.specs.declared.row.StreamPlaces.TheInside.{Inside as RowInside}
+use Rattle.srm_store.specs.declared.table.TheConstants.{STREAMS}
+use Rattle.srm_store.specs.declared.stream_places.StreamPlaces.TheInside.{Inside as StreamInside}
 use Rattle.srm_store.specs.declared.table.Table.TheInside.{Inside as TableInside}
 use Rattle.srm_store.specs.declared.room.Room.TheInside.{Inside as RoomInside}
 use Rattle.srm_store.specs.declared.finals.Finals.TheInside.{Inside as FinalsInside}
 use Rattle.srm_store.specs.Stores.{StoreContent}
 use Rattle.srm_store.specs.declared.store.Store.TheInside.{Inside as StoreInside}
 
-abbrev pub row_of : RowInside → RowContent
-row_of row = record { places = row.places; known = row.known }
+abbrev pub stream_of : StreamInside → StreamContent
+stream_of stream = record { places = stream.places; known = stream.known }
 
-pub record RowIsRight (row : RowInside) : Type 0 where
-  pub filled : FilledTo row.places row.front
-  pub front : row.front ≤ DRAWOPS
-  pub known : row.known ≤ DRAWOPS
+pub record StreamIsRight (stream : StreamInside) : Type 0 where
+  pub filled : FilledTo stream.places stream.cursor
+  pub cursor : stream.cursor ≤ DRAWOPS
+  pub known : stream.known ≤ DRAWOPS
 
 abbrev pub table_of : TableInside → TableContent
-table_of table = record { pages = table.pages.items; rows = table.rows.items }
+table_of table = record { pages = table.pages.items; streams = table.streams.items }
 
 -- There is a slot for each page and room for as many as a table has; the rows behind the last page are blank.
 pub record TableIsRight (table : TableInside) : Type 0 where
   pub few : length table.pages.items ≤ PAGES
   pub room : PAGES ≤ vec_capacity table.pages
-  pub size : length table.rows.items ≡ ROWS
-  pub blank : (slot source : ℕ) → length table.pages.items ≤ slot → source < MEMBERS → SameRow blank_row (row_in table.rows.items slot source)
+  pub size : length table.streams.items ≡ STREAMS
+  pub blank : (slot source : ℕ) → length table.pages.items ≤ slot → source < MEMBERS → SameStreamPlaces blank_stream (stream_in table.streams.items slot source)
 
 abbrev pub room_of : RoomInside → RoomContent
 room_of room = record { name = room.name; capacity = vec_capacity room.list }

@@ -1,7 +1,7 @@
 pub mod Held
 pub mod Finals
 pub mod Places
-pub mod Rows
+pub mod StreamPlaces
 pub mod Tables
 pub mod Rooms
 pub mod Stores

@@ -7,7 +7,7 @@ use Rattle.srm_names.specs.Names.{among}
 use Rattle.srm_store.specs.Held.{page_of_name}
 use Rattle.srm_store.specs.Rooms.{RoomContent, has_room}
 use Rattle.srm_store.specs.Finals.{FinalsContent}
-use Rattle.srm_store.specs.Tables.{TableContent, is_in, with_pages, row_at, HasPlaceFor}
+use Rattle.srm_store.specs.Tables.{TableContent, is_in, with_pages, places_of_stream, HasPlaceFor}
 
 pub record StoreContent : Type 0 where
   pub table : TableContent
@@ -18,7 +18,7 @@ pub record StoreContent : Type 0 where
 pub record IsReady (n : FullName) (s : StoreContent) : Type 0 where
   pub source : n.stream.source < MEMBERS
   pub place : HasPlaceFor n s.table
-  pub answer : nat_le n.number (row_at s.table n.stream).known || has_room s.rooms n (n.number - (row_at s.table n.stream).known) ≡ true
+  pub answer : nat_le n.number (places_of_stream s.table n.stream).known || has_room s.rooms n (n.number - (places_of_stream s.table n.stream).known) ≡ true
 
 -- the table has slots for all of these pages: with them it has no more pages than it may
 pub record HasSlots (pages : List Page) (s : StoreContent) : Type 0 where

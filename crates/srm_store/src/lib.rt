@@ -22,8 +22,8 @@ mod insert;
 mod places;
 mod room;
 mod rooms;
-mod row;
 mod store;
+mod stream_places;
 mod table;
 
 pub use fault::StoreFault;

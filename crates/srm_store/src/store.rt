@@ -7,7 +7,7 @@ ghost use Rattle.srm_names.specs.declared.page.Page.{Page as APage};
 ghost use Rattle.srm_names.specs.FullName.{FullName};
 ghost use Rattle.srm_names.specs.Names.{among};
 ghost use Rattle.srm_store.specs.declared.fault.StoreFault.TheVariants.{PageLimit, Memory};
-ghost use Rattle.srm_store.specs.Held.{held_at, is_held, known, missing, newly_missing, released, insert_answer, overflows, outgrow, page_of_name};
+ghost use Rattle.srm_store.specs.Held.{held_at, is_held, known, missing, newly_missing, released, insert_answer, lacks_room, outgrow, page_of_name};
 ghost use Rattle.srm_store.specs.Finals.{Settling, final};
 ghost use Rattle.srm_store.specs.Stores.{HasSlots, KeepsSlots, IsReady, IsReadyToSettle, AreReady, HavePlaces, StaysReady, KeepsRoom};
 ghost use Rattle.srm_store.specs.Tables.{is_in, HasPlaceFor, StillHasPlaces};
@@ -161,7 +161,7 @@ impl Store {
         ensures pages { self.new.table.pages ≡ self.old.table.pages }
     {
         self.table.make_places(name)?;
-        let known = self.table.row(name.stream()).known();
+        let known = self.table.places_of_stream(name.stream()).known();
         rooms.make(name, name.number().saturating_sub(known) as usize)
     }
 
@@ -175,7 +175,7 @@ impl Store {
             → answer ≡ insert_answer drawop (held_at inserted drawop.name)) }
         ensures err { OnErr result (StillFits self.old self.new) }
         ensures limit { (inserted : List ADrawop) (evidence : List FullName) (settled : List Settling) → Fits inserted evidence settled self.old
-            → ((result ≡ Err PageLimit) ↔ (overflows inserted evidence drawop.name.stream.page ≡ true)) }
+            → ((result ≡ Err PageLimit) ↔ (lacks_room inserted evidence drawop.name.stream.page ≡ true)) }
         ensures room { IsReady drawop.name self.old → result ≢ Err Memory }
         ensures place { HasPlaceFor drawop.name self.old.table → result ≢ Err Memory }
         ensures slot { (pages : List APage) → is_in pages drawop.name.stream.page ≡ true → HasSlots pages self.old → result ≢ Err PageLimit }
@@ -198,7 +198,7 @@ impl Store {
             → names.items ≡ newly_missing inserted evidence name) }
         ensures err { OnErr result (StillFits self.old self.new) }
         ensures limit { (inserted : List ADrawop) (evidence : List FullName) (settled : List Settling) → Fits inserted evidence settled self.old
-            → ((result ≡ Err PageLimit) ↔ (overflows inserted evidence name.stream.page ≡ true)) }
+            → ((result ≡ Err PageLimit) ↔ (lacks_room inserted evidence name.stream.page ≡ true)) }
         ensures room { IsReady name self.old → result ≢ Err Memory }
         ensures slot { (pages : List APage) → is_in pages name.stream.page ≡ true → HasSlots pages self.old → result ≢ Err PageLimit }
         ensures slots { KeepsSlots name.stream.page self.old self.new }
@@ -207,7 +207,7 @@ impl Store {
     {
         let stream = name.stream();
         self.table.slot_for(stream.page)?;
-        let known = self.table.row(stream).known();
+        let known = self.table.places_of_stream(stream).known();
         let count = name.number().saturating_sub(known);
         let mut list = self.rooms.take(name, count as usize);
         list.reserve(count as usize)?;
@@ -225,7 +225,7 @@ impl Store {
             → Fits inserted (evidence ++ name ∷ []) settled self.new) }
         ensures err { OnErr result (self.new ≡ self.old) }
         ensures limit { (inserted : List ADrawop) (evidence : List FullName) (settled : List Settling) → Fits inserted evidence settled self.old
-            → ((result ≡ Err PageLimit) ↔ (overflows inserted evidence name.stream.page ≡ true)) }
+            → ((result ≡ Err PageLimit) ↔ (lacks_room inserted evidence name.stream.page ≡ true)) }
         ensures memory { result ≢ Err Memory }
         ensures slot { (pages : List APage) → is_in pages name.stream.page ≡ true → HasSlots pages self.old → result ≢ Err PageLimit }
         ensures slots { KeepsSlots name.stream.page self.old self.new }
@@ -245,7 +245,7 @@ impl Store {
             → names.items ≡ missing inserted evidence stream) }
         ensures err { OnErr result (result ≡ Err Memory) }
     {
-        let known = self.table.row(stream).known();
+        let known = self.table.places_of_stream(stream).known();
         let names = self.table.unheld(Vec::new(self.alloc), &stream, 0, known)?;
         Ok(names)
     }
@@ -255,7 +255,9 @@ impl Store {
         ensures { (inserted : List ADrawop) (evidence : List FullName) (settled : List Settling) → Fits inserted evidence settled self.now
             → result ≡ is_held inserted name }
     {
-        self.table.row(name.stream()).holds(name.number())
+        self.table
+            .places_of_stream(name.stream())
+            .holds(name.number())
     }
 
     /// The drawop that is held under this name. Takes no memory.
@@ -263,7 +265,9 @@ impl Store {
         ensures { (inserted : List ADrawop) (evidence : List FullName) (settled : List Settling) → Fits inserted evidence settled self.now
             → option_copied result ≡ held_at inserted name }
     {
-        self.table.row(name.stream()).get(name.number())
+        self.table
+            .places_of_stream(name.stream())
+            .get(name.number())
     }
 
     /// The greatest number of a stream that is known to exist, or 0. Takes no memory.
@@ -272,7 +276,7 @@ impl Store {
             → result ≡ known evidence stream }
         ensures last { result ≤ DRAWOPS }
     {
-        self.table.row(stream).known()
+        self.table.places_of_stream(stream).known()
     }
 
     /// How many drawops of a stream may be released: those from number 1 to the one in front of the first gap. Takes no
@@ -282,7 +286,7 @@ impl Store {
             → result ≡ length (released inserted stream) }
         ensures last { result ≤ DRAWOPS }
     {
-        self.table.row(stream).released()
+        self.table.places_of_stream(stream).released()
     }
 
     /// A member left, and its streams go as far as these rows say, which are rows of that member. A second settling of a

@@ -2,20 +2,20 @@
 
 ghost use Rattle.std.specs.Prelude.{◌≡◌, ◌≢◌, ◌≤◌, ◌<◌, ◌+◌, ◌*◌, ◌↔◌, nat_le, OnOk, IsOk, IfOk, OnErr, IsErr, [], length, map, take, vec_capacity};
 ghost use Rattle.srm_store.specs.Held.{insert_answer, names_after, page_of_name};
-ghost use Rattle.srm_store.specs.Rows.{row_unheld};
+ghost use Rattle.srm_store.specs.StreamPlaces.{unheld_in_stream};
 ghost use Rattle.srm_store.specs.declared.fault.StoreFault.TheVariants.{PageLimit, Memory};
-ghost use Rattle.srm_store.specs.Tables.{row_at, drawop_in_table, slot_of, with_page, with_pages, IsNewTable, SameTable, TableGains, TableLearns, HasPlaceFor, StillHasPlaces};
+ghost use Rattle.srm_store.specs.Tables.{places_of_stream, drawop_in_table, slot_of, with_page, with_pages, IsNewTable, SameTable, TableGains, TableLearns, HasPlaceFor, StillHasPlaces};
 
 use crate::fault::StoreFault;
 use crate::insert::Insert;
-use crate::row::StreamPlaces;
+use crate::stream_places::StreamPlaces;
 use srm_names::{DRAWOPS, Drawop, MEMBERS, Member, Name, PAGES, Page, Stream};
 use std::alloc::{AllocError, Global};
 use std::marker::Model;
 
 /// Rows in the table: one for each source in each slot, and one more of each, which are never written and answer for
 /// pages that have no slot.
-const ROWS: usize = (PAGES as usize + 1) * MEMBERS as usize;
+const STREAMS: usize = (PAGES as usize + 1) * MEMBERS as usize;
 
 /// The rows of all streams, by page slot and source. A row is found by looking through the pages, of which there are at
 /// most [`PAGES`], and by its place.
@@ -24,7 +24,7 @@ pub struct Table {
     /// The pages by slot, in the order in which they were named.
     pages: Vec<Page>,
     /// The rows, slot after slot. Those behind the last page are blank.
-    rows: Vec<StreamPlaces>,
+    streams: Vec<StreamPlaces>,
 }
 
 impl Model for Table {
@@ -46,11 +46,11 @@ impl Table {
     {
         let mut pages = Vec::with_capacity(alloc, PAGES as usize)?;
         pages.push(Page::first())?;
-        let mut rows = Vec::with_capacity(alloc, ROWS)?;
-        for _row in 0..ROWS {
-            rows.push(StreamPlaces::new(alloc))?;
+        let mut streams = Vec::with_capacity(alloc, STREAMS)?;
+        for _stream in 0..STREAMS {
+            streams.push(StreamPlaces::new(alloc))?;
         }
-        Ok(Table { pages, rows })
+        Ok(Table { pages, streams })
     }
 
     /// The slot of a page: the one after the last, where it has none.
@@ -78,12 +78,12 @@ impl Table {
     }
 
     /// The row of a stream. That of a page without a slot is blank.
-    pub fn row(&self, stream: Stream) -> &StreamPlaces
-        ensures value { result.now ≡ row_at self.now stream }
+    pub fn places_of_stream(&self, stream: Stream) -> &StreamPlaces
+        ensures value { result.now ≡ places_of_stream self.now stream }
         ensures source { stream.source < MEMBERS }
     {
         let slot = self.slot(stream.page);
-        &self.rows[place(slot, stream.source)]
+        &self.streams[place(slot, stream.source)]
     }
 
     /// The names of a stream after a number, so many of them, that aren't held, in an empty list.
@@ -96,10 +96,11 @@ impl Table {
     ) -> Result<Vec<Name>, AllocError>
         requires empty { list.items ≡ [] }
         requires last { after + count ≤ DRAWOPS }
-        ensures ok { IfOk result (λ names. names.items ≡ row_unheld (row_at self.now stream.now) (names_after stream.now after count)) }
+        ensures ok { IfOk result (λ names. names.items ≡ unheld_in_stream (places_of_stream self.now stream.now) (names_after stream.now after count)) }
         ensures again { count ≤ vec_capacity list → IsOk result }
     {
-        self.row(*stream).add_unheld(list, stream, after, count)
+        self.places_of_stream(*stream)
+            .add_unheld(list, stream, after, count)
     }
 
     /// Holds a drawop, unless one of its name is held.
@@ -115,7 +116,7 @@ impl Table {
     {
         let stream = drawop.name.stream();
         let slot = self.slot_for(stream.page)?;
-        let answer = self.rows[place(slot, stream.source)].insert(drawop)?;
+        let answer = self.streams[place(slot, stream.source)].insert(drawop)?;
         seat(&mut self.pages, slot, &stream.page);
         Ok(answer)
     }
@@ -128,7 +129,7 @@ impl Table {
     {
         let stream = name.stream();
         let slot = self.slot(stream.page);
-        self.rows[place(slot, stream.source)].know(name.number());
+        self.streams[place(slot, stream.source)].know(name.number());
         seat(&mut self.pages, slot, &stream.page);
     }
 
@@ -161,7 +162,7 @@ impl Table {
         let source = stream.source.index();
         let number = name.number();
         for slot in first..end {
-            self.rows[slot * MEMBERS as usize + source].make_place(number)?;
+            self.streams[slot * MEMBERS as usize + source].make_place(number)?;
         }
         Ok(())
     }

@@ -20,10 +20,10 @@ pub same_itself : (n : FullName) → same_name n n ≡ true
 same_itself n = grind arith
 
 -- one more arm that is drawn
-pub drawn_more : {W : Type 0} (draw : W → ℕ × W) (low high : Arm → ℕ) (from mid to : W) (arms : List Arm) (a : Arm)
-    → AreChosen draw low high from arms mid → AreChosen draw low high mid (a ∷ []) to → AreChosen draw low high from (arms ++ a ∷ []) to
-drawn_more draw low high from mid to [] a h k = subst (λ w. AreChosen draw low high w (a ∷ []) to) h k
-drawn_more draw low high from mid to (b ∷ arms) a h k = (h.0, drawn_more draw low high (draw from).1 mid to arms a h.1 k)
+pub chosen_more : {W : Type 0} (next_word : W → ℕ × W) (low high : Arm → ℕ) (from mid to : W) (arms : List Arm) (a : Arm)
+    → AreChosen next_word low high from arms mid → AreChosen next_word low high mid (a ∷ []) to → AreChosen next_word low high from (arms ++ a ∷ []) to
+chosen_more next_word low high from mid to [] a h k = subst (λ w. AreChosen next_word low high w (a ∷ []) to) h k
+chosen_more next_word low high from mid to (b ∷ arms) a h k = (h.0, chosen_more next_word low high (next_word from).1 mid to arms a h.1 k)
 
 pub members_more : (name : FullName) (source : ℕ) (arms : List Arm) (a : Arm) → AreOfMembers arms → a.name ≡ name → source ≡ name.stream.source → source < MEMBERS → AreOfMembers (arms ++ a ∷ [])
 members_more name source arms a h named is below =

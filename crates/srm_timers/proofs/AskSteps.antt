@@ -15,7 +15,7 @@ use Rattle.srm_names.specs.Moments.{has_come}
 use Rattle.srm_timers.specs.Ends.{arm_end, SetsEnds}
 use Rattle.srm_timers.specs.Timers.{armed_at, SetsTimers}
 use Rattle.srm_deadlines.specs.Places.{value_at, value_in, is_at, has_place, KeepsValues, Sets, IsLeast}
-use Rattle.srm_timers.specs.AskCalls.{AskCall, Set, Gained, timer_after, flat, ask_timer, sets, AskFits, AskContent, AskAdds, AskBacksOff, AskRuns, AskNext, AskDue, AskedFirst, AskedAgain, found_plan, found_basis, AskStays, ask_basis, ask_plan, AskReady, AskTimersRun, DetectReady, DueReady, again_exponent, again_plan, again_basis, due_basis}
+use Rattle.srm_timers.specs.AskCalls.{AskCall, Set, Gained, timer_after, flat, ask_timer, sets, AskFits, AskContent, AskAdds, AskExponentWhenHeard, AskExponentWhenDue, AskNext, AskDue, ArmsOfFound, ArmsSetAgain, found_plan, found_basis, AskStays, ask_basis, ask_plan, AskReady, AskTimersRun, DetectReady, DueReady, again_exponent, again_plan, again_basis, due_basis}
 use Rattle.srm_timers.specs.Distances.{distance_to}
 use Rattle.srm_timers.proofs.Arming.{last_arms, planned_names, planned_are}
 
@@ -229,7 +229,7 @@ due_is now a names right due = record {
 }
 
 -- the names whose timers ran out, armed again
-pub asked_again : (now : ℕ) (dist : List ℕ) (a : AskContent) (names : List FullName) (arms : List Arm) → AskDue now a names → map plan_of arms ≡ map (again_plan dist (value_at a.timers)) names → AskedAgain now dist a arms
+pub asked_again : (now : ℕ) (dist : List ℕ) (a : AskContent) (names : List FullName) (arms : List Arm) → AskDue now a names → map plan_of arms ≡ map (again_plan dist (value_at a.timers)) names → ArmsSetAgain now dist a arms
 asked_again now dist a names arms due plans = record {
   each = λ c1 c2 calls h.
       let exact = due.each c1 c2 calls h in
@@ -238,7 +238,7 @@ asked_again now dist a names arms due plans = record {
 }
 
 pub found_are : (dist : List ℕ) (names asked : List FullName) (arms : List Arm) → ascending name_below names ≡ true → map plan_of arms ≡ map (found_plan asked dist) names
-    → AskedFirst names asked dist arms
+    → ArmsOfFound names asked dist arms
 found_are dist names asked arms rising plans = record { are = planned_are (found_plan asked dist) (found_basis names asked dist) names arms (λ n. refl) rising plans (λ n. refl) }
 
 pub found_rise : (dist : List ℕ) (names asked : List FullName) (arms arms' : List Arm) → map plan_of arms ≡ map (found_plan asked dist) names → arms' ≡ arms
@@ -254,10 +254,10 @@ pub again_rise : (dist : List ℕ) (timer : FullName → Option Armed) (names : 
     → ascending name_below names ≡ true → ascending name_below (arm_names arms') ≡ true
 again_rise dist timer names arms arms' plans is rising = ap (λ list. ascending name_below (arm_names list)) is ∙ ap (ascending name_below) (planned_names (again_plan dist timer) (λ n. refl) names arms plans) ∙ rising
 
-pub backs_off_is : (name : FullName) (now : ℕ) (a : AskContent) (exponent : Option ℕ) → exponent ≡ backs_off now (value_at a.timers name) → AskBacksOff name now a exponent
+pub backs_off_is : (name : FullName) (now : ℕ) (a : AskContent) (exponent : Option ℕ) → exponent ≡ backs_off now (value_at a.timers name) → AskExponentWhenHeard name now a exponent
 backs_off_is name now a exponent is = record { each = λ c1 c2 calls h. is ∙ ap (backs_off now) (h.timers name) }
 
-pub runs_is : (name : FullName) (a : AskContent) (exponent : Option ℕ) → exponent ≡ option_map next_exponent (value_at a.timers name) → AskRuns name a exponent
+pub runs_is : (name : FullName) (a : AskContent) (exponent : Option ℕ) → exponent ≡ option_map next_exponent (value_at a.timers name) → AskExponentWhenDue name a exponent
 runs_is name a exponent is = record { each = λ c1 c2 calls h. is ∙ ap (option_map next_exponent) (h.timers name) }
 
 pub next_is : (a : AskContent) (moment : Option ℕ) → ((n : FullName) → value_at a.ends.places n ≡ option_map runs_out_at (value_at a.timers n)) → IsLeast a.ends.places moment → AskNext a moment

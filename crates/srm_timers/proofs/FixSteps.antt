@@ -16,12 +16,12 @@ use Rattle.srm_deadlines.specs.declared.by_name.NamedValue.{NamedValue}
 use Rattle.srm_timers.specs.Arms.{Plan, plan_of, runs_out_at, ran_out, arm_names, arm_of}
 use Rattle.srm_names.specs.Moments.{has_come}
 use Rattle.srm_timers.specs.Distances.{distance_to}
-use Rattle.srm_timers.specs.Ends.{EndContent, arm_end, SetsEnds}
+use Rattle.srm_timers.specs.Ends.{ExpiryContent, arm_end, SetsEnds}
 use Rattle.srm_timers.specs.Timers.{armed_at}
 use Rattle.srm_deadlines.specs.Places.{value_at, KeepsValues, Sets, ClearsAll, IsLeast}
 use Rattle.srm_timers.specs.AskCalls.{flat}
 use Rattle.srm_timers.specs.Marks.{NotesAsker, OffAsBefore}
-use Rattle.srm_timers.specs.FixCalls.{FixCall, Asked, SetFix, Repaired, asker_by, asked_first, first_asker, ran_by, fix_timer, is_off_by, is_off, is_free, sets_fix, hold_end, repair_by, repair_calls, FixFits, FixContent, FixStays, FixAdds, FixRepairs, FixDue, FixNext, FixIsFree, FixFirstAsker, FixAnswers, fix_plan, FixPlace, FixPlaces, HoldsOff, HoldAllOff, asker_at, is_held_off, held_off_until}
+use Rattle.srm_timers.specs.FixCalls.{FixCall, Asked, SetFix, Repaired, asker_by, asked_first, first_asker, fix_timer_after, fix_timer, call_holds_off, calls_hold_off, is_free, sets_fix, repair_holds_until, repair_by, repair_calls, FixFits, FixContent, FixStays, FixAdds, FixRepairs, FixDue, FixNext, FixIsFree, FixFirstAsker, FixAnswers, fix_plan, FixPlace, FixPlaces, HoldsOff, HoldAllOff, asker_at, is_held_off, held_off_until}
 use Rattle.srm_deadlines.proofs.Order.{map_take}
 use Rattle.srm_timers.proofs.Arming.{same_itself, last_arms}
 pub use Rattle.srm_deadlines.proofs.Tables.{holds_on}
@@ -52,22 +52,22 @@ no_asker-repairs now dist calls [] n = refl
 no_asker-repairs now dist calls (m ∷ names) n = no_asker-repairs now dist calls names n
 
 -- calls that hold no name off leave it as it was
-pub is_off-append : (calls more : List FixCall) (n : FullName) (now : ℕ) → list_any (is_off_by n now) more ≡ false → is_off (calls ++ more) n now ≡ is_off calls n now
-is_off-append [] more n now e = e
-is_off-append (c ∷ calls) more n now e = ap (λ b. is_off_by n now c || b) (is_off-append calls more n now e)
+pub calls_hold_off-append : (calls more : List FixCall) (n : FullName) (now : ℕ) → list_any (call_holds_off n now) more ≡ false → calls_hold_off (calls ++ more) n now ≡ calls_hold_off calls n now
+calls_hold_off-append [] more n now e = e
+calls_hold_off-append (c ∷ calls) more n now e = ap (λ b. call_holds_off n now c || b) (calls_hold_off-append calls more n now e)
 
-pub none_off-sets : (m : ℕ) (arms : List Arm) (n : FullName) (now : ℕ) → list_any (is_off_by n now) (sets_fix m arms) ≡ false
+pub none_off-sets : (m : ℕ) (arms : List Arm) (n : FullName) (now : ℕ) → list_any (call_holds_off n now) (sets_fix m arms) ≡ false
 none_off-sets m [] n now = refl
 none_off-sets m (a ∷ arms) n now = none_off-sets m arms n now
 
 pub fix_timer-asked : (calls : List FixCall) (name : FullName) (from : ℕ) (n : FullName) → fix_timer (calls ++ Asked name from ∷ []) n ≡ fix_timer calls n
-fix_timer-asked calls name from n = ap flat (last_of-snoc (ran_by n) calls (Asked name from))
+fix_timer-asked calls name from n = ap flat (last_of-snoc (fix_timer_after n) calls (Asked name from))
 
 pub fix_timer-sets : (calls : List FixCall) (now : ℕ) (arms : List Arm) (n : FullName) → ascending name_below (arm_names arms) ≡ true
     → fix_timer (calls ++ sets_fix now arms) n ≡ or_else (option_map (armed_at now) (arm_of n arms)) (fix_timer calls n)
 fix_timer-sets calls now arms n rising =
-    ap flat (last_of-append (ran_by n) calls (sets_fix now arms) ∙ ap (λ o. or_else o (last_of (ran_by n) calls)) (last_arms ran_by (SetFix now) (λ a. Some (armed_at now a)) (λ m a. refl) n arms rising))
-    ∙ flat_set now (arm_of n arms) (last_of (ran_by n) calls)
+    ap flat (last_of-append (fix_timer_after n) calls (sets_fix now arms) ∙ ap (λ o. or_else o (last_of (fix_timer_after n) calls)) (last_arms fix_timer_after (SetFix now) (λ a. Some (armed_at now a)) (λ m a. refl) n arms rising))
+    ∙ flat_set now (arm_of n arms) (last_of (fix_timer_after n) calls)
 
 flat_ran : (b : Bool) (o : Option Armed) (last : Option (Option Armed)) → flat (or_else (if b then Some o else None) last) ≡ (if b then o else flat last)
 flat_ran true o last = refl
@@ -75,14 +75,14 @@ flat_ran false o last = refl
 
 pub fix_timer-repaired : (calls : List FixCall) (name : FullName) (until : ℕ) (n : FullName)
     → fix_timer (calls ++ Repaired name until ∷ []) n ≡ (if same_name n name then None else fix_timer calls n)
-fix_timer-repaired calls name until n = ap flat (last_of-snoc (ran_by n) calls (Repaired name until)) ∙ flat_ran (same_name n name) None (last_of (ran_by n) calls)
+fix_timer-repaired calls name until n = ap flat (last_of-snoc (fix_timer_after n) calls (Repaired name until)) ∙ flat_ran (same_name n name) None (last_of (fix_timer_after n) calls)
 
-pub is_off-asked : (calls : List FixCall) (name : FullName) (from : ℕ) (n : FullName) (now : ℕ) → is_off (calls ++ Asked name from ∷ []) n now ≡ is_off calls n now
-is_off-asked calls name from n now = list_any-snoc (is_off_by n now) calls (Asked name from) ∙ or_false (is_off calls n now)
+pub calls_hold_off-asked : (calls : List FixCall) (name : FullName) (from : ℕ) (n : FullName) (now : ℕ) → calls_hold_off (calls ++ Asked name from ∷ []) n now ≡ calls_hold_off calls n now
+calls_hold_off-asked calls name from n now = list_any-snoc (call_holds_off n now) calls (Asked name from) ∙ or_false (calls_hold_off calls n now)
 
-pub is_off-repaired : (calls : List FixCall) (name : FullName) (until : ℕ) (n : FullName) (now : ℕ)
-    → is_off (calls ++ Repaired name until ∷ []) n now ≡ is_off calls n now || same_name n name && nat_lt now until
-is_off-repaired calls name until n now = list_any-snoc (is_off_by n now) calls (Repaired name until)
+pub calls_hold_off-repaired : (calls : List FixCall) (name : FullName) (until : ℕ) (n : FullName) (now : ℕ)
+    → calls_hold_off (calls ++ Repaired name until ∷ []) n now ≡ calls_hold_off calls n now || same_name n name && nat_lt now until
+calls_hold_off-repaired calls name until n now = list_any-snoc (call_holds_off n now) calls (Repaired name until)
 
 -- who asked is noted, with the askers as they are then
 fits_asked : (d1 d2 : ℕ) (calls : List FixCall) (name : FullName) (from : ℕ) (a b : FixContent) → FixFits d1 d2 calls a → b.d1 ≡ a.d1 → b.d2 ≡ a.d2
@@ -92,8 +92,8 @@ fits_asked d1 d2 calls name from a b h p q ends held_off askers = record {
   d1_is = p ∙ h.d1_is;
   d2_is = q ∙ h.d2_is;
   askers = λ n. askers.each n ∙ ap (λ o. or_else o (if same_name n name then Some from else None)) (h.askers n) ∙ sym (asked_first-snoc calls (Asked name from) n);
-  ends = λ n. ap (λ (e : EndContent). value_at e.places n) ends ∙ h.ends n ∙ sym (ap (option_map runs_out_at) (fix_timer-asked calls name from n));
-  held_off = λ n now. held_off.each n now ∙ h.held_off n now ∙ sym (is_off-asked calls name from n now);
+  ends = λ n. ap (λ (e : ExpiryContent). value_at e.places n) ends ∙ h.ends n ∙ sym (ap (option_map runs_out_at) (fix_timer-asked calls name from n));
+  held_off = λ n now. held_off.each n now ∙ h.held_off n now ∙ sym (calls_hold_off-asked calls name from n now);
 }
 
 pub new_asker : (name : FullName) (from : ℕ) (n : FullName) (f : FullName → Option ℕ) → f name ≡ None → (b : Bool) → same_name n name ≡ b
@@ -111,7 +111,7 @@ fits_sets_fix d1 d2 calls now arms a b h p q askers held_off rising ends = recor
   askers = λ n. ap (λ e. value_at e n) askers ∙ h.askers n ∙ sym (asked_first-append calls (sets_fix now arms) n (no_asker-sets now arms n));
   ends = λ n. ends.each n ∙ ap (or_else (option_map (arm_end now) (arm_of n arms))) (h.ends n) ∙ ends_set now (arm_of n arms) (fix_timer calls n)
       ∙ sym (ap (option_map runs_out_at) (fix_timer-sets calls now arms n rising));
-  held_off = λ n t. ap (λ e. nat_lt t (unwrap_or (value_at e n) 0)) held_off ∙ h.held_off n t ∙ sym (is_off-append calls (sets_fix now arms) n t (none_off-sets now arms n t));
+  held_off = λ n t. ap (λ e. nat_lt t (unwrap_or (value_at e n) 0)) held_off ∙ h.held_off n t ∙ sym (calls_hold_off-append calls (sets_fix now arms) n t (none_off-sets now arms n t));
 }
 
 -- one end is set
@@ -137,7 +137,7 @@ fits_ended d1 d2 calls name until a b h p q askers ends held_off = record {
   askers = λ n. askers.each n ∙ h.askers n ∙ sym (asked_first-append calls (Repaired name until ∷ []) n refl);
   ends = λ n. ends.each n ∙ if_same (same_name n name) _ _ _ (h.ends n)
       ∙ sym (ap (option_map runs_out_at) (fix_timer-repaired calls name until n) ∙ map_if runs_out_at (same_name n name) _ _);
-  held_off = λ n t. held_off n t ∙ ap (λ b. b || same_name n name && nat_lt t until) (h.held_off n t) ∙ sym (is_off-repaired calls name until n t);
+  held_off = λ n t. held_off n t ∙ ap (λ b. b || same_name n name && nat_lt t until) (h.held_off n t) ∙ sym (calls_hold_off-repaired calls name until n t);
 }
 
 longer : (name : FullName) (until : ℕ) (f : FullName → Option ℕ) → unwrap_or (f name) 0 < until → (n : FullName) (now : ℕ) (b : Bool) → same_name n name ≡ b
@@ -201,7 +201,7 @@ held_more now dist names i name distance member askers old mid new lt is asker b
 abbrev cancelled : Bool → Option (Option Armed)
 cancelled b = if b then Some None else None
 
-repairs_cancel : (now : ℕ) (dist : List ℕ) (calls : List FixCall) (names : List FullName) (n : FullName) → last_of (ran_by n) (repair_calls now dist calls names) ≡ cancelled (among names n)
+repairs_cancel : (now : ℕ) (dist : List ℕ) (calls : List FixCall) (names : List FullName) (n : FullName) → last_of (fix_timer_after n) (repair_calls now dist calls names) ≡ cancelled (among names n)
 repairs_cancel now dist calls [] n = refl
 repairs_cancel now dist calls (m ∷ names) n = ap (λ o. or_else o (cancelled (same_name n m))) (repairs_cancel now dist calls names n) ∙ go (same_name n m) (among names n)
   where
@@ -211,21 +211,21 @@ repairs_cancel now dist calls (m ∷ names) n = ap (λ o. or_else o (cancelled (
     go false true = refl
     go false false = refl
 
-repairs_hold : (now : ℕ) (dist : List ℕ) (calls : List FixCall) (names : List FullName) (n : FullName) (t : ℕ) → list_any (is_off_by n t) (repair_calls now dist calls names) ≡ (among names n && nat_lt t (hold_end now dist calls n))
+repairs_hold : (now : ℕ) (dist : List ℕ) (calls : List FixCall) (names : List FullName) (n : FullName) (t : ℕ) → list_any (call_holds_off n t) (repair_calls now dist calls names) ≡ (among names n && nat_lt t (repair_holds_until now dist calls n))
 repairs_hold now dist calls [] n t = refl
-repairs_hold now dist calls (m ∷ names) n t = ap (λ b. same_name n m && nat_lt t (hold_end now dist calls m) || b) (repairs_hold now dist calls names n t) ∙ go (same_name n m) refl (among names n)
+repairs_hold now dist calls (m ∷ names) n t = ap (λ b. same_name n m && nat_lt t (repair_holds_until now dist calls m) || b) (repairs_hold now dist calls names n t) ∙ go (same_name n m) refl (among names n)
   where
     both : (b l : Bool) → (l || b && l) ≡ l
     both true true = refl
     both true false = refl
     both false l = or_false l
 
-    go : (a : Bool) → same_name n m ≡ a → (b : Bool) → (a && nat_lt t (hold_end now dist calls m) || b && nat_lt t (hold_end now dist calls n)) ≡ ((a || b) && nat_lt t (hold_end now dist calls n))
-    go true e b = ap (λ k. nat_lt t (hold_end now dist calls k) || b && nat_lt t (hold_end now dist calls n)) (sym (same_name-is n m e)) ∙ both b (nat_lt t (hold_end now dist calls n))
+    go : (a : Bool) → same_name n m ≡ a → (b : Bool) → (a && nat_lt t (repair_holds_until now dist calls m) || b && nat_lt t (repair_holds_until now dist calls n)) ≡ ((a || b) && nat_lt t (repair_holds_until now dist calls n))
+    go true e b = ap (λ k. nat_lt t (repair_holds_until now dist calls k) || b && nat_lt t (repair_holds_until now dist calls n)) (sym (same_name-is n m e)) ∙ both b (nat_lt t (repair_holds_until now dist calls n))
     go false e b = refl
 
-any_append : (calls more : List FixCall) (n : FullName) (t : ℕ) → is_off (calls ++ more) n t ≡ (is_off calls n t || list_any (is_off_by n t) more)
-any_append calls more n t = list_any-append (is_off_by n t) calls more
+any_append : (calls more : List FixCall) (n : FullName) (t : ℕ) → calls_hold_off (calls ++ more) n t ≡ (calls_hold_off calls n t || list_any (call_holds_off n t) more)
+any_append calls more n t = list_any-append (call_holds_off n t) calls more
 
 cancels : (b : Bool) (o : Option Armed) (last : Option (Option Armed)) → flat last ≡ o → option_map runs_out_at (flat (or_else (cancelled b) last)) ≡ (if b then None else option_map runs_out_at o)
 cancels true o last e = refl
@@ -241,12 +241,12 @@ asked_first-repairs now dist calls names n = asked_first-append calls (repair_ca
 pub fix_timer-repairs : (now : ℕ) (dist : List ℕ) (calls : List FixCall) (names : List FullName) (n : FullName)
     → fix_timer (calls ++ repair_calls now dist calls names) n ≡ (if among names n then None else fix_timer calls n)
 fix_timer-repairs now dist calls names n =
-    ap flat (last_of-append (ran_by n) calls (repair_calls now dist calls names) ∙ ap (λ o. or_else o (last_of (ran_by n) calls)) (repairs_cancel now dist calls names n))
-    ∙ flat_cancelled (among names n) (last_of (ran_by n) calls)
+    ap flat (last_of-append (fix_timer_after n) calls (repair_calls now dist calls names) ∙ ap (λ o. or_else o (last_of (fix_timer_after n) calls)) (repairs_cancel now dist calls names n))
+    ∙ flat_cancelled (among names n) (last_of (fix_timer_after n) calls)
 
-pub is_off-repairs : (now : ℕ) (dist : List ℕ) (calls : List FixCall) (names : List FullName) (n : FullName) (t : ℕ)
-    → is_off (calls ++ repair_calls now dist calls names) n t ≡ (is_off calls n t || among names n && nat_lt t (hold_end now dist calls n))
-is_off-repairs now dist calls names n t = any_append calls (repair_calls now dist calls names) n t ∙ ap (λ b. is_off calls n t || b) (repairs_hold now dist calls names n t)
+pub calls_hold_off-repairs : (now : ℕ) (dist : List ℕ) (calls : List FixCall) (names : List FullName) (n : FullName) (t : ℕ)
+    → calls_hold_off (calls ++ repair_calls now dist calls names) n t ≡ (calls_hold_off calls n t || among names n && nat_lt t (repair_holds_until now dist calls n))
+calls_hold_off-repairs now dist calls names n t = any_append calls (repair_calls now dist calls names) n t ∙ ap (λ b. calls_hold_off calls n t || b) (repairs_hold now dist calls names n t)
 
 pub repairs_all : (now : ℕ) (dist : List ℕ) (names : List FullName) (a b : FixContent) → b.d1 ≡ a.d1 → b.d2 ≡ a.d2 → KeepsValues a.askers b.askers → ClearsAll names a.ends.places b.ends.places
     → HoldAllOff now dist names a.askers a.held_off b.held_off → FixRepairs now dist names a b
@@ -257,11 +257,11 @@ repairs_all now dist names a b p q askers ends off = record {
     d2_is = q ∙ h.d2_is;
     askers = λ n. askers.each n ∙ h.askers n ∙ sym (asked_first-append calls (repair_calls now dist calls names) n (no_asker-repairs now dist calls names n));
     ends = λ n. ends.each n ∙ ap (λ o. if among names n then None else o) (h.ends n)
-        ∙ sym (ap (λ o. option_map runs_out_at (flat o)) (last_of-append (ran_by n) calls (repair_calls now dist calls names) ∙ ap (λ o. or_else o (last_of (ran_by n) calls)) (repairs_cancel now dist calls names n))
-        ∙ cancels (among names n) (fix_timer calls n) (last_of (ran_by n) calls) refl);
+        ∙ sym (ap (λ o. option_map runs_out_at (flat o)) (last_of-append (fix_timer_after n) calls (repair_calls now dist calls names) ∙ ap (λ o. or_else o (last_of (fix_timer_after n) calls)) (repairs_cancel now dist calls names n))
+        ∙ cancels (among names n) (fix_timer calls n) (last_of (fix_timer_after n) calls) refl);
     held_off = λ n t. off.each n t ∙ ap (λ b. b || among names n && nat_lt t (held_off_until now dist a.askers n)) (h.held_off n t)
-        ∙ ap (λ o. is_off calls n t || among names n && nat_lt t (now + 3 * distance_to dist (unwrap_or o n.stream.source))) (h.askers n)
-        ∙ sym (any_append calls (repair_calls now dist calls names) n t ∙ ap (λ b. is_off calls n t || b) (repairs_hold now dist calls names n t));
+        ∙ ap (λ o. calls_hold_off calls n t || among names n && nat_lt t (now + 3 * distance_to dist (unwrap_or o n.stream.source))) (h.askers n)
+        ∙ sym (any_append calls (repair_calls now dist calls names) n t ∙ ap (λ b. calls_hold_off calls n t || b) (repairs_hold now dist calls names n t));
   };
 }
 

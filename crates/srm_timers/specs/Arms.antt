@@ -78,9 +78,9 @@ pub record AreFixes (arms : List Arm) : Type 0 where
   pub each : AllByRecursion IsFix arms
 
 -- the arms have exactly these settings, by name, and stand in order of name
-pub record ArmsAre (settings : FullName → Option WaitBasis) (arms : List Arm) : Type 0 where
+pub record ArmsAre (bases : FullName → Option WaitBasis) (arms : List Arm) : Type 0 where
   pub in_order : ascending name_below (arm_names arms) ≡ true
-  pub exact : (n : FullName) → option_map wait_basis (arm_of n arms) ≡ settings n
+  pub exact : (n : FullName) → option_map wait_basis (arm_of n arms) ≡ bases n
 
 -- each is of a name of a member
 pub record AreOfMembers (arms : List Arm) : Type 0 where
@@ -95,8 +95,8 @@ high_of first second a = 2 ^ a.exponent * (first + second) * a.distance
 
 -- The waits of the arms are drawn from a source, one word an arm, in order, each between its ends; `to` is the source after them.
 abbrev pub AreChosen : {W : Type 0} → (W → ℕ × W) → (low high : Arm → ℕ) → W → List Arm → W → Type 0
-AreChosen draw low high from [] to = to ≡ from
-AreChosen draw low high from (a ∷ arms) to = (a.wait ≡ low a + (draw from).0 % (high a - low a + 1)) × AreChosen draw low high (draw from).1 arms to
+AreChosen next_word low high from [] to = to ≡ from
+AreChosen next_word low high from (a ∷ arms) to = (a.wait ≡ low a + (next_word from).0 % (high a - low a + 1)) × AreChosen next_word low high (next_word from).1 arms to
 
 -- the first of the timers runs out at this moment, and none runs where there is none
 pub record RunsOutFirst (timer : FullName → Option Armed) (moment : Option ℕ) : Type 0 where

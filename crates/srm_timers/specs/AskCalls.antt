@@ -11,14 +11,14 @@ use Rattle.srm_timers.specs.declared.limits.TheConstants.{GREATEST_TIMER_SETTING
 use Rattle.srm_timers.specs.Arms.{WaitBasis, Plan, ArmsAre, RunsOutFirst, runs_out_at, ran_out, next_exponent, backs_off}
 use Rattle.srm_timers.specs.Timers.{armed_at}
 use Rattle.srm_timers.specs.Distances.{distance_to}
-use Rattle.srm_timers.specs.Ends.{EndContent, HaveRoom, KeepsRoom}
+use Rattle.srm_timers.specs.Ends.{ExpiryContent, HaveRoom, KeepsRoom}
 use Rattle.srm_deadlines.specs.Places.{value_at, has_place}
 
 -- what an Asks keeps
 pub record AskContent : Type 0 where
   pub c1 : ℕ
   pub c2 : ℕ
-  pub ends : EndContent
+  pub ends : ExpiryContent
   pub timers : List (NamedValue Armed)
   -- so many arms can be answered without memory, of names that are found missing
   pub detect_list : ℕ
@@ -95,19 +95,19 @@ pub record AskDue (now : ℕ) (a : AskContent) (names : List FullName) : Type 0 
   pub each : (c1 c2 : ℕ) (calls : List AskCall) → AskFits c1 c2 calls a → AreExactly (λ n. ran_out now (ask_timer calls n)) names
 
 -- the arms are those of the names that were found missing, in order of name
-pub record AskedFirst (names asked : List FullName) (dist : List ℕ) (arms : List Arm) : Type 0 where
+pub record ArmsOfFound (names asked : List FullName) (dist : List ℕ) (arms : List Arm) : Type 0 where
   pub are : ArmsAre (found_basis names asked dist) arms
 
 -- the arms are those of the timers that ran out, set again, in order of name
-pub record AskedAgain (now : ℕ) (dist : List ℕ) (a : AskContent) (arms : List Arm) : Type 0 where
+pub record ArmsSetAgain (now : ℕ) (dist : List ℕ) (a : AskContent) (arms : List Arm) : Type 0 where
   pub each : (c1 c2 : ℕ) (calls : List AskCall) → AskFits c1 c2 calls a → ArmsAre (due_basis now dist (ask_timer calls)) arms
 
 -- the exponent with which a request for the name, heard now, arms it again, and none where it is ignored or no timer runs
-pub record AskBacksOff (name : FullName) (now : ℕ) (a : AskContent) (exponent : Option ℕ) : Type 0 where
+pub record AskExponentWhenHeard (name : FullName) (now : ℕ) (a : AskContent) (exponent : Option ℕ) : Type 0 where
   pub each : (c1 c2 : ℕ) (calls : List AskCall) → AskFits c1 c2 calls a → exponent ≡ backs_off now (ask_timer calls name)
 
 -- the exponent with which the name is armed again where its timer ran out, and none where no timer runs
-pub record AskRuns (name : FullName) (a : AskContent) (exponent : Option ℕ) : Type 0 where
+pub record AskExponentWhenDue (name : FullName) (a : AskContent) (exponent : Option ℕ) : Type 0 where
   pub each : (c1 c2 : ℕ) (calls : List AskCall) → AskFits c1 c2 calls a → exponent ≡ option_map next_exponent (ask_timer calls name)
 
 -- when the first timer runs out
@@ -135,7 +135,7 @@ pub record DueReady (names : List FullName) (a : AskContent) : Type 0 where
   pub look_up : length names ≤ a.names
 
 -- neither of the two needs memory
-pub record AnswerReady (names : List FullName) (a : AskContent) : Type 0 where
+pub record DetectAndDueReady (names : List FullName) (a : AskContent) : Type 0 where
   pub detect : DetectReady names a
   pub due : DueReady names a
 

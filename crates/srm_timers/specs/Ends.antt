@@ -13,7 +13,7 @@ use Rattle.srm_timers.specs.Timers.{armed_at}
 use Rattle.srm_deadlines.specs.Places.{value_at, has_place}
 
 -- what an Ends keeps
-pub record EndContent : Type 0 where
+pub record ExpiryContent : Type 0 where
   pub places : List (NamedValue ℕ)
   -- so many can be set in one call without memory
   pub room : ℕ
@@ -37,11 +37,11 @@ pub record AreShort (arms : List Arm) : Type 0 where
   pub each : AllByRecursion is_short arms
 
 -- the ends of the names can be set in one call without memory
-pub record HaveRoom (names : List FullName) (ends : EndContent) : Type 0 where
+pub record HaveRoom (names : List FullName) (ends : ExpiryContent) : Type 0 where
   pub places : (n : FullName) → among names n ≡ true → has_place ends.places n ≡ true
   pub room : length names ≤ ends.room
 
 -- whatever has a place, or room, still has it
-pub record KeepsRoom (old new : EndContent) : Type 0 where
+pub record KeepsRoom (old new : ExpiryContent) : Type 0 where
   pub places : (n : FullName) → has_place old.places n ≡ true → has_place new.places n ≡ true
   pub room : old.room ≤ new.room

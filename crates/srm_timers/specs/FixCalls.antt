@@ -14,14 +14,14 @@ use Rattle.srm_timers.specs.Arms.{WaitBasis, Plan, RunsOutFirst, plan_of, runs_o
 use Rattle.srm_timers.specs.AskCalls.{flat}
 use Rattle.srm_timers.specs.Timers.{armed_at}
 use Rattle.srm_timers.specs.Distances.{distance_to}
-use Rattle.srm_timers.specs.Ends.{EndContent, HaveRoom, KeepsRoom}
+use Rattle.srm_timers.specs.Ends.{ExpiryContent, HaveRoom, KeepsRoom}
 use Rattle.srm_deadlines.specs.Places.{value_at, has_place}
 
 -- what a Fixes keeps
 pub record FixContent : Type 0 where
   pub d1 : ℕ
   pub d2 : ℕ
-  pub ends : EndContent
+  pub ends : ExpiryContent
   pub askers : List (NamedValue ℕ)
   pub held_off : List (NamedValue ℕ)
   -- so many names that are due can be answered without memory
@@ -46,27 +46,27 @@ asked_first calls n = first_of (asker_by n) calls
 abbrev pub first_asker : List FixCall → FullName → ℕ
 first_asker calls n = unwrap_or (asked_first calls n) n.stream.source
 
-abbrev pub ran_by : FullName → FixCall → Option (Option Armed)
-ran_by n (Asked name from) = None
-ran_by n (SetFix now arm) = if same_name n arm.name then Some (Some (armed_at now arm)) else None
-ran_by n (Repaired name until) = if same_name n name then Some None else None
+abbrev pub fix_timer_after : FullName → FixCall → Option (Option Armed)
+fix_timer_after n (Asked name from) = None
+fix_timer_after n (SetFix now arm) = if same_name n arm.name then Some (Some (armed_at now arm)) else None
+fix_timer_after n (Repaired name until) = if same_name n name then Some None else None
 
 -- the repair timer that runs
 abbrev pub fix_timer : List FixCall → FullName → Option Armed
-fix_timer calls n = flat (last_of (ran_by n) calls)
+fix_timer calls n = flat (last_of (fix_timer_after n) calls)
 
-abbrev pub is_off_by : FullName → ℕ → FixCall → Bool
-is_off_by n now (Asked name from) = false
-is_off_by n now (SetFix m arm) = false
-is_off_by n now (Repaired name until) = same_name n name && nat_lt now until
+abbrev pub call_holds_off : FullName → ℕ → FixCall → Bool
+call_holds_off n now (Asked name from) = false
+call_holds_off n now (SetFix m arm) = false
+call_holds_off n now (Repaired name until) = same_name n name && nat_lt now until
 
 -- whether the name is held off
-abbrev pub is_off : List FixCall → FullName → ℕ → Bool
-is_off calls n now = list_any (is_off_by n now) calls
+abbrev pub calls_hold_off : List FixCall → FullName → ℕ → Bool
+calls_hold_off calls n now = list_any (call_holds_off n now) calls
 
 -- whether a request for the name sets its timer, where it is held: none runs, and the name isn't held off
 abbrev pub is_free : List FixCall → FullName → ℕ → Bool
-is_free calls n now = not (is_some (fix_timer calls n)) && not (is_off calls n now)
+is_free calls n now = not (is_some (fix_timer calls n)) && not (calls_hold_off calls n now)
 
 -- these arms were made at a moment, one after another
 abbrev pub sets_fix : ℕ → List Arm → List FixCall
@@ -76,11 +76,11 @@ sets_fix now arms = map (SetFix now) arms
 abbrev pub held_until : ℕ → ℕ → ℕ
 held_until now distance = now + HOLD_OFF * distance
 
-abbrev pub hold_end : ℕ → List ℕ → List FixCall → FullName → ℕ
-hold_end now dist calls n = held_until now (distance_to dist (first_asker calls n))
+abbrev pub repair_holds_until : ℕ → List ℕ → List FixCall → FullName → ℕ
+repair_holds_until now dist calls n = held_until now (distance_to dist (first_asker calls n))
 
 abbrev pub repair_by : ℕ → List ℕ → List FixCall → FullName → FixCall
-repair_by now dist calls n = Repaired n (hold_end now dist calls n)
+repair_by now dist calls n = Repaired n (repair_holds_until now dist calls n)
 
 -- these names were repaired at a moment, one after another
 abbrev pub repair_calls : ℕ → List ℕ → List FixCall → List FullName → List FixCall
@@ -107,7 +107,7 @@ pub record FixFits (d1 d2 : ℕ) (calls : List FixCall) (a : FixContent) : Type 
   pub d2_is : a.d2 ≡ d2
   pub askers : (n : FullName) → value_at a.askers n ≡ asked_first calls n
   pub ends : (n : FullName) → value_at a.ends.places n ≡ option_map runs_out_at (fix_timer calls n)
-  pub held_off : (n : FullName) (now : ℕ) → is_held_off a.held_off n now ≡ is_off calls n now
+  pub held_off : (n : FullName) (now : ℕ) → is_held_off a.held_off n now ≡ calls_hold_off calls n now
 
 -- one name is held off until a moment, or for as long as it was
 pub record HoldsOff (name : FullName) (until : ℕ) (old new : List (NamedValue ℕ)) : Type 0 where

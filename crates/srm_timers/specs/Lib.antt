@@ -1,4 +1,4 @@
-pub mod Draws
+pub mod ListedWords
 pub mod Seeds
 pub mod Distances
 pub mod Arms

@@ -6,11 +6,11 @@ use Rattle.srm_timers.specs.declared.arm.Arm.{Arm}
 use Rattle.srm_timers.specs.declared.arm.Armed.{Armed}
 use Rattle.srm_timers.specs.declared.arm.ArmKind.TheVariants.{Ask, Fix}
 use Rattle.srm_timers.specs.Arms.{same_kind, runs_out_at, ignored_until, ran_out, next_exponent, backs_off, wait_basis, plan_of, arm_of, arm_names, low_of, high_of, AreChosen}
-use Rattle.srm_timers.specs.Draws.{draw_listed}
+use Rattle.srm_timers.specs.ListedWords.{next_listed}
 use Rattle.srm_timers.specs.Distances.{distance_to}
 use Rattle.srm_timers.specs.Timers.{armed_at}
 use Rattle.srm_timers.specs.AskCalls.{Set, Gained, ask_timer, sets, ask_basis, found_basis, due_basis}
-use Rattle.srm_timers.specs.FixCalls.{Asked, SetFix, Repaired, asked_first, first_asker, fix_timer, is_off, is_free, hold_end, repair_calls}
+use Rattle.srm_timers.specs.FixCalls.{Asked, SetFix, Repaired, asked_first, first_asker, fix_timer, calls_hold_off, is_free, repair_holds_until, repair_calls}
 
 abbrev name : ℕ → FullName
 name number = named (record { source = 0; page = first_page }) number
@@ -82,11 +82,11 @@ doubled_high : high_of 2 3 (ask 1 1 100000 0) ≡ 1000000
 doubled_high = refl
 
 -- the last word of the interval, and the one past it
-drawn_in_order : AreChosen draw_listed (low_of 2) (high_of 2 2) (200000 ∷ 200001 ∷ 7 ∷ []) (ask 1 0 100000 400000 ∷ ask 2 0 100000 200000 ∷ []) (7 ∷ [])
-drawn_in_order = (refl, (refl, refl))
+chosen_in_order : AreChosen next_listed (low_of 2) (high_of 2 2) (200000 ∷ 200001 ∷ 7 ∷ []) (ask 1 0 100000 400000 ∷ ask 2 0 100000 200000 ∷ []) (7 ∷ [])
+chosen_in_order = (refl, (refl, refl))
 
-none_drawn : AreChosen draw_listed (low_of 2) (high_of 2 2) (5 ∷ []) [] (5 ∷ [])
-none_drawn = refl
+none_chosen : AreChosen next_listed (low_of 2) (high_of 2 2) (5 ∷ []) [] (5 ∷ [])
+none_chosen = refl
 
 setting_of_the_second : option_map wait_basis (arm_of (name 2) (ask 1 0 100000 200000 ∷ ask 2 1 100000 400000 ∷ [])) ≡ Some (ask_basis 1 100000)
 setting_of_the_second = refl
@@ -164,17 +164,17 @@ no_repair_of_another_runs = refl
 another_cancels_nothing : fix_timer (SetFix 10 (fix 1 7 9) ∷ Repaired (name 2) 40 ∷ []) (name 1) ≡ Some (armed_at 10 (fix 1 7 9))
 another_cancels_nothing = refl
 
-off_before : is_off (Repaired (name 1) 5399999 ∷ []) (name 1) 5399998 ≡ true
+off_before : calls_hold_off (Repaired (name 1) 5399999 ∷ []) (name 1) 5399998 ≡ true
 off_before = refl
 
-not_off_at : is_off (Repaired (name 1) 5399999 ∷ []) (name 1) 5399999 ≡ false
+not_off_at : calls_hold_off (Repaired (name 1) 5399999 ∷ []) (name 1) 5399999 ≡ false
 not_off_at = refl
 
-another_is_not_off : is_off (Repaired (name 1) 500 ∷ []) (name 2) 450 ≡ false
+another_is_not_off : calls_hold_off (Repaired (name 1) 500 ∷ []) (name 2) 450 ≡ false
 another_is_not_off = refl
 
 -- the longer one holds off
-off_by_the_longer : is_off (Repaired (name 1) 500 ∷ Repaired (name 1) 400 ∷ []) (name 1) 450 ≡ true
+off_by_the_longer : calls_hold_off (Repaired (name 1) 500 ∷ Repaired (name 1) 400 ∷ []) (name 1) 450 ≡ true
 off_by_the_longer = refl
 
 not_free : is_free (SetFix 5000000 (fix 1 100000 100000) ∷ []) (name 1) 6000000 ≡ false
@@ -186,10 +186,10 @@ not_free_while_off = refl
 free_again : is_free (SetFix 5000000 (fix 1 100000 100000) ∷ Repaired (name 1) 5399999 ∷ []) (name 1) 5399999 ≡ true
 free_again = refl
 
-three_distances : hold_end 5099999 (7 ∷ 100000 ∷ []) (Asked (name 1) 1 ∷ []) (name 1) ≡ 5399999
+three_distances : repair_holds_until 5099999 (7 ∷ 100000 ∷ []) (Asked (name 1) 1 ∷ []) (name 1) ≡ 5399999
 three_distances = refl
 
-by_the_first_of_two : hold_end 10 (5 ∷ 7 ∷ 9 ∷ []) (Asked (name 1) 2 ∷ Asked (name 1) 1 ∷ []) (name 1) ≡ 37
+by_the_first_of_two : repair_holds_until 10 (5 ∷ 7 ∷ 9 ∷ []) (Asked (name 1) 2 ∷ Asked (name 1) 1 ∷ []) (name 1) ≡ 37
 by_the_first_of_two = refl
 
 both_are_held_off : repair_calls 10 (5 ∷ 7 ∷ []) (Asked (name 1) 1 ∷ []) (name 1 ∷ name 2 ∷ []) ≡ Repaired (name 1) 31 ∷ Repaired (name 2) 25 ∷ []
@@ -197,11 +197,11 @@ both_are_held_off = refl
 
 -- ---- words
 
-next_word : draw_listed (5 ∷ 7 ∷ []) ≡ (5, 7 ∷ [])
+next_word : next_listed (5 ∷ 7 ∷ []) ≡ (5, 7 ∷ [])
 next_word = refl
 
-last_word : draw_listed (7 ∷ []) ≡ (7, [])
+last_word : next_listed (7 ∷ []) ≡ (7, [])
 last_word = refl
 
-after_the_last : draw_listed [] ≡ (0, [])
+after_the_last : next_listed [] ≡ (0, [])
 after_the_last = refl

@@ -5,7 +5,7 @@ ghost use Rattle.srm_names.specs.FullName.{FullName};
 ghost use Rattle.srm_names.specs.Names.{among, ascending, name_below};
 ghost use Rattle.srm_timers.specs.Arms.{backs_off, next_exponent, plan_of, arm_names, low_of, high_of, AreChosen, IsAsk, AreAsks, AreOfMembers};
 ghost use Rattle.srm_timers.specs.declared.arm.ArmKind.TheVariants.{Ask};
-ghost use Rattle.srm_timers.specs.AskCalls.{AskCall, Gained, ask_timer, sets, ask_plan, first_exponent, found_plan, again_plan, AskFits, AskAdds, AskBacksOff, AskRuns, AskNext, AskDue, AskedFirst, AskedAgain, AskStays, AskReady, DetectReady, DueReady, AnswerReady, AskKeepsRoom, DetectStaysReady, DueStaysReady, AskTimersRun};
+ghost use Rattle.srm_timers.specs.AskCalls.{AskCall, Gained, ask_timer, sets, ask_plan, first_exponent, found_plan, again_plan, AskFits, AskAdds, AskExponentWhenHeard, AskExponentWhenDue, AskNext, AskDue, ArmsOfFound, ArmsSetAgain, AskStays, AskReady, DetectReady, DueReady, DetectAndDueReady, AskKeepsRoom, DetectStaysReady, DueStaysReady, AskTimersRun};
 ghost use Rattle.srm_deadlines.specs.Deadlines.{DueAmong, DueFit};
 ghost use Rattle.srm_timers.specs.Distances.{distance_to, AreDistances};
 ghost use Rattle.srm_timers.specs.Ends.{AreShort};
@@ -80,8 +80,8 @@ impl<D: Deadlines> Asks<D> {
     pub fn room(&mut self, names: &[Name]) -> Result<(), AllocError>
         ensures kept { AskStays self.old self.new }
         ensures ends { KeepsValues self.old.ends.places self.new.ends.places }
-        ensures held { AskKeepsRoom self.old self.new }
-        ensures ready { OnOk result (AnswerReady names.now self.new) }
+        ensures keeps_room { AskKeepsRoom self.old self.new }
+        ensures ready { OnOk result (DetectAndDueReady names.now self.new) }
     {
         self.room_to_set(names)?;
         self.names.reserve(names.len())?;
@@ -100,7 +100,7 @@ impl<D: Deadlines> Asks<D> {
         ensures c2 { self.new.c2 ≡ self.old.c2 }
         ensures detect_list { self.new.detect_list ≡ self.old.detect_list }
         ensures due_list { self.new.due_list ≡ self.old.due_list }
-        ensures held { AskKeepsRoom self.old self.new }
+        ensures keeps_room { AskKeepsRoom self.old self.new }
         ensures ok { OnOk result (AskReady names.now self.new) }
         ensures again { AskReady names.now self.old → IsOk result }
     {
@@ -138,12 +138,12 @@ impl<D: Deadlines> Asks<D> {
         requires distances { AreDistances dist.now }
         requires now { now ≤ LATEST_MOMENT }
         ensures fits { IfOk result (λ arms. AskAdds (sets now arms.items) self.old self.new) }
-        ensures arms { IfOk result (λ arms. AskedFirst names.now asked.now dist.now arms.items) }
+        ensures arms { IfOk result (λ arms. ArmsOfFound names.now asked.now dist.now arms.items) }
         ensures few { IfOk result (λ arms. length arms.items ≤ length names.now) }
-        ensures chosen { IfOk result (λ arms. AreChosen W.draw (low_of self.old.c1) (high_of self.old.c1 self.old.c2) words.old arms.items words.new) }
+        ensures chosen { IfOk result (λ arms. AreChosen W.next_word (low_of self.old.c1) (high_of self.old.c1 self.old.c2) words.old arms.items words.new) }
         ensures kept { OnErr result (AskStays self.old self.new) }
         ensures unchosen { OnErr result (words.new ≡ words.old) }
-        ensures held { AskKeepsRoom (record self.old { detect_list = 0 }) self.new }
+        ensures keeps_room { AskKeepsRoom (record self.old { detect_list = 0 }) self.new }
         ensures list { OnErr result (self.old.detect_list ≤ self.new.detect_list) }
         ensures room { DetectReady names.now self.old → IsOk result }
         ensures due { DueStaysReady self.old self.new }
@@ -168,9 +168,9 @@ impl<D: Deadlines> Asks<D> {
         requires room { length names.now ≤ vec_capacity arms }
         requires rising { ascending name_below names.now ≡ true }
         requires distances { AreDistances dist.now }
-        ensures arms { AskedFirst names.now asked.now dist.now result.items }
+        ensures arms { ArmsOfFound names.now asked.now dist.now result.items }
         ensures plans { map plan_of result.items ≡ map (found_plan asked.now dist.now) names.now }
-        ensures chosen { AreChosen W.draw (low_of self.now.c1) (high_of self.now.c1 self.now.c2) words.old result.items words.new }
+        ensures chosen { AreChosen W.next_word (low_of self.now.c1) (high_of self.now.c1 self.now.c2) words.old result.items words.new }
         ensures asks { AreAsks result.items }
         ensures short { AreShort result.items }
     {
@@ -197,8 +197,8 @@ impl<D: Deadlines> Asks<D> {
         ensures arm { (c1 c2 : ℕ) (calls : List AskCall) → AskFits c1 c2 calls self.old
             → option_map plan_of result ≡ option_map (ask_plan name (distance_to dist.now name.stream.source)) (backs_off now (ask_timer calls name)) }
         ensures kind { IfSome result (λ arm. arm.kind ≡ Ask) }
-        ensures chosen { AreChosen W.draw (low_of self.old.c1) (high_of self.old.c1 self.old.c2) words.old (option_to_list result) words.new }
-        ensures held { AskKeepsRoom self.old self.new }
+        ensures chosen { AreChosen W.next_word (low_of self.old.c1) (high_of self.old.c1 self.old.c2) words.old (option_to_list result) words.new }
+        ensures keeps_room { AskKeepsRoom self.old self.new }
     {
         let _ = &self.ends;
         let exponent = self.exponent_when_heard(name, now)?;
@@ -211,7 +211,7 @@ impl<D: Deadlines> Asks<D> {
     #[tactic(auto, using(crate::proofs::AskSteps::gained_adds))]
     pub fn gained(&mut self, name: Name)
         ensures fits { AskAdds (Gained name ∷ []) self.old self.new }
-        ensures held { AskKeepsRoom self.old self.new }
+        ensures keeps_room { AskKeepsRoom self.old self.new }
     {
         self.ends.clear(name);
         self.timers.clear(name);
@@ -247,14 +247,14 @@ impl<D: Deadlines> Asks<D> {
         requires distances { AreDistances dist.now }
         requires now { now ≤ LATEST_MOMENT }
         ensures fits { IfOk result (λ arms. AskAdds (sets now arms.items) self.old self.new) }
-        ensures arms { IfOk result (λ arms. AskedAgain now dist.now self.old arms.items) }
+        ensures arms { IfOk result (λ arms. ArmsSetAgain now dist.now self.old arms.items) }
         ensures few { IfOk result (λ arms. (names : List FullName) → DueAmong now self.old.ends.places names → length arms.items ≤ length names) }
         ensures kinds { IfOk result (λ arms. AreAsks arms.items) }
         ensures members { IfOk result (λ arms. AreOfMembers arms.items) }
-        ensures chosen { IfOk result (λ arms. AreChosen W.draw (low_of self.old.c1) (high_of self.old.c1 self.old.c2) words.old arms.items words.new) }
+        ensures chosen { IfOk result (λ arms. AreChosen W.next_word (low_of self.old.c1) (high_of self.old.c1 self.old.c2) words.old arms.items words.new) }
         ensures kept { OnErr result (AskStays self.old self.new) }
         ensures unchosen { OnErr result (words.new ≡ words.old) }
-        ensures held { AskKeepsRoom (record self.old { due_list = 0 }) self.new }
+        ensures keeps_room { AskKeepsRoom (record self.old { due_list = 0 }) self.new }
         ensures list { OnErr result (self.old.due_list ≤ self.new.due_list) }
         ensures room { (names : List FullName) → DueReady names self.old → DueAmong now self.old.ends.places names → IsOk result }
         ensures detect { DetectStaysReady self.old self.new }
@@ -300,10 +300,10 @@ impl<D: Deadlines> Asks<D> {
         ensures few { IfOk result (λ arms. length arms.items ≤ length names.now) }
         ensures kinds { IfOk result (λ arms. AreAsks arms.items) }
         ensures members { IfOk result (λ arms. AreOfMembers arms.items) }
-        ensures chosen { IfOk result (λ arms. AreChosen W.draw (low_of self.old.c1) (high_of self.old.c1 self.old.c2) words.old arms.items words.new) }
+        ensures chosen { IfOk result (λ arms. AreChosen W.next_word (low_of self.old.c1) (high_of self.old.c1 self.old.c2) words.old arms.items words.new) }
         ensures kept { OnErr result (AskStays self.old self.new) }
         ensures unchosen { OnErr result (words.new ≡ words.old) }
-        ensures held { AskKeepsRoom (record self.old { due_list = 0 }) self.new }
+        ensures keeps_room { AskKeepsRoom (record self.old { due_list = 0 }) self.new }
         ensures list { OnErr result (self.old.due_list ≤ self.new.due_list) }
         ensures room { length names.now ≤ self.old.ends.room → length names.now ≤ self.old.due_list → IsOk result }
     {
@@ -330,7 +330,7 @@ impl<D: Deadlines> Asks<D> {
         requires distances { AreDistances dist.now }
         ensures plans { map plan_of result.items ≡ map (again_plan dist.now (value_at self.now.timers)) names.now }
         ensures members { AreOfMembers result.items }
-        ensures chosen { AreChosen W.draw (low_of self.now.c1) (high_of self.now.c1 self.now.c2) words.old result.items words.new }
+        ensures chosen { AreChosen W.next_word (low_of self.now.c1) (high_of self.now.c1 self.now.c2) words.old result.items words.new }
         ensures asks { AreAsks result.items }
         ensures short { AreShort result.items }
     {
@@ -354,7 +354,7 @@ impl<D: Deadlines> Asks<D> {
     /// runs. Takes no memory.
     #[tactic(auto, using(crate::proofs::AskSteps::backs_off_is))]
     pub fn exponent_when_heard(&self, name: Name, now: u64) -> Option<u8>
-        ensures so_far { AskBacksOff name now self.now result }
+        ensures so_far { AskExponentWhenHeard name now self.now result }
         ensures value { result ≡ backs_off now (value_at self.now.timers name) }
         ensures range { IfSome result (λ exponent. exponent ≤ GREATEST_EXPONENT) }
     {
@@ -364,7 +364,7 @@ impl<D: Deadlines> Asks<D> {
     /// The exponent with which a name is armed again whose timer ran out: `None` where no timer runs. Takes no memory.
     #[tactic(auto, using(crate::proofs::AskSteps::runs_is))]
     pub fn exponent_when_due(&self, name: Name) -> Option<u8>
-        ensures so_far { AskRuns name self.now result }
+        ensures so_far { AskExponentWhenDue name self.now result }
         ensures value { result ≡ option_map next_exponent (value_at self.now.timers name) }
         ensures range { IfSome result (λ exponent. exponent ≤ GREATEST_EXPONENT) }
     {
@@ -376,7 +376,7 @@ impl<D: Deadlines> Asks<D> {
         requires exponent { exponent ≤ GREATEST_EXPONENT }
         requires distance { distance ≤ LONGEST_DISTANCE }
         ensures plan { plan_of result ≡ ask_plan name distance exponent }
-        ensures chosen { AreChosen W.draw (low_of self.now.c1) (high_of self.now.c1 self.now.c2) words.old (result ∷ []) words.new }
+        ensures chosen { AreChosen W.next_word (low_of self.now.c1) (high_of self.now.c1 self.now.c2) words.old (result ∷ []) words.new }
         ensures ask { IsAsk result }
         ensures short { result.wait ≤ LONGEST_WAIT }
     {
@@ -398,7 +398,7 @@ impl<D: Deadlines> Asks<D> {
         requires now { now ≤ LATEST_MOMENT }
         requires short { arm.now.wait ≤ LONGEST_WAIT }
         ensures fits { AskAdds (sets now (arm.now ∷ [])) self.old self.new }
-        ensures held { AskKeepsRoom self.old self.new }
+        ensures keeps_room { AskKeepsRoom self.old self.new }
     {
         self.ends.set(arm.name, now + arm.wait);
         self.timers.set(arm.name, Some(arm_at(now, *arm)));
@@ -413,7 +413,7 @@ impl<D: Deadlines> Asks<D> {
         requires asks { AreAsks arms.now }
         requires short { AreShort arms.now }
         ensures fits { AskAdds (sets now arms.now) self.old self.new }
-        ensures held { AskKeepsRoom self.old self.new }
+        ensures keeps_room { AskKeepsRoom self.old self.new }
     {
         self.ends.set_all(now, arms);
         set_timers(&mut self.timers, now, arms);

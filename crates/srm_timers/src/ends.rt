@@ -23,9 +23,9 @@ pub(crate) struct Expiries<D: Deadlines> {
 
 impl<D: Deadlines> Model for Expiries<D> {
     ghost use Rattle.std.specs.Prelude.{◌≡◌, [], vec_capacity};
-    ghost use Rattle.srm_timers.specs.Ends.{EndContent};
+    ghost use Rattle.srm_timers.specs.Ends.{ExpiryContent};
 
-    ghost Value = { EndContent };
+    ghost Value = { ExpiryContent };
 
     ghost view = { λ e. record { places = D.places e.deadlines; room = vec_capacity e.moments } };
 
@@ -45,7 +45,7 @@ impl<D: Deadlines> Expiries<D> {
     /// Makes room to set each of these names by itself. No moment changes.
     pub fn make_places(&mut self, names: &[Name]) -> Result<(), AllocError>
         ensures kept { KeepsValues self.old.places self.new.places }
-        ensures held { KeepsRoom self.old self.new }
+        ensures keeps_room { KeepsRoom self.old self.new }
         ensures ok { OnOk result (HasPlaces names.now self.new.places) }
         ensures again { HasPlaces names.now self.old.places → IsOk result }
     {
@@ -55,7 +55,7 @@ impl<D: Deadlines> Expiries<D> {
     /// Makes room to set all these names in one call. No moment changes.
     pub fn room(&mut self, names: &[Name]) -> Result<(), AllocError>
         ensures kept { KeepsValues self.old.places self.new.places }
-        ensures held { KeepsRoom self.old self.new }
+        ensures keeps_room { KeepsRoom self.old self.new }
         ensures ok { OnOk result (HaveRoom names.now self.new) }
         ensures again { HaveRoom names.now self.old → IsOk result }
     {
@@ -83,7 +83,7 @@ impl<D: Deadlines> Expiries<D> {
     pub fn set(&mut self, name: Name, moment: u64)
         requires { has_place self.old.places name ≡ true }
         ensures sets { Sets name (Some moment) self.old.places self.new.places }
-        ensures held { KeepsRoom self.old self.new }
+        ensures keeps_room { KeepsRoom self.old self.new }
     {
         self.deadlines.set(name, moment);
     }
@@ -95,7 +95,7 @@ impl<D: Deadlines> Expiries<D> {
         requires now { now ≤ LATEST_MOMENT }
         requires short { AreShort arms.now }
         ensures sets { SetsEnds now arms.now self.old.places self.new.places }
-        ensures held { KeepsRoom self.old self.new }
+        ensures keeps_room { KeepsRoom self.old self.new }
     {
         add_moments(&mut self.moments, now, arms);
         self.deadlines.set_all(&self.moments);
@@ -104,7 +104,7 @@ impl<D: Deadlines> Expiries<D> {
 
     pub fn clear(&mut self, name: Name)
         ensures sets { Sets name None self.old.places self.new.places }
-        ensures held { KeepsRoom self.old self.new }
+        ensures keeps_room { KeepsRoom self.old self.new }
     {
         self.deadlines.clear(name);
     }
@@ -113,7 +113,7 @@ impl<D: Deadlines> Expiries<D> {
     pub fn clear_all(&mut self, names: &[Name])
         requires { ascending name_below names.now ≡ true }
         ensures sets { ClearsAll names.now self.old.places self.new.places }
-        ensures held { KeepsRoom self.old self.new }
+        ensures keeps_room { KeepsRoom self.old self.new }
     {
         self.deadlines.clear_all(names);
     }

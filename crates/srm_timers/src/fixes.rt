@@ -72,7 +72,7 @@ impl<D: Deadlines> Fixes<D> {
     pub fn room(&mut self, names: &[Name]) -> Result<(), AllocError>
         ensures kept { FixStays self.old self.new }
         ensures ends { KeepsValues self.old.ends.places self.new.ends.places }
-        ensures held { FixKeepsRoom self.old self.new }
+        ensures keeps_room { FixKeepsRoom self.old self.new }
         ensures ready { OnOk result (FixReady names.now self.new) }
     {
         self.make_places(names)?;
@@ -85,7 +85,7 @@ impl<D: Deadlines> Fixes<D> {
     #[tactic(auto, using(crate::proofs::FixSteps::one_place, crate::proofs::FixSteps::one_placed))]
     pub fn make_place(&mut self, name: Name) -> Result<(), AllocError>
         ensures kept { FixStays self.old self.new }
-        ensures held { FixKeepsRoom self.old self.new }
+        ensures keeps_room { FixKeepsRoom self.old self.new }
         ensures d1 { self.new.d1 ≡ self.old.d1 }
         ensures d2 { self.new.d2 ≡ self.old.d2 }
         ensures ok { OnOk result (FixPlace self.new name) }
@@ -99,7 +99,7 @@ impl<D: Deadlines> Fixes<D> {
     pub fn make_places(&mut self, names: &[Name]) -> Result<(), AllocError>
         ensures kept { FixStays self.old self.new }
         ensures ends { KeepsValues self.old.ends.places self.new.ends.places }
-        ensures held { FixKeepsRoom self.old self.new }
+        ensures keeps_room { FixKeepsRoom self.old self.new }
         ensures d1 { self.new.d1 ≡ self.old.d1 }
         ensures d2 { self.new.d2 ≡ self.old.d2 }
         ensures ok { OnOk result (FixPlaces names.now self.new) }
@@ -126,10 +126,10 @@ impl<D: Deadlines> Fixes<D> {
         ensures fits { IfOk result (λ arm. FixAdds (Asked name from ∷ sets_fix now (option_to_list arm)) self.old self.new) }
         ensures arm { IfOk result (FixAnswers name (distance_to dist.now from) held now self.old) }
         ensures wait_basis { IfOk result (λ arm. IfSome arm (λ a. wait_basis a ≡ fix_basis (distance_to dist.now from))) }
-        ensures chosen { IfOk result (λ arm. AreChosen W.draw (low_of self.old.d1) (high_of self.old.d1 self.old.d2) words.old (option_to_list arm) words.new) }
+        ensures chosen { IfOk result (λ arm. AreChosen W.next_word (low_of self.old.d1) (high_of self.old.d1 self.old.d2) words.old (option_to_list arm) words.new) }
         ensures kept { OnErr result (FixStays self.old self.new) }
         ensures unchosen { OnErr result (words.new ≡ words.old) }
-        ensures held { FixKeepsRoom self.old self.new }
+        ensures keeps_room { FixKeepsRoom self.old self.new }
         ensures room { FixPlace self.old name → IsOk result }
     {
         self.make_place(name)?;
@@ -153,8 +153,8 @@ impl<D: Deadlines> Fixes<D> {
         ensures fits { FixAdds (Asked name from ∷ sets_fix now (option_to_list result)) self.old self.new }
         ensures arm { FixAnswers name (distance_to dist.now from) held now self.old result }
         ensures wait_basis { IfSome result (λ arm. wait_basis arm ≡ fix_basis (distance_to dist.now from)) }
-        ensures chosen { AreChosen W.draw (low_of self.old.d1) (high_of self.old.d1 self.old.d2) words.old (option_to_list result) words.new }
-        ensures held { FixKeepsRoom self.old self.new }
+        ensures chosen { AreChosen W.next_word (low_of self.old.d1) (high_of self.old.d1 self.old.d2) words.old (option_to_list result) words.new }
+        ensures keeps_room { FixKeepsRoom self.old self.new }
     {
         let answers = both(held, self.is_free(name, now));
         self.note_asker(name, from);
@@ -175,7 +175,7 @@ impl<D: Deadlines> Fixes<D> {
         requires now { now ≤ LATEST_MOMENT }
         ensures fits { OnOk result (FixRepairs now dist.now (name ∷ []) self.old self.new) }
         ensures kept { OnErr result (FixStays self.old self.new) }
-        ensures held { FixKeepsRoom self.old self.new }
+        ensures keeps_room { FixKeepsRoom self.old self.new }
         ensures room { FixPlace self.old name → IsOk result }
     {
         self.make_place(name)?;
@@ -209,7 +209,7 @@ impl<D: Deadlines> Fixes<D> {
         ensures fits { IfOk result (λ names. FixRepairs now dist.now names.items self.old self.new) }
         ensures names { IfOk result (λ names. FixDue now self.old names.items) }
         ensures kept { OnErr result (FixStays self.old self.new) }
-        ensures held { FixKeepsRoom (record self.old { list = 0 }) self.new }
+        ensures keeps_room { FixKeepsRoom (record self.old { list = 0 }) self.new }
         ensures list { OnErr result (self.old.list ≤ self.new.list) }
         ensures room { (names : List FullName) → FixReady names self.old → DueAmong now self.old.ends.places names → IsOk result }
     {
@@ -224,7 +224,7 @@ impl<D: Deadlines> Fixes<D> {
     #[tactic(auto, using(crate::proofs::FixSteps::fix_stays, crate::proofs::AskSteps::keeps_self))]
     pub fn room_to_hold_off(&mut self, names: &[Name]) -> Result<(), AllocError>
         ensures kept { FixStays self.old self.new }
-        ensures held { FixKeepsRoom self.old self.new }
+        ensures keeps_room { FixKeepsRoom self.old self.new }
         ensures places { OnOk result (HasPlaces names.now self.new.held_off) }
     {
         self.marks.room(names)
@@ -239,7 +239,7 @@ impl<D: Deadlines> Fixes<D> {
         requires distances { AreDistances dist.now }
         requires now { now ≤ LATEST_MOMENT }
         ensures fits { FixRepairs now dist.now names.now self.old self.new }
-        ensures held { FixKeepsRoom self.old self.new }
+        ensures keeps_room { FixKeepsRoom self.old self.new }
     {
         self.ends.clear_all(names);
         self.marks.hold_all_off(names, dist, now);
@@ -251,7 +251,7 @@ impl<D: Deadlines> Fixes<D> {
         requires distances { AreDistances dist.now }
         requires now { now ≤ LATEST_MOMENT }
         ensures fits { FixRepairs now dist.now (name ∷ []) self.old self.new }
-        ensures held { FixKeepsRoom self.old self.new }
+        ensures keeps_room { FixKeepsRoom self.old self.new }
     {
         self.repair_all(&[name], dist, now);
     }
@@ -288,7 +288,7 @@ impl<D: Deadlines> Fixes<D> {
     pub fn note_asker(&mut self, name: Name, from: Member)
         requires { FixPlace self.old name }
         ensures fits { FixAdds (Asked name from ∷ []) self.old self.new }
-        ensures held { FixKeepsRoom self.old self.new }
+        ensures keeps_room { FixKeepsRoom self.old self.new }
         ensures d1 { self.new.d1 ≡ self.old.d1 }
         ensures d2 { self.new.d2 ≡ self.old.d2 }
     {
@@ -299,7 +299,7 @@ impl<D: Deadlines> Fixes<D> {
     pub fn arm<W: Words>(&self, name: Name, distance: u64, words: &mut W) -> Arm
         requires { distance ≤ LONGEST_DISTANCE }
         ensures plan { plan_of result ≡ fix_plan name distance }
-        ensures chosen { AreChosen W.draw (low_of self.now.d1) (high_of self.now.d1 self.now.d2) words.old (result ∷ []) words.new }
+        ensures chosen { AreChosen W.next_word (low_of self.now.d1) (high_of self.now.d1 self.now.d2) words.old (result ∷ []) words.new }
         ensures fix { IsFix result }
         ensures short { result.wait ≤ LONGEST_WAIT }
     {
@@ -320,7 +320,7 @@ impl<D: Deadlines> Fixes<D> {
         requires now { now ≤ LATEST_MOMENT }
         requires short { arm.now.wait ≤ LONGEST_WAIT }
         ensures fits { FixAdds (sets_fix now (arm.now ∷ [])) self.old self.new }
-        ensures held { FixKeepsRoom self.old self.new }
+        ensures keeps_room { FixKeepsRoom self.old self.new }
     {
         self.ends.set(arm.name, now + arm.wait);
     }
@@ -334,7 +334,7 @@ impl<D: Deadlines> Fixes<D> {
         requires fixes { AreFixes arms.now }
         requires short { AreShort arms.now }
         ensures fits { FixAdds (sets_fix now arms.now) self.old self.new }
-        ensures held { FixKeepsRoom self.old self.new }
+        ensures keeps_room { FixKeepsRoom self.old self.new }
     {
         self.ends.set_all(now, arms);
     }
@@ -347,7 +347,7 @@ impl<D: Deadlines> Fixes<D> {
         requires distance { distance ≤ LONGEST_DISTANCE }
         requires now { now ≤ LATEST_MOMENT }
         ensures fits { FixAdds (Repaired name (held_until now distance) ∷ []) self.old self.new }
-        ensures held { FixKeepsRoom self.old self.new }
+        ensures keeps_room { FixKeepsRoom self.old self.new }
     {
         self.ends.clear(name);
         self.marks.hold_off(name, distance, now);

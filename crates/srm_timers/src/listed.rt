@@ -29,9 +29,9 @@ impl Listed {
 }
 
 impl Words for Listed {
-    ghost use Rattle.srm_timers.specs.Draws.{draw_listed};
+    ghost use Rattle.srm_timers.specs.ListedWords.{next_listed};
 
-    ghost draw = { draw_listed };
+    ghost next_word = { next_listed };
 
     fn word(&mut self) -> u64 {
         if self.next < self.words.len() {

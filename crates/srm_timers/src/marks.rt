@@ -51,7 +51,7 @@ impl Marks {
     pub fn room(&mut self, names: &[Name]) -> Result<(), AllocError>
         ensures askers { KeepsValues self.old.askers self.new.askers }
         ensures held_off { KeepsValues self.old.held_off self.new.held_off }
-        ensures held { MarksKeepPlaces self.old self.new }
+        ensures keeps_places { MarksKeepPlaces self.old self.new }
         ensures ok { OnOk result (HaveMarks names.now self.new) }
         ensures again { HasPlaces names.now self.old.held_off → IsOk result }
     {
@@ -91,7 +91,7 @@ impl Marks {
         requires place { has_place self.old.askers name ≡ true }
         ensures noted { NotesAsker name from self.old.askers self.new.askers }
         ensures off { OffAsBefore self.old.held_off self.new.held_off }
-        ensures held { MarksKeepPlaces self.old self.new }
+        ensures keeps_places { MarksKeepPlaces self.old self.new }
     {
         let mark = self.mark(name);
         if mark.asker.is_none() {
@@ -110,7 +110,7 @@ impl Marks {
         requires now { now ≤ LATEST_MOMENT }
         ensures off { HoldsOff name (held_until now distance) self.old.held_off self.new.held_off }
         ensures askers { KeepsValues self.old.askers self.new.askers }
-        ensures held { MarksKeepPlaces self.old self.new }
+        ensures keeps_places { MarksKeepPlaces self.old self.new }
     {
         let mark = self.mark(name);
         self.hold_until(name, &mark, now + HOLD_OFF * distance);
@@ -123,7 +123,7 @@ impl Marks {
         requires now { now ≤ LATEST_MOMENT }
         ensures off { HoldAllOff now dist.now names.now self.old.askers self.old.held_off self.new.held_off }
         ensures askers { KeepsValues self.old.askers self.new.askers }
-        ensures held { MarksKeepPlaces self.old self.new }
+        ensures keeps_places { MarksKeepPlaces self.old self.new }
     {
         for name in names {
             self.hold_for_asker(*name, dist, now);
@@ -138,7 +138,7 @@ impl Marks {
         ensures off { HoldsOff name (held_off_until now dist.now self.old.askers name) self.old.held_off self.new.held_off }
         ensures near { asker_at self.old.askers name < MEMBERS }
         ensures askers { KeepsValues self.old.askers self.new.askers }
-        ensures held { MarksKeepPlaces self.old self.new }
+        ensures keeps_places { MarksKeepPlaces self.old self.new }
     {
         let mark = self.mark(name);
         let distance = distance_in(dist, asker_or_source(&mark, name));
@@ -152,7 +152,7 @@ impl Marks {
         requires off { mark.now.until ≡ unwrap_or (value_at self.old.held_off name) 0 }
         ensures off { HoldsOff name until self.old.held_off self.new.held_off }
         ensures askers { KeepsValues self.old.askers self.new.askers }
-        ensures held { MarksKeepPlaces self.old self.new }
+        ensures keeps_places { MarksKeepPlaces self.old self.new }
     {
         if mark.until < until {
             let held = Mark {

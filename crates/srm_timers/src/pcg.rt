@@ -27,11 +27,11 @@ impl Model for Pcg {
 impl Pcg {
     /// The generator that `seed_from_u64` makes of the number.
     #[tactic(auto, unfolding(crate::specs::Seeds::words_of))]
-    pub fn new(start: u64) -> Pcg
-        ensures { result ≡ words_of start }
+    pub fn new(seed: u64) -> Pcg
+        ensures { result ≡ words_of seed }
     {
         Pcg {
-            generator: Lcg128Xsl64::seed_from_u64(start),
+            generator: Lcg128Xsl64::seed_from_u64(seed),
         }
     }
 }
@@ -39,7 +39,7 @@ impl Pcg {
 impl Words for Pcg {
     ghost use Rattle.rand_pcg.specs.Pcg.{pcg64};
 
-    ghost draw = { pcg64 };
+    ghost next_word = { pcg64 };
 
     fn word(&mut self) -> u64 {
         self.generator.next_word()

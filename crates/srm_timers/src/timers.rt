@@ -14,7 +14,7 @@ pub(crate) fn set_timers(timers: &mut ByName<Armed>, now: u64, arms: &[Arm])
     requires rising { ascending name_below (arm_names arms.now) ≡ true }
     requires places { HasPlaces (arm_names arms.now) timers.old }
     ensures sets { SetsTimers now arms.now timers.old timers.new }
-    ensures held { KeepsPlaces timers.old timers.new }
+    ensures keeps_places { KeepsPlaces timers.old timers.new }
 {
     for arm in arms {
         timers.set(arm.name, Some(arm_at(now, *arm)));

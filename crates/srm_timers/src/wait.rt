@@ -19,8 +19,8 @@ pub(crate) fn choose_wait<W: Words>(
     requires exponent { exponent ≤ GREATEST_EXPONENT }
     requires distance { distance ≤ LONGEST_DISTANCE }
     ensures value { let low = 2 ^ exponent * first * distance in let high = 2 ^ exponent * (first + second) * distance in
-        result ≡ low + (W.draw words.old).0 % (high - low + 1) }
-    ensures words { words.new ≡ (W.draw words.old).1 }
+        result ≡ low + (W.next_word words.old).0 % (high - low + 1) }
+    ensures words { words.new ≡ (W.next_word words.old).1 }
     ensures short { result ≤ LONGEST_WAIT }
 {
     let low = doubled(exponent, first, distance);

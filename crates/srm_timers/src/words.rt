@@ -5,19 +5,19 @@ ghost use Rattle.std.specs.Prelude.{◌≡◌, ℕ, ◌+◌, ◌-◌, ◌%◌, �
 /// A source of words, which has no end.
 pub trait Words {
     // the word that comes next, and the source after it
-    ghost draw: { Self → ℕ × Self };
+    ghost next_word: { Self → ℕ × Self };
 
     /// Takes the next word.
     fn word(&mut self) -> u64
-        ensures { (result, self.new) ≡ draw self.old };
+        ensures { (result, self.new) ≡ next_word self.old };
 }
 
 /// A wait between two ends, both in microseconds and both included, by one word.
 pub fn wait_between<W: Words>(low: u64, high: u64, words: &mut W) -> u64
     requires rises { low ≤ high }
     requires small { high < 2 ^ 63 }
-    ensures value { result ≡ low + (W.draw words.old).0 % (high - low + 1) }
-    ensures words { words.new ≡ (W.draw words.old).1 }
+    ensures value { result ≡ low + (W.next_word words.old).0 % (high - low + 1) }
+    ensures words { words.new ≡ (W.next_word words.old).1 }
     ensures least { low ≤ result }
     ensures greatest { result ≤ high }
 {

@@ -91,7 +91,7 @@ impl UdpWire {
 }
 
 impl Wire for UdpWire {
-    ghost failed = { λ w. w.failures };
+    ghost failure_count = { λ w. w.failures };
 
     ghost told = { λ w. None };
 

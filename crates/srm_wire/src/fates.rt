@@ -17,7 +17,11 @@ pub enum Fate {
 }
 
 /// The numbers of the copies that come as the copy with this number is sent, in order. It looks at the whole list of fates.
-pub(crate) fn coming(alloc: Global, fates: &[Fate], sent: usize) -> Result<Vec<usize>, AllocError>
+pub(crate) fn arrivals_at(
+    alloc: Global,
+    fates: &[Fate],
+    sent: usize,
+) -> Result<Vec<usize>, AllocError>
     ensures { IfOk result (λ numbers. numbers.items ≡ arrivals_at fates.now sent) }
 {
     let numbers = at_once(alloc, fate_of(fates, sent), sent)?;

@@ -52,7 +52,7 @@ impl<X: Wire + Drop> Wire for Flaky<X> {
     ghost use Rattle.srm_wire.specs.Wires.{is_failed};
     ghost use Rattle.srm_wire.specs.Flakiness.{FailsOnce};
 
-    ghost failed = { λ f. counted_with (X.failed f.wire) f.own };
+    ghost failure_count = { λ f. counted_with (X.failure_count f.wire) f.own };
 
     ghost told = { λ f. X.told f.wire };
 

@@ -3,7 +3,7 @@
 ghost use Rattle.std.specs.Prelude.{◌≡◌, ◌≤◌, length, take, Some, IfOk};
 ghost use Rattle.srm_wire.specs.Networks.{copies_at, new_wire_of};
 
-use crate::fates::{Fate, coming};
+use crate::fates::{Fate, arrivals_at};
 use crate::inboxes::Network;
 use crate::sent::{Sent, copy_of};
 use crate::wire::{Wire, WireFault, count_failure};
@@ -55,7 +55,7 @@ impl<R: Wait + Drop> Model for MemWire<R> {
 impl<R: Wait + Drop> Wire for MemWire<R> {
     ghost use Rattle.srm_wire.specs.Networks.{SendsByFate, KeepsAnswer};
 
-    ghost failed = { λ w. w.failures };
+    ghost failure_count = { λ w. w.failures };
 
     ghost told = { λ w. Some (record { came = w.came; went = w.went }) };
 
@@ -68,7 +68,7 @@ impl<R: Wait + Drop> Wire for MemWire<R> {
         let Ok(sent) = copy_of(self.alloc, to, datagram) else {
             return Err(count_failure(&mut self.failures));
         };
-        let Ok(mut numbers) = coming(self.alloc, self.fates.as_slice(), self.went.len()) else {
+        let Ok(mut numbers) = arrivals_at(self.alloc, self.fates.as_slice(), self.went.len()) else {
             return Err(count_failure(&mut self.failures));
         };
         let Ok(copies) = copies_of(self.alloc, self.went.as_slice(), &sent, &numbers) else {

@@ -11,7 +11,7 @@ use srm_names::Member;
 /// Sends bytes to every other member, rising, whatever fails. Whether a send failed.
 pub fn send_to_others<X: Wire>(wire: &mut X, me: Member, members: u8, bytes: &[u8]) -> bool
     requires { members ≤ MEMBERS }
-    ensures sends { Sends result (sends_to (others me members) bytes.now) (X.failed wire.old) (X.failed wire.new) (X.told wire.old) (X.told wire.new) }
+    ensures sends { Sends result (sends_to (others me members) bytes.now) (X.failure_count wire.old) (X.failure_count wire.new) (X.told wire.old) (X.told wire.new) }
     ensures each { SendsEach X.sends result (sends_to (others me members) bytes.now) wire.old wire.new }
 {
     let mut failed = false;
@@ -26,7 +26,7 @@ pub fn send_to_others<X: Wire>(wire: &mut X, me: Member, members: u8, bytes: &[u
 // Sends bytes to a member unless it is this one. Whether the send failed.
 fn send_to_other<X: Wire>(wire: &mut X, me: Member, number: u8, bytes: &[u8]) -> bool
     requires { number < MEMBERS }
-    ensures sends { Sends result (sends_to (but me (number ∷ [])) bytes.now) (X.failed wire.old) (X.failed wire.new) (X.told wire.old) (X.told wire.new) }
+    ensures sends { Sends result (sends_to (but me (number ∷ [])) bytes.now) (X.failure_count wire.old) (X.failure_count wire.new) (X.told wire.old) (X.told wire.new) }
     ensures each { SendsEach X.sends result (sends_to (but me (number ∷ [])) bytes.now) wire.old wire.new }
 {
     if number == me.number() {

@@ -31,7 +31,7 @@ pub fn count_failure(failures: &mut u64) -> WireFault
 /// It may also say what its calls do: `sends` of the wire before, what was to be sent, whether it failed, and the wire after; `receives` of the
 /// wire before, the buffer's length, the answer (none where it failed), and the wire after. One that says nothing leaves them out.
 pub trait Wire {
-    ghost failed: { Self → ℕ };
+    ghost failure_count: { Self → ℕ };
 
     ghost told: { Self → Option Told };
 
@@ -41,23 +41,23 @@ pub trait Wire {
 
     /// Sends bytes to a member.
     fn send(&mut self, to: Member, datagram: &[u8]) -> Result<(), WireFault>
-        ensures failures { CountsIf (is_err result) (failed self.old) (failed self.new) }
+        ensures failures { CountsIf (is_err result) (failure_count self.old) (failure_count self.new) }
         ensures tells { TellsMore [] (sent_by to datagram.now result) (told self.old) (told self.new) }
         ensures sends { sends self.old (bytes_to to datagram.now) (is_err result) self.new };
 
     /// Receives a datagram into the buffer, of which it fills so many bytes. None where none is there.
     fn receive(&mut self, buffer: &mut [u8]) -> Result<Option<usize>, WireFault>
         ensures within { IfOk result (λ some. IfSome some (λ count. count ≤ length buffer.new)) }
-        ensures failures { CountsIf (is_err result) (failed self.old) (failed self.new) }
+        ensures failures { CountsIf (is_err result) (failure_count self.old) (failure_count self.new) }
         ensures tells { TellsMore (answered buffer.new result) [] (told self.old) (told self.new) }
         ensures receives { receives self.old (length buffer.new) (answered buffer.new result) self.new };
 
     /// Waits until a datagram may be there, or so many microseconds went by.
     fn pause(&mut self, micros: u64)
-        ensures failures { failed self.old ≤ failed self.new }
+        ensures failures { failure_count self.old ≤ failure_count self.new }
         ensures tells { told self.new ≡ told self.old };
 
     /// How many calls failed, up to the greatest u64.
     fn failures(&self) -> u64
-        ensures { result ≡ failed self.now };
+        ensures { result ≡ failure_count self.now };
 }

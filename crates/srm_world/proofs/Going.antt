@@ -123,9 +123,9 @@ adds c made past now p q e h fits config moment last after lanes = record {
 }
 
 -- a call that moves no message
-pub goes_on : {W : Type 0} (draw : W → ℕ × W) (now : Option ℕ) (input : Input) (p q : Content W) (e : Entry) → Enters draw now input p.agent q.agent e → moves_lane input ≡ false
-    → q.config ≡ p.config → q.last ≡ last_with p.last e.verdict e.moment → q.state ≡ e.effects.state → q.lanes ≡ p.lanes → GoesOn draw now input p q e
-goes_on draw now input p q e enters still config last after lanes = record {
+pub goes_on : {W : Type 0} (next_word : W → ℕ × W) (now : Option ℕ) (input : Input) (p q : Content W) (e : Entry) → Enters next_word now input p.agent q.agent e → moves_lane input ≡ false
+    → q.config ≡ p.config → q.last ≡ last_with p.last e.verdict e.moment → q.state ≡ e.effects.state → q.lanes ≡ p.lanes → GoesOn next_word now input p q e
+goes_on next_word now input p q e enters still config last after lanes = record {
   input_is = enters.input_is;
   words = enters.words;
   adds = λ c made past h. adds c made past now p q e h (enters.fits c made past h.agent) config enters.moment_is last after
@@ -139,9 +139,9 @@ heard_still o true c past read q = ap (λ (x : Input × Verdict). moves_lane x.0
 heard_still o false c past (Ok g) q = ap (λ (x : Input × Verdict). moves_lane x.0) q
 heard_still o false c past (Err fault) q = ap (λ (x : Input × Verdict). moves_lane x.0) q
 
-pub hears_on : {W : Type 0} (draw : W → ℕ × W) (now : Option ℕ) (p q : Content W) (bytes : List ℕ) (e : Entry) → Enters draw now e.input p.agent q.agent e → ReadsAs bytes p.agent e
-    → q.config ≡ p.config → q.last ≡ last_with p.last e.verdict e.moment → q.state ≡ e.effects.state → q.lanes ≡ p.lanes → GoesOn draw now e.input p q e
-hears_on draw now p q bytes e enters reads config last after lanes = record {
+pub hears_on : {W : Type 0} (next_word : W → ℕ × W) (now : Option ℕ) (p q : Content W) (bytes : List ℕ) (e : Entry) → Enters next_word now e.input p.agent q.agent e → ReadsAs bytes p.agent e
+    → q.config ≡ p.config → q.last ≡ last_with p.last e.verdict e.moment → q.state ≡ e.effects.state → q.lanes ≡ p.lanes → GoesOn next_word now e.input p q e
+hears_on next_word now p q bytes e enters reads config last after lanes = record {
   input_is = refl;
   words = enters.words;
   adds = λ c made past h.
@@ -171,9 +171,9 @@ done_answers is Done (Err fault) h e = absurd h
 if_answered : {A : Type 0} (P : A → Type 0) (r : Result A AgentFault) (x : A) → IfOk r P → r ≡ Ok x → P x
 if_answered P r x h e = subst (λ w. IfOk w P) e h
 
-pub sends_outs : {W : Type 0} (draw : W → ℕ × W) (now : Option ℕ) (p : Content W) (b : agents.Content W) (e : Entry) (answer : Result Ticked AgentFault) (outs : List Out) → Enters draw now inputs.Ticked p.agent b e
+pub sends_outs : {W : Type 0} (next_word : W → ℕ × W) (now : Option ℕ) (p : Content W) (b : agents.Content W) (e : Entry) (answer : Result Ticked AgentFault) (outs : List Out) → Enters next_word now inputs.Ticked p.agent b e
     → AnswersAs (IsTicked p.agent.config.session e) e.verdict answer → IfOk answer (λ (t : Ticked). outs ≡ t.outs) → SendsOuts p e outs
-sends_outs draw now p b e answer outs enters answers are = record {
+sends_outs next_word now p b e answer outs enters answers are = record {
   each = λ c made past h.
       let right : EntryRight c made (record { before = past; this = e }) = newest_right c made past e (enters.fits c made past h.agent).run in
       let verdict : e.verdict ≡ Done = of_tick c past e.input e.verdict enters.input_is right.verdict in
@@ -213,10 +213,10 @@ given_lanes past e slot lanes roomy now is room gains h j l at =
     nothing true = refl
     nothing false = refl
 
-pub gives_on : {W : Type 0} (draw : W → ℕ × W) (slot : ℕ) (p q : Content W) (roomy : List LaneContent) (e : Entry) (answer : Result (Option PageMsg) AgentFault) (message : Option PageMsg) → Enters draw None (Gave slot) p.agent q.agent e
+pub gives_on : {W : Type 0} (next_word : W → ℕ × W) (slot : ℕ) (p q : Content W) (roomy : List LaneContent) (e : Entry) (answer : Result (Option PageMsg) AgentFault) (message : Option PageMsg) → Enters next_word None (Gave slot) p.agent q.agent e
     → AnswersAs (λ m. m ≡ e.effects.message) e.verdict answer → IfOk answer (λ m. message ≡ m) → Gains slot [] p.lanes roomy → Gains slot (option_to_list message) roomy q.lanes
-    → q.config ≡ p.config → q.last ≡ last_with p.last e.verdict e.moment → q.state ≡ e.effects.state → GoesOn draw None (Gave slot) p q e
-gives_on draw slot p q roomy e answer message enters answers are room gains config last after = record {
+    → q.config ≡ p.config → q.last ≡ last_with p.last e.verdict e.moment → q.state ≡ e.effects.state → GoesOn next_word None (Gave slot) p q e
+gives_on next_word slot p q roomy e answer message enters answers are room gains config last after = record {
   input_is = enters.input_is;
   words = enters.words;
   adds = λ c made past h.
@@ -245,9 +245,9 @@ next_waits : (ts ws : List PageMsg) → slice_get (ts ++ ws) (length ts) ≡ sli
 next_waits [] ws = refl
 next_waits (t ∷ ts) ws = next_waits ts ws
 
-pub takes_on : {W : Type 0} (draw : W → ℕ × W) (slot : ℕ) (p q : Content W) (message : Option PageMsg) (e : Entry) → e ≡ still_entry p.config.me p.last (Took slot) Done message p.state
-    → Loses slot message p.lanes q.lanes → q.agent ≡ p.agent → q.config ≡ p.config → q.last ≡ p.last → q.state ≡ p.state → GoesOn draw None (Took slot) p q e
-takes_on draw slot p q message e is loses agent config last after = record {
+pub takes_on : {W : Type 0} (next_word : W → ℕ × W) (slot : ℕ) (p q : Content W) (message : Option PageMsg) (e : Entry) → e ≡ still_entry p.config.me p.last (Took slot) Done message p.state
+    → Loses slot message p.lanes q.lanes → q.agent ≡ p.agent → q.config ≡ p.config → q.last ≡ p.last → q.state ≡ p.state → GoesOn next_word None (Took slot) p q e
+takes_on next_word slot p q message e is loses agent config last after = record {
   input_is = ap (λ (x : Entry). x.input) is;
   words = rw is (ap (λ a. a.words) agent);
   adds = λ c made past h. subst (λ (x : Entry). Adds c made past None q x) (sym (is ∙ ap (λ m. still_entry m p.last (Took slot) Done message p.state) (ap (λ (s : Config). s.me) h.config))) (by c made past h);

@@ -38,11 +38,11 @@ hears_more now bs bytes a b c heard h (inr (wrong, same)) = absurd (is_ok wrong)
     is_ok e = cc
 
 -- and the words go on
-pub words_go_on : {W : Type 0} (draw : W → ℕ × W) (a b c : RecorderView W) → b.journal.start ≡ a.journal.start → RecordsByWords draw a b → RecordsByWords draw b c → RecordsByWords draw a c
-words_go_on draw a b c same h k = record {
+pub words_go_on : {W : Type 0} (next_word : W → ℕ × W) (a b c : RecorderView W) → b.journal.start ≡ a.journal.start → RecordsByWords next_word a b → RecordsByWords next_word b c → RecordsByWords next_word a c
+words_go_on next_word a b c same h k = record {
   added = h.added ++ k.added;
   grown = k.grown ∙ ap (λ es. es ++ k.added) h.grown ∙ append_assoc a.journal.entries h.added k.added;
-  words = by_more draw a.journal.start.config a.words b.words c.words h.added k.added h.words (subst (λ (t : Start). AreByWords draw t.config b.words k.added c.words) same k.words);
+  words = by_more next_word a.journal.start.config a.words b.words c.words h.added k.added h.words (subst (λ (t : Start). AreByWords next_word t.config b.words k.added c.words) same k.words);
 }
 
 -- one more of those that are gone through

@@ -34,21 +34,21 @@ use Rattle.srm_world.proofs.Lawful.{lawful_journal}
 pub of_session : {W : Type 0} (j : Journal) (a : Content W) (e : Entry) (answer : Result Ticked AgentFault) → IsKept j a → AnswersAs (IsTicked a.config.session e) e.verdict answer → AnswersAs (IsTicked j.start.config.session e) e.verdict answer
 of_session j a e answer kept answers = subst (λ (s : Config). AnswersAs (IsTicked s.session e) e.verdict answer) kept.fits.config answers
 
-pub records : {W A : Type 0} (draw : W → ℕ × W) (now : Option ℕ) (input : Input) (is : Entry → A → Type 0) (j new : Journal) (a b : Content W) (e : Entry) (answer : Result A AgentFault) → IsKept j a → Enters draw now input a b e
+pub records : {W A : Type 0} (next_word : W → ℕ × W) (now : Option ℕ) (input : Input) (is : Entry → A → Type 0) (j new : Journal) (a b : Content W) (e : Entry) (answer : Result A AgentFault) → IsKept j a → Enters next_word now input a b e
     → AnswersAs (is e) e.verdict answer → new ≡ with_entry j e → Records now input is j new answer
-records draw now input is j new a b e answer kept enters answers grown = inl (e, record { moment = enters.moment_is ∙ ap (moment_that_counts now) kept.fits.last; grown = grown }, enters.input_is, answers)
+records next_word now input is j new a b e answer kept enters answers grown = inl (e, record { moment = enters.moment_is ∙ ap (moment_that_counts now) kept.fits.last; grown = grown }, enters.input_is, answers)
 
-pub records_drawn : {W : Type 0} (draw : W → ℕ × W) (now : ℕ) (page : Page) (body : List ℕ) (j new : Journal) (a b : Content W) (e : Entry) (answer : Result FullName AgentFault) → IsKept j a → Enters draw (Some now) (Drew page body) a b e
+pub records_drawn : {W : Type 0} (next_word : W → ℕ × W) (now : ℕ) (page : Page) (body : List ℕ) (j new : Journal) (a b : Content W) (e : Entry) (answer : Result FullName AgentFault) → IsKept j a → Enters next_word (Some now) (Drew page body) a b e
     → AnswersAs (IsDrawnName e) e.verdict answer → new ≡ with_entry j e → Records (Some now) (Drew page body) IsDrawnName j new answer
-records_drawn draw now page body = records draw (Some now) (Drew page body) IsDrawnName
+records_drawn next_word now page body = records next_word (Some now) (Drew page body) IsDrawnName
 
-pub records_ticked : {W : Type 0} (draw : W → ℕ × W) (now : ℕ) (j new : Journal) (a b : Content W) (e : Entry) (answer : Result Ticked AgentFault) → IsKept j a → Enters draw (Some now) inputs.Ticked a b e
+pub records_ticked : {W : Type 0} (next_word : W → ℕ × W) (now : ℕ) (j new : Journal) (a b : Content W) (e : Entry) (answer : Result Ticked AgentFault) → IsKept j a → Enters next_word (Some now) inputs.Ticked a b e
     → AnswersAs (IsTicked a.config.session e) e.verdict answer → new ≡ with_entry j e → Records (Some now) inputs.Ticked (IsTicked j.start.config.session) j new answer
-records_ticked draw now j new a b e answer kept enters answers grown = records draw (Some now) inputs.Ticked (IsTicked j.start.config.session) j new a b e answer kept enters (of_session j a e answer kept answers) grown
+records_ticked next_word now j new a b e answer kept enters answers grown = records next_word (Some now) inputs.Ticked (IsTicked j.start.config.session) j new a b e answer kept enters (of_session j a e answer kept answers) grown
 
-pub records_heard : {W : Type 0} (draw : W → ℕ × W) (now : ℕ) (bytes : List ℕ) (j new : Journal) (a b : Content W) (e : Entry) (answer : Result Heard AgentFault) → IsKept j a → Enters draw (Some now) e.input a b e → ReadsAs bytes a e
+pub records_heard : {W : Type 0} (next_word : W → ℕ × W) (now : ℕ) (bytes : List ℕ) (j new : Journal) (a b : Content W) (e : Entry) (answer : Result Heard AgentFault) → IsKept j a → Enters next_word (Some now) e.input a b e → ReadsAs bytes a e
     → AnswersHeard e answer → new ≡ with_entry j e → RecordsHeard now bytes j new answer
-records_heard draw now bytes j new a b e answer kept enters reads answers grown =
+records_heard next_word now bytes j new a b e answer kept enters reads answers grown =
     inl (e, record { moment = enters.moment_is ∙ ap (moment_that_counts (Some now)) kept.fits.last; grown = grown }, reads.each j.start.config j.start.made j.entries kept.fits, answers)
 
 -- what is kept, with one entry more
@@ -57,19 +57,19 @@ all_snoc : (es : List Entry) (e : Entry) → AllByRecursion IsUntaken es → IsU
 all_snoc [] e h k = (k, tt)
 all_snoc (x ∷ es) e h k = (h.0, all_snoc es e h.1 k)
 
-pub still_kept : {W : Type 0} (draw : W → ℕ × W) (now : Option ℕ) (input : Input) (j : Journal) (a b : Content W) (e : Entry) (es : List Entry) → IsKept j a → Enters draw now input a b e → is_take input ≡ false → es ≡ j.entries ++ e ∷ []
+pub still_kept : {W : Type 0} (next_word : W → ℕ × W) (now : Option ℕ) (input : Input) (j : Journal) (a b : Content W) (e : Entry) (es : List Entry) → IsKept j a → Enters next_word now input a b e → is_take input ≡ false → es ≡ j.entries ++ e ∷ []
     → IsKept (record { start = j.start; entries = es }) b
-still_kept draw now input j a b e es kept enters none is = record {
+still_kept next_word now input j a b e es kept enters none is = record {
   fits = subst (λ xs. Fits j.start.config j.start.made xs b) (sym is) (enters.fits j.start.config j.start.made j.entries kept.fits);
   untaken = subst (AllByRecursion IsUntaken) (sym is) (all_snoc j.entries e kept.untaken (ap is_take enters.input_is ∙ none));
 }
 
-pub kept_drawn : {W : Type 0} (draw : W → ℕ × W) (now : ℕ) (page : Page) (body : List ℕ) (j : Journal) (a b : Content W) (e : Entry) (es : List Entry) → IsKept j a → Enters draw (Some now) (Drew page body) a b e → es ≡ j.entries ++ e ∷ []
+pub kept_drawn : {W : Type 0} (next_word : W → ℕ × W) (now : ℕ) (page : Page) (body : List ℕ) (j : Journal) (a b : Content W) (e : Entry) (es : List Entry) → IsKept j a → Enters next_word (Some now) (Drew page body) a b e → es ≡ j.entries ++ e ∷ []
     → IsKept (record { start = j.start; entries = es }) b
-kept_drawn draw now page body j a b e es kept enters is = still_kept draw (Some now) (Drew page body) j a b e es kept enters refl is
+kept_drawn next_word now page body j a b e es kept enters is = still_kept next_word (Some now) (Drew page body) j a b e es kept enters refl is
 
-pub kept_ticked : {W : Type 0} (draw : W → ℕ × W) (now : ℕ) (j : Journal) (a b : Content W) (e : Entry) (es : List Entry) → IsKept j a → Enters draw (Some now) inputs.Ticked a b e → es ≡ j.entries ++ e ∷ [] → IsKept (record { start = j.start; entries = es }) b
-kept_ticked draw now j a b e es kept enters is = still_kept draw (Some now) inputs.Ticked j a b e es kept enters refl is
+pub kept_ticked : {W : Type 0} (next_word : W → ℕ × W) (now : ℕ) (j : Journal) (a b : Content W) (e : Entry) (es : List Entry) → IsKept j a → Enters next_word (Some now) inputs.Ticked a b e → es ≡ j.entries ++ e ∷ [] → IsKept (record { start = j.start; entries = es }) b
+kept_ticked next_word now j a b e es kept enters is = still_kept next_word (Some now) inputs.Ticked j a b e es kept enters refl is
 
 heard_untaken : (c : Config) (past : List Entry) (bytes : List ℕ) → is_take ((bytes_heard c past bytes).0) ≡ false
 heard_untaken c past bytes = gone (is_gone (state past)) (judge c.session bytes)
@@ -83,10 +83,10 @@ heard_untaken c past bytes = gone (is_gone (state past)) (judge c.session bytes)
     gone false r = read r
 
 -- nor is hearing a take
-pub still_heard : {W : Type 0} (draw : W → ℕ × W) (now : ℕ) (bytes : List ℕ) (j : Journal) (a b : Content W) (e : Entry) (es : List Entry) → IsKept j a → Enters draw (Some now) e.input a b e → ReadsAs bytes a e → es ≡ j.entries ++ e ∷ []
+pub still_heard : {W : Type 0} (next_word : W → ℕ × W) (now : ℕ) (bytes : List ℕ) (j : Journal) (a b : Content W) (e : Entry) (es : List Entry) → IsKept j a → Enters next_word (Some now) e.input a b e → ReadsAs bytes a e → es ≡ j.entries ++ e ∷ []
     → IsKept (record { start = j.start; entries = es }) b
-still_heard draw now bytes j a b e es kept enters reads is =
-    still_kept draw (Some now) e.input j a b e es kept enters
+still_heard next_word now bytes j a b e es kept enters reads is =
+    still_kept next_word (Some now) e.input j a b e es kept enters
     (ap (λ (p : Input × Verdict). is_take p.0) (reads.each j.start.config j.start.made j.entries kept.fits) ∙ heard_untaken j.start.config j.entries bytes) is
 
 -- and the same entries where memory ran out
@@ -116,10 +116,10 @@ journal_kept j a kept = record { run = fits_run j.start.config j.start.made j.en
 pub lawful : {W : Type 0} (j : Journal) (a : Content W) → IsKept j a → IsLawfulJournal j
 lawful j a kept = lawful_journal j (journal_kept j a kept)
 
-pub lawful_after : {W : Type 0} (draw : W → ℕ × W) (now : Option ℕ) (input : Input) (j : Journal) (a b : Content W) (e : Entry) (new : Journal) → IsKept j a → Enters draw now input a b e → is_take input ≡ false → new ≡ with_entry j e → IsLawfulJournal new
-lawful_after draw now input j a b e new kept enters none grown =
-    subst IsLawfulJournal (sym grown) (lawful (with_entry j e) b (still_kept draw now input j a b e (j.entries ++ e ∷ []) kept enters none refl))
+pub lawful_after : {W : Type 0} (next_word : W → ℕ × W) (now : Option ℕ) (input : Input) (j : Journal) (a b : Content W) (e : Entry) (new : Journal) → IsKept j a → Enters next_word now input a b e → is_take input ≡ false → new ≡ with_entry j e → IsLawfulJournal new
+lawful_after next_word now input j a b e new kept enters none grown =
+    subst IsLawfulJournal (sym grown) (lawful (with_entry j e) b (still_kept next_word now input j a b e (j.entries ++ e ∷ []) kept enters none refl))
 
-pub lawful_heard : {W : Type 0} (draw : W → ℕ × W) (now : ℕ) (bytes : List ℕ) (j : Journal) (a b : Content W) (e : Entry) (new : Journal) → IsKept j a → Enters draw (Some now) e.input a b e → ReadsAs bytes a e → new ≡ with_entry j e → IsLawfulJournal new
-lawful_heard draw now bytes j a b e new kept enters reads grown =
-    subst IsLawfulJournal (sym grown) (lawful (with_entry j e) b (still_heard draw now bytes j a b e (j.entries ++ e ∷ []) kept enters reads refl))
+pub lawful_heard : {W : Type 0} (next_word : W → ℕ × W) (now : ℕ) (bytes : List ℕ) (j : Journal) (a b : Content W) (e : Entry) (new : Journal) → IsKept j a → Enters next_word (Some now) e.input a b e → ReadsAs bytes a e → new ≡ with_entry j e → IsLawfulJournal new
+lawful_heard next_word now bytes j a b e new kept enters reads grown =
+    subst IsLawfulJournal (sym grown) (lawful (with_entry j e) b (still_heard next_word now bytes j a b e (j.entries ++ e ∷ []) kept enters reads refl))

@@ -111,9 +111,9 @@ record Called {W : Type 0} (ps : List (Content W)) (t : Trace) (event : Event) (
   pub run : IsMemberRun start.config start.made (of_member i t.entries ++ e ∷ [])
   pub mine : e.member ≡ i
 
-called : {W : Type 0} (draw : W → ℕ × W) (ps : List (Content W)) (sents : List Out) (t : Trace) (event : Event) (i : ℕ) (d q : Content W) (input : Input) (e : Entry) → AreWorld ps sents t → i < length ps
-    → GoesOn draw (moment_in event) input (get_or ps i d) q e → Called ps t event i q e
-called draw ps sents t event i d q input e w lt goes =
+called : {W : Type 0} (next_word : W → ℕ × W) (ps : List (Content W)) (sents : List Out) (t : Trace) (event : Event) (i : ℕ) (d q : Content W) (input : Input) (e : Entry) → AreWorld ps sents t → i < length ps
+    → GoesOn next_word (moment_in event) input (get_or ps i d) q e → Called ps t event i q e
+called next_word ps sents t event i d q input e w lt goes =
     let (a, at) = at_place t.starts i (omega (arith, lt, w.count)) in
     let adds = goes.adds a.config a.made (of_member i t.entries) (w.fit i a (get_or ps i d) at (slice_get-get_or ps i d lt)) in
     let right : EntryRight a.config a.made (record { before = of_member i t.entries; this = e }) = newest_right a.config a.made (of_member i t.entries) e adds.fits.agent.run in
@@ -126,10 +126,10 @@ called draw ps sents t event i d q input e w lt goes =
       mine = right.member ∙ me_at t.starts i a w.lawful.run.roster at;
     }
 
-enters : {W : Type 0} (draw : W → ℕ × W) (ps : List (Content W)) (sents more : List Out) (t : Trace) (event : Event) (i : ℕ) (d q : Content W) (input : Input) (e : Entry) → AreWorld ps sents t → i < length ps → i ≡ member_of event
-    → GoesOn draw (moment_in event) input (get_or ps i d) q e → Called ps t event i q e → input_of t.entries event ≡ Some input → IfSome (heard_in (Some input)) (Contains (sent t.entries)) → AreSent t.starts more (t.entries ++ e ∷ [])
+enters : {W : Type 0} (next_word : W → ℕ × W) (ps : List (Content W)) (sents more : List Out) (t : Trace) (event : Event) (i : ℕ) (d q : Content W) (input : Input) (e : Entry) → AreWorld ps sents t → i < length ps → i ≡ member_of event
+    → GoesOn next_word (moment_in event) input (get_or ps i d) q e → Called ps t event i q e → input_of t.entries event ≡ Some input → IfSome (heard_in (Some input)) (Contains (sent t.entries)) → AreSent t.starts more (t.entries ++ e ∷ [])
     → EntersTrace t.starts t.entries event (slice_set ps i q) more e
-enters draw ps sents more t event i d q input e w lt named goes c asks hears sends = record {
+enters next_word ps sents more t event i d q input e w lt named goes c asks hears sends = record {
   asks = rw (lt-ltb (member_of event) (length t.starts) (omega (arith, lt, w.count, named))) (asks ∙ ap Some (sym goes.input_is));
   is_entry = record {
     member = c.mine ∙ named;
@@ -165,35 +165,35 @@ one_session t es m a run at n b there =
     by_place (λ (x : Start). a.config.session ≡ x.config.session) t.starts n b (by_place (λ (y : Start). AllByRecursion (λ (x : Start). y.config.session ≡ x.config.session) t.starts) t.starts m a run.roster.session at) there
 
 -- its waits are by the words of the member at the place
-by_words : {W : Type 0} (draw : W → ℕ × W) (ps : List (Content W)) (sents : List Out) (t : Trace) (event : Event) (i : ℕ) (d q : Content W) (input : Input) (e : Entry) → AreWorld ps sents t → i < length ps
-    → GoesOn draw (moment_in event) input (get_or ps i d) q e → Called ps t event i q e → AreByOwnWords draw t.starts (words_of ps) (e ∷ []) (words_of (slice_set ps i q))
-by_words draw ps sents t event i d q input e w lt goes c = plays_one draw t.starts ps i d q e c.start lt c.at c.mine
-    (subst (λ (s : Config). AreChosen draw (low_of s) (high_of s) (get_or ps i d).agent.words e.effects.arms q.agent.words) (w.fit i c.start (get_or ps i d) c.at (slice_get-get_or ps i d lt)).agent.config goes.words)
+by_words : {W : Type 0} (next_word : W → ℕ × W) (ps : List (Content W)) (sents : List Out) (t : Trace) (event : Event) (i : ℕ) (d q : Content W) (input : Input) (e : Entry) → AreWorld ps sents t → i < length ps
+    → GoesOn next_word (moment_in event) input (get_or ps i d) q e → Called ps t event i q e → AreByOwnWords next_word t.starts (words_of ps) (e ∷ []) (words_of (slice_set ps i q))
+by_words next_word ps sents t event i d q input e w lt goes c = plays_one next_word t.starts ps i d q e c.start lt c.at c.mine
+    (subst (λ (s : Config). AreChosen next_word (low_of s) (high_of s) (get_or ps i d).agent.words e.effects.arms q.agent.words) (w.fit i c.start (get_or ps i d) c.at (slice_get-get_or ps i d lt)).agent.config goes.words)
 
 -- a call that is no tick and hears nothing
-pub enters_at : {W : Type 0} (draw : W → ℕ × W) (ps : List (Content W)) (sents : List Out) (event : Event) (i : ℕ) (d q : Content W) (now : Option ℕ) (input : Input) (e : Entry) → i < length ps → i ≡ member_of event → now ≡ moment_in event
-    → GoesOn draw now input (get_or ps i d) q e → ((es : List Entry) → input_of es event ≡ Some input) → heard_in (Some input) ≡ None → is_tick input ≡ false → EntersAll draw ps (slice_set ps i q) sents sents event e
-enters_at draw ps sents event i d q now input e lt named at goes asks unheard unticked = record {
+pub enters_at : {W : Type 0} (next_word : W → ℕ × W) (ps : List (Content W)) (sents : List Out) (event : Event) (i : ℕ) (d q : Content W) (now : Option ℕ) (input : Input) (e : Entry) → i < length ps → i ≡ member_of event → now ≡ moment_in event
+    → GoesOn next_word now input (get_or ps i d) q e → ((es : List Entry) → input_of es event ≡ Some input) → heard_in (Some input) ≡ None → is_tick input ≡ false → EntersAll next_word ps (slice_set ps i q) sents sents event e
+enters_at next_word ps sents event i d q now input e lt named at goes asks unheard unticked = record {
   enters = λ t w.
-      let goes = subst (λ o. GoesOn draw o input (get_or ps i d) q e) at goes in
-      let c = called draw ps sents t event i d q input e w lt goes in
-      enters draw ps sents sents t event i d q input e w lt named goes c (asks t.entries) (rw unheard tt)
+      let goes = subst (λ o. GoesOn next_word o input (get_or ps i d) q e) at goes in
+      let c = called next_word ps sents t event i d q input e w lt goes in
+      enters next_word ps sents sents t event i d q input e w lt named goes c (asks t.entries) (rw unheard tt)
       (sends_nothing t.starts sents t.entries e w.sent (unticked_sends_nothing c.start.config c.start.made (of_member i t.entries) e c.run (ap is_tick goes.input_is ∙ unticked)));
-  words = λ t w. let goes = subst (λ o. GoesOn draw o input (get_or ps i d) q e) at goes in by_words draw ps sents t event i d q input e w lt goes (called draw ps sents t event i d q input e w lt goes);
+  words = λ t w. let goes = subst (λ o. GoesOn next_word o input (get_or ps i d) q e) at goes in by_words next_word ps sents t event i d q input e w lt goes (called next_word ps sents t event i d q input e w lt goes);
   count = length-set ps i q;
 }
 
-pub ticks_at : {W : Type 0} (draw : W → ℕ × W) (ps : List (Content W)) (sents more outs : List Out) (event : Event) (i : ℕ) (d q : Content W) (now : Option ℕ) (e : Entry) → i < length ps → i ≡ member_of event → now ≡ moment_in event
-    → GoesOn draw now Ticked (get_or ps i d) q e → SendsOuts (get_or ps i d) e outs → ((es : List Entry) → input_of es event ≡ Some Ticked) → more ≡ sents ++ outs → EntersAll draw ps (slice_set ps i q) sents more event e
-ticks_at draw ps sents more outs event i d q now e lt named at goes sends asks is = record {
+pub ticks_at : {W : Type 0} (next_word : W → ℕ × W) (ps : List (Content W)) (sents more outs : List Out) (event : Event) (i : ℕ) (d q : Content W) (now : Option ℕ) (e : Entry) → i < length ps → i ≡ member_of event → now ≡ moment_in event
+    → GoesOn next_word now Ticked (get_or ps i d) q e → SendsOuts (get_or ps i d) e outs → ((es : List Entry) → input_of es event ≡ Some Ticked) → more ≡ sents ++ outs → EntersAll next_word ps (slice_set ps i q) sents more event e
+ticks_at next_word ps sents more outs event i d q now e lt named at goes sends asks is = record {
   enters = λ t w.
-      let goes = subst (λ o. GoesOn draw o Ticked (get_or ps i d) q e) at goes in
-      let c = called draw ps sents t event i d q Ticked e w lt goes in
+      let goes = subst (λ o. GoesOn next_word o Ticked (get_or ps i d) q e) at goes in
+      let c = called next_word ps sents t event i d q Ticked e w lt goes in
       let fits = w.fit i c.start (get_or ps i d) c.at (slice_get-get_or ps i d lt) in
-      enters draw ps sents more t event i d q Ticked e w lt named goes c (asks t.entries) tt
+      enters next_word ps sents more t event i d q Ticked e w lt named goes c (asks t.entries) tt
       (subst (λ os. AreSent t.starts os (t.entries ++ e ∷ [])) (sym is)
       (sends_these t.starts sents outs t.entries e i c.start (one_session t t.entries i c.start w.lawful.run c.at) w.sent (sends.each c.start.config c.start.made (of_member i t.entries) fits)));
-  words = λ t w. let goes = subst (λ o. GoesOn draw o Ticked (get_or ps i d) q e) at goes in by_words draw ps sents t event i d q Ticked e w lt goes (called draw ps sents t event i d q Ticked e w lt goes);
+  words = λ t w. let goes = subst (λ o. GoesOn next_word o Ticked (get_or ps i d) q e) at goes in by_words next_word ps sents t event i d q Ticked e w lt goes (called next_word ps sents t event i d q Ticked e w lt goes);
   count = length-set ps i q;
 }
 
@@ -212,12 +212,12 @@ no_tick true g = refl
 no_tick false g = refl
 
 -- a datagram is delivered
-pub delivers_at : {W : Type 0} (draw : W → ℕ × W) (ps : List (Content W)) (sents : List Out) (event : Event) (i member now index : ℕ) (o : Out) (d q : Content W) (e : Entry) → event ≡ Deliver member now index → i < length ps → i ≡ member_of event
-    → slice_get sents index ≡ Some o → GoesOn draw (Some now) e.input (get_or ps i d) q e → HearsBytes o.bytes (get_or ps i d) e → EntersAll draw ps (slice_set ps i q) sents sents event e
-delivers_at draw ps sents event i member now index o d q e is lt named at goes reads = record {
+pub delivers_at : {W : Type 0} (next_word : W → ℕ × W) (ps : List (Content W)) (sents : List Out) (event : Event) (i member now index : ℕ) (o : Out) (d q : Content W) (e : Entry) → event ≡ Deliver member now index → i < length ps → i ≡ member_of event
+    → slice_get sents index ≡ Some o → GoesOn next_word (Some now) e.input (get_or ps i d) q e → HearsBytes o.bytes (get_or ps i d) e → EntersAll next_word ps (slice_set ps i q) sents sents event e
+delivers_at next_word ps sents event i member now index o d q e is lt named at goes reads = record {
   enters = λ t w.
-      let goes = subst (λ n. GoesOn draw n e.input (get_or ps i d) q e) (ap moment_in (sym is)) goes in
-      let c = called draw ps sents t event i d q e.input e w lt goes in
+      let goes = subst (λ n. GoesOn next_word n e.input (get_or ps i d) q e) (ap moment_in (sym is)) goes in
+      let c = called next_word ps sents t event i d q e.input e w lt goes in
       let fits = w.fit i c.start (get_or ps i d) c.at (slice_get-get_or ps i d lt) in
       let there : slice_get (sent t.entries) index ≡ Some o.datagram = datagram_at t.starts sents t.entries index (Some o) w.sent at in
       let out : IsOut c.start.config.session o = by_place (IsOut c.start.config.session) sents index o (w.sent.spelled i c.start c.at) at in
@@ -225,10 +225,10 @@ delivers_at draw ps sents event i member now index o d q e is lt named at goes r
       let me : i ≡ member = named ∙ ap member_of is in
       let asks : input_of t.entries event ≡ Some e.input =
       ap (input_of t.entries) is ∙ ap (option_map (input_heard (is_gone (state (of_member member t.entries))))) there ∙ ap (λ k. Some (input_heard (is_gone (state (of_member k t.entries))) o.datagram)) (sym me) ∙ ap Some (sym input) in
-      enters draw ps sents sents t event i d q e.input e w lt named goes c asks
+      enters next_word ps sents sents t event i d q e.input e w lt named goes c asks
       (subst (λ x. IfSome (heard_in (Some x)) (Contains (sent t.entries))) (sym input) (heard_was_sent (is_gone (state (of_member i t.entries))) o.datagram (sent t.entries) (contained (sent t.entries) index o.datagram there)))
       (sends_nothing t.starts sents t.entries e w.sent (unticked_sends_nothing c.start.config c.start.made (of_member i t.entries) e c.run (ap is_tick input ∙ no_tick (is_gone (state (of_member i t.entries))) o.datagram)));
-  words = λ t w. let goes = subst (λ n. GoesOn draw n e.input (get_or ps i d) q e) (ap moment_in (sym is)) goes in by_words draw ps sents t event i d q e.input e w lt goes (called draw ps sents t event i d q e.input e w lt goes);
+  words = λ t w. let goes = subst (λ n. GoesOn next_word n e.input (get_or ps i d) q e) (ap moment_in (sym is)) goes in by_words next_word ps sents t event i d q e.input e w lt goes (called next_word ps sents t event i d q e.input e w lt goes);
   count = length-set ps i q;
 }
 
@@ -280,9 +280,9 @@ run_more starts es ps roster count fit inside = record {
 }
 
 -- after an entry
-pub world_more : {W : Type 0} (draw : W → ℕ × W) (old new : List (Content W)) (sents more : List Out) (t now : Trace) (event : Event) (e : Entry) → now ≡ after_entry t e → AreWorld old sents t → EntersAll draw old new sents more event e
+pub world_more : {W : Type 0} (next_word : W → ℕ × W) (old new : List (Content W)) (sents more : List Out) (t now : Trace) (event : Event) (e : Entry) → now ≡ after_entry t e → AreWorld old sents t → EntersAll next_word old new sents more event e
     → AreWorld new more now
-world_more draw old new sents more t now event e is w all = subst (AreWorld new more) (sym is) (
+world_more next_word old new sents more t now event e is w all = subst (AreWorld new more) (sym is) (
     let es : List Entry = t.entries ++ e ∷ [] in
     let h = all.enters t w in
     let run : IsRunOf t.starts es = run_more t.starts es new w.lawful.run.roster (all.count ∙ w.count) h.fit (AllByRecursion-append (λ (x : Entry). x.member < length t.starts) t.entries (e ∷ []) w.lawful.run.inside (h.inside, tt)) in
@@ -301,11 +301,11 @@ world_same old new sents more t w keeps = record {
 pub skips_keep : {W : Type 0} (old new : List (Content W)) (sents more : List Out) (event : Event) → Skips old new sents more event → KeepsParticipants old new sents more
 skips_keep old new sents more event skips = record { fits = λ starts es all. subst (λ ps. AllFit starts ps es) (sym skips.same) all; words = ap words_of skips.same; count = ap length skips.same; sent = skips.sent }
 
-pub followed : {W : Type 0} (draw : W → ℕ × W) (old new : List (Content W)) (sents more : List Out) (t : Trace) (event : Event) (e : Entry) → AreWorld old sents t → EntersAll draw old new sents more event e → FollowsOne t.starts t.entries event (t.entries ++ e ∷ [])
-followed draw old new sents more t event e w all = let h = all.enters t w in rw h.asks (e, h.is_entry, refl)
+pub followed : {W : Type 0} (next_word : W → ℕ × W) (old new : List (Content W)) (sents more : List Out) (t : Trace) (event : Event) (e : Entry) → AreWorld old sents t → EntersAll next_word old new sents more event e → FollowsOne t.starts t.entries event (t.entries ++ e ∷ [])
+followed next_word old new sents more t event e w all = let h = all.enters t w in rw h.asks (e, h.is_entry, refl)
 
-pub was_asked : {W : Type 0} (draw : W → ℕ × W) (old new : List (Content W)) (sents more : List Out) (t : Trace) (event : Event) (e : Entry) → AreWorld old sents t → EntersAll draw old new sents more event e → IsSome (required_input t.starts t.entries event)
-was_asked draw old new sents more t event e w all = let h = all.enters t w in rw h.asks refl
+pub was_asked : {W : Type 0} (next_word : W → ℕ × W) (old new : List (Content W)) (sents more : List Out) (t : Trace) (event : Event) (e : Entry) → AreWorld old sents t → EntersAll next_word old new sents more event e → IsSome (required_input t.starts t.entries event)
+was_asked next_word old new sents more t event e w all = let h = all.enters t w in rw h.asks refl
 
 pub was_skipped : {W : Type 0} (old new : List (Content W)) (sents more : List Out) (t : Trace) (event : Event) → AreWorld old sents t → Skips old new sents more event → FollowsOne t.starts t.entries event t.entries
 was_skipped old new sents more t event w skips = rw (skips.nothing t w) refl
@@ -321,65 +321,65 @@ world_is ps items sents more t now items_are more_is now_is w = subst (λ xs. Ar
 
 -- what was appended to the trace of a world
 
-pub appended_world : {W : Type 0} (draw : W → ℕ × W) (old new items : List (Content W)) (sents more : List Out) (t now : Trace) (event : Event) (applied : Bool) → items ≡ new → AreWorld old sents t → Appends draw old new sents more event t now applied → AreWorld items more now
-appended_world draw old new items sents more t now event true same w (e, all, is) = subst (λ ps. AreWorld ps more now) (sym same) (world_more draw old new sents more t now event e is w all)
-appended_world draw old new items sents more t now event false same w (skips, is) =
+pub appended_world : {W : Type 0} (next_word : W → ℕ × W) (old new items : List (Content W)) (sents more : List Out) (t now : Trace) (event : Event) (applied : Bool) → items ≡ new → AreWorld old sents t → Appends next_word old new sents more event t now applied → AreWorld items more now
+appended_world next_word old new items sents more t now event true same w (e, all, is) = subst (λ ps. AreWorld ps more now) (sym same) (world_more next_word old new sents more t now event e is w all)
+appended_world next_word old new items sents more t now event false same w (skips, is) =
     world_is new items more more t now same refl is (world_same old new sents more t w (skips_keep old new sents more event skips))
 
-pub appended_follows : {W : Type 0} (draw : W → ℕ × W) (old new : List (Content W)) (sents more : List Out) (t now : Trace) (event : Event) (applied : Bool) → AreWorld old sents t → Appends draw old new sents more event t now applied → FollowsOne t.starts t.entries event now.entries
-appended_follows draw old new sents more t now event true w (e, all, is) = subst (λ (x : Trace). FollowsOne t.starts t.entries event x.entries) (sym is) (followed draw old new sents more t event e w all)
-appended_follows draw old new sents more t now event false w (skips, is) = subst (λ (x : Trace). FollowsOne t.starts t.entries event x.entries) (sym is) (was_skipped old new sents more t event w skips)
+pub appended_follows : {W : Type 0} (next_word : W → ℕ × W) (old new : List (Content W)) (sents more : List Out) (t now : Trace) (event : Event) (applied : Bool) → AreWorld old sents t → Appends next_word old new sents more event t now applied → FollowsOne t.starts t.entries event now.entries
+appended_follows next_word old new sents more t now event true w (e, all, is) = subst (λ (x : Trace). FollowsOne t.starts t.entries event x.entries) (sym is) (followed next_word old new sents more t event e w all)
+appended_follows next_word old new sents more t now event false w (skips, is) = subst (λ (x : Trace). FollowsOne t.starts t.entries event x.entries) (sym is) (was_skipped old new sents more t event w skips)
 
-pub appended_asked : {W : Type 0} (draw : W → ℕ × W) (old new : List (Content W)) (sents more : List Out) (t now : Trace) (event : Event) (applied : Bool) → AreWorld old sents t → Appends draw old new sents more event t now applied
+pub appended_asked : {W : Type 0} (next_word : W → ℕ × W) (old new : List (Content W)) (sents more : List Out) (t now : Trace) (event : Event) (applied : Bool) → AreWorld old sents t → Appends next_word old new sents more event t now applied
     → IsTrue applied ↔ IsSome (required_input t.starts t.entries event)
-appended_asked draw old new sents more t now event true w (e, all, is) = ((λ h. was_asked draw old new sents more t event e w all), (λ h. refl))
-appended_asked draw old new sents more t now event false w (skips, is) = ((λ h. absurd (cc)), (λ h. absurd (no_input (required_input t.starts t.entries event) (skips.nothing t w) h)))
+appended_asked next_word old new sents more t now event true w (e, all, is) = ((λ h. was_asked next_word old new sents more t event e w all), (λ h. refl))
+appended_asked next_word old new sents more t now event false w (skips, is) = ((λ h. absurd (cc)), (λ h. absurd (no_input (required_input t.starts t.entries event) (skips.nothing t w) h)))
   where
     no_input : (o : Option Input) → o ≡ None → IsSome o → ⊥
     no_input None e h = absurd (cc)
     no_input (Some x) e h = absurd (cc)
 
-pub appended_starts : {W : Type 0} (draw : W → ℕ × W) (old new : List (Content W)) (sents more : List Out) (t now : Trace) (event : Event) (applied : Bool) → Appends draw old new sents more event t now applied → now.starts ≡ t.starts
-appended_starts draw old new sents more t now event true (e, all, is) = ap (λ (x : Trace). x.starts) is
-appended_starts draw old new sents more t now event false (skips, is) = ap (λ (x : Trace). x.starts) is
+pub appended_starts : {W : Type 0} (next_word : W → ℕ × W) (old new : List (Content W)) (sents more : List Out) (t now : Trace) (event : Event) (applied : Bool) → Appends next_word old new sents more event t now applied → now.starts ≡ t.starts
+appended_starts next_word old new sents more t now event true (e, all, is) = ap (λ (x : Trace). x.starts) is
+appended_starts next_word old new sents more t now event false (skips, is) = ap (λ (x : Trace). x.starts) is
 
 -- what the words have come to after it
-pub appended_words : {W : Type 0} (draw : W → ℕ × W) (first old new items : List (Content W)) (sents more : List Out) (t now : Trace) (event : Event) (applied : Bool) → old ≡ first → items ≡ new → AreWorld old sents t → Appends draw old new sents more event t now applied
-    → PlaysByWords draw (record { trace = t; words = words_of first }) (record { trace = now; words = words_of items })
-appended_words draw first old new items sents more t now event applied first_is same w h =
-    subst (λ ps. PlaysByWords draw (record { trace = t; words = words_of ps }) (record { trace = now; words = words_of items })) first_is
-    (subst (λ ps. PlaysByWords draw (record { trace = t; words = words_of old }) (record { trace = now; words = words_of ps })) (sym same) (plays applied h))
+pub appended_words : {W : Type 0} (next_word : W → ℕ × W) (first old new items : List (Content W)) (sents more : List Out) (t now : Trace) (event : Event) (applied : Bool) → old ≡ first → items ≡ new → AreWorld old sents t → Appends next_word old new sents more event t now applied
+    → PlaysByWords next_word (record { trace = t; words = words_of first }) (record { trace = now; words = words_of items })
+appended_words next_word first old new items sents more t now event applied first_is same w h =
+    subst (λ ps. PlaysByWords next_word (record { trace = t; words = words_of ps }) (record { trace = now; words = words_of items })) first_is
+    (subst (λ ps. PlaysByWords next_word (record { trace = t; words = words_of old }) (record { trace = now; words = words_of ps })) (sym same) (plays applied h))
   where
-    plays : (applied : Bool) → Appends draw old new sents more event t now applied → PlaysByWords draw (record { trace = t; words = words_of old }) (record { trace = now; words = words_of new })
+    plays : (applied : Bool) → Appends next_word old new sents more event t now applied → PlaysByWords next_word (record { trace = t; words = words_of old }) (record { trace = now; words = words_of new })
     plays true (e, all, is) = record { added = e ∷ []; grown = ap (λ (x : Trace). x.entries) is; words = all.words t w }
-    plays false (skips, is) = record { added = []; grown = ap (λ (x : Trace). x.entries) is ∙ sym (append-nil t.entries); words = plays_nothing draw t.starts (words_of old) (words_of new) (ap words_of skips.same) }
+    plays false (skips, is) = record { added = []; grown = ap (λ (x : Trace). x.entries) is ∙ sym (append-nil t.entries); words = plays_nothing next_word t.starts (words_of old) (words_of new) (ap words_of skips.same) }
 
 -- how far a run of events has come
-pub record RunsTo {W : Type 0} (draw : W → ℕ × W) (old : WorldView W) (events : List Event) (i : ℕ) (now : WorldView W) : Type 0 where
+pub record RunsTo {W : Type 0} (next_word : W → ℕ × W) (old : WorldView W) (events : List Event) (i : ℕ) (now : WorldView W) : Type 0 where
   pub follows : Follows old.trace.starts old.trace.entries (take i events) now.trace.entries
   pub starts : now.trace.starts ≡ old.trace.starts
-  pub words : PlaysByWords draw old now
+  pub words : PlaysByWords next_word old now
   pub lawful : IsLawful now.trace
 
-pub runs_from : {W : Type 0} (draw : W → ℕ × W) (old : WorldView W) (events : List Event) → IsLawful old.trace → RunsTo draw old events 0 old
-runs_from draw old events law = record { follows = refl; starts = refl; words = plays_still draw old; lawful = law }
+pub runs_from : {W : Type 0} (next_word : W → ℕ × W) (old : WorldView W) (events : List Event) → IsLawful old.trace → RunsTo next_word old events 0 old
+runs_from next_word old events law = record { follows = refl; starts = refl; words = plays_still next_word old; lawful = law }
 
 -- one event of a run
-pub record Happens {W : Type 0} (draw : W → ℕ × W) (event : Event) (old new : WorldView W) : Type 0 where
+pub record Happens {W : Type 0} (next_word : W → ℕ × W) (event : Event) (old new : WorldView W) : Type 0 where
   pub follows : FollowsOne old.trace.starts old.trace.entries event new.trace.entries
   pub starts : new.trace.starts ≡ old.trace.starts
-  pub words : PlaysByWords draw old new
+  pub words : PlaysByWords next_word old new
   pub lawful : IsLawful new.trace
 
-pub stepped : {W : Type 0} (draw : W → ℕ × W) (event : Event) (old new : WorldView W) → FollowsOne old.trace.starts old.trace.entries event new.trace.entries → new.trace.starts ≡ old.trace.starts → PlaysByWords draw old new → IsLawful new.trace → Happens draw event old new
-stepped draw event old new follows starts words law = record { follows = follows; starts = starts; words = words; lawful = law }
+pub stepped : {W : Type 0} (next_word : W → ℕ × W) (event : Event) (old new : WorldView W) → FollowsOne old.trace.starts old.trace.entries event new.trace.entries → new.trace.starts ≡ old.trace.starts → PlaysByWords next_word old new → IsLawful new.trace → Happens next_word event old new
+stepped next_word event old new follows starts words law = record { follows = follows; starts = starts; words = words; lawful = law }
 
-pub runs_on : {W : Type 0} (draw : W → ℕ × W) (old between now : WorldView W) (events : List Event) (i : ℕ) (event : Event) → RunsTo draw old events i between → i < length events → event ≡ get_or events i event → Happens draw event between now → RunsTo draw old events (i + 1) now
-runs_on draw old between now events i event h l at s = record {
+pub runs_on : {W : Type 0} (next_word : W → ℕ × W) (old between now : WorldView W) (events : List Event) (i : ℕ) (event : Event) → RunsTo next_word old events i between → i < length events → event ≡ get_or events i event → Happens next_word event between now → RunsTo next_word old events (i + 1) now
+runs_on next_word old between now events i event h l at s = record {
   follows = subst (λ es. Follows old.trace.starts old.trace.entries es now.trace.entries) (sym (take_more events i event l))
       (follows_more old.trace.starts old.trace.entries between.trace.entries now.trace.entries (take i events) (get_or events i event) h.follows
       (subst (λ (x : Event). FollowsOne old.trace.starts between.trace.entries x now.trace.entries) at (subst (λ ss. FollowsOne ss between.trace.entries event now.trace.entries) h.starts s.follows)));
   starts = s.starts ∙ h.starts;
-  words = plays_on draw old between now h.words h.starts s.words;
+  words = plays_on next_word old between now h.words h.starts s.words;
   lawful = s.lawful;
 }

@@ -25,33 +25,33 @@ use Rattle.srm_world.proofs.Members.{of_member-append}
 
 -- one source
 
-drawn-append : {W : Type 0} (draw : W → ℕ × W) (low high : Arm → ℕ) (from mid to : W) (xs ys : List Arm) → AreChosen draw low high from xs mid → AreChosen draw low high mid ys to → AreChosen draw low high from (xs ++ ys) to
-drawn-append draw low high from mid to [] ys h k = subst (λ w. AreChosen draw low high w ys to) h k
-drawn-append draw low high from mid to (a ∷ xs) ys h k = (h.0, drawn-append draw low high (draw from).1 mid to xs ys h.1 k)
+chosen-append : {W : Type 0} (next_word : W → ℕ × W) (low high : Arm → ℕ) (from mid to : W) (xs ys : List Arm) → AreChosen next_word low high from xs mid → AreChosen next_word low high mid ys to → AreChosen next_word low high from (xs ++ ys) to
+chosen-append next_word low high from mid to [] ys h k = subst (λ w. AreChosen next_word low high w ys to) h k
+chosen-append next_word low high from mid to (a ∷ xs) ys h k = (h.0, chosen-append next_word low high (next_word from).1 mid to xs ys h.1 k)
 
-by_one : {W : Type 0} (draw : W → ℕ × W) (c : Config) (from to : W) (e : Entry) → AreChosen draw (low_of c) (high_of c) from e.effects.arms to → AreByWords draw c from (e ∷ []) to
-by_one draw c from to e h = subst (λ xs. AreChosen draw (low_of c) (high_of c) from xs to) (sym (append-nil e.effects.arms)) h
+by_one : {W : Type 0} (next_word : W → ℕ × W) (c : Config) (from to : W) (e : Entry) → AreChosen next_word (low_of c) (high_of c) from e.effects.arms to → AreByWords next_word c from (e ∷ []) to
+by_one next_word c from to e h = subst (λ xs. AreChosen next_word (low_of c) (high_of c) from xs to) (sym (append-nil e.effects.arms)) h
 
-pub by_more : {W : Type 0} (draw : W → ℕ × W) (c : Config) (from mid to : W) (xs ys : List Entry) → AreByWords draw c from xs mid → AreByWords draw c mid ys to → AreByWords draw c from (xs ++ ys) to
-by_more draw c from mid to xs ys h k =
-    subst (λ as_. AreChosen draw (low_of c) (high_of c) from as_ to) (sym (flat_map-append (λ (e : Entry). e.effects.arms) xs ys)) (drawn-append draw (low_of c) (high_of c) from mid to (arms_in xs) (arms_in ys) h k)
+pub by_more : {W : Type 0} (next_word : W → ℕ × W) (c : Config) (from mid to : W) (xs ys : List Entry) → AreByWords next_word c from xs mid → AreByWords next_word c mid ys to → AreByWords next_word c from (xs ++ ys) to
+by_more next_word c from mid to xs ys h k =
+    subst (λ as_. AreChosen next_word (low_of c) (high_of c) from as_ to) (sym (flat_map-append (λ (e : Entry). e.effects.arms) xs ys)) (chosen-append next_word (low_of c) (high_of c) from mid to (arms_in xs) (arms_in ys) h k)
 
 -- a recorder
 
-pub recorded_by : {W : Type 0} (draw : W → ℕ × W) (now : Option ℕ) (input : Input) (j : Journal) (a b : agents.Content W) (e : Entry) (es : List Entry) → agents_fit.Fits j.start.config j.start.made j.entries a → Enters draw now input a b e → es ≡ j.entries ++ e ∷ []
-    → RecordsByWords draw (record { journal = j; words = a.words }) (record { journal = record { start = j.start; entries = es }; words = b.words })
-recorded_by draw now input j a b e es fits enters is = record {
+pub recorded_by : {W : Type 0} (next_word : W → ℕ × W) (now : Option ℕ) (input : Input) (j : Journal) (a b : agents.Content W) (e : Entry) (es : List Entry) → agents_fit.Fits j.start.config j.start.made j.entries a → Enters next_word now input a b e → es ≡ j.entries ++ e ∷ []
+    → RecordsByWords next_word (record { journal = j; words = a.words }) (record { journal = record { start = j.start; entries = es }; words = b.words })
+recorded_by next_word now input j a b e es fits enters is = record {
   added = e ∷ [];
   grown = is;
-  words = by_one draw j.start.config a.words b.words e (subst (λ (c : Config). AreChosen draw (low_of c) (high_of c) a.words e.effects.arms b.words) fits.config enters.words);
+  words = by_one next_word j.start.config a.words b.words e (subst (λ (c : Config). AreChosen next_word (low_of c) (high_of c) a.words e.effects.arms b.words) fits.config enters.words);
 }
 
-pub unrecorded : {W : Type 0} (draw : W → ℕ × W) (j : Journal) (from to : W) (es : List Entry) → es ≡ j.entries → to ≡ from → RecordsByWords draw (record { journal = j; words = from }) (record { journal = record { start = j.start; entries = es }; words = to })
-unrecorded draw j from to es is same = record { added = []; grown = is ∙ sym (append-nil j.entries); words = same }
+pub unrecorded : {W : Type 0} (next_word : W → ℕ × W) (j : Journal) (from to : W) (es : List Entry) → es ≡ j.entries → to ≡ from → RecordsByWords next_word (record { journal = j; words = from }) (record { journal = record { start = j.start; entries = es }; words = to })
+unrecorded next_word j from to es is same = record { added = []; grown = is ∙ sym (append-nil j.entries); words = same }
 
 -- the same in terms of what contracts see
-pub no_words_recorded : {W : Type 0} (draw : W → ℕ × W) (old new : RecorderView W) → new ≡ old → RecordsByWords draw old new
-no_words_recorded draw old new same = subst (RecordsByWords draw old) (sym same) (record { added = []; grown = sym (append-nil old.journal.entries); words = refl })
+pub no_words_recorded : {W : Type 0} (next_word : W → ℕ × W) (old new : RecorderView W) → new ≡ old → RecordsByWords next_word old new
+no_words_recorded next_word old new same = subst (RecordsByWords next_word old) (sym same) (record { added = []; grown = sym (append-nil old.journal.entries); words = refl })
 
 -- a world
 
@@ -59,16 +59,16 @@ no_words_recorded draw old new same = subst (RecordsByWords draw old) (sym same)
 abbrev source : {W : Type 0} → Content W → W
 source p = p.agent.words
 
-pub plays_nothing : {W : Type 0} (draw : W → ℕ × W) (starts : List Start) (from to : List W) → to ≡ from → AreByOwnWords draw starts from [] to
-plays_nothing draw starts from to same = record {
+pub plays_nothing : {W : Type 0} (next_word : W → ℕ × W) (starts : List Start) (from to : List W) → to ≡ from → AreByOwnWords next_word starts from [] to
+plays_nothing next_word starts from to same = record {
   count = ap length same;
   each = λ m a u v at_a at_u at_v. same_Some v u (sym at_v ∙ ap (λ ws. slice_get ws m) same ∙ at_u);
 }
 
 -- the source of one member went on
-pub plays_one : {W : Type 0} (draw : W → ℕ × W) (starts : List Start) (ps : List (Content W)) (i : ℕ) (d q : Content W) (e : Entry) (a : Start) → i < length ps → slice_get starts i ≡ Some a → e.member ≡ i
-    → AreChosen draw (low_of a.config) (high_of a.config) (get_or ps i d).agent.words e.effects.arms q.agent.words → AreByOwnWords draw starts (words_of ps) (e ∷ []) (words_of (slice_set ps i q))
-plays_one {W = W} draw starts ps i d q e a lt at mine drawn = record {
+pub plays_one : {W : Type 0} (next_word : W → ℕ × W) (starts : List Start) (ps : List (Content W)) (i : ℕ) (d q : Content W) (e : Entry) (a : Start) → i < length ps → slice_get starts i ≡ Some a → e.member ≡ i
+    → AreChosen next_word (low_of a.config) (high_of a.config) (get_or ps i d).agent.words e.effects.arms q.agent.words → AreByOwnWords next_word starts (words_of ps) (e ∷ []) (words_of (slice_set ps i q))
+plays_one {W = W} next_word starts ps i d q e a lt at mine drawn = record {
   count = length-map (slice_set ps i q) source ∙ length-set ps i q ∙ sym (length-map ps source);
   each = λ m b u v at_b at_u at_v. which m b u v at_b at_u at_v (cases_eq m i);
 }
@@ -76,17 +76,17 @@ plays_one {W = W} draw starts ps i d q e a lt at mine drawn = record {
     old : slice_get ps i ≡ Some (get_or ps i d)
     old = slice_get-get_or ps i d lt
 
-    which : (m : ℕ) (b : Start) (u v : W) → slice_get starts m ≡ Some b → slice_get (words_of ps) m ≡ Some u → slice_get (words_of (slice_set ps i q)) m ≡ Some v → ((m ≡ i) ⊎ (m ≢ i)) → AreByWords draw b.config u (of_member m (e ∷ [])) v
+    which : (m : ℕ) (b : Start) (u v : W) → slice_get starts m ≡ Some b → slice_get (words_of ps) m ≡ Some u → slice_get (words_of (slice_set ps i q)) m ≡ Some v → ((m ≡ i) ⊎ (m ≢ i)) → AreByWords next_word b.config u (of_member m (e ∷ [])) v
     which m b u v at_b at_u at_v (inl same) =
         let start : a ≡ b = same_Some a b (sym at ∙ ap (slice_get starts) (sym same) ∙ at_b) in
         let from : source (get_or ps i d) ≡ u = same_Some (source (get_or ps i d)) u (sym (get_map source ps m ∙ ap (option_map source) (ap (slice_get ps) same ∙ old)) ∙ at_u) in
         let to : source q ≡ v = same_Some (source q) v (sym (get_map source (slice_set ps i q) m ∙ ap (option_map source) (ap (slice_get (slice_set ps i q)) same ∙ get_set_same ps i (get_or ps i d) q old)) ∙ at_v) in
         let own : of_member m (e ∷ []) ≡ e ∷ [] = ap (λ x. cond x (e ∷ []) []) (eq-eqb e.member m (mine ∙ sym same)) in
-        subst (λ es. AreByWords draw b.config u es v) (sym own) (subst (λ w. AreByWords draw b.config w (e ∷ []) v) from (subst (λ w. AreByWords draw b.config (source (get_or ps i d)) (e ∷ []) w) to
-        (subst (λ (s : Start). AreByWords draw s.config (source (get_or ps i d)) (e ∷ []) (source q)) start (by_one draw a.config (source (get_or ps i d)) (source q) e drawn))))
+        subst (λ es. AreByWords next_word b.config u es v) (sym own) (subst (λ w. AreByWords next_word b.config w (e ∷ []) v) from (subst (λ w. AreByWords next_word b.config (source (get_or ps i d)) (e ∷ []) w) to
+        (subst (λ (s : Start). AreByWords next_word s.config (source (get_or ps i d)) (e ∷ []) (source q)) start (by_one next_word a.config (source (get_or ps i d)) (source q) e drawn))))
     which m b u v at_b at_u at_v (inr differ) =
         let none : of_member m (e ∷ []) ≡ [] = ap (λ x. cond x (e ∷ []) []) (ne_eqb e.member m (λ is. differ (sym is ∙ mine))) in
-        subst (λ es. AreByWords draw b.config u es v) (sym none)
+        subst (λ es. AreByWords next_word b.config u es v) (sym none)
         (same_Some v u (sym at_v ∙ get_map source (slice_set ps i q) m ∙ ap (option_map source) (get_set_other ps i m q differ) ∙ sym (get_map source ps m) ∙ at_u))
 
 -- each member has a source
@@ -99,13 +99,13 @@ sources_stay [] i d q e = refl
 sources_stay (p ∷ ps) zero d q e = ap (λ w. w ∷ words_of ps) e
 sources_stay (p ∷ ps) (suc i) d q e = ap (λ ws. p.agent.words ∷ ws) (sources_stay ps i d q e)
 
-plays_more : {W : Type 0} (draw : W → ℕ × W) (starts : List Start) (from mid to : List W) (xs ys : List Entry) → AreByOwnWords draw starts from xs mid → AreByOwnWords draw starts mid ys to → AreByOwnWords draw starts from (xs ++ ys) to
-plays_more draw starts from mid to xs ys h k = record {
+plays_more : {W : Type 0} (next_word : W → ℕ × W) (starts : List Start) (from mid to : List W) (xs ys : List Entry) → AreByOwnWords next_word starts from xs mid → AreByOwnWords next_word starts mid ys to → AreByOwnWords next_word starts from (xs ++ ys) to
+plays_more next_word starts from mid to xs ys h k = record {
   count = k.count ∙ h.count;
   each = λ m a u v at_a at_u at_v.
       let l = slice_get_within from m u at_u in
       let (w, at_w) = at_place mid m (omega (arith, l, h.count)) in
-      subst (λ es. AreByWords draw a.config u es v) (sym (of_member-append m xs ys)) (by_more draw a.config u w v (of_member m xs) (of_member m ys) (h.each m a u w at_a at_u at_w) (k.each m a w v at_a at_w at_v));
+      subst (λ es. AreByWords next_word a.config u es v) (sym (of_member-append m xs ys)) (by_more next_word a.config u w v (of_member m xs) (of_member m ys) (h.each m a u w at_a at_u at_w) (k.each m a w v at_a at_w at_v));
 }
 
 -- what contracts see of a world
@@ -115,15 +115,15 @@ played t ws = record { trace = t; words = ws }
 pub same_played : {W : Type 0} (t now : Trace) (ws all : List W) → t ≡ now → ws ≡ all → played t ws ≡ played now all
 same_played t now ws all same taken = ap (λ (x : Trace). played x ws) same ∙ ap (played now) taken
 
-pub plays_still : {W : Type 0} (draw : W → ℕ × W) (p : WorldView W) → PlaysByWords draw p p
-plays_still draw p = record { added = []; grown = sym (append-nil p.trace.entries); words = plays_nothing draw p.trace.starts p.words p.words refl }
+pub plays_still : {W : Type 0} (next_word : W → ℕ × W) (p : WorldView W) → PlaysByWords next_word p p
+plays_still next_word p = record { added = []; grown = sym (append-nil p.trace.entries); words = plays_nothing next_word p.trace.starts p.words p.words refl }
 
-pub plays_kept : {W : Type 0} (draw : W → ℕ × W) (old new : WorldView W) → new ≡ old → PlaysByWords draw old new
-plays_kept draw old new same = subst (PlaysByWords draw old) (sym same) (plays_still draw old)
+pub plays_kept : {W : Type 0} (next_word : W → ℕ × W) (old new : WorldView W) → new ≡ old → PlaysByWords next_word old new
+plays_kept next_word old new same = subst (PlaysByWords next_word old) (sym same) (plays_still next_word old)
 
-pub plays_on : {W : Type 0} (draw : W → ℕ × W) (old between now : WorldView W) → PlaysByWords draw old between → between.trace.starts ≡ old.trace.starts → PlaysByWords draw between now → PlaysByWords draw old now
-plays_on draw old between now h starts k = record {
+pub plays_on : {W : Type 0} (next_word : W → ℕ × W) (old between now : WorldView W) → PlaysByWords next_word old between → between.trace.starts ≡ old.trace.starts → PlaysByWords next_word between now → PlaysByWords next_word old now
+plays_on next_word old between now h starts k = record {
   added = h.added ++ k.added;
   grown = k.grown ∙ ap (λ es. es ++ k.added) h.grown ∙ append_assoc old.trace.entries h.added k.added;
-  words = plays_more draw old.trace.starts old.words between.words now.words h.added k.added h.words (subst (λ ss. AreByOwnWords draw ss between.words k.added now.words) starts k.words);
+  words = plays_more next_word old.trace.starts old.words between.words now.words h.added k.added h.words (subst (λ ss. AreByOwnWords next_word ss between.words k.added now.words) starts k.words);
 }

@@ -8,7 +8,7 @@ use Rattle.srm_names.specs.declared.page_msg.PageMsg.TheVariants.{Open, Draw, Le
 use Rattle.srm_names.specs.Names.{first_page, named}
 use Rattle.srm_names.specs.PageFeeds.{drawops_of}
 use Rattle.srm_codec.specs.declared.datagram.Datagram.TheVariants.{Data, Repair}
-use Rattle.srm_timers.specs.Draws.{draw_listed}
+use Rattle.srm_timers.specs.ListedWords.{next_listed}
 use Rattle.srm_entries.specs.declared.entry.Entry.{Entry}
 use Rattle.srm_entries.specs.declared.entry.Input.{Input}
 use Rattle.srm_entries.specs.declared.entry.Input.TheVariants.{Heard, Noise, Ticked, Showed, AskedLeave, Gave, Took}
@@ -293,49 +293,49 @@ moments = refl
 abbrev hears_c : (wait : ℕ) → Entry
 hears_c wait = hears 1 10 (Data third_drawop) (ask_arm 1 0 wait ∷ [])
 
-first_waits : AreByWords draw_listed (in_roster 1 2 4204) [] first.member_1 []
+first_waits : AreByWords next_listed (in_roster 1 2 4204) [] first.member_1 []
 first_waits = (refl, (refl, refl))
 
-one_word : AreByWords draw_listed (in_roster 1 2 4204) (5 ∷ 7 ∷ []) (hears_c 200005 ∷ []) (7 ∷ [])
+one_word : AreByWords next_listed (in_roster 1 2 4204) (5 ∷ 7 ∷ []) (hears_c 200005 ∷ []) (7 ∷ [])
 one_word = (refl, refl)
 
-no_word_stays : AreByWords draw_listed (in_roster 1 2 4204) (5 ∷ 7 ∷ []) (hears_c 200005 ∷ []) (5 ∷ 7 ∷ []) → ⊥
+no_word_stays : AreByWords next_listed (in_roster 1 2 4204) (5 ∷ 7 ∷ []) (hears_c 200005 ∷ []) (5 ∷ 7 ∷ []) → ⊥
 no_word_stays h = absurd (let k : 5 ∷ 7 ∷ [] ≡ 7 ∷ [] = h.1 in cc)
 
-another_wait : AreByWords draw_listed (in_roster 1 2 4204) (5 ∷ 7 ∷ []) (hears_c 200007 ∷ []) (7 ∷ []) → ⊥
+another_wait : AreByWords next_listed (in_roster 1 2 4204) (5 ∷ 7 ∷ []) (hears_c 200007 ∷ []) (7 ∷ []) → ⊥
 another_wait h = let k : 200007 ≡ 200005 = h.0 in absurd (omega (arith, k))
 
 -- two timers of one entry take two words, in their order
 abbrev two_arms : Entry
 two_arms = hears 1 10 (Data third_drawop) (ask_arm 1 0 200005 ∷ ask_arm 2 0 200007 ∷ [])
 
-in_their_order : AreByWords draw_listed (in_roster 1 2 4204) (5 ∷ 7 ∷ []) (two_arms ∷ []) []
+in_their_order : AreByWords next_listed (in_roster 1 2 4204) (5 ∷ 7 ∷ []) (two_arms ∷ []) []
 in_their_order = (refl, (refl, refl))
 
-not_swapped : AreByWords draw_listed (in_roster 1 2 4204) (7 ∷ 5 ∷ []) (two_arms ∷ []) [] → ⊥
+not_swapped : AreByWords next_listed (in_roster 1 2 4204) (7 ∷ 5 ∷ []) (two_arms ∷ []) [] → ⊥
 not_swapped h = let k : 200005 ≡ 200007 = h.0 in absurd (omega (arith, k))
 
 -- and so do those of two entries
-over_two_entries : AreByWords draw_listed (in_roster 1 2 4204) (5 ∷ 7 ∷ []) (hears_c 200005 ∷ hears 1 11 (Data third_drawop) (ask_arm 2 0 200007 ∷ []) ∷ []) []
+over_two_entries : AreByWords next_listed (in_roster 1 2 4204) (5 ∷ 7 ∷ []) (hears_c 200005 ∷ hears 1 11 (Data third_drawop) (ask_arm 2 0 200007 ∷ []) ∷ []) []
 over_two_entries = (refl, (refl, refl))
 
-no_word_without_a_timer : AreByWords draw_listed (in_roster 1 2 4204) (5 ∷ 7 ∷ []) [] (7 ∷ []) → ⊥
+no_word_without_a_timer : AreByWords next_listed (in_roster 1 2 4204) (5 ∷ 7 ∷ []) [] (7 ∷ []) → ⊥
 no_word_without_a_timer h = absurd (let k : 7 ∷ [] ≡ 5 ∷ 7 ∷ [] = h in cc)
 
 -- each member has its own source
-own_words : AreByOwnWords draw_listed two ((5 ∷ []) ∷ (7 ∷ []) ∷ []) (hears_c 200007 ∷ []) ((5 ∷ []) ∷ [] ∷ [])
+own_words : AreByOwnWords next_listed two ((5 ∷ []) ∷ (7 ∷ []) ∷ []) (hears_c 200007 ∷ []) ((5 ∷ []) ∷ [] ∷ [])
 own_words = record { count = refl; each = at }
   where
-    at : (m : ℕ) (a : Start) (u v : List ℕ) → slice_get two m ≡ Some a → slice_get ((5 ∷ []) ∷ (7 ∷ []) ∷ []) m ≡ Some u → slice_get ((5 ∷ []) ∷ [] ∷ []) m ≡ Some v → AreByWords draw_listed a.config u (of_member m (hears_c 200007 ∷ [])) v
+    at : (m : ℕ) (a : Start) (u v : List ℕ) → slice_get two m ≡ Some a → slice_get ((5 ∷ []) ∷ (7 ∷ []) ∷ []) m ≡ Some u → slice_get ((5 ∷ []) ∷ [] ∷ []) m ≡ Some v → AreByWords next_listed a.config u (of_member m (hears_c 200007 ∷ [])) v
     at zero a u v p q r = same_Some v u (sym r ∙ q)
-    at (suc zero) a u v p q r = subst (λ (s : Start). AreByWords draw_listed s.config u (hears_c 200007 ∷ []) v) (same_Some (start 2 1) a p)
-        (subst (λ w. AreByWords draw_listed (start 2 1).config w (hears_c 200007 ∷ []) v) (same_Some (7 ∷ []) u q) (subst (λ w. AreByWords draw_listed (start 2 1).config (7 ∷ []) (hears_c 200007 ∷ []) w) (same_Some [] v r) (refl, refl)))
+    at (suc zero) a u v p q r = subst (λ (s : Start). AreByWords next_listed s.config u (hears_c 200007 ∷ []) v) (same_Some (start 2 1) a p)
+        (subst (λ w. AreByWords next_listed (start 2 1).config w (hears_c 200007 ∷ []) v) (same_Some (7 ∷ []) u q) (subst (λ w. AreByWords next_listed (start 2 1).config (7 ∷ []) (hears_c 200007 ∷ []) w) (same_Some [] v r) (refl, refl)))
     at (suc (suc m)) a u v p q r = absurd (let k : None ≡ Some a = p in cc)
 
 abbrev no_words : List ℕ
 no_words = []
 
-the_other_source_stays : AreByOwnWords draw_listed two ((5 ∷ []) ∷ (7 ∷ []) ∷ []) (hears_c 200007 ∷ []) (no_words ∷ no_words ∷ []) → ⊥
+the_other_source_stays : AreByOwnWords next_listed two ((5 ∷ []) ∷ (7 ∷ []) ∷ []) (hears_c 200007 ∷ []) (no_words ∷ no_words ∷ []) → ⊥
 the_other_source_stays h = absurd (let k : no_words ≡ 5 ∷ [] = h.each 0 (start 2 0) (5 ∷ []) no_words refl refl refl in cc)
 
 -- what a recorder and a world gained is by the words that went
@@ -343,16 +343,16 @@ the_other_source_stays h = absurd (let k : no_words ≡ 5 ∷ [] = h.each 0 (sta
 abbrev recorded : List Entry → List ℕ → RecorderView (List ℕ)
 recorded entries words = record { journal = record { start = start 2 1; entries = entries }; words = words }
 
-one_entry_recorded : RecordsByWords draw_listed (recorded [] (5 ∷ 7 ∷ [])) (recorded (hears_c 200005 ∷ []) (7 ∷ []))
+one_entry_recorded : RecordsByWords next_listed (recorded [] (5 ∷ 7 ∷ [])) (recorded (hears_c 200005 ∷ []) (7 ∷ []))
 one_entry_recorded = record { added = hears_c 200005 ∷ []; grown = refl; words = one_word }
 
-no_word_goes_unrecorded : RecordsByWords draw_listed (recorded [] (5 ∷ 7 ∷ [])) (recorded [] (7 ∷ [])) → ⊥
-no_word_goes_unrecorded h = absurd (let k : 7 ∷ [] ≡ 5 ∷ 7 ∷ [] = subst (λ es. AreByWords draw_listed (in_roster 1 2 4204) (5 ∷ 7 ∷ []) es (7 ∷ [])) (sym h.grown) h.words in cc)
+no_word_goes_unrecorded : RecordsByWords next_listed (recorded [] (5 ∷ 7 ∷ [])) (recorded [] (7 ∷ [])) → ⊥
+no_word_goes_unrecorded h = absurd (let k : 7 ∷ [] ≡ 5 ∷ 7 ∷ [] = subst (λ es. AreByWords next_listed (in_roster 1 2 4204) (5 ∷ 7 ∷ []) es (7 ∷ [])) (sym h.grown) h.words in cc)
 
 abbrev played : List Entry → List (List ℕ) → WorldView (List ℕ)
 played entries words = record { trace = record { starts = two; entries = entries }; words = words }
 
-one_entry_played : PlaysByWords draw_listed (played [] ((5 ∷ []) ∷ (7 ∷ []) ∷ [])) (played (hears_c 200007 ∷ []) ((5 ∷ []) ∷ [] ∷ []))
+one_entry_played : PlaysByWords next_listed (played [] ((5 ∷ []) ∷ (7 ∷ []) ∷ [])) (played (hears_c 200007 ∷ []) ((5 ∷ []) ∷ [] ∷ []))
 one_entry_played = record { added = hears_c 200007 ∷ []; grown = refl; words = own_words }
 
 -- what a page worker takes is no entry of a journal

@@ -54,10 +54,10 @@ pub record Adds {W : Type 0} (c : Config) (made : ℕ) (past : List Entry) (now 
   pub fits : Fits c made (past ++ e ∷ []) new
 
 -- the same of whatever entries the member fitted, where the entry is of this input, and its waits are by the next words
-pub record GoesOn {W : Type 0} (draw : W → ℕ × W) (now : Option ℕ) (input : Input) (old new : Content W) (e : Entry) : Type 0 where
+pub record GoesOn {W : Type 0} (next_word : W → ℕ × W) (now : Option ℕ) (input : Input) (old new : Content W) (e : Entry) : Type 0 where
   pub input_is : e.input ≡ input
   pub adds : (c : Config) (made : ℕ) (past : List Entry) → Fits c made past old → Adds c made past now new e
-  pub words : AreChosen draw (low_of old.agent.config) (high_of old.agent.config) old.agent.words e.effects.arms new.agent.words
+  pub words : AreChosen next_word (low_of old.agent.config) (high_of old.agent.config) old.agent.words e.effects.arms new.agent.words
 
 -- whatever entries the member fitted, it still fits, and no word was drawn
 pub record Stays {W : Type 0} (old new : Content W) : Type 0 where

@@ -11,8 +11,8 @@ use Rattle.srm_world.specs.WaitWords.{RecorderView}
 abbrev pub journal_of : Start → List Entry → Journal
 journal_of start past = record { start = start; entries = past }
 
-abbrev pub recorded_of : {W : Type 0} → Start → List Entry → Content W → RecorderView W
-recorded_of start past agent = record { journal = journal_of start past; words = agent.words }
+abbrev pub recorder_view : {W : Type 0} → Start → List Entry → Content W → RecorderView W
+recorder_view start past agent = record { journal = journal_of start past; words = agent.words }
 
 -- the agent fits the entries, and none of them is a take
 pub record IsKept {W : Type 0} (j : Journal) (a : Content W) : Type 0 where

@@ -60,7 +60,7 @@ pub record HearsAll (now : ℕ) (all : List (List ℕ)) (old new : Journal) : Ty
 pub record HearsPrefix (now : ℕ) (all : List (List ℕ)) (old new : Journal) : Type 0 where
   pub count : ℕ
   pub few : count < length all
-  pub front : HearsAll now (take count all) old new
+  pub prefix : HearsAll now (take count all) old new
 
 -- Each was heard, or memory ran out at one of them.
 abbrev pub RecordsAll : ℕ → List (List ℕ) → Journal → Journal → Result (Unit {0}) AgentFault → Type 0

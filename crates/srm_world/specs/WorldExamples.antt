@@ -80,4 +80,4 @@ none_left_out h = h.1
 
 -- memory ran out at the second
 one_heard : RecordsAll 2 ([] ∷ replicate 4096 255 ∷ []) shown (journal (shows ∷ noise Short ∷ [])) (Err Memory)
-one_heard = (refl, record { count = 1; few = lit< tt; front = record { entries = noise Short ∷ []; grown = refl; each = (nothing_comes, tt) } })
+one_heard = (refl, record { count = 1; few = lit< tt; prefix = record { entries = noise Short ∷ []; grown = refl; each = (nothing_comes, tt) } })

@@ -35,8 +35,8 @@ pub record AreWorld {W : Type 0} (ps : List (Content W)) (sents : List Out) (t :
 abbrev pub words_of : {W : Type 0} → List (Content W) → List W
 words_of {W = W} ps = map (λ (p : Content W). p.agent.words) ps
 
-abbrev pub played_of : {W : Type 0} → Inside W → WorldView W
-played_of w = record { trace = w.trace; words = words_of w.participants.items }
+abbrev pub world_view : {W : Type 0} → Inside W → WorldView W
+world_view w = record { trace = w.trace; words = words_of w.participants.items }
 
 abbrev pub IsWorld : {W : Type 0} → Inside W → Type 0
 IsWorld w = AreWorld w.participants.items (all_of w.sent) w.trace
@@ -51,9 +51,9 @@ pub record EntersTrace {W : Type 0} (starts : List Start) (es : List Entry) (eve
   pub sent : AreSent starts sents (es ++ e ∷ [])
 
 -- the same, in whatever world these were the members and what was sent, and its waits are by words
-pub record EntersAll {W : Type 0} (draw : W → ℕ × W) (old new : List (Content W)) (sents more : List Out) (event : Event) (e : Entry) : Type 0 where
+pub record EntersAll {W : Type 0} (next_word : W → ℕ × W) (old new : List (Content W)) (sents more : List Out) (event : Event) (e : Entry) : Type 0 where
   pub enters : (t : Trace) → AreWorld old sents t → EntersTrace t.starts t.entries event new more e
-  pub words : (t : Trace) → AreWorld old sents t → AreByOwnWords draw t.starts (words_of old) (e ∷ []) (words_of new)
+  pub words : (t : Trace) → AreWorld old sents t → AreByOwnWords next_word t.starts (words_of old) (e ∷ []) (words_of new)
   pub count : length new ≡ length old
 
 -- the event asks nothing of any member
@@ -74,5 +74,5 @@ after_entry t e = record { starts = t.starts; entries = t.entries ++ e ∷ [] }
 
 -- the trace has one entry more, which is of the event; or the event was skipped, and the trace is the same
 abbrev pub Appends : {W : Type 0} → (W → ℕ × W) → List (Content W) → List (Content W) → List Out → List Out → Event → Trace → Trace → Bool → Type 0
-Appends draw old new sents more event t now true = (e : Entry) × EntersAll draw old new sents more event e × (now ≡ after_entry t e)
-Appends draw old new sents more event t now false = Skips old new sents more event × (now ≡ t)
+Appends next_word old new sents more event t now true = (e : Entry) × EntersAll next_word old new sents more event e × (now ≡ after_entry t e)
+Appends next_word old new sents more event t now false = Skips old new sents more event × (now ≡ t)

@@ -51,7 +51,7 @@ impl<T> Forgotten<T> {
 }
 
 impl<T: Drop> Past<T> for Forgotten<T> {
-    ghost entries = { λ past. past };
+    ghost appended = { λ past. past };
 
     ghost has_room = { λ _. Unit {0} };
 

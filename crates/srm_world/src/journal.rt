@@ -21,9 +21,9 @@ impl<P: Past<Entry> + Drop> Model for Journal<P> {
 
     ghost Value = { Content };
 
-    ghost view = { λ j. record { start = j.start; entries = P.entries j.past } };
+    ghost view = { λ j. record { start = j.start; entries = P.appended j.past } };
 
-    ghost invariant = { λ j. IsJournal (record { start = j.start; entries = P.entries j.past }) };
+    ghost invariant = { λ j. IsJournal (record { start = j.start; entries = P.appended j.past }) };
 }
 
 impl<P: Past<Entry> + Drop> Journal<P> {
@@ -37,7 +37,7 @@ impl<P: Past<Entry> + Drop> Journal<P> {
     /// How the member began, and its entries as they are kept. It takes no memory.
     pub fn into_parts(self) -> (Start, P)
         ensures start { result.0 ≡ self.start }
-        ensures entries { P.entries result.1 ≡ self.entries }
+        ensures entries { P.appended result.1 ≡ self.entries }
     {
         (self.start, self.past)
     }

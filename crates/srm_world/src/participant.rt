@@ -60,7 +60,7 @@ impl<W: Words + Drop> Participant<W> {
     /// Draws on a page.
     pub fn draw(&mut self, page: Page, body: Bytes, now: u64) -> Result<Entry, AllocError>
         requires { now ≤ LATEST_MOMENT }
-        ensures ok { IfOk result (GoesOn W.draw (Some now) (Input.Drew page body) self.old self.new) }
+        ensures ok { IfOk result (GoesOn W.next_word (Some now) (Input.Drew page body) self.old self.new) }
         ensures err { OnErr result (Stays self.old self.new) }
     {
         let entry = self.agent.draw_noted(page, body, now)?.entry;
@@ -71,7 +71,7 @@ impl<W: Words + Drop> Participant<W> {
     /// Shows a page.
     pub fn show(&mut self, page: Page, now: u64) -> Result<Entry, AllocError>
         requires { now ≤ LATEST_MOMENT }
-        ensures ok { IfOk result (GoesOn W.draw (Some now) (Input.Showed page) self.old self.new) }
+        ensures ok { IfOk result (GoesOn W.next_word (Some now) (Input.Showed page) self.old self.new) }
         ensures err { OnErr result (Stays self.old self.new) }
     {
         let entry = self.agent.show_noted(page, now)?.entry;
@@ -82,7 +82,7 @@ impl<W: Words + Drop> Participant<W> {
     /// Begins to leave.
     pub fn leave(&mut self, now: u64) -> Result<Entry, AllocError>
         requires { now ≤ LATEST_MOMENT }
-        ensures ok { IfOk result (GoesOn W.draw (Some now) Input.AskedLeave self.old self.new) }
+        ensures ok { IfOk result (GoesOn W.next_word (Some now) Input.AskedLeave self.old self.new) }
         ensures err { OnErr result (Stays self.old self.new) }
     {
         let entry = self.agent.leave_noted(now)?.entry;

@@ -9,28 +9,28 @@ use std::alloc::{AllocError, Global};
 /// [`Forgotten`](crate::Forgotten) none. Contracts see them all in any case. A program may keep them in a way of its own.
 pub trait Past<T> {
     // What was appended, in order.
-    ghost entries: { Self → List T };
+    ghost appended: { Self → List T };
 
     // Whether one may be appended.
     ghost has_room: { Self → Type 0 };
 
     /// One to which nothing was appended. It takes no memory.
     fn empty(alloc: Global) -> Self
-        ensures { entries result ≡ [] };
+        ensures { appended result ≡ [] };
 
     /// Makes room for one. Only want of memory refuses it.
     fn make_room(&mut self) -> Result<(), AllocError>
-        ensures same { entries self.new ≡ entries self.old }
+        ensures same { appended self.new ≡ appended self.old }
         ensures room { IfOk result (λ _. has_room self.new) };
 
     /// Appends one where there is room.
     fn append(&mut self, one: T)
         requires { has_room self.old }
-        ensures { entries self.new ≡ entries self.old ++ one ∷ [] };
+        ensures { appended self.new ≡ appended self.old ++ one ∷ [] };
 }
 
 impl<T: Drop> Past<T> for Vec<T> {
-    ghost entries = { λ all. all.items };
+    ghost appended = { λ all. all.items };
 
     ghost has_room = { λ all. vec_len all < vec_capacity all };
 

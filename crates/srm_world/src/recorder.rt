@@ -33,13 +33,13 @@ pub struct Recorder<W: Words + Drop, P: Past<Entry> + Drop = Vec<Entry>> {
 
 impl<W: Words + Drop, P: Past<Entry> + Drop> Model for Recorder<W, P> {
     ghost use Rattle.srm_world.specs.WaitWords.{RecorderView};
-    ghost use Rattle.srm_world.specs.Recorders.{journal_of, recorded_of, IsKept};
+    ghost use Rattle.srm_world.specs.Recorders.{journal_of, recorder_view, IsKept};
 
     ghost Value = { RecorderView W };
 
-    ghost view = { λ r. recorded_of r.start (P.entries r.past) r.agent };
+    ghost view = { λ r. recorder_view r.start (P.appended r.past) r.agent };
 
-    ghost invariant = { λ r. IsKept (journal_of r.start (P.entries r.past)) r.agent };
+    ghost invariant = { λ r. IsKept (journal_of r.start (P.appended r.past)) r.agent };
 }
 
 impl<W: Words + Drop> Recorder<W> {
@@ -84,7 +84,7 @@ impl<W: Words + Drop, P: Past<Entry> + Drop> Recorder<W, P> {
         past: P,
     ) -> Result<Recorder<W, P>, AllocError>
         requires moment { now ≤ LATEST_MOMENT }
-        requires past { P.entries past ≡ [] }
+        requires past { P.appended past ≡ [] }
         ensures value { IfOk result (λ recorder. recorder ≡ record { journal = record { start = record { config = config; made = now }; entries = [] }; words = words }) }
     {
         Ok(Recorder {
@@ -120,7 +120,7 @@ impl<W: Words + Drop, P: Past<Entry> + Drop> Recorder<W, P> {
     pub fn draw(&mut self, page: Page, body: Bytes, now: u64) -> Result<Name, AgentFault>
         requires { now ≤ LATEST_MOMENT }
         ensures records { Records (Some now) (Input.Drew page body) IsDrawnName self.old.journal self.new.journal result }
-        ensures words { RecordsByWords W.draw self.old self.new }
+        ensures words { RecordsByWords W.next_word self.old self.new }
         ensures lawful { IsLawfulJournal self.new.journal }
     {
         self.past.make_room()?;
@@ -133,7 +133,7 @@ impl<W: Words + Drop, P: Past<Entry> + Drop> Recorder<W, P> {
     pub fn show(&mut self, page: Page, now: u64) -> Result<(), AgentFault>
         requires { now ≤ LATEST_MOMENT }
         ensures records { Records (Some now) (Input.Showed page) (λ _ _. Unit {0}) self.old.journal self.new.journal result }
-        ensures words { RecordsByWords W.draw self.old self.new }
+        ensures words { RecordsByWords W.next_word self.old self.new }
         ensures lawful { IsLawfulJournal self.new.journal }
     {
         self.past.make_room()?;
@@ -147,7 +147,7 @@ impl<W: Words + Drop, P: Past<Entry> + Drop> Recorder<W, P> {
     pub fn hear(&mut self, bytes: &[u8], now: u64) -> Result<Heard, AgentFault>
         requires { now ≤ LATEST_MOMENT }
         ensures records { RecordsHeard now bytes.now self.old.journal self.new.journal result }
-        ensures words { RecordsByWords W.draw self.old self.new }
+        ensures words { RecordsByWords W.next_word self.old self.new }
         ensures lawful { IsLawfulJournal self.new.journal }
     {
         self.past.make_room()?;
@@ -161,7 +161,7 @@ impl<W: Words + Drop, P: Past<Entry> + Drop> Recorder<W, P> {
     pub fn hear_all(&mut self, datagrams: &[Vec<u8>], now: u64) -> Result<(), AgentFault>
         requires { now ≤ LATEST_MOMENT }
         ensures records { RecordsAll now (map (λ bytes. bytes.items) datagrams.now) self.old.journal self.new.journal result }
-        ensures words { RecordsByWords W.draw self.old self.new }
+        ensures words { RecordsByWords W.next_word self.old self.new }
         ensures lawful { IsLawfulJournal self.new.journal }
     {
         let _ = &self.past;
@@ -176,7 +176,7 @@ impl<W: Words + Drop, P: Past<Entry> + Drop> Recorder<W, P> {
     pub fn tick(&mut self, now: u64) -> Result<Ticked, AgentFault>
         requires { now ≤ LATEST_MOMENT }
         ensures records { Records (Some now) Input.Ticked (IsTicked self.old.journal.start.config.session) self.old.journal self.new.journal result }
-        ensures words { RecordsByWords W.draw self.old self.new }
+        ensures words { RecordsByWords W.next_word self.old self.new }
         ensures lawful { IsLawfulJournal self.new.journal }
     {
         self.past.make_room()?;
@@ -189,7 +189,7 @@ impl<W: Words + Drop, P: Past<Entry> + Drop> Recorder<W, P> {
     pub fn leave(&mut self, now: u64) -> Result<(), AgentFault>
         requires { now ≤ LATEST_MOMENT }
         ensures records { Records (Some now) Input.AskedLeave (λ _ _. Unit {0}) self.old.journal self.new.journal result }
-        ensures words { RecordsByWords W.draw self.old self.new }
+        ensures words { RecordsByWords W.next_word self.old self.new }
         ensures lawful { IsLawfulJournal self.new.journal }
     {
         self.past.make_room()?;
@@ -202,7 +202,7 @@ impl<W: Words + Drop, P: Past<Entry> + Drop> Recorder<W, P> {
     pub fn give(&mut self, slot: u8) -> Result<Option<PageMsg>, AgentFault>
         requires { slot < PAGES }
         ensures records { Records None (Input.Gave slot) (λ e message. message ≡ e.effects.message) self.old.journal self.new.journal result }
-        ensures words { RecordsByWords W.draw self.old self.new }
+        ensures words { RecordsByWords W.next_word self.old self.new }
         ensures lawful { IsLawfulJournal self.new.journal }
     {
         self.past.make_room()?;
@@ -227,7 +227,7 @@ impl<W: Words + Drop, P: Past<Entry> + Drop> Recorder<W, P> {
 
     /// What the member did so far, as it is kept. It takes no memory.
     pub fn past(&self) -> &P
-        ensures { P.entries result.now ≡ self.now.journal.entries }
+        ensures { P.appended result.now ≡ self.now.journal.entries }
     {
         &self.past
     }

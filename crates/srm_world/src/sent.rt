@@ -12,7 +12,7 @@ use std::marker::Model;
 /// All datagrams that were sent, with their bytes, in order of sending. Contracts see two lists.
 #[derive(Drop)]
 pub struct SentDatagrams {
-    settled: Vec<Out>,
+    earlier: Vec<Out>,
     /// What the last tick sent. It is settled before the next event, when a refusal of memory still changes nothing.
     newest: Vec<Out>,
 }
@@ -31,7 +31,7 @@ impl SentDatagrams {
         ensures { all_of result ≡ [] }
     {
         SentDatagrams {
-            settled: Vec::new(alloc),
+            earlier: Vec::new(alloc),
             newest: Vec::new(alloc),
         }
     }
@@ -41,7 +41,7 @@ impl SentDatagrams {
         ensures same { all_of self.new ≡ all_of self.old }
         ensures ok { OnOk result (self.new.newest ≡ []) }
     {
-        self.settled.append(&mut self.newest)
+        self.earlier.append(&mut self.newest)
     }
 
     /// A tick sent these datagrams.
@@ -57,6 +57,6 @@ impl SentDatagrams {
         requires { self.now.newest ≡ [] }
         ensures { option_copied result ≡ slice_get (all_of self.now) index }
     {
-        self.settled.get(index)
+        self.earlier.get(index)
     }
 }

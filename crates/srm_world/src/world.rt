@@ -37,11 +37,11 @@ pub struct World<W: Words + Drop> {
 
 impl<W: Words + Drop> Model for World<W> {
     ghost use Rattle.srm_world.specs.WaitWords.{WorldView};
-    ghost use Rattle.srm_world.specs.Worlds.{IsWorld, played_of};
+    ghost use Rattle.srm_world.specs.Worlds.{IsWorld, world_view};
 
     ghost Value = { WorldView W };
 
-    ghost view = { played_of };
+    ghost view = { world_view };
 
     ghost invariant = { IsWorld };
 }
@@ -96,7 +96,7 @@ impl<W: Words + Drop> World<W> {
         ensures applied { IfOk result (λ applied. IsTrue applied ↔ IsSome (required_input self.old.trace.starts self.old.trace.entries event)) }
         ensures err { OnErr result (self.new ≡ self.old) }
         ensures starts { self.new.trace.starts ≡ self.old.trace.starts }
-        ensures words { PlaysByWords W.draw self.old self.new }
+        ensures words { PlaysByWords W.next_word self.old self.new }
         ensures lawful { IsLawful self.new.trace }
     {
         self.happen(&event)
@@ -111,7 +111,7 @@ impl<W: Words + Drop> World<W> {
         ensures follows { OnOk result (Follows self.old.trace.starts self.old.trace.entries events.now self.new.trace.entries) }
         ensures err { OnErr result ((n : ℕ) × (n < length events.now) × Follows self.old.trace.starts self.old.trace.entries (take n events.now) self.new.trace.entries) }
         ensures starts { self.new.trace.starts ≡ self.old.trace.starts }
-        ensures words { PlaysByWords W.draw self.old self.new }
+        ensures words { PlaysByWords W.next_word self.old self.new }
         ensures lawful { IsLawful self.new.trace }
     {
         let _ = self.trace();
@@ -128,7 +128,7 @@ impl<W: Words + Drop> World<W> {
         ensures applied { IfOk result (λ applied. IsTrue applied ↔ IsSome (required_input self.old.trace.starts self.old.trace.entries event.now)) }
         ensures err { OnErr result (self.new ≡ self.old) }
         ensures starts { self.new.trace.starts ≡ self.old.trace.starts }
-        ensures words { PlaysByWords W.draw self.old self.new }
+        ensures words { PlaysByWords W.next_word self.old self.new }
         ensures lawful { IsLawful self.new.trace }
     {
         self.sent.make_room()?;

@@ -131,7 +131,7 @@ fn bodies_that_no_script_has(rt: HostRuntime) -> Result<(), Fail> {
     let mut world = World::new(alloc, script.configs, script.words)?;
     assert_eq!(rt; world.trace().starts().len(), 1);
     let mut out = Vec::new(alloc);
-    let mut report = EntryPrinter::new(false);
+    let mut printer = EntryPrinter::new(false);
     let strange = Bytes::copy_from_slice(alloc, b"\0 ~\x7f\xff")?;
     let long = Bytes::from_vec(repeated(alloc, "x", 1_025)?)?;
     for event in [
@@ -150,7 +150,7 @@ fn bodies_that_no_script_has(rt: HostRuntime) -> Result<(), Fail> {
         Event::Give { member: 0, slot: 0 },
         Event::Give { member: 0, slot: 0 },
     ] {
-        run_event(&mut world, event, &mut report, &mut out)
+        run_event(&mut world, event, &mut printer, &mut out)
             .ok()
             .ok_or("a fault")?;
     }

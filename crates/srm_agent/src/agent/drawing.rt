@@ -45,7 +45,7 @@ impl<W: Words + Drop> Agent<W> {
         now: u64,
     ) -> Result<Noted<Name>, AllocError>
         requires { now ≤ LATEST_MOMENT }
-        ensures ok { IfOk result (λ noted. Enters W.draw (Some now) (Input.Drew page body) self.old self.new noted.entry) }
+        ensures ok { IfOk result (λ noted. Enters W.next_word (Some now) (Input.Drew page body) self.old self.new noted.entry) }
         ensures answer { IfOk result (λ noted. AnswersAs (IsDrawnName noted.entry) noted.entry.verdict noted.answer) }
         ensures err { OnErr result (Stays self.old self.new) }
         ensures allowed { OnErr result (IsAllowed (Input.Drew page body) self.old) }
@@ -76,7 +76,7 @@ impl<W: Words + Drop> Agent<W> {
     /// [`draw_noted`](Agent::draw_noted) without its entry, which isn't made.
     pub fn draw(&mut self, page: Page, body: Bytes, now: u64) -> Result<Name, AgentFault>
         requires { now ≤ LATEST_MOMENT }
-        ensures { Does W.draw (Some now) (Input.Drew page body) IsDrawnName self.old self.new result }
+        ensures { Does W.next_word (Some now) (Input.Drew page body) IsDrawnName self.old self.new result }
     {
         let moment = self.moment(now);
         if let Some(fault) = self.refusal(&page, body.len()) {

@@ -3,14 +3,14 @@
 ghost use Rattle.std.specs.Prelude.{◌≡◌, ◌≤◌, true, IfOk};
 ghost use Rattle.srm_names.specs.declared.limits.TheConstants.{LATEST_MOMENT};
 ghost use Rattle.srm_names.specs.Names.{ascending, name_below};
-ghost use Rattle.srm_agent.specs.Answering.{AnswersDue};
+ghost use Rattle.srm_agent.specs.DueItems.{DueItems};
 ghost use Rattle.srm_entries.specs.Entries.{is_leaving};
 ghost use Rattle.srm_agent.specs.Ticking.{IsDue, IsReportAt, IsReportIf, IsToHandOut};
 
 use super::Agent;
 use srm_entries::AgentState;
 use srm_names::{Items, Name};
-use srm_outbox::{Answer, Outgoing, answering, spelled};
+use srm_outbox::{DueItem, Outgoing, requests_and_repairs, spelled};
 use srm_timers::Words;
 use std::alloc::{AllocError, Global};
 use std::collections::VecDeque;
@@ -18,13 +18,13 @@ use std::collections::VecDeque;
 /// What is due at a moment. It is made before anything changes.
 #[derive(Drop)]
 pub(super) struct Due {
-    pub handed: HandedOut,
+    pub handed_out: HandedOut,
     /// The requests and the repairs for them.
-    pub answers: VecDeque<Answer>,
+    pub due_items: VecDeque<DueItem>,
     /// What a member that is leaving ends with, once no data of its own waits.
-    pub farewell: Option<Report>,
+    pub farewell: Option<DueMessage>,
     /// The session message, where one is due.
-    pub report: Option<Report>,
+    pub report: Option<DueMessage>,
 }
 
 /// What a tick hands out.
@@ -50,7 +50,7 @@ impl HandedOut {
 
 /// A session message or a farewell.
 #[derive(Drop)]
-pub(super) struct Report {
+pub(super) struct DueMessage {
     pub outgoing: Outgoing,
     /// When the next one is due after it, in microseconds.
     pub next: u64,
@@ -62,13 +62,13 @@ impl<W: Words + Drop> Agent<W> {
         requires { moment ≤ LATEST_MOMENT }
         ensures { IfOk result (IsDue self.now moment) }
     {
-        let handed = self.to_hand_out(moment)?;
-        let answers = self.answers_due(handed.asks.as_slice(), handed.fixes.as_slice())?;
+        let handed_out = self.to_hand_out(moment)?;
+        let due_items = self.due_items(handed_out.asks.as_slice(), handed_out.fixes.as_slice())?;
         let farewell = self.report_if(self.is_leaving(), true, moment)?;
         let report = self.report_if(self.due <= moment, false, moment)?;
         Ok(Due {
-            handed,
-            answers,
+            handed_out,
+            due_items,
             farewell,
             report,
         })
@@ -98,7 +98,7 @@ impl<W: Words + Drop> Agent<W> {
         is_wanted: bool,
         farewell: bool,
         moment: u64,
-    ) -> Result<Option<Report>, AllocError>
+    ) -> Result<Option<DueMessage>, AllocError>
         requires { moment ≤ LATEST_MOMENT }
         ensures { IfOk result (IsReportIf is_wanted self.now moment farewell) }
     {
@@ -110,24 +110,24 @@ impl<W: Words + Drop> Agent<W> {
     }
 
     /// The session message or the farewell of a moment. Only want of memory refuses it.
-    fn report_at(&self, farewell: bool, moment: u64) -> Result<Report, AllocError>
+    fn report_at(&self, farewell: bool, moment: u64) -> Result<DueMessage, AllocError>
         requires { moment ≤ LATEST_MOMENT }
         ensures { IfOk result (IsReportAt self.now moment farewell) }
     {
         let outgoing = self.report(farewell, moment)?;
-        let next = moment + self.pause(&outgoing.out.datagram);
-        Ok(Report { outgoing, next })
+        let next = moment + self.session_interval(&outgoing.out.datagram);
+        Ok(DueMessage { outgoing, next })
     }
 
     /// The requests for names, and then the repairs of those of the others that are held: spelled, each with the class that it has
     /// while this page is shown. Only want of memory refuses them.
-    fn answers_due(&self, asks: &[Name], fixes: &[Name]) -> Result<VecDeque<Answer>, AllocError>
+    fn due_items(&self, asks: &[Name], fixes: &[Name]) -> Result<VecDeque<DueItem>, AllocError>
         requires { ascending name_below asks.now ≡ true }
-        ensures { IfOk result (λ answers. AnswersDue self.now asks.now fixes.now answers.items) }
+        ensures { IfOk result (λ due_items. DueItems self.now asks.now fixes.now due_items.items) }
     {
         let me = self.config.me();
         let session = self.config.session();
-        let answers = answering(self.alloc, me, &self.store, asks, fixes)?;
-        spelled(self.alloc, me, session, &self.showing, answers)
+        let datagrams = requests_and_repairs(self.alloc, me, &self.store, asks, fixes)?;
+        spelled(self.alloc, me, session, &self.showing, datagrams)
     }
 }

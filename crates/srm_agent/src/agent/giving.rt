@@ -31,7 +31,7 @@ impl<W: Words + Drop> Agent<W> {
     /// Refused is [`AgentFault::Memory`] alone, and then the message is still to come.
     pub fn give_noted(&mut self, slot: u8) -> Result<Noted<Option<PageMsg>>, AllocError>
         requires { slot < PAGES }
-        ensures ok { IfOk result (λ noted. Enters W.draw None (Input.Gave slot) self.old self.new noted.entry) }
+        ensures ok { IfOk result (λ noted. Enters W.next_word None (Input.Gave slot) self.old self.new noted.entry) }
         ensures answer { IfOk result (λ noted. AnswersAs (λ message. message ≡ noted.entry.effects.message) noted.entry.verdict noted.answer) }
         ensures err { OnErr result (Stays self.old self.new) }
     {
@@ -46,7 +46,7 @@ impl<W: Words + Drop> Agent<W> {
     #[tactic(auto, using(crate::proofs::Entering::give_allowed, crate::proofs::Giving::give_enters))]
     pub fn give(&mut self, slot: u8) -> Result<Option<PageMsg>, AgentFault>
         requires { slot < PAGES }
-        ensures { Does W.draw None (Input.Gave slot) (λ e message. message ≡ e.effects.message) self.old self.new result }
+        ensures { Does W.next_word None (Input.Gave slot) (λ e message. message ≡ e.effects.message) self.old self.new result }
     {
         let message = self.next_message(slot)?;
         self.hand_over(slot, &message);
@@ -57,7 +57,7 @@ impl<W: Words + Drop> Agent<W> {
     fn hand_over(&mut self, slot: u8, message: &Option<PageMsg>)
         requires slot { slot < PAGES }
         requires right { (c : Settings) (made : ℕ) (past : List AnEntry) → Fits c made past self.old → GiveRight c past slot message.now }
-        ensures enters { Enters W.draw None (Input.Gave slot) self.old self.new (gave_by self.old slot message.now) }
+        ensures enters { Enters W.next_word None (Input.Gave slot) self.old self.new (gave_by self.old slot message.now) }
         ensures rest { self.new ≡ record self.old { progress = self.new.progress } }
     {
         let Some(message) = message else {

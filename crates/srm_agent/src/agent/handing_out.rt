@@ -25,7 +25,7 @@ impl<W: Words + Drop> Agent<W> {
         requires asks { AreDueAsks moment self.old.timers due.now.asks }
         requires fixes { AreDueFixes moment self.old.timers due.now.fixes }
         requires moment { moment ≤ LATEST_MOMENT }
-        ensures ok { IfOk result (λ arms. HandsOut W.draw self.old due.now moment arms.0 self.new) }
+        ensures ok { IfOk result (λ arms. HandsOut W.next_word self.old due.now moment arms.0 self.new) }
         ensures noted { IfOk result (λ arms. notes ≡ true → arms.1 ≡ arms.0) }
         ensures rest { self.new ≡ record self.old { timers = self.new.timers; words = self.new.words } }
         ensures timers { OnErr result (TimersStay self.old.timers self.new.timers) }

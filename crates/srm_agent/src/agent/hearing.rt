@@ -33,7 +33,7 @@ impl<W: Words + Drop> Agent<W> {
     /// Refused is [`AgentFault::Memory`] alone, and only for bytes that spell a datagram of the session: noise takes no memory.
     pub fn hear_noted(&mut self, bytes: &[u8], now: u64) -> Result<Noted<Heard>, AllocError>
         requires { now ≤ LATEST_MOMENT }
-        ensures ok { IfOk result (λ noted. Enters W.draw (Some now) noted.entry.input self.old self.new noted.entry) }
+        ensures ok { IfOk result (λ noted. Enters W.next_word (Some now) noted.entry.input self.old self.new noted.entry) }
         ensures reading { IfOk result (λ noted. ReadsAs bytes.now self.old noted.entry) }
         ensures answer { IfOk result (λ noted. AnswersHeard noted.entry noted.answer) }
         ensures err { OnErr result (Stays self.old self.new) }
@@ -57,7 +57,7 @@ impl<W: Words + Drop> Agent<W> {
     /// [`hear_noted`](Agent::hear_noted) without its entry, which isn't made.
     pub fn hear(&mut self, bytes: &[u8], now: u64) -> Result<Heard, AgentFault>
         requires { now ≤ LATEST_MOMENT }
-        ensures { Hears W.draw now bytes.now self.old self.new result }
+        ensures { Hears W.next_word now bytes.now self.old self.new result }
     {
         Ok(self.hear_bytes(bytes, now)?)
     }
@@ -65,7 +65,7 @@ impl<W: Words + Drop> Agent<W> {
     /// The same. Only want of memory refuses it.
     fn hear_bytes(&mut self, bytes: &[u8], now: u64) -> Result<Heard, AllocError>
         requires { now ≤ LATEST_MOMENT }
-        ensures ok { IfOk result (λ heard. HeardAs W.draw now bytes.now self.old self.new (Ok heard)) }
+        ensures ok { IfOk result (λ heard. HeardAs W.next_word now bytes.now self.old self.new (Ok heard)) }
         ensures err { OnErr result (Stays self.old self.new) }
         ensures here { OnErr result (is_gone self.old.state ≡ false) }
         ensures spelled { OnErr result (IsOk (judge self.old.config.session bytes.now)) }
@@ -86,7 +86,7 @@ impl<W: Words + Drop> Agent<W> {
         requires here { is_gone self.old.state ≡ false }
         requires later { self.old.last ≤ moment }
         requires moment { moment ≤ LATEST_MOMENT }
-        ensures ok { IfOk result (λ heard. Enters W.draw (Some moment) Input.Noise self.old self.new (entry_by self.old moment Input.Noise heard)) }
+        ensures ok { IfOk result (λ heard. Enters W.next_word (Some moment) Input.Noise self.old self.new (entry_by self.old moment Input.Noise heard)) }
         ensures noise { IfOk result (λ heard. IsNoiseFor fault (entry_by self.old moment Input.Noise heard)) }
         ensures still { IfOk result (λ heard. heard.arms ≡ []) }
         ensures new { IfOk result (λ _. self.new ≡ record self.old { last = moment }) }
@@ -127,7 +127,7 @@ impl<W: Words + Drop> Agent<W> {
         requires spelled { IsSpellable datagram }
         requires later { self.old.last ≤ moment }
         requires moment { moment ≤ LATEST_MOMENT }
-        ensures ok { IfOk result (λ noted. Enters W.draw (Some moment) (Input.Heard datagram) self.old self.new noted.entry) }
+        ensures ok { IfOk result (λ noted. Enters W.next_word (Some moment) (Input.Heard datagram) self.old self.new noted.entry) }
         ensures judged { IfOk result (λ noted. IsJudgedBy datagram self.old noted.entry) }
         ensures answer { IfOk result (λ noted. AnswersHeard noted.entry noted.answer) }
         ensures err { OnErr result (Stays self.old self.new) }
@@ -149,7 +149,7 @@ impl<W: Words + Drop> Agent<W> {
         requires spelled { IsSpellable datagram }
         requires later { self.old.last ≤ moment }
         requires moment { moment ≤ LATEST_MOMENT }
-        ensures ok { IfOk result (λ hearing. EntersHeard W.draw datagram moment self.old self.new hearing.heard) }
+        ensures ok { IfOk result (λ hearing. EntersHeard W.next_word datagram moment self.old self.new hearing.heard) }
         ensures judged { IfOk result (λ hearing. IsJudgedBy datagram self.old (entry_by self.old moment (Input.Heard datagram) hearing.heard)) }
         ensures noted { IfOk result (λ hearing. notes ≡ true → hearing.noted ≡ hearing.heard.arms) }
         ensures err { OnErr result (Stays self.old self.new) }
@@ -174,7 +174,7 @@ impl<W: Words + Drop> Agent<W> {
         requires later { self.old.last ≤ moment }
         requires moment { moment ≤ LATEST_MOMENT }
         requires names { names.now ≡ names_in datagram }
-        ensures ok { IfOk result (λ hearing. EntersHeard W.draw datagram moment self.old self.new hearing.heard) }
+        ensures ok { IfOk result (λ hearing. EntersHeard W.next_word datagram moment self.old self.new hearing.heard) }
         ensures judged { IfOk result (λ hearing. IsJudgedBy datagram self.old (entry_by self.old moment (Input.Heard datagram) hearing.heard)) }
         ensures noted { IfOk result (λ hearing. notes ≡ true → hearing.noted ≡ hearing.heard.arms) }
         ensures err { OnErr result (Stays self.old self.new) }
@@ -185,13 +185,13 @@ impl<W: Words + Drop> Agent<W> {
                 drop(datagram);
                 Ok(self.ignore_heard(moment, cause))
             }
-            None => self.take(datagram, names, notes, moment),
+            None => self.accept(datagram, names, notes, moment),
         }
     }
 
     /// Takes a datagram with these names, once the store has room for them. Their pages have slots there, since they have them in
     /// the page table.
-    fn take(
+    fn accept(
         &mut self,
         datagram: Datagram,
         names: &[Name],
@@ -199,13 +199,13 @@ impl<W: Words + Drop> Agent<W> {
         moment: u64,
     ) -> Result<Hearing, AllocError>
         requires may { MayAccept datagram names.now moment self.old }
-        ensures ok { IfOk result (λ hearing. EntersHeard W.draw datagram moment self.old self.new hearing.heard) }
+        ensures ok { IfOk result (λ hearing. EntersHeard W.next_word datagram moment self.old self.new hearing.heard) }
         ensures judged { IfOk result (λ hearing. IsJudgedBy datagram self.old (entry_by self.old moment (Input.Heard datagram) hearing.heard)) }
         ensures noted { IfOk result (λ hearing. notes ≡ true → hearing.noted ≡ hearing.heard.arms) }
         ensures err { OnErr result (Stays self.old self.new) }
     {
         match self.store.room_to_learn(names) {
-            Ok(()) => self.take_ready(datagram, names, notes, moment),
+            Ok(()) => self.accept_ready(datagram, names, notes, moment),
             Err(StoreFault::PageLimit) => {
                 drop(datagram);
                 Ok(self.ignore_heard(moment, Cause::PageLimit))
@@ -219,7 +219,7 @@ impl<W: Words + Drop> Agent<W> {
 
     /// Takes a datagram with these names, for which the store has room.
     #[tactic(auto, using(crate::proofs::Taken::may_carry))]
-    fn take_ready(
+    fn accept_ready(
         &mut self,
         datagram: Datagram,
         names: &[Name],
@@ -228,20 +228,22 @@ impl<W: Words + Drop> Agent<W> {
     ) -> Result<Hearing, AllocError>
         requires may { MayAccept datagram names.now moment self.old }
         requires ready { HavePlaces names.now self.old.store }
-        ensures ok { IfOk result (λ hearing. EntersHeard W.draw datagram moment self.old self.new hearing.heard) }
+        ensures ok { IfOk result (λ hearing. EntersHeard W.next_word datagram moment self.old self.new hearing.heard) }
         ensures done { IfOk result (λ hearing. hearing.heard.outcome ≡ Taken) }
         ensures noted { IfOk result (λ hearing. notes ≡ true → hearing.noted ≡ hearing.heard.arms) }
         ensures err { OnErr result (Stays self.old self.new) }
     {
         match datagram {
-            Datagram::Data(drawop) => self.take_drawop(drawop, None, notes, moment),
+            Datagram::Data(drawop) => self.accept_drawop(drawop, None, notes, moment),
             Datagram::Request { sender, name, mask } => {
-                self.take_request(sender, name, mask, names, notes, moment)
+                self.accept_request(sender, name, mask, names, notes, moment)
             }
             Datagram::Repair { sender, drawop } => {
-                self.take_drawop(drawop, Some(sender), notes, moment)
+                self.accept_drawop(drawop, Some(sender), notes, moment)
             }
-            session @ Datagram::Session { .. } => self.take_session(session, names, notes, moment),
+            session @ Datagram::Session { .. } => self.accept_session(
+                session, names, notes, moment,
+            ),
         }
     }
 

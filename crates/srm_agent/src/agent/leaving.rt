@@ -18,7 +18,7 @@ impl<W: Words + Drop> Agent<W> {
     /// today never comes.
     pub fn leave_noted(&mut self, now: u64) -> Result<Noted<()>, AllocError>
         requires { now ≤ LATEST_MOMENT }
-        ensures ok { IfOk result (λ noted. Enters W.draw (Some now) Input.AskedLeave self.old self.new noted.entry) }
+        ensures ok { IfOk result (λ noted. Enters W.next_word (Some now) Input.AskedLeave self.old self.new noted.entry) }
         ensures answer { IfOk result (λ noted. AnswersAs (λ _. Unit {0}) noted.entry.verdict noted.answer) }
         ensures err { OnErr result (Stays self.old self.new) }
         ensures allowed { OnErr result (IsAllowed Input.AskedLeave self.old) }
@@ -31,7 +31,7 @@ impl<W: Words + Drop> Agent<W> {
     /// [`leave_noted`](Agent::leave_noted) without its entry, which isn't made. It takes no memory.
     pub fn leave(&mut self, now: u64) -> Result<(), AgentFault>
         requires { now ≤ LATEST_MOMENT }
-        ensures { HasEntry W.draw (Some now) Input.AskedLeave (λ _ _. Unit {0}) self.old self.new result }
+        ensures { HasEntry W.next_word (Some now) Input.AskedLeave (λ _ _. Unit {0}) self.old self.new result }
     {
         let moment = self.moment(now);
         self.leave_at(moment)
@@ -41,7 +41,7 @@ impl<W: Words + Drop> Agent<W> {
     fn leave_at(&mut self, moment: u64) -> Result<(), AgentFault>
         requires later { self.old.last ≤ moment }
         requires moment { moment ≤ LATEST_MOMENT }
-        ensures { EntersStill W.draw moment Input.AskedLeave self.old self.new result }
+        ensures { EntersStill W.next_word moment Input.AskedLeave self.old self.new result }
     {
         match self.state {
             AgentState::Gone => Err(AgentFault::Gone),

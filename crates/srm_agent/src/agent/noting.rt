@@ -64,7 +64,7 @@ fn verdict_by(outcome: Outcome) -> Verdict
 }
 
 /// What hearing a datagram that was taken did, with these timers, and these once more.
-pub(super) fn took(arms: Vec<Arm>, copies: Vec<Arm>) -> Hearing
+pub(super) fn accepted(arms: Vec<Arm>, copies: Vec<Arm>) -> Hearing
     ensures heard { result.heard ≡ record { arms = arms.items; outcome = Taken } }
     ensures noted { result.noted ≡ copies.items }
 {

@@ -7,7 +7,7 @@ ghost use Rattle.srm_names.specs.Names.{named};
 ghost use Rattle.srm_codec.specs.declared.datagram.Datagram.TheVariants.{Session};
 ghost use Rattle.srm_codec.specs.Spelling.{IsSpellable, is_page};
 ghost use Rattle.srm_entries.specs.Configs.{Config as Settings};
-ghost use Rattle.srm_agent.specs.declared.agent.reporting.TheConstants.{LONGEST_INTERVAL, LONGEST_REPORT};
+ghost use Rattle.srm_agent.specs.declared.agent.reporting.TheConstants.{LONGEST_INTERVAL, LONGEST_SESSION_MESSAGE};
 ghost use Rattle.srm_entries.specs.declared.entry.Entry.{Entry as AnEntry};
 ghost use Rattle.srm_agent.specs.Fits.{Fits};
 ghost use Rattle.srm_agent.specs.Reports.{IsReportOf, IsReportSpelled, AreReported, AreOwed, AreShown, AreOwnStreams, AreInOrder, AreRowsOf, IsRow, SaysLeft, CountsOnce};
@@ -16,7 +16,7 @@ ghost use Rattle.srm_entries.specs.Verdicts.{stream_on};
 
 use super::Agent;
 use srm_agent_state::{member, page_in_range, stream_in_range};
-use srm_codec::{Datagram, ECHO_BYTES, HEAD_BYTES, NAME_BYTES, REPORT_BYTES, length};
+use srm_codec::{Datagram, ECHO_BYTES, HEAD_BYTES, NAME_BYTES, SESSION_MESSAGE_BYTES, length};
 use srm_entries::{SECOND, SESSION_SHARE, SHORTEST_INTERVAL};
 use srm_names::{Echo, Items, MEMBERS, Member, Name, Page, Stream};
 use srm_outbox::Outgoing;
@@ -24,10 +24,15 @@ use srm_timers::Words;
 use std::alloc::{AllocError, Global};
 
 /// No datagram has more bytes: 255 rows and 255 echoes.
-const LONGEST_REPORT: usize = HEAD_BYTES + REPORT_BYTES + 255 * (NAME_BYTES + ECHO_BYTES);
+const LONGEST_SESSION_MESSAGE: usize = HEAD_BYTES
+    + SESSION_MESSAGE_BYTES
+    + 255 * (NAME_BYTES + ECHO_BYTES);
 
 /// No pause is longer, in microseconds: that of 32 members at one byte a second.
-pub const LONGEST_INTERVAL: u64 = SESSION_SHARE * MEMBERS as u64 * LONGEST_REPORT as u64 * SECOND;
+pub const LONGEST_INTERVAL: u64 = SESSION_SHARE
+    * MEMBERS as u64
+    * LONGEST_SESSION_MESSAGE as u64
+    * SECOND;
 
 impl<W: Words + Drop> Agent<W> {
     /// The session message, or the farewell, that this member sends at a moment, in microseconds. Only want of memory
@@ -140,7 +145,7 @@ impl<W: Words + Drop> Agent<W> {
     }
 
     /// How long after a session message the next one is due, in microseconds.
-    pub(super) fn pause(&self, report: &Datagram) -> u64
+    pub(super) fn session_interval(&self, report: &Datagram) -> u64
         requires { IsSpellable report.now }
         ensures value { (c : Settings) (made : ℕ) (past : List AnEntry) → Fits c made past self.now → result ≡ session_interval c past report.now }
         ensures longest { result ≤ LONGEST_INTERVAL }
@@ -183,7 +188,7 @@ impl<W: Words + Drop> Agent<W> {
 /// The pause after so many bytes, where so many members are left, at a rate in bytes a second. Rounded down.
 fn interval_after(members: u8, bytes: usize, rate: u32) -> u64
     requires members { members ≤ MEMBERS }
-    requires bytes { bytes ≤ LONGEST_REPORT }
+    requires bytes { bytes ≤ LONGEST_SESSION_MESSAGE }
     requires rate { LEAST_RATE ≤ rate }
     ensures value { result ≡ max SHORTEST_INTERVAL (SESSION_SHARE * members * bytes * SECOND / rate) }
     ensures longest { result ≤ LONGEST_INTERVAL }

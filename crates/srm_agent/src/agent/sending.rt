@@ -10,10 +10,10 @@ ghost use Rattle.srm_outbox.specs.Outbox.{NothingWent};
 ghost use Rattle.srm_agent.specs.Ticking.{SendsAll, data_waits, last_report, state_after, due_then};
 
 use super::Agent;
-use super::due::Report;
+use super::due::DueMessage;
 use srm_bucket::{Bucket, Class};
 use srm_entries::AgentState;
-use srm_outbox::{Answer, Outgoing, Went, hand_in, let_go};
+use srm_outbox::{DueItem, Outgoing, Went, hand_in, let_go};
 use srm_timers::Words;
 use std::alloc::AllocError;
 use std::collections::VecDeque;
@@ -21,43 +21,43 @@ use std::collections::VecDeque;
 impl<W: Words + Drop> Agent<W> {
     /// Makes room for so many answers, for all that may go after them, and for the message that ends the tick. Only want of
     /// memory refuses it; nothing that waits changes.
-    pub(super) fn room_to_go(&mut self, answers: usize) -> Result<Went, AllocError>
+    pub(super) fn room_to_go(&mut self, due_items: usize) -> Result<Went, AllocError>
         ensures rest { self.new ≡ record self.old { bucket = self.new.bucket } }
         ensures bucket { BucketStays self.old.bucket self.new.bucket }
         ensures queues { SameQueues self.old.bucket.waiting self.new.bucket.waiting }
         ensures empty { IfOk result NothingWent }
-        ensures room { IfOk result (λ went. count_of self.old.bucket.waiting + answers < went.room) }
-        ensures waiting { OnOk result (answers ≤ self.new.bucket.waiting.room) }
+        ensures room { IfOk result (λ went. count_of self.old.bucket.waiting + due_items < went.room) }
+        ensures waiting { OnOk result (due_items ≤ self.new.bucket.waiting.room) }
     {
-        let count = most_to_go(&self.bucket, answers).ok_or(AllocError)?;
+        let count = most_to_go(&self.bucket, due_items).ok_or(AllocError)?;
         let went = Went::with_room(self.alloc, count)?;
-        self.bucket.room(answers)?;
+        self.bucket.room(due_items)?;
         Ok(went)
     }
 
     /// Hands in answers, and lets go what may go at a moment. It takes no memory.
-    pub(super) fn send(&mut self, answers: VecDeque<Answer>, went: Went, moment: u64) -> Went
+    pub(super) fn send(&mut self, due_items: VecDeque<DueItem>, went: Went, moment: u64) -> Went
         requires moment { moment ≤ LATEST_MOMENT }
         requires empty { NothingWent went }
-        requires room { count_of self.old.bucket.waiting + length answers.items < went.room }
-        requires waiting { length answers.items ≤ self.old.bucket.waiting.room }
-        requires lengths { AllByRecursion (λ answer. HasLength answer.item) answers.items }
-        requires own { AllByRecursion (λ answer. IsOwn self.old.config.me self.old.config.session answer.item.value) answers.items }
+        requires room { count_of self.old.bucket.waiting + length due_items.items < went.room }
+        requires waiting { length due_items.items ≤ self.old.bucket.waiting.room }
+        requires lengths { AllByRecursion (λ due_item. HasLength due_item.item) due_items.items }
+        requires own { AllByRecursion (λ due_item. IsOwn self.old.config.me self.old.config.session due_item.item.value) due_items.items }
         ensures rest { self.new ≡ record self.old { bucket = self.new.bucket } }
         ensures waited { AreOwn self.old.config.me self.old.config.session self.old.bucket.waiting }
-        ensures sends { SendsAll moment answers.items self.old.bucket self.new.bucket result }
+        ensures sends { SendsAll moment due_items.items self.old.bucket self.new.bucket result }
     {
-        hand_in(&mut self.bucket, answers);
+        hand_in(&mut self.bucket, due_items);
         let_go(&mut self.bucket, moment, went)
     }
 
     /// Ends a tick: a member that is leaving is gone once no data of its own waits. Answers what goes at last, under no rate.
     pub(super) fn end(
         &mut self,
-        farewell: Option<Report>,
-        report: Option<Report>,
+        farewell: Option<DueMessage>,
+        report: Option<DueMessage>,
         moment: u64,
-    ) -> Option<Report>
+    ) -> Option<DueMessage>
         requires { moment ≤ LATEST_MOMENT }
         ensures value { result ≡ last_report (data_waits self.old.bucket) farewell report }
         ensures new { self.new ≡ record self.old { state = state_after (data_waits self.old.bucket) farewell self.old.state; last = moment; due = due_then result self.old.due } }
@@ -76,7 +76,7 @@ impl<W: Words + Drop> Agent<W> {
 }
 
 /// What went, with what a tick ends with. It takes no memory.
-pub(super) fn with_last(mut went: Went, last: Option<Report>) -> Went
+pub(super) fn with_last(mut went: Went, last: Option<DueMessage>) -> Went
     requires { 0 < went.room }
     ensures outs { result.outs ≡ went.outs ++ option_to_list (option_map (λ r. r.outgoing.out) last) }
     ensures noted { result.noted ≡ went.noted ++ option_to_list (option_map (λ r. r.outgoing.noted) last) }
@@ -88,7 +88,11 @@ pub(super) fn with_last(mut went: Went, last: Option<Report>) -> Went
 }
 
 /// What a tick ends with, by whether data of the member's own waits.
-fn last_report(waits: bool, farewell: Option<Report>, report: Option<Report>) -> Option<Report>
+fn last_report(
+    waits: bool,
+    farewell: Option<DueMessage>,
+    report: Option<DueMessage>,
+) -> Option<DueMessage>
     ensures { result ≡ last_report waits farewell report }
 {
     if waits { report } else { farewell.or(report) }
@@ -96,8 +100,8 @@ fn last_report(waits: bool, farewell: Option<Report>, report: Option<Report>) ->
 
 /// How many datagrams go in a tick at most, with so many answers and the message that ends it; `None` where that is more than is
 /// counted.
-fn most_to_go(bucket: &Bucket<Outgoing>, answers: usize) -> Option<usize>
-    ensures { IfSome result (λ count. count ≡ count_of bucket.now.waiting + answers + 1) }
+fn most_to_go(bucket: &Bucket<Outgoing>, due_items: usize) -> Option<usize>
+    ensures { IfSome result (λ count. count ≡ count_of bucket.now.waiting + due_items + 1) }
 {
     let shown = bucket.waiting(Class::Shown);
     let fresh = bucket.waiting(Class::New);
@@ -105,6 +109,6 @@ fn most_to_go(bucket: &Bucket<Outgoing>, answers: usize) -> Option<usize>
     shown
         .checked_add(fresh)?
         .checked_add(other)?
-        .checked_add(answers)?
+        .checked_add(due_items)?
         .checked_add(1)
 }

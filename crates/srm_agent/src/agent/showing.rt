@@ -19,7 +19,7 @@ impl<W: Words + Drop> Agent<W> {
     /// [`AgentFault::Memory`], which today never comes.
     pub fn show_noted(&mut self, page: Page, now: u64) -> Result<Noted<()>, AllocError>
         requires { now ≤ LATEST_MOMENT }
-        ensures ok { IfOk result (λ noted. Enters W.draw (Some now) (Input.Showed page) self.old self.new noted.entry) }
+        ensures ok { IfOk result (λ noted. Enters W.next_word (Some now) (Input.Showed page) self.old self.new noted.entry) }
         ensures answer { IfOk result (λ noted. AnswersAs (λ _. Unit {0}) noted.entry.verdict noted.answer) }
         ensures err { OnErr result (Stays self.old self.new) }
         ensures allowed { OnErr result (IsAllowed (Input.Showed page) self.old) }
@@ -32,7 +32,7 @@ impl<W: Words + Drop> Agent<W> {
     /// [`show_noted`](Agent::show_noted) without its entry, which isn't made.
     pub fn show(&mut self, page: Page, now: u64) -> Result<(), AgentFault>
         requires { now ≤ LATEST_MOMENT }
-        ensures { Does W.draw (Some now) (Input.Showed page) (λ _ _. Unit {0}) self.old self.new result }
+        ensures { Does W.next_word (Some now) (Input.Showed page) (λ _ _. Unit {0}) self.old self.new result }
     {
         let moment = self.moment(now);
         self.show_at(&page, moment)
@@ -42,7 +42,7 @@ impl<W: Words + Drop> Agent<W> {
     fn show_at(&mut self, page: &Page, moment: u64) -> Result<(), AgentFault>
         requires later { self.old.last ≤ moment }
         requires moment { moment ≤ LATEST_MOMENT }
-        ensures { EntersStill W.draw moment (Input.Showed page.now) self.old self.new result }
+        ensures { EntersStill W.next_word moment (Input.Showed page.now) self.old self.new result }
     {
         if self.is_gone() {
             return Err(AgentFault::Gone);

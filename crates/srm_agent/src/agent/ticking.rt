@@ -37,7 +37,7 @@ impl<W: Words + Drop> Agent<W> {
     #[tactic(auto, using(crate::proofs::NextDue::stirs, crate::proofs::NextDue::stirs_at))]
     pub fn tick_noted(&mut self, now: u64) -> Result<Noted<Ticked>, AllocError>
         requires { now ≤ LATEST_MOMENT }
-        ensures ok { IfOk result (λ noted. Enters W.draw (Some now) Input.Ticked self.old self.new noted.entry) }
+        ensures ok { IfOk result (λ noted. Enters W.next_word (Some now) Input.Ticked self.old self.new noted.entry) }
         ensures answer { IfOk result (λ noted. AnswersAs (IsTicked self.old.config.session noted.entry) noted.entry.verdict noted.answer) }
         ensures err { OnErr result (Stays self.old self.new) }
         ensures due { OnErr result (Stirs now self.old) }
@@ -51,16 +51,16 @@ impl<W: Words + Drop> Agent<W> {
             return Ok(note_idle(self.alloc, me, moment, self.wait(moment)));
         }
         let due = self.due_at(moment)?;
-        let handed = due.handed.copy(self.alloc)?;
+        let handed_out = due.handed_out.copy(self.alloc)?;
         let acted = self.act(due, true, moment)?;
-        Ok(note(me, moment, handed, acted))
+        Ok(note(me, moment, handed_out, acted))
     }
 
     /// [`tick_noted`](Agent::tick_noted) without its entry, which isn't made.
     #[tactic(auto, using(crate::proofs::Entering::tick_allowed, crate::proofs::Passing::tick_enters))]
     pub fn tick(&mut self, now: u64) -> Result<Ticked, AgentFault>
         requires { now ≤ LATEST_MOMENT }
-        ensures does { Does W.draw (Some now) Input.Ticked (IsTicked self.old.config.session) self.old self.new result }
+        ensures does { Does W.next_word (Some now) Input.Ticked (IsTicked self.old.config.session) self.old self.new result }
         ensures due { OnErr result (Stirs now self.old) }
     {
         Ok(self.tick_alone(now)?)
@@ -70,7 +70,7 @@ impl<W: Words + Drop> Agent<W> {
     #[tactic(auto, using(crate::proofs::NextDue::stirs, crate::proofs::NextDue::stirs_at, crate::proofs::Passing::ticks_at))]
     fn tick_alone(&mut self, now: u64) -> Result<Ticked, AllocError>
         requires { now ≤ LATEST_MOMENT }
-        ensures ok { IfOk result (TicksAs W.draw now (max now self.old.last) self.old self.new) }
+        ensures ok { IfOk result (TicksAs W.next_word now (max now self.old.last) self.old self.new) }
         ensures err { OnErr result (Stays self.old self.new) }
         ensures due { OnErr result (Stirs now self.old) }
     {
@@ -91,7 +91,7 @@ impl<W: Words + Drop> Agent<W> {
         requires later { self.old.last ≤ moment }
         requires moment { moment ≤ LATEST_MOMENT }
         requires early { IsEarly self.old moment }
-        ensures ticks { TicksAs W.draw moment moment self.old self.new result }
+        ensures ticks { TicksAs W.next_word moment moment self.old self.new result }
         ensures idle { IsIdle result }
     {
         pass(&mut self.bucket, moment);
@@ -121,28 +121,28 @@ impl<W: Words + Drop> Agent<W> {
         requires later { self.old.last ≤ moment }
         requires moment { moment ≤ LATEST_MOMENT }
         requires due { IsDue self.old moment due }
-        ensures ok { IfOk result (λ acted. TicksAs W.draw moment moment self.old self.new acted.ticked) }
-        ensures asks { IfOk result (λ acted. acted.ticked.asks ≡ due.handed.asks) }
-        ensures fixes { IfOk result (λ acted. acted.ticked.fixes ≡ due.handed.fixes) }
+        ensures ok { IfOk result (λ acted. TicksAs W.next_word moment moment self.old self.new acted.ticked) }
+        ensures asks { IfOk result (λ acted. acted.ticked.asks ≡ due.handed_out.asks) }
+        ensures fixes { IfOk result (λ acted. acted.ticked.fixes ≡ due.handed_out.fixes) }
         ensures arms { IfOk result (λ acted. notes ≡ true → acted.arms ≡ acted.ticked.arms) }
         ensures outs { IfOk result (λ acted. acted.outs ≡ datagrams_of acted.ticked.outs) }
         ensures err { OnErr result (Stays self.old self.new) }
     {
-        let went = self.room_to_go(due.answers.len())?;
-        let (arms, noted) = self.hand_out(&due.handed, notes, moment)?;
+        let went = self.room_to_go(due.due_items.len())?;
+        let (arms, noted) = self.hand_out(&due.handed_out, notes, moment)?;
         let Due {
-            handed,
-            answers,
+            handed_out,
+            due_items,
             farewell,
             report,
         } = due;
-        let went = self.send(answers, went, moment);
+        let went = self.send(due_items, went, moment);
         let last = self.end(farewell, report, moment);
         let (outs, sent) = with_last(went, last).into_items();
         Ok(Acted {
             ticked: Ticked {
-                asks: handed.asks,
-                fixes: handed.fixes,
+                asks: handed_out.asks,
+                fixes: handed_out.fixes,
                 arms,
                 outs,
                 state: self.state,
@@ -159,7 +159,7 @@ fn note_idle(alloc: Global, me: Member, moment: u64, ticked: Ticked) -> Noted<Ti
     ensures entry { result.entry ≡ ticked_with me moment ticked }
     ensures answer { result.answer ≡ Ok ticked }
 {
-    let handed = HandedOut {
+    let handed_out = HandedOut {
         asks: Items::new(Vec::new(alloc)),
         fixes: Items::new(Vec::new(alloc)),
     };
@@ -168,13 +168,13 @@ fn note_idle(alloc: Global, me: Member, moment: u64, ticked: Ticked) -> Noted<Ti
         arms: Items::new(Vec::new(alloc)),
         outs: Items::new(Vec::new(alloc)),
     };
-    note(me, moment, handed, acted)
+    note(me, moment, handed_out, acted)
 }
 
 /// What is answered, and the entry of it, with what was handed out once more. It takes no memory.
-fn note(me: Member, moment: u64, handed: HandedOut, acted: Acted) -> Noted<Ticked>
-    requires asks { handed.asks ≡ acted.ticked.asks }
-    requires fixes { handed.fixes ≡ acted.ticked.fixes }
+fn note(me: Member, moment: u64, handed_out: HandedOut, acted: Acted) -> Noted<Ticked>
+    requires asks { handed_out.asks ≡ acted.ticked.asks }
+    requires fixes { handed_out.fixes ≡ acted.ticked.fixes }
     requires arms { acted.arms ≡ acted.ticked.arms }
     requires outs { acted.outs ≡ datagrams_of acted.ticked.outs }
     ensures entry { result.entry ≡ ticked_with me moment acted.ticked }
@@ -192,8 +192,8 @@ fn note(me: Member, moment: u64, handed: HandedOut, acted: Acted) -> Noted<Ticke
             effects: Effects {
                 drawn: None,
                 arms,
-                asks: handed.asks,
-                fixes: handed.fixes,
+                asks: handed_out.asks,
+                fixes: handed_out.fixes,
                 outs,
                 message: None,
                 state,

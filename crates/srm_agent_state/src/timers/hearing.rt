@@ -3,10 +3,10 @@
 ghost use Rattle.std.specs.Prelude.{◌≡◌, ◌≤◌, length, true, IfOk, IsOk, OnErr, [], ◌∷◌, OnOk};
 ghost use Rattle.srm_names.specs.declared.limits.TheConstants.{LATEST_MOMENT};
 ghost use Rattle.srm_names.specs.Names.{ascending, name_below};
-ghost use Rattle.srm_timers.specs.AskCalls.{AnswerReady, Gained, AskAdds};
+ghost use Rattle.srm_timers.specs.AskCalls.{DetectAndDueReady, Gained, AskAdds};
 ghost use Rattle.srm_timers.specs.FixCalls.{FixStays, FixPlace};
 ghost use Rattle.srm_timers.specs.Distances.{AreDistances};
-ghost use Rattle.srm_agent_state.specs.TimerCalls.{FixEnds, IsDrawopOf, IsSession, KeepSettings, TimersHear, TimersStay, WaitsAreDrawn};
+ghost use Rattle.srm_agent_state.specs.TimerCalls.{FixEnds, IsDrawopOf, IsSession, KeepSettings, TimersHear, TimersStay, WaitsAreChosen};
 
 use super::Timers;
 use srm_names::Name;
@@ -19,7 +19,7 @@ impl Timers {
     pub fn rows_room(&mut self, fresh: &[Name]) -> Result<(), AllocError>
         ensures kept { TimersStay self.old self.new }
         ensures settings { KeepSettings self.old self.new }
-        ensures ready { OnOk result (AnswerReady fresh.now self.new.asks) }
+        ensures ready { OnOk result (DetectAndDueReady fresh.now self.new.asks) }
     {
         self.asks.room(fresh)
     }
@@ -39,11 +39,11 @@ impl Timers {
         requires now { now ≤ LATEST_MOMENT }
         ensures hears { IfOk result (λ arms. TimersHear IsSession fresh.now dist.now now arms.items self.old self.new) }
         ensures few { IfOk result (λ arms. length arms.items ≤ length fresh.now) }
-        ensures chosen { IfOk result (λ arms. WaitsAreDrawn W.draw self.old words.old arms.items words.new) }
+        ensures chosen { IfOk result (λ arms. WaitsAreChosen W.next_word self.old words.old arms.items words.new) }
         ensures kept { OnErr result (TimersStay self.old self.new) }
         ensures unchosen { OnErr result (words.new ≡ words.old) }
         ensures settings { KeepSettings self.old self.new }
-        ensures room { AnswerReady fresh.now self.old.asks → IsOk result }
+        ensures room { DetectAndDueReady fresh.now self.old.asks → IsOk result }
     {
         self.detect(fresh, &[], dist, now, words)
     }
@@ -65,7 +65,7 @@ impl Timers {
         requires now { now ≤ LATEST_MOMENT }
         ensures hears { IfOk result (λ arms. TimersHear (IsDrawopOf repaired name) fresh.now dist.now now arms.items self.old self.new) }
         ensures few { IfOk result (λ arms. length arms.items ≤ length fresh.now) }
-        ensures chosen { IfOk result (λ arms. WaitsAreDrawn W.draw self.old words.old arms.items words.new) }
+        ensures chosen { IfOk result (λ arms. WaitsAreChosen W.next_word self.old words.old arms.items words.new) }
         ensures kept { OnErr result (TimersStay self.old self.new) }
         ensures unchosen { OnErr result (words.new ≡ words.old) }
         ensures settings { KeepSettings self.old self.new }

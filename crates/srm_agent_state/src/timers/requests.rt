@@ -3,10 +3,10 @@
 ghost use Rattle.std.specs.Prelude.{◌≡◌, ◌≤◌, ◌+◌, length, true, IfOk, OnErr, ◌<◌, ◌++◌, [], vec_len, vec_capacity, option_to_list, OnOk, ◌∷◌};
 ghost use Rattle.srm_names.specs.declared.limits.TheConstants.{LATEST_MOMENT};
 ghost use Rattle.srm_names.specs.Names.{ascending, name_below};
-ghost use Rattle.srm_timers.specs.AskCalls.{AnswerReady, AskKeepsRoom};
+ghost use Rattle.srm_timers.specs.AskCalls.{DetectAndDueReady, AskKeepsRoom};
 ghost use Rattle.srm_timers.specs.FixCalls.{Asked, FixAdds, FixKeepsRoom, FixPlace, FixPlaces};
 ghost use Rattle.srm_timers.specs.Distances.{AreDistances};
-ghost use Rattle.srm_agent_state.specs.TimerCalls.{IsAnswered, KeepSettings, TimersHearRequest, TimersStay, WaitsAreDrawn};
+ghost use Rattle.srm_agent_state.specs.TimerCalls.{IsAnswered, KeepSettings, TimersHearRequest, TimersStay, WaitsAreChosen};
 
 use super::Timers;
 use srm_names::{Member, Name};
@@ -34,7 +34,7 @@ impl Timers {
         requires now { now ≤ LATEST_MOMENT }
         ensures hears { IfOk result (λ arms. TimersHearRequest store.now from asked.now fresh.now dist.now now arms.items self.old self.new) }
         ensures few { IfOk result (λ arms. length arms.items ≤ length asked.now + length fresh.now) }
-        ensures chosen { IfOk result (λ arms. WaitsAreDrawn W.draw self.old words.old arms.items words.new) }
+        ensures chosen { IfOk result (λ arms. WaitsAreChosen W.next_word self.old words.old arms.items words.new) }
         ensures kept { OnErr result (TimersStay self.old self.new) }
         ensures unchosen { OnErr result (words.new ≡ words.old) }
         ensures settings { KeepSettings self.old self.new }
@@ -57,7 +57,7 @@ impl Timers {
         ensures empty { IfOk result (λ arms. arms.items ≡ []) }
         ensures room { IfOk result (λ arms. length asked.now + length fresh.now ≤ vec_capacity arms) }
         ensures places { OnOk result (FixPlaces asked.now self.new.fixes) }
-        ensures ready { OnOk result (AnswerReady fresh.now self.new.asks) }
+        ensures ready { OnOk result (DetectAndDueReady fresh.now self.new.asks) }
     {
         self.fixes.make_places(asked)?;
         self.asks.room(fresh)?;
@@ -90,7 +90,7 @@ impl Timers {
         requires distances { AreDistances dist.now }
         requires now { now ≤ LATEST_MOMENT }
         ensures answered { IsAnswered is_held name from dist.now now result self.old self.new }
-        ensures chosen { WaitsAreDrawn W.draw self.old words.old (option_to_list result) words.new }
+        ensures chosen { WaitsAreChosen W.next_word self.old words.old (option_to_list result) words.new }
         ensures places { FixKeepsRoom self.old.fixes self.new.fixes }
         ensures room { AskKeepsRoom self.old.asks self.new.asks }
     {

@@ -5,7 +5,7 @@ ghost use Rattle.srm_names.specs.declared.limits.TheConstants.{LATEST_MOMENT};
 ghost use Rattle.srm_timers.specs.FixCalls.{FixStays};
 ghost use Rattle.srm_deadlines.specs.Places.{HasPlaces};
 ghost use Rattle.srm_timers.specs.Distances.{AreDistances};
-ghost use Rattle.srm_agent_state.specs.TimerCalls.{AreDueAsks, AreDueFixes, KeepSettings, TimersTick, TimersStay, WaitsAreDrawn};
+ghost use Rattle.srm_agent_state.specs.TimerCalls.{AreDueAsks, AreDueFixes, KeepSettings, TimersTick, TimersStay, WaitsAreChosen};
 
 use super::Timers;
 use srm_names::Name;
@@ -43,7 +43,7 @@ impl Timers {
         requires now { now ≤ LATEST_MOMENT }
         ensures ticks { IfOk result (λ arms. TimersTick asks.now fixes.now dist.now now arms.items self.old self.new) }
         ensures few { IfOk result (λ arms. length arms.items ≤ length asks.now) }
-        ensures chosen { IfOk result (λ arms. WaitsAreDrawn W.draw self.old words.old arms.items words.new) }
+        ensures chosen { IfOk result (λ arms. WaitsAreChosen W.next_word self.old words.old arms.items words.new) }
         ensures kept { OnErr result (TimersStay self.old self.new) }
         ensures unchosen { OnErr result (words.new ≡ words.old) }
         ensures settings { KeepSettings self.old self.new }

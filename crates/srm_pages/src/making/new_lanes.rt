@@ -7,7 +7,7 @@ ghost use Rattle.srm_names.specs.declared.limits.TheConstants.{LANE_MESSAGES, PA
 ghost use Rattle.srm_pages.specs.Board.{zeros};
 ghost use Rattle.srm_pages.specs.Ends.{AreLanes, AreNewEnds, AreNewLanes};
 ghost use Rattle.srm_pages.specs.Lane.{lane_view};
-ghost use Rattle.srm_pages.specs.Seats.{new_mark, new_sight};
+ghost use Rattle.srm_pages.specs.Seats.{new_marker, new_lookout};
 
 use crate::dealer::Dealer;
 use crate::ends;
@@ -39,7 +39,7 @@ pub fn lanes(alloc: Global, viewers: u8) -> Result<ends::Lanes, AllocError>
 // As many viewers as asked for.
 fn all_viewers(alloc: Global, dealer: &mut Dealer, count: u8) -> Result<Vec<Viewer>, AllocError>
     ensures dealer { OnOk result (dealer.new ≡ dealer.old) }
-    ensures viewers { IfOk result (λ v. (vec_len v ≡ count) × All (λ s. s ≡ new_sight dealer.old.board) v.items) }
+    ensures viewers { IfOk result (λ v. (vec_len v ≡ count) × All (λ s. s ≡ new_lookout dealer.old.board) v.items) }
 {
     let mut viewers = Vec::new(alloc);
     for _ in 0..count {
@@ -76,7 +76,7 @@ fn add_lane(
     feeds: &mut Vec<Feed>,
     taps: &mut Vec<Tap>,
 ) -> Result<(), AllocError>
-    requires new { (marker.seat ≡ zeros) × (lookout ≡ new_sight marker.board) }
+    requires new { (marker.seat ≡ zeros) × (lookout ≡ new_lookout marker.board) }
     requires before { (vec_len feeds.old ≡ marker.slot) × (vec_len taps.old ≡ marker.slot) × AreNewLanes marker.board feeds.old.items taps.old.items }
     ensures { OnOk result ((vec_len feeds.new ≡ marker.slot + 1) × (vec_len taps.new ≡ marker.slot + 1) × AreNewLanes marker.board feeds.new.items taps.new.items) }
 {
@@ -88,7 +88,7 @@ fn add_lane(
 
 // The ends of the lane of the marker's slot.
 fn lane(alloc: Global, marker: Marker, lookout: Lookout) -> Result<(Feed, Tap), AllocError>
-    requires { (marker.seat ≡ zeros) × (lookout ≡ new_sight marker.board) }
+    requires { (marker.seat ≡ zeros) × (lookout ≡ new_lookout marker.board) }
     ensures { IfOk result (λ e. AreNewEnds marker.board marker.slot e.0 e.1) }
 {
     let (sender, receiver, mut pass) = channel(alloc)?;

@@ -1,10 +1,10 @@
 //! What stands around the shapes: the title, the moments and the lifelines.
 
+use crate::action::LocalActionKind;
 use crate::drawing::legend::STYLE;
 use crate::picture::Picture;
 use crate::plan::{MOMENTS, Plan};
 use crate::subject::Subject;
-use crate::tick::LocalActionKind;
 use srm_entries::SECOND;
 use srm_names::Member;
 use std::io;
@@ -117,7 +117,7 @@ fn write_lifeline<W: Write>(
 
 /// Where a member goes, if it does.
 fn gone_at(picture: &Picture, plan: &Plan, member: Member) -> Option<u64> {
-    let gone = picture.ticks.iter().find(|tick| tick.kind == LocalActionKind::Gone
-        && tick.at.member == member)?;
+    let gone = picture.actions.iter().find(|action| action.kind == LocalActionKind::Gone
+        && action.at.member == member)?;
     Some(plan.y(gone.at.entry, gone.nth))
 }

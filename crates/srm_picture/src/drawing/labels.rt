@@ -1,10 +1,10 @@
 //! Text beside the lifelines.
 
+use crate::action::{LocalAction, LocalActionKind};
 use crate::escaping::escaped;
 use crate::picture::Picture;
 use crate::plan::Plan;
 use crate::subject::Subject;
-use crate::tick::{LocalAction, LocalActionKind};
 use srm_codec::Datagram;
 use std::alloc::Global;
 use std::io::Write;
@@ -85,33 +85,33 @@ pub(super) fn write_ticks<W: Write>(
     picture: &Picture,
     plan: &Plan,
 ) -> io::Result<()> {
-    for tick in &picture.ticks {
-        let line = line_of_tick(subject, tick);
+    for action in &picture.actions {
+        let line = line_of_action(subject, action);
         write!(out, "<g class=\"tick\"><title>")?;
         write_text(alloc, out, line)?;
         writeln!(out, "</title>")?;
-        write_tick(out, plan, tick)?;
-        write_label(alloc, out, plan, tick, line)?;
+        write_notch(out, plan, action)?;
+        write_label(alloc, out, plan, action, line)?;
         writeln!(out, "</g>")?;
     }
     Ok(())
 }
 
-fn line_of_tick<'a>(subject: &'a Subject<'_>, tick: &LocalAction) -> &'a [u8] {
-    let word: &[u8] = match tick.kind {
+fn line_of_action<'a>(subject: &'a Subject<'_>, action: &LocalAction) -> &'a [u8] {
+    let word: &[u8] = match action.kind {
         LocalActionKind::Gone => b"gone ",
         LocalActionKind::Drew
         | LocalActionKind::Gave
         | LocalActionKind::Took
         | LocalActionKind::Other => b"",
     };
-    line_of(subject.lines_of(tick.at.entry), word, 0)
+    line_of(subject.lines_of(action.at.entry), word, 0)
 }
 
-fn write_tick<W: Write>(out: &mut W, plan: &Plan, tick: &LocalAction) -> io::Result<()> {
-    let x = plan.x(tick.at.member);
-    let y = plan.y(tick.at.entry, tick.nth);
-    match tick.kind {
+fn write_notch<W: Write>(out: &mut W, plan: &Plan, action: &LocalAction) -> io::Result<()> {
+    let x = plan.x(action.at.member);
+    let y = plan.y(action.at.entry, action.nth);
+    match action.kind {
         LocalActionKind::Drew => writeln!(
             out,
             "<rect class=\"drew\" x=\"{}\" y=\"{}\" width=\"9\" height=\"9\"/>",
@@ -137,18 +137,18 @@ fn write_label<W: Write>(
     alloc: Global,
     out: &mut W,
     plan: &Plan,
-    tick: &LocalAction,
+    action: &LocalAction,
     line: &[u8],
 ) -> io::Result<()> {
-    let class = match tick.kind {
+    let class = match action.kind {
         LocalActionKind::Other => "label dim",
         LocalActionKind::Drew
         | LocalActionKind::Gave
         | LocalActionKind::Took
         | LocalActionKind::Gone => "label",
     };
-    let x = plan.x(tick.at.member).saturating_add(17);
-    let y = plan.y(tick.at.entry, tick.nth).saturating_add(4);
+    let x = plan.x(action.at.member).saturating_add(17);
+    let y = plan.y(action.at.entry, action.nth).saturating_add(4);
     write!(out, "<text class=\"{class}\" x=\"{x}\" y=\"{y}\">")?;
     let shown = line.get(..LABEL).unwrap_or(line);
     write_text(alloc, out, shown)?;

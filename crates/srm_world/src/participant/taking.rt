@@ -16,7 +16,7 @@ impl<W: Words + Drop> Participant<W> {
     /// Gives the next message of a slot to its page worker.
     pub fn give(&mut self, slot: u8) -> Result<Entry, AllocError>
         requires { slot < PAGES }
-        ensures ok { IfOk result (GoesOn W.draw None (Input.Gave slot) self.old self.new) }
+        ensures ok { IfOk result (GoesOn W.next_word None (Input.Gave slot) self.old self.new) }
         ensures err { OnErr result (Stays self.old self.new) }
     {
         self.lanes.reserve(slot)?;
@@ -29,7 +29,7 @@ impl<W: Words + Drop> Participant<W> {
     /// The page worker of a slot takes the next message that it was given. It takes no memory.
     pub fn take(&mut self, slot: u8) -> Entry
         requires { slot < PAGES }
-        ensures { GoesOn W.draw None (Input.Took slot) self.old self.new result }
+        ensures { GoesOn W.next_word None (Input.Took slot) self.old self.new result }
     {
         let message = self.lanes.take(slot);
         self.took(slot, message)

@@ -15,7 +15,7 @@ impl<W: Words + Drop> Participant<W> {
     /// Hears bytes that came from another member.
     pub fn hear(&mut self, bytes: &[u8], now: u64) -> Result<Entry, AllocError>
         requires { now ≤ LATEST_MOMENT }
-        ensures ok { IfOk result (λ e. GoesOn W.draw (Some now) e.input self.old self.new e) }
+        ensures ok { IfOk result (λ e. GoesOn W.next_word (Some now) e.input self.old self.new e) }
         ensures reading { IfOk result (HearsBytes bytes.now self.old) }
         ensures err { OnErr result (Stays self.old self.new) }
     {
@@ -29,7 +29,7 @@ impl<W: Words + Drop> Participant<W> {
     /// A moment has come. The answer has what is to be sent to all others, with the bytes.
     pub fn tick(&mut self, now: u64) -> Result<(Entry, Items<Out>), AllocError>
         requires { now ≤ LATEST_MOMENT }
-        ensures ok { IfOk result (λ sent. GoesOn W.draw (Some now) Input.Ticked self.old self.new sent.0) }
+        ensures ok { IfOk result (λ sent. GoesOn W.next_word (Some now) Input.Ticked self.old self.new sent.0) }
         ensures outs { IfOk result (λ sent. SendsOuts self.old sent.0 sent.1) }
         ensures err { OnErr result (Stays self.old self.new) }
     {
@@ -42,7 +42,7 @@ impl<W: Words + Drop> Participant<W> {
     fn tick_agent(&mut self, now: u64) -> Result<Noted<Ticked>, AllocError>
         requires { now ≤ LATEST_MOMENT }
         ensures rest { self.new ≡ record self.old { agent = self.new.agent } }
-        ensures ok { IfOk result (λ noted. Enters W.draw (Some now) Input.Ticked self.old.agent self.new.agent noted.entry) }
+        ensures ok { IfOk result (λ noted. Enters W.next_word (Some now) Input.Ticked self.old.agent self.new.agent noted.entry) }
         ensures answer { IfOk result (λ noted. AnswersAs (IsTicked self.old.agent.config.session noted.entry) noted.entry.verdict noted.answer) }
         ensures err { OnErr result (AgentStays self.old.agent self.new.agent) }
     {

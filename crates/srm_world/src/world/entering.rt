@@ -24,7 +24,7 @@ pub(super) fn enter<W: Words + Drop>(
 ) -> Result<bool, AllocError>
     requires timely { IsTimely event.now }
     requires settled { sent.old.newest ≡ [] }
-    ensures ok { IfOk result (Appends W.draw participants.old participants.new (all_of sent.old) (all_of sent.new) event.now trace.old trace.new) }
+    ensures ok { IfOk result (Appends W.next_word participants.old participants.new (all_of sent.old) (all_of sent.new) event.now trace.old trace.new) }
     ensures err { OnErr result (KeepsParticipants participants.old participants.new (all_of sent.old) (all_of sent.new)) }
     ensures same { OnErr result (trace.new ≡ trace.old) }
 {
@@ -46,7 +46,7 @@ fn entry_of<W: Words + Drop>(
 ) -> Result<Option<Entry>, AllocError>
     requires timely { IsTimely event.now }
     requires settled { sent.old.newest ≡ [] }
-    ensures entry { IfOk result (λ entry. IfSome entry (EntersAll W.draw participants.old participants.new (all_of sent.old) (all_of sent.new) event.now)) }
+    ensures entry { IfOk result (λ entry. IfSome entry (EntersAll W.next_word participants.old participants.new (all_of sent.old) (all_of sent.new) event.now)) }
     ensures skipped { IfOk result (λ entry. IfNone entry (Skips participants.old participants.new (all_of sent.old) (all_of sent.new) event.now)) }
     ensures err { OnErr result (KeepsParticipants participants.old participants.new (all_of sent.old) (all_of sent.new)) }
 {

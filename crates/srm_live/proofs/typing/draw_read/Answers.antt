@@ -8,8 +8,8 @@ returns-in-Some-eq0-clause-all g c =
     let none : c.in_ok-read_next.field-0 ≡ Some 0 = cc in
     (read_last c.draw_last.result _ _ _ _ _ _ _ _ _ c.loop.invariant.reads c.in_ok-read_next.ensures.reads none c.in_ok-read_next.ensures.end c.draw_last.ensures.drawn c.draw_last.ensures.none).0
 
-pub returns-in-Some-eq0-clause-front : goal.returns-in-Some-eq0-clause-front
-returns-in-Some-eq0-clause-front g c =
+pub returns-in-Some-eq0-clause-prefix : goal.returns-in-Some-eq0-clause-prefix
+returns-in-Some-eq0-clause-prefix g c =
     let none : c.in_ok-read_next.field-0 ≡ Some 0 = cc in
     (read_last c.draw_last.result _ _ _ _ _ _ _ _ _ c.loop.invariant.reads c.in_ok-read_next.ensures.reads none c.in_ok-read_next.ensures.end c.draw_last.ensures.drawn c.draw_last.ensures.none).1
 
@@ -19,5 +19,5 @@ loop-preserved g c = record {
   reads = read_drawn _ _ _ _ _ _ _ _ _ _ _ c.loop.invariant.reads c.in_ok-read_next.ensures.reads c.in-Some-2.is c.in_ok-draw_bytes-in-Some-2.ensures.all;
 }
 
-pub returns-in_err-draw_bytes-in-Some-2-clause-front : goal.returns-in_err-draw_bytes-in-Some-2-clause-front
-returns-in_err-draw_bytes-in-Some-2-clause-front g c = read_cut _ _ _ _ _ _ _ _ _ _ c.loop.invariant.reads c.in_ok-read_next.ensures.reads c.in-Some-2.is c.in_err-draw_bytes-in-Some-2.ensures.some
+pub returns-in_err-draw_bytes-in-Some-2-clause-prefix : goal.returns-in_err-draw_bytes-in-Some-2-clause-prefix
+returns-in_err-draw_bytes-in-Some-2-clause-prefix g c = read_cut _ _ _ _ _ _ _ _ _ _ c.loop.invariant.reads c.in_ok-read_next.ensures.reads c.in-Some-2.is c.in_err-draw_bytes-in-Some-2.ensures.some

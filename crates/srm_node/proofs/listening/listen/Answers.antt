@@ -4,7 +4,7 @@ use Rattle.srm_node.proofs.Waiting.{waits_none, waits_heard, waits_on}
 use Rattle.srm_node.proofs.listening.listen.Goals as goal
 
 pub loop-count-init : goal.loop-count-init
-loop-count-init g c = record { lawful = c.requires.lawful; words = waits_none g.W.Words.draw _; counts = omega arith; listens = listens_none c.args.now _ _ }
+loop-count-init g c = record { lawful = c.requires.lawful; words = waits_none g.W.Words.next_word _; counts = omega arith; listens = listens_none c.args.now _ _ }
 
 pub returns-in-Err-clause-hears : goal.returns-in-Err-clause-hears
 returns-in-Err-clause-hears g c = listened_fails c.args.now c.loop-count.count _ _ _ _ c.loop-count-test.true (listens_told c.args.now _ _ _ _ _ _ _ c.loop-count.invariant.listens c.in-Err.ensures.tells)
@@ -18,10 +18,10 @@ returns-in_default-clause-hears g c = listened_lost c.args.now c.loop-count.coun
 pub loop-count-preserved : goal.loop-count-preserved
 loop-count-preserved g c = record {
   lawful = c.in-Ok.ensures.lawful;
-  words = waits_on g.W.Words.draw _ c.loop-count.recorder _ c.loop-count.invariant.words (waits_heard g.W.Words.draw c.args.now _ c.loop-count.recorder _ _ c.in-Ok.ensures.records c.in-Ok.ensures.words);
+  words = waits_on g.W.Words.next_word _ c.loop-count.recorder _ c.loop-count.invariant.words (waits_heard g.W.Words.next_word c.args.now _ c.loop-count.recorder _ _ c.in-Ok.ensures.records c.in-Ok.ensures.words);
   counts = omega (arith, c.loop-count.invariant.counts, c.in-Ok-Some.ensures.failures.0);
   listens = listens_more c.args.now c.loop-count.count _ _ c.loop-count.recorder.journal _ _ _ _ _ c.loop-count.invariant.listens c.in-Ok.ensures.records (rw c.in-Ok-Some.field-0-is at c.in-Ok-Some.ensures.tells);
 }
 
 pub returns-in_default-clause-words : goal.returns-in_default-clause-words
-returns-in_default-clause-words g c = waits_on g.W.Words.draw _ c.loop-count.recorder _ c.loop-count.invariant.words (waits_heard g.W.Words.draw c.args.now _ c.loop-count.recorder _ _ c.in_default.ensures.records c.in_default.ensures.words)
+returns-in_default-clause-words g c = waits_on g.W.Words.next_word _ c.loop-count.recorder _ c.loop-count.invariant.words (waits_heard g.W.Words.next_word c.args.now _ c.loop-count.recorder _ _ c.in_default.ensures.records c.in_default.ensures.words)

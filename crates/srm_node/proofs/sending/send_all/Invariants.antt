@@ -5,4 +5,4 @@ use Rattle.srm_wire.specs.Wires.{Sends, dispatched}
 use Rattle.srm_node.proofs.sending.send_all.Given as goal
 
 abbrev pub invariant-loop-out : goal.invariant-loop-out
-invariant-loop-out g l = Sends l.failed (dispatched l.me l.members (map (λ (o : Out). o.bytes) (take l.out-index l.outs))) (g.X.Wire.failed l.initial.wire) (g.X.Wire.failed l.wire) (g.X.Wire.told l.initial.wire) (g.X.Wire.told l.wire)
+invariant-loop-out g l = Sends l.failed (dispatched l.me l.members (map (λ (o : Out). o.bytes) (take l.out-index l.outs))) (g.X.Wire.failure_count l.initial.wire) (g.X.Wire.failure_count l.wire) (g.X.Wire.told l.initial.wire) (g.X.Wire.told l.wire)

@@ -4,4 +4,4 @@ use Rattle.srm_picture.specs.Arrows.{arrows_of}
 use Rattle.srm_picture.proofs.arrows.arrows.Given as goal
 
 abbrev pub invariant-loop-number : goal.invariant-loop-number
-invariant-loop-number l = l.arrows.items ≡ by_entry (arrows_of l.hearings) (take l.number l.launches)
+invariant-loop-number l = l.arrows.items ≡ by_entry (arrows_of l.arrivals) (take l.number l.launches)

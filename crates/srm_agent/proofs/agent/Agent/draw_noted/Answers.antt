@@ -9,19 +9,19 @@ use Rattle.srm_agent.proofs.agent.Agent.draw_noted.Goals as goal
 
 pub returns-in-Some-clause-ok : goal.returns-in-Some-clause-ok
 returns-in-Some-clause-ok g c =
-    draw_refused g.W.Words.draw c.args.self.now c.args.now c.moment-moment.result c.args.page c.args.body c.in-Some.fault c.refused.result.entry
+    draw_refused g.W.Words.next_word c.args.self.now c.args.now c.moment-moment.result c.args.page c.args.body c.in-Some.fault c.refused.result.entry
     (ap verdict_of_refusal (sym c.in-Some.is) ∙ c.refusal.ensures ∙ ap (λ k. first_cause (refusals c.args.self.now.state c.args.self.now.pages c.args.page k)) c.len.ensures.value)
     c.refused.ensures.entry c.moment-moment.ensures.value
 
 pub returns-in_default-next_name-clause-ok : goal.returns-in_default-next_name-clause-ok
 returns-in_default-next_name-clause-ok g c =
-    draw_full g.W.Words.draw c.args.self.now c.args.now c.moment-moment.result c.args.page c.args.body c.refused-in_default-next_name.result.entry
+    draw_full g.W.Words.next_word c.args.self.now c.args.now c.moment-moment.result c.args.page c.args.body c.refused-in_default-next_name.result.entry
     (ap verdict_of_refusal (sym c.in_default.is) ∙ c.refusal.ensures ∙ ap (λ k. first_cause (refusals c.args.self.now.state c.args.self.now.pages c.args.page k)) c.len.ensures.value)
     (λ s made past h. sym c.in_default-next_name.is ∙ c.next_name.ensures.value s made past h) c.refused-in_default-next_name.ensures.entry c.moment-moment.ensures.value
 
 pub returns-in-Err-PageLimit-clause-ok : goal.returns-in-Err-PageLimit-clause-ok
 returns-in-Err-PageLimit-clause-ok g c =
-    draw_unslotted g.W.Words.draw c.args.self.now c.draft.new.self c.args.now c.moment-moment.result c.args.page c.args.body c.in-Some-next_name.name c.refused-in-Err-PageLimit.result.entry
+    draw_unslotted g.W.Words.next_word c.args.self.now c.draft.new.self c.args.now c.moment-moment.result c.args.page c.args.body c.in-Some-next_name.name c.refused-in-Err-PageLimit.result.entry
     (ap verdict_of_refusal (sym c.in_default.is) ∙ c.refusal.ensures ∙ ap (λ k. first_cause (refusals c.args.self.now.state c.args.self.now.pages c.args.page k)) c.len.ensures.value)
     (λ s made past h. sym c.in-Some-next_name.is ∙ c.next_name.ensures.value s made past h) (c.draft.ensures.same (c.in-Err-PageLimit.is ∙ ap Err c.in-Err-PageLimit.field-0-is)) (c.draft.ensures.limit (c.in-Err-PageLimit.is ∙ ap Err c.in-Err-PageLimit.field-0-is))
     c.refused-in-Err-PageLimit.ensures.entry c.moment-moment.ensures.value
@@ -34,7 +34,7 @@ returns-in_err-noted-clause-err g c = at_err c.from_residual-in_err-noted.result
 
 pub returns-clause-ok : goal.returns-clause-ok
 returns-clause-ok g c =
-    draw_done g.W.Words.draw c.args.self.now c.draft.new.self c.take_up.new.self c.args.now c.moment-moment.result c.args.page c.args.body c.in-Some-next_name.name c.in-Ok.draft c.drew-entry.result
+    draw_done g.W.Words.next_word c.args.self.now c.draft.new.self c.take_up.new.self c.args.now c.moment-moment.result c.args.page c.args.body c.in-Some-next_name.name c.in-Ok.draft c.drew-entry.result
     (ap verdict_of_refusal (sym c.in_default.is) ∙ c.refusal.ensures ∙ ap (λ k. first_cause (refusals c.args.self.now.state c.args.self.now.pages c.args.page k)) c.len.ensures.value)
     (λ s made past h. sym c.in-Some-next_name.is ∙ c.next_name.ensures.value s made past h) c.moment-moment.ensures.value
     c.draft.ensures.rest c.draft.ensures.store c.draft.ensures.bucket (subst (λ bs. IsDraftOf c.args.self.now.config.session (record { name = c.in-Some-next_name.name; stamp = c.moment-moment.result; body = bs }) c.in-Ok.draft) c.in_ok-clone.ensures.cases c.in-Ok.ensures.made)

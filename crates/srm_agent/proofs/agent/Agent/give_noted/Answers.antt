@@ -10,6 +10,6 @@ pub hand_over-requires-clause-right : goal.hand_over-requires-clause-right
 hand_over-requires-clause-right g c = c.in_ok-message.ensures
 
 pub returns-clause-ok : goal.returns-clause-ok
-returns-clause-ok g c = give_notes g.W.Words.draw c.args.self.now c.hand_over.new.self c.args.slot c.in_ok-message.message c.in_ok-noted.noted c.gave.result.entry c.hand_over.ensures.enters c.hand_over.ensures.rest
+returns-clause-ok g c = give_notes g.W.Words.next_word c.args.self.now c.hand_over.new.self c.args.slot c.in_ok-message.message c.in_ok-noted.noted c.gave.result.entry c.hand_over.ensures.enters c.hand_over.ensures.rest
     c.in_ok-noted.ensures (c.gave.ensures.entry ∙ c.entry-entry.ensures
     ∙ ap (λ m. still_entry c.hand_over.new.self.config.me m (Gave c.args.slot) Done c.in_ok-noted.noted c.hand_over.new.self.state) (ap (λ (x : Content _). x.last) c.self.view_is))

@@ -3,4 +3,4 @@ use Rattle.srm_agent.proofs.Entering.{has_still}
 use Rattle.srm_agent.proofs.agent.Agent.leave.Goals as goal
 
 pub returns : goal.returns
-returns g c = has_still g.W.Words.draw _ _ c.args.now c.moment-moment.result AskedLeave c.leave_at.result c.moment-moment.ensures.value c.leave_at.ensures
+returns g c = has_still g.W.Words.next_word _ _ c.args.now c.moment-moment.result AskedLeave c.leave_at.result c.moment-moment.ensures.value c.leave_at.ensures

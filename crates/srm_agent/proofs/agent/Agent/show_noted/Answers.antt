@@ -3,7 +3,7 @@ use Rattle.srm_agent.proofs.Entering.{noted_enters, noted_answers}
 use Rattle.srm_agent.proofs.agent.Agent.show_noted.Goals as goal
 
 pub returns-clause-ok : goal.returns-clause-ok
-returns-clause-ok g c = noted_enters g.W.Words.draw _ _ c.args.now c.moment-moment.result (Showed c.args.page) c.show_at-answer.result c.noted.result.entry c.moment-moment.ensures.value c.show_at-answer.ensures c.noted.ensures.entry
+returns-clause-ok g c = noted_enters g.W.Words.next_word _ _ c.args.now c.moment-moment.result (Showed c.args.page) c.show_at-answer.result c.noted.result.entry c.moment-moment.ensures.value c.show_at-answer.ensures c.noted.ensures.entry
 
 pub returns-clause-answer : goal.returns-clause-answer
 returns-clause-answer g c = noted_answers _ _ _ c.show_at-answer.result c.noted.result.answer _ c.noted.result.entry c.noted.ensures.entry c.noted.ensures.answer

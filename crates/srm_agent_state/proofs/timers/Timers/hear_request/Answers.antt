@@ -9,8 +9,8 @@ pub loop-name-preserved : goal.loop-name-preserved
 loop-name-preserved g c = record {
   so_far = one_more_answered c.args.store.now c.args.from c.args.dist.now c.args.now c.args.asked.now c.loop-name.name-index c.loop-name.arms.items _ c.request_room.new.self c.loop-name.self c.answer-arm.new.self
       c.holds.result c.name-item.result c.answer-arm.result c.loop-name-test.true c.name-item.is c.holds.ensures c.loop-name.invariant.so_far c.answer-arm.ensures.answered c.add_arm.ensures.items;
-  chosen = waits_join g.W.Words.draw c.request_room.new.self c.args.words.now c.loop-name.words c.answer-arm.new.words c.loop-name.arms.items (option_to_list c.answer-arm.result) c.add_arm.new.arms.items
-      c.add_arm.ensures.items c.loop-name.invariant.chosen (waits_before g.W.Words.draw _ _ _ _ _ c.loop-name.invariant.settings c.answer-arm.ensures.chosen);
+  chosen = waits_join g.W.Words.next_word c.request_room.new.self c.args.words.now c.loop-name.words c.answer-arm.new.words c.loop-name.arms.items (option_to_list c.answer-arm.result) c.add_arm.new.arms.items
+      c.add_arm.ensures.items c.loop-name.invariant.chosen (waits_before g.W.Words.next_word _ _ _ _ _ c.loop-name.invariant.settings c.answer-arm.ensures.chosen);
   settings = keep_on _ _ _ c.loop-name.invariant.settings (settings_keep _ _ c.answer-arm.ensures.room c.answer-arm.ensures.places);
   places = places_stay _ _ _ c.loop-name.invariant.places c.answer-arm.ensures.places;
   ready = room_stays _ _ _ c.loop-name.invariant.ready c.answer-arm.ensures.room;
@@ -27,21 +27,21 @@ unwrap-requires g c =
 pub returns-clause-hears : goal.returns-clause-hears
 returns-clause-hears g c =
     let joined = (rw c.unwrap.ensures at c.extend_from_slice.ensures.items) ∙ ap (λ xs. c.loop-name.arms.items ++ xs) c.deref.ensures.value in
-    request_hears g.W.Words.draw c.args.words.now c.detect.new.words c.args.store.now c.args.from c.args.asked.now c.args.fresh.now c.args.dist.now c.args.now c.loop-name.name-index
+    request_hears g.W.Words.next_word c.args.words.now c.detect.new.words c.args.store.now c.args.from c.args.asked.now c.args.fresh.now c.args.dist.now c.args.now c.loop-name.name-index
     c.loop-name.arms.items c.unwrap-found.result.items c.extend_from_slice.new.self.items c.args.self.now c.request_room.new.self c.loop-name.self c.detect.new.self
     c.request_room.ensures.kept c.loop-name.invariant.so_far c.loop-name-test.false
     (rw c.unwrap-found.ensures at c.detect.ensures.fits) c.detect.ensures.fixes (rw c.unwrap-found.ensures at c.detect.ensures.arms)
-    (waits_before g.W.Words.draw _ _ _ _ _ c.request_room.ensures.settings
-    (waits_join g.W.Words.draw c.request_room.new.self c.args.words.now c.loop-name.words c.detect.new.words c.loop-name.arms.items c.unwrap-found.result.items c.extend_from_slice.new.self.items joined c.loop-name.invariant.chosen
-    (waits_before g.W.Words.draw _ _ _ _ _ c.loop-name.invariant.settings (rw c.unwrap-found.ensures at c.detect.ensures.chosen))))
+    (waits_before g.W.Words.next_word _ _ _ _ _ c.request_room.ensures.settings
+    (waits_join g.W.Words.next_word c.request_room.new.self c.args.words.now c.loop-name.words c.detect.new.words c.loop-name.arms.items c.unwrap-found.result.items c.extend_from_slice.new.self.items joined c.loop-name.invariant.chosen
+    (waits_before g.W.Words.next_word _ _ _ _ _ c.loop-name.invariant.settings (rw c.unwrap-found.ensures at c.detect.ensures.chosen))))
     joined
 
 pub returns-clause-chosen : goal.returns-clause-chosen
 returns-clause-chosen g c =
     let joined = (rw c.unwrap.ensures at c.extend_from_slice.ensures.items) ∙ ap (λ xs. c.loop-name.arms.items ++ xs) c.deref.ensures.value in
-    waits_before g.W.Words.draw _ _ _ _ _ c.request_room.ensures.settings
-    (waits_join g.W.Words.draw c.request_room.new.self c.args.words.now c.loop-name.words c.detect.new.words c.loop-name.arms.items c.unwrap-found.result.items c.extend_from_slice.new.self.items joined c.loop-name.invariant.chosen
-    (waits_before g.W.Words.draw _ _ _ _ _ c.loop-name.invariant.settings (rw c.unwrap-found.ensures at c.detect.ensures.chosen)))
+    waits_before g.W.Words.next_word _ _ _ _ _ c.request_room.ensures.settings
+    (waits_join g.W.Words.next_word c.request_room.new.self c.args.words.now c.loop-name.words c.detect.new.words c.loop-name.arms.items c.unwrap-found.result.items c.extend_from_slice.new.self.items joined c.loop-name.invariant.chosen
+    (waits_before g.W.Words.next_word _ _ _ _ _ c.loop-name.invariant.settings (rw c.unwrap-found.ensures at c.detect.ensures.chosen)))
 
 pub returns-clause-settings : goal.returns-clause-settings
 returns-clause-settings g c = keep_on _ _ _ c.request_room.ensures.settings (keep_on _ _ _ c.loop-name.invariant.settings c.detect.ensures.settings)

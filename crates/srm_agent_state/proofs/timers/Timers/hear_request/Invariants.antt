@@ -1,18 +1,18 @@
 use Rattle.std.proofs.Common.{◌+◌, ◌≤◌, length, vec_len}
 use Rattle.std.specs.Prelude.{vec_capacity}
-use Rattle.srm_timers.specs.AskCalls.{AnswerReady}
+use Rattle.srm_timers.specs.AskCalls.{DetectAndDueReady}
 use Rattle.srm_timers.specs.FixCalls.{FixPlaces}
-use Rattle.srm_agent_state.specs.TimerCalls.{KeepSettings, WaitsAreDrawn}
+use Rattle.srm_agent_state.specs.TimerCalls.{KeepSettings, WaitsAreChosen}
 use Rattle.srm_agent_state.proofs.OneAnswered.{AnsweredSoFar}
 use Rattle.srm_agent_state.proofs.timers.Timers.hear_request.Given as goal
 
 abbrev pub invariant-loop-name : goal.invariant-loop-name
 invariant-loop-name g l = record {
   so_far : AnsweredSoFar l.store l.from l.dist l.now l.asked l.name-index l.arms.items l.initial.self l.self;
-  chosen : WaitsAreDrawn g.W.Words.draw l.initial.self l.initial.words l.arms.items l.words;
+  chosen : WaitsAreChosen g.W.Words.next_word l.initial.self l.initial.words l.arms.items l.words;
   settings : KeepSettings l.initial.self l.self;
   places : FixPlaces l.asked l.self.fixes;
-  ready : AnswerReady l.fresh l.self.asks;
+  ready : DetectAndDueReady l.fresh l.self.asks;
   count : length l.arms.items ≤ l.name-index;
   few : vec_len l.arms ≤ l.name-index;
   room : length l.asked + length l.fresh ≤ vec_capacity l.arms;

@@ -10,8 +10,8 @@ returns-in_err-insert-clause-again g c = λ has. absurd (refused _ c.args.name _
 pub returns-in_ok-insert-clause-kept : goal.returns-in_ok-insert-clause-kept
 returns-in_ok-insert-clause-kept g c = keeps_from _ c.args.name _ _ c.self.view_is (sym c.contains_key.ensures ∙ c.if-not-contains_key.true) (record { each = c.in_ok-insert.ensures.updates.0 })
 
-pub returns-in_ok-insert-clause-held : goal.returns-in_ok-insert-clause-held
-returns-in_ok-insert-clause-held g c = holds_from _ c.args.name None _ _ c.self.view_is (record { each = c.in_ok-insert.ensures.updates.0 })
+pub returns-in_ok-insert-clause-keeps_places : goal.returns-in_ok-insert-clause-keeps_places
+returns-in_ok-insert-clause-keeps_places g c = holds_from _ c.args.name None _ _ c.self.view_is (record { each = c.in_ok-insert.ensures.updates.0 })
 
 pub returns-in_ok-insert-clause-only : goal.returns-in_ok-insert-clause-only
 returns-in_ok-insert-clause-only g c = given_from _ c.args.name None _ _ c.self.view_is (record { each = c.in_ok-insert.ensures.updates.0 })

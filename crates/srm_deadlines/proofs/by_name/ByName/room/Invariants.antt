@@ -5,7 +5,7 @@ use Rattle.srm_deadlines.proofs.by_name.ByName.room.Given as goal
 abbrev pub invariant-loop-name : goal.invariant-loop-name
 invariant-loop-name g l = record {
   kept : KeepsValues l.initial.self l.self;
-  held : KeepsPlaces l.initial.self l.self;
+  keeps_places : KeepsPlaces l.initial.self l.self;
   only : GivesPlaces l.names l.initial.self l.self;
   so_far : HasPlaces (take l.name-index l.names) l.self;
 }

@@ -5,8 +5,8 @@ pub returns-clause-sets : goal.returns-clause-sets
 returns-clause-sets g c = sets_from _ c.args.name _ _ _ c.self.view_is
     (record { each = (not_refused _ _ _ c.args.name _ c.self.view_is c.requires c.insert.ensures.absent c.insert.ensures.updates).0 })
 
-pub returns-clause-held : goal.returns-clause-held
-returns-clause-held g c = holds_from _ c.args.name _ _ _ c.self.view_is
+pub returns-clause-keeps_places : goal.returns-clause-keeps_places
+returns-clause-keeps_places g c = holds_from _ c.args.name _ _ _ c.self.view_is
     (record { each = (not_refused _ _ _ c.args.name _ c.self.view_is c.requires c.insert.ensures.absent c.insert.ensures.updates).0 })
 
 pub returns-clause-only : goal.returns-clause-only

@@ -3,11 +3,11 @@ use Rattle.srm_names.specs.declared.stream.Stream.{Stream}
 use Rattle.srm_store.specs.Fits.{Fits}
 use Rattle.srm_store.specs.Inside.{store_of}
 use Rattle.srm_store.specs.Stores.{StoreContent, StaysReady, KeepsSlots}
-use Rattle.srm_store.specs.Held.{overflows}
+use Rattle.srm_store.specs.Held.{lacks_room}
 use Rattle.srm_store.specs.declared.fault.StoreFault.TheVariants.{Memory}
 use Rattle.srm_store.proofs.Faults.{err_is, same_fault, no_page_limit}
 use Rattle.srm_store.specs.Tables.{slot_of, with_pages}
-use Rattle.srm_store.proofs.Fitting.{fits_learns, full_overflows, overflows_full}
+use Rattle.srm_store.proofs.Fitting.{fits_learns, full_lacks_room, lacks_room_full}
 use Rattle.srm_store.proofs.Reading.{newly_is}
 use Rattle.srm_store.proofs.Rooming.{ready_learns}
 use Rattle.srm_store.proofs.Seating.{slot_left, keeps_slots}
@@ -16,7 +16,7 @@ use Rattle.srm_store.proofs.store.Store.evidence.Goals as goal
 pub returns-in_err-slot_for-clause-limit : goal.returns-in_err-slot_for-clause-limit
 returns-in_err-slot_for-clause-limit c = λ inserted evidence settled h.
     let fits = subst (Fits inserted evidence settled) (sym c.self.view_is) h in
-    let full : overflows inserted evidence c.args.name.stream.page ≡ true = full_overflows fits c.in_err-slot_for.ensures.few c.args.name.stream.page (ap (λ (s : Stream). slot_of c.self.inside.table.pages s.page) (sym c.stream-stream.ensures) ∙ c.in_err-slot_for.ensures.limit.0 refl) in
+    let full : lacks_room inserted evidence c.args.name.stream.page ≡ true = full_lacks_room fits c.in_err-slot_for.ensures.few c.args.name.stream.page (ap (λ (s : Stream). slot_of c.self.inside.table.pages s.page) (sym c.stream-stream.ensures) ∙ c.in_err-slot_for.ensures.limit.0 refl) in
     (λ e. full, λ over. err_is c.from_residual.result _ c.from_residual.ensures.1 ∙ same_fault _ _ c.in_err-slot_for.ensures.full)
 
 pub returns-in_err-reserve-clause-limit : goal.returns-in_err-reserve-clause-limit
@@ -24,7 +24,7 @@ returns-in_err-reserve-clause-limit c = λ inserted evidence settled h.
     let fits = subst (Fits inserted evidence settled) (sym c.self.view_is) h in
     let page = ap (λ (s : Stream). slot_of c.self.inside.table.pages s.page) c.stream-stream.ensures in (
       λ e. absurd (no_page_limit c.from_residual-in_err-reserve.result (err_is c.from_residual-in_err-reserve.result Memory c.from_residual-in_err-reserve.ensures.1) e),
-      λ over. absurd (omega (arith, overflows_full fits c.in_ok-slot_for.ensures.few c.args.name.stream.page over, page, c.in_ok-slot_for.ensures.value, c.in_ok-slot_for.ensures.below)),
+      λ over. absurd (omega (arith, lacks_room_full fits c.in_ok-slot_for.ensures.few c.args.name.stream.page over, page, c.in_ok-slot_for.ensures.value, c.in_ok-slot_for.ensures.below)),
     )
 
 pub returns-clause-fits : goal.returns-clause-fits
@@ -34,7 +34,7 @@ pub returns-clause-limit : goal.returns-clause-limit
 returns-clause-limit c = λ inserted evidence settled h.
     let fits = subst (Fits inserted evidence settled) (sym c.self.view_is) h in
     let page = ap (λ (s : Stream). slot_of c.self.inside.table.pages s.page) c.stream-stream.ensures in
-    (λ e. absurd (cc), λ over. absurd (omega (arith, overflows_full fits c.in_ok-slot_for.ensures.few c.args.name.stream.page over, page, c.in_ok-slot_for.ensures.value, c.in_ok-slot_for.ensures.below)))
+    (λ e. absurd (cc), λ over. absurd (omega (arith, lacks_room_full fits c.in_ok-slot_for.ensures.few c.args.name.stream.page over, page, c.in_ok-slot_for.ensures.value, c.in_ok-slot_for.ensures.below)))
 
 pub returns-clause-ready : goal.returns-clause-ready
 returns-clause-ready c =
@@ -54,4 +54,4 @@ returns-clause-slots c =
 
 pub returns-clause-answer : goal.returns-clause-answer
 returns-clause-answer c = λ inserted evidence settled h.
-    newly_is _ c.args.name _ c.self.inside.table _ _ h (ap (λ (s : StoreContent). s.table) c.self.view_is) c.stream-stream.ensures c.row.ensures.source c.in_ok-names.ensures.ok (search rules) (search rules)
+    newly_is _ c.args.name _ c.self.inside.table _ _ h (ap (λ (s : StoreContent). s.table) c.self.view_is) c.stream-stream.ensures c.places_of_stream.ensures.source c.in_ok-names.ensures.ok (search rules) (search rules)

@@ -2,7 +2,7 @@ use Rattle.std.proofs.Common.{refl, sym, subst, ap, arith, length, Result, Ok, E
 use Rattle.std.proofs.lemmas.Result.{on_ok_weaker, on_err_weaker}
 use Rattle.srm_store.specs.Fits.{Fits}
 use Rattle.srm_store.specs.Inside.{store_of}
-use Rattle.srm_store.proofs.Fitting.{fits_gains, fits_same, same_finals, full_overflows, overflows_full}
+use Rattle.srm_store.proofs.Fitting.{fits_gains, fits_same, same_finals, full_lacks_room, lacks_room_full}
 use Rattle.srm_store.specs.declared.fault.StoreFault.{StoreFault}
 use Rattle.srm_store.specs.declared.insert.Insert.{Insert}
 use Rattle.srm_store.specs.Tables.{with_pages, TableGains, SameTable}
@@ -23,8 +23,8 @@ returns-clause-err c = on_err_weaker c.insert.result
 pub returns-clause-limit : goal.returns-clause-limit
 returns-clause-limit c = λ inserted evidence settled h.
     let fits = subst (Fits inserted evidence settled) (sym c.self.view_is) h in (
-      λ e. full_overflows fits c.insert.ensures.few c.args.drawop.name.stream.page (c.insert.ensures.limit.0 e),
-      λ over. c.insert.ensures.limit.1 (overflows_full fits c.insert.ensures.few c.args.drawop.name.stream.page over),
+      λ e. full_lacks_room fits c.insert.ensures.few c.args.drawop.name.stream.page (c.insert.ensures.limit.0 e),
+      λ over. c.insert.ensures.limit.1 (lacks_room_full fits c.insert.ensures.few c.args.drawop.name.stream.page over),
     )
 
 pub returns-clause-slot : goal.returns-clause-slot

@@ -1,6 +1,6 @@
 use Rattle.std.proofs.Common.{ℕ, max, ap, sym, arith, ◌∙◌}
 use Rattle.srm_names.specs.declared.stream.Stream.{Stream}
-use Rattle.srm_store.specs.Rows.{RowContent}
+use Rattle.srm_store.specs.StreamPlaces.{StreamContent}
 use Rattle.srm_store.specs.Tables.{TableContent, slot_of}
 use Rattle.srm_store.specs.Inside.{table_of}
 use Rattle.srm_store.proofs.Tabling.{Wrote, in_size, in_few, in_blank, in_learns, in_still, knows_still}
@@ -31,7 +31,7 @@ invariant_of-self c = record {
 
 pub returns-clause-learns : goal.returns-clause-learns
 returns-clause-learns c = in_learns (wrote c) _ c.seat.ensures.items c.args.name c.stream-stream.ensures
-    (c.know.ensures ∙ ap (λ (n : ℕ). let row : RowContent = record c.index_mut.result.now { known = max c.index_mut.result.now.known n } in row) c.number.ensures.value)
+    (c.know.ensures ∙ ap (λ (n : ℕ). let content : StreamContent = record c.index_mut.result.now { known = max c.index_mut.result.now.known n } in content) c.number.ensures.value)
 
 pub returns-clause-still : goal.returns-clause-still
 returns-clause-still c = in_still (wrote c) _ c.seat.ensures.items (knows_still _ _ _ c.know.ensures)

@@ -1,7 +1,7 @@
 use Rattle.std.proofs.Common.{◌≡◌, true, map, ◌++◌, sym, subst, ap, ◌∙◌}
 use Rattle.srm_names.specs.Histories.{or_else}
 use Rattle.srm_names.specs.Names.{ascending, name_below, among}
-use Rattle.srm_timers.specs.Ends.{EndContent, timed_at}
+use Rattle.srm_timers.specs.Ends.{ExpiryContent, timed_at}
 use Rattle.srm_deadlines.specs.Places.{names_of, moment_among, value_at, has_place}
 use Rattle.srm_timers.proofs.Arming.{moments_names, moments_of}
 use Rattle.srm_timers.proofs.ends.Expiries.set_all.Goals as goal
@@ -15,7 +15,7 @@ pub set_all-requires-clause-places : goal.set_all-requires-clause-places
 set_all-requires-clause-places g c =
     let items = c.deref.ensures.value ∙ c.add_moments.ensures.items ∙ ap (λ ms. ms ++ map (timed_at c.args.now) c.args.arms.now) c.self.invariant in
     record {
-      each = λ n at. subst (λ (e : EndContent). has_place e.places n ≡ true) (sym c.self.view_is)
+      each = λ n at. subst (λ (e : ExpiryContent). has_place e.places n ≡ true) (sym c.self.view_is)
           (c.requires.room.places n (sym (ap (λ ms. among (names_of ms) n) items ∙ ap (λ ns. among ns n) (moments_names c.args.now c.args.arms.now)) ∙ at));
     }
 

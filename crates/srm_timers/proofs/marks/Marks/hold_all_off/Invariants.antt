@@ -8,5 +8,5 @@ abbrev pub invariant-loop-name : goal.invariant-loop-name
 invariant-loop-name l = record {
   off : HoldAllOff l.now l.dist (take l.name-index l.names) l.initial.self.askers l.initial.self.held_off l.self.held_off;
   askers : KeepsValues l.initial.self.askers l.self.askers;
-  held : MarksKeepPlaces l.initial.self l.self;
+  keeps_places : MarksKeepPlaces l.initial.self l.self;
 }

@@ -18,5 +18,5 @@ returns-then-is_none-clause-off c =
     let none : c.mark-mark.result.asker ≡ None = search rules in
     rw (← c.self.view_is) ((note_first c.args.name c.args.from c.mark-mark.result.until c.self.inside.places _ (rw (← c.self.view_is) at (sym c.mark-mark.ensures.asker ∙ none)) (rw (← c.self.view_is) at c.mark-mark.ensures.until) c.set.ensures.sets).1)
 
-pub returns-then-is_none-clause-held : goal.returns-then-is_none-clause-held
-returns-then-is_none-clause-held c = rw (← c.self.view_is) (marks_hold c.self.inside.places _ c.set.ensures.held)
+pub returns-then-is_none-clause-keeps_places : goal.returns-then-is_none-clause-keeps_places
+returns-then-is_none-clause-keeps_places c = rw (← c.self.view_is) (marks_hold c.self.inside.places _ c.set.ensures.keeps_places)

@@ -8,5 +8,5 @@ abbrev pub invariant-loop-bytes : goal.invariant-loop-bytes
 invariant-loop-bytes g l = record {
   lawful : IsLawfulJournal l.self.journal;
   hears : HearsAll l.now (take l.bytes-index (map (λ v. v.items) l.datagrams)) l.fn.self.journal l.self.journal;
-  words : RecordsByWords g.W.Words.draw l.fn.self l.self;
+  words : RecordsByWords g.W.Words.next_word l.fn.self l.self;
 }

@@ -1,7 +1,0 @@
-use Rattle.std.proofs.Common.{subst, length}
-use Rattle.srm_deadlines.specs.Rows.{IsLeastIn}
-use Rattle.srm_deadlines.proofs.Rows.{least_of_all}
-use Rattle.srm_deadlines.proofs.blocks.BlocksMomentRow.least.Goals as goal
-
-pub returns : goal.returns
-returns g c = subst (λ moments. IsLeastIn moments 0 (length moments) c.least.result) c.self.view_is (least_of_all _ _ _ c.self.invariant c.least.ensures)

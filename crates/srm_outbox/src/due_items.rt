@@ -1,0 +1,146 @@
+//! What a tick hands in: the requests and the repairs that are due.
+
+ghost use Rattle.std.specs.Prelude.{◌≡◌, ◌++◌, List, [], true, false, option_map, IfOk, IfSome, map};
+ghost use Rattle.std.specs.List.{AllByRecursion, filter_map};
+ghost use Rattle.std.specs.Option.{option_copied};
+ghost use Rattle.srm_names.specs.Names.{ascending, name_below};
+ghost use Rattle.srm_names.specs.FullName.{FullName};
+ghost use Rattle.srm_names.specs.declared.drawop.Drawop.{Drawop as ADrawop};
+ghost use Rattle.srm_codec.specs.declared.datagram.Datagram.TheVariants.{Repair};
+ghost use Rattle.srm_codec.specs.Spelling.{is_drawop, length_of};
+ghost use Rattle.srm_store.specs.Held.{held_at};
+ghost use Rattle.srm_store.specs.Finals.{Settling};
+ghost use Rattle.srm_store.specs.Fits.{Fits};
+ghost use Rattle.srm_bucket.specs.Waiting.{IsLength};
+ghost use Rattle.srm_entries.specs.Bucket.{class_for, page_of};
+ghost use Rattle.srm_entries.specs.Packing.{packed};
+ghost use Rattle.srm_outbox.specs.DueItems.{MayHandIn, IsDueItem, AreDueItems};
+
+use crate::out::Outgoing;
+use crate::packing::packed;
+use srm_bucket::{Class, Item};
+use srm_codec::{Datagram, encodable, length};
+use srm_names::{Drawop, Member, Name, Page};
+use srm_store::Store;
+use std::alloc::{AllocError, Global};
+use std::collections::VecDeque;
+
+/// A request or a repair to be handed in to the bucket, with its class.
+#[derive(Drop)]
+pub struct DueItem {
+    pub class: Class,
+    pub item: Item<Outgoing>,
+}
+
+/// The requests for names, and then the repairs of those names of the second list that are held. Only want of memory refuses
+/// them.
+pub fn requests_and_repairs(
+    alloc: Global,
+    me: Member,
+    store: &Store,
+    asks: &[Name],
+    fixes: &[Name],
+) -> Result<VecDeque<Datagram>, AllocError>
+    requires { ascending name_below asks.now ≡ true }
+    ensures value { IfOk result (λ datagrams. (held : List ADrawop) (evidence : List FullName) (settled : List Settling) → Fits held evidence settled store.now → AllByRecursion is_drawop held
+        → datagrams.items ≡ packed me asks.now ++ filter_map (λ n. option_map (Repair me) (held_at held n)) fixes.now) }
+    ensures each { IfOk result (λ datagrams. AllByRecursion (MayHandIn me) datagrams.items) }
+{
+    let mut datagrams = packed(alloc, me, asks)?;
+    for name in fixes {
+        if let Some(repair) = repair(me, store.get(*name))? {
+            datagrams.push_back(repair)?;
+        }
+    }
+    Ok(datagrams)
+}
+
+/// The repair with the drawop that is held, where one is. Only want of memory refuses it.
+fn repair(me: Member, held: Option<&Drawop>) -> Result<Option<Datagram>, AllocError>
+    ensures value { IfOk result (λ repair. IfSome (option_copied held.entry) is_drawop → repair ≡ option_map (Repair me) (option_copied held.entry)) }
+    ensures each { IfOk result (λ repair. IfSome repair (MayHandIn me)) }
+{
+    let Some(drawop) = held else {
+        return Ok(None);
+    };
+    let _ = me.number();
+    let repair = Datagram::Repair {
+        sender: me,
+        drawop: drawop.copy()?,
+    };
+    // What an agent holds was drawn by it or read from bytes, and so has a spelling.
+    if encodable(&repair) {
+        Ok(Some(repair))
+    } else {
+        Ok(None)
+    }
+}
+
+/// The datagrams spelled in a session, each with the class that it has while a page is shown. Only want of memory refuses them.
+pub fn spelled(
+    alloc: Global,
+    me: Member,
+    session: u32,
+    showing: &Page,
+    mut datagrams: VecDeque<Datagram>,
+) -> Result<VecDeque<DueItem>, AllocError>
+    requires { AllByRecursion (MayHandIn me) datagrams.items }
+    ensures { IfOk result (λ items. AreDueItems me session showing.now datagrams.items items.items) }
+{
+    let mut items = VecDeque::new(alloc);
+    while let Some(datagram) = datagrams.pop_front() {
+        items.push_back(spell(alloc, me, session, showing, datagram)?)?;
+    }
+    Ok(items)
+}
+
+/// One datagram, spelled and with its class.
+fn spell(
+    alloc: Global,
+    me: Member,
+    session: u32,
+    showing: &Page,
+    datagram: Datagram,
+) -> Result<DueItem, AllocError>
+    requires { MayHandIn me datagram }
+    ensures { IfOk result (λ item. IsDueItem me session showing.now datagram item) }
+{
+    let class = class_for(showing, &page_of(&datagram));
+    let length = length_in_bytes(&datagram, &me);
+    let value = Outgoing::new(alloc, session, datagram)?;
+    Ok(DueItem {
+        class,
+        item: Item { value, length },
+    })
+}
+
+/// How many bytes an datagram has: at most those of a full datagram.
+fn length_in_bytes(datagram: &Datagram, me: &Member) -> u32
+    requires { MayHandIn me.now datagram.now }
+    ensures value { result ≡ length_of datagram.now }
+    ensures range { IsLength result }
+{
+    length(datagram) as u32
+}
+
+/// The page for which a datagram is sent. A session message is for none.
+fn page_of(datagram: &Datagram) -> Option<Page>
+    ensures { result ≡ page_of datagram.now }
+{
+    match datagram {
+        Datagram::Data(drawop) => Some(drawop.name.stream().page),
+        Datagram::Request { name, .. } => Some(name.stream().page),
+        Datagram::Repair { drawop, .. } => Some(drawop.name.stream().page),
+        Datagram::Session { .. } => None,
+    }
+}
+
+/// The class of an datagram for a page, while a page is shown.
+fn class_for(showing: &Page, page: &Option<Page>) -> Class
+    ensures { result ≡ class_for showing.now page.now }
+{
+    match page {
+        Some(page) if page == showing => Class::Shown,
+        _ => Class::Other,
+    }
+}

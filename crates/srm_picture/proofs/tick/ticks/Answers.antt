@@ -1,7 +1,0 @@
-use Rattle.std.proofs.Common.{rules}
-use Rattle.srm_picture.specs.Ticks.{ticks_at}
-use Rattle.srm_picture.proofs.Rows.{row_more}
-use Rattle.srm_picture.proofs.tick.ticks.Goals as goal
-
-pub loop-row-preserved : goal.loop-row-preserved
-loop-row-preserved c = search (rules, row_more ticks_at c.args.entries.now c.loop-row.row c.index-entries-row.result c.loop-row.ticks.items)

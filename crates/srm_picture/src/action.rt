@@ -1,0 +1,105 @@
+//! What happens at a member by itself.
+
+ghost use Rattle.std.specs.Prelude.{◌≡◌, ◌++◌, IfOk, OnOk};
+ghost use Rattle.srm_picture.specs.Actions.{done_kind, farewell_kind, message_kind, action_kind, actions_at, actions_in};
+
+use crate::point::Point;
+use srm_entries::{Effects, Entry, Input, Verdict};
+use srm_names::PageMsg;
+use std::alloc::{AllocError, Global};
+
+/// What a tick on a lifeline stands for.
+#[derive(Clone, Copy, Debug, PartialEq, Eq)]
+pub enum LocalActionKind {
+    /// A drawop was drawn.
+    Drew,
+    /// A drawop was given to a page worker.
+    Gave,
+    /// A drawop was taken by a page worker.
+    Took,
+    /// Another message was given or taken, a page was shown, the member began to leave, or it refused.
+    Other,
+    /// The member is gone.
+    Gone,
+}
+
+/// A tick on a lifeline.
+#[derive(Clone, Copy, Debug, PartialEq, Eq)]
+pub struct LocalAction {
+    pub at: Point,
+    /// How many datagrams its entry sent before.
+    pub nth: usize,
+    pub kind: LocalActionKind,
+}
+
+/// The ticks of a trace, in order.
+pub(crate) fn actions(alloc: Global, entries: &[Entry]) -> Result<Vec<LocalAction>, AllocError>
+    ensures { IfOk result (λ actions. actions.items ≡ actions_in entries.now) }
+{
+    let mut actions = Vec::new(alloc);
+    for (row, entry) in entries.iter().enumerate() {
+        push_action(&mut actions, row, entry)?;
+    }
+    Ok(actions)
+}
+
+/// Adds what an entry has for its lifeline, if there is something.
+fn push_action(actions: &mut Vec<LocalAction>, row: usize, entry: &Entry) -> Result<(), AllocError>
+    ensures { OnOk result (actions.new.items ≡ actions.old.items ++ actions_at (row, entry.now)) }
+{
+    match kind_in(entry) {
+        None => Ok(()),
+        Some(kind) => Ok(actions.push(LocalAction {
+            at: Point {
+                entry: row,
+                member: entry.member,
+            },
+            nth: entry.effects.outs.as_slice().len(),
+            kind,
+        })?),
+    }
+}
+
+/// What an entry has for its lifeline, if there is something.
+fn kind_in(entry: &Entry) -> Option<LocalActionKind>
+    ensures { result ≡ action_kind entry.now }
+{
+    match entry.verdict {
+        Verdict::Done => kind_done(&entry.input, &entry.effects),
+        Verdict::Ignored(_) => None,
+        Verdict::Refused(_) => Some(LocalActionKind::Other),
+    }
+}
+
+fn kind_done(input: &Input, effects: &Effects) -> Option<LocalActionKind>
+    ensures { result ≡ done_kind input.now effects.now }
+{
+    match input {
+        Input::Drew(_, _) => Some(LocalActionKind::Drew),
+        Input::Gave(_) => kind_of(&effects.message, LocalActionKind::Gave),
+        Input::Took(_) => kind_of(&effects.message, LocalActionKind::Took),
+        Input::Showed(_) | Input::AskedLeave => Some(LocalActionKind::Other),
+        Input::Ticked => farewell_kind(effects),
+        Input::Heard(_) | Input::Noise => None,
+    }
+}
+
+fn kind_of(message: &Option<PageMsg>, drawop: LocalActionKind) -> Option<LocalActionKind>
+    ensures { result ≡ message_kind drawop message.now }
+{
+    match message {
+        None => None,
+        Some(PageMsg::Draw(_)) => Some(drawop),
+        Some(_) => Some(LocalActionKind::Other),
+    }
+}
+
+fn farewell_kind(effects: &Effects) -> Option<LocalActionKind>
+    ensures { result ≡ farewell_kind effects.now }
+{
+    if effects.becomes_gone() {
+        Some(LocalActionKind::Gone)
+    } else {
+        None
+    }
+}
