@@ -54,7 +54,7 @@ out_of r = r.outgoing.out
 abbrev pub noted_of : DueMessage → Datagram
 noted_of r = r.outgoing.noted
 
--- want of memory: there is room in the bucket, the timers stay, and no word was drawn
+-- want of memory: there is room in the bucket, the timers stay, and no word was used
 pub tick_stays : {W : Type 0} (a b d : Content W) → b ≡ record a { bucket = b.bucket } → BucketStays a.bucket b.bucket → d ≡ record b { timers = d.timers; words = d.words }
     → TimersStay b.timers d.timers → d.words ≡ b.words → Stays a d
 tick_stays a b d room bucket rest timers words = record {
@@ -353,7 +353,7 @@ acts_ticks next_word a b d f z moment due arms went last outs answered s is = re
     same : (outs ≡ datagrams_of answered) × AllByRecursion (IsOut a.config.session) answered
     same = acts_outs next_word a b d f z moment due arms went last outs answered s is
 
--- there is room for the answers, which are own
+-- there is room for the requests and repairs, which are own
 pub room_to_send : {W : Type 0} (a b d : Content W) (due_items count room : ℕ) → b ≡ record a { bucket = b.bucket } → SameQueues a.bucket.waiting b.bucket.waiting → d ≡ record b { timers = d.timers; words = d.words }
     → count ≡ due_items → count_of a.bucket.waiting + count < room → count_of d.bucket.waiting + due_items < room
 room_to_send a b d due_items count room is same rest counted less =

@@ -1,4 +1,4 @@
--- The answers of an agent for what is due are those of whatever run it fits.
+-- The requests and the repairs of an agent for what is due are those of whatever run it fits.
 use Rattle.std.proofs.Common.{◌≡◌, ℕ, List, ◌++◌, Result, Ok, Err, ap, subst, ◌∙◌}
 use Rattle.std.specs.Prelude.{IfOk, option_map}
 use Rattle.std.specs.List.{AllByRecursion, filter_map}

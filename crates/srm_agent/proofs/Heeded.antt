@@ -1,4 +1,4 @@
--- An agent after an entry in which a datagram was heard and taken.
+-- An agent after an entry in which a datagram was heard and accepted.
 use Rattle.std.proofs.Common.{◌≡◌, ℕ, ◌≤◌, ◌==◌, max, Bool, true, false, ◌&&◌, List, [], ◌∷◌, ◌++◌, length, ◌+◌, refl, ap, sym, ◌∙◌, arith, append_assoc}
 use Rattle.std.specs.Prelude.{Some, filter, nat_lt, if◌then◌else◌, unwrap_or}
 use Rattle.std.specs.List.{flat_map, list_any, AllByRecursion, cons_option}
@@ -60,7 +60,7 @@ pub record Goes {W : Type 0} (a b : Content W) (moment : ℕ) : Type 0 where
   pub bucket : b.bucket ≡ a.bucket
   pub due : b.due ≡ a.due
 
--- what an agent keeps of a datagram that was heard and taken; its entry is e
+-- what an agent keeps of a datagram that was heard and accepted; its entry is e
 pub record Heeds {W : Type 0} (c : Config) (made : ℕ) (past : List Entry) (a b : Content W) (moment : ℕ) (g : Datagram) (e : Entry) : Type 0 where
   pub fits : Fits c made past a
   pub later : last_moment made past ≤ moment

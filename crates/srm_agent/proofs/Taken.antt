@@ -1,4 +1,4 @@
--- The entry in which data or a repair was heard and taken.
+-- The entry in which data or a repair was heard and accepted.
 use Rattle.std.proofs.Common.{◌≡◌, ℕ, ◌≤◌, Bool, true, false, ◌||◌, List, [], ◌∷◌, ◌++◌, refl, ap, sym, ◌∙◌, subst, arith}
 use Rattle.std.specs.Prelude.{Option, Some, None, is_some, if◌then◌else◌, Result, Ok, Err, OnErr}
 use Rattle.std.proofs.lemmas.List.{append-nil}
@@ -83,7 +83,7 @@ pub carrying_is : (repairer : Option ℕ) (d : Drawop) (repaired : Bool) → rep
 carrying_is None d repaired e = rw e refl
 carrying_is (Some sender) d repaired e = rw e refl
 
--- the name of a drawop that may be taken
+-- the name of a drawop that may be accepted
 pub may_carry : {W : Type 0} (repairer : Option ℕ) (d : Drawop) (names : List FullName) (moment : ℕ) (a : Content W) → MayAccept (carrying repairer d) names moment a → MayAccept (carrying repairer d) (d.name ∷ []) moment a
 may_carry repairer d names moment a may = subst (λ ns. MayAccept (carrying repairer d) ns moment a) (may.named ∙ (carrying_brings repairer d).names) may
 
@@ -126,7 +126,7 @@ below_is n s k known_of number names e f g h = record {
   exact = λ m. h.exact m ∙ ap (λ t. is_between t k number m) e ∙ ap (λ x. is_between n.stream x number m) f ∙ ap (λ x. is_between n.stream known_of x m) g;
 }
 
--- want of memory: the store has room, the timers stay, and no word was drawn
+-- want of memory: the store has room, the timers stay, and no word was used
 pub stays : {W : Type 0} (a : Content W) (s : StoreContent) (t : TimersContent) (w : W) → StillFits a.store s → TimersStay a.timers t → w ≡ a.words → Stays a (record a { store = s; timers = t; words = w })
 stays a s t w kept timers words = record {
   fits = λ c made past h. refit c made past a s t a.bucket w h (kept.each (held past) (evidence_in past) (settlings past) h.store) (timers.each c past h.timers) h.bucket;

@@ -12,7 +12,7 @@ use Rattle.srm_agent.specs.Contents.{Content}
 use Rattle.srm_agent.specs.Fits.{Fits}
 use Rattle.srm_outbox.specs.DueItems.{AreDueItems}
 
--- the answers of an agent for what is due, over whatever run it fits: the requests for these names, and the repairs of those of the
+-- the requests and the repairs of an agent for what is due, over whatever run it fits: the requests for these names, and the repairs of those of the
 -- others that it holds
 pub record DueItems {W : Type 0} (a : Content W) (asks fixes : List FullName) (items : List DueItem) : Type 0 where
   pub datagrams : List Datagram

@@ -41,7 +41,7 @@ moment_that_counts None last = last
 moment_that_counts (Some now) last = max now last
 
 -- The entry is of this input, at the moment that counts. Whatever run the agent fitted, it fits the run with this entry added.
--- The waits of its arms are by the next words, one word an arm, in order; no other word is drawn.
+-- The waits of its arms are by the next words, one word an arm, in order; no other word is used.
 pub record Enters {W : Type 0} (next_word : W → ℕ × W) (now : Option ℕ) (input : Input) (old new : Content W) (e : Entry) : Type 0 where
   pub input_is : e.input ≡ input
   pub moment_is : e.moment ≡ moment_that_counts now old.last
@@ -52,7 +52,7 @@ pub record Enters {W : Type 0} (next_word : W → ℕ × W) (now : Option ℕ) (
 abbrev pub EntersStill : {W A : Type 0} → (W → ℕ × W) → ℕ → Input → Content W → Content W → Result A AgentFault → Type 0
 EntersStill next_word moment input old new answer = Enters next_word (Some moment) input old new (still_entry new.config.me moment input (verdict_answering answer) None new.state)
 
--- whatever run the agent fitted, it still fits, and no word was drawn
+-- whatever run the agent fitted, it still fits, and no word was used
 pub record Stays {W : Type 0} (old new : Content W) : Type 0 where
   pub fits : (c : Config) (made : ℕ) (past : List Entry) → Fits c made past old → Fits c made past new
   pub words : new.words ≡ old.words

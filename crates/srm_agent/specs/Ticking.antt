@@ -100,7 +100,7 @@ pub record HandsOut {W : Type 0} (next_word : W → ℕ × W) (a : Content W) (h
   pub ticks : TicksTimers a handed_out.asks handed_out.fixes moment arms b.timers
   pub chosen : AreChosen next_word (low_of a.config) (high_of a.config) a.words arms b.words
 
--- answers are handed in, and what may go at a moment goes
+-- requests and repairs are handed in, and what may go at a moment goes
 pub record SendsAll (moment : ℕ) (due_items : List DueItem) (old new : BucketContent Outgoing) (went : WentContent) : Type 0 where
   pub after_hand_in : BucketContent Outgoing
   pub hands : HandsIn due_items old after_hand_in

@@ -16,7 +16,7 @@
 //! [`Agent`] says how its calls go together. `crates/srm_example` is a whole program.
 //!
 //! **What is refused.** A call answers the first [`AgentFault`] that holds, and each says which and in which order; nothing has
-//! changed then, nor has the last moment. What others send is never an error: it is taken, or ignored with a [`Cause`]. The
+//! changed then, nor has the last moment. What others send is never an error: it is accepted, or ignored with a [`Cause`]. The
 //! caller shows that moments are at most 2^48 microseconds and slots below 8.
 #![tactic(auto)]
 

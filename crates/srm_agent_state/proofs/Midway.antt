@@ -300,7 +300,7 @@ places_stay names a b places holds = record { each = λ n at. holds.each n (plac
 pub settings_keep : (a b : TimersContent) → AskKeepsRoom a.asks b.asks → FixKeepsRoom a.fixes b.fixes → KeepSettings a b
 settings_keep a b p q = record { each = λ c s. record { c1 = p.c1 ∙ s.c1; c2 = p.c2 ∙ s.c2; d1 = q.d1 ∙ s.d1; d2 = q.d2 ∙ s.d2 } }
 
--- words that are drawn one after another
+-- words that are used one after another
 drawn_append : {W : Type 0} (next_word : W → ℕ × W) (low high : Arm → ℕ) (from mid to : W) (xs ys : List Arm) → AreChosen next_word low high from xs mid → AreChosen next_word low high mid ys to → AreChosen next_word low high from (xs ++ ys) to
 drawn_append next_word low high from mid to [] ys h k = subst (λ w. AreChosen next_word low high w ys to) h k
 drawn_append next_word low high from mid to (x ∷ xs) ys h k = (h.0, drawn_append next_word low high (next_word from).1 mid to xs ys h.1 k)

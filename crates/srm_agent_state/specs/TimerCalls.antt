@@ -28,7 +28,7 @@ use Rattle.srm_agent_state.specs.TimersKept.{TimersFit, TimersContent, HaveSetti
 pub record KeepSettings (old new : TimersContent) : Type 0 where
   pub each : (c : Config) → HaveSettings c old → HaveSettings c new
 
--- the waits of the arms are by the next words, one word an arm, in order; no other word is drawn
+-- the waits of the arms are by the next words, one word an arm, in order; no other word is used
 pub record WaitsAreChosen {W : Type 0} (next_word : W → ℕ × W) (t : TimersContent) (from : W) (arms : List Arm) (to : W) : Type 0 where
   pub each : (c : Config) → HaveSettings c t → AreChosen next_word (low_of c) (high_of c) from arms to
 
@@ -44,7 +44,7 @@ pub record AreDistancesAfter (c : Config) (es : List Entry) (dist : List ℕ) : 
 abbrev pub AreNewlyMissing : List Entry → Entry → List FullName → Type 0
 AreNewlyMissing past e names = AreExactly (λ n. not (is_missing past n) && is_missing (past ++ e ∷ []) n) names
 
--- a datagram was heard and taken at a moment, and these timers were set; nothing was handed out
+-- a datagram was heard and accepted at a moment, and these timers were set; nothing was handed out
 pub record HearsWith (g : Datagram) (now : ℕ) (set : List Arm) (e : Entry) : Type 0 where
   pub heard : accepted e ≡ Some g
   pub read : IsSpellable g

@@ -16,7 +16,7 @@ pub record TimersContent : Type 0 where
 abbrev pub timers_of : Inside → TimersContent
 timers_of t = record { asks = t.asks; fixes = t.fixes }
 
--- they draw their waits by these settings
+-- they choose their waits by these settings
 pub record HaveSettings (c : Config) (t : TimersContent) : Type 0 where
   pub c1 : t.asks.c1 ≡ c.c1
   pub c2 : t.asks.c2 ≡ c.c2

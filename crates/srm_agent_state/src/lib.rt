@@ -1,8 +1,8 @@
-//! The parts of an agent: what it keeps beside its store, its distances and its bucket, and what these become as more is heard.
+//! What an agent keeps beside its store, its distances and its bucket, and what these become as more is heard.
 //!
 //! Each is said over the entries of its member: the timers are those that the entries set, a slot's progress is what they gave.
 //!
-//! It is for `srm_agent` and its neighbours, and nothing else needs it: who uses an agent finds [`Out`] there.
+//! It is for `srm_agent` and its neighbours, and nothing else needs it.
 //!
 //! ```
 //! let mut timers = Timers::new(alloc, &config);

@@ -22,7 +22,7 @@ use std::marker::Model;
 
 /// The request and repair timers of one member, as its entries leave them. Contracts see both.
 ///
-/// A call that is refused for memory has changed nothing and drawn no word. Moments and distances are microseconds.
+/// A call that is refused for memory has changed nothing and used no word. Moments and distances are microseconds.
 #[derive(Drop)]
 pub struct Timers {
     alloc: Global,

@@ -49,7 +49,7 @@ fn a_repair_handed_out_holds_off(rt: HostRuntime) {
     play(&rt, rt.alloc(), 2, &steps);
 }
 
-/// Checks the wait of a repair that is drawn by a word.
+/// Checks the wait of a repair that is chosen by a word.
 fn check_wait(rt: &impl Abort, alloc: Global, word: u64, wait: u64) {
     let steps = [
         Step::Get(Sent::Data(0, 1), 100),

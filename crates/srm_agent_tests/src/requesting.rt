@@ -22,7 +22,7 @@ fn a_number_that_was_passed_over_is_asked_for(rt: HostRuntime) {
     play(&rt, rt.alloc(), 2, &steps);
 }
 
-/// Checks the first wait of a timer that is drawn by a word.
+/// Checks the first wait of a timer that is chosen by a word.
 fn check_wait(rt: &impl Abort, alloc: Global, word: u64, wait: u64) {
     let steps = [
         Step::Hear(Sent::Data(0, 2), 1_000_000),

@@ -113,7 +113,7 @@ fn new_node<X: Wire + Drop, C: Clock + Drop>(
     }
 }
 
-/// A new node with these strokes, of one byte each, that leaves at a moment. Its waits are drawn from the words that a number starts.
+/// A new node with these strokes, of one byte each, that leaves at a moment. Its waits are chosen by the words of which a number is the seed.
 pub(crate) fn make_rig<R: Wait + Abort, X: Wire + Drop, C: Clock + Drop>(
     rt: &R,
     alloc: Global,

@@ -1,4 +1,4 @@
--- Rows of moments: the least and the first of them, by blocks.
+-- Lists of moments: the least and the first of them, by blocks.
 use Rattle.std.proofs.Common.{◌≡◌, ℕ, zero, suc, ◌+◌, ◌*◌, ◌/◌, ◌<◌, ◌≤◌, Bool, true, false, List, [], ◌∷◌, length, get_or, refl, sym, ap, subst, ◌∙◌, eq-eqb, inl, inr, ◌⊎◌, arith}
 use Rattle.std.specs.Prelude.{Option, Some, None, if◌then◌else◌, is_some, nat_eq, not, min, slice_set}
 use Rattle.std.specs.Option.{option_eq}
@@ -71,7 +71,7 @@ come_some now (Some t) e = (t, refl)
 pub not_both : (b : Bool) → b ≡ true → b ≡ false → ⊥
 not_both b p q = let k : true ≡ false = sym p ∙ q in cc
 
--- ---- a row that is looked through
+-- ---- a list that is looked through
 
 pub none_yet : (moments : List (Option ℕ)) (low : ℕ) → IsLeastIn moments low low None
 none_yet moments low = record { under = λ i from below. absurd (omega arith); is_one = λ t e. absurd (none-some t e) }
@@ -188,7 +188,7 @@ first_later now above moments from high j end here over found h whole none f som
         let inside : i < length moments = stands_within moments i t at in
         not_both (has_come now (item_at moments i)) come (last.none e i low (elim ends [ inl f ↦ omega arith | inr f ↦ omega arith ]))
 
--- a block whose least has come stands within the row
+-- a block whose least has come stands within the list
 pub block_within : (now : ℕ) (above moments : List (Option ℕ)) (j : ℕ) → AreLeasts above moments → has_come now (item_at above j) ≡ true → 16 * j < length moments
 block_within now above moments j h has =
     let (t, is) = come_some now (item_at above j) has in

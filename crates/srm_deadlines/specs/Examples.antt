@@ -216,7 +216,7 @@ none_is_least_of_none = record { none = λ h n. go (same_name n one); is_one = t
     go true = refl
     go false = refl
 
--- ---- moments in a row
+-- ---- moments in a list
 
 abbrev moments : List (Option ℕ)
 moments = Some 40 ∷ None ∷ Some 30 ∷ []

@@ -1,4 +1,4 @@
-//! Moments in a row.
+//! Moments in a list.
 
 ghost use Rattle.std.specs.Prelude.{◌≡◌, ℕ, ◌≤◌, ◌<◌, ◌+◌, List, [], Option, nat_eq, length, if◌then◌else◌, OnOk, OnErr};
 ghost use Rattle.srm_deadlines.specs.MomentLists.{item_at, IsLeastIn, IsFirstIn};
@@ -8,7 +8,7 @@ use srm_names::has_come;
 use std::alloc::{AllocError, Global};
 use std::marker::Model;
 
-/// Moments in a row, each of which may be none: which is the least, and which has come.
+/// Moments in a list, each of which may be none: which is the least, and which has come.
 ///
 /// Only [`push`](MomentList::push) takes memory.
 pub(crate) trait MomentList {
@@ -19,7 +19,7 @@ pub(crate) trait MomentList {
     fn len(&self) -> usize
         ensures { result ≡ length (moments self.now) };
 
-    /// Makes the row longer by one, with no moment there. Only want of memory refuses it.
+    /// Makes the list longer by one, with no moment there. Only want of memory refuses it.
     fn push(&mut self) -> Result<(), AllocError>
         ensures each { (i : ℕ) → item_at (moments self.new) i ≡ item_at (moments self.old) i }
         ensures ok { OnOk result (length (moments self.new) ≡ length (moments self.old) + 1) }
@@ -45,7 +45,7 @@ pub(crate) trait MomentList {
         ensures { IsFirstIn now (moments self.now) from (length (moments self.now)) result };
 }
 
-/// A row that is looked through.
+/// A list that is looked through.
 #[derive(Drop)]
 pub(crate) struct Flat {
     moments: Vec<Option<u64>>,

@@ -14,7 +14,7 @@ use Rattle.srm_entries.specs.Bucket.{Going, BucketRight, entries_of, bucket_call
 abbrev pub draw_length : ℕ → ℕ
 draw_length body = min GREATEST_LENGTH (HEAD_BYTES + DRAWOP_BYTES + body)
 
--- Whether a draw of a body of so many bytes is admitted at a moment: nothing waits of answers for the page shown and of new data, or
+-- Whether a draw of a body of so many bytes is admitted at a moment: nothing waits of requests and repairs for the page shown and of new data, or
 -- the level covers all of these and the draw. A moment below the last one counts as the last.
 abbrev pub admits_draw : Config → ℕ → List Going → (body now : ℕ) → Bool
 admits_draw c made gs body now = admits c.rate c.depth (bucket_calls c.me gs) New (draw_length body) (max now (last_moment made (entries_of gs)))

@@ -42,7 +42,7 @@ behind_the_fifth = refl
 made_later : admits_draw (in_roster 0 2 4204) 262760 four_went 1024 0 ≡ true
 made_later = refl
 
--- an answer for the page shown is ahead, 28 bytes of it before 28 of new data and 28 of the draw; one for another page isn't
+-- a request or a repair for the page shown is ahead, 28 bytes of it before 28 of new data and 28 of the draw; one for another page isn't
 abbrev short : Drawop
 short = drawop_of 2 11 (98 ∷ [])
 

@@ -25,7 +25,7 @@ use Rattle.srm_entries.specs.Packing.{packed}
 abbrev pub classed : Class → Datagram → Classed Datagram
 classed class g = record { class = class; item = record { value = g; length = length_of g } }
 
--- the class of an answer, a request or a repair: by the page shown when it is handed in
+-- the class of a request or a repair: by the page shown when it is handed in
 abbrev pub class_for : Page → Option Page → Class
 class_for showing None = Other
 class_for showing (Some page) = if same_page page showing then Shown else Other

@@ -1,4 +1,4 @@
--- The distance to another member and the echoes that are owed are the words of the distances, over the session messages that
+-- The distance to another member and the echoes that are owed are the definitions of the distances, over the session messages that
 -- the entries heard. A farewell is heard like each of them, and then its sender is forgotten.
 use Rattle.std.specs.Prelude.{ℕ, ◌==◌, List, [], ◌∷◌, find, if◌then◌else◌, Option, Some, Bool, option_map}
 use Rattle.std.specs.List.{flat_map}

@@ -31,7 +31,7 @@ abbrev pub heard_in : Option Input → Option Datagram
 heard_in (Some (Heard datagram)) = Some datagram
 heard_in _ = None
 
--- the datagram that was heard and taken
+-- the datagram that was heard and accepted
 abbrev pub accepted : Entry → Option Datagram
 accepted e = heard_in (done e)
 
@@ -106,7 +106,7 @@ held_by e = option_to_list e.effects.drawn ++ drawops_in (accepted e)
 abbrev pub held : List Entry → List Drawop
 held es = flat_map held_by es
 
--- what is held, shown to exist, known, missing and released are the words of the store, over what the entries say
+-- what is held, known, missing and released, and of what there is evidence, are the definitions of the store, over what the entries say
 abbrev pub held_at : List Entry → FullName → Option Drawop
 held_at es n = store.held_at (held es) n
 

@@ -97,7 +97,7 @@ fix_basis_of me before e n =
 abbrev pub basis_of : ℕ → List Entry → Entry → FullName → Option WaitBasis
 basis_of me before e n = if is_held before n then fix_basis_of me before e n else ask_basis_of me before e n
 
--- the ends of the interval from which the wait of an arm is drawn
+-- the ends of the range from which the wait of an arm is chosen
 abbrev pub low_of : Config → Arm → ℕ
 low_of c a = times a.kind
   where

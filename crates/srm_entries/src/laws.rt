@@ -10,7 +10,7 @@ pub fn responds()
     ensures { ResponseLaw }
 {}
 
-/// The law of giving: in every run of a member, what it gives in a slot is a page feed, whose part by source is a front of
+/// The law of giving: in every run of a member, what it gives in a slot is a page feed, whose part by source is a prefix of
 /// what is released; once it is gone it sends nothing.
 pub fn gives()
     ensures { GivesLaw }

@@ -54,7 +54,7 @@ fn play<O: Write>(alloc: Global, out: &mut O) -> anyhow::Result<()> {
     print_given(&mut viewer, out)
 }
 
-/// The agent of one member, made at moment 0. Its number starts the words by which it draws its waits: members that draw by the same words
+/// The agent of one member, made at moment 0. Its number is the seed of the words by which it chooses its waits: members that choose by the same words
 /// would ask and answer all at once.
 fn join(alloc: Global, number: u8) -> anyhow::Result<Agent<Pcg>> {
     let me = Member::new(number).context("no such member")?;

@@ -48,8 +48,8 @@ abbrev pub HasNoEnd : List ℕ → Type 0
 HasNoEnd [] = Unit {0}
 HasNoEnd (b ∷ bs) = (b ≢ 10) × HasNoEnd bs
 
--- Behind a line's front these bytes were typed. What was drawn are the strokes that ended with them: whatever else is typed, these come first,
--- and behind them those of the front that is begun now.
+-- Behind a line's prefix these bytes were typed. What was drawn are the strokes that ended with them: whatever else is typed, these come first,
+-- and behind them those of the prefix that is begun now.
 pub record DrawsTyped (bytes front : List ℕ) (old : PenView) (begun : List ℕ) (new : PenView) : Type 0 where
   pub drawn : List (List ℕ)
   pub strokes : HasNoEnd front → (more : List ℕ) → strokes_in (front ++ (bytes ++ more)) ≡ drawn ++ strokes_in (begun ++ more)
@@ -64,7 +64,7 @@ pub record DrawsSome (bytes front : List ℕ) (old new : PenView) : Type 0 where
   pub begun : List ℕ
   pub draws : DrawsTyped done front old begun new
 
--- Of a text that is known, this is left to be read. What was read was drawn, but for the front of a line that is begun.
+-- Of a text that is known, this is left to be read. What was read was drawn, but for the prefix of a line that is begun.
 pub record Reads (text : List ℕ) (left : Option (List ℕ)) (begun : List ℕ) (old new : PenView) : Type 0 where
   pub rest : List ℕ
   pub left_is : left ≡ Some rest
@@ -87,6 +87,6 @@ ReadsOf known left begun old new = IfSome known (λ text. Reads text left begun 
 abbrev pub PenSentAllOf : Option (List ℕ) → PenView → PenView → Type 0
 PenSentAllOf known old new = IfSome known (λ text. PenSentAllBut (strokes_in text) [] old new)
 
--- of a text that is known the pen sent a front of the strokes, each once and in order
+-- of a text that is known the pen sent a prefix of the strokes, each once and in order
 abbrev pub PenSentPrefixOf : Option (List ℕ) → PenView → PenView → Type 0
 PenSentPrefixOf known old new = IfSome known (λ text. PenSentPrefix (strokes_in text) old new)

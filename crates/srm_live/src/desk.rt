@@ -100,7 +100,7 @@ impl<O: Write, E: Write> Desk<O, E> {
         let _ = self.print_fault(rt, &MemberFault::Script(ScriptFault::BadLine(number)));
     }
 
-    /// Tells a fault, and answers its status.
+    /// Prints a fault, and answers its status.
     pub fn print_fault<R: Wait>(&self, rt: &R, fault: &MemberFault) -> u8
         ensures status { result ≡ status_of_member fault.now }
         ensures greatest { result ≤ 4 }

@@ -41,7 +41,7 @@ impl<E: Write> ErrorStream<E> {
         self.has_status = true;
     }
 
-    /// Tells a fault on a line of its own, and answers its status.
+    /// Prints a fault on a line of its own, and answers its status.
     pub fn print(&mut self, fault: &MemberFault) -> u8
         ensures status { result ≡ status_of_member fault.now }
         ensures greatest { result ≤ 4 }

@@ -14,6 +14,6 @@ pub record PenSentAllBut (bodies left : List (List ℕ)) (old new : PenView) : T
   pub split : bodies ≡ sent ++ left
   pub is : new ≡ record old { sent = old.sent ++ map (stroke_of old.place) sent }
 
--- the pen sent a front of these bodies
+-- the pen sent a prefix of these bodies
 abbrev pub PenSentPrefix : List (List ℕ) → PenView → PenView → Type 0
 PenSentPrefix bodies old new = (left : List (List ℕ)) × PenSentAllBut bodies left old new

@@ -59,7 +59,7 @@ feed lost put lane = record { put = put; seen = 0; disconnected = lost; slot = 0
 carries_all : (lane : LaneId) → Carries (given released_two 0) (feed false (Open first_page ∷ Draw first_drawop ∷ []) lane)
 carries_all lane = refl
 
--- of a lost one the last message given came back
+-- of a disconnected one the last message given came back
 carries_but_the_last : (lane : LaneId) → Carries (given released_two 0) (feed true (Open first_page ∷ []) lane)
 carries_but_the_last lane = (Draw first_drawop, refl)
 
@@ -105,7 +105,7 @@ takes_no_stroke n s h = sym (ap (λ (x : NodeView). x.hand) h.same)
 
 -- THE END
 
--- Of two feeds one put its close, and the other one is lost; by its last entry the member is gone.
+-- Of two feeds one put its close, and the other one is disconnected; by its last entry the member is gone.
 abbrev both_done : LaneId → List FeedView
 both_done lane = feed false (Open first_page ∷ Draw first_drawop ∷ Close ∷ []) lane ∷ feed true (Open first_page ∷ []) lane ∷ []
 
@@ -115,7 +115,7 @@ ended n lane = record n { journal = record n.journal { entries = entry 0 4 Ticke
 gone_and_done : (n : NodeView) (lane : LaneId) → has_ended (ended n lane) ≡ true
 gone_and_done n lane = refl
 
--- not while a feed that isn't lost has no close
+-- not while a feed that isn't disconnected has no close
 not_while_open : (n : NodeView) (lane : LaneId) → has_ended (record (ended n lane) { feeds = feed false (Open first_page ∷ Draw first_drawop ∷ []) lane ∷ both_done lane }) ≡ false
 not_while_open n lane = refl
 

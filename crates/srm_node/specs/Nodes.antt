@@ -42,7 +42,7 @@ NodeKeepsLists n = KeepsLists n.journal n.feeds n.well.received n.hand
 abbrev pub has_closed : FeedView → Bool
 has_closed f = list_any is_close f.put
 
--- nothing more comes of a feed that is lost, or that put its close
+-- nothing more comes of a feed that is disconnected, or that put its close
 abbrev pub has_nothing_more : FeedView → Bool
 has_nothing_more f = f.disconnected || has_closed f
 
@@ -58,7 +58,7 @@ pub record IsNode (n : NodeView) (config : Config) (room : ℕ) (closed : List B
   pub room_is : room ≡ BUFFER
   pub closed_are : closed ≡ map has_closed n.feeds
 
--- a feed for each slot, which put nothing and isn't lost
+-- a feed for each slot, which put nothing and isn't disconnected
 pub record AreNewFeeds (feeds : List FeedView) : Type 0 where
   pub slots : length feeds ≡ PAGES
   pub each : (slot : ℕ) (f : FeedView) → slice_get feeds slot ≡ Some f → (f.put ≡ []) × (f.disconnected ≡ false)

@@ -166,11 +166,11 @@ gives_in slot _ = false
 abbrev pub gave_nothing : ℕ → Entry → Bool
 gave_nothing slot e = gives_in slot e.input && is_none e.effects.message
 
--- no credit is left as far as was seen, or there was nothing to give, or the feed is lost
+-- no credit is left as far as was seen, or there was nothing to give, or the feed is disconnected
 abbrev pub is_served : ℕ → List Entry → FeedView → Bool
 is_served slot es f = (credit_of f == 0) || list_any (gave_nothing slot) es || f.disconnected
 
--- what a feed has put, has seen taken and whether it is lost may change, and no more
+-- what a feed has put, has seen taken and whether it is disconnected may change, and no more
 abbrev pub SameFeed : FeedView → FeedView → Type 0
 SameFeed f g = g ≡ record f { put = g.put; seen = g.seen; disconnected = g.disconnected }
 

@@ -1,8 +1,8 @@
--- By which words the waits are drawn that a node's journal has.
+-- By which words the waits are chosen that a node's journal has.
 use Rattle.std.specs.Prelude.{◌≡◌, ℕ}
 use Rattle.srm_world.specs.WaitWords.{RecorderView, RecordsByWords}
 
--- The settings stay, and the waits of the entries that the journal gained are by the next words: one a timer, in order. No other word was drawn.
+-- The settings stay, and the waits of the entries that the journal gained are by the next words: one a timer, in order. No other word was used.
 pub record WaitsByWords {W : Type 0} (next_word : W → ℕ × W) (old new : RecorderView W) : Type 0 where
   pub start : new.journal.start ≡ old.journal.start
   pub words : RecordsByWords next_word old new

@@ -19,7 +19,7 @@ use srm_timers::Words;
 use srm_world::{Past, Recorder};
 use std::sync::Wait;
 
-/// Gives each slot while there is credit and something to give, unless its feed is lost. Keeps for each feed whether it put its close.
+/// Gives each slot while there is credit and something to give, unless its feed is disconnected. Keeps for each feed whether it put its close.
 pub fn give_all<R: Wait, W: Words + Drop, P: Past<Entry> + Drop>(
     rt: &R,
     recorder: &mut Recorder<W, P>,
@@ -44,7 +44,7 @@ pub fn give_all<R: Wait, W: Words + Drop, P: Past<Entry> + Drop>(
     Ok(())
 }
 
-// Gives a slot while there is credit and something to give, unless its feed is lost.
+// Gives a slot while there is credit and something to give, unless its feed is disconnected.
 fn give_slot<R: Wait, W: Words + Drop, P: Past<Entry> + Drop>(
     rt: &R,
     recorder: &mut Recorder<W, P>,
@@ -76,7 +76,7 @@ fn give_slot<R: Wait, W: Words + Drop, P: Past<Entry> + Drop>(
     unreachable!()
 }
 
-// Gives the next message of a slot. Whether there was none, or the feed is lost.
+// Gives the next message of a slot. Whether there was none, or the feed is disconnected.
 fn give_next<R: Wait, W: Words + Drop, P: Past<Entry> + Drop>(
     rt: &R,
     recorder: &mut Recorder<W, P>,

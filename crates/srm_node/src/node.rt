@@ -92,7 +92,7 @@ impl<W: Words + Drop, X: Wire + Drop, C: Clock + Drop, P: Past<Entry> + Drop> Mo
 }
 
 impl<W: Words + Drop, X: Wire + Drop, C: Clock + Drop> Node<W, X, C> {
-    /// A node that did nothing yet. The feeds are eight that put nothing and aren't lost, and nothing was received of the well. Only
+    /// A node that did nothing yet. The feeds are eight that put nothing and aren't disconnected, and nothing was received of the well. Only
     /// want of memory refuses it.
     pub fn new(
         alloc: Global,
@@ -257,7 +257,7 @@ impl<W: Words + Drop, X: Wire + Drop, C: Clock + Drop, P: Past<Entry> + Drop> No
         (self.recorder.finish(), self.feeds)
     }
 
-    /// Turns, with a pause before each but a node's first, until the member is gone and each lane had its close or lost its tap. A pause lasts until something is due
+    /// Turns, with a pause before each but a node's first, until the member is gone and each lane had its close or is disconnected. A pause lasts until something is due
     /// or the rate lets the stroke in hand go, at most 10,000 microseconds; after a turn that neither heard nor drew anything it takes at
     /// least 1,000, and after one that heard or drew 64 there is none. It stops at the first fault, and may be called again. Fault 3:
     /// the turns are spent.
@@ -283,7 +283,7 @@ impl<W: Words + Drop, X: Wire + Drop, C: Clock + Drop, P: Past<Entry> + Drop> No
         }
     }
 
-    // Whether the member is gone and each lane had its close or lost its tap.
+    // Whether the member is gone and each lane had its close or is disconnected.
     fn is_ended(&self) -> bool
         ensures { result ≡ has_ended self.now.view }
     {

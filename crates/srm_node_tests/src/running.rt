@@ -63,7 +63,7 @@ fn a_pen_dropped_before_it_is_done_keeps_the_node(rt: HostRuntime) {
     play_alone(rt, rt.alloc(), &steps, &[]);
 }
 
-// Each lane has its close or lost its tap, which the node knows from the first turn on.
+// Each lane has its close or is disconnected, which the node knows from the first turn on.
 #[test]
 fn a_run_ends_with_a_tap_that_is_gone(rt: HostRuntime) {
     let steps = [

@@ -12,7 +12,7 @@ use std::net::SocketAddr;
 pub struct NodeOptions {
     /// The member, which is the place of its address, from 0; its session; and what it may send and how long it waits.
     pub config: Config,
-    /// Where the words start that its waits are drawn by.
+    /// The seed of the words by which its waits are chosen.
     pub seed: u64,
     /// After so many microseconds it leaves, up to 2^48; where strokes are drawn as they are typed, so long after the end of input.
     pub stay: u64,

@@ -1,4 +1,4 @@
--- Handing answers in, one after the other, and letting go until nothing goes.
+-- Handing requests and repairs in, one after the other, and letting go until nothing goes.
 use Rattle.std.proofs.Common.{◌≡◌, ℕ, ◌+◌, ◌<◌, ◌≤◌, Bool, true, false, List, [], ◌∷◌, ◌++◌, length, drop, map, refl, ap, sym, ◌∙◌, subst, arith, append_assoc, length-append}
 use Rattle.std.specs.Prelude.{◌==◌, Option, Some, None, option_map, if◌then◌else◌}
 use Rattle.std.specs.List.{AllByRecursion}
@@ -70,7 +70,7 @@ hands_more done a old now new h adds gains = record {
       omega (arith, h.count, length-append done (a ∷ []));
 }
 
--- A loop has handed in some of the answers, and has the others left, with room for them.
+-- A loop has handed in some of the due items, and has the others left, with room for them.
 pub record HandedSoFar (due_items left : List DueItem) (old now : BucketContent Outgoing) : Type 0 where
   pub done : List DueItem
   pub split : done ++ left ≡ due_items

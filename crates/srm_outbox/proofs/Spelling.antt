@@ -1,4 +1,4 @@
--- The answers of a tick, one after the other: the repairs of what is held, and each answer with its spelling.
+-- What a tick hands in, one after the other: the repairs of what is held, and each request and repair with its spelling.
 use Rattle.std.proofs.Common.{◌≡◌, ℕ, ◌+◌, ◌<◌, List, [], ◌∷◌, ◌++◌, length, get_or, take, map, refl, ap, sym, ◌∙◌, subst, append_assoc}
 use Rattle.std.specs.Prelude.{Option, Some, None, option_map, option_to_list, IfSome}
 use Rattle.std.specs.List.{AllByRecursion, filter_map, cons_option}
@@ -63,7 +63,7 @@ repairing_goes_on me s requests names i n datagrams here o lt at there is fine h
     fine_list None f = tt
     fine_list (Some g) f = (f, tt)
 
--- A loop has spelled some of the answers, and has these left.
+-- A loop has spelled some of the datagrams, and has these left.
 pub record SpelledSoFar (me session : ℕ) (showing : Page) (datagrams left : List Datagram) (items : List DueItem) : Type 0 where
   pub done : List Datagram
   pub split : done ++ left ≡ datagrams

@@ -24,7 +24,7 @@ pub record NothingWent (w : WentContent) : Type 0 where
   pub outs : w.outs ≡ []
   pub noted : w.noted ≡ []
 
--- these answers were handed in, in order
+-- these requests and repairs were handed in, in order
 pub record HandsIn (due_items : List DueItem) (old new : BucketContent Outgoing) : Type 0 where
   pub fits : (rate depth : ℕ) (calls : List (Call Outgoing)) → Fits rate depth calls old → Fits rate depth (calls ++ map Handed (map classed_of due_items)) new
   pub own : (me session : ℕ) → AreOwn me session old.waiting → AllByRecursion (λ a. IsOwn me session a.item.value) due_items → AreOwn me session new.waiting

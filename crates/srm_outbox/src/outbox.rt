@@ -68,7 +68,7 @@ impl Went {
     }
 }
 
-/// Hands in answers, for which the bucket has room.
+/// Hands in requests and repairs, for which the bucket has room.
 pub fn hand_in(bucket: &mut Bucket<Outgoing>, mut due_items: VecDeque<DueItem>)
     requires room { length due_items.items ≤ bucket.old.waiting.room }
     requires lengths { AllByRecursion (λ due_item. HasLength due_item.item) due_items.items }

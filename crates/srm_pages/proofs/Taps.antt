@@ -36,7 +36,7 @@ ahead m n taken count counts more is there = subst (λ k. IsAhead n.seat k taken
       ∙ get_or-set_other m.seat (count_register m.slot) (number_register m.slot member) count 0 (λ e. apart m.slot member (sym e)) ∙ counts.of_member member small;
 }
 
--- what a member's words show with one drawop more
+-- what is posted in a member's registers with one drawop more
 with_drawop : (n : MarkerView) (taken : List PageMsg) (d : Drawop) → IsAhead n.seat n.slot taken → continues taken (Draw d) ≡ true → (member : ℕ) → member < MEMBERS
     → get_or (set n.seat (number_register n.slot d.name.stream.source) d.name.number) (number_register n.slot member) 0 ≤ drawn (taken ++ Draw d ∷ []) member
 with_drawop n taken d is go member small = dite (ℕ_discrete member d.name.stream.source)
@@ -69,7 +69,7 @@ counts_other n o taken x none is same = subst (λ (k : MarkerView). CountsTaken 
   of_member = λ member small. is.of_member member small ∙ sym (same_drawn member taken x (none member));
 }
 
--- once it is shown, the words count the list with it
+-- once it is posted, the registers count the list with it
 pub counts_shown : (n o : MarkerView) (taken : List PageMsg) (x : PageMsg) → IsAhead n.seat n.slot taken → continues taken x ≡ true → Posts n x o → CountsTaken o.seat o.slot (taken ++ x ∷ [])
 counts_shown n o taken (Open p) is go shows = counts_other n o taken (Open p) (λ _. refl) is shows
 counts_shown n o taken (Draw d) is go shows = subst (λ k. CountsTaken o.seat k (taken ++ Draw d ∷ [])) (sym (ap (λ (k : MarkerView). k.slot) shows.0)) record {
@@ -95,7 +95,7 @@ pub next_shown : (m n : MarkerView) (taken : List PageMsg) (x : PageMsg) (count 
     → n ≡ record m { seat = set m.seat (count_register m.slot) count } → get_or n.seat (count_register m.slot) 0 ≡ count → MayPost n x
 next_shown m n taken x count counts feed more is there = may_show n taken x (ahead m n taken count counts more is there) (last_continues taken x feed) feed
 
--- and then the words count the list with it
+-- and then the registers count the list with it
 pub next_counts : (m n o : MarkerView) (taken after : List PageMsg) (x : PageMsg) (count : ℕ) → CountsTaken m.seat m.slot taken → is_page_feed (taken ++ x ∷ []) ≡ true → count ≡ length taken + 1
     → n ≡ record m { seat = set m.seat (count_register m.slot) count } → get_or n.seat (count_register m.slot) 0 ≡ count → Posts n x o → after ≡ taken ++ x ∷ [] → CountsTaken o.seat o.slot after
 next_counts m n o taken after x count counts feed more is there shows e =

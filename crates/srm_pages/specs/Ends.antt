@@ -35,7 +35,7 @@ pub record FeedView : Type 0 where
 abbrev pub credit_of : FeedView → ℕ
 credit_of f = LANE_MESSAGES - (length f.put - f.seen)
 
--- what the tap has taken, what its seat at the board has in each word, the slot, the lane and the board
+-- what the tap has taken, what its seat at the board has in each register, the slot, the lane and the board
 pub record TapView : Type 0 where
   pub taken : List PageMsg
   pub seat : List ℕ

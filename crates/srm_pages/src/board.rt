@@ -1,6 +1,6 @@
-//! The board: words that each tap raises and that feeds and viewers read, with no lock.
+//! The board: registers that each tap raises and that feeds and viewers read, with no lock.
 //!
-//! The words of a slot stand side by side: how many messages its tap took, and then for each member the number of the last drawop
+//! The registers of a slot stand side by side: how many messages its tap took, and then for each member the number of the last drawop
 //! taken.
 
 ghost use Rattle.std.specs.Prelude.{◌≡◌};
@@ -11,10 +11,10 @@ use srm_names::{MEMBERS, Member, PAGES};
 use std::alloc::Global;
 use std::collections::LinkedList;
 
-/// How many words a slot has: one for the count, and one for each member.
+/// How many registers a slot has: one for the count, and one for each member.
 pub const STRIDE: usize = 1 + MEMBERS as usize;
 
-/// How many words there are.
+/// How many registers there are.
 pub const BOARD_REGISTERS: usize = PAGES as usize * STRIDE;
 
 /// The word of a slot that counts the messages taken.
@@ -32,7 +32,7 @@ pub(crate) fn number_register(slot: u8, member: Member) -> usize
 }
 
 /// What a seat knows: whether it is a tap's and of which slot, whether it deals the slots from `next` on, and the number that it
-/// has last seen of each word. No value of it is made.
+/// has last seen of each register. No value of it is made.
 pub struct BoardView {
     pub taps: bool,
     pub slot: u64,
@@ -75,7 +75,7 @@ impl Split<BoardView> for NextLookout {
     ghost right = { λ v. looking };
 }
 
-/// What a store tells its tap: the word is the number stored.
+/// What a store tells its tap: the register has the number stored.
 pub struct Raises;
 
 impl Play<u8, BoardView> for Raises {

@@ -35,7 +35,7 @@ impl Model for Dealer {
 }
 
 impl Dealer {
-    /// Makes a board whose words are all 0.
+    /// Makes a board whose registers are all 0.
     pub fn new(alloc: Global) -> Result<Dealer, AllocError>
         ensures { IfOk result (λ d. d.next ≡ 0) }
     {

@@ -69,7 +69,7 @@ impl Feed {
         u64::from(LANE_MESSAGES).saturating_sub(self.count.saturating_sub(seen)) as u32
     }
 
-    /// Puts a message, which is to continue the page feed. It comes back if the tap is gone, and the feed is then marked as lost.
+    /// Puts a message, which is to continue the page feed. It comes back if the tap is gone, and the feed is then marked as disconnected.
     pub fn put<R: Wait>(&mut self, rt: &R, msg: PageMsg) -> Result<(), PageMsg>
         requires credit { 0 < credit_of self.old }
         requires feed { is_page_feed (self.old.put ++ msg ∷ []) ≡ true }

@@ -23,8 +23,8 @@ pub fn lane_keeps_its_rule()
         → (f.put ≡ t.taken ++ items) × (is_page_feed f.put ≡ true) }
 {}
 
-/// A slot's words are what its tap's seat has, and what any other has seen of them is at most that. The drawops that they show, of all
-/// members together, are no more than the messages that they count behind the first, which opened the page: the count is raised first.
+/// A slot's registers are what its tap's seat has, and what any other has seen of them is at most that. The drawops posted there, of all
+/// members together, are no more than the messages counted there behind the first, which opened the page: the count is raised first.
 pub fn board_keeps_its_rule()
     ensures seen { (words : List ℕ) (views : List BoardView) → IsBoardState words views
         → (i j : ℕ) (t v : BoardView) → get_elem? views i ≡ some t → t.taps ≡ true → get_elem? views j ≡ some v

@@ -1,4 +1,4 @@
-//! The one who raises the words of a slot.
+//! The one who raises the registers of a slot.
 
 ghost use Rattle.std.specs.Prelude.{◌≡◌, ◌≢◌, ◌/◌, ◌%◌, ◌^◌, ◌<◌, ◌≤◌, length, slice_index, slice_set};
 ghost use Rattle.crossbeam_channel.specs.Claims.{view as knows};

@@ -46,6 +46,6 @@ action r kind = record { at = point_of r; nth = length r.1.effects.outs; kind = 
 abbrev pub actions_at : ℕ × Entry → List LocalAction
 actions_at r = option_to_list (option_map (action r) (action_kind r.1))
 
--- each tick of the entries, in order
+-- each local action of the entries, in order
 abbrev pub actions_in : List Entry → List LocalAction
 actions_in es = by_entry actions_at es

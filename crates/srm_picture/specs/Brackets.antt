@@ -29,7 +29,7 @@ handed_out Fix e = e.effects.fixes
 abbrev pub sets_anew : Arm → Entry → Bool
 sets_anew a e = list_any (λ (b : Arm). same_kind a.kind b.kind && same_name a.name b.name) e.effects.arms
 
--- the entry takes the drawop that was to be asked for, or a repair like the one that was to be made
+-- the entry accepts the drawop that was to be asked for, or a repair like the one that was to be made
 abbrev pub answered_by_kind : ArmKind → FullName → Option Datagram → Bool
 answered_by_kind Ask n accepted = list_any (λ (d : Drawop). same_name n d.name) (drawops_in accepted)
 answered_by_kind Fix n accepted = repairs_in n accepted

@@ -1,4 +1,4 @@
--- Arrows, text and ticks at worked values.
+-- Arrows, text and local actions at worked values.
 use Rattle.std.specs.Prelude.{◌≡◌, true, false, [], ◌∷◌, map, codes, None, Some, refl}
 use Rattle.srm_names.specs.declared.page_msg.PageMsg.TheVariants.{Close}
 use Rattle.srm_entries.specs.declared.kind.DatagramKind.TheVariants.{Data, Request}

@@ -7,7 +7,7 @@ use Rattle.srm_picture.specs.Arrows.{arrows_in, launches_in}
 use Rattle.srm_picture.specs.Brackets.{brackets_in}
 use Rattle.srm_picture.specs.Actions.{actions_in}
 
--- an arrow from the sending of each datagram to each hearing, or to nobody; a bracket for each timer that was set; ticks as they happened
+-- an arrow from the sending of each datagram to each hearing, or to nobody; a bracket for each timer that was set; local actions as they happened
 pub record Depicts (es : List Entry) (hs : List Arrival) (picture : Picture) : Type 0 where
   pub arrows : picture.arrows.items ≡ arrows_in (launches_in es) hs
   pub brackets : picture.brackets.items ≡ brackets_in es

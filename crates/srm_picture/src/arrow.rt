@@ -18,7 +18,7 @@ pub struct Arrival {
     /// Its number, from 0 in the order of sending.
     pub number: usize,
     pub at: Point,
-    /// Whether it was taken, and not ignored.
+    /// Whether it was accepted, and not ignored.
     pub accepted: bool,
 }
 

@@ -5,7 +5,7 @@
 //! write_svg(alloc, &mut out, &Subject { members: 2, entries, lines }, &picture)?;
 //! ```
 //!
-//! [`Picture`] is what is to be drawn: arrows, brackets and ticks, each by the entries that it speaks of. [`write_svg`] draws it. Which datagram
+//! [`Picture`] is what is to be drawn: arrows, brackets and local actions, each by the entries that it speaks of. [`write_svg`] draws it. Which datagram
 //! came in an entry is the caller's to say, by [`Arrival`]: an entry has the datagram and not its number.
 //!
 //! **What is refused.** Want of memory, and what the output refuses.

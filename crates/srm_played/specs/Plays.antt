@@ -33,7 +33,7 @@ arrival_in r number = record { number = number; at = point_of r; accepted = is_d
 abbrev pub came : Option ℕ → ℕ × Entry → List Arrival
 came number r = option_to_list (option_map (arrival_in r) number)
 
--- the new entries behind the old ones, each with its row
+-- the new entries behind the old ones, each with its place
 abbrev pub added : List Entry → List Entry → List (ℕ × Entry)
 added old new = enumerate_from (length old) (drop (length old) new)
 

@@ -132,7 +132,7 @@ fn another_member_repairs_what_one_that_left_drew(rt: HostRuntime) {
     check(&rt, rt.alloc(), script, wanted);
 }
 
-/// A refused event draws no word, or the waits would be others.
+/// A refused event uses no word, or the waits would be others.
 #[test]
 fn words_are_drawn_once(rt: HostRuntime) {
     let (script, wanted) = BY_WORDS;

@@ -24,7 +24,7 @@ pub struct EntryPrinter {
 }
 
 impl EntryPrinter {
-    /// A report of which nothing was printed yet, with timers or without.
+    /// A printer that printed nothing yet, with timers or without.
     pub fn new(timers: bool) -> EntryPrinter {
         EntryPrinter { timers, sent: 0 }
     }

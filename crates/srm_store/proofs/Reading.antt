@@ -27,7 +27,7 @@ any_found p (x ∷ xs) = go (p x) x (any_found p xs)
     go true y h = refl
     go false y h = h
 
--- The row of a stream, read from the table of a store.
+-- The places of a stream, read from the table of a store.
 pub record Reads (s : StoreContent) (u : Stream) (content : StreamContent) : Type 0 where
   pub table : TableContent
   pub is : table ≡ s.table
@@ -62,7 +62,7 @@ module _ {inserted : List Drawop} {evidence : List FullName} {settled : List Set
       ∙ ap (λ k. unheld inserted (names_after u k (n.number - k))) (a ∙ known_here)
       ∙ ap (λ v. unheld inserted (names_after v (known evidence v) (n.number - known evidence v))) stream
 
--- the names that the row of a stream doesn't hold, from its first number on, and from the first that wasn't known
+-- the names that a stream doesn't hold, from its first number on, and from the first that wasn't known
 pub missing_is : {inserted : List Drawop} {evidence : List FullName} {settled : List Settling} {s : StoreContent} (names : List FullName) (u : Stream) (table : TableContent) (last : ℕ) → Fits inserted evidence settled s
     → table ≡ s.table → u.source < MEMBERS → names ≡ unheld_in_stream (places_of_stream table u) (names_after u 0 last) → last ≡ (places_of_stream table u).known → names ≡ missing inserted evidence u
 missing_is names u table last h same source is known_is = is ∙ missing_here h (record { table = table; is = same; row_is = refl; source = source }) last known_is

@@ -1,4 +1,4 @@
--- One row of the table changes, and its page gets a slot.
+-- One stream of the table changes, and its page gets a slot.
 use Rattle.std.proofs.Common.{◌≡◌, ◌≢◌, ℕ, ◌+◌, ◌*◌, ◌<◌, ◌≤◌, ◌⊎◌, List, Bool, true, false, length, get_or, set, refl, sym, ap, ◌∙◌, subst, arith, inl, inr}
 use Rattle.std.specs.Prelude.{max, ◌&&◌, ◌==◌}
 use Rattle.std.proofs.lemmas.Bool.{cases_eq, false≢true, and_from, eq-eqb}
@@ -27,7 +27,7 @@ same_row_back a b h = record { each = λ n. sym (h.each n); known = sym h.known 
 pub same_row_is : (a b c : StreamContent) → SameStreamPlaces a b → c ≡ b → SameStreamPlaces a c
 same_row_is a b c h e = subst (SameStreamPlaces a) (sym e) h
 
--- the rows behind the last page are blank
+-- the streams behind the last page are blank
 abbrev pub AreBlank : List Page → List StreamContent → Type 0
 AreBlank pages streams = (slot source : ℕ) → length pages ≤ slot → source < MEMBERS → SameStreamPlaces blank_stream (stream_in streams slot source)
 
@@ -45,7 +45,7 @@ module _ (streams : List StreamContent) (slot source : ℕ) (r : StreamContent) 
   pub set_source : (b : ℕ) → b ≢ source → stream_in after slot b ≡ stream_in streams slot b
   set_source b other = get_or-set_other streams (slot * 32 + source) (slot * 32 + b) r blank_stream (λ e. other (omega arith))
 
-  -- the row holds the same
+  -- the stream holds the same
   pub set_same : SameStreamPlaces (stream_in streams slot source) r → (a b : ℕ) → SameStreamPlaces (stream_in streams a b) (stream_in after a b)
   set_same h a b = go (cases_eq (a * 32 + b) (slot * 32 + source))
     where
@@ -111,7 +111,7 @@ module _ (t : TableContent) (p : Page) (source : ℕ) (r : StreamContent) (few :
     };
   }
 
--- In the words of a method: the fields are the value, and a row was read and written at its place.
+-- In the words of a method: the fields are the value, and a stream was read and written at its place.
 pub record Wrote (t old : TableContent) (s : Stream) (slot k : ℕ) (read r : StreamContent) : Type 0 where
   pub is : t ≡ old
   pub few : length t.pages ≤ PAGES
@@ -145,7 +145,7 @@ module _ {t old : TableContent} {s : Stream} {slot k : ℕ} {read r : StreamCont
   pub in_size : length (set t.streams k r) ≡ 288
   in_size = length-set t.streams k r ∙ w.size
 
-  -- the row holds the same, and the pages stay
+  -- the stream holds the same, and the pages stay
   module _ (same : SameStreamPlaces read r) where
     kept : (a b : ℕ) → SameStreamPlaces (stream_in t.streams a b) (stream_in (set t.streams k r) a b)
     kept a b = subst (λ streams. SameStreamPlaces (stream_in t.streams a b) (stream_in streams a b)) (sym rows_are) (set_same t.streams (slot_of t.pages s.page) s.source r there (subst (λ x. SameStreamPlaces x r) read_is same) a b)

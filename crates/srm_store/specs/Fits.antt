@@ -1,4 +1,4 @@
--- A store fits the drawops that were inserted, the names that were shown to exist, and the members that were settled:
+-- A store fits the drawops that were inserted, the names that there was evidence of, and the members that were settled:
 -- all that it holds and knows is what the definitions say of them.
 use Rattle.std.specs.Prelude.{◌≡◌, ℕ, ◌<◌, true, List}
 use Rattle.srm_names.specs.declared.limits.TheConstants.{MEMBERS}

@@ -1,4 +1,4 @@
--- What is held, known, missing and released, where these drawops were inserted and these names were shown to exist.
+-- What is held, known, missing and released, where these drawops were inserted and there was evidence of these names.
 use Rattle.std.specs.Prelude.{ℕ, ◌+◌, ◌-◌, nat_lt, nat_le, ◌==◌, Bool, not, ◌&&◌, List, [], ◌∷◌, ◌++◌, length, map, filter, find, if◌then◌else◌, Option, Some, None}
 use Rattle.std.specs.List.{flat_map, list_any}
 use Rattle.std.specs.Str.{bytes_eq}
@@ -37,7 +37,7 @@ number_in s n = if same_stream s n.stream then n.number ∷ [] else []
 abbrev pub greatest_in : List FullName → Stream → ℕ
 greatest_in names s = greatest (flat_map (number_in s) names)
 
--- the greatest number of the stream that was shown to exist
+-- the greatest number of the stream of which there was evidence
 abbrev pub known : List FullName → Stream → ℕ
 known evidence s = greatest_in evidence s
 

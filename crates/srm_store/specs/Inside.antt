@@ -25,7 +25,7 @@ pub record StreamIsRight (stream : StreamInside) : Type 0 where
 abbrev pub table_of : TableInside → TableContent
 table_of table = record { pages = table.pages.items; streams = table.streams.items }
 
--- There is a slot for each page and room for as many as a table has; the rows behind the last page are blank.
+-- There is a slot for each page and room for as many as a table has; the streams behind the last page are blank.
 pub record TableIsRight (table : TableInside) : Type 0 where
   pub few : length table.pages.items ≤ PAGES
   pub room : PAGES ≤ vec_capacity table.pages

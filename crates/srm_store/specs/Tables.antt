@@ -1,4 +1,4 @@
--- The rows of all streams: which row is a stream's, and how calls change what is in it.
+-- The streams of a table: where each stands, and how calls change what is in it.
 use Rattle.std.specs.Prelude.{◌≡◌, ℕ, ◌+◌, ◌*◌, ◌<◌, ◌≤◌, max, true, false, Bool, not, ◌&&◌, List, [], ◌∷◌, ◌++◌, slice_index_or, if◌then◌else◌, Option}
 use Rattle.std.specs.List.{list_any}
 use Rattle.srm_names.specs.declared.limits.TheConstants.{MEMBERS, PAGES}
@@ -58,11 +58,11 @@ pub record TableLearns (n : FullName) (old new : TableContent) : Type 0 where
   pub stream : places_of_stream new n.stream ≡ record (places_of_stream old n.stream) { known = max (places_of_stream old n.stream).known n.number }
   pub others : (s : Stream) → s.source < MEMBERS → same_stream s n.stream ≡ false → SameStreamPlaces (places_of_stream old s) (places_of_stream new s)
 
--- the first slot that no row of the page can have
+-- the first slot that no stream of the page can have
 abbrev pub slots_end : List Page → Page → ℕ
 slots_end pages p = if is_in pages p then slot_of pages p + 1 else PAGES
 
--- wherever the row of the name is, or comes to be, there is a place for its drawop
+-- wherever the stream of the name is, or comes to be, there is a place for its drawop
 pub record HasPlaceFor (n : FullName) (t : TableContent) : Type 0 where
   pub each : (slot : ℕ) → slot_of t.pages n.stream.page ≤ slot → slot < slots_end t.pages n.stream.page → has_place (stream_in t.streams slot n.stream.source).places n.number ≡ true
 

@@ -1,7 +1,7 @@
 //! What a member holds of each stream, what it knows to exist, what is missing, and how far each stream may be released.
 //!
-//! Contracts speak of the calls so far: a store *fits* the drawops that were inserted, the names that were shown to
-//! exist and the members that were settled where all that it holds and knows is what the definitions in `specs/` say of
+//! Contracts speak of the calls so far: a store *fits* the drawops that were inserted, the names that there was evidence
+//! of and the members that were settled where all that it holds and knows is what the definitions in `specs/` say of
 //! these lists. It keeps no history.
 //!
 //! ```

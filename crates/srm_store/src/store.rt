@@ -25,7 +25,7 @@ use std::marker::Model;
 /// What a member holds and knows: the first drawop of each name that was inserted, how far each stream is known to
 /// exist, and how far the streams of those that left go.
 ///
-/// It has rows for at most eight pages: the first page from the start, each further one once it is named.
+/// It has streams on at most eight pages: the first page from the start, each further one once it is named.
 #[derive(Drop)]
 pub struct Store {
     alloc: Global,

@@ -1,4 +1,4 @@
-//! The row of a stream.
+//! The places of a stream.
 
 ghost use Rattle.std.specs.Prelude.{◌≡◌, ◌≤◌, ◌+◌, ◌++◌, true, is_some, max, OnOk, IfOk, OnErr, IsOk, Some, None, if◌then◌else◌, vec_len, vec_capacity};
 ghost use Rattle.std.specs.Option.{option_copied};

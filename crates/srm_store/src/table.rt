@@ -1,4 +1,4 @@
-//! The rows of all streams.
+//! The places of all streams.
 
 ghost use Rattle.std.specs.Prelude.{◌≡◌, ◌≢◌, ◌≤◌, ◌<◌, ◌+◌, ◌*◌, ◌↔◌, nat_le, OnOk, IsOk, IfOk, OnErr, IsErr, [], length, map, take, vec_capacity};
 ghost use Rattle.srm_store.specs.Held.{insert_answer, names_after, page_of_name};
@@ -13,17 +13,17 @@ use srm_names::{DRAWOPS, Drawop, MEMBERS, Member, Name, PAGES, Page, Stream};
 use std::alloc::{AllocError, Global};
 use std::marker::Model;
 
-/// Rows in the table: one for each source in each slot, and one more of each, which are never written and answer for
+/// Streams in the table: one for each source in each slot, and one more of each, which are never written and answer for
 /// pages that have no slot.
 const STREAMS: usize = (PAGES as usize + 1) * MEMBERS as usize;
 
-/// The rows of all streams, by page slot and source. A row is found by looking through the pages, of which there are at
-/// most [`PAGES`], and by its place.
+/// The places of all streams, by page slot and source. Those of a stream are found by looking through the pages, of which there are at
+/// most [`PAGES`], and by its source.
 #[derive(Drop)]
 pub struct Table {
     /// The pages by slot, in the order in which they were named.
     pages: Vec<Page>,
-    /// The rows, slot after slot. Those behind the last page are blank.
+    /// The streams, slot after slot. Those behind the last page are blank.
     streams: Vec<StreamPlaces>,
 }
 
@@ -77,7 +77,7 @@ impl Table {
         Ok(slot)
     }
 
-    /// The row of a stream. That of a page without a slot is blank.
+    /// The places of a stream. Those on a page without a slot are blank.
     pub fn places_of_stream(&self, stream: Stream) -> &StreamPlaces
         ensures value { result.now ≡ places_of_stream self.now stream }
         ensures source { stream.source < MEMBERS }
@@ -145,7 +145,7 @@ impl Table {
         all
     }
 
-    /// Makes a place for the drawop of a name, wherever its row is or comes to be: a page without a slot may get any of
+    /// Makes a place for the drawop of a name, wherever its stream is or comes to be: a page without a slot may get any of
     /// those that are left.
     pub fn make_places(&mut self, name: Name) -> Result<(), AllocError>
         ensures same { SameTable self.old self.new }
@@ -168,7 +168,7 @@ impl Table {
     }
 }
 
-/// The place of a row.
+/// The index of a stream.
 fn place(slot: usize, source: Member) -> usize
     requires { slot ≤ PAGES }
     ensures value { result ≡ slot * MEMBERS + source }

@@ -1,4 +1,4 @@
--- Arms: their ends, their ignore moments, with which setting they are made, and how their waits are drawn.
+-- Arms: their ends, their ignore moments, on which basis they are made, and how their waits are chosen.
 use Rattle.std.specs.Prelude.{◌≡◌, ℕ, ◌==◌, ◌+◌, ◌-◌, ◌*◌, ◌/◌, ◌%◌, ◌^◌, ◌<◌, ◌≤◌, min, nat_le, Bool, true, false, ◌||◌, List, [], ◌∷◌, map, find, if◌then◌else◌, Option, Some, None, option_map, IsNone, IfSome}
 use Rattle.std.specs.List.{AllByRecursion}
 use Rattle.srm_names.specs.declared.limits.TheConstants.{MEMBERS}
@@ -77,7 +77,7 @@ pub record AreAsks (arms : List Arm) : Type 0 where
 pub record AreFixes (arms : List Arm) : Type 0 where
   pub each : AllByRecursion IsFix arms
 
--- the arms have exactly these settings, by name, and stand in order of name
+-- the arms have exactly these bases, by name, and stand in order of name
 pub record ArmsAre (bases : FullName → Option WaitBasis) (arms : List Arm) : Type 0 where
   pub in_order : ascending name_below (arm_names arms) ≡ true
   pub exact : (n : FullName) → option_map wait_basis (arm_of n arms) ≡ bases n
@@ -86,14 +86,14 @@ pub record ArmsAre (bases : FullName → Option WaitBasis) (arms : List Arm) : T
 pub record AreOfMembers (arms : List Arm) : Type 0 where
   pub each : AllByRecursion (λ a. a.name.stream.source < MEMBERS) arms
 
--- the ends of the interval from which the wait of an arm is drawn, by the two settings of its kind
+-- the ends of the range from which the wait of an arm is chosen, by the two settings of its kind
 abbrev pub low_of : ℕ → Arm → ℕ
 low_of first a = 2 ^ a.exponent * first * a.distance
 
 abbrev pub high_of : ℕ → ℕ → Arm → ℕ
 high_of first second a = 2 ^ a.exponent * (first + second) * a.distance
 
--- The waits of the arms are drawn from a source, one word an arm, in order, each between its ends; `to` is the source after them.
+-- The waits of the arms are chosen by words of a source, one word an arm, in order, each between its ends; `to` is the source after them.
 abbrev pub AreChosen : {W : Type 0} → (W → ℕ × W) → (low high : Arm → ℕ) → W → List Arm → W → Type 0
 AreChosen next_word low high from [] to = to ≡ from
 AreChosen next_word low high from (a ∷ arms) to = (a.wait ≡ low a + (next_word from).0 % (high a - low a + 1)) × AreChosen next_word low high (next_word from).1 arms to

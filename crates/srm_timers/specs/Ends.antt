@@ -12,7 +12,7 @@ use Rattle.srm_timers.specs.Arms.{arm_of, runs_out_at}
 use Rattle.srm_timers.specs.Timers.{armed_at}
 use Rattle.srm_deadlines.specs.Places.{value_at, has_place}
 
--- what an Ends keeps
+-- what an Expiries keeps
 pub record ExpiryContent : Type 0 where
   pub places : List (NamedValue ℕ)
   -- so many can be set in one call without memory

@@ -81,7 +81,7 @@ repair_high = refl
 doubled_high : high_of 2 3 (ask 1 1 100000 0) ≡ 1000000
 doubled_high = refl
 
--- the last word of the interval, and the one past it
+-- the last word of the range, and the one past it
 chosen_in_order : AreChosen next_listed (low_of 2) (high_of 2 2) (200000 ∷ 200001 ∷ 7 ∷ []) (ask 1 0 100000 400000 ∷ ask 2 0 100000 200000 ∷ []) (7 ∷ [])
 chosen_in_order = (refl, (refl, refl))
 

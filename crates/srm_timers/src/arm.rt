@@ -29,7 +29,7 @@ pub struct Arm {
     pub name: Name,
     /// How often the wait was doubled: 0 to 8, and 0 for a repair.
     pub exponent: u8,
-    /// The distance that the wait is drawn by, in microseconds.
+    /// The distance by which the wait is chosen, in microseconds.
     pub distance: u64,
     /// Microseconds from when the timer was set until it runs out.
     pub wait: u64,

@@ -371,7 +371,7 @@ impl<D: Deadlines> Asks<D> {
         exponent_after(self.timers.get(name))
     }
 
-    /// Draws the wait of an arm, by one word. No timer is set.
+    /// Chooses the wait of an arm, by one word. No timer is set.
     pub fn arm<W: Words>(&self, name: Name, exponent: u8, distance: u64, words: &mut W) -> Arm
         requires exponent { exponent ≤ GREATEST_EXPONENT }
         requires distance { distance ≤ LONGEST_DISTANCE }

@@ -295,7 +295,7 @@ impl<D: Deadlines> Fixes<D> {
         self.marks.note(name, from);
     }
 
-    /// Draws the wait of an arm, by one word. No timer is set.
+    /// Chooses the wait of an arm, by one word. No timer is set.
     pub fn arm<W: Words>(&self, name: Name, distance: u64, words: &mut W) -> Arm
         requires { distance ≤ LONGEST_DISTANCE }
         ensures plan { plan_of result ≡ fix_plan name distance }

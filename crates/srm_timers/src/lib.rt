@@ -13,7 +13,7 @@
 //! ```
 //!
 //! [`Fixes`] answers requests in the same way. All times are microseconds; words are 64 bits each, one for each timer that is
-//! set. **What is refused**: want of memory alone, `AllocError`, before any word is drawn; after `room` for its names a
+//! set. **What is refused**: want of memory alone, `AllocError`, before any word is used; after `room` for its names a
 //! call isn't.
 #![tactic(auto)]
 

@@ -1,4 +1,4 @@
-//! Words that waits are drawn from.
+//! Words by which waits are chosen.
 
 ghost use Rattle.std.specs.Prelude.{◌≡◌, ℕ, ◌+◌, ◌-◌, ◌%◌, ◌≤◌, ◌<◌, ◌^◌};
 

@@ -13,7 +13,7 @@ use std::process::Abort;
 enum Step {
     /// A member asks at this moment, number 1 being held or not, and sets no timer.
     Unanswered(u8, bool, u64),
-    /// A member asks at this moment for number 1, which is held. The timer is drawn by a distance, with a wait.
+    /// A member asks at this moment for number 1, which is held. The timer is set by a distance, with a wait.
     Answered(u8, u64, u64, u64),
     /// A repair of another is heard.
     Repair(u64),

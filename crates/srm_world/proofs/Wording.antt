@@ -1,4 +1,4 @@
--- The words by which the waits of a run were drawn, over one more entry and over several steps.
+-- The words by which the waits of a run were chosen, over one more entry and over several steps.
 use Rattle.std.proofs.Common.{◌≡◌, ◌≢◌, ℕ, zero, suc, ◌<◌, get_or, List, [], ◌∷◌, ◌++◌, length, refl, ap, sym, ◌∙◌, subst, inl, inr, arith, append_assoc, eq-eqb}
 use Rattle.std.specs.Prelude.{◌⊎◌, Some, option_map, slice_get, slice_set, cond, Option}
 use Rattle.std.proofs.lemmas.Bool.{cases_eq, ne_eqb}

@@ -59,7 +59,7 @@ pub record GoesOn {W : Type 0} (next_word : W → ℕ × W) (now : Option ℕ) (
   pub adds : (c : Config) (made : ℕ) (past : List Entry) → Fits c made past old → Adds c made past now new e
   pub words : AreChosen next_word (low_of old.agent.config) (high_of old.agent.config) old.agent.words e.effects.arms new.agent.words
 
--- whatever entries the member fitted, it still fits, and no word was drawn
+-- whatever entries the member fitted, it still fits, and no word was used
 pub record Stays {W : Type 0} (old new : Content W) : Type 0 where
   pub fits : (c : Config) (made : ℕ) (past : List Entry) → Fits c made past old → Fits c made past new
   pub words : new.agent.words ≡ old.agent.words

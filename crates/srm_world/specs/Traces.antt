@@ -48,7 +48,7 @@ drawn_by es source page = drawn_on page (of_member source es)
 abbrev pub taken_by : List Entry → ℕ → ℕ → List PageMsg
 taken_by es m j = taken (of_member m es) j
 
--- each datagram that was heard and taken had been sent before
+-- each datagram that was heard and accepted had been sent before
 abbrev pub IsHonest : List Entry → Type 0
 IsHonest es = AllByRecursion (λ (s : Step Entry). IfSome (accepted s.this) (Contains (sent s.before))) (steps es)
 

@@ -1,4 +1,4 @@
--- By which words the waits of a run were drawn.
+-- By which words the waits of a run were chosen.
 use Rattle.std.specs.Prelude.{◌≡◌, ℕ, List, ◌++◌, length, map, flat_map, Some, slice_get}
 use Rattle.srm_timers.specs.declared.arm.Arm.{Arm}
 use Rattle.srm_timers.specs.Arms.{AreChosen}
@@ -22,7 +22,7 @@ pub record WorldView (W : Type 0) : Type 0 where
 abbrev pub arms_in : List Entry → List Arm
 arms_in es = flat_map (λ (e : Entry). e.effects.arms) es
 
--- In these entries of a member the waits are by the next words of its source, one word a timer, in order. No other word is drawn.
+-- In these entries of a member the waits are by the next words of its source, one word a timer, in order. No other word is used.
 abbrev pub AreByWords : {W : Type 0} → (W → ℕ × W) → Config → W → List Entry → W → Type 0
 AreByWords next_word c from es to = AreChosen next_word (low_of c) (high_of c) from (arms_in es) to
 

@@ -62,7 +62,7 @@ pub record Skips {W : Type 0} (old new : List (Content W)) (sents more : List Ou
   pub same : new ≡ old
   pub sent : more ≡ sents
 
--- nothing was sent, no word was drawn, and the members fit what they did
+-- nothing was sent, no word was used, and the members fit what they did
 pub record KeepsParticipants {W : Type 0} (old new : List (Content W)) (sents more : List Out) : Type 0 where
   pub fits : (starts : List Start) (es : List Entry) → AllFit starts old es → AllFit starts new es
   pub words : words_of new ≡ words_of old

@@ -13,7 +13,7 @@ use std::marker::Model;
 #[derive(Drop)]
 pub struct SentDatagrams {
     earlier: Vec<Out>,
-    /// What the last tick sent. It is settled before the next event, when a refusal of memory still changes nothing.
+    /// What the last tick sent. It joins what was sent before at the next event, when a refusal of memory still changes nothing.
     newest: Vec<Out>,
 }
 

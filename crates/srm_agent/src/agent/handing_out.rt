@@ -15,7 +15,7 @@ use std::alloc::AllocError;
 
 impl<W: Words + Drop> Agent<W> {
     /// Hands out what is due: its timers are set again, or gone. Answers the timers that were set, and once more for the entry, where
-    /// that is noted. Only want of memory refuses it, and then no timer has changed and no word was drawn.
+    /// that is noted. Only want of memory refuses it, and then no timer has changed and no word was used.
     pub(super) fn hand_out(
         &mut self,
         due: &HandedOut,

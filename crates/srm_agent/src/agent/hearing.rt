@@ -23,7 +23,7 @@ use srm_timers::Words;
 use std::alloc::AllocError;
 
 impl<W: Words + Drop> Agent<W> {
-    /// Hears bytes that came from another member. The datagram that they spell is taken, or ignored with the first cause that
+    /// Hears bytes that came from another member. The datagram that they spell is accepted, or ignored with the first cause that
     /// holds; bytes that spell none are noise, as all bytes are to a member that is gone. What is ignored changes nothing but
     /// the last moment.
     ///

@@ -1,4 +1,4 @@
-//! Whether a datagram is taken.
+//! Whether a datagram is accepted.
 
 ghost use Rattle.std.specs.Prelude.{◌≡◌, ◌||◌, ◌&&◌, ◌==◌, nat_lt, nat_le, ℕ, List, [], ◌∷◌, Some, None, false};
 ghost use Rattle.std.specs.List.{list_any};
@@ -54,7 +54,7 @@ impl Findings {
 }
 
 impl<W: Words + Drop> Agent<W> {
-    /// The first cause to ignore a datagram with these names, where the member isn't gone. `None` where it is taken.
+    /// The first cause to ignore a datagram with these names, where the member isn't gone. `None` where it is accepted.
     pub(super) fn cause_to_ignore(&self, datagram: &Datagram, names: &[Name]) -> Option<Cause>
         requires here { is_gone self.now.state ≡ false }
         requires names { names.now ≡ names_in datagram.now }

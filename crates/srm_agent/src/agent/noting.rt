@@ -63,7 +63,7 @@ fn verdict_by(outcome: Outcome) -> Verdict
     }
 }
 
-/// What hearing a datagram that was taken did, with these timers, and these once more.
+/// What hearing a datagram that was accepted did, with these timers, and these once more.
 pub(super) fn accepted(arms: Vec<Arm>, copies: Vec<Arm>) -> Hearing
     ensures heard { result.heard ≡ record { arms = arms.items; outcome = Taken } }
     ensures noted { result.noted ≡ copies.items }

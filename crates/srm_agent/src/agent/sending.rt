@@ -19,7 +19,7 @@ use std::alloc::AllocError;
 use std::collections::VecDeque;
 
 impl<W: Words + Drop> Agent<W> {
-    /// Makes room for so many answers, for all that may go after them, and for the message that ends the tick. Only want of
+    /// Makes room for so many requests and repairs, for all that may go after them, and for the message that ends the tick. Only want of
     /// memory refuses it; nothing that waits changes.
     pub(super) fn room_to_go(&mut self, due_items: usize) -> Result<Went, AllocError>
         ensures rest { self.new ≡ record self.old { bucket = self.new.bucket } }
@@ -35,7 +35,7 @@ impl<W: Words + Drop> Agent<W> {
         Ok(went)
     }
 
-    /// Hands in answers, and lets go what may go at a moment. It takes no memory.
+    /// Hands in requests and repairs, and lets go what may go at a moment. It takes no memory.
     pub(super) fn send(&mut self, due_items: VecDeque<DueItem>, went: Went, moment: u64) -> Went
         requires moment { moment ≤ LATEST_MOMENT }
         requires empty { NothingWent went }
@@ -98,7 +98,7 @@ fn last_report(
     if waits { report } else { farewell.or(report) }
 }
 
-/// How many datagrams go in a tick at most, with so many answers and the message that ends it; `None` where that is more than is
+/// How many datagrams go in a tick at most, with so many requests and repairs and the message that ends it; `None` where that is more than is
 /// counted.
 fn most_to_go(bucket: &Bucket<Outgoing>, due_items: usize) -> Option<usize>
     ensures { IfSome result (λ count. count ≡ count_of bucket.now.waiting + due_items + 1) }

@@ -77,7 +77,7 @@ pub(super) fn write_datagrams<W: Write>(
     Ok(())
 }
 
-/// A tick and its line for each thing that happens at a member by itself.
+/// A notch and its line for each thing that happens at a member by itself.
 pub(super) fn write_ticks<W: Write>(
     alloc: Global,
     out: &mut W,

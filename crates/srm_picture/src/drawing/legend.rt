@@ -51,7 +51,7 @@ text.session { fill: #9a4a77 }
 </defs>
 ";
 
-/// The four kinds, the cross, the brackets and the ticks.
+/// The four kinds, the cross, the brackets and the notches.
 const LEGEND: &[u8] = b"<path class=\"guide\" d=\"M0 -22H660\"/>
 <g class=\"arrow data\"><path class=\"way taken\" d=\"M0 0H44\"/></g><text x=\"54\" y=\"4\">data</text>
 <g class=\"arrow request\"><path class=\"way taken\" d=\"M120 0H164\"/></g><text x=\"174\" y=\"4\">request</text>
