@@ -1,5 +1,5 @@
 -- What names datagrams, which datagrams have a spelling, and the one spelling of each.
-use Rattle.std.specs.Prelude.{◌≡◌, ℕ, zero, suc, ◌+◌, ◌*◌, ◌^◌, ◌<◌, ◌≤◌, ◌/◌, ◌%◌, ◌==◌, Bool, true, false, List, [], ◌∷◌, ◌++◌, length, map, nat_lt, slice_index, if◌then◌else◌}
+use Rattle.std.specs.Prelude.{◌≡◌, ℕ, zero, suc, ◌+◌, ◌*◌, ◌^◌, ◌<◌, ◌≤◌, ◌/◌, ◌%◌, ◌==◌, Bool, true, false, List, [], ◌∷◌, ◌++◌, length, map, nat_lt, slice_index, if◌then◌else◌, Option, Some, None}
 use Rattle.std.specs.List.{flat_map, AllByRecursion}
 use Rattle.std.specs.Int.{w16, w32, w64, to_be_bytes}
 use Rattle.srm_names.specs.declared.limits.TheConstants.{MEMBERS, DRAWOPS, LONGEST_BODY, LATEST_MOMENT}
@@ -45,6 +45,12 @@ names_in (Data drawop) = drawop.name ∷ []
 names_in (Request sender name mask) = asked_by name mask
 names_in (Repair sender drawop) = drawop.name ∷ []
 names_in (Session sender sent farewell shown rows echoes) = rows
+
+-- the name of what has one alone by its kind: of data and of a repair
+abbrev pub sole_name : Datagram → Option FullName
+sole_name (Data drawop) = Some drawop.name
+sole_name (Repair sender drawop) = Some drawop.name
+sole_name _ = None
 
 -- what has a spelling
 abbrev pub is_page : Page → Type 0

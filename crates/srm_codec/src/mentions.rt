@@ -2,7 +2,7 @@
 
 ghost use Rattle.std.specs.Prelude.{◌≡◌, [], ◌∷◌, IfOk, IfSome};
 ghost use Rattle.std.specs.List.{AllByRecursion};
-ghost use Rattle.srm_codec.specs.Spelling.{names_in, asked_by, is_name, IsSpellable};
+ghost use Rattle.srm_codec.specs.Spelling.{names_in, asked_by, is_name, IsSpellable, sole_name};
 
 use crate::datagram::Datagram;
 use crate::format::MASK_BITS;
@@ -21,9 +21,10 @@ pub fn names_in(alloc: Global, datagram: &Datagram) -> Result<Vec<Name>, AllocEr
     }
 }
 
-/// The name of a datagram that has one alone.
+/// The name of data and of a repair, which have one alone. A request may have more, so it has none here, nor has a session message.
 pub fn only_name(datagram: &Datagram) -> Option<Name>
-    ensures { IfSome result (λ name. names_in datagram.now ≡ name ∷ []) }
+    ensures value { result ≡ sole_name datagram.now }
+    ensures alone { IfSome result (λ name. names_in datagram.now ≡ name ∷ []) }
 {
     match datagram {
         Datagram::Data(drawop) | Datagram::Repair { drawop, .. } => Some(drawop.name),
