@@ -83,7 +83,7 @@ pub ignored_judged : {W : Type 0} (a : Content W) (moment : ℕ) (g : Datagram) 
     → ((c : Config) (made : ℕ) (past : List Entry) → Fits c made past a → ignored_for o ≡ verdict_of c past (Heard g)) → e ≡ ignored_entry a moment (Heard g) cause → IsJudgedBy g a e
 ignored_judged a moment g cause o e found judged is = record { each = λ c made past h. ap (λ (x : Entry). x.verdict) is ∙ ap ignored_for (sym found) ∙ judged c made past h }
 
--- a datagram with no cause to ignore it is taken, and what is done with it is as judged
+-- a datagram with no cause to ignore it is accepted, and what is done with it is as judged
 pub accepted_at_none : {W : Type 0} (a : Content W) (g : Datagram) (o : Option Cause) → o ≡ None → ((c : Config) (made : ℕ) (past : List Entry) → Fits c made past a → ignored_for o ≡ verdict_of c past (Heard g)) → IsAllowed (Heard g) a
 accepted_at_none a g o none judged = record { each = λ c made past h. sym (judged c made past h) ∙ ap ignored_for none }
 

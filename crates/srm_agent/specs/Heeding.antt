@@ -42,7 +42,7 @@ abbrev pub carrying : Option ℕ → Drawop → Datagram
 carrying None drawop = Data drawop
 carrying (Some repairer) drawop = Repair repairer drawop
 
--- a member may take a datagram with these names at this moment: it isn't gone, and the table has room for their pages
+-- a member may accept a datagram with these names at this moment: it isn't gone, and the table has room for their pages
 pub record MayAccept {W : Type 0} (datagram : Datagram) (names : List FullName) (moment : ℕ) (a : Content W) : Type 0 where
   pub here : is_gone a.state ≡ false
   pub spelled : IsSpellable datagram
@@ -62,7 +62,7 @@ entry_with me moment input state heard = record {
   effects = record { drawn = None; arms = heard.arms; asks = []; fixes = []; outs = []; message = None; state = state };
 }
 
--- the entry in which a datagram was heard and taken
+-- the entry in which a datagram was heard and accepted
 abbrev pub heard_entry : ℕ → ℕ → Datagram → List Arm → AgentState → Entry
 heard_entry me moment datagram arms state = entry_with me moment (Heard datagram) state (record { arms = arms; outcome = outcomes.Taken })
 

@@ -27,7 +27,7 @@ pub fn is_ended(after: AgentState, feeds: &[Feed], closed: &[bool]) -> bool
     gone & are_done(feeds, closed)
 }
 
-// Whether each feed is lost, or put its close.
+// Whether each feed is disconnected, or put its close.
 fn are_done(feeds: &[Feed], closed: &[bool]) -> bool
     requires { closed.now ≡ map has_closed feeds.now }
     ensures { result ≡ list_all has_nothing_more feeds.now }

@@ -114,7 +114,7 @@ fn spell(
     })
 }
 
-/// How many bytes an datagram has: at most those of a full datagram.
+/// How many bytes a datagram has: at most those of a full datagram.
 fn length_in_bytes(datagram: &Datagram, me: &Member) -> u32
     requires { MayHandIn me.now datagram.now }
     ensures value { result ≡ length_of datagram.now }
@@ -135,7 +135,7 @@ fn page_of(datagram: &Datagram) -> Option<Page>
     }
 }
 
-/// The class of an datagram for a page, while a page is shown.
+/// The class of a datagram for a page, while a page is shown.
 fn class_for(showing: &Page, page: &Option<Page>) -> Class
     ensures { result ≡ class_for showing.now page.now }
 {

@@ -30,7 +30,7 @@ pub zeros_length : length zeros ≡ BOARD_REGISTERS
 unfolding zeros
 zeros_length = length-replicate {A = ℕ} BOARD_REGISTERS 0
 
--- a list that is at most the words stays so when a word grows
+-- a list that is at most the registers stays so when a register grows
 grown : (xs words : List ℕ) (i n : ℕ) → i < length words → get_or words i 0 ≤ n → ((k : ℕ) → get_or xs k 0 ≤ get_or words k 0) → (k : ℕ) → get_or xs k 0 ≤ get_or (set words i n) k 0
 grown xs words i n inside less bound k =
     dite (ℕ_discrete k i)
@@ -75,7 +75,7 @@ begins = record {
   };
 }
 
--- the tap of a slot raises one of its words
+-- the tap of a slot raises one of its registers
 pub raises : (slots id word n : ℕ) (m : Me ℕ BoardView) → m.0.taps ≡ true → word / STRIDE ≡ m.0.slot → word < BOARD_REGISTERS → get_or m.0.seen word 0 ≤ n → (word % STRIDE ≢ 0 → n < 2 ^ 32) → CountsPosted (set m.0.seen word n) m.0.slot
     → Allows BoardState slots id m word (λ _. n) (λ _. Raised (step slots word n 0 none) m n)
 raises slots id word n m taps mine inside more narrow order s h _ at _ =
@@ -120,7 +120,7 @@ raises slots id word n m taps mine inside more narrow order s h _ at _ =
       (refl, get_or-set_same v.seen word n 0 in_seen),
     )
 
--- whoever has a seat looks at a word
+-- whoever has a seat looks at a register
 pub looks : (slots id word : ℕ) (m : Me ℕ BoardView) → word < BOARD_REGISTERS → Allows BoardState slots id m word (λ n. n) (Looked (step slots word 0 0 none) m)
 looks slots id word m inside s h _ at _ =
     let v = m.0 in
@@ -211,10 +211,10 @@ watches id v s h at =
           (snoc_cases (set s.views id v) looking u j e);
     }
 
--- a word of the board lies in the table
+-- a register of the board lies in the table
 pub inside_table : (seat table : TableId) (word : ℕ) → seat ≡ table → seat.words ≡ BOARD_REGISTERS → word < BOARD_REGISTERS → word < table.words
 inside_table seat table word same words small = subst (λ (z : TableId). word < z.words) same (subst (λ n. word < n) (sym words) small)
 
--- which has words
+-- which has registers
 pub has_words : (seat table : TableId) → seat ≡ table → seat.words ≡ BOARD_REGISTERS → 0 < table.words
 has_words seat table same words = inside_table seat table 0 same words (lit< tt)

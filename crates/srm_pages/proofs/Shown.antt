@@ -1,4 +1,4 @@
--- What the words of a slot show is among what its count has.
+-- What the registers of a slot show is among what its count has.
 use Rattle.std.proofs.Common.{◌≡◌, ◌≢◌, ℕ, zero, suc, ◌+◌, ◌-◌, ◌*◌, ◌/◌, ◌<◌, ◌≤◌, true, true≢false, List, [], ◌∷◌, ◌++◌, length, Option, Some, None, get_or, set, sym, refl, ap, ◌∙◌, subst, arith, get_or-set_other, get_or-set_same}
 use Rattle.std.specs.List.{cons_option}
 use mathlib.Core.Logic.{dite}
@@ -27,14 +27,14 @@ total_more f g k (suc n) others one =
     omega arith)
     (λ (ne : n ≢ k). let before = total_more f g k n others one in let last = others n ne in omega arith)
 
--- the words of a slot stand side by side
+-- the registers of a slot stand side by side
 pub of_slot : (slot member : ℕ) → member < MEMBERS → number_register slot member / STRIDE ≡ slot
 of_slot slot member small = omega arith
 
 pub count_of_slot : (slot : ℕ) → count_register slot / STRIDE ≡ slot
 count_of_slot slot = omega arith
 
--- words that are alike in a slot
+-- registers that are alike in a slot
 pub order_alike : (xs ys : List ℕ) (slot : ℕ) → ((i : ℕ) → i / STRIDE ≡ slot → get_or xs i 0 ≡ get_or ys i 0) → CountsPosted xs slot → CountsPosted ys slot
 unfolding drawops_posted
 order_alike xs ys slot alike was =
@@ -53,7 +53,7 @@ stored_rises [] i n more = omega arith
 stored_rises (x ∷ xs) zero n more = more
 stored_rises (x ∷ xs) (suc i) n more = stored_rises xs i n more
 
--- the word that counts takes stands before those that show drawops
+-- the register that counts takes stands before those that show drawops
 pub apart : (slot member : ℕ) → count_register slot ≢ number_register slot member
 apart slot member e = omega arith
 

@@ -10,7 +10,7 @@ use Rattle.srm_pages.specs.declared.board.BoardView.{BoardView}
 abbrev pub board_view : Bool → ℕ → Bool → ℕ → List ℕ → BoardView
 board_view taps slot deals next seen = record { taps = taps; slot = slot; deals = deals; next = next; seen = seen }
 
--- the word of a slot that counts the messages taken, and the word that has the number of a member's last drawop
+-- the register of a slot that counts the messages taken, and the register that has the number of a member's last drawop
 abbrev pub count_register : ℕ → ℕ
 count_register slot = slot * STRIDE
 
@@ -22,15 +22,15 @@ abbrev pub total : (ℕ → ℕ) → ℕ → ℕ
 total f zero = 0
 total f (suc n) = total f n + f n
 
--- how many drawops the words of a slot show, of all members together
+-- how many drawops the registers of a slot show, of all members together
 unfoldable pub drawops_posted : List ℕ → ℕ → ℕ
 drawops_posted words slot = total (λ member. slice_index words (number_register slot member)) MEMBERS
 
--- the words of a slot show no more drawops than its count has messages behind the first, which opened the page; so the count is raised first
+-- the registers of a slot show no more drawops than its count has messages behind the first, which opened the page; so the count is raised first
 abbrev pub CountsPosted : List ℕ → ℕ → Type 0
 CountsPosted words slot = drawops_posted words slot ≤ slice_index words (count_register slot) - 1
 
--- every word as it is at first
+-- every register as it is at first
 unfoldable pub zeros : List ℕ
 zeros = replicate BOARD_REGISTERS 0
 
@@ -41,11 +41,11 @@ dealer = board_view false 0 true 0 zeros
 abbrev pub looking : BoardView
 looking = board_view false 0 false 0 zeros
 
--- after the number n was seen in the word i, or stored there
+-- after the number n was seen in the register i, or stored there
 abbrev pub with_seen : BoardView → ℕ → ℕ → BoardView
 with_seen v i n = board_view v.taps v.slot v.deals v.next (slice_set v.seen i n)
 
--- What a seat has seen of a word is at most the word. The words of a slot are what the seat of its tap has. One seat deals, the first
+-- What a seat has seen of a register is at most the register. The registers of a slot are what the seat of its tap has. One seat deals, the first
 pub record FitsBoard (seat : ℕ → ℕ) (dealt : ℕ) (words : List ℕ) (id : ℕ) (v : BoardView) : Type 0 where
   pub sized : length v.seen ≡ BOARD_REGISTERS
   pub bound : (i : ℕ) → slice_index v.seen i ≤ slice_index words i
@@ -53,7 +53,7 @@ pub record FitsBoard (seat : ℕ → ℕ) (dealt : ℕ) (words : List ℕ) (id :
   pub exact : v.taps ≡ true → (i : ℕ) → i / STRIDE ≡ v.slot → slice_index v.seen i ≡ slice_index words i
   pub dealer : v.deals ≡ true → (id ≡ 0) × (v.next ≡ dealt)
 
--- The numbers of drawops fit a u32, a slot shows no more than it counts behind the first, and the words of slots that have no tap yet are 0
+-- The numbers of drawops fit a u32, a slot shows no more than it counts behind the first, and the registers of slots that have no tap yet are 0
 pub record IsBoardState (words : List ℕ) (views : List BoardView) : Type 0 where
   pub seat : ℕ → ℕ
   pub dealt : ℕ

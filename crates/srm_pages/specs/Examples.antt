@@ -15,7 +15,7 @@ use Rattle.srm_pages.specs.Board.{count_register, number_register, drawops_poste
 use Rattle.srm_pages.specs.Ends.{FeedView, TapView, LaneId, TookOrEnded, credit_of}
 use Rattle.srm_pages.specs.Ink.{strokes_of, SentIs}
 
--- The board has a word for each slot's count and one for each slot and member.
+-- The board has a register for each slot's count and one for each slot and member.
 all_words : BOARD_REGISTERS ≡ 264
 all_words = refl
 
@@ -143,7 +143,7 @@ module _ (lane : LaneId) (board : TableId) where
   more_seen : credit_of (feed 3 5) ≡ 64
   more_seen = refl
 
--- A take adds its message and may raise words of its seat. At the end, which is always Closed, nothing changes.
+-- A take adds its message and may raise registers of its seat. At the end, which is always Closed, nothing changes.
 module _ (lane : LaneId) (board : TableId) where
   abbrev tap : List PageMsg → List ℕ → TapView
   tap taken words = record { taken = taken; seat = words; slot = 0; lane = lane; board = board }

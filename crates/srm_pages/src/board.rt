@@ -17,14 +17,14 @@ pub const STRIDE: usize = 1 + MEMBERS as usize;
 /// How many registers there are.
 pub const BOARD_REGISTERS: usize = PAGES as usize * STRIDE;
 
-/// The word of a slot that counts the messages taken.
+/// The register of a slot that counts the messages taken.
 pub(crate) fn count_register(slot: u8) -> usize
     ensures { result ≡ count_register slot }
 {
     usize::from(slot) * STRIDE
 }
 
-/// The word of a slot that has the number of a member's last drawop.
+/// The register of a slot that has the number of a member's last drawop.
 pub(crate) fn number_register(slot: u8, member: Member) -> usize
     ensures { result ≡ number_register slot member }
 {
