@@ -1,13 +1,15 @@
 -- The names of a stream between two numbers, in order.
 use Rattle.std.proofs.Common.{◌≡◌, ℕ, ◌+◌, ◌<◌, ◌≤◌, max, inl, inr, Bool, true, false, ◌&&◌, ◌||◌, List, [], ◌∷◌, ◌++◌, refl, sym, ap, subst, ◌∙◌, arith}
 use Rattle.std.specs.Prelude.{◌==◌, nat_lt}
+use Rattle.std.proofs.Math.Bool.{or-false}
 use Rattle.std.proofs.lemmas.Bool.{and_parts, cases_lt}
 use Rattle.std.proofs.lemmas.Bool.Decides.{nat_tests}
 use Rattle.std.proofs.lemmas.List.Folds.{list_any-append}
 use Rattle.srm_names.specs.declared.stream.Stream.{Stream}
 use Rattle.srm_names.specs.FullName.{FullName}
 use Rattle.srm_names.specs.Names.{same_stream, same_name, stream_below, name_below, ascending, named, AreExactly, among}
-use Rattle.srm_names.proofs.Same.{same_name-itself}
+use Rattle.srm_names.proofs.Same.{same_name-is}
+use Rattle.srm_names.proofs.Rising.{ascending_joined}
 use Rattle.srm_names.specs.Between.{is_between}
 
 below_in_stream : (m n : FullName) → same_stream m.stream n.stream ≡ true → nat_lt m.number n.number ≡ true → name_below m n ≡ true
@@ -19,15 +21,7 @@ below_in_stream m n s lt = or (stream_below m.stream n.stream) (same_stream m.st
 
 -- one more name that is above all
 pub ascending-snoc : (xs : List FullName) (y : FullName) → ascending name_below xs ≡ true → ((m : FullName) → among xs m ≡ true → name_below m y ≡ true) → ascending name_below (xs ++ y ∷ []) ≡ true
-ascending-snoc [] y asc below = refl
-ascending-snoc (x ∷ []) y asc below = let k : name_below x y ≡ true = below x (ap (λ b. b || false) (same_name-itself x)) in rw k refl
-ascending-snoc (x ∷ z ∷ xs) y asc below =
-    let parts = and_parts (name_below x z) (ascending name_below (z ∷ xs)) asc in
-    rw parts.0 (ascending-snoc (z ∷ xs) y parts.1 (λ m h. below m (or (same_name m x) (among (z ∷ xs) m) h)))
-  where
-    or : (a b : Bool) → b ≡ true → (a || b) ≡ true
-    or true b e = refl
-    or false b e = e
+ascending-snoc xs y asc below = ascending_joined xs (y ∷ []) asc refl (λ m n h k. subst (λ z. name_below m z ≡ true) (sym (same_name-is n y (sym (or-false (same_name n y)) ∙ k))) (below m h))
 
 pub none_between : (s : Stream) (above : ℕ) (names : List FullName) → names ≡ [] → AreExactly (is_between s above (above + 1)) names
 none_between s above names e = subst (λ ns. AreExactly (is_between s above (above + 1)) ns) (sym e) (record { in_order = refl; exact = λ n. go n (same_stream n.stream s) })

@@ -2,7 +2,7 @@
 use Rattle.std.proofs.Common.{◌≡◌, ℕ, ◌<◌, ◌==◌, eq-eqb, Bool, true, false, ◌&&◌, ◌||◌, List, [], ◌∷◌, refl, ap, sym, ◌∙◌, subst, arith, inl, inr}
 use Rattle.std.specs.Prelude.{nat_lt, ◌⊎◌}
 use Rattle.std.specs.List.{list_any}
-use Rattle.std.proofs.lemmas.Bool.{and_from, cases_lt, cases_eq}
+use Rattle.std.proofs.lemmas.Bool.{and_from, cases_lt, cases_eq, false_from_ne_true}
 use Rattle.std.proofs.lemmas.Bool.Decides.{nat_tests}
 use Rattle.srm_names.specs.declared.page.Page.{Page}
 use Rattle.srm_names.specs.declared.stream.Stream.{Stream}
@@ -35,7 +35,7 @@ lex_then false eq more e f = rw (e, f) refl
 nat_lt_trans : (a b c : ℕ) → nat_lt a b ≡ true → nat_lt b c ≡ true → nat_lt a c ≡ true
 nat_lt_trans a b c h k = grind (arith, nat_tests)
 
-stream_below_trans : (a b c : Stream) → stream_below a b ≡ true → stream_below b c ≡ true → stream_below a c ≡ true
+pub stream_below_trans : (a b c : Stream) → stream_below a b ≡ true → stream_below b c ≡ true → stream_below a c ≡ true
 stream_below_trans a b c h k = grind (arith, nat_tests)
 
 name_below_trans : (a b c : FullName) → name_below a b ≡ true → name_below b c ≡ true → name_below a c ≡ true
@@ -60,7 +60,7 @@ not_below_itself : (n : FullName) → name_below n n ≡ true → ⊥
 not_below_itself n h = grind (arith, nat_tests)
 
 -- a name in front is below each that follows
-below_later : (m n : FullName) (ns : List FullName) → ascending name_below (m ∷ ns) ≡ true → list_any (same_name n) ns ≡ true → name_below m n ≡ true
+pub below_later : (m n : FullName) (ns : List FullName) → ascending name_below (m ∷ ns) ≡ true → list_any (same_name n) ns ≡ true → name_below m n ≡ true
 below_later m n [] h k = absurd (cc)
 below_later m n (x ∷ ns) h k = go (same_name n x) refl (below_later x n ns (and_right (name_below m x) (ascending name_below (x ∷ ns)) h))
   where
@@ -125,13 +125,9 @@ name_three_ways a b = elim (stream_three_ways a.stream b.stream) [
     equal_streams : (s t : Stream) → s ≡ t → same_stream s t ≡ true
     equal_streams s t e = subst (λ u. same_stream s u ≡ true) e (same_stream-itself s)
 
-never : (b : Bool) → (b ≡ true → ⊥) → b ≡ false
-never true h = absurd (h refl)
-never false h = refl
-
 pub name_order : IsTotalOrderOfNames
 name_order = record {
-  irreflexive = λ a. never (name_below a a) (not_below_itself a);
+  irreflexive = λ a. false_from_ne_true (name_below a a) (not_below_itself a);
   transitive = name_below_trans;
   total = name_three_ways;
 }

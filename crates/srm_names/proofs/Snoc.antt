@@ -1,4 +1,5 @@
 -- What one more element at the end does to the words on histories.
+use Rattle.std.proofs.Math.Bool.{or-false, or_assoc, and_assoc}
 use Rattle.std.proofs.Common.{◌≡◌, ℕ, max, Bool, true, false, not, ◌&&◌, ◌||◌, List, [], ◌∷◌, ◌++◌, refl, ap, sym, ◌∙◌, subst, arith, append_assoc, zero, suc, ◌+◌, add-one}
 use Rattle.std.specs.Prelude.{nat_lt, filter, if◌then◌else◌, Option, Some, None}
 use Rattle.std.specs.List.{list_any, list_all, AllByRecursion}
@@ -39,16 +40,8 @@ last_of-append f [] ys = sym (or_else-none (last_of f ys))
 last_of-append f (x ∷ xs) ys = ap (λ o. or_else o (f x)) (last_of-append f xs ys) ∙ or_else-assoc (last_of f ys) (last_of f xs) (f x)
 
 pub list_any-snoc : {X : Type 0} (p : X → Bool) (xs : List X) (y : X) → list_any p (xs ++ y ∷ []) ≡ list_any p xs || p y
-list_any-snoc p [] y = flip (p y)
-  where
-    flip : (b : Bool) → b || false ≡ b
-    flip true = refl
-    flip false = refl
-list_any-snoc p (x ∷ xs) y = ap (λ b. p x || b) (list_any-snoc p xs y) ∙ assoc (p x) (list_any p xs) (p y)
-  where
-    assoc : (a b c : Bool) → (a || (b || c)) ≡ ((a || b) || c)
-    assoc true b c = refl
-    assoc false b c = refl
+list_any-snoc p [] y = or-false (p y)
+list_any-snoc p (x ∷ xs) y = ap (λ b. p x || b) (list_any-snoc p xs y) ∙ sym (or_assoc (p x) (list_any p xs) (p y))
 
 pub since-snoc : {X : Type 0} (p : X → Bool) (xs : List X) (y : X) → since p (xs ++ y ∷ []) ≡ (if p y then [] else since p xs ++ y ∷ [])
 since-snoc p [] y = refl
@@ -111,11 +104,7 @@ along R P step before (x ∷ xs) p all = subst P (append_assoc before (x ∷ [])
 
 pub list_all-append : {X : Type 0} (p : X → Bool) (xs ys : List X) → list_all p (xs ++ ys) ≡ list_all p xs && list_all p ys
 list_all-append p [] ys = refl
-list_all-append p (x ∷ xs) ys = ap (λ b. p x && b) (list_all-append p xs ys) ∙ assoc (p x) (list_all p xs) (list_all p ys)
-  where
-    assoc : (a b c : Bool) → (a && (b && c)) ≡ ((a && b) && c)
-    assoc true b c = refl
-    assoc false b c = refl
+list_all-append p (x ∷ xs) ys = ap (λ b. p x && b) (list_all-append p xs ys) ∙ sym (and_assoc (p x) (list_all p xs) (list_all p ys))
 
 -- a page feed goes on by a message that continues it
 pub is_page_feed-snoc : (before : List PageMsg) (m : PageMsg) → is_page_feed before ≡ true → continues before m ≡ true → is_page_feed (before ++ m ∷ []) ≡ true

@@ -1,49 +1,45 @@
 -- The definitions at worked examples.
 use Rattle.std.specs.Prelude.{◌≡◌, ℕ, ◌==◌, nat_lt, true, false, [], ◌∷◌, map, length, Option, Some, None, if◌then◌else◌, refl}
 use Rattle.srm_names.specs.declared.page.Page.{Page}
-use Rattle.srm_names.specs.declared.stream.Stream.{Stream}
 use Rattle.srm_names.specs.declared.drawop.Drawop.{Drawop}
 use Rattle.srm_names.specs.declared.page_msg.PageMsg.TheVariants.{Open, Draw, Left, Close}
 use Rattle.srm_names.specs.Histories.{IsPrefix, steps, first_of, last_of, since, greatest, first_best, firsts, count_up, until_none}
-use Rattle.srm_names.specs.Names.{first_page, name_below, echo_below, ascending, named, names_up_to, among}
+use Rattle.srm_names.specs.Names.{first_page, name_below, echo_below, ascending, named, names_up_to, among, stream_on}
 use Rattle.srm_names.specs.Between.{is_between}
 use Rattle.srm_names.specs.PageFeeds.{is_page_feed, drawops_of}
 
 abbrev later_page : Page
 later_page = record { creator = 0; number = 1 }
 
-abbrev stream_of : ℕ → Page → Stream
-stream_of source page = record { source = source; page = page }
-
 -- Names go by source, then by the page's creator, then by its number, then by their own number.
-by_source : name_below (named (stream_of 0 later_page) 9) (named (stream_of 1 first_page) 1) ≡ true
+by_source : name_below (named (stream_on 0 later_page) 9) (named (stream_on 1 first_page) 1) ≡ true
 by_source = refl
 
-by_creator : name_below (named (stream_of 1 later_page) 9) (named (stream_of 1 (record { creator = 1; number = 0 })) 1) ≡ true
+by_creator : name_below (named (stream_on 1 later_page) 9) (named (stream_on 1 (record { creator = 1; number = 0 })) 1) ≡ true
 by_creator = refl
 
-by_page : name_below (named (stream_of 1 first_page) 9) (named (stream_of 1 later_page) 1) ≡ true
+by_page : name_below (named (stream_on 1 first_page) 9) (named (stream_on 1 later_page) 1) ≡ true
 by_page = refl
 
-by_number : name_below (named (stream_of 1 first_page) 9) (named (stream_of 1 first_page) 10) ≡ true
+by_number : name_below (named (stream_on 1 first_page) 9) (named (stream_on 1 first_page) 10) ≡ true
 by_number = refl
 
-not_itself : name_below (named (stream_of 1 first_page) 9) (named (stream_of 1 first_page) 9) ≡ false
+not_itself : name_below (named (stream_on 1 first_page) 9) (named (stream_on 1 first_page) 9) ≡ false
 not_itself = refl
 
-up_to_three : names_up_to (stream_of 2 first_page) 3 ≡ named (stream_of 2 first_page) 1 ∷ named (stream_of 2 first_page) 2 ∷ named (stream_of 2 first_page) 3 ∷ []
+up_to_three : names_up_to (stream_on 2 first_page) 3 ≡ named (stream_on 2 first_page) 1 ∷ named (stream_on 2 first_page) 2 ∷ named (stream_on 2 first_page) 3 ∷ []
 up_to_three = refl
 
-they_rise : ascending name_below (names_up_to (stream_of 2 first_page) 3) ≡ true
+they_rise : ascending name_below (names_up_to (stream_on 2 first_page) 3) ≡ true
 they_rise = refl
 
-equal_ones_do_not_rise : ascending name_below (named (stream_of 2 first_page) 3 ∷ named (stream_of 2 first_page) 3 ∷ []) ≡ false
+equal_ones_do_not_rise : ascending name_below (named (stream_on 2 first_page) 3 ∷ named (stream_on 2 first_page) 3 ∷ []) ≡ false
 equal_ones_do_not_rise = refl
 
-three_is_among : among (names_up_to (stream_of 2 first_page) 3) (named (stream_of 2 first_page) 3) ≡ true
+three_is_among : among (names_up_to (stream_on 2 first_page) 3) (named (stream_on 2 first_page) 3) ≡ true
 three_is_among = refl
 
-four_is_not : among (names_up_to (stream_of 2 first_page) 3) (named (stream_of 2 first_page) 4) ≡ false
+four_is_not : among (names_up_to (stream_on 2 first_page) 3) (named (stream_on 2 first_page) 4) ≡ false
 four_is_not = refl
 
 echoes_go_by_member : echo_below (record { member = 1; t1 = 9; delay = 0 }) (record { member = 2; t1 = 5; delay = 0 }) ≡ true
@@ -97,7 +93,7 @@ up_to_the_gap = refl
 
 -- page feeds
 abbrev drawop : ℕ → ℕ → Page → Drawop
-drawop source number page = record { name = named (stream_of source page) number; stamp = 0; body = [] }
+drawop source number page = record { name = named (stream_on source page) number; stamp = 0; body = [] }
 
 two_sources : is_page_feed (Open first_page ∷ Draw (drawop 0 1 first_page) ∷ Draw (drawop 1 1 first_page) ∷ Draw (drawop 0 2 first_page) ∷ Left 0 ∷ Draw (drawop 1 2 first_page) ∷ Close ∷ []) ≡ true
 two_sources = refl
@@ -133,11 +129,11 @@ after_the_close : is_page_feed (Open first_page ∷ Close ∷ Left 0 ∷ []) ≡
 after_the_close = refl
 
 -- neither of the two is between them
-between_two_and_five : map (λ n. is_between (stream_of 0 first_page) 2 5 (named (stream_of 0 first_page) n)) (2 ∷ 3 ∷ 4 ∷ 5 ∷ []) ≡ false ∷ true ∷ true ∷ false ∷ []
+between_two_and_five : map (λ n. is_between (stream_on 0 first_page) 2 5 (named (stream_on 0 first_page) n)) (2 ∷ 3 ∷ 4 ∷ 5 ∷ []) ≡ false ∷ true ∷ true ∷ false ∷ []
 between_two_and_five = refl
 
-none_is_between : map (λ n. is_between (stream_of 0 first_page) 3 4 (named (stream_of 0 first_page) n)) (3 ∷ 4 ∷ []) ≡ false ∷ false ∷ []
+none_is_between : map (λ n. is_between (stream_on 0 first_page) 3 4 (named (stream_on 0 first_page) n)) (3 ∷ 4 ∷ []) ≡ false ∷ false ∷ []
 none_is_between = refl
 
-of_another_stream : is_between (stream_of 0 first_page) 2 5 (named (stream_of 1 first_page) 3) ≡ false
+of_another_stream : is_between (stream_on 0 first_page) 2 5 (named (stream_on 1 first_page) 3) ≡ false
 of_another_stream = refl

@@ -51,6 +51,9 @@ pub record AreExactly (test : FullName → Bool) (names : List FullName) : Type 
 abbrev pub named : Stream → ℕ → FullName
 named s k = record { stream = s; number = k }
 
+abbrev pub stream_on : ℕ → Page → Stream
+stream_on source page = record { source = source; page = page }
+
 -- the names of a stream from number 1 to this one
 abbrev pub names_up_to : Stream → ℕ → List FullName
 names_up_to s known = map (named s) (count_up 1 known)
