@@ -2,6 +2,7 @@
 use Rattle.std.proofs.Common.{◌≡◌, ◌≢◌, ◌<◌, ℕ, inl, inr, get_or, List, [], ◌∷◌, ◌++◌, length, Option, Some, None, Bool, true, false, refl, sym, ap, ◌∙◌, arith}
 use Rattle.std.specs.Prelude.{slice_set, replicate, if◌then◌else◌, ◌||◌, ◌==◌}
 use Rattle.std.specs.List.{filter_map, cons_option}
+use Rattle.std.proofs.Math.Bool.{or-false, or-true}
 use Rattle.std.proofs.lemmas.List.{append-nil, length-set, get_or-set_same, get_or-set_other, length-replicate, get_or-replicate}
 use Rattle.std.proofs.lemmas.List.Elements.{filter_map-append}
 use Rattle.std.proofs.lemmas.Option.{slice_get-get_or, get_or_from_slice_get}
@@ -50,14 +51,6 @@ latest_heard calls b sent echo now =
     first_best-found (λ (r : HeardMessage). r.sent) (reported b) calls (Heard b sent echo now)
     ∙ ap (kept_with (λ (r : HeardMessage). r.sent) (latest calls b)) (own b (Some (record { sent = sent; came = now })))
 
-or_false : (x : Bool) → x || false ≡ x
-or_false true = refl
-or_false false = refl
-
-or_true : (x : Bool) → x || true ≡ true
-or_true true = refl
-or_true false = refl
-
 pub same_peer : (r r' : Option Returned) (s s' : Option HeardMessage) (f f' : Bool) → r ≡ r' → s ≡ s' → f ≡ f'
     → ◌≡◌ {A = Peer} (record { returned = r; report = s; forgotten = f }) (record { returned = r'; report = s'; forgotten = f' })
 same_peer r r' s s' f f' p q e = cc
@@ -67,7 +60,7 @@ peer_of_forgot calls b =
     same_peer _ _ _ _ _ _
     (first_best-found (λ (r : Returned). r.t1) (returned b) calls (Forgot b))
     (first_best-found (λ (r : HeardMessage). r.sent) (reported b) calls (Forgot b))
-    (list_any-snoc (forgets b) calls (Forgot b) ∙ ap (λ x. is_forgotten calls b || x) (eq-eqb b b refl) ∙ or_true (is_forgotten calls b))
+    (list_any-snoc (forgets b) calls (Forgot b) ∙ ap (λ x. is_forgotten calls b || x) (eq-eqb b b refl) ∙ or-true (is_forgotten calls b))
 
 -- a call that is about another member
 peer_of-other : (calls : List Call) (c : Call) (b : ℕ) → returned b c ≡ None → reported b c ≡ None → forgets b c ≡ false → peer_of (calls ++ c ∷ []) b ≡ peer_of calls b
@@ -75,7 +68,7 @@ peer_of-other calls c b r s f =
     same_peer _ _ _ _ _ _
     (first_best-found (λ (r : Returned). r.t1) (returned b) calls c ∙ ap (kept_with (λ (r : Returned). r.t1) (newest calls b)) r)
     (first_best-found (λ (r : HeardMessage). r.sent) (reported b) calls c ∙ ap (kept_with (λ (r : HeardMessage). r.sent) (latest calls b)) s)
-    (list_any-snoc (forgets b) calls c ∙ ap (λ x. is_forgotten calls b || x) f ∙ or_false (is_forgotten calls b))
+    (list_any-snoc (forgets b) calls c ∙ ap (λ x. is_forgotten calls b || x) f ∙ or-false (is_forgotten calls b))
 
 pub heard-other : (a sent : ℕ) (echo : Option (ℕ × ℕ)) (now : ℕ) (calls : List Call) (b : ℕ) → a ≢ b → peer_of (calls ++ Heard a sent echo now ∷ []) b ≡ peer_of calls b
 heard-other a sent echo now calls b ne = peer_of-other calls (Heard a sent echo now) b (another a b (returned_at now echo) ne) (another a b (Some (record { sent = sent; came = now })) ne) refl
