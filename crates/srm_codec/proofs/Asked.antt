@@ -17,11 +17,11 @@ at_bit name bit = named name.stream (name.number + 1 + bit)
 abbrev pub left_to_ask : FullName → ℕ → ℕ → List FullName
 left_to_ask name bit rest = map (λ b. at_bit name (bit + b)) (bits_set (32 - bit) rest)
 
-shifted : (name : FullName) (bit : ℕ) (bits : List ℕ) → map (λ b. at_bit name (bit + b)) (map (λ b. b + 1) bits) ≡ map (λ b. at_bit name (bit + 1 + b)) bits
+pub shifted : (name : FullName) (bit : ℕ) (bits : List ℕ) → map (λ b. at_bit name (bit + b)) (map (λ b. b + 1) bits) ≡ map (λ b. at_bit name (bit + 1 + b)) bits
 shifted name bit [] = refl
 shifted name bit (b ∷ bits) = ap (λ k. named name.stream k ∷ map (λ b. at_bit name (bit + b)) (map (λ b. b + 1) bits)) (omega arith) ∙ ap (λ ns. at_bit name (bit + 1 + b) ∷ ns) (shifted name bit bits)
 
-bits_more : (k rest : ℕ) → bits_set (suc k) rest ≡ (if rest % 2 == 1 then 0 ∷ [] else []) ++ map (λ b. b + 1) (bits_set k (rest / 2))
+pub bits_more : (k rest : ℕ) → bits_set (suc k) rest ≡ (if rest % 2 == 1 then 0 ∷ [] else []) ++ map (λ b. b + 1) (bits_set k (rest / 2))
 unfolding bits_set
 bits_more k rest = refl
 
@@ -43,7 +43,7 @@ pub left_clear : (name : FullName) (bit rest : ℕ) → bit < 32 → (rest % 2 =
 left_clear name bit rest l e = left_step name bit rest l ∙ ap (λ (b : Bool). map (λ k. at_bit name (bit + k)) (if b then 0 ∷ [] else []) ++ left_to_ask name (bit + 1) (rest / 2)) e
 
 -- at the end nothing is left
-no_bits : (rest : ℕ) → bits_set 0 rest ≡ []
+pub no_bits : (rest : ℕ) → bits_set 0 rest ≡ []
 unfolding bits_set
 no_bits rest = refl
 

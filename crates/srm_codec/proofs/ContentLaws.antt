@@ -21,6 +21,7 @@ use Rattle.srm_codec.specs.Judging.{◌>>=◌, Read, nothing_after, moment_at, f
 use Rattle.srm_codec.proofs.Readers.{IsBytes, bind_ok, check_ok, ok_is, Takes, Takes-then, ReadsAll, closed}
 use Rattle.srm_codec.proofs.FieldLaws.{moment_reads, page_reads, name_reads, drawop_reads, IsWanted, flag_bytes, flag_reads, mask_reads}
 use Rattle.srm_codec.proofs.ListLaws.{list_bytes, wanted_in, rows_reads, echoes_reads}
+use Rattle.srm_codec.proofs.Asked.{at_bit}
 
 -- these bytes behind the head complete the spelling of a datagram
 pub record Completes (version kind sender : ℕ) (bytes : List ℕ) (g : Datagram) : Type 0 where
@@ -77,17 +78,14 @@ asked_alone name = refl
 abbrev in_range : FullName → Bool
 in_range n = nat_le n.number DRAWOPS
 
-abbrev asked_at : FullName → ℕ → FullName
-asked_at name bit = named name.stream (name.number + 1 + bit)
-
-each_named : (name : FullName) (bits : List ℕ) → is_name name → list_all in_range (map (asked_at name) bits) ≡ true → AllByRecursion is_name (map (asked_at name) bits)
+each_named : (name : FullName) (bits : List ℕ) → is_name name → list_all in_range (map (at_bit name) bits) ≡ true → AllByRecursion is_name (map (at_bit name) bits)
 each_named name [] fits e = tt
 each_named name (bit ∷ bits) fits e =
-    let k = and_parts (in_range (asked_at name bit)) (list_all in_range (map (asked_at name) bits)) e in
+    let k = and_parts (in_range (at_bit name bit)) (list_all in_range (map (at_bit name) bits)) e in
     ((fits.0, fits.1, omega arith, grind (arith, nat_tests)), each_named name bits fits k.1)
 
 names_asked : (name : FullName) (mask : ℕ) → is_name name → list_all in_range (asked_by name mask) ≡ true → AllByRecursion is_name (asked_by name mask)
-names_asked name mask fits e = (fits, each_named name (bits_set 32 mask) fits (and_parts (in_range name) (list_all in_range (map (asked_at name) (bits_set 32 mask))) e).1)
+names_asked name mask fits e = (fits, each_named name (bits_set 32 mask) fits (and_parts (in_range name) (list_all in_range (map (at_bit name) (bits_set 32 mask))) e).1)
 
 all_in_range : (names : List FullName) → AllByRecursion is_name names → list_all in_range names ≡ true
 all_in_range [] all = refl

@@ -13,6 +13,7 @@ use Rattle.srm_names.specs.declared.stream.Stream.{Stream}
 use Rattle.srm_names.specs.declared.drawop.Drawop.{Drawop}
 use Rattle.srm_names.specs.declared.echo.Echo.{Echo}
 use Rattle.srm_names.specs.FullName.{FullName}
+use Rattle.srm_names.specs.Names.{stream_on}
 use Rattle.srm_codec.specs.declared.fault.DecodeFault.{DecodeFault}
 use Rattle.srm_codec.specs.declared.fault.DecodeFault.TheVariants.{Short, Member, Number, Order, Source, Flags}
 use Rattle.srm_codec.specs.declared.fault.DecodeFault.TheVariants as faults
@@ -136,9 +137,6 @@ number_in_stream_reads =
 abbrev page_of : ℕ → ℕ → Page
 page_of creator number = record { creator = creator; number = number }
 
-abbrev stream_of : ℕ → Page → Stream
-stream_of source page = record { source = source; page = page }
-
 abbrev name_of : Stream → ℕ → FullName
 name_of stream number = record { stream = stream; number = number }
 
@@ -159,7 +157,7 @@ stream_bytes s = s.source ∷ page_bytes s.page
 
 any_stream_reads : (wanted : Option ℕ) → Reads (any_stream_at wanted) stream_bytes (λ s. is_source wanted s.source × is_page s.page)
 unfolding any_stream_at
-any_stream_reads wanted = joined (source_at wanted) one_byte (is_source wanted) (λ _. page_at) (λ _. page_bytes) (λ _. is_page) stream_of (λ s. s.source) (λ s. s.page)
+any_stream_reads wanted = joined (source_at wanted) one_byte (is_source wanted) (λ _. page_at) (λ _. page_bytes) (λ _. is_page) stream_on (λ s. s.source) (λ s. s.page)
     (record { whole = λ s. refl; first_of = λ a b. refl; second_of = λ a b. refl }) (source_reads wanted) (λ _ _. page_reads)
 
 stream_reads : (wanted : Option ℕ) (last : Option FullName) → Reads (stream_at wanted last) stream_bytes (λ s. (is_source wanted s.source × is_page s.page) × (is_above last s ≡ true))

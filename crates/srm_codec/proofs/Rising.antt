@@ -1,6 +1,7 @@
 -- A list ascends where each value and the next one pass.
 use Rattle.std.proofs.Common.{◌≡◌, ℕ, zero, suc, ◌+◌, ◌<◌, Bool, true, false, ◌&&◌, List, [], ◌∷◌, length, get_or, refl, sym, ap, subst, ◌∙◌, arith}
 use Rattle.std.specs.List.{IsAllAdjacentAnswer, AllAdjacentBelow}
+use Rattle.std.proofs.Math.Bool.{and-false}
 use Rattle.srm_names.specs.Names.{ascending}
 
 all_adjacent : {X : Type 0} (below : X → X → Bool) (xs : List X) → AllAdjacentBelow (λ x y. true ≡ below x y) xs (length xs) → ascending below xs ≡ true
@@ -19,11 +20,7 @@ some_adjacent below (x ∷ y ∷ xs) zero lt fails = rw (← fails x) refl
 some_adjacent below (x ∷ y ∷ xs) (suc k) lt fails =
     let e : suc k + 1 ≡ suc (k + 1) = omega arith in
     let later = some_adjacent below (y ∷ xs) k (omega arith) (λ d. subst (λ j. false ≡ below (get_or (y ∷ xs) k d) (get_or (x ∷ y ∷ xs) j d)) e (fails d)) in
-    ap (λ b. below x y && b) later ∙ never (below x y)
-  where
-    never : (b : Bool) → (b && false) ≡ false
-    never true = refl
-    never false = refl
+    ap (λ b. below x y && b) later ∙ and-false (below x y)
 
 pub ascending_answer : {X : Type 0} (below : X → X → Bool) (xs : List X) (answer : Bool) → IsAllAdjacentAnswer (λ x y b. b ≡ below x y) xs answer → answer ≡ ascending below xs
 ascending_answer below xs true all = sym (all_adjacent below xs all)
