@@ -1,28 +1,17 @@
 -- What holds of a page feed and its last message.
 use Rattle.std.proofs.Common.{◌≡◌, ℕ, ◌==◌, ◌+◌, Bool, true, not, ◌&&◌, List, [], ◌∷◌, ◌++◌, length, Some, None, sym, ap, ◌∙◌, eq-eqb, ne_eqb, ◌≢◌, add-zero, length-append, arith}
 use Rattle.std.specs.Prelude.{if◌then◌else◌}
-use Rattle.std.specs.List.{list_any, list_all, cons_option}
-use Rattle.std.proofs.lemmas.Bool.{eqb-true, and_parts}
+use Rattle.std.specs.List.{list_any, cons_option}
+use Rattle.std.proofs.lemmas.Bool.{eqb-true}
 use Rattle.std.proofs.lemmas.List.Elements.{filter_map-append}
 use Rattle.srm_names.specs.declared.drawop.Drawop.{Drawop}
 use Rattle.srm_names.specs.declared.page_msg.PageMsg.{PageMsg}
 use Rattle.srm_names.specs.declared.page_msg.PageMsg.TheVariants.{Draw}
-use Rattle.srm_names.specs.Histories.{Step, steps}
 use Rattle.srm_names.specs.PageFeeds.{is_page_feed, continues, opened, is_open_at, leaves, is_close, drawops_of, drawop_from}
-use Rattle.srm_names.proofs.Snoc.{steps-snoc, list_all-append}
 use Rattle.srm_names.proofs.Feeds.{is_page_feed-front}
 
 pub front_of : (put l m : List PageMsg) → put ≡ l ++ m → is_page_feed put ≡ true → is_page_feed l ≡ true
 front_of put l m e is = is_page_feed-front l put (m, sym e) is
-
-abbrev goes_on : Step PageMsg → Bool
-goes_on s = continues s.before s.this
-
-pub last_continues : (l : List PageMsg) (x : PageMsg) → is_page_feed (l ++ x ∷ []) ≡ true → continues l x ≡ true
-last_continues l x is =
-    let last : Step PageMsg = record { before = l; this = x } in
-    let parts = and_parts (list_all goes_on (steps l)) (list_all goes_on (last ∷ [])) (sym (list_all-append goes_on (steps l) (last ∷ [])) ∙ ap (list_all goes_on) (sym (steps-snoc l x)) ∙ is) in
-    (and_parts (continues l x) true parts.1).0
 
 fourth : (a b c d : Bool) → (a && b && c && d) ≡ true → d ≡ true
 fourth a b c d e = grind arith

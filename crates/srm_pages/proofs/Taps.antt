@@ -10,7 +10,8 @@ use Rattle.srm_names.specs.declared.page_msg.PageMsg.TheVariants.{Open, Draw, Le
 use Rattle.srm_names.specs.PageFeeds.{is_page_feed, continues, drawops_of, drawop_from}
 use Rattle.srm_pages.specs.Board.{count_register, number_register, drawops_posted, CountsPosted}
 use Rattle.srm_pages.specs.Seats.{MarkerView, CountsTaken, MayPost, Posts}
-use Rattle.srm_pages.proofs.Feeds.{last_continues, next_number, one_more_drawn, same_drawn, not_drawn_by}
+use Rattle.srm_names.proofs.Feeds.{last_continues}
+use Rattle.srm_pages.proofs.Feeds.{next_number, one_more_drawn, same_drawn, not_drawn_by}
 use Rattle.srm_pages.proofs.Shown.{total_le, at_most_stored, apart, drawn, drawn_behind_first}
 
 -- what counts a list counts what it shows
