@@ -1,16 +1,10 @@
 -- The bucket law forbids what it is for: each history below has one call that goes wrong.
 use Rattle.std.proofs.Common.{◌≡◌, ◌≤◌, ◌<◌, ℕ, List, [], ◌∷◌, ◌++◌, Some, None, lit<, lit≤, subst, arith}
-use Rattle.srm_bucket.specs.declared.class.Class.{Class}
 use Rattle.srm_bucket.specs.declared.class.Class.TheVariants.{Shown, New}
 use Rattle.srm_bucket.specs.declared.item.Item.{Item}
-use Rattle.srm_bucket.specs.Calls.{Classed, Handed, Popped}
+use Rattle.srm_bucket.specs.Calls.{Handed, Popped}
 use Rattle.srm_bucket.specs.Law.{BucketLaw}
-
-abbrev item : (value bytes : ℕ) → Item ℕ
-item value bytes = record { value = value; length = bytes }
-
-abbrev entry : Class → (value bytes : ℕ) → Classed ℕ
-entry class value bytes = record { class = class; item = item value bytes }
+use Rattle.srm_bucket.specs.Examples.{item, entry}
 
 -- what was not handed in
 never_handed_in : BucketLaw 8000 1051 (Popped 0 (Some (entry New 1 28)) ∷ []) → ⊥
