@@ -1,6 +1,6 @@
 -- What stands in an agenda of each name, as it is put in and taken out.
 use Rattle.std.proofs.Common.{◌≡◌, ℕ, zero, suc, ◌+◌, ◌<◌, ◌≤◌, Bool, true, false, not, cond, ◌&&◌, ◌||◌, List, [], ◌∷◌, ◌++◌, map, length, take, drop, get_or, refl, sym, ap, subst, ◌∙◌, arith, inl, inr, ◌⊎◌, add-one}
-use Rattle.std.specs.Prelude.{filter, find, is_some, Option, Some, None, if◌then◌else◌, Contains, Result, Ok, Err, OnErr, is_ok}
+use Rattle.std.specs.Prelude.{filter, find, is_some, Option, Some, None, if◌then◌else◌, Result, Ok, Err, OnErr, is_ok}
 use Rattle.std.specs.List.{list_any, insert, remove}
 use Rattle.std.specs.List.Sorted.{IsPermutation}
 use Rattle.std.proofs.lemmas.List.{take-append-drop, append-nil, at_drop_more}
@@ -10,15 +10,16 @@ use Rattle.std.proofs.lemmas.List.Sorted.{Contains-permutation, sum_by-IsPermuta
 use Rattle.std.proofs.lemmas.List.Sums.{length-filter}
 use Rattle.srm_names.specs.FullName.{FullName}
 use Rattle.srm_names.specs.Names.{same_name, name_below, ascending, among}
-use Rattle.srm_names.proofs.Lists.{Has, Has-passes, Has-kept, Has-contained}
-use Rattle.srm_names.proofs.Same.{same_name-is}
+use Rattle.std.proofs.lemmas.Bool.{false_from_ne_true}
+use Rattle.srm_names.proofs.Lists.{Has, Has-passes, Has-kept, Has-contained, Has-Contains}
+use Rattle.srm_names.proofs.Same.{same_name-is, same_name-itself}
+use Rattle.srm_names.proofs.Rising.{ascending_tail}
 use Rattle.srm_names.proofs.Orders.{stands_once}
 use Rattle.srm_deadlines.specs.declared.by_name.NamedValue.{NamedValue}
 use Rattle.srm_deadlines.specs.declared.timed.Timed.{Timed}
 use Rattle.srm_deadlines.specs.Places.{is_timed, names_of, has_place}
 use Rattle.srm_deadlines.specs.Agenda.{of_name, timed_or, timed_among}
-use Rattle.srm_deadlines.proofs.Same.{same_itself, same_flip}
-use Rattle.srm_deadlines.proofs.Order.{ascending_tail}
+use Rattle.srm_deadlines.proofs.Same.{same_flip}
 
 -- ---- lists of two parts
 
@@ -107,25 +108,16 @@ none_among (x ∷ xs) n e = go (same_name n x.name) e (none_among xs n)
     go true e h = absurd (let k : true ≡ false = e in cc)
     go false e h = h e
 
-false_from : (b : Bool) → (b ≡ true → ⊥) → b ≡ false
-false_from true h = absurd (h refl)
-false_from false h = refl
-
 -- in a list in order of name each name stands once
 pub rising_once : (moments : List Timed) → ascending name_below (names_of moments) ≡ true → (n : FullName) → of_name n moments ≡ timed_or (find (is_timed n) moments) []
 rising_once [] asc n = refl
-rising_once (x ∷ xs) asc n = go (same_name n x.name) refl (rising_once xs (ascending_tail x.name (names_of xs) asc) n)
+rising_once (x ∷ xs) asc n = go (same_name n x.name) refl (rising_once xs (ascending_tail name_below x.name (names_of xs) asc) n)
   where
     go : (b : Bool) → same_name n x.name ≡ b → of_name n xs ≡ timed_or (find (is_timed n) xs) [] → cond b (x ∷ of_name n xs) (of_name n xs) ≡ timed_or (cond b (Some x) (find (is_timed n) xs)) []
-    go true e h = ap (λ ys. x ∷ ys) (none_among xs n (false_from _ (λ k. stands_once x.name (names_of xs) asc (ap (among (names_of xs)) (sym (same_name-is n x.name e)) ∙ k))))
+    go true e h = ap (λ ys. x ∷ ys) (none_among xs n (false_from_ne_true _ (λ k. stands_once x.name (names_of xs) asc (ap (among (names_of xs)) (sym (same_name-is n x.name e)) ∙ k))))
     go false e h = h
 
 -- a list of one or none is the same in another order
-pub contains_from : {X : Type 0} (x : X) (xs : List X) → Has x xs → Contains xs x
-contains_from x [] h = absurd h
-contains_from x (z ∷ zs) (inl e) = (0, omega arith, sym e)
-contains_from x (z ∷ zs) (inr h) = let (k, l, e) = contains_from x zs h in (suc k, omega arith, e)
-
 single : {X : Type 0} (x : X) (xs : List X) → length xs ≡ 1 → Has x xs → xs ≡ x ∷ []
 single x [] l h = absurd h
 single x (z ∷ []) l (inl e) = ap (λ y. y ∷ []) (sym e)
@@ -142,7 +134,7 @@ same_count p xs ys moved = length-filter p ys ∙ sum_by-IsPermutation (λ x. co
 one_in_order : {X : Type 0} (p : X → Bool) (xs ys : List X) (x : X) → IsPermutation xs ys → filter p xs ≡ x ∷ [] → filter p ys ≡ x ∷ []
 one_in_order p xs ys x moved e =
     let here = Has-passes p x xs (subst (Has x) (sym e) (inl refl)) in
-    let there : Has x (filter p ys) = Has-kept p x ys here.1 (Has-contained x ys (Contains-permutation xs ys x moved (contains_from x xs here.0))) in
+    let there : Has x (filter p ys) = Has-kept p x ys here.1 (Has-contained x ys (Contains-permutation xs ys x moved (Has-Contains x xs here.0))) in
     single x (filter p ys) (same_count p xs ys moved ∙ ap length e) there
 
 pub same_in_order : {X : Type 0} (p : X → Bool) (xs ys : List X) → IsPermutation xs ys → length (filter p xs) ≤ 1 → filter p ys ≡ filter p xs
@@ -177,7 +169,7 @@ extended pairs moments all asc once absent moved n =
 
 no_pairs : (pairs : List Timed) → ((n : FullName) → of_name n pairs ≡ []) → pairs ≡ []
 no_pairs [] h = refl
-no_pairs (t ∷ ts) h = absurd (let k : cond true (t ∷ of_name t.name ts) (of_name t.name ts) ≡ [] = ap (λ b. cond b (t ∷ of_name t.name ts) (of_name t.name ts)) (sym (same_itself t.name)) ∙ h t.name in cc)
+no_pairs (t ∷ ts) h = absurd (let k : cond true (t ∷ of_name t.name ts) (of_name t.name ts) ≡ [] = ap (λ b. cond b (t ∷ of_name t.name ts) (of_name t.name ts)) (sym (same_name-itself t.name)) ∙ h t.name in cc)
 
 short_if : (b : Bool) (xs : List Timed) → length xs ≤ 1 → length (if b then xs else []) ≤ 1
 short_if true xs l = l

@@ -6,20 +6,20 @@ use Rattle.std.specs.declared.cmp.Ordering.TheVariants.{Less, Equal, Greater}
 use Rattle.std.specs.List.{list_any, All, AllWithin}
 use Rattle.std.specs.List.Sorted.{IsPermutation, IsSorted, IsSortedBy, IsPartitionPoint, IsBinarySearchResult, IsSearchInRange}
 use Rattle.std.specs.Ordering.{is_lt}
-use Rattle.std.proofs.lemmas.Bool.{and_from, and_parts, cases_lt}
+use Rattle.std.proofs.lemmas.Bool.{and_from, and_parts, cases_lt, or_right}
 use Rattle.std.proofs.lemmas.Cmp.{tied_itself}
+use Rattle.std.proofs.lemmas.List.{map-id}
 use Rattle.std.proofs.lemmas.List.Sorted.{searchable_from_sorted, list_any-IsPermutation}
 use Rattle.srm_names.specs.FullName.{FullName}
 use Rattle.srm_names.specs.Names.{same_name, name_below, ascending, among, AreExactly}
 use Rattle.srm_names.proofs.Orders.{name_order as names_in_order}
-use Rattle.srm_names.proofs.Same.{same_name-is}
+use Rattle.srm_names.proofs.Same.{same_name-is, same_name-itself}
 use Rattle.srm_deadlines.specs.declared.timed.Timed.{Timed}
 use Rattle.srm_deadlines.specs.Places.{is_timed, names_of}
 use Rattle.srm_deadlines.specs.Agenda.{of_name, is_due, name_order}
 use Rattle.srm_deadlines.proofs.Agendas.{same_count}
-use Rattle.srm_deadlines.proofs.Order.{ascending_tail}
 use Rattle.srm_deadlines.proofs.Orders.{IsInOrder, moments_rise, name_total, name_equal, name_lt_is}
-use Rattle.srm_deadlines.proofs.Same.{same_itself, same_flip}
+use Rattle.srm_deadlines.proofs.Same.{same_flip}
 
 -- ---- the first
 
@@ -38,10 +38,6 @@ not_above a b below = name_lt_is b a ∙ go (name_below b a) refl
     go : (c : Bool) → name_below b a ≡ c → c ≡ false
     go false e = refl
     go true e = absurd (let k : true ≡ false = sym (names_in_order.transitive a b a below e) ∙ names_in_order.irreflexive a in cc)
-
-map_itself : {X : Type 0} (xs : List X) → map (λ x. x) xs ≡ xs
-map_itself [] = refl
-map_itself (x ∷ xs) = ap (λ ys. x ∷ ys) (map_itself xs)
 
 -- a search for a name in a list whose names rise
 module _ {X : Type 0} (key : X → FullName) where
@@ -64,12 +60,8 @@ module _ {X : Type 0} (key : X → FullName) where
 
   found_among : (xs : List X) (i : ℕ) (d : X) → i < length xs → among (map key xs) (key (get_or xs i d)) ≡ true
   found_among [] i d lt = absurd (omega arith)
-  found_among (x ∷ xs) zero d lt = ap (λ b. b || among (map key xs) (key x)) (same_itself (key x))
-  found_among (x ∷ xs) (suc i) d lt = right (same_name (key (get_or xs i d)) (key x)) _ (found_among xs i d (omega arith))
-    where
-      right : (a b : Bool) → b ≡ true → (a || b) ≡ true
-      right true b e = refl
-      right false b e = e
+  found_among (x ∷ xs) zero d lt = ap (λ b. b || among (map key xs) (key x)) (same_name-itself (key x))
+  found_among (x ∷ xs) (suc i) d lt = or_right (same_name (key (get_or xs i d)) (key x)) _ (found_among xs i d (omega arith))
 
   pub is_found_by : (xs : List X) (n : FullName) (d : X) (r : Result ℕ ℕ) → ascending name_below (map key xs) ≡ true → IsSearchInRange r (length xs) → IsBinarySearchResult (λ (x : X). name_order (key x) n) xs r
       → is_ok r ≡ among (map key xs) n
@@ -91,7 +83,7 @@ pub is_named_by : (xs : List Timed) (n : FullName) (r : Result ℕ ℕ) → asce
 is_named_by xs n r asc within found = is_found_by (λ (t : Timed). t.name) xs n (record { moment = 0; name = n }) r asc within found
 
 pub is_listed_by : (xs : List FullName) (n : FullName) (r : Result ℕ ℕ) → ascending name_below xs ≡ true → IsSearchInRange r (length xs) → IsBinarySearchResult (λ (m : FullName). name_order m n) xs r → is_ok r ≡ among xs n
-is_listed_by xs n r asc within found = is_found_by (λ (m : FullName). m) xs n n r (ap (ascending name_below) (map_itself xs) ∙ asc) within found ∙ ap (λ ns. among ns n) (map_itself xs)
+is_listed_by xs n r asc within found = is_found_by (λ (m : FullName). m) xs n n r (ap (ascending name_below) (map-id xs) ∙ asc) within found ∙ ap (λ ns. among ns n) (map-id xs)
 
 -- ---- the due
 
@@ -169,12 +161,12 @@ rise_by order below same lt_is next itself (a ∷ b ∷ xs) sorted once =
 
 -- names among them
 pub rise : (ns : List FullName) → IsSorted name_order ns → ((n : FullName) → length (filter (same_name n) ns) ≤ 1) → ascending name_below ns ≡ true
-rise ns sorted once = rise_by name_order name_below same_name name_lt_is next same_itself ns sorted once
+rise ns sorted once = rise_by name_order name_below same_name name_lt_is next same_name-itself ns sorted once
   where
     next : (a b : FullName) → same_name a b ≡ false → name_below b a ≡ false → name_below a b ≡ true
     next a b e f = elim (names_in_order.total a b) [
       | inl below ↦ below
-      | inr (inl same) ↦ absurd (let k : true ≡ false = sym (subst (λ n. same_name a n ≡ true) same (same_itself a)) ∙ e in cc)
+      | inr (inl same) ↦ absurd (let k : true ≡ false = sym (subst (λ n. same_name a n ≡ true) same (same_name-itself a)) ∙ e in cc)
       | inr (inr above) ↦ absurd (let k : true ≡ false = sym above ∙ f in cc)
     ]
 

@@ -3,7 +3,7 @@ use Rattle.std.proofs.Common.{◌≡◌, ℕ, suc, ◌<◌, ◌≤◌, Bool, tru
 use Rattle.std.specs.Prelude.{filter, find, None, Result, Ok, Err, OnErr}
 use Rattle.std.specs.List.{list_any}
 use Rattle.std.specs.List.Sorted.{IsPartitionPoint}
-use Rattle.std.proofs.lemmas.List.{length-map}
+use Rattle.std.proofs.lemmas.List.{length-map, take-append-drop}
 use Rattle.std.proofs.lemmas.List.Folds.{list_any-append}
 use Rattle.srm_names.specs.FullName.{FullName}
 use Rattle.srm_names.specs.Names.{same_name, name_below, ascending, among, AreExactly}
@@ -18,7 +18,6 @@ use Rattle.srm_deadlines.specs.Agenda.{of_name, is_due, PairsFit}
 use Rattle.srm_deadlines.proofs.Agendas.{there_is_room, none_among, rising_once, short_of}
 use Rattle.srm_deadlines.proofs.Dues.{front_passes, any_both, among_names, names_counted, fewer}
 use Rattle.srm_deadlines.proofs.Looking.{DueSoFar}
-use Rattle.srm_deadlines.proofs.Order.{take_drop}
 
 abbrev as_place : FullName → NamedValue ℕ
 as_place n = record { name = n; value = None }
@@ -92,7 +91,7 @@ another_fits now room seen places names name so_far new come fit =
 pub between_new : (names : List FullName) (i : ℕ) (name : FullName) → ((m : FullName) → among (take i names) m ≡ true → name_below m name ≡ true)
     → ((m : FullName) → among (drop i names) m ≡ true → name_below name m ≡ true) → among names name ≡ false
 between_new names i name before after =
-    ap (λ ns. among ns name) (sym (take_drop i names)) ∙ list_any-append (same_name name) (take i names) (drop i names) ∙ neither _ _ (before name) (after name)
+    ap (λ ns. among ns name) (sym (take-append-drop i names)) ∙ list_any-append (same_name name) (take i names) (drop i names) ∙ neither _ _ (before name) (after name)
   where
     below : name_below name name ≡ true → ⊥
     below e = let k : true ≡ false = sym e ∙ name_order.irreflexive name in cc

@@ -6,14 +6,13 @@ use Rattle.std.proofs.lemmas.List.Elements.{All-filter, filter-append}
 use Rattle.srm_names.specs.FullName.{FullName}
 use Rattle.srm_names.specs.Histories.{or_else}
 use Rattle.srm_names.specs.Names.{same_name, name_below, ascending, among}
-use Rattle.srm_names.proofs.Same.{same_name-is}
+use Rattle.srm_names.proofs.Same.{same_name-is, same_name-itself}
 use Rattle.srm_deadlines.specs.declared.by_name.NamedValue.{NamedValue}
 use Rattle.srm_deadlines.specs.declared.timed.Timed.{Timed}
 use Rattle.srm_deadlines.specs.Places.{is_timed, is_at, names_of, moment_among, value_in, value_at, has_place, SetsAll, ClearsAll, HasPlaces, IsLeast}
 use Rattle.srm_deadlines.specs.Agenda.{Agenda, AgendaFits, of_name, timed_for, timed_or, timed_among}
 use Rattle.srm_deadlines.proofs.Agendas.{there_is_room, appended, absent_found, short_of, none_among}
 use Rattle.srm_deadlines.proofs.Looking.{none_without}
-use Rattle.srm_deadlines.proofs.Same.{same_itself}
 
 one_at_most : (n : FullName) (o : Option ℕ) → length (timed_for n o) ≤ 1
 one_at_most n None = omega arith
@@ -133,7 +132,7 @@ first_is_least a places t f e all = record {
     is_its (x ∷ xs) h k =
         let same : x ≡ t = cc in
         let front : cond (same_name t.name x.name) (x ∷ of_name t.name xs) (of_name t.name xs) ≡ t ∷ of_name t.name xs =
-        ap (λ (y : Timed). cond (same_name t.name y.name) (y ∷ of_name t.name xs) (of_name t.name xs)) same ∙ ap (λ b. cond b (t ∷ of_name t.name xs) (of_name t.name xs)) (same_itself t.name) in
+        ap (λ (y : Timed). cond (same_name t.name y.name) (y ∷ of_name t.name xs) (of_name t.name xs)) same ∙ ap (λ b. cond b (t ∷ of_name t.name xs) (of_name t.name xs)) (same_name-itself t.name) in
         the_moment t.name (value_at places t.name) t (of_name t.name xs) (sym k ∙ front)
 
     go : (n : FullName) (o : Option ℕ) → All (λ (u : Timed). t.moment ≤ u.moment) (of_name n a.pairs) → of_name n a.pairs ≡ timed_for n o → IfSome o (λ m. t.moment ≤ m)

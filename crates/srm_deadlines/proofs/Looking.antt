@@ -2,17 +2,18 @@
 use Rattle.std.proofs.Common.{◌≡◌, ℕ, take, length, get_or, ◌<◌, ◌≤◌, ◌+◌, inl, inr, arith, Bool, true, false, ◌&&◌, ◌||◌, List, refl, sym, ap, subst, ◌∙◌}
 use Rattle.std.specs.Prelude.{Option, Some, None, IfSome, find, is_some, ◌⊎◌}
 use Rattle.std.specs.List.{list_any}
+use Rattle.std.proofs.lemmas.Bool.{or_cases}
 use Rattle.std.proofs.lemmas.List.Folds.{list_any_more}
 use Rattle.srm_names.specs.FullName.{FullName}
 use Rattle.srm_names.specs.Names.{same_name, name_below, ascending, among, AreExactly}
 use Rattle.srm_names.proofs.Same.{same_name-is}
+use Rattle.srm_names.proofs.Lists.{any_found}
 use Rattle.srm_deadlines.specs.declared.by_name.NamedValue.{NamedValue}
 use Rattle.srm_names.specs.Moments.{has_come}
 use Rattle.srm_deadlines.specs.Least.{lesser}
 use Rattle.srm_deadlines.specs.Places.{is_at, value_in, value_at, IsLeast}
 use Rattle.srm_deadlines.specs.MomentLists.{IsUnder}
 use Rattle.srm_deadlines.proofs.MomentLists.{under_lesser, lesser_under, lesser_is}
-use Rattle.srm_deadlines.proofs.Tables.{any_find, either}
 
 -- the names that came, so far
 pub record DueSoFar (now : ℕ) (seen places : List (NamedValue ℕ)) (names : List FullName) : Type 0 where
@@ -50,7 +51,7 @@ due_missed now places i p names lt is come h = record {
     go false k false e = refl
 
 pub due_all : (now : ℕ) (places : List (NamedValue ℕ)) (names : List FullName) → DueSoFar now places places names → AreExactly (λ n. has_come now (value_at places n)) names
-due_all now places names h = record { in_order = h.order; exact = λ n. h.exact n ∙ ap (λ b. b && has_come now (value_at places n)) (any_find (is_at n) places) ∙ go (find (is_at n) places) }
+due_all now places names h = record { in_order = h.order; exact = λ n. h.exact n ∙ ap (λ b. b && has_come now (value_at places n)) (any_found (is_at n) places) ∙ go (find (is_at n) places) }
   where
     go : (o : Option (NamedValue ℕ)) → (is_some o && has_come now (value_in o)) ≡ has_come now (value_in o)
     go None = refl
@@ -72,14 +73,14 @@ pub least_more : (places : List (NamedValue ℕ)) (i : ℕ) (p : NamedValue ℕ)
     → LeastSoFar (take i places) places found → LeastSoFar (take (i + 1) places) places (lesser found (value_at places p.name))
 least_more places i p found lt is h = record {
   is_one = one_of places p.name found (value_at places p.name) refl h.is_one;
-  under = λ n at. elim (either (list_any (is_at n) (take i places)) (is_at n p) (ap (λ q. list_any (is_at n) (take i places) || is_at n q) is ∙ sym (list_any_more (is_at n) places i p lt) ∙ at)) [
+  under = λ n at. elim (or_cases (list_any (is_at n) (take i places)) (is_at n p) (ap (λ q. list_any (is_at n) (take i places) || is_at n q) is ∙ sym (list_any_more (is_at n) places i p lt) ∙ at)) [
     | inl old ↦ under_lesser found (value_at places p.name) (value_at places n) (h.under n old)
     | inr new ↦ subst (λ m. IsUnder (lesser found (value_at places p.name)) (value_at places m)) (sym (same_name-is n p.name new)) (lesser_under found (value_at places p.name))
   ];
 }
 
 pub none_without : (places : List (NamedValue ℕ)) (n : FullName) → list_any (is_at n) places ≡ false → value_at places n ≡ None
-none_without places n e = go (find (is_at n) places) (sym (any_find (is_at n) places) ∙ e)
+none_without places n e = go (find (is_at n) places) (sym (any_found (is_at n) places) ∙ e)
   where
     go : (o : Option (NamedValue ℕ)) → is_some o ≡ false → value_in o ≡ None
     go None h = refl

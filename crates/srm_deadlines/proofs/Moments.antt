@@ -2,16 +2,16 @@
 use Rattle.std.proofs.Common.{◌≡◌, ℕ, zero, suc, take, length, get_or, ◌<◌, ◌+◌, Bool, true, false, cond, ◌||◌, List, [], ◌∷◌, refl, sym, ap, subst, ◌∙◌, arith, add-one}
 use Rattle.std.specs.Prelude.{Option, Some, None, find, option_map, if◌then◌else◌}
 use Rattle.std.specs.List.{list_any}
+use Rattle.std.proofs.lemmas.Bool.{or_right}
 use Rattle.srm_names.specs.FullName.{FullName}
 use Rattle.srm_names.specs.Histories.{or_else}
 use Rattle.srm_names.specs.Names.{same_name, name_below, ascending, among}
-use Rattle.srm_names.proofs.Same.{same_name-is}
+use Rattle.srm_names.proofs.Same.{same_name-is, same_name-itself}
+use Rattle.srm_names.proofs.Rising.{ascending_tail}
 use Rattle.srm_names.proofs.Orders.{stands_once}
 use Rattle.srm_deadlines.specs.declared.by_name.NamedValue.{NamedValue}
 use Rattle.srm_deadlines.specs.declared.timed.Timed.{Timed}
 use Rattle.srm_deadlines.specs.Places.{names_of, is_timed, moment_among, value_at, has_place, KeepsPlaces, GivesPlaces, Sets, SetsAll, HasPlaces}
-use Rattle.srm_deadlines.proofs.Same.{same_itself}
-use Rattle.srm_deadlines.proofs.Order.{ascending_tail}
 use Rattle.srm_deadlines.proofs.Tables.{given_on}
 
 abbrev given : Option Timed → Option ℕ → Option ℕ
@@ -19,12 +19,8 @@ given found o = or_else (option_map (λ t. t.moment) found) o
 
 pub named_at : (moments : List Timed) (i : ℕ) (t : Timed) → i < length moments → t ≡ get_or moments i t → among (names_of moments) t.name ≡ true
 named_at [] i t lt is = absurd (omega arith)
-named_at (x ∷ xs) zero t lt is = ap (λ (y : Timed). same_name t.name y.name || among (names_of xs) t.name) (sym is) ∙ ap (λ b. b || among (names_of xs) t.name) (same_itself t.name)
-named_at (x ∷ xs) (suc i) t lt is = right (same_name t.name x.name) _ (named_at xs i t (omega arith) is)
-  where
-    right : (a b : Bool) → b ≡ true → (a || b) ≡ true
-    right true b e = refl
-    right false b e = e
+named_at (x ∷ xs) zero t lt is = ap (λ (y : Timed). same_name t.name y.name || among (names_of xs) t.name) (sym is) ∙ ap (λ b. b || among (names_of xs) t.name) (same_name-itself t.name)
+named_at (x ∷ xs) (suc i) t lt is = or_right (same_name t.name x.name) _ (named_at xs i t (omega arith) is)
 
 -- one more moment of a list in order of name
 more : (moments : List Timed) (i : ℕ) (t : Timed) (n : FullName) (o : Option ℕ) → ascending name_below (names_of moments) ≡ true → i < length moments → t ≡ get_or moments i t
@@ -35,7 +31,7 @@ more (x ∷ xs) zero t n o asc lt is = ap (λ (y : Timed). given (cond (same_nam
     go : (b : Bool) → given (cond b (Some t) None) o ≡ (if b then Some t.moment else o)
     go true = refl
     go false = refl
-more (x ∷ xs) (suc i) t n o asc lt is = go (more xs i t n o (ascending_tail x.name (names_of xs) asc) (omega arith) is) (same_name n x.name) refl (same_name n t.name) refl
+more (x ∷ xs) (suc i) t n o asc lt is = go (more xs i t n o (ascending_tail name_below x.name (names_of xs) asc) (omega arith) is) (same_name n x.name) refl (same_name n t.name) refl
   where
     go : given (find (is_timed n) (take (suc i) xs)) o ≡ (if same_name n t.name then Some t.moment else given (find (is_timed n) (take i xs)) o) → (a : Bool) → same_name n x.name ≡ a → (b : Bool) → same_name n t.name ≡ b
         → given (cond a (Some x) (find (is_timed n) (take (suc i) xs))) o ≡ (if b then Some t.moment else given (cond a (Some x) (find (is_timed n) (take i xs))) o)

@@ -1,45 +1,27 @@
 -- Lists in order of name, and what is put into them.
 use Rattle.std.proofs.Common.{◌≡◌, ℕ, map, zero, suc, take, drop, length, get_or, ◌<◌, ◌+◌, ◌⊎◌, inl, inr, Bool, true, false, ◌&&◌, ◌||◌, List, [], ◌∷◌, ◌++◌, refl, sym, ap, subst, ◌∙◌, arith}
 use Rattle.std.specs.List.{list_any, insert}
-use Rattle.std.proofs.lemmas.Bool.{and_parts, or_left, or_right}
-use Rattle.std.proofs.lemmas.List.{take_more, map-append}
+use Rattle.std.proofs.lemmas.Bool.{or_left, or_cases}
+use Rattle.std.proofs.lemmas.List.{take_more, map-append, take-append-drop}
 use Rattle.std.proofs.lemmas.List.Folds.{list_any-append, list_any_more}
 use Rattle.srm_names.specs.FullName.{FullName}
 use Rattle.srm_names.specs.Names.{same_name, name_below, ascending, among}
-use Rattle.srm_names.proofs.Same.{same_name-is}
-use Rattle.srm_names.proofs.Orders.{name_order}
-use Rattle.srm_deadlines.proofs.Same.{same_itself}
-use Rattle.srm_deadlines.proofs.Tables.{either}
-
-pub below_trans : (a b c : FullName) → name_below a b ≡ true → name_below b c ≡ true → name_below a c ≡ true
-below_trans a b c = name_order.transitive a b c
+use Rattle.srm_names.proofs.Same.{same_name-is, same_name-itself}
+use Rattle.srm_names.proofs.Orders.{name_order, below_later}
+use Rattle.srm_names.proofs.Rising.{ascending_tail, ascending_drop, ascending_take, ascending_joined}
 
 pub total : (a b : FullName) → same_name a b ≡ false → name_below a b ≡ false → name_below b a ≡ true
 total a b differ not_below = elim (name_order.total a b) [
   | inl below ↦ absurd (let k : true ≡ false = sym below ∙ not_below in cc)
-  | inr (inl same) ↦ absurd (let k : true ≡ false = sym (same_itself a) ∙ ap (same_name a) same ∙ differ in cc)
+  | inr (inl same) ↦ absurd (let k : true ≡ false = sym (same_name-itself a) ∙ ap (same_name a) same ∙ differ in cc)
   | inr (inr above) ↦ above
 ]
-
-pub ascending_tail : (x : FullName) (xs : List FullName) → ascending name_below (x ∷ xs) ≡ true → ascending name_below xs ≡ true
-ascending_tail x [] asc = refl
-ascending_tail x (z ∷ xs) asc = (and_parts _ _ asc).1
-
--- the first is below all others
-pub first_below : (x : FullName) (xs : List FullName) → ascending name_below (x ∷ xs) ≡ true → (m : FullName) → among xs m ≡ true → name_below x m ≡ true
-first_below x [] asc m h = absurd (cc)
-first_below x (z ∷ xs) asc m h =
-    let parts = and_parts _ _ asc in
-    elim (either (same_name m z) (among xs m) h) [
-      | inl here ↦ subst (λ n. name_below x n ≡ true) (sym (same_name-is m z here)) parts.0
-      | inr later ↦ below_trans x z m parts.0 (first_below z xs parts.1 m later)
-    ]
 
 pub before_more : (names : List FullName) (i : ℕ) (other name : FullName) → i < length names → other ≡ get_or names i other
     → ((m : FullName) → among (take i names) m ≡ true → name_below m name ≡ true) → same_name name other ≡ false → name_below name other ≡ false
     → (m : FullName) → among (take (i + 1) names) m ≡ true → name_below m name ≡ true
 before_more names i other name lt is below p q m h =
-    elim (either (among (take i names) m) (same_name m (get_or names i other)) (sym (list_any_more (same_name m) names i other lt) ∙ h)) [
+    elim (or_cases (among (take i names) m) (same_name m (get_or names i other)) (sym (list_any_more (same_name m) names i other lt) ∙ h)) [
       | inl old ↦ below m old
       | inr new ↦ subst (λ n. name_below n name ≡ true) (is ∙ sym (same_name-is m (get_or names i other) new)) (total name other p q)
     ]
@@ -47,49 +29,31 @@ before_more names i other name lt is below p q m h =
 pub drop_below : (y : FullName) (xs : List FullName) (i : ℕ) (d : FullName) → ascending name_below xs ≡ true → i < length xs → name_below y (get_or xs i d) ≡ true
     → (m : FullName) → among (drop i xs) m ≡ true → name_below y m ≡ true
 drop_below y [] i d asc lt b m h = absurd (omega arith)
-drop_below y (x ∷ xs) zero d asc lt b m h = elim (either (same_name m x) (among xs m) h) [
+drop_below y (x ∷ xs) zero d asc lt b m h = elim (or_cases (same_name m x) (among xs m) h) [
   | inl here ↦ subst (λ n. name_below y n ≡ true) (sym (same_name-is m x here)) b
-  | inr later ↦ below_trans y x m b (first_below x xs asc m later)
+  | inr later ↦ name_order.transitive y x m b (below_later x m xs asc later)
 ]
-drop_below y (x ∷ xs) (suc i) d asc lt b m h = drop_below y xs i d (ascending_tail x xs asc) (omega arith) b m h
-
-pub take_drop : (i : ℕ) (xs : List FullName) → take i xs ++ drop i xs ≡ xs
-take_drop zero xs = refl
-take_drop (suc i) [] = refl
-take_drop (suc i) (x ∷ xs) = ap (λ ys. x ∷ ys) (take_drop i xs)
-
-ascending_drop : (i : ℕ) (xs : List FullName) → ascending name_below xs ≡ true → ascending name_below (drop i xs) ≡ true
-ascending_drop zero xs asc = asc
-ascending_drop (suc i) [] asc = refl
-ascending_drop (suc i) (x ∷ xs) asc = ascending_drop i xs (ascending_tail x xs asc)
-
-ascending_take : (i : ℕ) (xs : List FullName) → ascending name_below xs ≡ true → ascending name_below (take i xs) ≡ true
-ascending_take zero xs asc = refl
-ascending_take (suc i) [] asc = refl
-ascending_take (suc zero) (x ∷ xs) asc = refl
-ascending_take (suc (suc i)) (x ∷ []) asc = refl
-ascending_take (suc (suc i)) (x ∷ z ∷ xs) asc = let parts = and_parts (name_below x z) (ascending name_below (z ∷ xs)) asc in rw parts.0 (ascending_take (suc i) (z ∷ xs) parts.1)
+drop_below y (x ∷ xs) (suc i) d asc lt b m h = drop_below y xs i d (ascending_tail name_below x xs asc) (omega arith) b m h
 
 ascending_from : (y : FullName) (bs : List FullName) → ascending name_below bs ≡ true → ((m : FullName) → among bs m ≡ true → name_below y m ≡ true) → ascending name_below (y ∷ bs) ≡ true
 ascending_from y [] asc after = refl
-ascending_from y (b ∷ bs) asc after = rw (after b (or_left (same_name b b) _ (same_itself b))) asc
+ascending_from y (b ∷ bs) asc after = rw (after b (or_left (same_name b b) _ (same_name-itself b))) asc
 
 ascending_join : (as_ bs : List FullName) (y : FullName) → ascending name_below as_ ≡ true → ((m : FullName) → among as_ m ≡ true → name_below m y ≡ true)
     → ascending name_below (y ∷ bs) ≡ true → ascending name_below (as_ ++ y ∷ bs) ≡ true
-ascending_join [] bs y asc before rest = rest
-ascending_join (a ∷ []) bs y asc before rest = rw (before a (or_left (same_name a a) false (same_itself a))) rest
-ascending_join (a ∷ b ∷ as_) bs y asc before rest =
-    let parts = and_parts (name_below a b) (ascending name_below (b ∷ as_)) asc in
-    rw parts.0 (ascending_join (b ∷ as_) bs y parts.1 (λ m h. before m (or_right (same_name m a) _ h)) rest)
+ascending_join as_ bs y asc before rest = ascending_joined as_ (y ∷ bs) asc rest (λ m n h k. elim (or_cases (same_name n y) (among bs n) k) [
+  | inl here ↦ subst (λ z. name_below m z ≡ true) (sym (same_name-is n y here)) (before m h)
+  | inr later ↦ name_order.transitive m y n (before m h) (below_later y n bs rest later)
+])
 
 pub insert_ascending : (xs : List FullName) (i : ℕ) (y : FullName) → ascending name_below xs ≡ true → ((m : FullName) → among (take i xs) m ≡ true → name_below m y ≡ true)
     → ((m : FullName) → among (drop i xs) m ≡ true → name_below y m ≡ true) → ascending name_below (insert xs i y) ≡ true
-insert_ascending xs i y asc before after = ascending_join (take i xs) (drop i xs) y (ascending_take i xs asc) before (ascending_from y (drop i xs) (ascending_drop i xs asc) after)
+insert_ascending xs i y asc before after = ascending_join (take i xs) (drop i xs) y (ascending_take name_below i xs asc) before (ascending_from y (drop i xs) (ascending_drop name_below i xs asc) after)
 
 pub insert_among : (xs : List FullName) (i : ℕ) (y m : FullName) → among (insert xs i y) m ≡ among xs m || same_name m y
 insert_among xs i y m =
     list_any-append (same_name m) (take i xs) (y ∷ drop i xs) ∙ turn (among (take i xs) m) (same_name m y) (among (drop i xs) m)
-    ∙ ap (λ b. b || same_name m y) (sym (list_any-append (same_name m) (take i xs) (drop i xs)) ∙ ap (λ ys. among ys m) (take_drop i xs))
+    ∙ ap (λ b. b || same_name m y) (sym (list_any-append (same_name m) (take i xs) (drop i xs)) ∙ ap (λ ys. among ys m) (take-append-drop i xs))
   where
     turn : (a s b : Bool) → (a || (s || b)) ≡ ((a || b) || s)
     turn true s b = refl

@@ -20,8 +20,7 @@ use Rattle.srm_names.specs.declared.stream.Stream.{Stream}
 use Rattle.srm_names.specs.FullName.{FullName}
 use Rattle.srm_names.specs.Names.{same_page, same_stream, same_name, page_below, stream_below, name_below}
 use Rattle.srm_deadlines.specs.declared.timed.Timed.{Timed}
-use Rattle.srm_names.proofs.Lists.{Has}
-use Rattle.srm_deadlines.proofs.Agendas.{contains_from}
+use Rattle.srm_names.proofs.Lists.{Has, Has-Contains}
 use Rattle.srm_deadlines.specs.Agenda.{page_order, stream_order, name_order, timed_order}
 
 -- ---- the laws
@@ -195,7 +194,7 @@ filtered_in_order p xs sorted = IsSortedBy-filter (λ (a b : Timed). is_lt (time
 -- a search for what is there finds it
 pub found_there : (xs : List Timed) (t : Timed) (i : ℕ) → Has t xs → IsInOrder xs → IsBinarySearchResult (λ x. timed_order x t) xs (Err i) → ⊥
 found_there xs t i there sorted found =
-    let (k, lt, at) = contains_from t xs there in
+    let (k, lt, at) = Has-Contains t xs there in
     let parts = found (searchable_from_sorted timed_total (λ (x : Timed). x) xs t sorted) in
     let same : timed_order (get_or xs k t) t ≡ Equal = ap (λ x. timed_order x t) at ∙ tied_itself timed_total t in
     elim (cases_lt k i) [

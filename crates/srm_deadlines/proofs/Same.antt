@@ -1,16 +1,11 @@
 -- The test of names.
-use Rattle.std.proofs.Common.{◌≡◌, Bool, true, false, ◌||◌, refl, sym, ap, subst, ◌∙◌, inl, inr, ◌⊎◌}
-use Rattle.std.proofs.lemmas.Bool.{eqb-true, and_from, both_ways}
-use Rattle.std.proofs.Common.{eq-eqb}
+use Rattle.std.proofs.Common.{◌≡◌, Bool, true, false, refl, sym, subst, ◌∙◌}
 use Rattle.srm_names.specs.FullName.{FullName}
-use Rattle.srm_names.specs.Names.{same_name, same_stream}
-use Rattle.srm_names.proofs.Same.{same_name-is, same_stream-itself}
-
-pub same_itself : (a : FullName) → same_name a a ≡ true
-same_itself a = and_from _ _ (same_stream-itself a.stream) (eq-eqb a.number a.number refl)
+use Rattle.srm_names.specs.Names.{same_name}
+use Rattle.srm_names.proofs.Same.{same_name-is, same_name-itself}
 
 same_other : (a b : FullName) → same_name a b ≡ true → same_name b a ≡ true
-same_other a b e = subst (λ n. same_name n a ≡ true) (same_name-is a b e) (same_itself a)
+same_other a b e = subst (λ n. same_name n a ≡ true) (same_name-is a b e) (same_name-itself a)
 
 pub same_flip : (a b : FullName) → same_name a b ≡ same_name b a
 same_flip a b = go (same_name a b) refl (same_name b a) refl

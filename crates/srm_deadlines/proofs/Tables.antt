@@ -1,40 +1,22 @@
 -- What a table by name has, read as places.
-use Rattle.std.proofs.Common.{◌≡◌, ℕ, ◌+◌, ◌<◌, Bool, true, false, ◌||◌, cond, add-zero, List, [], ◌∷◌, length, take, get_or, Option, Some, None, refl, sym, ap, subst, ◌∙◌, inl, inr, ◌⊎◌}
+use Rattle.std.proofs.Common.{◌≡◌, ℕ, ◌+◌, ◌<◌, Bool, true, false, ◌||◌, cond, add-zero, List, [], ◌∷◌, length, take, get_or, Option, Some, None, refl, sym, ap, subst, ◌∙◌, inl, inr}
 use Rattle.std.specs.Prelude.{find, is_some, IfSome, if◌then◌else◌, Result, Ok, Err, OnOk, OnErr, IfOk}
-use Rattle.std.specs.List.{list_any}
+use Rattle.std.proofs.Math.Bool.{or-false}
+use Rattle.std.proofs.lemmas.Bool.{or_right, or_cases}
 use Rattle.std.proofs.lemmas.List.Folds.{list_any_more}
 use Rattle.std.proofs.lemmas.List.{length-map}
 use Rattle.std.specs.Map.{keys_of, lookup}
 use Rattle.srm_names.specs.FullName.{FullName}
 use Rattle.srm_names.specs.Names.{same_name, among}
-use Rattle.srm_names.proofs.Same.{same_name-is}
+use Rattle.srm_names.proofs.Same.{same_name-is, same_name-itself}
+use Rattle.srm_names.proofs.Lists.{any_found}
 use Rattle.srm_deadlines.specs.declared.by_name.NamedValue.{NamedValue}
 use Rattle.srm_deadlines.specs.Places.{value_in, value_at, place_names, is_at, has_place, KeepsPlaces, GivesPlaces, KeepsValues, Sets, ClearsAll, HasPlaces}
 use Rattle.srm_deadlines.specs.PlacesOf.{place_of, places_of}
-use Rattle.srm_deadlines.proofs.Same.{same_itself, same_flip}
-
-pub any_find : {X : Type 0} (p : X → Bool) (xs : List X) → list_any p xs ≡ is_some (find p xs)
-any_find p [] = refl
-any_find p (x ∷ xs) = go (p x) x (any_find p xs)
-  where
-    go : (b : Bool) (x : _) → list_any p xs ≡ is_some (find p xs) → (b || list_any p xs) ≡ is_some (cond b (Some x) (find p xs))
-    go true x h = refl
-    go false x h = h
-
-pub either : (a b : Bool) → (a || b) ≡ true → (a ≡ true) ⊎ (b ≡ true)
-either true b h = inl refl
-either false b h = inr h
+use Rattle.srm_deadlines.proofs.Same.{same_flip}
 
 pub at_some : {X : Type 0} (P : X → Type 0) (o : Option X) (x : X) → o ≡ Some x → IfSome o P → P x
 at_some P o x is h = subst (λ q. IfSome q P) is h
-
-left_of : (a : Bool) → (a || false) ≡ true → a ≡ true
-left_of true h = refl
-left_of false h = h
-
-right_of : (a b : Bool) → b ≡ true → (a || b) ≡ true
-right_of true b h = refl
-right_of false b h = h
 
 abbrev pub Entries : Type 0 → Type 0
 Entries V = List (FullName × Option V)
@@ -92,7 +74,7 @@ module _ {V : Type 0} where
 
   pub place_from : (name : FullName) (v : Option V) (old new : Entries V) → Puts name v old new → has_place (places_of new) name ≡ true
   place_from name v old new puts =
-      place_found new name ∙ ap is_some (puts.each name) ∙ ap (λ b. is_some (cond b (Some v) (lookup (same_name name) old))) (same_itself name)
+      place_found new name ∙ ap is_some (puts.each name) ∙ ap (λ b. is_some (cond b (Some v) (lookup (same_name name) old))) (same_name-itself name)
 
   keep_if : (b : Bool) (o : Option (Option V)) → (b ≡ true → is_some o ≡ false) → flat (cond b (Some None) o) ≡ flat o
   keep_if false o h = refl
@@ -137,7 +119,7 @@ module _ {V : Type 0} where
       none (Some p) h = absurd (let k : true ≡ false = h in cc)
 
       go : (n : FullName) (b : Bool) → same_name n name ≡ b → value_at xs n ≡ (if b then None else value_at xs n)
-      go n true same = ap (value_at xs) (same_name-is n name same) ∙ none (find (is_at name) xs) (sym (any_find (is_at name) xs) ∙ e)
+      go n true same = ap (value_at xs) (same_name-is n name same) ∙ none (find (is_at name) xs) (sym (any_found (is_at name) xs) ∙ e)
       go n false other = refl
 
   -- ---- which names are given places
@@ -167,20 +149,20 @@ module _ {V : Type 0} where
   gives_none names xs ys same = record { only = λ n h. ap (λ b. b || among names n) (ap (λ zs. has_place zs n) (sym same) ∙ h) }
 
   pub given_on : (xs ys zs : List (NamedValue V)) → GivesPlaces [] xs ys → GivesPlaces [] ys zs → GivesPlaces [] xs zs
-  given_on xs ys zs p q = record { only = λ n h. p.only n (left_of (has_place ys n) (q.only n h)) }
+  given_on xs ys zs p q = record { only = λ n h. p.only n (sym (or-false (has_place ys n)) ∙ q.only n h) }
 
   -- the loop over names that are given places
   pub given_more : (names : List FullName) (name : FullName) (xs ys zs : List (NamedValue V)) → among names name ≡ true → GivesPlaces names xs ys → GivesPlaces (name ∷ []) ys zs → GivesPlaces names xs zs
   given_more names name xs ys zs at p q = record {
-    only = λ n h. elim (either (has_place ys n) (same_name n name || false) (q.only n h)) [
+    only = λ n h. elim (or_cases (has_place ys n) (same_name n name || false) (q.only n h)) [
       | inl old ↦ p.only n old
-      | inr new ↦ right_of (has_place xs n) (among names n) (ap (among names) (same_name-is n name (left_of (same_name n name) new)) ∙ at)
+      | inr new ↦ or_right (has_place xs n) (among names n) (ap (among names) (same_name-is n name (sym (or-false (same_name n name)) ∙ new)) ∙ at)
     ];
   }
 
   pub more_places : (names : List FullName) (i : ℕ) (d : FullName) (xs ys : List (NamedValue V)) → i < length names → HasPlaces (take i names) xs → KeepsPlaces xs ys → has_place ys (get_or names i d) ≡ true → HasPlaces (take (i + 1) names) ys
   more_places names i d xs ys lt h hold here = record {
-    each = λ n at. elim (either (among (take i names) n) (same_name n (get_or names i d)) (sym (list_any_more (same_name n) names i d lt) ∙ at)) [
+    each = λ n at. elim (or_cases (among (take i names) n) (same_name n (get_or names i d)) (sym (list_any_more (same_name n) names i d lt) ∙ at)) [
       | inl old ↦ hold.each n (h.each n old)
       | inr new ↦ ap (has_place ys) (same_name-is n (get_or names i d) new) ∙ here
     ];

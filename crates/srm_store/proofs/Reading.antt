@@ -1,7 +1,7 @@
 -- What a store that fits answers.
 use Rattle.std.proofs.Common.{◌≡◌, ◌≢◌, ℕ, zero, suc, ◌+◌, ◌-◌, ◌<◌, ◌≤◌, ◌⊎◌, List, [], ◌∷◌, ◌++◌, Option, Some, None, Bool, true, false, not, length, refl, sym, ap, ◌∙◌, subst, arith, inl, inr}
-use Rattle.std.specs.Prelude.{◌||◌, IsSome, is_some, map, find, cond, if◌then◌else◌}
-use Rattle.std.specs.List.{list_any, flat_map}
+use Rattle.std.specs.Prelude.{IsSome, is_some, map, cond, if◌then◌else◌}
+use Rattle.std.specs.List.{flat_map}
 use Rattle.std.proofs.lemmas.Bool.{cases_eq, false≢true}
 use Rattle.srm_names.specs.declared.limits.TheConstants.{MEMBERS}
 use Rattle.srm_names.specs.declared.stream.Stream.{Stream}
@@ -10,6 +10,7 @@ use Rattle.srm_names.specs.FullName.{FullName}
 use Rattle.srm_names.specs.Histories.{greatest, count_up, until_none}
 use Rattle.srm_names.specs.Names.{same_name, named}
 use Rattle.srm_names.proofs.Same.{same_name-is, same_stream-itself}
+use Rattle.srm_names.proofs.Lists.{any_found, greatest-append}
 use Rattle.srm_store.specs.Held.{has_name, held_at, is_held, number_in, greatest_in, known, unheld, names_after, missing, newly_missing, released}
 use Rattle.srm_store.specs.Finals.{Settling}
 use Rattle.srm_store.specs.Places.{place_at, FilledTo}
@@ -17,15 +18,6 @@ use Rattle.srm_store.specs.StreamPlaces.{StreamContent, unheld_in_stream}
 use Rattle.srm_store.specs.Tables.{TableContent, places_of_stream}
 use Rattle.srm_store.specs.Stores.{StoreContent}
 use Rattle.srm_store.specs.Fits.{Fits}
-use Rattle.srm_store.proofs.Fitting.{greatest-append}
-
-any_found : {X : Type 0} (p : X → Bool) (xs : List X) → list_any p xs ≡ is_some (find p xs)
-any_found p [] = refl
-any_found p (x ∷ xs) = go (p x) x (any_found p xs)
-  where
-    go : (b : Bool) (y : _) → list_any p xs ≡ is_some (find p xs) → (b || list_any p xs) ≡ is_some (cond b (Some y) (find p xs))
-    go true y h = refl
-    go false y h = h
 
 -- The places of a stream, read from the table of a store.
 pub record Reads (s : StoreContent) (u : Stream) (content : StreamContent) : Type 0 where

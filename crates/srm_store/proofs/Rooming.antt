@@ -2,7 +2,7 @@
 use Rattle.std.proofs.Common.{◌≡◌, ℕ, zero, suc, ◌+◌, ◌-◌, ◌<◌, ◌≤◌, List, [], ◌∷◌, ◌++◌, Some, None, Bool, true, false, not, ◌&&◌, max, length, Result, Ok, Err, IsOk, get_or, take, drop, refl, sym, ap, ◌∙◌, subst, arith}
 use Rattle.std.specs.Prelude.{◌||◌, nat_lt, nat_le, is_some, position, cond, if◌then◌else◌}
 use Rattle.std.specs.List.{list_any, position_or_len}
-use Rattle.std.proofs.lemmas.Bool.{false≢true, and_parts}
+use Rattle.std.proofs.lemmas.Bool.{false≢true, and_parts, or_right}
 use Rattle.std.proofs.lemmas.Bool.Decides.{nat_tests}
 use Rattle.std.proofs.lemmas.List.Quantifiers.{position-Some}
 use Rattle.srm_names.specs.FullName.{FullName}
@@ -85,10 +85,6 @@ ready_learns old new a learns still others = record {
     enough : (n : FullName) (k : ℕ) → n.number ≤ k → (nat_le n.number k || has_room new.rooms n (n.number - k)) ≡ true
     enough n k le = let e : nat_le n.number k ≡ true = grind (arith, nat_tests) in rw e refl
 
-    or_other : (b d : Bool) → d ≡ true → (b || d) ≡ true
-    or_other true d e = refl
-    or_other false d e = e
-
     rises : (k j m : ℕ) (d : Bool) → j ≡ (if d then max k m else k) → k ≤ j
     rises k j m true e = omega (arith, e)
     rises k j m false e = omega (arith, e)
@@ -101,7 +97,7 @@ ready_learns old new a learns still others = record {
         let top : j ≡ max k a.number = up ∙ ap (λ (x : Bool). if x then max k a.number else k) here in
         enough n j (omega (arith, top, number))
     go n k j false other d e up true g had = let le : n.number ≤ k = grind (arith, nat_tests) in enough n j (omega (arith, le, rises k j a.number (same_stream n.stream a.stream) up))
-    go n k j false other d e up false g had = or_other (nat_le n.number j) _ (has_room-fewer new.rooms n (n.number - k) (n.number - j) (omega (arith, rises k j a.number (same_stream n.stream a.stream) up)) (others.each n (n.number - k) other had))
+    go n k j false other d e up false g had = or_right (nat_le n.number j) _ (has_room-fewer new.rooms n (n.number - k) (n.number - j) (omega (arith, rises k j a.number (same_stream n.stream a.stream) up)) (others.each n (n.number - k) other had))
 
 -- one more name has what those before it have
 pub each_more : (names : List FullName) (i : ℕ) (name : FullName) (P Q : FullName → Type 0) → name ≡ get_or names i name → i < length names

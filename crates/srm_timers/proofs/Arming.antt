@@ -1,14 +1,17 @@
 -- Lists of arms: their names, their plans, and how they are drawn.
-use Rattle.std.proofs.Common.{◌≡◌, ℕ, zero, suc, ◌+◌, ◌<◌, List, [], ◌∷◌, ◌++◌, map, length, get_or, take, Option, Some, None, Bool, true, false, ◌||◌, cond, refl, sym, ap, subst, ◌∙◌, arith}
+use Rattle.std.proofs.Common.{◌≡◌, ℕ, zero, suc, ◌+◌, ◌<◌, List, [], ◌∷◌, ◌++◌, map, length, get_or, take, Option, Some, None, Bool, true, false, ◌||◌, cond, refl, sym, ap, subst, ◌∙◌}
 use Rattle.std.specs.Prelude.{if◌then◌else◌, option_map, find, is_some}
 use Rattle.std.specs.List.{list_any}
+use Rattle.std.proofs.lemmas.List.{map-append}
 use Rattle.srm_names.specs.declared.limits.TheConstants.{MEMBERS}
 use Rattle.srm_names.specs.FullName.{FullName}
 use Rattle.srm_names.specs.Histories.{or_else, last_of}
 use Rattle.srm_names.specs.Names.{same_name, name_below, ascending, among}
 use Rattle.srm_names.proofs.Same.{same_name-is}
-use Rattle.srm_names.proofs.Orders.{stands_once, and_right}
+use Rattle.srm_names.proofs.Orders.{stands_once}
 use Rattle.srm_names.proofs.Lists.{AllByRecursion-snoc}
+use Rattle.srm_names.proofs.Rising.{ascending_tail}
+use Rattle.srm_names.proofs.Snoc.{or_else-none}
 use Rattle.srm_deadlines.proofs.Order.{map_take}
 use Rattle.srm_timers.specs.declared.arm.Arm.{Arm}
 use Rattle.srm_deadlines.specs.declared.timed.Timed.{Timed}
@@ -16,14 +19,11 @@ use Rattle.srm_timers.specs.Arms.{Plan, WaitBasis, plan_of, wait_basis, arm_name
 use Rattle.srm_timers.specs.Ends.{timed_at, arm_end, is_short, AreShort}
 use Rattle.srm_deadlines.specs.Places.{names_of, moment_among, is_timed}
 
-pub same_itself : (n : FullName) → same_name n n ≡ true
-same_itself n = grind arith
-
--- one more arm that is drawn
-pub chosen_more : {W : Type 0} (next_word : W → ℕ × W) (low high : Arm → ℕ) (from mid to : W) (arms : List Arm) (a : Arm)
-    → AreChosen next_word low high from arms mid → AreChosen next_word low high mid (a ∷ []) to → AreChosen next_word low high from (arms ++ a ∷ []) to
-chosen_more next_word low high from mid to [] a h k = subst (λ w. AreChosen next_word low high w (a ∷ []) to) h k
-chosen_more next_word low high from mid to (b ∷ arms) a h k = (h.0, chosen_more next_word low high (next_word from).1 mid to arms a h.1 k)
+-- arms that are drawn one after the other
+pub chosen-append : {W : Type 0} (next_word : W → ℕ × W) (low high : Arm → ℕ) (from mid to : W) (xs ys : List Arm)
+    → AreChosen next_word low high from xs mid → AreChosen next_word low high mid ys to → AreChosen next_word low high from (xs ++ ys) to
+chosen-append next_word low high from mid to [] ys h k = subst (λ w. AreChosen next_word low high w ys to) h k
+chosen-append next_word low high from mid to (x ∷ xs) ys h k = (h.0, chosen-append next_word low high (next_word from).1 mid to xs ys h.1 k)
 
 pub members_more : (name : FullName) (source : ℕ) (arms : List Arm) (a : Arm) → AreOfMembers arms → a.name ≡ name → source ≡ name.stream.source → source < MEMBERS → AreOfMembers (arms ++ a ∷ [])
 members_more name source arms a h named is below =
@@ -35,15 +35,11 @@ short_more arms a h here = record { each = AllByRecursion-snoc is_short arms a h
 pub asks_more : (arms : List Arm) (a : Arm) → AreAsks arms → IsAsk a → AreAsks (arms ++ a ∷ [])
 asks_more arms a h here = record { each = AllByRecursion-snoc IsAsk arms a h.each here }
 
-map_more : {X Y : Type 0} (f : X → Y) (xs : List X) (x : X) → map f (xs ++ x ∷ []) ≡ map f xs ++ f x ∷ []
-map_more f [] x = refl
-map_more f (y ∷ xs) x = ap (λ ys. f y ∷ ys) (map_more f xs x)
-
 -- one more arm that is planned
 pub plans_more : (f : FullName → Plan) (names : List FullName) (i : ℕ) (n : FullName) (arms arms' : List Arm) (a : Arm) → i < length names → n ≡ get_or names i n
     → map plan_of arms ≡ map f (take i names) → arms' ≡ arms ++ a ∷ [] → plan_of a ≡ f n → map plan_of arms' ≡ map f (take (i + 1) names)
 plans_more f names i n arms arms' a lt is h items here =
-    ap (map plan_of) items ∙ map_more plan_of arms a ∙ ap (λ ps. ps ++ plan_of a ∷ []) h ∙ ap (λ p. map f (take i names) ++ p ∷ []) here ∙ sym (map_take f names i n lt is)
+    ap (map plan_of) items ∙ map-append plan_of arms (a ∷ []) ∙ ap (λ ps. ps ++ plan_of a ∷ []) h ∙ ap (λ p. map f (take i names) ++ p ∷ []) here ∙ sym (map_take f names i n lt is)
 
 -- arms by plan have the names that are planned
 pub planned_names : (f : FullName → Plan) → ((n : FullName) → (f n).name ≡ n) → (names : List FullName) (arms : List Arm) → map plan_of arms ≡ map f names → arm_names arms ≡ names
@@ -82,10 +78,6 @@ planned_are f settings names arms own rising e is = record {
   exact = λ n. planned_settings f own names arms e n ∙ is n;
 }
 
-pub ascending_tail : (n : FullName) (names : List FullName) → ascending name_below (n ∷ names) ≡ true → ascending name_below names ≡ true
-ascending_tail n [] h = refl
-ascending_tail n (m ∷ names) h = and_right (name_below n m) (ascending name_below (m ∷ names)) h
-
 none_found : (n : FullName) (arms : List Arm) → among (arm_names arms) n ≡ false → arm_of n arms ≡ None
 none_found n [] h = refl
 none_found n (a ∷ arms) h = go (same_name n a.name) h (none_found n arms)
@@ -102,16 +94,12 @@ module _ {C V : Type 0} (tell : FullName → C → Option V) (make : Arm → C) 
       → or_else (option_map value (arm_of n arms)) (if b then Some (value a) else None) ≡ option_map value (cond b (Some a) (arm_of n arms))
   pick n a arms true same rising true is = absurd (stands_once a.name (arm_names arms) rising (ap (among (arm_names arms)) (sym (same_name-is n a.name same)) ∙ is))
   pick n a arms true same rising false is = ap (λ o. or_else (option_map value o) (Some (value a))) (none_found n arms is)
-  pick n a arms false same rising there is = or_none (option_map value (arm_of n arms))
-    where
-      or_none : (o : Option V) → or_else o None ≡ o
-      or_none None = refl
-      or_none (Some v) = refl
+  pick n a arms false same rising there is = or_else-none (option_map value (arm_of n arms))
 
   pub last_arms : (n : FullName) (arms : List Arm) → ascending name_below (arm_names arms) ≡ true → last_of (tell n) (map make arms) ≡ option_map value (arm_of n arms)
   last_arms n [] rising = refl
   last_arms n (a ∷ arms) rising =
-      ap (λ o. or_else o (tell n (make a))) (last_arms n arms (ascending_tail a.name (arm_names arms) rising))
+      ap (λ o. or_else o (tell n (make a))) (last_arms n arms (ascending_tail name_below a.name (arm_names arms) rising))
       ∙ ap (or_else (option_map value (arm_of n arms))) (tells n a)
       ∙ pick n a arms (same_name n a.name) refl rising (among (arm_names arms) n) refl
 

@@ -23,7 +23,7 @@ pub if_same : {X : Type 0} (b : Bool) (x y z : X) → y ≡ z → (if b then x e
 if_same true x y z e = refl
 if_same false x y z e = e
 
-flat_told : (b : Bool) (o : Option Armed) (last : Option (Option Armed)) → flat (or_else (if b then Some o else None) last) ≡ (if b then o else flat last)
+pub flat_told : (b : Bool) (o : Option Armed) (last : Option (Option Armed)) → flat (or_else (if b then Some o else None) last) ≡ (if b then o else flat last)
 flat_told true o last = refl
 flat_told false o last = refl
 

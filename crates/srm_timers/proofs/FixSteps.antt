@@ -2,14 +2,15 @@
 use Rattle.std.proofs.Common.{◌≡◌, ℕ, ◌+◌, ◌*◌, ◌<◌, ◌≤◌, List, [], ◌∷◌, ◌++◌, map, length, get_or, take, Option, Some, None, Bool, true, false, cond, refl, sym, ap, subst, ◌∙◌, append_assoc, arith}
 use Rattle.std.specs.Prelude.{if◌then◌else◌, option_map, nat_le, nat_lt, ◌||◌, ◌&&◌, not, unwrap_or, is_some, option_to_list}
 use Rattle.std.specs.List.{list_any}
+use Rattle.std.proofs.Math.Bool.{or-false}
 use Rattle.std.proofs.lemmas.List.Folds.{list_any-append, list_any_more}
 use Rattle.std.proofs.lemmas.Bool.Decides.{nat_tests}
 use Rattle.srm_names.specs.declared.limits.TheConstants.{MEMBERS}
 use Rattle.srm_names.specs.FullName.{FullName}
 use Rattle.srm_names.specs.Histories.{last_of, first_of, or_else}
 use Rattle.srm_names.specs.Names.{same_name, name_below, ascending, among, AreExactly}
-use Rattle.srm_names.proofs.Same.{same_name-is}
-use Rattle.srm_names.proofs.Snoc.{last_of-snoc, last_of-append, first_of-snoc, list_any-snoc}
+use Rattle.srm_names.proofs.Same.{same_name-is, same_name-itself}
+use Rattle.srm_names.proofs.Snoc.{or_else-none, last_of-snoc, last_of-append, first_of-snoc, list_any-snoc}
 use Rattle.srm_timers.specs.declared.arm.Arm.{Arm}
 use Rattle.srm_timers.specs.declared.arm.Armed.{Armed}
 use Rattle.srm_deadlines.specs.declared.by_name.NamedValue.{NamedValue}
@@ -23,17 +24,9 @@ use Rattle.srm_timers.specs.AskCalls.{flat}
 use Rattle.srm_timers.specs.Marks.{NotesAsker, OffAsBefore}
 use Rattle.srm_timers.specs.FixCalls.{FixCall, Asked, SetFix, Repaired, asker_by, asked_first, first_asker, fix_timer_after, fix_timer, call_holds_off, calls_hold_off, is_free, sets_fix, repair_holds_until, repair_by, repair_calls, FixFits, FixContent, FixStays, FixAdds, FixRepairs, FixDue, FixNext, FixIsFree, FixFirstAsker, FixAnswers, fix_plan, FixPlace, FixPlaces, HoldsOff, HoldAllOff, asker_at, is_held_off, held_off_until}
 use Rattle.srm_deadlines.proofs.Order.{map_take}
-use Rattle.srm_timers.proofs.Arming.{same_itself, last_arms}
+use Rattle.srm_timers.proofs.Arming.{last_arms}
 pub use Rattle.srm_deadlines.proofs.Tables.{holds_on}
-use Rattle.srm_timers.proofs.AskSteps.{if_same, flat_set, ends_set, due_ran_out, first_end}
-
-or_none : {X : Type 0} (o : Option X) → or_else o None ≡ o
-or_none None = refl
-or_none (Some x) = refl
-
-or_false : (b : Bool) → (b || false) ≡ b
-or_false true = refl
-or_false false = refl
+use Rattle.srm_timers.proofs.AskSteps.{if_same, flat_told, flat_set, ends_set, due_ran_out, first_end}
 
 pub asked_first-snoc : (calls : List FixCall) (c : FixCall) (n : FullName) → asked_first (calls ++ c ∷ []) n ≡ or_else (asked_first calls n) (asker_by n c)
 asked_first-snoc calls c n = first_of-snoc (asker_by n) calls c
@@ -69,16 +62,12 @@ fix_timer-sets calls now arms n rising =
     ap flat (last_of-append (fix_timer_after n) calls (sets_fix now arms) ∙ ap (λ o. or_else o (last_of (fix_timer_after n) calls)) (last_arms fix_timer_after (SetFix now) (λ a. Some (armed_at now a)) (λ m a. refl) n arms rising))
     ∙ flat_set now (arm_of n arms) (last_of (fix_timer_after n) calls)
 
-flat_ran : (b : Bool) (o : Option Armed) (last : Option (Option Armed)) → flat (or_else (if b then Some o else None) last) ≡ (if b then o else flat last)
-flat_ran true o last = refl
-flat_ran false o last = refl
-
 pub fix_timer-repaired : (calls : List FixCall) (name : FullName) (until : ℕ) (n : FullName)
     → fix_timer (calls ++ Repaired name until ∷ []) n ≡ (if same_name n name then None else fix_timer calls n)
-fix_timer-repaired calls name until n = ap flat (last_of-snoc (fix_timer_after n) calls (Repaired name until)) ∙ flat_ran (same_name n name) None (last_of (fix_timer_after n) calls)
+fix_timer-repaired calls name until n = ap flat (last_of-snoc (fix_timer_after n) calls (Repaired name until)) ∙ flat_told (same_name n name) None (last_of (fix_timer_after n) calls)
 
 pub calls_hold_off-asked : (calls : List FixCall) (name : FullName) (from : ℕ) (n : FullName) (now : ℕ) → calls_hold_off (calls ++ Asked name from ∷ []) n now ≡ calls_hold_off calls n now
-calls_hold_off-asked calls name from n now = list_any-snoc (call_holds_off n now) calls (Asked name from) ∙ or_false (calls_hold_off calls n now)
+calls_hold_off-asked calls name from n now = list_any-snoc (call_holds_off n now) calls (Asked name from) ∙ or-false (calls_hold_off calls n now)
 
 pub calls_hold_off-repaired : (calls : List FixCall) (name : FullName) (until : ℕ) (n : FullName) (now : ℕ)
     → calls_hold_off (calls ++ Repaired name until ∷ []) n now ≡ calls_hold_off calls n now || same_name n name && nat_lt now until
@@ -99,7 +88,7 @@ fits_asked d1 d2 calls name from a b h p q ends held_off askers = record {
 pub new_asker : (name : FullName) (from : ℕ) (n : FullName) (f : FullName → Option ℕ) → f name ≡ None → (b : Bool) → same_name n name ≡ b
     → (if b then Some from else f n) ≡ or_else (f n) (if b then Some from else None)
 new_asker name from n f none true same = sym (ap (λ o. or_else o (Some from)) (ap f (same_name-is n name same) ∙ none))
-new_asker name from n f none false other = sym (or_none (f n))
+new_asker name from n f none false other = sym (or_else-none (f n))
 
 -- timers are set
 pub fits_sets_fix : (d1 d2 : ℕ) (calls : List FixCall) (now : ℕ) (arms : List Arm) (a b : FixContent) → FixFits d1 d2 calls a → b.d1 ≡ a.d1 → b.d2 ≡ a.d2
@@ -146,7 +135,7 @@ longer name until f less n now true same = let e : unwrap_or (f n) 0 ≡ unwrap_
   where
     go : (old : ℕ) → old < until → nat_lt now until ≡ nat_lt now old || nat_lt now until
     go old less = grind (arith, nat_tests)
-longer name until f less n now false other = sym (or_false (nat_lt now (unwrap_or (f n) 0)))
+longer name until f less n now false other = sym (or-false (nat_lt now (unwrap_or (f n) 0)))
 
 as_long : (name : FullName) (until : ℕ) (f : FullName → Option ℕ) → until ≤ unwrap_or (f name) 0 → (n : FullName) (now : ℕ) (b : Bool) → same_name n name ≡ b
     → nat_lt now (unwrap_or (f n) 0) ≡ nat_lt now (unwrap_or (f n) 0) || b && nat_lt now until
@@ -154,7 +143,7 @@ as_long name until f more n now true same = let e : unwrap_or (f n) 0 ≡ unwrap
   where
     go : (old : ℕ) → until ≤ old → nat_lt now old ≡ nat_lt now old || nat_lt now until
     go old more = grind (arith, nat_tests)
-as_long name until f more n now false other = sym (or_false (nat_lt now (unwrap_or (f n) 0)))
+as_long name until f more n now false other = sym (or-false (nat_lt now (unwrap_or (f n) 0)))
 
 -- a longer hold-off takes the place of the one before, and a shorter one doesn't
 pub held_longer : (name : FullName) (until kept : ℕ) (old new : List (NamedValue ℕ)) → kept ≡ unwrap_or (value_at old name) 0 → kept < until → Sets name (Some until) old new → HoldsOff name until old new
@@ -189,7 +178,7 @@ held_more now dist names i name distance member askers old mid new lt is asker b
     merge true b s l = refl
     merge false true true true = refl
     merge false true true false = refl
-    merge false true false l = or_false l
+    merge false true false l = or-false l
     merge false false s l = refl
 
     go : (n : FullName) (t : ℕ) (a b s : Bool) → same_name n name ≡ s
@@ -218,7 +207,7 @@ repairs_hold now dist calls (m ∷ names) n t = ap (λ b. same_name n m && nat_l
     both : (b l : Bool) → (l || b && l) ≡ l
     both true true = refl
     both true false = refl
-    both false l = or_false l
+    both false l = or-false l
 
     go : (a : Bool) → same_name n m ≡ a → (b : Bool) → (a && nat_lt t (repair_holds_until now dist calls m) || b && nat_lt t (repair_holds_until now dist calls n)) ≡ ((a || b) && nat_lt t (repair_holds_until now dist calls n))
     go true e b = ap (λ k. nat_lt t (repair_holds_until now dist calls k) || b && nat_lt t (repair_holds_until now dist calls n)) (sym (same_name-is n m e)) ∙ both b (nat_lt t (repair_holds_until now dist calls n))
@@ -301,7 +290,7 @@ one_place a name h = record { each = λ n at. go n (same_name n name) refl at }
     go n false same at = cc
 
 pub one_placed : (a : FixContent) (name : FullName) → FixPlaces (name ∷ []) a → FixPlace a name
-one_placed a name h = h.each name (ap (λ b. b || false) (same_itself name))
+one_placed a name h = h.each name (ap (λ b. b || false) (same_name-itself name))
 
 -- a request sets a timer, or doesn't
 pub answered : (b told : Bool) (p q : Plan) → b ≡ true → b ≡ told → p ≡ q → Some p ≡ (if told then Some q else None)

@@ -1,10 +1,11 @@
 -- One more timer that is set, in a list that is gone through.
-use Rattle.std.proofs.Common.{◌≡◌, ℕ, zero, suc, ◌+◌, ◌<◌, ◌≤◌, List, [], ◌∷◌, ◌++◌, map, length, get_or, take, Option, Some, None, Bool, true, false, ◌||◌, refl, sym, ap, subst, ◌∙◌, arith}
+use Rattle.std.proofs.Common.{◌≡◌, ℕ, zero, suc, ◌+◌, ◌<◌, ◌≤◌, List, [], ◌∷◌, ◌++◌, length, get_or, take, Option, Some, None, Bool, true, false, ◌||◌, refl, sym, ap, subst, ◌∙◌, arith}
 use Rattle.std.specs.Prelude.{if◌then◌else◌, option_map}
-use Rattle.std.proofs.lemmas.List.{take_more, take_all}
+use Rattle.std.proofs.lemmas.List.{take_more, take_all, map-id}
 use Rattle.srm_names.specs.FullName.{FullName}
 use Rattle.srm_names.specs.Histories.{or_else, last_of}
 use Rattle.srm_names.specs.Names.{same_name, name_below, ascending, among}
+use Rattle.srm_names.proofs.Same.{same_name-itself}
 use Rattle.srm_names.proofs.Snoc.{last_of-snoc}
 use Rattle.srm_timers.specs.declared.arm.Arm.{Arm}
 use Rattle.srm_timers.specs.declared.arm.Armed.{Armed}
@@ -12,7 +13,7 @@ use Rattle.srm_deadlines.specs.declared.by_name.NamedValue.{NamedValue}
 use Rattle.srm_timers.specs.Arms.{arm_name, arm_names, arm_of}
 use Rattle.srm_deadlines.specs.Places.{value_at, has_place, Sets, KeepsPlaces, HasPlaces}
 use Rattle.srm_timers.specs.Timers.{armed_at, SetsTimers}
-use Rattle.srm_timers.proofs.Arming.{last_arms, same_itself}
+use Rattle.srm_timers.proofs.Arming.{last_arms}
 
 abbrev pub armed_by : ℕ → FullName → Arm → Option Armed
 armed_by now n a = if same_name n a.name then Some (armed_at now a) else None
@@ -34,20 +35,16 @@ front_more now arms i a armed old mid new lt is at h k = record {
     go n true = refl
     go n false = h.each n
 
-map_itself : {X : Type 0} (xs : List X) → map (λ x. x) xs ≡ xs
-map_itself [] = refl
-map_itself (x ∷ xs) = ap (λ ys. x ∷ ys) (map_itself xs)
-
 pub front_all : (now : ℕ) (arms : List Arm) (i : ℕ) (old new : List (NamedValue Armed)) → length arms ≤ i → ascending name_below (arm_names arms) ≡ true
     → SetsFront now (take i arms) old new → SetsTimers now arms old new
 front_all now arms i old new le rising h = record {
   each = λ n. h.each n ∙ ap (λ o. or_else o (value_at old n))
-      (ap (last_of (armed_by now n)) (take_all i arms le ∙ sym (map_itself arms)) ∙ last_arms (armed_by now) (λ a. a) (armed_at now) (λ m a. refl) n arms rising);
+      (ap (last_of (armed_by now n)) (take_all i arms le ∙ sym (map-id arms)) ∙ last_arms (armed_by now) (λ a. a) (armed_at now) (λ m a. refl) n arms rising);
 }
 
 arm_among : (arms : List Arm) (i : ℕ) (a : Arm) → i < length arms → among (arm_names arms) (get_or arms i a).name ≡ true
 arm_among [] i a lt = absurd (omega arith)
-arm_among (b ∷ arms) zero a lt = ap (λ k. k || among (arm_names arms) b.name) (same_itself b.name)
+arm_among (b ∷ arms) zero a lt = ap (λ k. k || among (arm_names arms) b.name) (same_name-itself b.name)
 arm_among (b ∷ arms) (suc i) a lt = go (same_name (get_or arms i a).name b.name) (arm_among arms i a (omega arith))
   where
     go : (b : Bool) → among (arm_names arms) (get_or arms i a).name ≡ true → (b || among (arm_names arms) (get_or arms i a).name) ≡ true

@@ -1,22 +1,15 @@
 -- One send after another, as the wire's own relation has them.
-use Rattle.std.proofs.Common.{◌≡◌, ℕ, ◌+◌, ◌||◌, Bool, true, false, List, [], ◌∷◌, ◌++◌, refl, ap, sym, ◌∙◌, subst}
+use Rattle.std.proofs.Common.{ℕ, ◌+◌, ◌||◌, Bool, false, List, [], ◌∷◌, ◌++◌, refl, ap, sym, ◌∙◌, subst}
+use Rattle.std.proofs.Math.Bool.{or-false, or_assoc}
 use Rattle.srm_wire.specs.declared.sent.Sent.{Sent}
 use Rattle.srm_wire.specs.Wires.{SendsEach, but, others, sends_to}
 use Rattle.srm_wire.proofs.Telling.{sends_more}
-
-or_assoc : (a b c : Bool) → (a || b) || c ≡ a || (b || c)
-or_assoc true b c = refl
-or_assoc false b c = refl
 
 pub each_none : {W : Type 0} (S : W → Sent → Bool → W → Type 0) (w : W) → SendsEach S false [] w w
 each_none S w = (refl, refl)
 
 pub each_one : {W : Type 0} (S : W → Sent → Bool → W → Type 0) (failed : Bool) (sent : Sent) (v w : W) → S v sent failed w → SendsEach S failed (sent ∷ []) v w
-each_one S failed sent v w h = (w, failed, false, or_false failed, h, (refl, refl))
-  where
-    or_false : (a : Bool) → a ≡ (a || false)
-    or_false true = refl
-    or_false false = refl
+each_one S failed sent v w h = (w, failed, false, sym (or-false failed), h, (refl, refl))
 
 -- some, and then more
 pub each_on : {W : Type 0} (S : W → Sent → Bool → W → Type 0) (a b : Bool) (went more : List Sent) (u v w : W) → SendsEach S a went u v → SendsEach S b more v w → SendsEach S (a || b) (went ++ more) u w

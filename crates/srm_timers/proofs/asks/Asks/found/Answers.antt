@@ -1,10 +1,10 @@
-use Rattle.std.proofs.Common.{map, ◌≡◌, ◌+◌, sym, ap, subst, ◌∙◌, arith}
+use Rattle.std.proofs.Common.{map, ◌≡◌, ◌+◌, [], ◌∷◌, sym, ap, subst, ◌∙◌, arith}
 use Rattle.std.proofs.lemmas.List.{take_all}
 use Rattle.srm_timers.specs.Arms.{plan_of, low_of, high_of, AreChosen, AreAsks}
 use Rattle.srm_timers.specs.AskCalls.{found_plan}
 use Rattle.srm_timers.specs.Distances.{distance_to}
 use Rattle.srm_timers.specs.Ends.{AreShort}
-use Rattle.srm_timers.proofs.Arming.{plans_more, chosen_more, short_more, asks_more}
+use Rattle.srm_timers.proofs.Arming.{plans_more, chosen-append, short_more, asks_more}
 use Rattle.srm_timers.proofs.AskSteps.{found_are, ask_plan_is}
 use Rattle.srm_timers.proofs.asks.Asks.found.Goals as goal
 
@@ -16,7 +16,7 @@ loop-name-preserved g c =
       plans = plans_more (found_plan c.args.asked.now c.args.dist.now) c.args.names.now c.loop-name.name-index c.name-item.result c.loop-name.arms.items _ c.arm-arm.result c.loop-name-test.true c.name-item.is c.loop-name.invariant.plans items
           (c.arm-arm.ensures.plan ∙ ask_plan_is c.name-item.result _ _ _ _ (c.distance_in.ensures.value ∙ ap (distance_to c.args.dist.now) c.source.ensures) (c.first_exponent-exponent.ensures.value));
       chosen = subst (λ arms. AreChosen g.W.Words.next_word (low_of c.args.self.now.c1) (high_of c.args.self.now.c1 c.args.self.now.c2) c.args.words.now arms c.arm-arm.new.words) (sym items)
-          (chosen_more g.W.Words.next_word _ _ c.args.words.now c.loop-name.words c.arm-arm.new.words c.loop-name.arms.items c.arm-arm.result c.loop-name.invariant.chosen c.arm-arm.ensures.chosen);
+          (chosen-append g.W.Words.next_word _ _ c.args.words.now c.loop-name.words c.arm-arm.new.words c.loop-name.arms.items (c.arm-arm.result ∷ []) c.loop-name.invariant.chosen c.arm-arm.ensures.chosen);
       asks = subst AreAsks (sym items) (asks_more c.loop-name.arms.items c.arm-arm.result c.loop-name.invariant.asks c.arm-arm.ensures.ask);
       short = subst AreShort (sym items) (short_more c.loop-name.arms.items c.arm-arm.result c.loop-name.invariant.short c.arm-arm.ensures.short);
       few = len ∙ ap (λ n. n + 1) c.loop-name.invariant.few;
