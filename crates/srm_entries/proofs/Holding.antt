@@ -4,7 +4,8 @@ use Rattle.std.specs.Prelude.{◌||◌, false, Result, Ok, Err, IsOk, OnOk}
 use Rattle.srm_names.specs.FullName.{FullName}
 use Rattle.srm_names.proofs.Same.{same_page-itself}
 use Rattle.srm_store.specs.Stores.{StoreContent, HavePlaces}
-use Rattle.srm_store.specs.Tables.{is_in, HasPlaceFor}
+use Rattle.srm_store.specs.PageTables.{is_in}
+use Rattle.srm_store.specs.Tables.{HasPlaceFor}
 use Rattle.srm_deadlines.proofs.Same.{same_itself}
 
 pub ok_then : {X E P : Type 0} (r : Result X E) → IsOk r → OnOk r P → P

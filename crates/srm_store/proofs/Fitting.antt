@@ -21,7 +21,8 @@ use Rattle.srm_store.specs.Held.{has_name, held_at, number_in, known, page_of_dr
 use Rattle.srm_store.specs.Finals.{Settling, rows_for, rows_of, rows_kept, FinalsContent, SameFinals, Settles}
 use Rattle.srm_store.specs.Places.{place_at}
 use Rattle.srm_store.specs.StreamPlaces.{StreamContent}
-use Rattle.srm_store.specs.Tables.{TableContent, is_in, slot_of, places_of_stream, drawop_in_table, each_once, IsNewTable, SameTable, TableGains, TableLearns}
+use Rattle.srm_store.specs.PageTables.{is_in, slot_of, each_once}
+use Rattle.srm_store.specs.Tables.{TableContent, places_of_stream, drawop_in_table, IsNewTable, SameTable, TableGains, TableLearns}
 use Rattle.srm_store.specs.Stores.{StoreContent}
 use Rattle.srm_store.specs.Rooms.{RoomContent}
 use Rattle.srm_store.specs.Fits.{Fits, StillFits}

@@ -1,13 +1,15 @@
 -- Pages in a list, each once.
-use Rattle.std.proofs.Common.{◌≡◌, suc, ◌<◌, ◌≤◌, List, [], ◌∷◌, ◌++◌, Bool, true, false, not, length, refl, sym, ap, ◌∙◌, arith}
-use Rattle.std.specs.Prelude.{filter, if◌then◌else◌, ◌||◌}
+use Rattle.std.proofs.Common.{◌≡◌, ℕ, suc, ◌<◌, ◌≤◌, List, [], ◌∷◌, ◌++◌, Bool, true, false, not, length, refl, sym, ap, ◌∙◌, arith}
+use Rattle.std.specs.Prelude.{filter, nat_lt, if◌then◌else◌, ◌||◌}
 use Rattle.std.proofs.lemmas.Bool.{false≢true, and_parts, and_from}
+use Rattle.std.proofs.lemmas.Bool.Decides.{nat_tests}
+use Rattle.srm_names.specs.declared.limits.TheConstants.{PAGES}
 use Rattle.srm_names.specs.declared.page.Page.{Page}
 use Rattle.srm_names.specs.Histories.{firsts}
 use Rattle.srm_names.specs.Names.{same_page}
 use Rattle.srm_names.proofs.Same.{same_page-is, same_page-itself}
 use Rattle.srm_names.proofs.Snoc.{list_any-snoc}
-use Rattle.srm_store.specs.Tables.{is_in, with_page, each_once}
+use Rattle.srm_store.specs.PageTables.{IsPageTable, is_in, with_page, table_lacks_room, each_once}
 
 pub same_page-flip : (p q : Page) → same_page p q ≡ same_page q p
 same_page-flip p q = go (same_page p q) refl (same_page q p) refl
@@ -123,3 +125,10 @@ once_with pages p once = go (is_in pages p) refl
     go : (b : Bool) → is_in pages p ≡ b → each_once (if b then pages else pages ++ p ∷ []) ≡ true
     go true e = once
     go false e = once_pushed pages p once e
+
+-- a table with one more page
+pub table_more : (pages : List Page) (p : Page) → IsPageTable pages → table_lacks_room pages p ≡ false → IsPageTable (with_page pages p)
+table_more pages p table room = record { few = within (length (with_page pages p)) room; once = once_with pages p table.once }
+  where
+    within : (n : ℕ) → nat_lt PAGES n ≡ false → n ≤ PAGES
+    within n e = grind (arith, nat_tests)

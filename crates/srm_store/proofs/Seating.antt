@@ -1,9 +1,9 @@
 -- Slots for several pages.
-use Rattle.std.proofs.Common.{◌≡◌, ℕ, ◌+◌, ◌<◌, ◌≤◌, List, [], ◌∷◌, ◌++◌, Bool, true, false, length, get_or, take, drop, drop-cons, add-one, map, refl, sym, ap, ◌∙◌, arith}
-use Rattle.std.specs.Prelude.{if◌then◌else◌, ◌||◌, nat_lt, nat_le}
+use Rattle.std.proofs.Common.{◌≡◌, ℕ, ◌+◌, ◌<◌, ◌≤◌, List, [], ◌∷◌, ◌++◌, Bool, true, false, length, get_or, set, take, drop, drop-cons, add-one, map, append_assoc, refl, sym, ap, ◌∙◌, arith}
+use Rattle.std.specs.Prelude.{if◌then◌else◌, ◌||◌, nat_lt}
 use Rattle.std.proofs.lemmas.Bool.{false≢true}
 use Rattle.std.proofs.lemmas.Bool.Decides.{nat_tests}
-use Rattle.std.proofs.lemmas.List.{length-append, take-append-le}
+use Rattle.std.proofs.lemmas.List.{length-append, length-take-le, take_more_set, drop_all}
 use Rattle.srm_names.specs.declared.limits.TheConstants.{PAGES}
 use Rattle.srm_names.specs.declared.page.Page.{Page}
 use Rattle.srm_names.specs.declared.drawop.Drawop.{Drawop}
@@ -13,7 +13,7 @@ use Rattle.srm_names.specs.Names.{same_page, same_name, among}
 use Rattle.srm_names.proofs.Same.{same_page-is, same_page-itself, same_name-is}
 use Rattle.srm_store.specs.Held.{pages_named, page_of_name, outgrow}
 use Rattle.srm_store.specs.Finals.{Settling}
-use Rattle.srm_store.specs.Tables.{is_in, slot_of, with_page, with_pages, each_once}
+use Rattle.srm_store.specs.PageTables.{is_in, slot_of, with_page, with_pages, with_pages_of, table_lacks_room, table_lacks_room_for, each_once}
 use Rattle.srm_store.specs.Stores.{StoreContent, KeepsSlots}
 use Rattle.srm_store.specs.Fits.{Fits}
 use Rattle.srm_store.proofs.Slots.{is_in-with_page, with_page-longer, slot_of-in, slot_of-absent}
@@ -172,37 +172,69 @@ one_seated pages names i name page e at lt =
     ap (λ q. with_pages (with_page pages q) (map page_of_name (drop (i + 1) names))) e
     ∙ ap (λ ns. with_pages pages (map page_of_name ns)) (next_left names i name at lt)
 
-pub not_seated : (pages : List Page) (names : List FullName) (i : ℕ) (name : FullName) (page : Page) (all : List Page) → page ≡ name.stream.page → name ≡ get_or names i name → i < length names
-    → with_pages pages (map page_of_name (drop i names)) ≡ all → slot_of pages page ≡ PAGES → false ≡ nat_le (length all) PAGES
-not_seated pages names i name page all e at lt whole full = go (nat_le (length all) PAGES) refl
+with_pages-few : (pages : List Page) (names : List FullName) → table_lacks_room_for pages names ≡ false → length (with_pages_of pages names) ≤ PAGES
+with_pages-few pages names room = grind (arith, nat_tests)
+
+-- the page of the next name finds room where those of all names do
+pub one_has_room : (pages start : List Page) (names : List FullName) (i : ℕ) (name : FullName) (page : Page) → page ≡ name.stream.page → name ≡ get_or names i name → i < length names
+    → with_pages pages (map page_of_name (drop i names)) ≡ with_pages_of start names → table_lacks_room_for start names ≡ false → table_lacks_room pages page ≡ false
+one_has_room pages start names i name page e at lt whole room = within (length (with_page pages page)) (omega (arith, longer, k, with_pages-few start names room))
   where
-    left : List FullName
-    left = name ∷ drop (i + 1) names
+    longer : length (with_page pages page) ≤ length (with_pages (with_page pages page) (map page_of_name (drop (i + 1) names)))
+    longer = with_pages-longer (with_page pages page) (map page_of_name (drop (i + 1) names))
 
-    there : is_in (map page_of_name left) page ≡ true
-    there = ap (λ b. b || is_in (map page_of_name (drop (i + 1) names)) page) (ap (λ q. same_page q page) (sym e) ∙ same_page-itself page)
+    k : length (with_pages (with_page pages page) (map page_of_name (drop (i + 1) names))) ≡ length (with_pages_of start names)
+    k = ap length (one_seated pages names i name page e at lt ∙ whole)
 
-    is_left : with_pages pages (map page_of_name left) ≡ all
-    is_left = ap (λ ns. with_pages pages (map page_of_name ns)) (next_left names i name at lt) ∙ whole
+    within : (n : ℕ) → n ≤ PAGES → nat_lt PAGES n ≡ false
+    within n le = grind (arith, nat_tests)
 
-    go : (b : Bool) → nat_le (length all) PAGES ≡ b → false ≡ b
-    go false f = refl
-    go true f =
-        let few : length all ≤ PAGES = grind (arith, nat_tests) in
-        absurd (omega (arith, slot_left pages page (map page_of_name left) there (omega (arith, few, ap length is_left)), full))
+pub all_seated : (pages all : List Page) (names : List FullName) (i : ℕ) → length names ≤ i → with_pages pages (map page_of_name (drop i names)) ≡ all → pages ≡ all
+all_seated pages all names i past whole = ap (λ ns. with_pages pages (map page_of_name ns)) (sym (drop_all i names past)) ∙ whole
 
-pub front_kept : (start pages : List Page) (p : Page) → length start ≤ length pages → take (length start) pages ≡ start → take (length start) (with_page pages p) ≡ start
-front_kept start pages p le e = go (is_in pages p)
+-- Counting the pages of names beside a table: the table, the pages that were added, and those of the names that are left are all.
+module _ (pages added : List Page) (names : List FullName) (i count : ℕ) (name : FullName) (page : Page) (e : page ≡ name.stream.page) (at : name ≡ get_or names i name) (lt : i < length names) (whole : with_pages (pages ++ take count added) (map page_of_name (drop i names)) ≡ with_pages_of pages names) where
+  abbrev so_far : List Page
+  so_far = pages ++ take count added
+
+  next : (b : Bool) → is_in pages page || is_in (take count added) page ≡ b → with_pages (if b then so_far else so_far ++ page ∷ []) (map page_of_name (drop (i + 1) names)) ≡ with_pages_of pages names
+  next b there =
+      ap (λ (x : Bool). with_pages (if x then so_far else so_far ++ page ∷ []) (map page_of_name (drop (i + 1) names))) (sym there ∙ sym (list_any-append (λ q. same_page q page) pages (take count added)))
+      ∙ one_seated so_far names i name page e at lt ∙ whole
+
+  pub count_kept : is_in pages page || is_in (take count added) page ≡ true → with_pages (pages ++ take count added) (map page_of_name (drop (i + 1) names)) ≡ with_pages_of pages names
+  count_kept there = next true there
+
+  module _ (new : is_in pages page || is_in (take count added) page ≡ false) (within : count < length added) where
+    pub count_more : with_pages (pages ++ take (count + 1) (set added count page)) (map page_of_name (drop (i + 1) names)) ≡ with_pages_of pages names
+    count_more = ap (λ ps. with_pages ps (map page_of_name (drop (i + 1) names))) one_more ∙ next false new
+      where
+        one_more : pages ++ take (count + 1) (set added count page) ≡ so_far ++ page ∷ []
+        one_more = sym (append_assoc pages (take count added) (page ∷ []) ∙ ap (λ ps. pages ++ ps) (sym (take_more_set added count page within)))
+
+  pub count_full : is_in pages page || is_in (take count added) page ≡ false → length pages + count ≡ PAGES → count ≤ length added → table_lacks_room_for pages names ≡ true
+  count_full new full within = past (length (with_pages_of pages names)) (omega (arith, longer, k, one_more, full, front))
+    where
+      longer : length (so_far ++ page ∷ []) ≤ length (with_pages (so_far ++ page ∷ []) (map page_of_name (drop (i + 1) names)))
+      longer = with_pages-longer (so_far ++ page ∷ []) (map page_of_name (drop (i + 1) names))
+
+      k : length (with_pages (so_far ++ page ∷ []) (map page_of_name (drop (i + 1) names))) ≡ length (with_pages_of pages names)
+      k = ap length (next false new)
+
+      one_more : length (so_far ++ page ∷ []) ≡ length so_far + 1
+      one_more = length-append so_far (page ∷ [])
+
+      front : length so_far ≡ length pages + count
+      front = length-append pages (take count added) ∙ ap (λ n. length pages + n) (length-take-le count added within)
+
+      past : (n : ℕ) → PAGES < n → nat_lt PAGES n ≡ true
+      past n le = grind (arith, nat_tests)
+
+pub counted_all : (pages added : List Page) (names : List FullName) (i count : ℕ) → length names ≤ i → with_pages (pages ++ take count added) (map page_of_name (drop i names)) ≡ with_pages_of pages names
+    → length pages + count ≤ PAGES → count ≤ length added → table_lacks_room_for pages names ≡ false
+counted_all pages added names i count past whole few within =
+    let all : length (pages ++ take count added) ≡ length (with_pages_of pages names) = ap length (all_seated (pages ++ take count added) (with_pages_of pages names) names i past whole) in
+    below (length (with_pages_of pages names)) (omega (arith, all, length-append pages (take count added), length-take-le count added within, few))
   where
-    go : (b : Bool) → take (length start) (if b then pages else pages ++ p ∷ []) ≡ start
-    go true = e
-    go false = take-append-le (length start) pages (p ∷ []) le ∙ e
-
--- a store is refused for want of slots exactly where there would be too many pages
-pub too_many : {inserted : List Drawop} {evidence : List FullName} {settled : List Settling} {s : StoreContent} → Fits inserted evidence settled s → (ps : List Page) → nat_le (length (with_pages s.table.pages ps)) PAGES ≡ false → outgrow inserted evidence ps ≡ true
-too_many {s = s} h ps e = outgrows h ps ∙ (let over : PAGES < length (with_pages s.table.pages ps) = grind (arith, nat_tests) in grind (arith, nat_tests))
-
-pub not_too_many : {inserted : List Drawop} {evidence : List FullName} {settled : List Settling} {s : StoreContent} → Fits inserted evidence settled s → (ps : List Page) → nat_le (length (with_pages s.table.pages ps)) PAGES ≡ true → outgrow inserted evidence ps ≡ true → ⊥
-not_too_many {s = s} h ps e over =
-    let past : nat_lt PAGES (length (with_pages s.table.pages ps)) ≡ true = sym (outgrows h ps) ∙ over in
-    absurd (grind (arith, nat_tests))
+    below : (n : ℕ) → n ≤ PAGES → nat_lt PAGES n ≡ false
+    below n le = grind (arith, nat_tests)

@@ -1,6 +1,7 @@
 -- The slots of pages.
-use Rattle.std.proofs.Common.{◌≡◌, ◌≢◌, suc, ◌+◌, ◌<◌, ◌≤◌, List, [], ◌∷◌, ◌++◌, Bool, true, false, length, refl, sym, ap, ◌∙◌, arith}
-use Rattle.std.specs.Prelude.{if◌then◌else◌, ◌||◌}
+use Rattle.std.proofs.Common.{◌≡◌, ◌≢◌, ℕ, suc, ◌+◌, ◌<◌, ◌≤◌, List, [], ◌∷◌, ◌++◌, Bool, true, false, not, length, refl, sym, ap, ◌∙◌, arith}
+use Rattle.std.specs.Prelude.{if◌then◌else◌, ◌||◌, nat_lt}
+use Rattle.std.proofs.lemmas.Bool.Decides.{nat_tests}
 use Rattle.std.proofs.lemmas.Bool.{false≢true}
 use Rattle.std.proofs.lemmas.List.{length-append}
 use Rattle.srm_names.specs.declared.limits.TheConstants.{PAGES}
@@ -8,7 +9,8 @@ use Rattle.srm_names.specs.declared.page.Page.{Page}
 use Rattle.srm_names.specs.Names.{same_page}
 use Rattle.srm_names.proofs.Same.{same_page-is, same_page-itself}
 use Rattle.srm_names.proofs.Snoc.{list_any-snoc}
-use Rattle.srm_store.specs.Tables.{is_in, slot_of, with_page, slots_end}
+use Rattle.srm_store.specs.PageTables.{is_in, slot_of, with_page, table_lacks_room}
+use Rattle.srm_store.specs.Tables.{slots_end}
 
 pub slot_of-le : (pages : List Page) (p : Page) → slot_of pages p ≤ length pages
 slot_of-le [] p = omega arith
@@ -63,7 +65,7 @@ slot_of-injective (r ∷ pages) p q h e = go (slot_of-injective pages p q) (same
 
 -- once a page was named
 module _ (pages : List Page) (p : Page) where
-  named_pages : (b : Bool) → is_in pages p ≡ b → with_page pages p ≡ (if b then pages else pages ++ p ∷ [])
+  pub named_pages : (b : Bool) → is_in pages p ≡ b → with_page pages p ≡ (if b then pages else pages ++ p ∷ [])
   named_pages b e = ap (λ d. if d then pages else pages ++ p ∷ []) e
 
   pub with_page-longer : length pages ≤ length (with_page pages p)
@@ -138,26 +140,34 @@ module _ (pages : List Page) (p : Page) where
           let was = slot_of-absent pages q e in
           (omega (arith, there, was, with_page-longer), omega (arith, ends false false e f, end false e))
 
-  pub with_page-pushed : slot_of pages p ≡ length pages → with_page pages p ≡ pages ++ p ∷ []
-  with_page-pushed last = go (is_in pages p) refl
-    where
-      go : (b : Bool) → is_in pages p ≡ b → (if b then pages else pages ++ p ∷ []) ≡ pages ++ p ∷ []
-      go true e = absurd (omega (arith, slot_of-in pages p e))
-      go false e = refl
-
-  pub with_page-kept : slot_of pages p ≢ length pages → with_page pages p ≡ pages
-  with_page-kept other = go (is_in pages p) refl
-    where
-      go : (b : Bool) → is_in pages p ≡ b → (if b then pages else pages ++ p ∷ []) ≡ pages
-      go true e = refl
-      go false e = absurd (other (slot_of-absent pages p e))
-
   pub with_page-few : length pages ≤ PAGES → slot_of pages p < PAGES → length (with_page pages p) ≤ PAGES
   with_page-few few below = go (is_in pages p) refl
     where
       go : (b : Bool) → is_in pages p ≡ b → length (if b then pages else pages ++ p ∷ []) ≤ PAGES
       go true e = few
       go false e = omega (arith, length-append pages (p ∷ []), slot_of-absent pages p e)
+
+  pub room_below : slot_of pages p < PAGES → length pages ≤ PAGES → table_lacks_room pages p ≡ false
+  room_below below few = within (length (with_page pages p)) (with_page-few few below)
+    where
+      within : (n : ℕ) → n ≤ PAGES → nat_lt PAGES n ≡ false
+      within n le = grind (arith, nat_tests)
+
+  -- it finds room where its slot is one of the table
+  pub room_by_slot : (slot most : ℕ) → slot ≡ slot_of pages p → most ≡ PAGES → length pages ≤ PAGES → nat_lt slot most ≡ not (table_lacks_room pages p)
+  room_by_slot slot most at full few = go (is_in pages p) refl
+    where
+      within : (n k : ℕ) → n < PAGES → k ≤ PAGES → nat_lt n PAGES ≡ not (nat_lt PAGES k)
+      within n k below le = grind (arith, nat_tests)
+
+      tested : (n : ℕ) → nat_lt n PAGES ≡ not (nat_lt PAGES (n + 1))
+      tested n = grind (arith, nat_tests)
+
+      go : (b : Bool) → is_in pages p ≡ b → nat_lt slot most ≡ not (table_lacks_room pages p)
+      go true e = ap (nat_lt slot) full ∙ within slot (length pages) (omega (arith, at, slot_of-in pages p e, few)) few ∙ ap (λ ps. not (nat_lt PAGES (length ps))) (sym (named_pages true e))
+      go false e =
+          let counts : length (pages ++ p ∷ []) ≡ slot + 1 = omega (arith, length-append pages (p ∷ []), at, slot_of-absent pages p e) in
+          ap (nat_lt slot) full ∙ tested slot ∙ ap (λ k. not (nat_lt PAGES k)) (sym counts) ∙ ap (λ ps. not (nat_lt PAGES (length ps))) (sym (named_pages false e))
 
   pub slots_end-there : slot_of pages p < length pages → slots_end pages p ≡ slot_of pages p + 1
   slots_end-there below = go (is_in pages p) refl

@@ -12,7 +12,8 @@ use Rattle.srm_names.specs.Names.{same_page, same_stream}
 use Rattle.srm_names.proofs.Same.{same_page-is}
 use Rattle.srm_store.specs.Places.{has_place}
 use Rattle.srm_store.specs.StreamPlaces.{StreamContent, blank_stream, SameStreamPlaces, StreamStillHas, StreamGains}
-use Rattle.srm_store.specs.Tables.{TableContent, is_in, slot_of, stream_in, places_of_stream, with_page, slots_end, SameTable, TableGains, TableLearns, HasPlaceFor, StillHasPlaces}
+use Rattle.srm_store.specs.PageTables.{is_in, slot_of, with_page}
+use Rattle.srm_store.specs.Tables.{TableContent, stream_in, places_of_stream, slots_end, SameTable, TableGains, TableLearns, HasPlaceFor, StillHasPlaces}
 use Rattle.srm_store.proofs.Slots.{slot_of-absent, with_page-slot, with_page-has, with_page-longer, with_page-few, others_slot, others_apart, others_absent, slots_shrink}
 
 pub same_row : (r : StreamContent) → SameStreamPlaces r r
@@ -170,9 +171,6 @@ module _ {t old : TableContent} {s : Stream} {slot k : ℕ} {read r : StreamCont
 
     new_is : new ≡ changed t s.page s.source r more_few w.size w.blank w.known
     new_is = same_content _ _ _ _ seated rows_are
-
-    pub in_few : length pages ≤ PAGES
-    in_few = omega (arith, ap length seated, more_few)
 
     pub in_blank : AreBlank pages (set t.streams k r)
     in_blank = subst (λ (x : TableContent). AreBlank x.pages x.streams) (sym new_is) (changed_blank t s.page s.source r more_few w.size w.blank w.known)

@@ -6,7 +6,7 @@ use Rattle.srm_names.specs.FullName.{FullName}
 use Rattle.srm_names.specs.Names.{named}
 use Rattle.srm_store.specs.declared.insert.Insert.TheVariants.{Fresh, Known, Conflict}
 use Rattle.srm_store.specs.Held.{held_at, is_held, is_missing, insert_answer, known, missing, newly_missing, released, lacks_room, outgrow, page_of_name}
-use Rattle.srm_store.specs.Tables.{with_pages}
+use Rattle.srm_store.specs.PageTables.{with_pages}
 use Rattle.srm_store.specs.Finals.{Settling, final}
 
 abbrev on_page : ℕ → ℕ → Stream

@@ -8,7 +8,8 @@ use Rattle.srm_names.specs.declared.drawop.Drawop.{Drawop}
 use Rattle.srm_names.specs.FullName.{FullName}
 use Rattle.srm_store.specs.Held.{held_at, known, pages_named}
 use Rattle.srm_store.specs.Finals.{Settling, rows_of, rows_kept}
-use Rattle.srm_store.specs.Tables.{is_in, each_once, places_of_stream, drawop_in_table}
+use Rattle.srm_store.specs.PageTables.{is_in, each_once}
+use Rattle.srm_store.specs.Tables.{places_of_stream, drawop_in_table}
 use Rattle.srm_store.specs.Stores.{StoreContent}
 
 pub record Fits (inserted : List Drawop) (evidence : List FullName) (settled : List Settling) (s : StoreContent) : Type 0 where

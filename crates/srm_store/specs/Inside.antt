@@ -1,6 +1,6 @@
 -- What contracts see of the fields, and what holds of them.
 use Rattle.std.specs.Prelude.{◌≡◌, ℕ, ◌≤◌, ◌<◌, [], length, vec_capacity}
-use Rattle.srm_names.specs.declared.limits.TheConstants.{DRAWOPS, MEMBERS, PAGES}
+use Rattle.srm_names.specs.declared.limits.TheConstants.{DRAWOPS, MEMBERS}
 use Rattle.srm_store.specs.Places.{FilledTo}
 use Rattle.srm_store.specs.StreamPlaces.{StreamContent, blank_stream, SameStreamPlaces}
 use Rattle.srm_store.specs.Tables.{TableContent, stream_in}
@@ -23,14 +23,12 @@ pub record StreamIsRight (stream : StreamInside) : Type 0 where
   pub known : stream.known ≤ DRAWOPS
 
 abbrev pub table_of : TableInside → TableContent
-table_of table = record { pages = table.pages.items; streams = table.streams.items }
+table_of table = record { pages = table.pages; streams = table.streams.items }
 
--- There is a slot for each page and room for as many as a table has; the streams behind the last page are blank.
+-- There is a slot for each page; the streams behind the last page are blank.
 pub record TableIsRight (table : TableInside) : Type 0 where
-  pub few : length table.pages.items ≤ PAGES
-  pub room : PAGES ≤ vec_capacity table.pages
   pub size : length table.streams.items ≡ STREAMS
-  pub blank : (slot source : ℕ) → length table.pages.items ≤ slot → source < MEMBERS → SameStreamPlaces blank_stream (stream_in table.streams.items slot source)
+  pub blank : (slot source : ℕ) → length table.pages ≤ slot → source < MEMBERS → SameStreamPlaces blank_stream (stream_in table.streams.items slot source)
 
 abbrev pub room_of : RoomInside → RoomContent
 room_of room = record { name = room.name; capacity = vec_capacity room.list }

@@ -2,6 +2,7 @@ pub mod Held
 pub mod Finals
 pub mod Places
 pub mod StreamPlaces
+pub mod PageTables
 pub mod Tables
 pub mod Rooms
 pub mod Stores

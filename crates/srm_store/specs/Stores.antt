@@ -7,7 +7,8 @@ use Rattle.srm_names.specs.Names.{among}
 use Rattle.srm_store.specs.Held.{page_of_name}
 use Rattle.srm_store.specs.Rooms.{RoomContent, has_room}
 use Rattle.srm_store.specs.Finals.{FinalsContent}
-use Rattle.srm_store.specs.Tables.{TableContent, is_in, with_pages, places_of_stream, HasPlaceFor}
+use Rattle.srm_store.specs.PageTables.{is_in, with_pages}
+use Rattle.srm_store.specs.Tables.{TableContent, places_of_stream, HasPlaceFor}
 
 pub record StoreContent : Type 0 where
   pub table : TableContent

@@ -1,26 +1,18 @@
 -- The streams of a table: where each stands, and how calls change what is in it.
-use Rattle.std.specs.Prelude.{◌≡◌, ℕ, ◌+◌, ◌*◌, ◌<◌, ◌≤◌, max, true, false, Bool, not, ◌&&◌, List, [], ◌∷◌, ◌++◌, slice_index_or, if◌then◌else◌, Option}
-use Rattle.std.specs.List.{list_any}
+use Rattle.std.specs.Prelude.{◌≡◌, ℕ, ◌+◌, ◌*◌, ◌<◌, ◌≤◌, max, true, false, List, [], ◌∷◌, slice_index_or, if◌then◌else◌, Option}
 use Rattle.srm_names.specs.declared.limits.TheConstants.{MEMBERS, PAGES}
 use Rattle.srm_names.specs.declared.page.Page.{Page}
 use Rattle.srm_names.specs.declared.stream.Stream.{Stream}
 use Rattle.srm_names.specs.declared.drawop.Drawop.{Drawop}
 use Rattle.srm_names.specs.FullName.{FullName}
-use Rattle.srm_names.specs.Names.{first_page, same_page, same_stream}
+use Rattle.srm_names.specs.Names.{first_page, same_stream}
+use Rattle.srm_store.specs.PageTables.{is_in, slot_of, with_page}
 use Rattle.srm_store.specs.Places.{place_at, has_place}
 use Rattle.srm_store.specs.StreamPlaces.{StreamContent, blank_stream, SameStreamPlaces, StreamGains}
 
 pub record TableContent : Type 0 where
   pub pages : List Page
   pub streams : List StreamContent
-
-abbrev pub is_in : List Page → Page → Bool
-is_in pages p = list_any (λ q. same_page q p) pages
-
--- the slot of a page: the one after the last, where it has none
-abbrev pub slot_of : List Page → Page → ℕ
-slot_of [] p = 0
-slot_of (q ∷ pages) p = if same_page q p then 0 else slot_of pages p + 1
 
 abbrev pub stream_in : List StreamContent → ℕ → ℕ → StreamContent
 stream_in streams slot source = slice_index_or streams (slot * MEMBERS + source) blank_stream
@@ -31,15 +23,6 @@ places_of_stream t s = stream_in t.streams (slot_of t.pages s.page) s.source
 -- the drawop that the table holds under a name
 abbrev pub drawop_in_table : TableContent → FullName → Option Drawop
 drawop_in_table t n = place_at (places_of_stream t n.stream).places n.number
-
--- the table has these pages once a page was named
-abbrev pub with_page : List Page → Page → List Page
-with_page pages p = if is_in pages p then pages else pages ++ p ∷ []
-
--- and these once all of some pages were named
-abbrev pub with_pages : List Page → List Page → List Page
-with_pages pages [] = pages
-with_pages pages (p ∷ ps) = with_pages (with_page pages p) ps
 
 -- all that is in the table is the same
 pub record SameTable (old new : TableContent) : Type 0 where
@@ -74,8 +57,3 @@ pub record StillHasPlaces (old new : TableContent) : Type 0 where
 pub record IsNewTable (t : TableContent) : Type 0 where
   pub pages : t.pages ≡ first_page ∷ []
   pub streams : (s : Stream) → s.source < MEMBERS → SameStreamPlaces blank_stream (places_of_stream t s)
-
--- no page stands twice
-abbrev pub each_once : List Page → Bool
-each_once [] = true
-each_once (p ∷ pages) = not (is_in pages p) && each_once pages

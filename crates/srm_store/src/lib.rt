@@ -11,6 +11,8 @@
 //! assert_eq!(store.released(stream), 1);
 //! ```
 //!
+//! A store's pages stand in a [`PageTable`], each in its slot. A member that shows pages which no stream names yet keeps one beside its store.
+//!
 //! **What is refused.** [`StoreFault::PageLimit`] where a ninth page would be needed, and [`StoreFault::Memory`]; what is held
 //! and known is then as before. A second drawop of a name isn't refused: [`Insert`] tells what was found, and the first stays.
 #![tactic(auto)]
@@ -19,6 +21,7 @@ mod block;
 mod fault;
 mod finals;
 mod insert;
+mod page_table;
 mod places;
 mod room;
 mod rooms;
@@ -29,4 +32,5 @@ mod table;
 pub use fault::StoreFault;
 pub use finals::row_number;
 pub use insert::{Insert, same_drawop};
+pub use page_table::PageTable;
 pub use store::Store;

@@ -10,7 +10,8 @@ ghost use Rattle.srm_store.specs.declared.fault.StoreFault.TheVariants.{PageLimi
 ghost use Rattle.srm_store.specs.Held.{held_at, is_held, known, missing, newly_missing, released, insert_answer, lacks_room, outgrow, page_of_name};
 ghost use Rattle.srm_store.specs.Finals.{Settling, final};
 ghost use Rattle.srm_store.specs.Stores.{HasSlots, KeepsSlots, IsReady, IsReadyToSettle, AreReady, HavePlaces, StaysReady, KeepsRoom};
-ghost use Rattle.srm_store.specs.Tables.{is_in, HasPlaceFor, StillHasPlaces};
+ghost use Rattle.srm_store.specs.PageTables.{is_in};
+ghost use Rattle.srm_store.specs.Tables.{HasPlaceFor, StillHasPlaces};
 ghost use Rattle.srm_store.specs.Fits.{Fits, StillFits};
 
 use crate::fault::StoreFault;
@@ -72,7 +73,7 @@ impl Store {
         ensures same { result ≡ Err PageLimit → self.new ≡ self.old }
         ensures earlier { OnErr result (KeepsRoom self.old self.new) }
     {
-        if !self.table.has_slots(names) {
+        if self.table.lacks_room_for(names) {
             return Err(StoreFault::PageLimit);
         }
         self.make_room(names)?;
@@ -94,7 +95,7 @@ impl Store {
         ensures same { result ≡ Err PageLimit → self.new ≡ self.old }
         ensures earlier { KeepsRoom self.old self.new }
     {
-        if !self.table.has_slots(names) {
+        if self.table.lacks_room_for(names) {
             return Err(StoreFault::PageLimit);
         }
         self.make_places(names)?;

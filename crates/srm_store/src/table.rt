@@ -1,13 +1,15 @@
 //! The places of all streams.
 
-ghost use Rattle.std.specs.Prelude.{◌≡◌, ◌≢◌, ◌≤◌, ◌<◌, ◌+◌, ◌*◌, ◌↔◌, nat_le, OnOk, IsOk, IfOk, OnErr, IsErr, [], length, map, take, vec_capacity};
-ghost use Rattle.srm_store.specs.Held.{insert_answer, names_after, page_of_name};
+ghost use Rattle.std.specs.Prelude.{◌≡◌, ◌≢◌, ◌≤◌, ◌<◌, ◌+◌, ◌*◌, ◌↔◌, OnOk, IsOk, IfOk, OnErr, IsErr, [], length, vec_capacity};
+ghost use Rattle.srm_store.specs.Held.{insert_answer, names_after};
 ghost use Rattle.srm_store.specs.StreamPlaces.{unheld_in_stream};
 ghost use Rattle.srm_store.specs.declared.fault.StoreFault.TheVariants.{PageLimit, Memory};
-ghost use Rattle.srm_store.specs.Tables.{places_of_stream, drawop_in_table, slot_of, with_page, with_pages, IsNewTable, SameTable, TableGains, TableLearns, HasPlaceFor, StillHasPlaces};
+ghost use Rattle.srm_store.specs.PageTables.{slot_of, table_lacks_room_for};
+ghost use Rattle.srm_store.specs.Tables.{places_of_stream, drawop_in_table, IsNewTable, SameTable, TableGains, TableLearns, HasPlaceFor, StillHasPlaces};
 
 use crate::fault::StoreFault;
 use crate::insert::Insert;
+use crate::page_table::PageTable;
 use crate::stream_places::StreamPlaces;
 use srm_names::{DRAWOPS, Drawop, MEMBERS, Member, Name, PAGES, Page, Stream};
 use std::alloc::{AllocError, Global};
@@ -22,7 +24,7 @@ const STREAMS: usize = (PAGES as usize + 1) * MEMBERS as usize;
 #[derive(Drop)]
 pub struct Table {
     /// The pages by slot, in the order in which they were named.
-    pages: Vec<Page>,
+    pages: PageTable,
     /// The streams, slot after slot. Those behind the last page are blank.
     streams: Vec<StreamPlaces>,
 }
@@ -44,8 +46,7 @@ impl Table {
     pub fn new(alloc: Global) -> Result<Table, AllocError>
         ensures { IfOk result IsNewTable }
     {
-        let mut pages = Vec::with_capacity(alloc, PAGES as usize)?;
-        pages.push(Page::first())?;
+        let pages = PageTable::new(alloc)?;
         let mut streams = Vec::with_capacity(alloc, STREAMS)?;
         for _stream in 0..STREAMS {
             streams.push(StreamPlaces::new(alloc))?;
@@ -59,7 +60,7 @@ impl Table {
         ensures last { result ≤ PAGES }
         ensures few { length self.now.pages ≤ PAGES }
     {
-        slot_of(&self.pages, &page)
+        self.pages.slot_of(&page)
     }
 
     /// The slot that a page has, or gets when it is named.
@@ -117,7 +118,7 @@ impl Table {
         let stream = drawop.name.stream();
         let slot = self.slot_for(stream.page)?;
         let answer = self.streams[place(slot, stream.source)].insert(drawop)?;
-        seat(&mut self.pages, slot, &stream.page);
+        self.pages.add(stream.page);
         Ok(answer)
     }
 
@@ -130,19 +131,14 @@ impl Table {
         let stream = name.stream();
         let slot = self.slot(stream.page);
         self.streams[place(slot, stream.source)].know(name.number());
-        seat(&mut self.pages, slot, &stream.page);
+        self.pages.add(stream.page);
     }
 
-    /// Whether the pages of all these names have slots, or find some together. Nothing stays of it, and it takes no memory: the
-    /// list of the pages has room for all that there may be, so they stand there while they are counted.
-    pub fn has_slots(&mut self, names: &[Name]) -> bool
-        ensures value { result ≡ nat_le (length (with_pages self.old.pages (map page_of_name names.now))) PAGES }
-        ensures same { self.new ≡ self.old }
+    /// Whether the pages of these names don't all have slots, or find some together. It takes no memory.
+    pub fn lacks_room_for(&self, names: &[Name]) -> bool
+        ensures { result ≡ table_lacks_room_for self.now.pages names.now }
     {
-        let count = self.pages.len();
-        let all = seat_all(&mut self.pages, names);
-        self.pages.truncate(count);
-        all
+        self.pages.lacks_room_for(names)
     }
 
     /// Makes a place for the drawop of a name, wherever its stream is or comes to be: a page without a slot may get any of
@@ -154,7 +150,7 @@ impl Table {
     {
         let stream = name.stream();
         let first = self.slot(stream.page);
-        let end = if first < self.pages.len() {
+        let end = if first < self.pages.as_slice().len() {
             first + 1
         } else {
             PAGES as usize
@@ -175,49 +171,4 @@ fn place(slot: usize, source: Member) -> usize
     ensures source { source < MEMBERS }
 {
     slot * MEMBERS as usize + source.index()
-}
-
-/// The place of a page in a list: the one after the last, where it isn't there.
-fn slot_of(pages: &[Page], page: &Page) -> usize
-    ensures value { result ≡ slot_of pages.now page.now }
-    ensures last { result ≤ length pages.now }
-{
-    for (slot, named) in pages.iter().enumerate() {
-        if named == page {
-            return slot;
-        }
-    }
-    pages.len()
-}
-
-/// Seats the pages of the names in turn, up to the first that finds no slot, and says whether all are seated.
-fn seat_all(pages: &mut Vec<Page>, names: &[Name]) -> bool
-    requires capacity { PAGES ≤ vec_capacity pages.old }
-    requires few { length pages.old.items ≤ PAGES }
-    ensures value { result ≡ nat_le (length (with_pages pages.old.items (map page_of_name names.now))) PAGES }
-    ensures front { take (length pages.old.items) pages.new.items ≡ pages.old.items }
-    ensures capacity { PAGES ≤ vec_capacity pages.new }
-{
-    for name in names {
-        let page = name.stream().page;
-        let slot = slot_of(pages, &page);
-        if slot == usize::from(PAGES) {
-            return false;
-        }
-        seat(pages, slot, &page);
-    }
-    true
-}
-
-/// A page that was named is in the table.
-fn seat(pages: &mut Vec<Page>, slot: usize, page: &Page)
-    requires at { slot ≡ slot_of pages.old.items page.now }
-    requires below { slot < PAGES }
-    requires few { PAGES ≤ vec_capacity pages.old }
-    ensures items { pages.new.items ≡ with_page pages.old.items page.now }
-    ensures few { PAGES ≤ vec_capacity pages.new }
-{
-    if slot == pages.len() {
-        pages.push(*page).unwrap();
-    }
 }

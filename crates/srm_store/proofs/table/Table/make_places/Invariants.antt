@@ -1,5 +1,4 @@
 use Rattle.std.proofs.Common.{◌≡◌, ℕ, ◌≤◌, ◌<◌, length, true}
-use Rattle.srm_names.specs.declared.limits.TheConstants.{PAGES}
 use Rattle.srm_store.specs.Places.{has_place}
 use Rattle.srm_store.specs.Tables.{stream_in, SameTable, StillHasPlaces}
 use Rattle.srm_store.specs.Inside.{table_of}
@@ -10,8 +9,7 @@ abbrev pub invariant-loop-slot : goal.invariant-loop-slot
 invariant-loop-slot l = record {
   same : SameTable l.fn.self (table_of l.self-inside);
   still : StillHasPlaces l.fn.self (table_of l.self-inside);
-  few : length l.self-inside.pages.items ≤ PAGES;
   size : length l.self-inside.streams.items ≡ 288;
-  blank : AreBlank l.self-inside.pages.items l.self-inside.streams.items;
+  blank : AreBlank l.self-inside.pages l.self-inside.streams.items;
   so_far : (slot : ℕ) → l.first ≤ slot → slot < l.slot → has_place (stream_in l.self-inside.streams.items slot l.source).places l.number ≡ true;
 }

@@ -1,7 +1,0 @@
-use Rattle.std.proofs.Common.{◌≡◌, ◌+◌, drop}
-use Rattle.srm_store.specs.Tables.{slot_of}
-use Rattle.srm_store.proofs.table.slot_of.Given as goal
-
--- what is left has the slot
-abbrev pub invariant-loop-slot : goal.invariant-loop-slot
-invariant-loop-slot l = slot_of (drop l.slot l.pages) l.page + l.slot ≡ slot_of l.pages l.page
