@@ -2,7 +2,7 @@
 use Rattle.std.proofs.Common.{◌≡◌, ℕ, ◌+◌, ◌-◌, ◌*◌, ◌%◌, ◌^◌, ◌<◌, ◌≤◌, Bool, true, false, ◌&&◌, ◌||◌, zero, suc, List, [], ◌∷◌, ◌++◌, length, get_or, drop, map, refl, ap, sym, ◌∙◌, subst, inl, inr, arith, append_assoc}
 use Rattle.std.specs.Prelude.{◌⊎◌, Option, Some, cond, filter, nat_lt, nat_le, if◌then◌else◌}
 use Rattle.std.specs.List.{AllByRecursion}
-use Rattle.std.proofs.lemmas.Bool.{and_parts, and_from}
+use Rattle.std.proofs.lemmas.Bool.{and_parts, and_from, false_from_ne_true, lt-ltb, ltb-true, le-leb, leb-true}
 use Rattle.std.proofs.lemmas.Bool.Decides.{nat_tests}
 use Rattle.std.proofs.lemmas.List.{append-nil, drop_more}
 use Rattle.std.proofs.lemmas.List.Sums.{sum_by-cons}
@@ -22,10 +22,6 @@ use Rattle.srm_codec.proofs.Masks.{named_within}
 use Rattle.srm_outbox.specs.DueItems.{MayHandIn}
 use Rattle.srm_entries.specs.Packing.{is_covered, is_covered_by, mask_of, packed_after, packed}
 
-never : (b : Bool) → (b ≡ true → ⊥) → b ≡ false
-never true h = absurd (h refl)
-never false h = refl
-
 -- no stream lies between a stream and itself
 
 never_back : (s t : Stream) → stream_below s t ≡ true → stream_below t s ≡ true → ⊥
@@ -41,10 +37,7 @@ tells a b e = go (stream_below a.stream b.stream) refl
     go true h = inl h
     go false h =
         let k = and_parts (same_stream a.stream b.stream) (nat_lt a.number b.number) (ap (λ p. p || same_stream a.stream b.stream && nat_lt a.number b.number) (sym h) ∙ e) in
-        inr (same_stream-is a.stream b.stream k.0, less a.number b.number k.1)
-      where
-        less : (m n : ℕ) → nat_lt m n ≡ true → m < n
-        less m n e = grind (arith, nat_tests)
+        inr (same_stream-is a.stream b.stream k.0, ltb-true a.number b.number k.1)
 
 -- a name between two names of one stream is of that stream
 between : (a n b : FullName) → a.stream ≡ b.stream → name_below a n ≡ true → name_below n b ≡ true → (n.stream ≡ a.stream) × (a.number < n.number) × (n.number < b.number)
@@ -68,28 +61,16 @@ covers : (first n : FullName) → is_covered first n ≡ true → Covers first n
 covers first n e =
     let k = and_parts (same_stream first.stream n.stream && nat_lt first.number n.number) (nat_le n.number (first.number + 32)) e in
     let m = and_parts (same_stream first.stream n.stream) (nat_lt first.number n.number) k.0 in
-    record { stream = same_stream-is first.stream n.stream m.0; above = lt first.number n.number m.1; near = le n.number (first.number + 32) k.1 }
-  where
-    lt : (a b : ℕ) → nat_lt a b ≡ true → a < b
-    lt a b e = grind (arith, nat_tests)
-
-    le : (a b : ℕ) → nat_le a b ≡ true → a ≤ b
-    le a b e = grind (arith, nat_tests)
+    record { stream = same_stream-is first.stream n.stream m.0; above = ltb-true first.number n.number m.1; near = leb-true n.number (first.number + 32) k.1 }
 
 covered : (first n : FullName) → Covers first n → is_covered first n ≡ true
 covered first n c =
-    and_from _ _ (and_from _ _ (subst (λ s. same_stream first.stream s ≡ true) c.stream (same_stream-itself first.stream)) (lt first.number n.number c.above))
-    (le n.number (first.number + 32) c.near)
-  where
-    lt : (a b : ℕ) → a < b → nat_lt a b ≡ true
-    lt a b e = grind (arith, nat_tests)
-
-    le : (a b : ℕ) → a ≤ b → nat_le a b ≡ true
-    le a b e = grind (arith, nat_tests)
+    and_from _ _ (and_from _ _ (subst (λ s. same_stream first.stream s ≡ true) c.stream (same_stream-itself first.stream)) (lt-ltb first.number n.number c.above))
+    (le-leb n.number (first.number + 32) c.near)
 
 -- behind the first name that isn't covered none is
 not_covered : (first before n m : FullName) → before.stream ≡ first.stream → first.number ≤ before.number → name_below before n ≡ true → is_covered first n ≡ false → name_below n m ≡ true → is_covered first m ≡ false
-not_covered first before n m s l p u q = never (is_covered first m) (λ e.
+not_covered first before n m s l p u q = false_from_ne_true (is_covered first m) (λ e.
     let c = covers first m e in
     let b = between before n m (s ∙ c.stream) p q in
     let near : n.number ≤ first.number + 32 = omega (arith, c.near, b.2) in
@@ -171,10 +152,7 @@ mask_short first rest left mask m =
 pub request_spelled : (me mask : ℕ) (first : FullName) → me < MEMBERS → is_name first → mask < 2 ^ 32 → mask < 2 ^ (DRAWOPS - first.number) → IsSpellable (Request me first mask)
 request_spelled me mask first member name short within =
     let limit : first.number ≤ DRAWOPS = name.3 in
-    (member, short, (asked_answer first mask true name (sym (named_within first mask DRAWOPS limit short ∙ lt mask (2 ^ (DRAWOPS - first.number)) within))).0 refl)
-  where
-    lt : (a b : ℕ) → a < b → nat_lt a b ≡ true
-    lt a b e = grind (arith, nat_tests)
+    (member, short, (asked_answer first mask true name (sym (named_within first mask DRAWOPS limit short ∙ lt-ltb mask (2 ^ (DRAWOPS - first.number)) within))).0 refl)
 
 -- the names in order, from one on
 
