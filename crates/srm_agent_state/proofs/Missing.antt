@@ -3,6 +3,7 @@ use Rattle.std.proofs.Common.{◌≡◌, ℕ, ◌+◌, ◌*◌, ◌<◌, max, Bo
 use Rattle.std.specs.Prelude.{nat_lt, nat_le, if◌then◌else◌, Option, Some, None, is_some, option_map, option_to_list, unwrap_or}
 use Rattle.std.specs.List.{list_any, flat_map, AllByRecursion}
 use Rattle.std.proofs.lemmas.List.{append-nil}
+use Rattle.std.proofs.Math.Bool.{or-false}
 use Rattle.std.proofs.lemmas.Bool.Decides.{nat_tests}
 use Rattle.srm_names.specs.declared.limits.TheConstants.{MEMBERS}
 use Rattle.srm_names.specs.declared.stream.Stream.{Stream}
@@ -270,10 +271,6 @@ repair_asks n name (Session sender sent farewell shown rows echoes) is = absurd 
 repair_asks n name (Data d) is = absurd is
 repair_asks n name (Request sender other mask) is = absurd is
 
-or_false : (b : Bool) → (b || false) ≡ b
-or_false true = refl
-or_false false = refl
-
 session_gains : (n : FullName) (g : Datagram) → IsSession g → list_any (has_name n) (drawops_in (Some g)) ≡ false
 session_gains n (Session sender sent farewell shown rows echoes) is = refl
 session_gains n (Data d) is = absurd is
@@ -281,7 +278,7 @@ session_gains n (Repair sender d) is = absurd is
 session_gains n (Request sender name mask) is = absurd is
 
 one_gained : (n name : FullName) (d : Drawop) → d.name ≡ name → (has_name n d || false) ≡ same_name n name
-one_gained n name d is = or_false (same_name d.name n) ∙ same_flip d.name n ∙ ap (same_name n) is
+one_gained n name d is = or-false (same_name d.name n) ∙ same_flip d.name n ∙ ap (same_name n) is
 
 data_gains : (n name : FullName) (g : Datagram) → IsDataOf name g → list_any (has_name n) (drawops_in (Some g)) ≡ same_name n name
 data_gains n name (Data d) is = one_gained n name d is
@@ -296,7 +293,7 @@ repair_gains n name (Data d) is = absurd is
 repair_gains n name (Request sender other mask) is = absurd is
 
 pub unrepaired : (e : Entry) (g : Datagram) (n : FullName) → accepted e ≡ Some g → e.effects.fixes ≡ [] → repaired n e ≡ repairs_in n (Some g)
-unrepaired e g n h none = ap (λ o. repairs_in n o || among e.effects.fixes n) h ∙ ap (λ ns. repairs_in n (Some g) || among ns n) none ∙ or_false (repairs_in n (Some g))
+unrepaired e g n h none = ap (λ o. repairs_in n o || among e.effects.fixes n) h ∙ ap (λ ns. repairs_in n (Some g) || among ns n) none ∙ or-false (repairs_in n (Some g))
 
 session_repairs : (n : FullName) (g : Datagram) → IsSession g → repairs_in n (Some g) ≡ false
 session_repairs n (Session sender sent farewell shown rows echoes) is = refl
@@ -311,7 +308,7 @@ data_repairs n name (Repair sender d) is = absurd is
 data_repairs n name (Request sender other mask) is = absurd is
 
 repair_repairs : (n name : FullName) (g : Datagram) → IsRepairOf name g → repairs_in n (Some g) ≡ among (name ∷ []) n
-repair_repairs n name (Repair sender d) is = ap (same_name n) is ∙ sym (or_false (same_name n name))
+repair_repairs n name (Repair sender d) is = ap (same_name n) is ∙ sym (or-false (same_name n name))
 repair_repairs n name (Session sender sent farewell shown rows echoes) is = absurd is
 repair_repairs n name (Data d) is = absurd is
 repair_repairs n name (Request sender other mask) is = absurd is
@@ -378,7 +375,7 @@ rows_hear next_word from to fresh dist now arms old new adds same first drawn = 
               fixes = rw same h.fixes;
               fix_timers = λ n. h.fix_timers n ∙ fixes_as_they_were past now arms fresh dist n (fix_running past n) first;
               askers = λ n. h.askers n ∙ sym (or_else-none (first_of (asker n) past));
-              hold_offs = λ n u. h.hold_offs n u ∙ sym (or_false (held_off c.me past n u));
+              hold_offs = λ n u. h.hold_offs n u ∙ sym (or-false (held_off c.me past n u));
             });
       };
 }
@@ -409,7 +406,7 @@ data_hears next_word from to name fresh dist now arms old roomy set held new roo
               fixes = subst (FixFits c.d1 c.d2 h.fix_calls) (sym (new_fixes ∙ held_fixes ∙ set_fixes)) (stays.each c.d1 c.d2 h.fix_calls h.fixes);
               fix_timers = λ n. h.fix_timers n ∙ fixes_as_they_were past now arms fresh dist n (fix_running past n) first;
               askers = λ n. h.askers n ∙ sym (or_else-none (first_of (asker n) past));
-              hold_offs = λ n u. h.hold_offs n u ∙ sym (or_false (held_off c.me past n u));
+              hold_offs = λ n u. h.hold_offs n u ∙ sym (or-false (held_off c.me past n u));
             });
       };
 }

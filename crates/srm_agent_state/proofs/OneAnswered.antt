@@ -1,6 +1,7 @@
 -- One name that a request asks for: the arm that it makes, and the timers behind it.
 use Rattle.std.proofs.Common.{◌≡◌, ℕ, ◌+◌, ◌<◌, Bool, true, false, not, ◌&&◌, ◌||◌, List, [], ◌∷◌, ◌++◌, take, length, get_or, refl, ap, sym, ◌∙◌, subst, cond, append_assoc}
 use Rattle.std.specs.Prelude.{if◌then◌else◌, Option, Some, None, is_some, option_map, option_to_list, IfSome}
+use Rattle.std.proofs.Math.Bool.{or-false}
 use Rattle.std.proofs.lemmas.List.{append-nil, map-append, take_more}
 use Rattle.srm_names.specs.declared.drawop.Drawop.{Drawop}
 use Rattle.srm_names.specs.FullName.{FullName}
@@ -59,10 +60,6 @@ pub record AnsweredIn (c : Config) (past : List Entry) (from : ℕ) (dist : List
 pub record AnsweredSoFar (s : StoreContent) (from : ℕ) (dist : List ℕ) (now : ℕ) (asked : List FullName) (i : ℕ) (arms : List Arm) (old t : TimersContent) : Type 0 where
   pub each : (c : Config) (past : List Entry) → TimersFit c past old → store.Fits (held past) (evidence_in past) (settlings past) s → ascending name_below asked ≡ true
       → AnsweredIn c past from dist now (take i asked) arms t
-
-or_false : (b : Bool) → (b || false) ≡ b
-or_false true = refl
-or_false false = refl
 
 -- one name
 
@@ -189,7 +186,7 @@ wants c past from dist now done arms t t' held name arm a is ans new = go held i
 
     free : is_free a.mid.fix_calls name now ≡ (not (is_some (fix_running past name)) && not (held_off c.me past name now))
     free = ap (λ o. not (is_some o) && not (calls_hold_off a.mid.fix_calls name now)) fix_at_name
-        ∙ ap (λ b. not (is_some (fix_running past name)) && not b) (a.mid.hold_offs name now ∙ or_false (held_off c.me past name now))
+        ∙ ap (λ b. not (is_some (fix_running past name)) && not b) (a.mid.hold_offs name now ∙ or-false (held_off c.me past name now))
 
     go : (b : Bool) → b ≡ is_held past name → IsAnswered b name from dist now arm t t' → option_map plan_of arm ≡ option_map (plan_at name) (wanted c past from dist now name)
     go true e r =
@@ -247,7 +244,7 @@ one_answered c past from dist now done arms t t' held name arm a is ans rising =
 
     named_so : (o : Option Arm) → option_map plan_of o ≡ option_map (plan_at name) (wanted c past from dist now name) → (y : FullName) → among (arm_names (option_to_list o)) y ≡ true → y ≡ name
     named_so None p y at = absurd (cc)
-    named_so (Some x) p y at = same_name-is y x.name (sym (or_false (same_name y x.name)) ∙ at) ∙ plan_name name x (wanted c past from dist now name) p
+    named_so (Some x) p y at = same_name-is y x.name (sym (or-false (same_name y x.name)) ∙ at) ∙ plan_name name x (wanted c past from dist now name) p
 
     apart : (n : FullName) → is_some (arm_of n (option_to_list arm)) ≡ true → arm_of n arms ≡ None
     apart n there = ap (λ m. arm_of m arms) (named_so arm plan n (sym (arm_named n (option_to_list arm)) ∙ there)) ∙ unarmed name a new
@@ -258,7 +255,7 @@ one_answered c past from dist now done arms t t' held name arm a is ans rising =
       where
         later : (b : Bool) → same_name n name ≡ true → (b || (same_name n name || false)) ≡ true
         later true k = refl
-        later false k = or_false (same_name n name) ∙ k
+        later false k = or-false (same_name n name) ∙ k
     within n false e false f h = absurd (cc)
 
     settled : (n : FullName) (b : Bool) → same_name n name ≡ b → option_map wait_basis (or_else (arm_of n arms) (if b then arm else None)) ≡ (if (among done n || (same_name n name || false)) then wanted c past from dist now n else None)
@@ -270,10 +267,10 @@ one_answered c past from dist now done arms t t' held name arm a is ans rising =
       where
         either : (p q : Bool) → q ≡ true → (p || (q || false)) ≡ true
         either true q k = refl
-        either false q k = or_false q ∙ k
+        either false q k = or-false q ∙ k
     settled n false e =
         ap (option_map wait_basis) (or_else-none (arm_of n arms)) ∙ a.exact n
-        ∙ ap (λ (b : Bool). if b then wanted c past from dist now n else None) (sym (ap (λ q. among done n || (q || false)) e ∙ or_false (among done n)))
+        ∙ ap (λ (b : Bool). if b then wanted c past from dist now n else None) (sym (ap (λ q. among done n || (q || false)) e ∙ or-false (among done n)))
 
 pub one_more_answered : (s : StoreContent) (from : ℕ) (dist : List ℕ) (now : ℕ) (asked : List FullName) (i : ℕ) (arms arms' : List Arm) (old t t' : TimersContent) (holds : Bool) (name : FullName) (arm : Option Arm)
     → i < length asked → name ≡ get_or asked i name

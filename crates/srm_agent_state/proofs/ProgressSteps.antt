@@ -2,6 +2,7 @@
 use Rattle.std.proofs.Common.{◌≡◌, ℕ, ◌+◌, ◌<◌, ◌==◌, Bool, true, false, not, ◌&&◌, ◌||◌, List, [], ◌∷◌, ◌++◌, length, ap, sym, ◌∙◌, subst, refl, inl, inr, ◌⊎◌, arith, length-append}
 use Rattle.std.specs.Prelude.{Option, Some, None, is_some, if◌then◌else◌, slice_index, slice_index_or, slice_set}
 use Rattle.std.specs.List.{list_any, cons_option}
+use Rattle.std.proofs.Math.Bool.{or-false, or-true}
 use Rattle.std.proofs.lemmas.Bool.{eqb-true, eq-eqb, ne_eqb, cases_eq}
 use Rattle.std.proofs.lemmas.List.{get_or-set_same, get_or-set_other}
 use Rattle.std.proofs.lemmas.List.Elements.{filter_map-append}
@@ -27,10 +28,6 @@ leaves-snoc s g m = list_any-snoc (leaves s) g m
 count-snoc : (s : ℕ) (g : List PageMsg) (m : PageMsg) → length (drawops_of s (g ++ m ∷ [])) ≡ length (drawops_of s g) + length (cons_option (drawop_from s m) [])
 count-snoc s g m = ap length (filter_map-append (drawop_from s) g (m ∷ [])) ∙ length-append (drawops_of s g) (cons_option (drawop_from s m) [])
 
-or_false : (b : Bool) → b ≡ (b || false)
-or_false true = refl
-or_false false = refl
-
 some_else : (o : Option Page) (p : Page) → true ≡ is_some (or_else o (Some p))
 some_else None p = refl
 some_else (Some x) p = refl
@@ -45,24 +42,20 @@ zero_more n = omega arith
 pub opens : (g : List PageMsg) (p : Page) (f : ProgressContent) → ProgressFits g f → ProgressFits (g ++ Open p ∷ []) (record f { opened = true })
 opens g p f h = record {
   opened = some_else (opened g) p ∙ ap is_some (sym (opened-snoc g (Open p)));
-  closed = h.closed ∙ or_false (list_any is_close g) ∙ sym (closed-snoc g (Open p));
+  closed = h.closed ∙ sym (or-false (list_any is_close g)) ∙ sym (closed-snoc g (Open p));
   begun = λ e. absurd (cc);
   numbers = λ s b. h.numbers s b ∙ zero_more (length (drawops_of s g)) ∙ sym (count-snoc s g (Open p));
-  left = λ s b. h.left s b ∙ or_false (list_any (leaves s) g) ∙ sym (leaves-snoc s g (Open p));
+  left = λ s b. h.left s b ∙ sym (or-false (list_any (leaves s) g)) ∙ sym (leaves-snoc s g (Open p));
 }
 
 pub closes : (g : List PageMsg) (f : ProgressContent) → ProgressFits g f → ProgressFits (g ++ Close ∷ []) (record f { closed = true })
 closes g f h = record {
   opened = h.opened ∙ still_open (opened g) ∙ ap is_some (sym (opened-snoc g Close));
-  closed = either (list_any is_close g) ∙ sym (closed-snoc g Close);
+  closed = sym (or-true (list_any is_close g)) ∙ sym (closed-snoc g Close);
   begun = λ e k. absurd (cc);
   numbers = λ s b. h.numbers s b ∙ zero_more (length (drawops_of s g)) ∙ sym (count-snoc s g Close);
-  left = λ s b. h.left s b ∙ or_false (list_any (leaves s) g) ∙ sym (leaves-snoc s g Close);
+  left = λ s b. h.left s b ∙ sym (or-false (list_any (leaves s) g)) ∙ sym (leaves-snoc s g Close);
 }
-  where
-    either : (b : Bool) → true ≡ (b || true)
-    either true = refl
-    either false = refl
 
 -- a drawop and a leaving come in an opened page feed alone
 open_there : (o : Option Page) (p : Page) → is_open_at o p ≡ true → is_some o ≡ true
@@ -76,10 +69,10 @@ pub draws : (g : List PageMsg) (d : Drawop) (f : ProgressContent) (source number
     → source < MEMBERS → continues g (Draw d) ≡ true → ProgressFits (g ++ Draw d ∷ []) (record f { numbers = slice_set f.numbers source number })
 draws g d f source number h size at is below goes = record {
   opened = h.opened ∙ still_open (opened g) ∙ ap is_some (sym (opened-snoc g (Draw d)));
-  closed = h.closed ∙ or_false (list_any is_close g) ∙ sym (closed-snoc g (Draw d));
+  closed = h.closed ∙ sym (or-false (list_any is_close g)) ∙ sym (closed-snoc g (Draw d));
   begun = λ e k. not_begun f.opened (is_some (opened g)) h.opened (open_there (opened g) d.name.stream.page parts.0) e;
   numbers = λ s b. counted s b (cases_eq s source) ∙ sym (count-snoc s g (Draw d));
-  left = λ s b. h.left s b ∙ or_false (list_any (leaves s) g) ∙ sym (leaves-snoc s g (Draw d));
+  left = λ s b. h.left s b ∙ sym (or-false (list_any (leaves s) g)) ∙ sym (leaves-snoc s g (Draw d));
 }
   where
     parts : (is_open_at (opened g) d.name.stream.page ≡ true) × ((d.name.number == length (drawops_of d.name.stream.source g) + 1) ≡ true)
@@ -108,7 +101,7 @@ pub leaving : (g : List PageMsg) (source place : ℕ) (f : ProgressContent) → 
     → ProgressFits (g ++ Left source ∷ []) (record f { left = slice_set f.left place true })
 leaving g source place f h size at below goes = record {
   opened = h.opened ∙ still_open (opened g) ∙ ap is_some (sym (opened-snoc g (Left source)));
-  closed = h.closed ∙ or_false (list_any is_close g) ∙ sym (closed-snoc g (Left source));
+  closed = h.closed ∙ sym (or-false (list_any is_close g)) ∙ sym (closed-snoc g (Left source));
   begun = λ e k. not_begun f.opened (is_some (opened g)) h.opened (first (is_some (opened g)) (list_any is_close g) (list_any (leaves source) g) goes) e;
   numbers = λ s b. h.numbers s b ∙ zero_more (length (drawops_of s g)) ∙ sym (count-snoc s g (Left source));
   left = λ s b. marked s b (cases_eq s place) ∙ sym (leaves-snoc s g (Left source));
@@ -118,16 +111,12 @@ leaving g source place f h size at below goes = record {
     first true b c e = refl
     first false b c e = absurd (cc)
 
-    either : (b : Bool) → true ≡ (b || true)
-    either true = refl
-    either false = refl
-
     marked : (s : ℕ) → s < MEMBERS → (s ≡ place) ⊎ (s ≡ place → ⊥) → slice_index_or (slice_set f.left place true) s false ≡ list_any (leaves s) g || leaves s (Left source)
     marked s b (inl same) =
         ap (λ x. slice_index_or (slice_set f.left place true) x false) same ∙ get_or-set_same f.left place true false (subst (λ n. place < n) (sym size) below)
-        ∙ either (list_any (leaves s) g) ∙ ap (λ b. list_any (leaves s) g || b) (sym (eq-eqb s source (same ∙ at)))
+        ∙ sym (or-true (list_any (leaves s) g)) ∙ ap (λ b. list_any (leaves s) g || b) (sym (eq-eqb s source (same ∙ at)))
     marked s b (inr other) =
-        get_or-set_other f.left place s true false other ∙ h.left s b ∙ or_false (list_any (leaves s) g)
+        get_or-set_other f.left place s true false other ∙ h.left s b ∙ sym (or-false (list_any (leaves s) g))
         ∙ ap (λ b. list_any (leaves s) g || b) (sym (ne_eqb s source (λ e. other (e ∙ sym at))))
 
 -- a step at the message that was looked at
