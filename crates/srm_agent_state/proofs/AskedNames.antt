@@ -2,7 +2,7 @@
 use Rattle.std.proofs.Common.{◌≡◌, ℕ, zero, suc, ◌+◌, ◌/◌, ◌%◌, ◌<◌, ◌==◌, Bool, true, false, ◌||◌, List, [], ◌∷◌, ◌++◌, map, refl, ap, ◌∙◌, arith}
 use Rattle.std.specs.Prelude.{if◌then◌else◌}
 use Rattle.std.specs.List.{AllByRecursion}
-use Rattle.std.proofs.lemmas.Bool.{and_from}
+use Rattle.std.proofs.lemmas.Bool.{and_from, or_right}
 use Rattle.std.proofs.lemmas.Bool.Decides.{nat_tests}
 use Rattle.srm_names.specs.declared.stream.Stream.{Stream}
 use Rattle.srm_names.specs.FullName.{FullName}
@@ -14,10 +14,6 @@ use Rattle.srm_codec.specs.Spelling.{bits_set, asked_by}
 
 pub below_in_stream : (s : Stream) (a b : ℕ) → a < b → name_below (named s a) (named s b) ≡ true
 below_in_stream s a b lt = or_right (stream_below s s) _ (and_from _ _ (same_stream-itself s) (grind (arith, nat_tests)))
-  where
-    or_right : (x y : Bool) → y ≡ true → (x || y) ≡ true
-    or_right true y e = refl
-    or_right false y e = e
 
 more_bits : (k mask : ℕ) → bits_set (suc k) mask ≡ (if mask % 2 == 1 then 0 ∷ [] else []) ++ map (λ b. b + 1) (bits_set k (mask / 2))
 unfolding bits_set
