@@ -8,7 +8,7 @@ use Rattle.srm_names.specs.FullName.{FullName}
 use Rattle.srm_names.specs.Histories.{greatest}
 use Rattle.srm_names.specs.Names.{same_stream, same_name, among}
 use Rattle.srm_store.specs.Held.{greatest_in, number_in}
-use Rattle.srm_deadlines.proofs.Same.{same_itself}
+use Rattle.srm_names.proofs.Same.{same_name-itself}
 use Rattle.srm_entries.proofs.Adding.{flat_map-snoc, greatest-append}
 
 -- the greatest number of a stream among names, and one more
@@ -24,4 +24,4 @@ greatest_in-snoc names n s =
 
 -- a name of a list is among it
 pub is_among : (names : List FullName) (i : ℕ) (n : FullName) → n ≡ get_or names i n → i < length names → among names n ≡ true
-is_among names i n is l = list_any_at (same_name n) names i n l (ap (same_name n) (sym is) ∙ same_itself n)
+is_among names i n is l = list_any_at (same_name n) names i n l (ap (same_name n) (sym is) ∙ same_name-itself n)

@@ -7,7 +7,7 @@ use Rattle.srm_names.specs.declared.drawop.Drawop.{Drawop}
 use Rattle.srm_names.specs.FullName.{FullName}
 use Rattle.srm_names.specs.Histories.{or_else, first_of}
 use Rattle.srm_names.specs.Names.{same_name, name_below, ascending, among}
-use Rattle.srm_names.proofs.Same.{same_name-is}
+use Rattle.srm_names.proofs.Same.{same_name-is, same_name-itself}
 use Rattle.srm_names.proofs.Snoc.{or_else-none}
 use Rattle.srm_store.specs.Held as stores
 use Rattle.srm_store.specs.Finals.{Settling}
@@ -23,7 +23,6 @@ use Rattle.srm_timers.specs.AskCalls.{AskCall, AskContent, AskFits, AskAdds, ask
 use Rattle.srm_timers.specs.AskCalls as asks
 use Rattle.srm_timers.specs.FixCalls.{FixCall, Asked, FixAdds, fix_timer, asked_first, calls_hold_off, is_free, sets_fix}
 use Rattle.srm_timers.specs.FixCalls as fixes
-use Rattle.srm_timers.proofs.Arming.{same_itself}
 use Rattle.srm_timers.proofs.AskSteps.{ask_timer-sets}
 use Rattle.srm_timers.proofs.FixSteps.{asked_first-snoc, asked_first-append, no_asker-sets, fix_timer-asked, fix_timer-sets, calls_hold_off-asked, calls_hold_off-append, none_off-sets}
 use Rattle.srm_entries.specs.Configs.{Config}
@@ -251,7 +250,7 @@ one_answered c past from dist now done arms t t' held name arm a is ans rising =
 
     within : (n : FullName) (p : Bool) → among (arm_names arms) n ≡ p → (q : Bool) → among (arm_names (option_to_list arm)) n ≡ q → (p || q) ≡ true → (among done n || (same_name n name || false)) ≡ true
     within n true e q f h = ap (λ b. b || (same_name n name || false)) (a.inside n e)
-    within n false e true f h = later (among done n) (ap (λ m. same_name m name) (named_so arm plan n f) ∙ same_itself name)
+    within n false e true f h = later (among done n) (ap (λ m. same_name m name) (named_so arm plan n f) ∙ same_name-itself name)
       where
         later : (b : Bool) → same_name n name ≡ true → (b || (same_name n name || false)) ≡ true
         later true k = refl

@@ -4,15 +4,14 @@ use Rattle.std.specs.List.{AllByRecursion}
 use Rattle.std.proofs.lemmas.Bool.{and_from}
 use Rattle.srm_names.specs.FullName.{FullName}
 use Rattle.srm_names.specs.Names.{same_name, name_below, ascending, among}
-use Rattle.srm_names.proofs.Same.{same_name-is}
+use Rattle.srm_names.proofs.Same.{same_name-is, same_name-itself}
 use Rattle.srm_names.proofs.Orders.{and_left, and_right, name_order}
-use Rattle.srm_timers.proofs.Arming.{same_itself}
 use Rattle.srm_deadlines.proofs.Order.{take_drop, first_below, ascending_tail}
 
 -- names in order
 
 first_among : (x : FullName) (xs : List FullName) → among (x ∷ xs) x ≡ true
-first_among x xs = ap (λ b. b || among xs x) (same_itself x)
+first_among x xs = ap (λ b. b || among xs x) (same_name-itself x)
 
 pub later_among : (m x : FullName) (xs : List FullName) → among xs m ≡ true → among (x ∷ xs) m ≡ true
 later_among m x xs e = go (same_name m x)
