@@ -33,7 +33,7 @@ use Rattle.srm_agent_state.specs.TimerCalls.{TicksWith, TimersTick, AreToAsk, Ar
 use Rattle.srm_entries.proofs.Adding.{shows, gains, is_missing-snoc}
 use Rattle.srm_entries.proofs.Arming.{find-holds, find-passed, ask_at}
 use Rattle.srm_entries.proofs.Setting.{is_ask, of_kind, ask_if, asks_of, fixes_of, is_armed, chosen_asks, chosen_waits}
-use Rattle.srm_agent_state.proofs.Midway.{midway_fits}
+use Rattle.srm_agent_state.proofs.Midway.{if_none, midway_fits}
 use Rattle.srm_agent_state.proofs.Missing.{held_not_missing, settings_fit, holds_until}
 
 -- the entry of a tick shows and gains nothing
@@ -73,12 +73,8 @@ unasked_tick : (me : ℕ) (past : List Entry) (e : Entry) (n : FullName) → ask
     → basis_of me past e n ≡ (if is_held past n then None else option_map (ask_at me (past ++ e ∷ []) n) (if is_missing past n then (if among e.effects.asks n then option_map next_exponent (last_ask past n) else None) else None))
 unasked_tick me past e n none same = go (is_held past n)
   where
-    no_fix : (b : Bool) (o : Option WaitBasis) → o ≡ None → (if b then o else None) ≡ None
-    no_fix true o e = e
-    no_fix false o e = refl
-
     fix : fix_basis_of me past e n ≡ None
-    fix = no_fix (is_held past n && not (is_some (fix_running past n)) && not (held_off me past n e.moment)) _ (rw none refl)
+    fix = if_none (is_held past n && not (is_some (fix_running past n)) && not (held_off me past n e.moment)) _ (rw none refl)
 
     exponent : (m : Bool) → is_missing past n ≡ m → ask_exponent past e n ≡ (if m then (if among e.effects.asks n then option_map next_exponent (last_ask past n) else None) else None)
     exponent true p = rw (p, none) refl

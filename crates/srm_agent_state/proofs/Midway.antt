@@ -300,6 +300,11 @@ places_stay names a b places holds = record { each = λ n at. holds.each n (plac
 pub settings_keep : (a b : TimersContent) → AskKeepsRoom a.asks b.asks → FixKeepsRoom a.fixes b.fixes → KeepSettings a b
 settings_keep a b p q = record { each = λ c s. record { c1 = p.c1 ∙ s.c1; c2 = p.c2 ∙ s.c2; d1 = q.d1 ∙ s.d1; d2 = q.d2 ∙ s.d2 } }
 
+-- a choice between nothing and nothing
+pub if_none : {X : Type 0} (b : Bool) (o : Option X) → o ≡ None → (if b then o else None) ≡ None
+if_none true o e = e
+if_none false o e = refl
+
 -- words that are used one after another
 drawn_append : {W : Type 0} (next_word : W → ℕ × W) (low high : Arm → ℕ) (from mid to : W) (xs ys : List Arm) → AreChosen next_word low high from xs mid → AreChosen next_word low high mid ys to → AreChosen next_word low high from (xs ++ ys) to
 drawn_append next_word low high from mid to [] ys h k = subst (λ w. AreChosen next_word low high w ys to) h k

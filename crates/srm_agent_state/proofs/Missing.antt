@@ -40,7 +40,7 @@ use Rattle.srm_agent_state.specs.TimerCalls.{AreNewlyMissing, HearsWith, KeepSet
 use Rattle.srm_entries.proofs.Adding.{shows, gains, is_missing-snoc}
 use Rattle.srm_entries.proofs.Arming.{ask_at}
 use Rattle.srm_entries.proofs.Setting.{of_kind, asks_of, fixes_of, is_armed, chosen_waits}
-use Rattle.srm_agent_state.proofs.Midway.{Does, midway_fits, armed_as, waits_before}
+use Rattle.srm_agent_state.proofs.Midway.{Does, if_none, midway_fits, armed_as, waits_before}
 
 -- what an entry that hears a datagram gains and shows
 
@@ -163,12 +163,8 @@ unasked : (me : ℕ) (past : List Entry) (e : Entry) (n : FullName) → asker n 
     → basis_of me past e n ≡ (if is_held past n then None else option_map (ask_at me (past ++ e ∷ []) n) (if is_missing past n then None else if is_missing (past ++ e ∷ []) n then Some 0 else None))
 unasked me past e n none nothing = go (is_held past n)
   where
-    no_fix : (b : Bool) (o : Option WaitBasis) → o ≡ None → (if b then o else None) ≡ None
-    no_fix true o e = e
-    no_fix false o e = refl
-
     fix : fix_basis_of me past e n ≡ None
-    fix = no_fix (is_held past n && not (is_some (fix_running past n)) && not (held_off me past n e.moment)) _ (rw none refl)
+    fix = if_none (is_held past n && not (is_some (fix_running past n)) && not (held_off me past n e.moment)) _ (rw none refl)
 
     exponent : (m m' : Bool) → is_missing past n ≡ m → is_missing (past ++ e ∷ []) n ≡ m' → ask_exponent past e n ≡ (if m then None else if m' then Some 0 else None)
     exponent true m' p q = rw (p, none, nothing) refl

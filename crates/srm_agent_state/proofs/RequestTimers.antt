@@ -27,7 +27,7 @@ use Rattle.srm_agent_state.specs.TimersKept.{TimersContent, TimersFit}
 use Rattle.srm_agent_state.specs.TimerCalls.{AreNewlyMissing, HearsWith, AreDistancesAfter, IsRequestOf, TimersAdd, TimersHearRequest, TimersStay, WaitsAreChosen}
 use Rattle.srm_entries.proofs.Adding.{gains}
 use Rattle.srm_entries.proofs.Setting.{of_kind, asks_of, fixes_of, is_armed, chosen_waits}
-use Rattle.srm_agent_state.proofs.Midway.{midway_fits, armed_as}
+use Rattle.srm_agent_state.proofs.Midway.{if_none, midway_fits, armed_as}
 use Rattle.srm_agent_state.proofs.Missing.{no_name, others_then, fresh_then, fresh_above, fresh_shown, fresh_near, stays_missing, settings_fit}
 use Rattle.srm_agent_state.proofs.RisingNames.{rises_join, among_all, names_no_more}
 use Rattle.srm_agent_state.proofs.AskedNames.{below_in_stream}
@@ -99,10 +99,6 @@ request_adds next_word start to c past e g from asked fresh dist now answers fou
 
     fresh_is : (n : FullName) → among fresh n ≡ true → (is_missing past n ≡ false) × (is_missing (past ++ e ∷ []) n ≡ true)
     fresh_is n k = fresh_then past e n (sym (are.exact n) ∙ k)
-
-    if_none : (q : Bool) (w : Option WaitBasis) → w ≡ None → (if q then w else None) ≡ None
-    if_none true w k = k
-    if_none false w k = refl
 
     apart : (n : FullName) → is_some (arm_of n found) ≡ true → arm_of n answers ≡ None
     apart n there =
