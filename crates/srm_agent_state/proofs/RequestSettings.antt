@@ -127,7 +127,7 @@ any_has {X = X} p (x ∷ xs) e = go (p x) refl e (any_has p xs)
     go true k a more = (x, inl refl, k)
     go false k a more = let (y, h, q) = more a in (y, inr h, q)
 
-held_known : (past : List Entry) (n : FullName) → is_held past n ≡ true → n.number ≤ known past n.stream
+pub held_known : (past : List Entry) (n : FullName) → is_held past n ≡ true → n.number ≤ known past n.stream
 held_known past n h =
     let (d, there, named_so) = any_has (stores.has_name n) (held past) h in
     subst (λ m. m.number ≤ known past m.stream) (same_name-is d.name n named_so) (known_has past d.name (held_is_shown past d there))
