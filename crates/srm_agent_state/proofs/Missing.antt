@@ -249,65 +249,33 @@ no_name n = false
 no_asker : (e : Entry) (g : Datagram) (n : FullName) → accepted e ≡ Some g → asker_in n (Some g) ≡ None → asker n e ≡ None
 no_asker e g n h none = ap (asker_in n) h ∙ none
 
-session_asks : (n : FullName) (g : Datagram) → IsSession g → asker_in n (Some g) ≡ None
-session_asks n (Session sender sent farewell shown rows echoes) is = refl
-session_asks n (Data d) is = absurd is
-session_asks n (Repair sender d) is = absurd is
-session_asks n (Request sender name mask) is = absurd is
-
-data_asks : (n name : FullName) (g : Datagram) → IsDataOf name g → asker_in n (Some g) ≡ None
-data_asks n name (Data d) is = refl
-data_asks n name (Session sender sent farewell shown rows echoes) is = absurd is
-data_asks n name (Repair sender d) is = absurd is
-data_asks n name (Request sender other mask) is = absurd is
-
-repair_asks : (n name : FullName) (g : Datagram) → IsRepairOf name g → asker_in n (Some g) ≡ None
-repair_asks n name (Repair sender d) is = refl
-repair_asks n name (Session sender sent farewell shown rows echoes) is = absurd is
-repair_asks n name (Data d) is = absurd is
-repair_asks n name (Request sender other mask) is = absurd is
-
-session_gains : (n : FullName) (g : Datagram) → IsSession g → list_any (has_name n) (drawops_in (Some g)) ≡ false
-session_gains n (Session sender sent farewell shown rows echoes) is = refl
-session_gains n (Data d) is = absurd is
-session_gains n (Repair sender d) is = absurd is
-session_gains n (Request sender name mask) is = absurd is
-
 one_gained : (n name : FullName) (d : Drawop) → d.name ≡ name → (has_name n d || false) ≡ same_name n name
 one_gained n name d is = or-false (same_name d.name n) ∙ same_flip d.name n ∙ ap (same_name n) is
 
-data_gains : (n name : FullName) (g : Datagram) → IsDataOf name g → list_any (has_name n) (drawops_in (Some g)) ≡ same_name n name
-data_gains n name (Data d) is = one_gained n name d is
-data_gains n name (Session sender sent farewell shown rows echoes) is = absurd is
-data_gains n name (Repair sender d) is = absurd is
-data_gains n name (Request sender other mask) is = absurd is
+-- what a datagram says of a name: whether it gains and whether it repairs it
+record SaysOf (n : FullName) (g : Datagram) (gain repair : Bool) : Type 0 where
+  pub asks : asker_in n (Some g) ≡ None
+  pub gains : list_any (has_name n) (drawops_in (Some g)) ≡ gain
+  pub repairs : repairs_in n (Some g) ≡ repair
 
-repair_gains : (n name : FullName) (g : Datagram) → IsRepairOf name g → list_any (has_name n) (drawops_in (Some g)) ≡ same_name n name
-repair_gains n name (Repair sender d) is = one_gained n name d is
-repair_gains n name (Session sender sent farewell shown rows echoes) is = absurd is
-repair_gains n name (Data d) is = absurd is
-repair_gains n name (Request sender other mask) is = absurd is
+session_says : (n : FullName) (g : Datagram) → IsSession g → SaysOf n g false false
+session_says n (Session sender sent farewell shown rows echoes) is = record { asks = refl; gains = refl; repairs = refl }
+session_says n (Data d) is = absurd is
+session_says n (Repair sender d) is = absurd is
+session_says n (Request sender name mask) is = absurd is
+
+drawop_says : (repair : Bool) (n name : FullName) (g : Datagram) → IsDrawopOf repair name g → SaysOf n g (same_name n name) (repair && among (name ∷ []) n)
+drawop_says false n name (Data d) is = record { asks = refl; gains = one_gained n name d is; repairs = refl }
+drawop_says true n name (Repair sender d) is = record { asks = refl; gains = one_gained n name d is; repairs = ap (same_name n) is ∙ sym (or-false (same_name n name)) }
+drawop_says false n name (Repair sender d) is = absurd is
+drawop_says true n name (Data d) is = absurd is
+drawop_says false n name (Session sender sent farewell shown rows echoes) is = absurd is
+drawop_says true n name (Session sender sent farewell shown rows echoes) is = absurd is
+drawop_says false n name (Request sender other mask) is = absurd is
+drawop_says true n name (Request sender other mask) is = absurd is
 
 pub unrepaired : (e : Entry) (g : Datagram) (n : FullName) → accepted e ≡ Some g → e.effects.fixes ≡ [] → repaired n e ≡ repairs_in n (Some g)
 unrepaired e g n h none = ap (λ o. repairs_in n o || among e.effects.fixes n) h ∙ ap (λ ns. repairs_in n (Some g) || among ns n) none ∙ or-false (repairs_in n (Some g))
-
-session_repairs : (n : FullName) (g : Datagram) → IsSession g → repairs_in n (Some g) ≡ false
-session_repairs n (Session sender sent farewell shown rows echoes) is = refl
-session_repairs n (Data d) is = absurd is
-session_repairs n (Repair sender d) is = absurd is
-session_repairs n (Request sender name mask) is = absurd is
-
-data_repairs : (n name : FullName) (g : Datagram) → IsDataOf name g → repairs_in n (Some g) ≡ false
-data_repairs n name (Data d) is = refl
-data_repairs n name (Session sender sent farewell shown rows echoes) is = absurd is
-data_repairs n name (Repair sender d) is = absurd is
-data_repairs n name (Request sender other mask) is = absurd is
-
-repair_repairs : (n name : FullName) (g : Datagram) → IsRepairOf name g → repairs_in n (Some g) ≡ among (name ∷ []) n
-repair_repairs n name (Repair sender d) is = ap (same_name n) is ∙ sym (or-false (same_name n name))
-repair_repairs n name (Session sender sent farewell shown rows echoes) is = absurd is
-repair_repairs n name (Data d) is = absurd is
-repair_repairs n name (Request sender other mask) is = absurd is
 
 -- the parts after it
 
@@ -355,13 +323,13 @@ pub rows_hear : {W : Type 0} (next_word : W → ℕ × W) (from to : W) (fresh :
     → AskAdds (sets now arms) old.asks new.asks → new.fixes ≡ old.fixes → ArmsOfFound fresh [] dist arms → WaitsAreChosen next_word old from arms to → TimersHear IsSession fresh dist now arms old new
 rows_hear next_word from to fresh dist now arms old new adds same first drawn = record {
   each = λ c past e g is with_ h are d.
-      let none : (n : FullName) → asker n e ≡ None = λ n. no_asker e g n with_.heard (session_asks n g is) in
+      let none : (n : FullName) → asker n e ≡ None = λ n. no_asker e g n with_.heard ((session_says n g is).asks) in
       record {
         arms = arms_right next_word from to c past e g now arms fresh dist old h with_ none are d first drawn;
         fits = midway_fits c past e now arms no_name (λ n. None) no_name (λ n. 0) new
             (does_so c past e g now arms fresh dist no_name no_name (λ n. 0) with_ none are first
-            (λ n. gains_heard e g n with_.heard with_.drawn ∙ session_gains n g is)
-            (λ n. unrepaired e g n with_.heard with_.fixes ∙ session_repairs n g is)
+            (λ n. gains_heard e g n with_.heard with_.drawn ∙ (session_says n g is).gains)
+            (λ n. unrepaired e g n with_.heard with_.fixes ∙ (session_says n g is).repairs)
             (λ n k. absurd (cc)))
             (record {
               ask_calls = h.ask_calls ++ sets now arms;
@@ -384,14 +352,14 @@ data_hears : {W : Type 0} (next_word : W → ℕ × W) (from to : W) (name : Ful
     → new.fixes ≡ held.fixes → new.asks ≡ held.asks → TimersHear (IsDataOf name) fresh dist now arms old new
 data_hears next_word from to name fresh dist now arms old roomy set held new roomy_asks stays keeps adds set_fixes first roomy_drawn gained held_fixes new_fixes new_asks = record {
   each = λ c past e g is with_ h are d.
-      let none : (n : FullName) → asker n e ≡ None = λ n. no_asker e g n with_.heard (data_asks n name g is) in
-      let gain : (n : FullName) → gains e n ≡ same_name n name = λ n. gains_heard e g n with_.heard with_.drawn ∙ data_gains n name g is in
+      let none : (n : FullName) → asker n e ≡ None = λ n. no_asker e g n with_.heard ((drawop_says false n name g is).asks) in
+      let gain : (n : FullName) → gains e n ≡ same_name n name = λ n. gains_heard e g n with_.heard with_.drawn ∙ (drawop_says false n name g is).gains in
       let drawn : WaitsAreChosen next_word old from arms to = waits_before next_word old roomy from to arms keeps roomy_drawn in
       record {
         arms = arms_right next_word from to c past e g now arms fresh dist old h with_ none are d first drawn;
         fits = midway_fits c past e now arms (λ n. same_name n name) (λ n. None) no_name (λ n. 0) new
             (does_so c past e g now arms fresh dist (λ n. same_name n name) no_name (λ n. 0) with_ none are first gain
-            (λ n. unrepaired e g n with_.heard with_.fixes ∙ data_repairs n name g is)
+            (λ n. unrepaired e g n with_.heard with_.fixes ∙ (drawop_says false n name g is).repairs)
             (λ n k. absurd (cc)))
             (record {
               ask_calls = (h.ask_calls ++ sets now arms) ++ Gained name ∷ [];
@@ -422,15 +390,15 @@ repair_hears : {W : Type 0} (next_word : W → ℕ × W) (from to : W) (name : F
     → FixRepairs now dist (name ∷ []) held.fixes new.fixes → new.asks ≡ held.asks → TimersHear (IsRepairOf name) fresh dist now arms old new
 repair_hears next_word from to name fresh dist now arms old roomy set held new roomy_asks stays keeps adds set_fixes first roomy_drawn gained held_fixes repaired_ new_asks = record {
   each = λ c past e g is with_ h are d.
-      let none : (n : FullName) → asker n e ≡ None = λ n. no_asker e g n with_.heard (repair_asks n name g is) in
-      let gain : (n : FullName) → gains e n ≡ same_name n name = λ n. gains_heard e g n with_.heard with_.drawn ∙ repair_gains n name g is in
+      let none : (n : FullName) → asker n e ≡ None = λ n. no_asker e g n with_.heard ((drawop_says true n name g is).asks) in
+      let gain : (n : FullName) → gains e n ≡ same_name n name = λ n. gains_heard e g n with_.heard with_.drawn ∙ (drawop_says true n name g is).gains in
       let drawn : WaitsAreChosen next_word old from arms to = waits_before next_word old roomy from to arms keeps roomy_drawn in
       let kept : FixFits c.d1 c.d2 h.fix_calls held.fixes = subst (FixFits c.d1 c.d2 h.fix_calls) (sym (held_fixes ∙ set_fixes)) (stays.each c.d1 c.d2 h.fix_calls h.fixes) in
       record {
         arms = arms_right next_word from to c past e g now arms fresh dist old h with_ none are d first drawn;
         fits = midway_fits c past e now arms (λ n. same_name n name) (λ n. None) (λ n. among (name ∷ []) n) (repair_holds_until now dist h.fix_calls) new
             (does_so c past e g now arms fresh dist (λ n. same_name n name) (λ n. among (name ∷ []) n) (repair_holds_until now dist h.fix_calls) with_ none are first gain
-            (λ n. unrepaired e g n with_.heard with_.fixes ∙ repair_repairs n name g is)
+            (λ n. unrepaired e g n with_.heard with_.fixes ∙ (drawop_says true n name g is).repairs)
             (λ n at. holds_until c past e now dist h.fix_calls n d (h.askers n) (repaired_.near c.d1 c.d2 h.fix_calls kept n at)))
             (record {
               ask_calls = (h.ask_calls ++ sets now arms) ++ Gained name ∷ [];

@@ -13,7 +13,7 @@ use Rattle.srm_codec.specs.Spelling.{is_name}
 use Rattle.srm_store.specs.Stores.{StoreContent}
 use Rattle.srm_timers.specs.declared.arm.Arm.{Arm}
 use Rattle.srm_timers.specs.declared.arm.ArmKind.TheVariants.{Ask, Fix}
-use Rattle.srm_timers.specs.Arms.{WaitBasis, wait_basis, arm_names, arm_of}
+use Rattle.srm_timers.specs.Arms.{wait_basis, arm_names, arm_of}
 use Rattle.srm_timers.specs.Timers.{armed_at}
 use Rattle.srm_timers.specs.Distances.{distance_to}
 use Rattle.srm_timers.specs.AskCalls.{AskAdds, ArmsOfFound, ask_timer, sets, first_exponent}
