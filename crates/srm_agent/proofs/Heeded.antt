@@ -1,5 +1,5 @@
 -- An agent after an entry in which a datagram was heard and accepted.
-use Rattle.std.proofs.Common.{◌≡◌, ℕ, ◌≤◌, ◌==◌, max, Bool, true, false, ◌&&◌, List, [], ◌∷◌, ◌++◌, length, ◌+◌, refl, ap, sym, ◌∙◌, arith, append_assoc}
+use Rattle.std.proofs.Common.{◌≡◌, ℕ, ◌≤◌, ◌==◌, max, Bool, true, false, ◌&&◌, List, [], ◌∷◌, ◌++◌, length, ◌+◌, refl, ap, sym, ◌∙◌, subst, arith, append_assoc}
 use Rattle.std.specs.Prelude.{Some, filter, nat_lt, if◌then◌else◌, unwrap_or}
 use Rattle.std.specs.List.{flat_map, list_any, AllByRecursion, cons_option}
 use Rattle.std.proofs.lemmas.List.{append-nil, map-append}
@@ -30,7 +30,7 @@ use Rattle.srm_entries.specs.Configs.{Config}
 use Rattle.srm_entries.specs.Entries.{done, accepted, is_gone, state, slots, pages_in, last_moment, held, evidence_in, known, drawn, drawops_in}
 use Rattle.srm_entries.specs.Distances.{distance_calls, calls_in, calls_of}
 use Rattle.srm_entries.specs.Timers.{TimersRight}
-use Rattle.srm_agent_state.specs.TimerCalls.{TimersAdd, WaitsAreChosen}
+use Rattle.srm_agent_state.specs.TimerCalls.{HearsWith, TimersAdd, WaitsAreChosen}
 use Rattle.srm_agent_state.specs.TimersKept.{HaveSettings}
 use Rattle.srm_agent_state.specs.PageTables.{with_pages_of}
 use Rattle.srm_entries.specs.Verdicts.{verdict_of, settlings, settling_of, drawn_in, stream_on, exceeds, is_beyond, final}
@@ -40,7 +40,7 @@ use Rattle.srm_entries.specs.Runs.{EntryRight}
 use Rattle.srm_agent.specs.Contents.{Content}
 use Rattle.srm_agent.specs.Fits.{Fits, BucketFits}
 use Rattle.srm_agent.specs.Heeding.{heard_entry}
-use Rattle.srm_agent.specs.Noting.{Enters}
+use Rattle.srm_agent.specs.Noting.{Enters, IsAllowed}
 use Rattle.srm_bucket.specs.Content.{Content as BucketContent}
 use Rattle.srm_entries.proofs.Adding.{flat_map-snoc, known-snoc}
 use Rattle.srm_entries.proofs.Cutting.{bucket_calls-append}
@@ -72,6 +72,29 @@ pub record Heeds {W : Type 0} (c : Config) (made : ℕ) (past : List Entry) (a b
   pub distances : distances.Fits c.me (distance_calls c.me past ++ calls_of c.me moment (Some g)) b.distances
   pub pages : b.pages ≡ with_pages_of a.pages (names_in g)
   pub goes : Goes a b moment
+
+-- the entry hears the datagram, and does nothing else
+pub heard_with : (me moment : ℕ) (g : Datagram) (arms : List Arm) (s : AgentState) → IsSpellable g → HearsWith g moment arms (heard_entry me moment g arms s)
+heard_with me moment g arms s spellable = record { heard = refl; read = spellable; moment = refl; drawn = refl; arms = refl; asks = refl; fixes = refl }
+
+-- the kinds of datagram differ in what timers, store, distances and pages become
+pub heeds_by : {W : Type 0} (c : Config) (made : ℕ) (past : List Entry) (a b : Content W) (moment : ℕ) (g : Datagram) (arms : List Arm) → Fits c made past a → a.last ≤ moment → is_gone a.state ≡ false → IsSpellable g → IsAllowed (Heard g) a
+    → TimersAdd c past (heard_entry c.me moment g arms a.state) b.timers
+    → store.Fits (held past ++ drawops_in (Some g)) (evidence_in past ++ names_in g) (settlings past ++ cons_option (settling_of (Some g)) []) b.store
+    → distances.Fits c.me (distance_calls c.me past ++ calls_of c.me moment (Some g)) b.distances
+    → b.pages ≡ with_pages_of a.pages (names_in g) → Goes a b moment → Heeds c made past a b moment g (heard_entry c.me moment g arms a.state)
+heeds_by c made past a b moment g arms h late here spellable allowed add keeps calls pages goes = record {
+  fits = h;
+  later = subst (λ n. n ≤ moment) h.last late;
+  here = ap is_gone (sym h.state) ∙ here;
+  accepted = sym (allowed.each c made past h);
+  spellable = spellable;
+  timers = add;
+  store = keeps;
+  distances = calls;
+  pages = pages;
+  goes = goes;
+}
 
 -- the entry is one that those before it allow
 

@@ -36,7 +36,7 @@ use Rattle.srm_agent.specs.Fits.{Fits}
 use Rattle.srm_agent.specs.Heeding.{heard_entry}
 use Rattle.srm_agent.specs.Noting.{Enters, IsAllowed}
 use Rattle.srm_entries.proofs.Adding.{flat_map-snoc}
-use Rattle.srm_agent.proofs.Heeded.{Goes, Heeds, heard_enters}
+use Rattle.srm_agent.proofs.Heeded.{Goes, Heeds, heard_with, heeds_by, heard_enters}
 use Rattle.srm_agent.proofs.Joining.{ShowsRows, fresh_rows}
 
 -- the rows of a session message rise
@@ -67,7 +67,7 @@ pub session_enters : {W : Type 0} (next_word : W → ℕ × W) (a b : Content W)
     → TimersHear IsSession fresh dist moment arms a.timers b.timers → StillFits a.store roomy → LearnsToo g roomy b.store → b.pages ≡ with_pages_of a.pages names → b.distances ≡ after → Goes a b moment
     → HaveSettings a.config a.timers → WaitsAreChosen next_word a.timers a.words arms b.words → e ≡ heard_entry a.config.me moment g arms a.state
     → Enters next_word (Some moment) (Heard g) a b e
-session_enters next_word a b moment g names fresh dist arms roomy after e is named here spellable late taken fresh_of hears_too table hears kept learns pages same goes settings drawn e_is =
+session_enters next_word a b moment g names fresh dist arms roomy after e is named here spellable late allowed fresh_of hears_too table hears kept learns pages same goes settings drawn e_is =
     heard_enters next_word a b moment g arms e late settings drawn e_is heeds
   where
     hears_by : (c : Config) (made : ℕ) (past : List Entry) → Fits c made past a → distances.Fits c.me (distance_calls c.me past ++ calls_of c.me moment (Some g)) after
@@ -80,17 +80,10 @@ session_enters next_word a b moment g names fresh dist arms roomy after e is nam
     }
 
     heeds : (c : Config) (made : ℕ) (past : List Entry) → Fits c made past a → Heeds c made past a b moment g (heard_entry c.me moment g arms a.state)
-    heeds c made past h = record {
-      fits = h;
-      later = subst (λ n. n ≤ moment) h.last late;
-      here = ap is_gone (sym h.state) ∙ here;
-      accepted = sym (taken.each c made past h);
-      spellable = spellable;
-      timers = hears.each c past (heard_entry c.me moment g arms a.state) g is (record { heard = refl; read = spellable; moment = refl; drawn = refl; arms = refl; asks = refl; fixes = refl }) h.timers
-          (fresh_rows past (heard_entry c.me moment g arms a.state) names fresh (subst (λ ns. ShowsRows ns (heard_entry c.me moment g arms a.state)) (sym named) (shows_rows g c.me moment arms a.state is)) (fresh_of.each c made past h)) (dist_after c made past h);
-      store = subst (λ ds. store.Fits ds (evidence_in past ++ names_in g) (settlings past ++ cons_option (settling_of (Some g)) []) b.store) (sym (ap (λ ds. held past ++ ds) (no_drawops g is) ∙ append-nil (held past)))
-          (learns.each (held past) (evidence_in past) (settlings past) (kept.each (held past) (evidence_in past) (settlings past) h.store));
-      distances = subst (λ d. distances.Fits c.me (distance_calls c.me past ++ calls_of c.me moment (Some g)) d) (sym same) (hears_by c made past h);
-      pages = pages ∙ ap (with_pages_of a.pages) named;
-      goes = goes;
-    }
+    heeds c made past h = heeds_by c made past a b moment g arms h late here spellable allowed
+        (hears.each c past (heard_entry c.me moment g arms a.state) g is (heard_with c.me moment g arms a.state spellable) h.timers
+          (fresh_rows past (heard_entry c.me moment g arms a.state) names fresh (subst (λ ns. ShowsRows ns (heard_entry c.me moment g arms a.state)) (sym named) (shows_rows g c.me moment arms a.state is)) (fresh_of.each c made past h)) (dist_after c made past h))
+        (subst (λ ds. store.Fits ds (evidence_in past ++ names_in g) (settlings past ++ cons_option (settling_of (Some g)) []) b.store) (sym (ap (λ ds. held past ++ ds) (no_drawops g is) ∙ append-nil (held past)))
+          (learns.each (held past) (evidence_in past) (settlings past) (kept.each (held past) (evidence_in past) (settlings past) h.store)))
+        (subst (λ d. distances.Fits c.me (distance_calls c.me past ++ calls_of c.me moment (Some g)) d) (sym same) (hears_by c made past h))
+        (pages ∙ ap (with_pages_of a.pages) named) goes

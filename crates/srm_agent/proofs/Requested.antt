@@ -34,7 +34,7 @@ use Rattle.srm_agent.specs.Heeding.{heard_entry}
 use Rattle.srm_agent.specs.Noting.{Enters, IsAllowed}
 use Rattle.srm_entries.proofs.Adding.{flat_map-snoc}
 use Rattle.srm_agent.proofs.Evident.{fresh_request}
-use Rattle.srm_agent.proofs.Heeded.{Goes, Heeds, heard_enters}
+use Rattle.srm_agent.proofs.Heeded.{Goes, Heeds, heard_with, heeds_by, heard_enters}
 
 -- what was found between what is known and the greatest that is asked for
 pub up_to_is : (s : Stream) (k l known_of greatest : ℕ) (names : List FullName) → known_of ≡ k → greatest ≡ l → AreExactly (is_between s known_of (greatest + 1)) names → AreExactly (is_between s k (l + 1)) names
@@ -51,7 +51,7 @@ pub request_enters : {W : Type 0} (next_word : W → ℕ × W) (a b : Content W)
     → TimersHearRequest roomy sender names fresh dist moment arms a.timers b.timers → StillFits a.store roomy → LearnsNames names roomy b.store → b.pages ≡ with_pages_of a.pages names → b.distances ≡ a.distances → Goes a b moment
     → HaveSettings a.config a.timers → WaitsAreChosen next_word a.timers a.words arms b.words → e ≡ heard_entry a.config.me moment (Request sender name mask) arms a.state
     → Enters next_word (Some moment) (Heard (Request sender name mask)) a b e
-request_enters next_word a b moment sender name mask names fresh dist arms roomy e asked here spellable late taken up_to table hears kept shows pages same goes settings drawn e_is =
+request_enters next_word a b moment sender name mask names fresh dist arms roomy e asked here spellable late allowed up_to table hears kept shows pages same goes settings drawn e_is =
     heard_enters next_word a b moment (Request sender name mask) arms e late settings drawn e_is heeds
   where
     after : (c : Config) (made : ℕ) (past : List Entry) → Fits c made past a → AreDistancesAfter c (past ++ heard_entry c.me moment (Request sender name mask) arms a.state ∷ []) dist
@@ -62,17 +62,10 @@ request_enters next_word a b moment sender name mask names fresh dist arms roomy
     heeds : (c : Config) (made : ℕ) (past : List Entry) → Fits c made past a → Heeds c made past a b moment (Request sender name mask) (heard_entry c.me moment (Request sender name mask) arms a.state)
     heeds c made past h =
         let old_fits = kept.each (held past) (evidence_in past) (settlings past) h.store in
-        record {
-          fits = h;
-          later = subst (λ n. n ≤ moment) h.last late;
-          here = ap is_gone (sym h.state) ∙ here;
-          accepted = sym (taken.each c made past h);
-          spellable = spellable;
-          timers = hears.each c past (heard_entry c.me moment (Request sender name mask) arms a.state) (Request sender name mask) (refl, sym asked)
-              (record { heard = refl; read = spellable; moment = refl; drawn = refl; arms = refl; asks = refl; fixes = refl }) h.timers old_fits
-              (fresh_request past c.me moment sender name mask arms a.state fresh (subst (λ ns. AreExactly (is_between name.stream (known past name.stream) (greatest_in ns name.stream + 1)) fresh) asked (up_to.each c made past h))) (after c made past h);
-          store = rw (append-nil (held past), append-nil (settlings past)) (subst (λ ns. store.Fits (held past) (evidence_in past ++ ns) (settlings past) b.store) asked (shows.each (held past) (evidence_in past) (settlings past) old_fits));
-          distances = rw (append-nil (distance_calls c.me past), same) h.distances;
-          pages = pages ∙ ap (with_pages_of a.pages) asked;
-          goes = goes;
-        }
+        heeds_by c made past a b moment (Request sender name mask) arms h late here spellable allowed
+          (hears.each c past (heard_entry c.me moment (Request sender name mask) arms a.state) (Request sender name mask) (refl, sym asked)
+              (heard_with c.me moment (Request sender name mask) arms a.state spellable) h.timers old_fits
+              (fresh_request past c.me moment sender name mask arms a.state fresh (subst (λ ns. AreExactly (is_between name.stream (known past name.stream) (greatest_in ns name.stream + 1)) fresh) asked (up_to.each c made past h))) (after c made past h))
+          (rw (append-nil (held past), append-nil (settlings past)) (subst (λ ns. store.Fits (held past) (evidence_in past ++ ns) (settlings past) b.store) asked (shows.each (held past) (evidence_in past) (settlings past) old_fits)))
+          (rw (append-nil (distance_calls c.me past), same) h.distances)
+          (pages ∙ ap (with_pages_of a.pages) asked) goes

@@ -36,7 +36,7 @@ use Rattle.srm_agent.specs.Noting.{Enters, IsAllowed, Stays}
 use Rattle.srm_entries.proofs.Adding.{flat_map-snoc}
 use Rattle.srm_agent.proofs.Fitting.{refit}
 use Rattle.srm_agent.proofs.Fresh.{Brings, fresh_drawop}
-use Rattle.srm_agent.proofs.Heeded.{Goes, Heeds, heard_enters}
+use Rattle.srm_agent.proofs.Heeded.{Goes, Heeds, heard_with, heeds_by, heard_enters}
 
 -- a datagram that brings one drawop, and no session message
 pub record BringsOne (d : Drawop) (g : Datagram) : Type 0 where
@@ -96,7 +96,7 @@ pub drawop_enters : {W : Type 0} (next_word : W → ℕ × W) (a b : Content W) 
     → TimersHear is fresh dist moment arms a.timers b.timers → StillFits a.store roomy → HoldsToo d roomy b.store → b.pages ≡ with_pages_of a.pages (d.name ∷ []) → b.distances ≡ a.distances → Goes a b moment
     → HaveSettings a.config a.timers → WaitsAreChosen next_word a.timers a.words arms b.words → e ≡ heard_entry a.config.me moment g arms a.state
     → Enters next_word (Some moment) (Heard g) a b e
-drawop_enters next_word a b moment g is d fresh dist arms roomy e one it here spellable late taken below table hears kept holds pages same goes settings drawn e_is =
+drawop_enters next_word a b moment g is d fresh dist arms roomy e one it here spellable late allowed below table hears kept holds pages same goes settings drawn e_is =
     heard_enters next_word a b moment g arms e late settings drawn e_is heeds
   where
     after : (c : Config) (made : ℕ) (past : List Entry) → Fits c made past a → AreDistancesAfter c (past ++ heard_entry c.me moment g arms a.state ∷ []) dist
@@ -105,19 +105,12 @@ drawop_enters next_word a b moment g is d fresh dist arms roomy e one it here sp
     }
 
     heeds : (c : Config) (made : ℕ) (past : List Entry) → Fits c made past a → Heeds c made past a b moment g (heard_entry c.me moment g arms a.state)
-    heeds c made past h = record {
-      fits = h;
-      later = subst (λ n. n ≤ moment) h.last late;
-      here = ap is_gone (sym h.state) ∙ here;
-      accepted = sym (taken.each c made past h);
-      spellable = spellable;
-      timers = hears.each c past (heard_entry c.me moment g arms a.state) g it (record { heard = refl; read = spellable; moment = refl; drawn = refl; arms = refl; asks = refl; fixes = refl }) h.timers
-          (fresh_drawop past (heard_entry c.me moment g arms a.state) d _ fresh (one.brings c.me moment arms a.state) refl (below.each c made past h)) (after c made past h);
-      store = rw (one.drawops, one.names, one.unparting, append-nil (settlings past)) (holds.each (held past) (evidence_in past) (settlings past) (kept.each (held past) (evidence_in past) (settlings past) h.store));
-      distances = rw (one.uncalled c.me moment, append-nil (distance_calls c.me past), same) h.distances;
-      pages = rw one.names pages;
-      goes = goes;
-    }
+    heeds c made past h = heeds_by c made past a b moment g arms h late here spellable allowed
+        (hears.each c past (heard_entry c.me moment g arms a.state) g it (heard_with c.me moment g arms a.state spellable) h.timers
+          (fresh_drawop past (heard_entry c.me moment g arms a.state) d _ fresh (one.brings c.me moment arms a.state) refl (below.each c made past h)) (after c made past h))
+        (rw (one.drawops, one.names, one.unparting, append-nil (settlings past)) (holds.each (held past) (evidence_in past) (settlings past) (kept.each (held past) (evidence_in past) (settlings past) h.store)))
+        (rw (one.uncalled c.me moment, append-nil (distance_calls c.me past), same) h.distances)
+        (rw one.names pages) goes
 
 -- what was found between what is known and the name
 pub below_is : (n : FullName) (s : Stream) (k known_of number : ℕ) (names : List FullName) → s ≡ n.stream → k ≡ known_of → number ≡ n.number → AreExactly (is_between s k number) names → AreExactly (is_between n.stream known_of n.number) names
