@@ -1,10 +1,9 @@
 -- The next moment at which a tick does something, of a new member, of one that has drawn, and of one that is gone.
-use Rattle.std.proofs.Common.{◌≡◌, ℕ, ◌<◌, true, false, not, ◌||◌, List, [], ◌∷◌, ◌++◌, refl, ap, sym, ◌∙◌, subst, arith, lit≤}
+use Rattle.std.proofs.Common.{◌≡◌, ℕ, ◌<◌, true, false, not, ◌||◌, List, [], ◌∷◌, refl, ap, sym, ◌∙◌, subst, arith, lit≤}
 use Rattle.std.specs.Prelude.{Some, None, nat_le, if◌then◌else◌}
 use Rattle.std.proofs.lemmas.Bool.Decides.{nat_tests}
 use Rattle.srm_names.specs.FullName.{FullName}
 use Rattle.srm_names.specs.Names.{first_page, named}
-use Rattle.srm_codec.specs.declared.datagram.Datagram.{Datagram}
 use Rattle.srm_codec.specs.declared.datagram.Datagram.TheVariants.{Session}
 use Rattle.srm_bucket.specs.Law.{BucketLaw}
 use Rattle.srm_entries.specs.declared.entry.Entry.{Entry}
@@ -18,10 +17,10 @@ use Rattle.srm_entries.specs.Runs.{EntryRight, IsMemberRun}
 use Rattle.srm_entries.proofs.Parting.{tick_draws_nothing}
 use Rattle.srm_entries.proofs.Rating.{rate_law}
 use Rattle.srm_names.specs.Histories.{steps}
-use Rattle.srm_bucket.specs.Calls.{Classed}
 use Rattle.std.specs.List.{AllByRecursion}
 use Rattle.srm_entries.specs.Promises.{MayDoNothing, IsNextDue}
 use Rattle.srm_agent.proofs.NextDueRests.{gone_rests, idle_rests}
+use Rattle.srm_agent.proofs.NextDueStirs.{not_empty, nothing_went}
 use Rattle.srm_entries.specs.Sample.{first_stream, idle}
 use Rattle.srm_entries.proofs.Plain.{config, plain, idle_right, right, missing_none, unknown_unmissed}
 
@@ -54,10 +53,6 @@ idle_before now l = (
   },
 )
 
-not_empty : (xs : List Datagram) (g : Datagram) → [] ≡ xs ++ g ∷ [] → ⊥
-not_empty [] g e = absurd (cc)
-not_empty (x ∷ xs) g e = absurd (cc)
-
 ends_with_one : (e : Entry) → e.input ≡ Ticked → e.moment ≡ 1000000 → ending (config 0) 0 [] e ≡ Some false
 ends_with_one e i m =
     ap (λ (input : Input). if not (is_tick input) || false then None else if nat_le 1000000 e.moment then Some false else None) i
@@ -78,11 +73,7 @@ drawn = plain 0 5 (Drew first_page []) (Some (record { name = named first_stream
 
 -- an entry in which nothing is charged is marked with nothing
 unmarked : (x : Going) (e : Entry) → x.entry ≡ e → datagrams_of x.goes ≡ charged x.entry → charged e ≡ [] → x ≡ idle e
-unmarked x e p same none = ap (λ en. record { entry = en; goes = x.goes }) p ∙ ap (λ goes. record { entry = e; goes = goes }) (nothing x.goes (same ∙ ap charged p ∙ none))
-  where
-    nothing : (goes : List (Classed Datagram)) → datagrams_of goes ≡ [] → goes ≡ []
-    nothing [] q = refl
-    nothing (i ∷ goes) q = absurd (cc)
+unmarked x e p same none = ap (λ en. record { entry = en; goes = x.goes }) p ∙ ap (λ goes. record { entry = e; goes = goes }) (nothing_went x.goes (same ∙ ap charged p ∙ none))
 
 two_unmarked : (gs : List Going) (a b : Entry) → entries_of gs ≡ a ∷ b ∷ [] → AllByRecursion GoesAsCharged (steps gs) → charged a ≡ [] → charged b ≡ [] → gs ≡ idle a ∷ idle b ∷ []
 two_unmarked [] a b q all m n = absurd (cc)

@@ -13,9 +13,8 @@ use Rattle.srm_bucket.specs.Law.{BucketLaw, may_go}
 use Rattle.srm_bucket.proofs.Pausing.{paused-none, popped-may_go}
 use Rattle.srm_codec.specs.declared.datagram.Datagram.{Datagram}
 use Rattle.srm_entries.specs.declared.entry.Entry.{Entry}
-use Rattle.srm_entries.specs.declared.entry.Input.TheVariants.{Ticked}
 use Rattle.srm_entries.specs.Configs.{Config}
-use Rattle.srm_entries.specs.Entries.{state, is_gone, is_tick, ticked}
+use Rattle.srm_entries.specs.Entries.{state, is_gone, ticked}
 use Rattle.srm_entries.specs.Timers.{ask_due, fix_due}
 use Rattle.srm_codec.specs.Spelling.{is_session}
 use Rattle.srm_entries.specs.Sessions.{charged, session_due, all_data_sent, ending, EndsWith}
@@ -27,22 +26,8 @@ use Rattle.srm_entries.proofs.Ending.{ending_of, ending_is}
 use Rattle.srm_entries.proofs.Marking.{bucket_calls-snoc}
 use Rattle.srm_entries.proofs.Marks.{marks_same, pop_is_next}
 use Rattle.srm_agent.proofs.NextDueIdle.{unsent_stays, pauses}
-use Rattle.srm_agent.proofs.NextDueStirs.{DidNothing, did_nothing, not_empty, nothing_went}
-use Rattle.srm_entries.proofs.Parting.{tick_draws_nothing}
+use Rattle.srm_agent.proofs.NextDueStirs.{MayCome, may_come, DidNothing, did_nothing, not_empty, nothing_went}
 use Rattle.srm_entries.proofs.Spending.{law_to}
-
--- a tick that may come
-record MayCome (c : Config) (made : ℕ) (past : List Entry) (now : ℕ) (e : Entry) : Type 0 where
-  pub ticks : ticked e ≡ true
-  pub moment : e.moment ≡ now
-  pub drawn : e.effects.drawn ≡ None
-  pub right : EntryRight c made (record { before = past; this = e })
-  pub run : IsMemberRun c made (past ++ e ∷ [])
-
-may_come : (c : Config) (made : ℕ) (past : List Entry) (now : ℕ) (e : Entry) → e.input ≡ Ticked → e.moment ≡ now → IsMemberRun c made (past ++ e ∷ []) → MayCome c made past now e
-may_come c made past now e input moment run =
-    let right : EntryRight c made (record { before = past; this = e }) = (at_parts (EntryRight c made) past (e ∷ []) run.each).1.0 in
-    record { ticks = ap is_tick input; moment = moment; drawn = tick_draws_nothing c made past e right (ap is_tick input); right = right; run = run }
 
 -- what it hands out
 
@@ -61,11 +46,11 @@ fixes_none c made past now e m none = none_named _ e.effects.fixes m.right.timer
 
 no_ask_due : (c : Config) (made : ℕ) (past : List Entry) (now : ℕ) (i : Entry) → DidNothing c made past now i → (n : FullName) → ask_due past n now ≡ false
 no_ask_due c made past now i d n =
-    ap (ask_due past n) (sym d.moment) ∙ ap (λ b. b && ask_due past n i.moment) (sym d.ticks) ∙ sym (d.right.timers.asks.exact n) ∙ ap (λ ns. among ns n) d.asks
+    ap (ask_due past n) (sym d.comes.moment) ∙ ap (λ b. b && ask_due past n i.moment) (sym d.comes.ticks) ∙ sym (d.comes.right.timers.asks.exact n) ∙ ap (λ ns. among ns n) d.asks
 
 no_fix_due : (c : Config) (made : ℕ) (past : List Entry) (now : ℕ) (i : Entry) → DidNothing c made past now i → (n : FullName) → fix_due past n now ≡ false
 no_fix_due c made past now i d n =
-    ap (fix_due past n) (sym d.moment) ∙ ap (λ b. b && fix_due past n i.moment) (sym d.ticks) ∙ sym (d.right.timers.fixes.exact n) ∙ ap (λ ns. among ns n) d.fixes
+    ap (fix_due past n) (sym d.comes.moment) ∙ ap (λ b. b && fix_due past n i.moment) (sym d.comes.ticks) ∙ sym (d.comes.right.timers.fixes.exact n) ∙ ap (λ ns. among ns n) d.fixes
 
 -- what it lets go
 
@@ -107,8 +92,8 @@ none_may_go : (c : Config) (made : ℕ) (past : List Entry) (now : ℕ) (i : Ent
 none_may_go c made past now i d here m =
     let none : m.goes ≡ [] = nothing_went m.goes (m.right.same ∙ ap (filter (λ g. not (is_session g))) d.outs) in
     let calls : calls_by c.me (record { before = m.before; this = record { entry = i; goes = m.goes } }) ≡ Popped i.moment None ∷ [] =
-    ap (λ goes. calls_by c.me (record { before = m.before; this = record { entry = i; goes = goes } })) none ∙ pauses c.me m.before past i m.entries here d.ticks d.drawn d.asks d.fixes in
-    ap (may_go c.rate c.depth (bucket_calls c.me m.before)) (sym d.moment)
+    ap (λ goes. calls_by c.me (record { before = m.before; this = record { entry = i; goes = goes } })) none ∙ pauses c.me m.before past i m.entries here d.comes.ticks d.comes.drawn d.asks d.fixes in
+    ap (may_go c.rate c.depth (bucket_calls c.me m.before)) (sym d.comes.moment)
     ∙ paused-none c.rate c.depth (bucket_calls c.me m.before) i.moment
     (law_at c.rate c.depth (bucket_calls c.me m.before) [] (Popped i.moment None) (subst (λ cs. BucketLaw c.rate c.depth (bucket_calls c.me m.before ++ cs)) calls m.law))
 
@@ -155,14 +140,14 @@ active_rests : (c : Config) (made : ℕ) (past : List Entry) (now : ℕ) (i e : 
 active_rests c made past now i e d m here =
     let asks : e.effects.asks ≡ [] = asks_none c made past now e m (no_ask_due c made past now i d) in
     let fixes : e.effects.fixes ≡ [] = fixes_none c made past now e m (no_fix_due c made past now i d) in
-    let with_i : MarkedWith c past i = marked_with c made past i d.run in
+    let with_i : MarkedWith c past i = marked_with c made past i d.comes.run in
     let with_e : MarkedWith c past e = marked_with c made past e m.run in
     let same : with_i.before ≡ with_e.before = marks_same c with_i.before with_e.before (with_i.entries ∙ sym with_e.entries) with_i.all with_e.all with_i.so_far with_e.so_far in
     let goes : with_e.goes ≡ [] = goes_none c past now e with_e here m.ticks m.moment m.drawn asks fixes (subst (λ gs. may_go c.rate c.depth (bucket_calls c.me gs) now ≡ None) same (none_may_go c made past now i d here with_i)) in
     let uncharged : charged e ≡ [] = sym with_e.right.same ∙ ap datagrams_of goes in
     let uncharged_i : charged i ≡ [] = ap (filter (λ g. not (is_session g))) d.outs in
     let ends : ending c made past e ≡ None =
-    ends_alike c made past now e m.ticks m.moment m.drawn uncharged ∙ sym (ends_alike c made past now i d.ticks d.moment d.drawn uncharged_i) ∙ ends_not c made past i (ending c made past i) refl d.right.session d.outs in
+    ends_alike c made past now e m.ticks m.moment m.drawn uncharged ∙ sym (ends_alike c made past now i d.comes.ticks d.comes.moment d.comes.drawn uncharged_i) ∙ ends_not c made past i (ending c made past i) refl d.comes.right.session d.outs in
     record { asks = asks; fixes = fixes; outs = sends_none c made past e m.right ends uncharged }
 
 -- a member that is gone

@@ -19,6 +19,7 @@ use Rattle.srm_bucket.proofs.Pausing.{paused-none, none-before}
 use Rattle.srm_codec.specs.declared.datagram.Datagram.{Datagram}
 use Rattle.srm_entries.specs.declared.entry.Entry.{Entry}
 use Rattle.srm_outbox.specs.declared.out.Outgoing.{Outgoing}
+use Rattle.srm_entries.specs.declared.entry.Input.TheVariants.{Ticked}
 use Rattle.srm_entries.specs.declared.state.AgentState.{AgentState}
 use Rattle.srm_entries.specs.declared.state.AgentState.TheVariants.{Active, Leaving, Gone}
 use Rattle.srm_entries.specs.Configs.{Config}
@@ -41,30 +42,28 @@ use Rattle.srm_agent.proofs.NextDueIdle.{ends_by, pauses}
 use Rattle.srm_entries.proofs.Parting.{tick_draws_nothing}
 use Rattle.srm_entries.proofs.Spending.{law_to}
 
--- a tick of a run that does nothing, at a moment
-pub record DidNothing (c : Config) (made : ℕ) (past : List Entry) (now : ℕ) (e : Entry) : Type 0 where
+-- a tick that may come, at a moment
+pub record MayCome (c : Config) (made : ℕ) (past : List Entry) (now : ℕ) (e : Entry) : Type 0 where
   pub ticks : ticked e ≡ true
   pub moment : e.moment ≡ now
   pub drawn : e.effects.drawn ≡ None
-  pub asks : e.effects.asks ≡ []
-  pub fixes : e.effects.fixes ≡ []
-  pub outs : e.effects.outs ≡ []
   pub right : EntryRight c made (record { before = past; this = e })
   pub run : IsMemberRun c made (past ++ e ∷ [])
 
-pub did_nothing : (c : Config) (made : ℕ) (past : List Entry) (now : ℕ) (i : MayDoNothing c made past now) → DidNothing c made past now i.0
-did_nothing c made past now (e, input, moment, nothing, run) =
+pub may_come : (c : Config) (made : ℕ) (past : List Entry) (now : ℕ) (e : Entry) → e.input ≡ Ticked → e.moment ≡ now → IsMemberRun c made (past ++ e ∷ []) → MayCome c made past now e
+may_come c made past now e input moment run =
     let right : EntryRight c made (record { before = past; this = e }) = (at_parts (EntryRight c made) past (e ∷ []) run.each).1.0 in
-    record {
-      ticks = ap is_tick input;
-      moment = moment;
-      drawn = tick_draws_nothing c made past e right (ap is_tick input);
-      asks = nothing.asks;
-      fixes = nothing.fixes;
-      outs = nothing.outs;
-      right = right;
-      run = run;
-    }
+    record { ticks = ap is_tick input; moment = moment; drawn = tick_draws_nothing c made past e right (ap is_tick input); right = right; run = run }
+
+-- one that does nothing
+pub record DidNothing (c : Config) (made : ℕ) (past : List Entry) (now : ℕ) (e : Entry) : Type 0 where
+  pub comes : MayCome c made past now e
+  pub asks : e.effects.asks ≡ []
+  pub fixes : e.effects.fixes ≡ []
+  pub outs : e.effects.outs ≡ []
+
+pub did_nothing : (c : Config) (made : ℕ) (past : List Entry) (now : ℕ) (i : MayDoNothing c made past now) → DidNothing c made past now i.0
+did_nothing c made past now (e, input, moment, nothing, run) = record { comes = may_come c made past now e input moment run; asks = nothing.asks; fixes = nothing.fixes; outs = nothing.outs }
 
 -- timers
 
@@ -75,14 +74,14 @@ runs_and_missing now false o e = absurd (cc)
 pub asks_then : (c : Config) (made : ℕ) (past : List Entry) (now : ℕ) (e : Entry) (n : FullName) → DidNothing c made past now e → is_gone (state past) ≡ false → ran_out now (ask_running past n) ≡ true → ⊥
 asks_then c made past now e n d here out =
     let both = runs_and_missing now (is_missing past n) (last_ask past n) out in
-    let due : (ticked e && (not (is_gone (state past)) && is_missing past n && ran_out e.moment (last_ask past n))) ≡ true = rw (d.ticks, here, both.0, d.moment, both.1) refl in
-    let none : false ≡ (ticked e && (not (is_gone (state past)) && is_missing past n && ran_out e.moment (last_ask past n))) = sym (ap (λ ns. among ns n) d.asks) ∙ d.right.timers.asks.exact n in
+    let due : (ticked e && (not (is_gone (state past)) && is_missing past n && ran_out e.moment (last_ask past n))) ≡ true = rw (d.comes.ticks, here, both.0, d.comes.moment, both.1) refl in
+    let none : false ≡ (ticked e && (not (is_gone (state past)) && is_missing past n && ran_out e.moment (last_ask past n))) = sym (ap (λ ns. among ns n) d.asks) ∙ d.comes.right.timers.asks.exact n in
     absurd (cc)
 
 pub fixes_then : (c : Config) (made : ℕ) (past : List Entry) (now : ℕ) (e : Entry) (n : FullName) → DidNothing c made past now e → is_gone (state past) ≡ false → ran_out now (fix_running past n) ≡ true → ⊥
 fixes_then c made past now e n d here out =
-    let due : (ticked e && (not (is_gone (state past)) && ran_out e.moment (fix_running past n))) ≡ true = rw (d.ticks, here, d.moment, out) refl in
-    let none : false ≡ (ticked e && (not (is_gone (state past)) && ran_out e.moment (fix_running past n))) = sym (ap (λ ns. among ns n) d.fixes) ∙ d.right.timers.fixes.exact n in
+    let due : (ticked e && (not (is_gone (state past)) && ran_out e.moment (fix_running past n))) ≡ true = rw (d.comes.ticks, here, d.comes.moment, out) refl in
+    let none : false ≡ (ticked e && (not (is_gone (state past)) && ran_out e.moment (fix_running past n))) = sym (ap (λ ns. among ns n) d.fixes) ∙ d.comes.right.timers.fixes.exact n in
     absurd (cc)
 
 -- the session message
@@ -100,8 +99,8 @@ not_empty (x ∷ xs) g e = absurd (cc)
 pub reports_then : {W : Type 0} (c : Config) (made : ℕ) (past : List Entry) (a : Content W) (now : ℕ) (e : Entry) → Fits c made past a → DidNothing c made past now e → is_gone (state past) ≡ false → report_next a ≤ now → ⊥
 reports_then c made past a now e h d here l =
     let (f, some) = ends_with_some a.state (length (queue a.bucket.waiting New) == 0) a.last a.due now (ap is_gone h.state ∙ here) l in
-    let ends : ending c made past e ≡ Some f = ends_by c made past a e h d.ticks (ap (filter (λ g. not (is_session g))) d.outs) d.drawn ∙ ap (λ m. ending_of a.state (not (length (queue a.bucket.waiting New) == 0)) (nat_le a.due m)) d.moment ∙ some in
-    let (g, is, report) = subst (λ o. EndsWith c past e o) ends d.right.session in
+    let ends : ending c made past e ≡ Some f = ends_by c made past a e h d.comes.ticks (ap (filter (λ g. not (is_session g))) d.outs) d.comes.drawn ∙ ap (λ m. ending_of a.state (not (length (queue a.bucket.waiting New) == 0)) (nat_le a.due m)) d.comes.moment ∙ some in
+    let (g, is, report) = subst (λ o. EndsWith c past e o) ends d.comes.right.session in
     not_empty (charged e) g (sym d.outs ∙ is)
 
 -- the bucket
@@ -130,15 +129,15 @@ marked_so c gs hs past e q all law same also other outs =
 pub nothing_may_go : {W : Type 0} (c : Config) (made : ℕ) (past : List Entry) (a : Content W) (now : ℕ) (e : Entry) (h : Fits c made past a) → DidNothing c made past now e → is_gone (state past) ≡ false
     → may_go c.rate c.depth h.bucket.calls now ≡ None
 nothing_may_go c made past a now e h d here =
-    let (gs, q, all, law) = d.run.bucket in
+    let (gs, q, all, law) = d.comes.run.bucket in
     let so_far : BucketLaw c.rate c.depth (bucket_calls c.me h.bucket.goings) = subst (BucketLaw c.rate c.depth) h.bucket.read (law-read datagram_of c.rate c.depth h.bucket.calls h.bucket.fits.law) in
     let marks = marked_so c gs h.bucket.goings past e q all law h.bucket.entries h.bucket.goes so_far d.outs in
     let calls : bucket_calls c.me gs ≡ bucket_calls c.me h.bucket.goings ++ Popped e.moment None ∷ [] =
     ap (bucket_calls c.me) marks ∙ bucket_calls-snoc c.me h.bucket.goings (record { entry = e; goes = [] })
-    ∙ ap (λ cs. bucket_calls c.me h.bucket.goings ++ cs) (pauses c.me h.bucket.goings past e h.bucket.entries here d.ticks d.drawn d.asks d.fixes) in
+    ∙ ap (λ cs. bucket_calls c.me h.bucket.goings ++ cs) (pauses c.me h.bucket.goings past e h.bucket.entries here d.comes.ticks d.comes.drawn d.asks d.fixes) in
     let right = law_at c.rate c.depth (bucket_calls c.me h.bucket.goings) [] (Popped e.moment None) (subst (BucketLaw c.rate c.depth) calls law) in
     unread (may_go c.rate c.depth h.bucket.calls now)
-    (sym (may_go-read datagram_of c.rate c.depth h.bucket.calls now) ∙ ap (λ cs. may_go c.rate c.depth cs now) h.bucket.read ∙ ap (may_go c.rate c.depth (bucket_calls c.me h.bucket.goings)) (sym d.moment)
+    (sym (may_go-read datagram_of c.rate c.depth h.bucket.calls now) ∙ ap (λ cs. may_go c.rate c.depth cs now) h.bucket.read ∙ ap (may_go c.rate c.depth (bucket_calls c.me h.bucket.goings)) (sym d.comes.moment)
     ∙ paused-none c.rate c.depth (bucket_calls c.me h.bucket.goings) e.moment right)
   where
     unread : (o : Option (Classed Outgoing)) → option_map (read_classed datagram_of) o ≡ None → o ≡ None
