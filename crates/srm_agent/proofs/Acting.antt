@@ -2,6 +2,7 @@
 use Rattle.std.proofs.Common.{◌≡◌, ℕ, ◌+◌, ◌==◌, ◌<◌, ◌≤◌, max, Bool, true, false, not, ◌||◌, List, [], ◌∷◌, ◌++◌, map, length, refl, ap, sym, ◌∙◌, subst, arith}
 use Rattle.std.specs.Prelude.{Option, Some, None, option_map, option_to_list, nat_le, IfSome, if◌then◌else◌}
 use Rattle.std.specs.List.{list_any, AllByRecursion}
+use Rattle.std.proofs.Math.Bool.{not-not}
 use Rattle.std.proofs.lemmas.List.{map-append}
 use Rattle.srm_names.proofs.Lists.{AllByRecursion-append}
 use Rattle.srm_codec.specs.declared.datagram.Datagram.{Datagram}
@@ -165,10 +166,6 @@ state_is a moment old true is_due (Some x) report here f r = report_state a mome
 state_is a moment old false is_due None report here f r = report_state a moment old here is_due report r
 state_is a moment old false is_due (Some x) report here f r = ap (λ b. expected_state old (b || false) (Some Ticked)) (sym (report_leaves a moment true x f.1))
 
-not_twice : (b : Bool) → not (not b) ≡ b
-not_twice true = refl
-not_twice false = refl
-
 -- the run with the entry
 
 acts_fits : {W : Type 0} (next_word : W → ℕ × W) (a b d f z : Content W) (moment : ℕ) (due : Due) (arms : List Arm) (went : WentContent) (last : Option DueMessage) (outs : List Datagram) (c : Config) (made : ℕ) (past : List Entry)
@@ -264,7 +261,7 @@ acts_fits next_word a b d f z moment due arms went last outs c made past s h =
 
     ending_right : ending c made past e ≡ wanted
     ending_right = ending_is c made past e a.state waits is_due refl h.state
-        (not_twice (length (queue f.bucket.waiting New) == 0) ∙ sym (all_sent c (past ++ e ∷ []) f.bucket in_bucket)) (ap (λ n. nat_le n moment) h.due)
+        (not-not (length (queue f.bucket.waiting New) == 0) ∙ sym (all_sent c (past ++ e ∷ []) f.bucket in_bucket)) (ap (λ n. nat_le n moment) h.due)
 
     state_right : z.state ≡ expected_state (state past) (list_any is_farewell outs) (Some Ticked)
     state_right = ap (λ x. x.state) s.ended ∙ ap (state_after waits due.farewell) (ap (λ x. x.state) s.sent_rest ∙ ap (λ x. x.state) s.handed_rest ∙ ap (λ x. x.state) s.room)

@@ -2,6 +2,7 @@
 use Rattle.std.proofs.Common.{◌≡◌, ◌≢◌, ℕ, ◌+◌, ◌≤◌, max, Bool, true, false, not, ◌&&◌, ◌||◌, List, [], ◌∷◌, ◌++◌, map, length, refl, ap, sym, ◌∙◌, subst, inl, inr, arith}
 use Rattle.std.specs.Prelude.{◌⊎◌, ◌==◌, nat_lt, nat_le, filter, Option, Some, None, if◌then◌else◌, option_map, is_some, unwrap_or, Ok, Err, IfSome}
 use Rattle.std.specs.List.{flat_map, AllByRecursion}
+use Rattle.std.proofs.Math.Bool.{or-false, or-true}
 use Rattle.std.proofs.lemmas.Bool.{false≢true, cases_eq, eq-eqb, ne_eqb}
 use Rattle.std.proofs.lemmas.Bool.Decides.{nat_tests}
 use Rattle.std.proofs.lemmas.Option.{none-some, same_Some}
@@ -105,11 +106,7 @@ in_has (q ∷ ps) p h = go (same_page q p) refl h (in_has ps p)
 has_in : (ps : List Page) (p : Page) → Has p ps → is_in ps p ≡ true
 has_in [] p h = absurd h
 has_in (q ∷ ps) p (inl e) = ap (λ b. b || is_in ps p) (ap (λ r. same_page r p) (sym e) ∙ same_page-itself p)
-has_in (q ∷ ps) p (inr h) = rw (has_in ps p h) (last (same_page q p))
-  where
-    last : (b : Bool) → b || true ≡ true
-    last true = refl
-    last false = refl
+has_in (q ∷ ps) p (inr h) = rw (has_in ps p h) (or-true (same_page q p))
 
 -- so where the page table has room for pages, the store has slots for them
 named_there : (c : Config) (made : ℕ) (es : List Entry) → AllByRecursion (EntryRight c made) (steps es) → (q : Page) → is_in (pages_named (held es) (evidence_in es)) q ≡ true → is_in (slots es) q ≡ true
@@ -158,21 +155,9 @@ next_held m k h = go (cases_eq (k + 1) m)
     never true true c e = absurd (false≢true (sym e))
 
     gone : (a b : Bool) → (a && b && not (h || true)) ≡ false
-    gone true true = ap not (last h)
-      where
-        last : (b : Bool) → b || true ≡ true
-        last true = refl
-        last false = refl
+    gone true true = ap not (or-true h)
     gone true false = refl
     gone false b = refl
-
-    same : (b : Bool) → (b || false) ≡ b
-    same true = refl
-    same false = refl
-
-    none : (b : Bool) → (b || (false || false)) ≡ b
-    none true = refl
-    none false = refl
 
     go : ((k + 1 ≡ m) ⊎ (k + 1 ≢ m)) → missing_at m (max k (max (k + 1) 0)) (h || ((k + 1 == m) || false)) ≡ missing_at m k h
     go (inl at) =
@@ -181,7 +166,7 @@ next_held m k h = go (cases_eq (k + 1) m)
         ∙ gone (nat_le 1 m) (nat_le m (max k (max (k + 1) 0))) ∙ sym (never (nat_le 1 m) (nat_le m k) (not h) beyond)
     go (inr other) =
         ap (λ b. nat_le 1 m && nat_le m (max k (max (k + 1) 0)) && not (h || (b || false))) (ne_eqb (k + 1) m other)
-        ∙ ap (λ b. nat_le 1 m && nat_le m (max k (max (k + 1) 0)) && not b) (none h)
+        ∙ ap (λ b. nat_le 1 m && nat_le m (max k (max (k + 1) 0)) && not b) (or-false h)
         ∙ ap (λ b. nat_le 1 m && b && not h) (wider (λ at. other (sym at)))
 
 apart : (a b : Stream) → same_stream a b ≡ false → same_stream b a ≡ false
@@ -212,14 +197,10 @@ module _ (me moment : ℕ) (page : Page) (body : List ℕ) (stamp : ℕ) (after 
           rw s (subst (λ (t : Stream). nat_le 1 n.number && nat_le n.number (max (known past t) (max (known past own + 1) 0)) && not (is_held past n || ((same_stream own t && (known past own + 1 == n.number)) || false)) ≡ missing_at n.number (known past t) (is_held past n)) (sym here)
           (ap (λ b. nat_le 1 n.number && nat_le n.number (max (known past own) (max (known past own + 1) 0)) && not (is_held past n || ((b && (known past own + 1 == n.number)) || false))) (same_stream-itself own)
           ∙ next_held n.number (known past own) (is_held past n)))
-      go false s = rw (s, apart n.stream own s) (ap (λ k. missing_at n.number k (is_held past n || false)) (top (known past n.stream)) ∙ ap (missing_at n.number (known past n.stream)) (none (is_held past n)))
+      go false s = rw (s, apart n.stream own s) (ap (λ k. missing_at n.number k (is_held past n || false)) (top (known past n.stream)) ∙ ap (missing_at n.number (known past n.stream)) (or-false (is_held past n)))
         where
           top : (k : ℕ) → max k 0 ≡ k
           top k = omega arith
-
-          none : (b : Bool) → (b || false) ≡ b
-          none true = refl
-          none false = refl
 
   drawn_arms : (c : Config) → ArmsRight c past e
   drawn_arms c = record { are = record { in_order = refl; exact = λ n. sym (none n (is_held past n) refl) }; waits = tt }
@@ -252,12 +233,8 @@ module _ (me moment : ℕ) (page : Page) (body : List ℕ) (stamp : ℕ) (after 
     fixes = h.fixes;
     fix_timers = λ n. h.fix_timers n ∙ sym (fix_running-snoc past e n);
     askers = λ n. h.askers n ∙ sym (first_of-snoc (asker n) past e ∙ or_else-none (first_of (asker n) past));
-    hold_offs = λ n now. h.hold_offs n now ∙ sym (held_off-snoc c.me past e n now ∙ or_no (held_off c.me past n now));
+    hold_offs = λ n now. h.hold_offs n now ∙ sym (held_off-snoc c.me past e n now ∙ or-false (held_off c.me past n now));
   }
-    where
-      or_no : (b : Bool) → (b || false) ≡ b
-      or_no true = refl
-      or_no false = refl
 
   abbrev going : Going
   going = record { entry = e; goes = [] }

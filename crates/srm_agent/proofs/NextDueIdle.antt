@@ -3,6 +3,7 @@ use Rattle.std.proofs.Common.{◌≡◌, ℕ, ◌+◌, ◌<◌, ◌≤◌, ◌==
 use Rattle.std.specs.Prelude.{Option, Some, None, option_to_list, nat_le, count_by, cond, if◌then◌else◌, MatchOption}
 use Rattle.std.specs.Bool.{OnTrue}
 use Rattle.std.specs.List.{AllByRecursion}
+use Rattle.std.proofs.Math.Bool.{not-not}
 use Rattle.std.proofs.lemmas.List.{append-nil, map-append}
 use Rattle.std.proofs.lemmas.Bool.Decides.{nat_tests}
 use Rattle.std.proofs.lemmas.List.Sums.{sum_by-append}
@@ -102,11 +103,7 @@ pub ends_by : {W : Type 0} (c : Config) (made : ℕ) (past : List Entry) (a : Co
     → ending c made past e ≡ ending_of a.state (not (length (queue a.bucket.waiting New) == 0)) (nat_le a.due e.moment)
 ends_by c made past a e h t uncharged none =
     ending_is c made past e a.state (not (length (queue a.bucket.waiting New) == 0)) (nat_le a.due e.moment) t h.state
-    (twice (length (queue a.bucket.waiting New) == 0) ∙ sym (unsent_stays past e uncharged none ∙ all_sent c past a.bucket h.bucket)) (ap (λ n. nat_le n e.moment) h.due)
-  where
-    twice : (b : Bool) → not (not b) ≡ b
-    twice true = refl
-    twice false = refl
+    (not-not (length (queue a.bucket.waiting New) == 0) ∙ sym (unsent_stays past e uncharged none ∙ all_sent c past a.bucket h.bucket)) (ap (λ n. nat_le n e.moment) h.due)
 
 ends_not : (old : AgentState) (sent_all : Bool) (last due u : ℕ) → last ≤ u → u < (if is_leaving old && sent_all then last else due) → ending_of old (not sent_all) (nat_le due u) ≡ None
 ends_not Gone b last due u l m = refl

@@ -2,6 +2,7 @@
 use Rattle.std.proofs.Common.{◌≡◌, ℕ, Bool, true, false, not, ◌&&◌, ◌||◌, List, [], ◌∷◌, ◌++◌, refl, ap, sym, ◌∙◌, subst}
 use Rattle.std.specs.Prelude.{Option, Some, None, nat_le, filter}
 use Rattle.std.specs.List.{AllByRecursion}
+use Rattle.std.proofs.Math.Bool.{not-not}
 use Rattle.std.proofs.lemmas.Bool.{OnTrue_at}
 use Rattle.srm_names.specs.FullName.{FullName}
 use Rattle.srm_names.specs.Histories.{steps}
@@ -123,15 +124,11 @@ ends_not : (c : Config) (made : ℕ) (past : List Entry) (i : Entry) (o : Option
 ends_not c made past i None e ends none = refl
 ends_not c made past i (Some f) e (g, is, report) none = absurd (not_empty (charged i) g (sym none ∙ is))
 
-twice : (b : Bool) → not (not b) ≡ b
-twice true = refl
-twice false = refl
-
 -- two ticks at a moment in which nothing is charged end alike
 ends_alike : (c : Config) (made : ℕ) (past : List Entry) (now : ℕ) (e : Entry) → ticked e ≡ true → e.moment ≡ now → e.effects.drawn ≡ None → charged e ≡ []
     → ending c made past e ≡ ending_of (state past) (not (all_data_sent past)) (nat_le (session_due c made past) now)
 ends_alike c made past now e t at none uncharged =
-    ending_is c made past e (state past) (not (all_data_sent past)) (nat_le (session_due c made past) now) t refl (twice (all_data_sent past) ∙ sym (unsent_stays past e uncharged none)) (ap (nat_le (session_due c made past)) (sym at))
+    ending_is c made past e (state past) (not (all_data_sent past)) (nat_le (session_due c made past) now) t refl (not-not (all_data_sent past) ∙ sym (unsent_stays past e uncharged none)) (ap (nat_le (session_due c made past)) (sym at))
 
 sends_none : (c : Config) (made : ℕ) (past : List Entry) (e : Entry) → EntryRight c made (record { before = past; this = e }) → ending c made past e ≡ None → charged e ≡ [] → e.effects.outs ≡ []
 sends_none c made past e right none uncharged = subst (EndsWith c past e) none right.session ∙ uncharged

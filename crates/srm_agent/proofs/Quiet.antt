@@ -2,6 +2,7 @@
 use Rattle.std.proofs.Common.{◌≡◌, ℕ, ◌+◌, Bool, true, false, not, ◌&&◌, ◌||◌, List, [], ◌∷◌, ◌++◌, refl, ap, sym, ◌∙◌, subst}
 use Rattle.std.specs.Prelude.{Option, None, option_map, option_to_list, is_some, if◌then◌else◌, unwrap_or}
 use Rattle.std.specs.List.{AllByRecursion, cons_option}
+use Rattle.std.proofs.Math.Bool.{or-false}
 use Rattle.std.proofs.lemmas.List.{append-nil, map-append}
 use Rattle.std.proofs.lemmas.List.Elements.{filter_map-append}
 use Rattle.srm_names.specs.FullName.{FullName}
@@ -86,13 +87,9 @@ not_asked n e q = ap (asker_in n) q.unheard
 same_asker : (past : List Entry) (e : Entry) (n : FullName) → Quiet e → first_of (asker n) (past ++ e ∷ []) ≡ first_of (asker n) past
 same_asker past e n q = first_of-snoc (asker n) past e ∙ ap (or_else (first_of (asker n) past)) (not_asked n e q) ∙ or_else-none (first_of (asker n) past)
 
-or_no : (b : Bool) → (b || false) ≡ b
-or_no true = refl
-or_no false = refl
-
 same_off : (me : ℕ) (past : List Entry) (e : Entry) (n : FullName) (now : ℕ) → Quiet e → held_off me (past ++ e ∷ []) n now ≡ held_off me past n now
 same_off me past e n now q =
-    held_off-snoc me past e n now ∙ ap (λ b. held_off me past n now || b) (none (repaired n e) _ (not_repaired e n q)) ∙ or_no (held_off me past n now)
+    held_off-snoc me past e n now ∙ ap (λ b. held_off me past n now || b) (none (repaired n e) _ (not_repaired e n q)) ∙ or-false (held_off me past n now)
   where
     none : (b c : Bool) → b ≡ false → (b && c) ≡ false
     none false c e = refl

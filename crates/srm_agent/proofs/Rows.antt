@@ -2,6 +2,7 @@
 use Rattle.std.proofs.Common.{◌≡◌, ℕ, zero, suc, ◌+◌, ◌<◌, ◌≤◌, ◌==◌, Bool, true, false, ◌&&◌, ◌||◌, List, [], ◌∷◌, ◌++◌, map, length, take, get_or, refl, ap, sym, ◌∙◌, subst, inl, inr, arith, eq-eqb}
 use Rattle.std.specs.Prelude.{◌↔◌, Option, Some, None, IfSome, IsSome, option_map, find, cond, if◌then◌else◌, nat_lt, nat_le}
 use Rattle.std.specs.List.{flat_map, filter_map, cons_option, list_any, AllByRecursion}
+use Rattle.std.proofs.Math.Bool.{and-false}
 use Rattle.std.proofs.lemmas.List.{append-nil, take_more, map-append}
 use Rattle.std.proofs.lemmas.List.Elements.{filter_map-append}
 use Rattle.std.proofs.lemmas.Bool.{and_from}
@@ -157,10 +158,6 @@ from_zero x n = grind (arith, nat_tests)
 none_up : (x from : ℕ) → false ≡ (nat_le from x && nat_lt x (from + zero))
 none_up x from = grind (arith, nat_tests)
 
-and_false : (b : Bool) → (b && false) ≡ false
-and_false true = refl
-and_false false = refl
-
 split_same : (x same later page : Bool) → ((x && page) || (page && later)) ≡ (page && (x || later))
 split_same true s true true = refl
 split_same true s false true = refl
@@ -169,7 +166,7 @@ split_same true s l false = refl
 split_same false s l false = refl
 
 on_page : (s : Stream) (page : Page) (from n : ℕ) → list_any (same_stream s) (map (λ m. stream_on m page) (count_up from n)) ≡ same_page s.page page && (nat_le from s.source && nat_lt s.source (from + n))
-on_page s page from zero = sym (ap (λ b. same_page s.page page && b) (sym (none_up s.source from)) ∙ and_false (same_page s.page page))
+on_page s page from zero = sym (ap (λ b. same_page s.page page && b) (sym (none_up s.source from)) ∙ and-false (same_page s.page page))
 on_page s page from (suc n) =
     ap (λ b. ((s.source == from) && same_page s.page page) || b) (on_page s page (from + 1) n)
     ∙ split_same (s.source == from) true (nat_le (from + 1) s.source && nat_lt s.source (from + 1 + n)) (same_page s.page page)
@@ -218,7 +215,7 @@ rows_of_page a streams rows page are = record {
 -- ---- the streams of this member
 
 on_own : (me : ℕ) (s : Stream) (pages : List Page) → list_any (same_stream s) (map (stream_on me) pages) ≡ (s.source == me) && list_any (same_page s.page) pages
-on_own me s [] = sym (and_false (s.source == me))
+on_own me s [] = sym (and-false (s.source == me))
 on_own me s (p ∷ pages) = ap (λ b. ((s.source == me) && same_page s.page p) || b) (on_own me s pages) ∙ both (s.source == me) (same_page s.page p) (list_any (same_page s.page) pages)
   where
     both : (a b c : Bool) → ((a && b) || (a && c)) ≡ (a && (b || c))

@@ -1,6 +1,7 @@
 -- The entry in which data or a repair was heard and accepted.
 use Rattle.std.proofs.Common.{◌≡◌, ℕ, ◌≤◌, Bool, true, false, ◌||◌, List, [], ◌∷◌, ◌++◌, refl, ap, sym, ◌∙◌, subst, arith}
 use Rattle.std.specs.Prelude.{Option, Some, None, is_some, if◌then◌else◌, Result, Ok, Err, OnErr}
+use Rattle.std.proofs.Math.Bool.{or-false}
 use Rattle.std.proofs.lemmas.List.{append-nil}
 use Rattle.srm_names.specs.declared.stream.Stream.{Stream}
 use Rattle.srm_names.specs.declared.drawop.Drawop.{Drawop}
@@ -51,11 +52,7 @@ one_number d true = omega arith
 one_number d false = refl
 
 one_name : (d : Drawop) (n : FullName) → (same_name d.name n || false) ≡ same_name n d.name
-one_name d n = drop (same_name d.name n) ∙ same_flip d.name n
-  where
-    drop : (b : Bool) → (b || false) ≡ b
-    drop true = refl
-    drop false = refl
+one_name d n = or-false (same_name d.name n) ∙ same_flip d.name n
 
 data_brings : (d : Drawop) → BringsOne d (Data d)
 data_brings d = record {
