@@ -2,7 +2,7 @@
 use Rattle.std.proofs.Common.{◌≡◌, ℕ, zero, suc, ◌+◌, ◌<◌, ◌≤◌, max, Bool, true, false, not, ◌&&◌, ◌||◌, List, [], ◌∷◌, ◌++◌, length, take, get_or, refl, ap, sym, ◌∙◌, subst, arith}
 use Rattle.std.specs.Prelude.{nat_lt, nat_le, if◌then◌else◌}
 use Rattle.std.specs.List.{list_any, flat_map}
-use Rattle.std.proofs.lemmas.Bool.{and_parts}
+use Rattle.std.proofs.lemmas.Bool.{and_parts, or_left, or_right}
 use Rattle.std.proofs.lemmas.Bool.Decides.{nat_tests}
 use Rattle.std.proofs.lemmas.List.{take_more}
 use Rattle.std.proofs.lemmas.List.Folds.{list_any-append}
@@ -70,11 +70,7 @@ ascending_joined (x ∷ []) (y ∷ ys) a b below = let k : name_below x y ≡ tr
     head z zs = ap (λ b. b || among zs z) (same_itself z)
 ascending_joined (x ∷ z ∷ xs) ys a b below =
     let p = and_parts (name_below x z) (ascending name_below (z ∷ xs)) a in
-    rw p.0 (ascending_joined (z ∷ xs) ys p.1 b (λ m n h k. below m n (or (same_name m x) h) k))
-  where
-    or : (a : Bool) {b : Bool} → b ≡ true → (a || b) ≡ true
-    or true e = refl
-    or false e = e
+    rw p.0 (ascending_joined (z ∷ xs) ys p.1 b (λ m n h k. below m n (or_right (same_name m x) _ h) k))
 
 -- one more row
 
@@ -86,13 +82,10 @@ pub rises_on : (rows fresh more joined : List FullName) (i : ℕ) (r : FullName)
     → ascending name_below joined ≡ true
 rises_on rows fresh more joined i r s above below asc l is s_is rising within exactly join = ap (ascending name_below) join ∙ ascending_joined fresh more rising exactly.in_order (λ m n h k. lower m n h k)
   where
-    or : (a b : Bool) → a ≡ true → (a || b) ≡ true
-    or a b e = ap (λ x. x || b) e
-
     lower : (m n : FullName) → among fresh m ≡ true → among more n ≡ true → name_below m n ≡ true
     lower m n h k =
         let at : n.stream ≡ r.stream = same_stream-is n.stream s (within_one s above below more n exactly k) ∙ s_is in
-        or (stream_below m.stream n.stream) (same_stream m.stream n.stream && nat_lt m.number n.number) (ap (stream_below m.stream) at ∙ before_row rows i r m asc l is (within m h))
+        or_left (stream_below m.stream n.stream) (same_stream m.stream n.stream && nat_lt m.number n.number) (ap (stream_below m.stream) at ∙ before_row rows i r m asc l is (within m h))
 
 pub within_more : (rows fresh more joined : List FullName) (i : ℕ) (r : FullName) (s : Stream) (above below : ℕ) → i < length rows → r ≡ get_or rows i r → s ≡ r.stream
     → ((n : FullName) → among fresh n ≡ true → list_any (λ (x : FullName). same_stream n.stream x.stream) (take i rows) ≡ true) → AreExactly (is_between s above below) more → joined ≡ fresh ++ more

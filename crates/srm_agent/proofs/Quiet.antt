@@ -3,6 +3,7 @@ use Rattle.std.proofs.Common.{◌≡◌, ℕ, ◌+◌, Bool, true, false, not, �
 use Rattle.std.specs.Prelude.{Option, None, option_map, option_to_list, is_some, if◌then◌else◌, unwrap_or}
 use Rattle.std.specs.List.{AllByRecursion, cons_option}
 use Rattle.std.proofs.Math.Bool.{or-false}
+use Rattle.std.proofs.lemmas.Bool.{and_left}
 use Rattle.std.proofs.lemmas.List.{append-nil, map-append}
 use Rattle.std.proofs.lemmas.List.Elements.{filter_map-append}
 use Rattle.srm_names.specs.FullName.{FullName}
@@ -89,11 +90,7 @@ same_asker past e n q = first_of-snoc (asker n) past e ∙ ap (or_else (first_of
 
 same_off : (me : ℕ) (past : List Entry) (e : Entry) (n : FullName) (now : ℕ) → Quiet e → held_off me (past ++ e ∷ []) n now ≡ held_off me past n now
 same_off me past e n now q =
-    held_off-snoc me past e n now ∙ ap (λ b. held_off me past n now || b) (none (repaired n e) _ (not_repaired e n q)) ∙ or-false (held_off me past n now)
-  where
-    none : (b c : Bool) → b ≡ false → (b && c) ≡ false
-    none false c e = refl
-    none true c e = absurd (cc)
+    held_off-snoc me past e n now ∙ ap (λ b. held_off me past n now || b) (and_left (repaired n e) _ (not_repaired e n q)) ∙ or-false (held_off me past n now)
 
 pub timers_stay : (c : Config) (past : List Entry) (e : Entry) (t : TimersContent) → Quiet e → TimersFit c past t → TimersFit c (past ++ e ∷ []) t
 timers_stay c past e t q h = record {
