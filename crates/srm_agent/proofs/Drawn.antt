@@ -2,6 +2,7 @@
 use Rattle.std.proofs.Common.{◌≡◌, ◌≢◌, ℕ, ◌+◌, ◌≤◌, max, Bool, true, false, not, ◌&&◌, ◌||◌, List, [], ◌∷◌, ◌++◌, map, length, refl, ap, sym, ◌∙◌, subst, inl, inr, arith}
 use Rattle.std.specs.Prelude.{◌⊎◌, ◌==◌, nat_lt, nat_le, filter, Option, Some, None, if◌then◌else◌, option_map, is_some, unwrap_or, Ok, Err, IfSome}
 use Rattle.std.specs.List.{flat_map, AllByRecursion}
+use Rattle.std.proofs.Math.Nat.{max-zero}
 use Rattle.std.proofs.Math.Bool.{or-false, or-true}
 use Rattle.std.proofs.lemmas.Bool.{false≢true, cases_eq, eq-eqb, ne_eqb}
 use Rattle.std.proofs.lemmas.Bool.Decides.{nat_tests}
@@ -197,10 +198,7 @@ module _ (me moment : ℕ) (page : Page) (body : List ℕ) (stamp : ℕ) (after 
           rw s (subst (λ (t : Stream). nat_le 1 n.number && nat_le n.number (max (known past t) (max (known past own + 1) 0)) && not (is_held past n || ((same_stream own t && (known past own + 1 == n.number)) || false)) ≡ missing_at n.number (known past t) (is_held past n)) (sym here)
           (ap (λ b. nat_le 1 n.number && nat_le n.number (max (known past own) (max (known past own + 1) 0)) && not (is_held past n || ((b && (known past own + 1 == n.number)) || false))) (same_stream-itself own)
           ∙ next_held n.number (known past own) (is_held past n)))
-      go false s = rw (s, apart n.stream own s) (ap (λ k. missing_at n.number k (is_held past n || false)) (top (known past n.stream)) ∙ ap (missing_at n.number (known past n.stream)) (or-false (is_held past n)))
-        where
-          top : (k : ℕ) → max k 0 ≡ k
-          top k = omega arith
+      go false s = rw (s, apart n.stream own s) (ap (λ k. missing_at n.number k (is_held past n || false)) (max-zero (known past n.stream)) ∙ ap (missing_at n.number (known past n.stream)) (or-false (is_held past n)))
 
   drawn_arms : (c : Config) → ArmsRight c past e
   drawn_arms c = record { are = record { in_order = refl; exact = λ n. sym (none n (is_held past n) refl) }; waits = tt }

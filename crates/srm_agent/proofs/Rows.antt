@@ -3,7 +3,7 @@ use Rattle.std.proofs.Common.{◌≡◌, ℕ, zero, suc, ◌+◌, ◌<◌, ◌�
 use Rattle.std.specs.Prelude.{◌↔◌, Option, Some, None, IfSome, IsSome, option_map, find, cond, if◌then◌else◌, nat_lt, nat_le}
 use Rattle.std.specs.List.{flat_map, filter_map, cons_option, list_any, AllByRecursion}
 use Rattle.std.proofs.Math.Bool.{and-false}
-use Rattle.std.proofs.lemmas.List.{append-nil, take_more, map-append}
+use Rattle.std.proofs.lemmas.List.{append-nil, take_more, map-append, length-map}
 use Rattle.std.proofs.lemmas.List.Elements.{filter_map-append}
 use Rattle.std.proofs.lemmas.Bool.{and_from}
 use Rattle.std.proofs.lemmas.Bool.Decides.{nat_tests}
@@ -184,10 +184,6 @@ count_length : (from n : ℕ) → length (count_up from n) ≡ n
 count_length from zero = refl
 count_length from (suc n) = ap suc (count_length (from + 1) n)
 
-map_length : {X Y : Type 0} (f : X → Y) (xs : List X) → length (map f xs) ≡ length xs
-map_length f [] = refl
-map_length f (x ∷ xs) = ap suc (map_length f xs)
-
 pub streams_more : (page shown : Page) (number m : ℕ) (streams more : List Stream) → streams ≡ streams_on page number → m ≡ number → shown ≡ page → more ≡ streams ++ stream_on m shown ∷ [] → more ≡ streams_on page (number + 1)
 streams_more page shown number m streams more are same on is =
     is ∙ ap (λ s. streams ++ s ∷ []) (ap (λ k. stream_on k shown) same ∙ ap (stream_on number) on) ∙ ap (λ ss. ss ++ stream_on number page ∷ []) are
@@ -206,7 +202,7 @@ rows_of_page a streams rows page are = record {
         (ap (list_any (same_stream s)) page.are ∙ on_page s a.showing 0 a.config.members ∙ ap (λ b. same_page s.page a.showing && b) (from_zero s.source a.config.members)
         ∙ ap (λ p. same_page s.page p && nat_lt s.source a.config.members) fits.showing ∙ ap (λ (k : Config). same_page s.page (shown past) && nat_lt s.source k.members) fits.config);
   };
-  spelled = are_rows false a.config.me streams rows (omega (arith, ap length page.are ∙ map_length (λ m. stream_on m a.showing) (count_up 0 a.config.members) ∙ count_length 0 a.config.members, page.few)) up (any_source a.config.me streams) are.spelled;
+  spelled = are_rows false a.config.me streams rows (omega (arith, ap length page.are ∙ length-map (count_up 0 a.config.members) (λ m. stream_on m a.showing) ∙ count_length 0 a.config.members, page.few)) up (any_source a.config.me streams) are.spelled;
 }
   where
     up : ascending stream_below streams ≡ true
@@ -263,7 +259,7 @@ rows_of_own a streams rows own are = record {
         ∙ ap (λ (k : Config). (s.source == k.me) && list_any (same_page s.page) (slots past)) fits.config)
         ∙ either c made past s fits.run (s.source == c.me) (list_any (same_page s.page) (slots past)) refl;
   };
-  spelled = are_rows true a.config.me streams rows (omega (arith, ap length own.are ∙ map_length (stream_on a.config.me) own.sorted, own.pages.few)) up
+  spelled = are_rows true a.config.me streams rows (omega (arith, ap length own.are ∙ length-map own.sorted (stream_on a.config.me), own.pages.few)) up
       (subst (AllByRecursion (λ (s : Stream). true ≡ true → s.source ≡ a.config.me)) (sym own.are) (own_source a.config.me own.sorted)) are.spelled;
 }
   where
