@@ -11,10 +11,9 @@ use Rattle.srm_names.specs.FullName.{FullName}
 use Rattle.srm_names.specs.Histories.{greatest}
 use Rattle.srm_names.specs.Names.{same_stream, same_name, stream_below, name_below, ascending, among, named, AreExactly}
 use Rattle.srm_names.proofs.Orders.{name_order}
-use Rattle.srm_names.proofs.Same.{same_stream-is}
+use Rattle.srm_names.proofs.Same.{same_stream-is, same_name-itself}
 use Rattle.srm_codec.specs.Spelling.{row_below}
 use Rattle.srm_store.specs.Held.{greatest_in, number_in}
-use Rattle.srm_deadlines.proofs.Same.{same_itself}
 use Rattle.srm_entries.specs.declared.entry.Entry.{Entry}
 use Rattle.srm_entries.specs.Entries.{is_held, is_missing, known}
 use Rattle.srm_agent.specs.Growth.{is_newly_missing_by_rows}
@@ -67,7 +66,7 @@ ascending_joined (x ∷ []) [] a b below = refl
 ascending_joined (x ∷ []) (y ∷ ys) a b below = let k : name_below x y ≡ true = below x y (head x []) (head y ys) in rw k b
   where
     head : (z : FullName) (zs : List FullName) → among (z ∷ zs) z ≡ true
-    head z zs = ap (λ b. b || among zs z) (same_itself z)
+    head z zs = ap (λ b. b || among zs z) (same_name-itself z)
 ascending_joined (x ∷ z ∷ xs) ys a b below =
     let p = and_parts (name_below x z) (ascending name_below (z ∷ xs)) a in
     rw p.0 (ascending_joined (z ∷ xs) ys p.1 b (λ m n h k. below m n (or_right (same_name m x) _ h) k))

@@ -8,7 +8,7 @@ use Rattle.srm_names.specs.FullName.{FullName}
 use Rattle.srm_names.specs.Histories.{steps}
 use Rattle.srm_names.specs.Names.{among, AreExactly}
 use Rattle.srm_names.proofs.Lists.{at_parts, map-split}
-use Rattle.srm_timers.proofs.Arming.{same_itself}
+use Rattle.srm_names.proofs.Same.{same_name-itself}
 use Rattle.srm_bucket.specs.Calls.{Classed, Popped}
 use Rattle.srm_bucket.specs.Law.{BucketLaw, may_go}
 use Rattle.srm_bucket.proofs.Pausing.{paused-none, popped-may_go}
@@ -35,7 +35,7 @@ use Rattle.srm_entries.proofs.Spending.{law_to}
 none_named : (test : FullName → Bool) (names : List FullName) → AreExactly test names → ((n : FullName) → test n ≡ false) → names ≡ []
 none_named test [] are none = refl
 none_named test (n ∷ names) are none =
-    let here : among (n ∷ names) n ≡ true = ap (λ b. b || among names n) (same_itself n) in
+    let here : among (n ∷ names) n ≡ true = ap (λ b. b || among names n) (same_name-itself n) in
     let not_here : among (n ∷ names) n ≡ false = are.exact n ∙ none n in
     absurd (cc)
 
