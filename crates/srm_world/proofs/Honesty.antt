@@ -27,7 +27,7 @@ use Rattle.srm_world.specs.declared.start.Start.{Start}
 use Rattle.srm_world.specs.Traces.{of_member, drawn_by, IsHonest, IsRunOf}
 use Rattle.srm_world.proofs.Members.{MemberRun, run_of_entry, run_so_far, Has-of_member}
 
-abbrev IsHonestStep : Step Entry → Type 0
+abbrev pub IsHonestStep : Step Entry → Type 0
 IsHonestStep s = IfSome (accepted s.this) (Contains (sent s.before))
 
 honest_here : (before : List Entry) (e : Entry) (g : Datagram) → IsHonestStep (record { before = before; this = e }) → accepted e ≡ Some g → Has g (sent before)

@@ -40,7 +40,7 @@ member_at es (a ∷ starts) from (suc k) many l u roster each =
 pub member_run : (starts : List Start) (es : List Entry) (m : ℕ) → IsRunOf starts es → m < length starts → MemberRun m es
 member_run starts es m run l = subst (λ w. MemberRun w es) (omega arith) (member_at es starts 0 m (length starts) l (omega arith) run.roster.places run.each)
 
-none_of : (n m : ℕ) (es : List Entry) → n ≤ m → AllByRecursion (λ (e : Entry). e.member < n) es → of_member m es ≡ []
+pub none_of : (n m : ℕ) (es : List Entry) → n ≤ m → AllByRecursion (λ (e : Entry). e.member < n) es → of_member m es ≡ []
 none_of n m [] l all = refl
 none_of n m (e ∷ es) l all =
     let k : e.member < n = all.0 in

@@ -40,7 +40,7 @@ use Rattle.srm_world.proofs.Going.{newest_right}
 use Rattle.srm_world.proofs.Silent.{unticked_sends_nothing}
 use Rattle.srm_world.proofs.Lawful.{lawful}
 
-of_member-other : (m : ℕ) (xs : List Entry) (e : Entry) → e.member ≢ m → of_member m (xs ++ e ∷ []) ≡ of_member m xs
+pub of_member-other : (m : ℕ) (xs : List Entry) (e : Entry) → e.member ≢ m → of_member m (xs ++ e ∷ []) ≡ of_member m xs
 of_member-other m xs e q = of_member-append m xs (e ∷ []) ∙ ap (λ b. of_member m xs ++ cond b (e ∷ []) []) (ne_eqb e.member m q) ∙ append-nil (of_member m xs)
 
 -- the settings at a place are those of its member
