@@ -1,6 +1,6 @@
 -- The entries of one member in a trace, and the run that they are.
 use Rattle.std.proofs.Common.{◌≡◌, ℕ, zero, suc, ◌==◌, ◌+◌, ◌≤◌, ◌<◌, false, List, [], ◌∷◌, ◌++◌, length, refl, ap, ◌∙◌, subst, inl, inr, arith, eq-eqb}
-use Rattle.std.specs.Prelude.{◌⊎◌, cond, nat_le}
+use Rattle.std.specs.Prelude.{◌⊎◌, Some, cond, nat_le, slice_get}
 use Rattle.std.specs.List.{AllByRecursion, enumerate_from}
 use Rattle.std.proofs.lemmas.Bool.{cases_lt, ne_eqb}
 use Rattle.std.proofs.lemmas.Bool.Decides.{nat_tests}
@@ -76,6 +76,13 @@ of_member-append m xs ys = filter-append (λ (e : Entry). e.member == m) xs ys
 -- one more entry of this member
 pub of_member-own : (m : ℕ) (xs : List Entry) (e : Entry) → e.member ≡ m → of_member m (xs ++ e ∷ []) ≡ of_member m xs ++ e ∷ []
 of_member-own m xs e q = of_member-append m xs (e ∷ []) ∙ ap (λ b. of_member m xs ++ cond b (e ∷ []) []) (eq-eqb e.member m q)
+
+-- members that are each at its place
+pub places_from : (starts : List Start) (from many : ℕ) → ((k : ℕ) (a : Start) → slice_get starts k ≡ Some a → (a.config.me ≡ from + k) × (a.config.members ≡ many)) → AllByRecursion (IsAtPlace many) (enumerate_from from starts)
+places_from [] from many h = tt
+places_from (a ∷ starts) from many h =
+    let first = h 0 a refl in
+    ((first.0 ∙ omega arith, first.1), places_from starts (from + 1) many (λ k b at. let q = h (suc k) b at in (q.0 ∙ omega arith, q.1)))
 
 -- what holds of the run of a member holds of each member
 
