@@ -1,12 +1,13 @@
 -- The settings of all members of one roster.
 use Rattle.std.proofs.Common.{◌≡◌, ℕ, zero, suc, ◌+◌, ◌<◌, List, [], ◌∷◌, ◌++◌, length, refl, ap, sym, ◌∙◌, subst, inl, inr, arith}
 use Rattle.std.specs.Prelude.{Some, slice_get}
-use Rattle.std.specs.List.{AllByRecursion, enumerate_from}
+use Rattle.std.specs.List.{AllByRecursion}
 use Rattle.std.proofs.lemmas.Option.{same_Some}
 use Rattle.srm_names.proofs.Lists.{slice_get-snoc}
 use Rattle.srm_entries.specs.Configs.{Config}
 use Rattle.srm_world.specs.declared.start.Start.{Start}
-use Rattle.srm_world.specs.Traces.{IsRoster, IsAtPlace, SameSession, started}
+use Rattle.srm_world.specs.Traces.{IsRoster, SameSession, started}
+use Rattle.srm_world.proofs.Members.{places_from}
 use Rattle.srm_world.proofs.Stepping.{all_by_place}
 
 -- each of the settings is that of the member at its place, in one session
@@ -32,12 +33,6 @@ started_at : (configs : List Config) (k : ℕ) (a : Start) → slice_get (starte
 started_at [] k a at = absurd (cc)
 started_at (c ∷ configs) zero a at = (c, refl, ap (λ (x : Start). x.config) (sym (same_Some _ a at)))
 started_at (c ∷ configs) (suc k) a at = started_at configs k a at
-
-places_from : (starts : List Start) (from many : ℕ) → ((k : ℕ) (a : Start) → slice_get starts k ≡ Some a → (a.config.me ≡ from + k) × (a.config.members ≡ many)) → AllByRecursion (IsAtPlace many) (enumerate_from from starts)
-places_from [] from many h = tt
-places_from (a ∷ starts) from many h =
-    let first = h 0 a refl in
-    ((first.0 ∙ omega arith, first.1), places_from starts (from + 1) many (λ k b at. let q = h (suc k) b at in (q.0 ∙ omega arith, q.1)))
 
 pub is_roster : (members session : ℕ) (configs : List Config) → AreSettings members session configs → length configs ≡ members → 0 < members → IsRoster (started configs)
 is_roster members session configs h long some = record {
