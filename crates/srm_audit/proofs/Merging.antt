@@ -1,9 +1,8 @@
 -- Journals that are put into one order, entry by entry.
 use Rattle.std.proofs.Common.{◌≡◌, ◌≢◌, ℕ, zero, suc, ◌+◌, ◌≤◌, ◌<◌, Bool, true, false, ◌||◌, List, [], ◌∷◌, ◌++◌, length, get_or, refl, ap, sym, ◌∙◌, subst, inl, inr, arith, append_assoc, length-set}
-use Rattle.std.specs.Prelude.{◌⊎◌, Option, Some, None, cond, slice_get, slice_set, IfSome, MatchBool, Contains}
+use Rattle.std.specs.Prelude.{◌⊎◌, Option, Some, None, slice_get, slice_set, IfSome, MatchBool, Contains}
 use Rattle.std.specs.List.{AllByRecursion}
-use Rattle.std.proofs.lemmas.Bool.{cases_eq, ne_eqb}
-use Rattle.std.proofs.lemmas.List.{append-nil}
+use Rattle.std.proofs.lemmas.Bool.{cases_eq}
 use Rattle.std.proofs.lemmas.Option.{same_Some, slice_get-get_or, none-some}
 use Rattle.srm_names.specs.Histories.{Step}
 use Rattle.srm_names.proofs.Lists.{AllByRecursion-parts, AllByRecursion-snoc}
@@ -13,8 +12,8 @@ use Rattle.srm_entries.specs.Entries.{accepted, sent}
 use Rattle.srm_entries.proofs.Running.{steps_more}
 use Rattle.srm_world.specs.Traces.{Journal, of_member, IsHonest}
 use Rattle.srm_world.proofs.Laning.{get_set_same, get_set_other}
-use Rattle.srm_world.proofs.Members.{of_member-append, of_member-own}
-use Rattle.srm_world.proofs.Stepping.{sent-snoc}
+use Rattle.srm_world.proofs.Members.{of_member-own}
+use Rattle.srm_world.proofs.Stepping.{of_member-other, sent-snoc}
 use Rattle.srm_audit.specs.Audits.{entries_at}
 use Rattle.srm_audit.specs.Spellings.{Knows, Learns}
 use Rattle.srm_audit.specs.Queues.{HearsSent, MayGo, PopsReady}
@@ -71,9 +70,6 @@ goes_after m new k queue rest popped e l is pops some queues entries outs outs_a
 
 -- one entry more keeps all
 
-pub other_member : (k : ℕ) (es : List Entry) (e : Entry) → e.member ≢ k → of_member k (es ++ e ∷ []) ≡ of_member k es
-other_member k es e ne = of_member-append k es (e ∷ []) ∙ ap (λ b. of_member k es ++ cond b (e ∷ []) []) (ne_eqb e.member k ne) ∙ append-nil (of_member k es)
-
 within : {X : Type 0} (xs : List X) (k : ℕ) (x : X) → slice_get xs k ≡ Some x → k < length xs
 within [] k x e = absurd (none-some x e)
 within (y ∷ xs) zero x e = omega arith
@@ -102,7 +98,7 @@ advances_keeps k old new a q m = record {
         ap (λ es. of_member k es ++ a.rest) a.entries ∙ ap (λ es. es ++ a.rest) (of_member-own k old.entries a.entry mine) ∙ append_assoc (of_member k old.entries) (a.entry ∷ []) a.rest ∙ split in
         subst (λ (i : ℕ). of_member i new.entries ++ rest ≡ entries_at q i) (sym same) (subst (λ xs. of_member k new.entries ++ xs ≡ entries_at q k) is here)
     which j rest at (inr differ) =
-        ap (λ es. of_member j es ++ rest) a.entries ∙ ap (λ es. es ++ rest) (other_member j old.entries a.entry (λ (e : a.entry.member ≡ j). differ (sym e ∙ mine)))
+        ap (λ es. of_member j es ++ rest) a.entries ∙ ap (λ es. es ++ rest) (of_member-other j old.entries a.entry (λ (e : a.entry.member ≡ j). differ (sym e ∙ mine)))
         ∙ m.each j rest (sym (get_set_other old.queues k j a.rest differ) ∙ ap (λ xs. slice_get xs j) (sym a.queues) ∙ at)
 
 left_set : (queues : List (List Entry)) (k : ℕ) (e : Entry) (rest : List Entry) → slice_get queues k ≡ Some (e ∷ rest) → entries_remaining (slice_set queues k rest) + 1 ≡ entries_remaining queues

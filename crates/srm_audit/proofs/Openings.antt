@@ -1,9 +1,9 @@
 -- Journals taken apart, and put into one order.
 use Rattle.std.proofs.Common.{◌≡◌, ℕ, zero, suc, ◌+◌, ◌≤◌, ◌<◌, List, [], ◌∷◌, ◌++◌, length, map, take, drop, refl, ap, sym, ◌∙◌, subst, inl, inr, arith, append_assoc}
-use Rattle.std.specs.Prelude.{Result, Ok, Err, IfErr, Option, Some, None, slice_get, IfSome, IsSome, cond}
+use Rattle.std.specs.Prelude.{Result, Ok, Err, IfErr, Option, Some, None, slice_get, IfSome, IsSome}
 use Rattle.std.specs.List.{AllByRecursion}
 use Rattle.std.specs.Result.{IsErrAnd}
-use Rattle.std.proofs.lemmas.Bool.{cases_lt, ne_eqb}
+use Rattle.std.proofs.lemmas.Bool.{cases_lt}
 use Rattle.std.proofs.lemmas.List.{append-nil, length-map, take-append-drop}
 use Rattle.std.proofs.lemmas.Option.{same_Some, slice_get_within, none-some}
 use Rattle.srm_names.specs.Histories.{steps_after}
@@ -26,6 +26,7 @@ use Rattle.srm_audit.specs.declared.mismatch.Mismatch.TheVariants.{Unsent, Forei
 use Rattle.srm_audit.specs.Finding.{IsFirstForeign}
 use Rattle.srm_audit.specs.Endings.{ending_of}
 use Rattle.srm_audit.specs.Refusals.{IsRefusedInOrder, IsForeignAt}
+use Rattle.srm_world.proofs.Members.{none_of}
 use Rattle.srm_audit.proofs.Ordering.{by_place, me_at, start_at}
 
 -- a run of a member
@@ -92,12 +93,6 @@ none_there [] k l = refl
 none_there (j ∷ q) zero l = absurd (omega arith)
 none_there (j ∷ q) (suc k) l = none_there q k (omega arith)
 
-none_outside : (n k : ℕ) (es : List Entry) → n ≤ k → AllByRecursion (λ (e : Entry). e.member < n) es → of_member k es ≡ []
-none_outside n k [] l all = refl
-none_outside n k (e ∷ es) l all =
-    let below : e.member < n = all.0 in
-    ap (λ b. cond b (e ∷ of_member k es) (of_member k es)) (ne_eqb e.member k (λ (x : e.member ≡ k). omega arith)) ∙ none_outside n k es l all.1
-
 place_in : {X : Type 0} (xs : List X) (k : ℕ) → k < length xs → (x : X) × (slice_get xs k ≡ Some x)
 place_in [] k l = absurd (omega arith)
 place_in (x ∷ xs) zero l = (x, refl)
@@ -111,7 +106,7 @@ prefixes : (q : List Journal) (m : Content) → Merges q m → ArePrefixes q m.e
 prefixes q m h = record {
   each = λ k. elim (cases_lt k (length q)) [
     | inl l ↦ let (rest, at) = place_in m.queues k (subst (λ n. k < n) (sym h.count) l) in (rest, h.each k rest at)
-    | inr l ↦ ([], append-nil (of_member k m.entries) ∙ none_outside (length q) k m.entries l h.inside ∙ sym (none_there q k l))
+    | inr l ↦ ([], append-nil (of_member k m.entries) ∙ none_of (length q) k m.entries l h.inside ∙ sym (none_there q k l))
   ];
 }
 
@@ -172,7 +167,7 @@ orders old new stops all = record {
         each = λ k. elim (cases_lt k (length q)) [
           | inl l ↦ let (rest, at) = place_in new.queues k (subst (λ n. k < n) (sym now.count) l) in
               sym (append-nil (of_member k new.entries)) ∙ ap (λ xs. of_member k new.entries ++ xs) (sym (emptied_at new.queues k rest all at)) ∙ now.each k rest at
-          | inr l ↦ none_outside (length q) k new.entries l now.inside ∙ sym (none_there q k l)
+          | inr l ↦ none_of (length q) k new.entries l now.inside ∙ sym (none_there q k l)
         ];
         inside = now.inside;
         honest = now.honest;

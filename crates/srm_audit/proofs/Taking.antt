@@ -32,11 +32,11 @@ use Rattle.srm_world.proofs.Lawful.{lawful}
 use Rattle.srm_world.proofs.Laning.{at_place}
 use Rattle.srm_world.proofs.Going.{taken-snoc}
 use Rattle.srm_world.proofs.Members.{of_member-own}
+use Rattle.srm_world.proofs.Stepping.{of_member-other}
 use Rattle.srm_audit.specs.declared.got.Got.{Got}
 use Rattle.srm_audit.specs.declared.ending.Ending.{Ending}
 use Rattle.srm_audit.specs.Audits.{IsFound, AreFound, entries_at, starts_of, is_of, listed, outline, takes_of}
 use Rattle.srm_audit.proofs.Finding.{after_front, entries_here}
-use Rattle.srm_audit.proofs.Merging.{other_member}
 use Rattle.srm_audit.proofs.Ordering.{by_place, from_places, me_at, journal_at, count_starts}
 use Rattle.srm_audit.specs.Merging.{Completes}
 use Rattle.srm_audit.specs.Refusals.{IsReconciled}
@@ -174,7 +174,7 @@ takes_one q gots got d m rest j ending es here me is found split h = record {
     mine = of_member-own got.member es (take_entry got.member ending got.slot m) refl
 
     others : (k : ℕ) → k ≢ got.member → of_member k (es ++ take_entry got.member ending got.slot m ∷ []) ≡ of_member k es
-    others k ne = other_member k es (take_entry got.member ending got.slot m) (λ (x : got.member ≡ k). ne (sym x))
+    others k ne = of_member-other k es (take_entry got.member ending got.slot m) (λ (x : got.member ≡ k). ne (sym x))
 
     so_far : taken (of_member got.member es) got.slot ≡ d
     so_far = h.taken_is got.member got.slot ∙ ap (λ xs. xs ++ part got d got.member got.slot) (unlisted gots got.member got.slot found.once) ∙ own_part got d got.member got.slot refl refl
