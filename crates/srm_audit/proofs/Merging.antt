@@ -3,7 +3,7 @@ use Rattle.std.proofs.Common.{◌≡◌, ◌≢◌, ℕ, zero, suc, ◌+◌, ◌
 use Rattle.std.specs.Prelude.{◌⊎◌, Option, Some, None, slice_get, slice_set, IfSome, MatchBool, Contains}
 use Rattle.std.specs.List.{AllByRecursion}
 use Rattle.std.proofs.lemmas.Bool.{cases_eq}
-use Rattle.std.proofs.lemmas.Option.{same_Some, slice_get-get_or, none-some}
+use Rattle.std.proofs.lemmas.Option.{same_Some, slice_get-get_or, slice_get_within, none-some}
 use Rattle.srm_names.specs.Histories.{Step}
 use Rattle.srm_names.proofs.Lists.{AllByRecursion-parts, AllByRecursion-snoc}
 use Rattle.srm_codec.specs.declared.datagram.Datagram.{Datagram}
@@ -70,17 +70,12 @@ goes_after m new k queue rest popped e l is pops some queues entries outs outs_a
 
 -- one entry more keeps all
 
-within : {X : Type 0} (xs : List X) (k : ℕ) (x : X) → slice_get xs k ≡ Some x → k < length xs
-within [] k x e = absurd (none-some x e)
-within (y ∷ xs) zero x e = omega arith
-within (y ∷ xs) (suc k) x e = let l = within xs k x e in omega arith
-
 advances_keeps : (k : ℕ) (old new : Content) → Advances k old new → (q : List Journal) → Merges q old → Merges q new
 advances_keeps k old new a q m = record {
   count = ap length a.queues ∙ length-set old.queues k a.rest ∙ m.count;
   own = m.own;
   each = λ j rest at. which j rest at (cases_eq j k);
-  inside = subst (AllByRecursion (λ (e : Entry). e.member < length q)) (sym a.entries) (AllByRecursion-snoc (λ (e : Entry). e.member < length q) old.entries a.entry m.inside (subst (λ n. n < length q) (sym mine) (subst (λ n. k < n) m.count (within old.queues k (a.entry ∷ a.rest) a.next))));
+  inside = subst (AllByRecursion (λ (e : Entry). e.member < length q)) (sym a.entries) (AllByRecursion-snoc (λ (e : Entry). e.member < length q) old.entries a.entry m.inside (subst (λ n. n < length q) (sym mine) (subst (λ n. k < n) m.count (slice_get_within old.queues k (a.entry ∷ a.rest) a.next))));
   honest = subst IsHonest (sym a.entries) (steps_more (λ (s : Step Entry). IfSome (accepted s.this) (Contains (sent s.before))) old.entries a.entry m.honest (a.hears (sent old.entries) m.knows));
   knows = subst (λ gs. Knows gs new.spellings) (sym (ap sent a.entries ∙ sent-snoc old.entries a.entry)) (a.learns.each (sent old.entries) m.knows);
 }
