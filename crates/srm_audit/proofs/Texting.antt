@@ -5,6 +5,7 @@ use Rattle.std.specs.List.{list_any, AllByRecursion}
 use Rattle.std.specs.Str.{bytes_eq}
 use Rattle.std.specs.Cmp.Lexicographic.{bytes_decides}
 use Rattle.std.specs.List.Sorted.{IsPermutation}
+use Rattle.std.proofs.lemmas.Bool.{or_right}
 use Rattle.std.proofs.lemmas.List.Sorted.{list_any-IsPermutation}
 use Rattle.std.proofs.lemmas.List.{append-nil, take_more, take_all}
 use Rattle.srm_names.proofs.Lists.{Has, Has-append, Has-front, Has-back, Has-contained}
@@ -71,12 +72,8 @@ learns_one g old new fits gains gs knows = record {
     from : (h : Datagram) → IsSpellable h → Contains (gs ++ g ∷ []) h → is_spelling new (spelling_of h) ≡ true
     from h is there = sent_is h ∙ which (Has-append h gs (g ∷ []) (Has-contained h (gs ++ g ∷ []) there))
       where
-        settled : (b c : Bool) → c ≡ true → (b || c) ≡ true
-        settled true c e = refl
-        settled false c e = e
-
         which : Has h gs ⊎ Has h (g ∷ []) → (bytes_eq (spelling_of h) (spelling_of g) || is_spelling old (spelling_of h)) ≡ true
-        which (inl k) = settled (bytes_eq (spelling_of h) (spelling_of g)) (is_spelling old (spelling_of h)) ((knows.each h is).1 (Has-Contains h gs k))
+        which (inl k) = or_right (bytes_eq (spelling_of h) (spelling_of g)) (is_spelling old (spelling_of h)) ((knows.each h is).1 (Has-Contains h gs k))
         which (inr (inl e)) = ap (λ b. b || is_spelling old (spelling_of h)) ((bytes_decides (spelling_of h) (spelling_of g)).1 (ap spelling_of e))
         which (inr (inr k)) = absurd k
 
