@@ -1,4 +1,5 @@
-use Rattle.srm_member.proofs.Lanes.{new_feeds, ends_of_lanes}
+use Rattle.srm_node.proofs.Keeping.{new_feeds}
+use Rattle.srm_member.proofs.Lanes.{ends_of_lanes}
 use Rattle.srm_member.proofs.station.slots.Goals as goal
 
 pub returns-clause-feeds : goal.returns-clause-feeds
