@@ -48,18 +48,20 @@ impl ScriptFault {
 
     /// The fault of a read of standard input.
     pub fn of_input(error: io::Error) -> ScriptFault {
-        match error.kind() {
-            io::ErrorKind::OutOfMemory => ScriptFault::Memory,
-            _ => ScriptFault::StandardInput,
-        }
+        of_io(error, ScriptFault::StandardInput)
     }
 
     /// The fault of a write to standard output.
     pub fn of_output(error: io::Error) -> ScriptFault {
-        match error.kind() {
-            io::ErrorKind::OutOfMemory => ScriptFault::Memory,
-            _ => ScriptFault::Output,
-        }
+        of_io(error, ScriptFault::Output)
+    }
+}
+
+// Want of memory, or else this fault.
+fn of_io(error: io::Error, other: ScriptFault) -> ScriptFault {
+    match error.kind() {
+        io::ErrorKind::OutOfMemory => ScriptFault::Memory,
+        _ => other,
     }
 }
 
