@@ -47,7 +47,7 @@ where
     let typing = start_typing(rt, alloc, pens, reader, stay, desk);
     let hosted = host_if(rt, alloc, typing.is_some(), node, taps, sinks, turns);
     desk.end();
-    end_typing(rt, typing);
+    join_if(rt, typing);
     fault_of(hosted)
 }
 
@@ -116,9 +116,9 @@ fn first_of(pens: Vec<Pen>) -> Option<Pen>
     first
 }
 
-// Waits for the thread that draws what is typed.
-fn end_typing<R: Threads>(rt: &R, typing: Option<JoinHandle<Inked>>) {
-    if let Some(typing) = typing {
-        typing.join(rt);
+/// Waits for a thread that ends with the node, if there is one.
+pub fn join_if<R: Threads, T: Drop>(rt: &R, thread: Option<JoinHandle<T>>) {
+    if let Some(thread) = thread {
+        thread.join(rt);
     }
 }

@@ -6,10 +6,10 @@ ghost use Rattle.srm_member.specs.Statuses.{IsExitStatus};
 
 use crate::counted_wire::CountedWire;
 use crate::desk::Desk;
-use crate::hosting::host_live;
+use crate::hosting::{host_live, join_if};
 use crate::live_sink::{Printing, printing_sinks};
 use crate::tally::Tally;
-use crate::telling::{end_telling, start_telling};
+use crate::telling::start_telling;
 use crate::watched::Watched;
 use srm_member::{MemberFault, Station};
 use srm_options::NodeOptions;
@@ -107,7 +107,7 @@ where
         Ok(station) => {
             let telling = start_telling(rt, alloc, tally, others, desk);
             let run = host_live(rt, alloc, station, sinks, reader, stay, turns, desk);
-            end_telling(rt, telling);
+            join_if(rt, telling);
             end(rt, alloc, run, desk)
         }
         Err(fault) => Some(fault),

@@ -51,13 +51,6 @@ where
     }
 }
 
-/// Waits for the thread of the line, which ends with the node.
-pub fn end_telling<R: Threads>(rt: &R, telling: Option<JoinHandle<()>>) {
-    if let Some(telling) = telling {
-        telling.join(rt);
-    }
-}
-
 // Shows each second what goes on, in a session of so many others, until the node has ended. A line for which memory is refused
 // is left out.
 fn tell_status<R: Clock + Wait, O: Write, E: Write>(
