@@ -4,6 +4,7 @@ use Rattle.std.specs.Prelude.{Option, Some, None, cond, count_by, filter, option
 use Rattle.std.specs.List.{flat_map, filter_map, cons_option, AllByRecursion}
 use Rattle.std.proofs.lemmas.Bool.Decides.{nat_tests}
 use Rattle.std.proofs.lemmas.List.Sums.{sum_by-append, sum_by-cons}
+use Rattle.std.proofs.lemmas.Grind.{flat_map-append}
 use Rattle.srm_names.specs.declared.page.Page.{Page}
 use Rattle.srm_names.specs.declared.drawop.Drawop.{Drawop}
 use Rattle.srm_names.specs.FullName.{FullName}
@@ -32,7 +33,6 @@ use Rattle.srm_entries.specs.Bucket.{Going, GoesAsCharged, class_for, page_of, d
 use Rattle.srm_entries.specs.Rates.{one_of_class, of_class, handed_so_far, departed_so_far}
 use Rattle.srm_agent.specs.Fits.{BucketFits}
 use Rattle.srm_outbox.specs.Outs.{datagram_of}
-use Rattle.srm_entries.proofs.Adding.{flat_map-append}
 use Rattle.srm_entries.proofs.Marking.{gone_is, handed_is}
 use Rattle.srm_entries.proofs.Sending.{went_first, went_is_charged, in_its_class}
 
