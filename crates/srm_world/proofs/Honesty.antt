@@ -5,6 +5,7 @@ use Rattle.std.specs.List.{flat_map, cons_option, AllByRecursion}
 use Rattle.std.proofs.lemmas.List.{append-nil}
 use Rattle.std.proofs.lemmas.List.Elements.{filter-append}
 use Rattle.std.proofs.lemmas.Option.{none-some}
+use Rattle.std.proofs.lemmas.Grind.{flat_map-append}
 use Rattle.srm_names.specs.declared.page.Page.{Page}
 use Rattle.srm_names.specs.declared.drawop.Drawop.{Drawop}
 use Rattle.srm_names.specs.FullName.{FullName}
@@ -18,7 +19,6 @@ use Rattle.srm_codec.specs.Spelling.{is_session}
 use Rattle.srm_entries.specs.Sessions.{charged}
 use Rattle.srm_store.specs.Finals.{Settling, rows_for, rows_of, row_number}
 use Rattle.srm_entries.specs.Verdicts.{told, settlings, settling_of, stream_on}
-use Rattle.srm_entries.proofs.Adding.{flat_map-append}
 use Rattle.srm_entries.proofs.Sending.{data_sent_was_drawn, repair_sent_was_held}
 use Rattle.srm_entries.proofs.Drawing.{draws_right}
 use Rattle.srm_entries.proofs.Telling.{rows_in, farewell_in, farewell_is}
