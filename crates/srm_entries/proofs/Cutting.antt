@@ -1,6 +1,7 @@
 -- The entries of a run so far are a run.
 use Rattle.std.proofs.Common.{◌≡◌, ℕ, List, [], ◌∷◌, ◌++◌, subst, ap, ◌∙◌}
 use Rattle.std.specs.List.{AllByRecursion, flat_map}
+use Rattle.std.proofs.lemmas.Grind.{flat_map-append}
 use Rattle.srm_names.specs.Histories.{steps, steps_after}
 use Rattle.srm_names.proofs.Lists.{at_parts, map-split, steps-append}
 use Rattle.srm_codec.specs.declared.datagram.Datagram.{Datagram}
@@ -10,7 +11,6 @@ use Rattle.srm_entries.specs.Configs.{Config}
 use Rattle.srm_entries.specs.declared.entry.Entry.{Entry}
 use Rattle.srm_entries.specs.Bucket.{Going, GoesAsCharged, BucketRight, calls_by, bucket_calls}
 use Rattle.srm_entries.specs.Runs.{EntryRight, IsMemberRun}
-use Rattle.srm_entries.proofs.Adding.{flat_map-append}
 
 pub bucket_calls-append : (me : ℕ) (us vs : List Going) → bucket_calls me (us ++ vs) ≡ bucket_calls me us ++ flat_map (calls_by me) (steps_after us vs)
 bucket_calls-append me us vs = ap (flat_map (calls_by me)) (steps-append us vs) ∙ flat_map-append (calls_by me) (steps us) (steps_after us vs)

@@ -4,6 +4,7 @@ use Rattle.std.specs.Prelude.{Option, Some, None, if◌then◌else◌}
 use Rattle.std.specs.List.{flat_map, AllByRecursion}
 use Rattle.std.proofs.lemmas.Bool.{OnTrue_at}
 use Rattle.std.proofs.lemmas.List.{append-nil, map-append}
+use Rattle.std.proofs.lemmas.Grind.{flat_map-append}
 use Rattle.srm_names.specs.declared.drawop.Drawop.{Drawop}
 use Rattle.srm_names.specs.Histories.{Step, steps}
 use Rattle.srm_names.proofs.Lists.{Has, Has-append, Has-map, Has-flat_map, Has-front}
@@ -20,7 +21,7 @@ use Rattle.srm_entries.specs.declared.entry.Entry.{Entry}
 use Rattle.srm_entries.specs.Entries.{shown}
 use Rattle.srm_entries.specs.Bucket.{Going, GoesAsCharged, data_item, due_item, requests_and_repairs, handed_in_by, entries_of, lets_go, pops, calls_by, bucket_calls}
 use Rattle.srm_entries.specs.Rates.{one_of_class, of_class, handed_so_far, departed_so_far}
-use Rattle.srm_entries.proofs.Adding.{flat_map-append, flat_map-snoc}
+use Rattle.srm_entries.proofs.Adding.{flat_map-snoc}
 use Rattle.srm_entries.proofs.Sending.{went_first, handed_in_entry, popped}
 
 -- one more entry

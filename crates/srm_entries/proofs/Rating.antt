@@ -5,6 +5,7 @@ use Rattle.std.specs.Bool.{OnTrue}
 use Rattle.std.specs.List.{AllByRecursion}
 use Rattle.std.proofs.lemmas.Bool.{OnTrue_at}
 use Rattle.std.proofs.lemmas.List.{map-append}
+use Rattle.std.proofs.lemmas.Grind.{flat_map-append}
 use Rattle.srm_names.specs.Histories.{steps}
 use Rattle.srm_names.proofs.Lists.{at_parts}
 use Rattle.srm_codec.specs.declared.datagram.Datagram.{Datagram}
@@ -21,7 +22,6 @@ use Rattle.srm_entries.specs.Sessions.{charged}
 use Rattle.srm_entries.specs.Bucket.{Going, GoesAsCharged, entries_of, lets_go, pops, bucket_calls}
 use Rattle.srm_entries.specs.Rates.{of_class, handed_so_far, departed_so_far, queued_of, cost_all, tick_in, ticks_of, RightAt, RateLaw}
 use Rattle.srm_entries.specs.Runs.{EntryRight, IsMemberRun}
-use Rattle.srm_entries.proofs.Adding.{flat_map-append}
 use Rattle.srm_entries.proofs.Cutting.{run_part}
 use Rattle.srm_entries.proofs.Sending.{went_first}
 use Rattle.srm_entries.proofs.Charging.{handed_last, law_at, pops_last}

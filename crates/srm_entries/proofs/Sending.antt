@@ -25,7 +25,8 @@ use Rattle.srm_entries.specs.Packing.{is_covered_by, packed_after, packed, mask_
 use Rattle.srm_entries.specs.Bucket.{Going, GoesAsCharged, BucketRight, repair_for, requests_and_repairs, due_item, data_item, handed_in_by, entries_of, lets_go, pops, calls_by, bucket_calls, datagrams_of}
 use Rattle.std.proofs.lemmas.List.{map-append}
 use Rattle.std.proofs.lemmas.Bool.{OnTrue_at}
-use Rattle.srm_entries.proofs.Adding.{flat_map-append, flat_map-snoc}
+use Rattle.std.proofs.lemmas.Grind.{flat_map-append}
+use Rattle.srm_entries.proofs.Adding.{flat_map-snoc}
 
 no_data_in : (me : ℕ) (d : Drawop) (n : FullName) (ns : List FullName) (xs ys : List Datagram) (b : Bool) → (Has (Data d) xs → ⊥) → (Has (Data d) ys → ⊥) → Has (Data d) (cond b xs (Request me n (mask_of n ns) ∷ ys)) → ⊥
 no_data_in me d n ns xs ys true p q h = p h
