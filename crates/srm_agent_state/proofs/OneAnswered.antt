@@ -3,6 +3,7 @@ use Rattle.std.proofs.Common.{◌≡◌, ℕ, ◌+◌, ◌<◌, Bool, true, fals
 use Rattle.std.specs.Prelude.{if◌then◌else◌, Option, Some, None, is_some, option_map, option_to_list, IfSome}
 use Rattle.std.proofs.Math.Bool.{or-false}
 use Rattle.std.proofs.lemmas.List.{append-nil, map-append, take_more}
+use Rattle.std.proofs.lemmas.List.Folds.{list_any-append}
 use Rattle.srm_names.specs.declared.drawop.Drawop.{Drawop}
 use Rattle.srm_names.specs.FullName.{FullName}
 use Rattle.srm_names.specs.Histories.{or_else, first_of}
@@ -32,7 +33,6 @@ use Rattle.srm_entries.specs.Timers.{asker, fix_running, held_off, ask_running}
 use Rattle.srm_entries.specs.Verdicts.{settlings}
 use Rattle.srm_agent_state.specs.TimersKept.{TimersContent, TimersFit}
 use Rattle.srm_agent_state.specs.TimerCalls.{IsAnswered}
-use Rattle.srm_entries.proofs.Adding.{list_any-append}
 use Rattle.srm_entries.proofs.Setting.{of_kind}
 use Rattle.srm_agent_state.proofs.Midway.{Midway}
 use Rattle.srm_agent_state.proofs.Missing.{no_name}
