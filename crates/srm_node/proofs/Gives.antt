@@ -7,6 +7,7 @@ use Rattle.std.proofs.lemmas.Bool.{cases_eq, ne_eqb}
 use Rattle.std.proofs.lemmas.List.{append-nil, length-set}
 use Rattle.std.proofs.lemmas.List.Elements.{filter_map-append}
 use Rattle.std.proofs.lemmas.Option.{same_Some, slice_get_read}
+use Rattle.std.proofs.lemmas.List.Folds.{list_any-append}
 use Rattle.srm_names.specs.declared.limits.TheConstants.{PAGES}
 use Rattle.srm_names.specs.declared.page_msg.PageMsg.{PageMsg}
 use Rattle.srm_names.specs.PageFeeds.{is_page_feed}
@@ -167,22 +168,14 @@ gives_lost slot j k f g message m lawful r some stands carries lost =
     served_if_lost : (slot : ℕ) (es : List Entry) (f : FeedView) → f.disconnected ≡ true → is_served slot es f ≡ true
     served_if_lost slot es f h = three (credit_of f == 0) (list_any (gave_nothing slot) es) f.disconnected h
 
-any-append : (p : Entry → Bool) (xs ys : List Entry) → list_any p (xs ++ ys) ≡ (list_any p xs || list_any p ys)
-any-append p [] ys = refl
-any-append p (x ∷ xs) ys = ap (λ b. p x || b) (any-append p xs ys) ∙ assoc (p x) (list_any p xs) (list_any p ys)
-  where
-    assoc : (a b c : Bool) → (a || (b || c)) ≡ ((a || b) || c)
-    assoc true b c = refl
-    assoc false b c = refl
-
 served_back : (slot : ℕ) (es fs : List Entry) (f : FeedView) → is_served slot fs f ≡ true → is_served slot (es ++ fs) f ≡ true
-served_back slot es fs f h = ap (λ b. (credit_of f == 0) || b || f.disconnected) (any-append (gave_nothing slot) es fs) ∙ four (credit_of f == 0) (list_any (gave_nothing slot) es) (list_any (gave_nothing slot) fs) f.disconnected h
+served_back slot es fs f h = ap (λ b. (credit_of f == 0) || b || f.disconnected) (list_any-append (gave_nothing slot) es fs) ∙ four (credit_of f == 0) (list_any (gave_nothing slot) es) (list_any (gave_nothing slot) fs) f.disconnected h
   where
     four : (a b c d : Bool) → (a || c || d) ≡ true → (a || (b || c) || d) ≡ true
     four a b c d h = grind arith
 
 served_front : (slot : ℕ) (es fs : List Entry) (f : FeedView) → is_served slot es f ≡ true → is_served slot (es ++ fs) f ≡ true
-served_front slot es fs f h = ap (λ b. (credit_of f == 0) || b || f.disconnected) (any-append (gave_nothing slot) es fs) ∙ four (credit_of f == 0) (list_any (gave_nothing slot) es) (list_any (gave_nothing slot) fs) f.disconnected h
+served_front slot es fs f h = ap (λ b. (credit_of f == 0) || b || f.disconnected) (list_any-append (gave_nothing slot) es fs) ∙ four (credit_of f == 0) (list_any (gave_nothing slot) es) (list_any (gave_nothing slot) fs) f.disconnected h
   where
     four : (a b c d : Bool) → (a || b || d) ≡ true → (a || (b || c) || d) ≡ true
     four a b c d h = grind arith
