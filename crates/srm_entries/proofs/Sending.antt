@@ -21,6 +21,7 @@ use Rattle.srm_entries.specs.declared.entry.Entry.{Entry}
 use Rattle.srm_store.specs.Held.{has_name}
 use Rattle.srm_entries.specs.Entries.{drawn, held, held_by, held_at, shown}
 use Rattle.srm_entries.specs.Sessions.{charged}
+use Rattle.srm_entries.specs.Rates.{handed_so_far, departed_so_far}
 use Rattle.srm_entries.specs.Packing.{is_covered_by, packed_after, packed, mask_of}
 use Rattle.srm_entries.specs.Bucket.{Going, GoesAsCharged, BucketRight, repair_for, requests_and_repairs, due_item, data_item, handed_in_by, entries_of, lets_go, pops, calls_by, bucket_calls, datagrams_of}
 use Rattle.std.proofs.lemmas.List.{map-append}
@@ -66,14 +67,8 @@ from_step me d s i h e = elim (Has-append i (data_item s.this.effects.drawn) (ma
           | inr r ↦ no_data_repairs me s.before d s.this.effects.fixes r
         ]
 
-abbrev pub handed : ℕ → List Entry → List (Classed Datagram)
-handed me es = flat_map (handed_in_by me) (steps es)
-
-abbrev pub gone_of : List Going → List (Classed Datagram)
-gone_of gs = flat_map (λ g. g.goes) gs
-
 -- data that was handed in was drawn
-handed_data : (me : ℕ) (d : Drawop) (es : List Entry) (i : Classed Datagram) → Has i (handed me es) → i.item.value ≡ Data d → Has d (drawn es)
+handed_data : (me : ℕ) (d : Drawop) (es : List Entry) (i : Classed Datagram) → Has i (handed_so_far me es) → i.item.value ≡ Data d → Has d (drawn es)
 handed_data me d es i h e =
     let (s, k, m) = Has-flat_map (handed_in_by me) i (steps es) h in
     flat_map-Has (λ (x : Entry). option_to_list x.effects.drawn) d s.this es (Has-steps s [] es k) (from_step me d s i m e)
@@ -101,7 +96,7 @@ class_of_one class x i h = go (rank i.class == rank class) h
     go false e = absurd e
 
 -- what goes in an entry was popped
-pub popped : (gs : List Going) (i : Classed Datagram) (me : ℕ) → AllByRecursion GoesAsCharged (steps gs) → Has i (gone_of gs) → Has i.item (departed i.class (bucket_calls me gs))
+pub popped : (gs : List Going) (i : Classed Datagram) (me : ℕ) → AllByRecursion GoesAsCharged (steps gs) → Has i (departed_so_far gs) → Has i.item (departed i.class (bucket_calls me gs))
 popped gs i me all h =
     let (g, k, m) = Has-flat_map (λ (x : Going). x.goes) i gs h in
     let (before, after, q) = Has-split g gs k in
@@ -129,7 +124,7 @@ step_of_entries : (s : Step Going) (gs : List Going) → Has s (steps gs) → Ha
 step_of_entries s gs h = step_of_entries_after s [] gs h
 
 -- what was handed in to the bucket, an entry handed in
-pub handed_in_entry : (me : ℕ) (gs : List Going) (class : Class) (x : Item Datagram) → Has x (bucket.handed class (bucket_calls me gs)) → (j : Classed Datagram) × Has j (handed me (entries_of gs)) × (j.item ≡ x)
+pub handed_in_entry : (me : ℕ) (gs : List Going) (class : Class) (x : Item Datagram) → Has x (bucket.handed class (bucket_calls me gs)) → (j : Classed Datagram) × Has j (handed_so_far me (entries_of gs)) × (j.item ≡ x)
 handed_in_entry me gs class x h =
     let (call, k, m) = Has-flat_map (handed_in class) x (bucket_calls me gs) h in
     let (s, p, q) = Has-flat_map (calls_by me) call (steps gs) k in
@@ -143,15 +138,15 @@ handed_in_entry me gs class x h =
     ]
 
     by : (s : Step Going) (call : Call Datagram) → Has s (steps gs) → Has call (map Handed (handed_in_by me (record { before = entries_of s.before; this = s.this.entry }))) ⊎ Has call (if lets_go s then pops s.this.entry.moment s.this.goes else [])
-        → Has x (handed_in class call) → (j : Classed Datagram) × Has j (handed me (entries_of gs)) × (j.item ≡ x)
+        → Has x (handed_in class call) → (j : Classed Datagram) × Has j (handed_so_far me (entries_of gs)) × (j.item ≡ x)
     by s call p (inl l) m =
         let (j, w, e) = Has-map Handed call (handed_in_by me (record { before = entries_of s.before; this = s.this.entry })) l in
         let same : x ≡ j.item = class_of_one class x j (subst (λ c. Has x (handed_in class c)) e m) in
         (j, flat_map-Has (handed_in_by me) j (record { before = entries_of s.before; this = s.this.entry }) (steps (entries_of gs)) (step_of_entries s gs p) w, sym same)
     by s call p (inr r) m = absurd (never s.this.entry.moment s.this.goes (lets_go s) call r m)
 
-item_handed : (c : Config) (gs : List Going) (i : Classed Datagram) → AllByRecursion GoesAsCharged (steps gs) → BucketLaw c.rate c.depth (bucket_calls c.me gs) → Has i (gone_of gs)
-    → (j : Classed Datagram) × Has j (handed c.me (entries_of gs)) × (j.item.value ≡ i.item.value)
+item_handed : (c : Config) (gs : List Going) (i : Classed Datagram) → AllByRecursion GoesAsCharged (steps gs) → BucketLaw c.rate c.depth (bucket_calls c.me gs) → Has i (departed_so_far gs)
+    → (j : Classed Datagram) × Has j (handed_so_far c.me (entries_of gs)) × (j.item.value ≡ i.item.value)
 item_handed c gs i all law h =
     let (rest, e) = went_first c.rate c.depth (bucket_calls c.me gs) law i.class in
     let inside : Has i.item (bucket.handed i.class (bucket_calls c.me gs)) = subst (λ w. Has i.item w) e (Has-front i.item (departed i.class (bucket_calls c.me gs)) rest (popped gs i c.me all h)) in
@@ -159,20 +154,20 @@ item_handed c gs i all law h =
     (j, k, ap (λ (x : Item Datagram). x.value) q)
 
 -- what went is what was charged
-pub went_is_charged : (gs : List Going) → AllByRecursion GoesAsCharged (steps gs) → datagrams_of (gone_of gs) ≡ flat_map charged (entries_of gs)
+pub went_is_charged : (gs : List Going) → AllByRecursion GoesAsCharged (steps gs) → datagrams_of (departed_so_far gs) ≡ flat_map charged (entries_of gs)
 went_is_charged gs all =
-    along GoesAsCharged (λ hs. datagrams_of (gone_of hs) ≡ flat_map charged (entries_of hs))
+    along GoesAsCharged (λ hs. datagrams_of (departed_so_far hs) ≡ flat_map charged (entries_of hs))
     (λ before x p right.
     ap datagrams_of (flat_map-snoc (λ (g : Going). g.goes) before x)
-    ∙ map-append (λ (i : Classed Datagram). i.item.value) (gone_of before) x.goes
+    ∙ map-append (λ (i : Classed Datagram). i.item.value) (departed_so_far before) x.goes
     ∙ rw (p, right.same) (sym (ap (flat_map charged) (map-append (λ (g : Going). g.entry) before (x ∷ [])) ∙ flat_map-snoc charged (entries_of before) x.entry)))
     [] gs refl all
 
 -- data that was sent was drawn
 pub data_sent_was_drawn : (c : Config) (es : List Entry) (d : Drawop) → BucketRight c es → Has (Data d) (flat_map charged es) → Has d (drawn es)
 data_sent_was_drawn c es d (gs, e, all, law) h =
-    let went : Has (Data d) (datagrams_of (gone_of gs)) = subst (λ w. Has (Data d) w) (ap (flat_map charged) (sym e) ∙ sym (went_is_charged gs all)) h in
-    let (i, k, q) = Has-map (λ (i : Classed Datagram). i.item.value) (Data d) (gone_of gs) went in
+    let went : Has (Data d) (datagrams_of (departed_so_far gs)) = subst (λ w. Has (Data d) w) (ap (flat_map charged) (sym e) ∙ sym (went_is_charged gs all)) h in
+    let (i, k, q) = Has-map (λ (i : Classed Datagram). i.item.value) (Data d) (departed_so_far gs) went in
     let (j, m, r) = item_handed c gs i all law k in
     subst (λ w. Has d (drawn w)) e (handed_data c.me d (entries_of gs) j m (r ∙ sym q))
 
@@ -216,7 +211,7 @@ repair_from_step me s d t i h e = elim (Has-append i (data_item t.this.effects.d
           | inr r ↦ repairs_held me s t.before d t.this.effects.fixes r
         ]
 
-handed_repair : (me s : ℕ) (d : Drawop) (es : List Entry) (i : Classed Datagram) → Has i (handed me es) → i.item.value ≡ Repair s d → Has d (held es)
+handed_repair : (me s : ℕ) (d : Drawop) (es : List Entry) (i : Classed Datagram) → Has i (handed_so_far me es) → i.item.value ≡ Repair s d → Has d (held es)
 handed_repair me s d es i h e =
     let (t, k, m) = Has-flat_map (handed_in_by me) i (steps es) h in
     let (rest, q) = Has-step_split t [] es k in
@@ -225,7 +220,7 @@ handed_repair me s d es i h e =
 -- a repair that was sent is of a drawop that its sender held
 pub repair_sent_was_held : (c : Config) (es : List Entry) (s : ℕ) (d : Drawop) → BucketRight c es → Has (Repair s d) (flat_map charged es) → Has d (held es)
 repair_sent_was_held c es s d (gs, e, all, law) h =
-    let went : Has (Repair s d) (datagrams_of (gone_of gs)) = subst (λ w. Has (Repair s d) w) (ap (flat_map charged) (sym e) ∙ sym (went_is_charged gs all)) h in
-    let (i, k, q) = Has-map (λ (i : Classed Datagram). i.item.value) (Repair s d) (gone_of gs) went in
+    let went : Has (Repair s d) (datagrams_of (departed_so_far gs)) = subst (λ w. Has (Repair s d) w) (ap (flat_map charged) (sym e) ∙ sym (went_is_charged gs all)) h in
+    let (i, k, q) = Has-map (λ (i : Classed Datagram). i.item.value) (Repair s d) (departed_so_far gs) went in
     let (j, m, r) = item_handed c gs i all law k in
     subst (λ w. Has d (held w)) e (handed_repair c.me s d (entries_of gs) j m (r ∙ sym q))
