@@ -2,6 +2,7 @@
 use Rattle.std.proofs.Common.{◌≡◌, ℕ, ◌+◌, ◌-◌, ◌*◌, ◌≤◌, max, min, List, [], ◌∷◌, ◌++◌, map, refl, ap, sym, ◌∙◌, subst, arith, append_assoc}
 use Rattle.std.specs.Prelude.{Some, None}
 use Rattle.std.proofs.lemmas.List.{append-nil}
+use Rattle.std.proofs.Math.Nat.{max-zero}
 use Rattle.srm_names.specs.Histories.{Step}
 use Rattle.srm_names.proofs.Lists.{at_parts}
 use Rattle.srm_codec.specs.declared.datagram.Datagram.{Datagram}
@@ -23,10 +24,7 @@ handed_ticks calls (i ∷ items) =
 pub handed_last : (calls : List (Call Datagram)) (items : List (Classed Datagram)) → last_moment (calls ++ map Handed items) ≡ last_moment calls
 handed_last calls [] = ap last_moment (append-nil calls)
 handed_last calls (i ∷ items) =
-    ap last_moment (sym (append_assoc calls (Handed i ∷ []) (map Handed items))) ∙ handed_last (calls ++ Handed i ∷ []) items ∙ last-snoc calls (Handed i) ∙ none (last_moment calls)
-  where
-    none : (n : ℕ) → max n 0 ≡ n
-    none n = omega arith
+    ap last_moment (sym (append_assoc calls (Handed i ∷ []) (map Handed items))) ∙ handed_last (calls ++ Handed i ∷ []) items ∙ last-snoc calls (Handed i) ∙ max-zero (last_moment calls)
 
 -- what goes in a tick
 

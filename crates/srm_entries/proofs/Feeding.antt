@@ -3,7 +3,7 @@ use Rattle.std.proofs.Common.{◌≡◌, ℕ, ◌==◌, ◌+◌, ◌≤◌, Bool
 use Rattle.std.specs.Prelude.{◌⊎◌, map, Option, Some, None, is_some, if◌then◌else◌, slice_get}
 use Rattle.std.specs.List.{flat_map, cons_option, list_any, AllByRecursion}
 use Rattle.std.proofs.lemmas.Option.{none-some, same_Some}
-use Rattle.std.proofs.lemmas.Bool.{eqb-true, and_parts, both_ways, not-true}
+use Rattle.std.proofs.lemmas.Bool.{eqb-true, and_parts, both_ways, not-true, or_cases}
 use Rattle.std.proofs.lemmas.List.{append-nil}
 use Rattle.std.proofs.lemmas.List.Elements.{filter_map-append}
 use Rattle.srm_names.specs.declared.page.Page.{Page}
@@ -185,17 +185,13 @@ final_of_left : (n : ℕ) (o : Option ℕ) → is_some_of n o ≡ true → o ≡
 final_of_left n None e = absurd (grind arith)
 final_of_left n (Some m) e = ap Some (sym (eqb-true n m e))
 
-or_either : (a b : Bool) → (a || b) ≡ true → (a ≡ true) ⊎ (b ≡ true)
-or_either true b e = inl refl
-or_either false b e = inr e
-
 fed_left : (es : List Entry) (page : Page) (g : List PageMsg) (s : ℕ) → is_some (opened g) ≡ true → list_any is_close g ≡ false → may_leave es page g s ≡ true
     → FedRight es (Some page) g → FedRight es (Some page) (g ++ Left s ∷ [])
 fed_left es page g s e closed may right = record {
   fed = is_page_feed-snoc g (Left s) right.fed (all_three (is_some (opened g)) (list_any is_close g) (list_any (leaves s) g) e closed (not-true (list_any (leaves s) g) parts.1));
   there = λ p q. right.there p (same ∙ q);
   part = λ source p q. subst (λ w. IsPrefix w (released es (stream_on source p))) (sym (drawops_same source g (Left s) refl)) (right.part source p (same ∙ q));
-  left = λ source p q l. left source p (same ∙ q) (or_either (list_any (leaves source) g) (source == s) (sym (list_any-snoc (leaves source) g (Left s)) ∙ l)) ∙ ap (λ w. Some (length w)) (sym (drawops_same source g (Left s) refl));
+  left = λ source p q l. left source p (same ∙ q) (or_cases (list_any (leaves source) g) (source == s) (sym (list_any-snoc (leaves source) g (Left s)) ∙ l)) ∙ ap (λ w. Some (length w)) (sym (drawops_same source g (Left s) refl));
   unopened = λ q. absurd (none-some page (sym q ∙ sym same ∙ open_at es page g right e));
 }
   where
@@ -234,7 +230,7 @@ pub record FeedsRight (c : Config) (es : List Entry) : Type 0 where
 pub given-snoc : (es : List Entry) (e : Entry) (j : ℕ) → given (es ++ e ∷ []) j ≡ given es j ++ cons_option (given_in j e.input e.effects.message) []
 given-snoc es e j = filter_map-append (λ (x : Entry). given_in j x.input x.effects.message) es (e ∷ [])
 
-taken-snoc : (es : List Entry) (e : Entry) (j : ℕ) → taken (es ++ e ∷ []) j ≡ taken es j ++ cons_option (taken_in j e.input e.effects.message) []
+pub taken-snoc : (es : List Entry) (e : Entry) (j : ℕ) → taken (es ++ e ∷ []) j ≡ taken es j ++ cons_option (taken_in j e.input e.effects.message) []
 taken-snoc es e j = filter_map-append (λ (x : Entry). taken_in j x.input x.effects.message) es (e ∷ [])
 
 if_some : (b : Bool) (o : Option PageMsg) (m : PageMsg) → (if b then o else None) ≡ Some m → (b ≡ true) × (o ≡ Some m)
