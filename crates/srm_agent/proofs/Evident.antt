@@ -20,7 +20,7 @@ use Rattle.srm_names.specs.Between.{is_between}
 use Rattle.srm_agent.specs.Heeding.{heard_entry}
 use Rattle.srm_agent_state.specs.TimerCalls.{AreNewlyMissing}
 use Rattle.srm_entries.proofs.Adding.{shows, is_missing-snoc}
-use Rattle.srm_agent.proofs.Fresh.{held_known}
+use Rattle.srm_agent_state.proofs.RequestSettings.{held_known}
 
 -- a request shows nothing of another stream
 

@@ -1,35 +1,18 @@
 -- The names that become missing by data or a repair.
-use Rattle.std.proofs.Common.{◌≡◌, ℕ, ◌≤◌, max, Bool, true, false, not, ◌&&◌, ◌||◌, List, [], ◌∷◌, ◌++◌, refl, ap, sym, ◌∙◌, subst, inl, inr, arith}
+use Rattle.std.proofs.Common.{◌≡◌, ℕ, ◌≤◌, max, Bool, true, false, not, ◌&&◌, ◌||◌, List, [], ◌∷◌, ◌++◌, refl, ap, sym, ◌∙◌, arith}
 use Rattle.std.specs.Prelude.{nat_lt, nat_le, ◌==◌, if◌then◌else◌}
-use Rattle.std.specs.List.{list_any}
 use Rattle.std.proofs.lemmas.Bool.Decides.{nat_tests}
 use Rattle.srm_names.specs.declared.stream.Stream.{Stream}
 use Rattle.srm_names.specs.declared.drawop.Drawop.{Drawop}
 use Rattle.srm_names.specs.FullName.{FullName}
 use Rattle.srm_names.specs.Names.{same_stream, same_name, AreExactly}
-use Rattle.srm_names.proofs.Lists.{Has}
-use Rattle.srm_names.proofs.Same.{same_name-is, same_stream-is}
-use Rattle.srm_store.specs.Held.{has_name}
+use Rattle.srm_names.proofs.Same.{same_stream-is}
 use Rattle.srm_entries.specs.declared.entry.Entry.{Entry}
 use Rattle.srm_entries.specs.Entries.{held, is_held, is_missing, known}
 use Rattle.srm_names.specs.Between.{is_between}
 use Rattle.srm_agent_state.specs.TimerCalls.{AreNewlyMissing}
 use Rattle.srm_entries.proofs.Adding.{shows, gains, is_missing-snoc}
-use Rattle.srm_entries.proofs.Showing.{held_is_shown, known_has}
-
-any_Has : {X : Type 0} (p : X → Bool) (xs : List X) → list_any p xs ≡ true → (x : X) × Has x xs × (p x ≡ true)
-any_Has p [] e = absurd (cc)
-any_Has {X = X} p (x ∷ xs) e = go (p x) refl e (any_Has p xs)
-  where
-    go : (b : Bool) → p x ≡ b → (b || list_any p xs) ≡ true → (list_any p xs ≡ true → (y : X) × Has y xs × (p y ≡ true)) → (y : X) × Has y (x ∷ xs) × (p y ≡ true)
-    go true q e more = (x, inl refl, q)
-    go false q e more = let (y, h, r) = more e in (y, inr h, r)
-
--- what is held is known of
-pub held_known : (past : List Entry) (n : FullName) → is_held past n ≡ true → n.number ≤ known past n.stream
-held_known past n e =
-    let (d, h, q) = any_Has (has_name n) (held past) e in
-    subst (λ (m : FullName). m.number ≤ known past m.stream) (same_name-is d.name n q) (known_has past d.name (held_is_shown past d h))
+use Rattle.srm_agent_state.proofs.RequestSettings.{held_known}
 
 -- `s` says that the name is of the drawop's stream, `h` that it was held; `n` is its number, `k` what was known, `d` the drawop's number
 fresh_law : (s h : Bool) (n k d : ℕ) → (h ≡ true → n ≤ k)

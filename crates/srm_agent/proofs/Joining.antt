@@ -20,7 +20,7 @@ use Rattle.srm_agent.specs.Growth.{is_newly_missing_by_rows}
 use Rattle.srm_names.specs.Between.{is_between}
 use Rattle.srm_agent_state.specs.TimerCalls.{AreNewlyMissing}
 use Rattle.srm_entries.proofs.Adding.{shows, gains, greatest-append, is_missing-snoc}
-use Rattle.srm_agent.proofs.Fresh.{held_known}
+use Rattle.srm_agent_state.proofs.RequestSettings.{held_known}
 
 -- streams are in order as names are
 
