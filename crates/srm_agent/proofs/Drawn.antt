@@ -28,7 +28,6 @@ use Rattle.srm_store.specs.Finals.{Settling}
 use Rattle.srm_store.specs.Fits.{StillFits}
 use Rattle.srm_store.specs.Fits as store
 use Rattle.srm_store.proofs.Pages.{length-included, each_once-firsts, is_in-firsts}
-use Rattle.srm_timers.specs.Arms.{WaitBasis}
 use Rattle.srm_bucket.specs.declared.class.Class.TheVariants.{New}
 use Rattle.srm_bucket.specs.declared.item.Item.{Item}
 use Rattle.srm_bucket.specs.Calls.{Classed, Handed}
@@ -65,6 +64,7 @@ use Rattle.srm_entries.proofs.Adding.{known-snoc, is_missing-snoc, flat_map-snoc
 use Rattle.srm_entries.proofs.Showing.{kind, shown_drawing, shown_hearing, shown_quiet, shown-snoc, held-snoc, drawn-snoc, state-snoc, held_is_shown, refused_is_not_done}
 use Rattle.srm_entries.proofs.Running.{steps_more, last_moment-snoc, shown-page-snoc}
 use Rattle.srm_agent_state.proofs.Running.{slots-one}
+use Rattle.srm_agent_state.proofs.Midway.{if_none}
 use Rattle.srm_entries.proofs.Arming.{ask_at}
 use Rattle.srm_entries.proofs.Marking.{bucket_calls-snoc, entries-snoc}
 use Rattle.srm_agent.proofs.Still.{same_progress}
@@ -203,16 +203,12 @@ module _ (me moment : ℕ) (page : Page) (body : List ℕ) (stamp : ℕ) (after 
   drawn_arms : (c : Config) → ArmsRight c past e
   drawn_arms c = record { are = record { in_order = refl; exact = λ n. sym (none n (is_held past n) refl) }; waits = tt }
     where
-      nothing : (b : Bool) (o : Option WaitBasis) → o ≡ None → (if b then o else None) ≡ None
-      nothing true o e = e
-      nothing false o e = refl
-
       exponent : (n : FullName) (b : Bool) → is_missing past n ≡ b → ask_exponent past e n ≡ None
       exponent n true m = rw m refl
       exponent n false m = rw (m, drawn_missing n ∙ m) refl
 
       none : (n : FullName) (b : Bool) → is_held past n ≡ b → basis_of c.me past e n ≡ None
-      none n true q = ap (λ (b : Bool). if b then fix_basis_of c.me past e n else ask_basis_of c.me past e n) q ∙ nothing (is_held past n && not (is_some (fix_running past n)) && not (held_off c.me past n moment)) None refl
+      none n true q = ap (λ (b : Bool). if b then fix_basis_of c.me past e n else ask_basis_of c.me past e n) q ∙ if_none (is_held past n && not (is_some (fix_running past n)) && not (held_off c.me past n moment)) None refl
       none n false q = ap (λ (b : Bool). if b then fix_basis_of c.me past e n else ask_basis_of c.me past e n) q ∙ ap (option_map (ask_at c.me (past ++ e ∷ []) n)) (exponent n (is_missing past n) refl)
 
   drawn_timers : TimersRight past e

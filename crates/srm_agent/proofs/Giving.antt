@@ -16,6 +16,7 @@ use Rattle.srm_entries.specs.Configs.{Config}
 use Rattle.srm_entries.specs.Entries.{slots}
 use Rattle.srm_entries.specs.Giving.{given, given_in, GiveRight}
 use Rattle.srm_agent_state.specs.Progress.{ProgressContent, ProgressFits}
+use Rattle.srm_agent_state.proofs.Midway.{if_none}
 use Rattle.srm_agent.specs.Contents.{Content}
 use Rattle.srm_agent.specs.Fits.{Fits, EachProgressFits}
 use Rattle.srm_entries.specs.Still.{still_entry}
@@ -41,11 +42,7 @@ may_give : {W : Type 0} (c : Config) (made : ℕ) (past : List Entry) (a : Conte
 may_give c made past a j m h right = record { unheard = refl; undrawn = refl; idle = refl; moment_right = h.last; verdict_right = refl; message_right = right; state_right = h.state }
 
 not_given : (j slot : ℕ) → given_in j (Gave slot) None ≡ None
-not_given j slot = go (j == slot) None refl
-  where
-    go : (b : Bool) (o : Option PageMsg) → o ≡ None → (if b then o else None) ≡ None
-    go true o e = e
-    go false o e = refl
+not_given j slot = if_none (j == slot) None refl
 
 pub gives_nothing : {W : Type 0} (next_word : W → ℕ × W) (a : Content W) (slot : ℕ) (e : Entry) → e ≡ still_entry a.config.me a.last (Gave slot) Done None a.state
     → ((c : Config) (made : ℕ) (past : List Entry) → Fits c made past a → GiveRight c past slot None) → Enters next_word None (Gave slot) a a e

@@ -13,7 +13,7 @@ use Rattle.srm_names.proofs.Snoc.{steps-snoc, last_of-snoc, first_of-snoc, or_el
 use Rattle.srm_timers.specs.declared.arm.Arm.{Arm}
 use Rattle.srm_timers.specs.declared.arm.ArmKind.{ArmKind}
 use Rattle.srm_timers.specs.declared.arm.ArmKind.TheVariants.{Ask, Fix}
-use Rattle.srm_timers.specs.Arms.{WaitBasis, wait_basis, ran_out, arm_of}
+use Rattle.srm_timers.specs.Arms.{wait_basis, ran_out, arm_of}
 use Rattle.srm_bucket.specs.Content.{Content as BucketContent}
 use Rattle.srm_entries.specs.declared.entry.Entry.{Entry}
 use Rattle.srm_outbox.specs.declared.out.Outgoing.{Outgoing}
@@ -25,6 +25,7 @@ use Rattle.srm_entries.specs.Verdicts.{settlings, settling_of}
 use Rattle.srm_entries.specs.Sessions.{session_due, interval_after, ending, EndsWith, SessionRight}
 use Rattle.srm_entries.specs.Bucket.{Going, GoesAsCharged, entries_of, bucket_calls, calls_by}
 use Rattle.srm_agent_state.specs.TimersKept.{TimersContent, TimersFit}
+use Rattle.srm_agent_state.proofs.Midway.{if_none}
 use Rattle.srm_agent.specs.Fits.{BucketFits}
 use Rattle.srm_entries.proofs.Adding.{flat_map-snoc, last_ask-snoc, fix_running-snoc, held_off-snoc}
 use Rattle.srm_entries.proofs.Showing.{held-snoc, shown-snoc, shown_quiet, drawn-snoc}
@@ -152,12 +153,8 @@ same_due c made past e none =
 no_setting : (me : ℕ) (past : List Entry) (e : Entry) (n : FullName) → Quiet e → basis_of me past e n ≡ None
 no_setting me past e n q = go (is_held past n) refl
   where
-    nothing : (b : Bool) (o : Option WaitBasis) → o ≡ None → (if b then o else None) ≡ None
-    nothing true o e = e
-    nothing false o e = refl
-
     fix : fix_basis_of me past e n ≡ None
-    fix = nothing (is_held past n && not (is_some (fix_running past n)) && not (held_off me past n e.moment)) _ (rw (not_asked n e q) refl)
+    fix = if_none (is_held past n && not (is_some (fix_running past n)) && not (held_off me past n e.moment)) _ (rw (not_asked n e q) refl)
 
     exponent : (b : Bool) → is_missing past n ≡ b → ask_exponent past e n ≡ None
     exponent true m = rw (m, not_asked n e q, q.asks) refl
