@@ -8,7 +8,7 @@ use Rattle.srm_names.specs.FullName.{FullName}
 use Rattle.srm_names.specs.Names.{same_stream, same_name, AreExactly}
 use Rattle.srm_names.proofs.Same.{same_stream-is}
 use Rattle.srm_entries.specs.declared.entry.Entry.{Entry}
-use Rattle.srm_entries.specs.Entries.{held, is_held, is_missing, known}
+use Rattle.srm_entries.specs.Entries.{is_held, is_missing, known}
 use Rattle.srm_names.specs.Between.{is_between}
 use Rattle.srm_agent_state.specs.TimerCalls.{AreNewlyMissing}
 use Rattle.srm_entries.proofs.Adding.{shows, gains, is_missing-snoc}

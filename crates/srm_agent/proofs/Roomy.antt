@@ -32,14 +32,15 @@ use Rattle.srm_agent.specs.Heeding.{IsJudgedBy, MayAccept}
 use Rattle.srm_agent.specs.Noting.{Enters, IsAllowed, Stays}
 use Rattle.srm_agent.proofs.Drawn.{slots_suffice}
 use Rattle.srm_agent.proofs.Ignoring.{ignored_datagram, ignored_judged, ignored_entry}
-use Rattle.srm_agent.proofs.Taken.{stays, same_timers}
+use Rattle.srm_agent_state.proofs.Midway.{all_stays}
+use Rattle.srm_agent.proofs.Taken.{stays}
 
 -- an agent with this store
 abbrev pub with_store : {W : Type 0} → Content W → StoreContent → Content W
 with_store a s = record a { store = s }
 
 pub stays_roomy : {W : Type 0} (a : Content W) (s : StoreContent) → StillFits a.store s → Stays a (with_store a s)
-stays_roomy a s kept = stays a s a.timers a.words kept (same_timers a.timers) refl
+stays_roomy a s kept = stays a s a.timers a.words kept (all_stays a.timers) refl
 
 pub accepted_roomy : {W : Type 0} (g : Datagram) (a : Content W) (s : StoreContent) → StillFits s a.store → IsAllowed (Heard g) a → IsAllowed (Heard g) (with_store a s)
 accepted_roomy g a s before taken = record { each = λ c made past h. taken.each c made past ((stays_roomy (with_store a s) a.store before).fits c made past h) }

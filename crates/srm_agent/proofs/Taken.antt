@@ -123,9 +123,6 @@ stays a s t w kept timers words = record {
   words = words;
 }
 
-pub same_timers : (t : TimersContent) → TimersStay t t
-same_timers t = record { each = λ c past h. h }
-
 pub at_err : {A E : Type 0} {P : Type 0} (r : Result A E) → P → OnErr r P
 at_err (Ok x) p = tt
 at_err (Err e) p = p
