@@ -6,7 +6,7 @@ use Rattle.std.proofs.lemmas.Nat.{mod_below}
 use Rattle.std.proofs.Math.Nat.{mul-le-mul_left, mul-le-mul_right}
 use Rattle.srm_names.specs.FullName.{FullName}
 use Rattle.srm_names.specs.Names.{same_name, name_below, ascending, among}
-use Rattle.srm_names.proofs.Same.{same_name-is}
+use Rattle.srm_names.proofs.Same.{same_name-is, same_name-itself}
 use Rattle.srm_names.proofs.Orders.{stands_once}
 use Rattle.srm_timers.specs.declared.arm.Arm.{Arm}
 use Rattle.srm_timers.specs.declared.arm.ArmKind.{ArmKind}
@@ -14,7 +14,7 @@ use Rattle.srm_timers.specs.declared.arm.ArmKind.TheVariants.{Ask, Fix}
 use Rattle.srm_timers.specs.Arms as timers
 use Rattle.srm_timers.specs.Arms.{WaitBasis, wait_basis, same_kind, arm_names, AreChosen, arm_of}
 use Rattle.srm_timers.specs.AskCalls as asks
-use Rattle.srm_timers.proofs.Arming.{same_itself, ascending_tail}
+use Rattle.srm_timers.proofs.Arming.{ascending_tail}
 use Rattle.srm_entries.specs.Configs.{Config}
 use Rattle.srm_entries.specs.Timers.{low_of, high_of}
 use Rattle.srm_entries.proofs.Arming.{kind_and_name}
@@ -50,7 +50,7 @@ find_kind k n (a ∷ arms) rising = go (same_kind k a.kind) refl (same_name n a.
 pub all_arms : (P : Arm → Type 0) (arms : List Arm) → ascending name_below (arm_names arms) ≡ true → ((n : FullName) (a : Arm) → arm_of n arms ≡ Some a → P a) → AllByRecursion P arms
 all_arms P [] rising each = tt
 all_arms P (a ∷ arms) rising each = (
-  each a.name a (ap (λ b. cond b (Some a) (arm_of a.name arms)) (same_itself a.name)),
+  each a.name a (ap (λ b. cond b (Some a) (arm_of a.name arms)) (same_name-itself a.name)),
   all_arms P arms (ascending_tail a.name (arm_names arms) rising) (λ n x found. each n x (later n x (same_name n a.name) refl found)),
 )
   where
