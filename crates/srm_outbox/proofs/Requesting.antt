@@ -1,5 +1,5 @@
 -- Requests for several names: the names that one request covers, and the requests one after the other.
-use Rattle.std.proofs.Common.{◌≡◌, ℕ, ◌+◌, ◌-◌, ◌*◌, ◌%◌, ◌^◌, ◌<◌, ◌≤◌, Bool, true, false, ◌&&◌, ◌||◌, zero, suc, List, [], ◌∷◌, ◌++◌, length, get_or, drop, map, refl, ap, sym, ◌∙◌, subst, inl, inr, arith, append_assoc}
+use Rattle.std.proofs.Common.{◌≡◌, ℕ, ◌+◌, ◌-◌, ◌*◌, ◌%◌, ◌^◌, ◌<◌, ◌≤◌, Bool, true, false, ◌&&◌, ◌||◌, suc, List, [], ◌∷◌, ◌++◌, length, get_or, drop, map, refl, ap, sym, ◌∙◌, subst, inl, inr, arith, append_assoc}
 use Rattle.std.specs.Prelude.{◌⊎◌, Option, Some, cond, filter, nat_lt, nat_le, if◌then◌else◌}
 use Rattle.std.specs.List.{AllByRecursion}
 use Rattle.std.proofs.lemmas.Bool.{and_parts, and_from, false_from_ne_true, lt-ltb, ltb-true, le-leb, leb-true}
@@ -14,6 +14,7 @@ use Rattle.srm_names.specs.FullName.{FullName}
 use Rattle.srm_names.specs.Names.{same_stream, stream_below, name_below, ascending}
 use Rattle.srm_names.proofs.Orders.{name_order}
 use Rattle.srm_names.proofs.Same.{same_stream-is, same_stream-itself}
+use Rattle.srm_names.proofs.Rising.{ascending_drop}
 use Rattle.srm_codec.specs.declared.datagram.Datagram.{Datagram}
 use Rattle.srm_codec.specs.declared.datagram.Datagram.TheVariants.{Request}
 use Rattle.srm_codec.specs.Spelling.{IsSpellable, is_name, sender_of, is_session}
@@ -156,15 +157,9 @@ request_spelled me mask first member name short within =
 
 -- the names in order, from one on
 
-rising_drop : (i : ℕ) (names : List FullName) → ascending name_below names ≡ true → ascending name_below (drop i names) ≡ true
-rising_drop zero names asc = asc
-rising_drop (suc i) [] asc = asc
-rising_drop (suc i) (n ∷ []) asc = rising_drop i [] refl
-rising_drop (suc i) (n ∷ m ∷ names) asc = rising_drop i (m ∷ names) (and_parts (name_below n m) (ascending name_below (m ∷ names)) asc).1
-
 pub rising_from : (i : ℕ) (n : FullName) (names : List FullName) → i < length names → n ≡ get_or names i n → ascending name_below names ≡ true → ascending name_below (n ∷ drop (i + 1) names) ≡ true
 rising_from i n names lt at asc =
-    subst (λ ns. ascending name_below ns ≡ true) (drop_more names i n lt ∙ ap (λ m. m ∷ drop (i + 1) names) (sym at)) (rising_drop i names asc)
+    subst (λ ns. ascending name_below ns ≡ true) (drop_more names i n lt ∙ ap (λ m. m ∷ drop (i + 1) names) (sym at)) (ascending_drop name_below i names asc)
 
 pub left_at : (i : ℕ) (n : FullName) (names : List FullName) → i < length names → n ≡ get_or names i n → drop i names ≡ n ∷ drop (i + 1) names
 left_at i n names lt at = drop_more names i n lt ∙ ap (λ m. m ∷ drop (i + 1) names) (sym at)
