@@ -5,7 +5,8 @@ use Rattle.std.specs.List.{list_any, AllByRecursion}
 use Rattle.srm_names.specs.FullName.{FullName}
 use Rattle.srm_names.specs.Names.{same_name, name_below, ascending}
 use Rattle.srm_names.proofs.Same.{same_name-is}
-use Rattle.srm_names.proofs.Orders.{and_left, and_right, stands_once}
+use Rattle.srm_names.proofs.Orders.{and_left, stands_once}
+use Rattle.srm_names.proofs.Rising.{ascending_tail}
 use Rattle.srm_entries.specs.Configs.{Config}
 use Rattle.srm_entries.specs.declared.entry.Entry.{Entry}
 use Rattle.srm_timers.specs.declared.arm.Arm.{Arm}
@@ -151,17 +152,13 @@ among_names n q x (y ∷ ys) e = go (q y) (same_name n y.name) (find (λ z. q z 
     go true false o f k = f k
     go false false o f k = f k
 
-ascending_rest : (m : FullName) (ms : List FullName) → ascending name_below (m ∷ ms) ≡ true → ascending name_below ms ≡ true
-ascending_rest m [] e = refl
-ascending_rest m (k ∷ ks) e = and_right (name_below m k) (ascending name_below (k ∷ ks)) e
-
 only_arm : (n : FullName) (q : Arm → Bool) (arms : List Arm) (x : Arm) → ascending name_below (map (λ (z : Arm). z.name) arms) ≡ true
     → find (λ z. q z && same_name n z.name) arms ≡ Some x → arm_of n arms ≡ Some x
 only_arm n q [] x o e = absurd (cc)
 only_arm n q (y ∷ ys) x o e =
     alone_at n q x y ys (same_name n y.name) (q y) refl refl
     (λ any same. stands_once n (map (λ (z : Arm). z.name) ys) (subst (λ m. ascending name_below (m ∷ map (λ (z : Arm). z.name) ys) ≡ true) (sym (same_name-is n y.name same)) o) any)
-    (only_arm n q ys x (ascending_rest y.name (map (λ (z : Arm). z.name) ys) o)) (among_names n q x ys) e
+    (only_arm n q ys x (ascending_tail name_below y.name (map (λ (z : Arm). z.name) ys) o)) (among_names n q x ys) e
 
 -- the arm of a kind and a name in an entry is the one that the law sets
 pub kind_set : (kind : ArmKind) (n : FullName) (c : Config) (before : List Entry) (e : Entry) (a : Armed) (s : WaitBasis) → ArmsRight c before e

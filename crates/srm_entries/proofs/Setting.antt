@@ -8,13 +8,13 @@ use Rattle.srm_names.specs.FullName.{FullName}
 use Rattle.srm_names.specs.Names.{same_name, name_below, ascending, among}
 use Rattle.srm_names.proofs.Same.{same_name-is, same_name-itself}
 use Rattle.srm_names.proofs.Orders.{stands_once}
+use Rattle.srm_names.proofs.Rising.{ascending_tail}
 use Rattle.srm_timers.specs.declared.arm.Arm.{Arm}
 use Rattle.srm_timers.specs.declared.arm.ArmKind.{ArmKind}
 use Rattle.srm_timers.specs.declared.arm.ArmKind.TheVariants.{Ask, Fix}
 use Rattle.srm_timers.specs.Arms as timers
 use Rattle.srm_timers.specs.Arms.{WaitBasis, wait_basis, same_kind, arm_names, AreChosen, arm_of}
 use Rattle.srm_timers.specs.AskCalls as asks
-use Rattle.srm_timers.proofs.Arming.{ascending_tail}
 use Rattle.srm_entries.specs.Configs.{Config}
 use Rattle.srm_entries.specs.Timers.{low_of, high_of}
 use Rattle.srm_entries.proofs.Arming.{kind_and_name}
@@ -36,7 +36,7 @@ none_named k n (a ∷ arms) h = go (same_kind k a.kind) (same_name n a.name) h (
 -- where names rise, the arm of a kind and a name is the one of the name, if it is of this kind
 pub find_kind : (k : ArmKind) (n : FullName) (arms : List Arm) → ascending name_below (arm_names arms) ≡ true → find (kind_and_name k n) arms ≡ of_kind k (arm_of n arms)
 find_kind k n [] rising = refl
-find_kind k n (a ∷ arms) rising = go (same_kind k a.kind) refl (same_name n a.name) refl (among (arm_names arms) n) refl (find_kind k n arms (ascending_tail a.name (arm_names arms) rising))
+find_kind k n (a ∷ arms) rising = go (same_kind k a.kind) refl (same_name n a.name) refl (among (arm_names arms) n) refl (find_kind k n arms (ascending_tail name_below a.name (arm_names arms) rising))
   where
     go : (t : Bool) → same_kind k a.kind ≡ t → (b : Bool) → same_name n a.name ≡ b → (there : Bool) → among (arm_names arms) n ≡ there → find (kind_and_name k n) arms ≡ of_kind k (arm_of n arms)
         → cond (t && b) (Some a) (find (kind_and_name k n) arms) ≡ of_kind k (cond b (Some a) (arm_of n arms))
@@ -51,7 +51,7 @@ pub all_arms : (P : Arm → Type 0) (arms : List Arm) → ascending name_below (
 all_arms P [] rising each = tt
 all_arms P (a ∷ arms) rising each = (
   each a.name a (ap (λ b. cond b (Some a) (arm_of a.name arms)) (same_name-itself a.name)),
-  all_arms P arms (ascending_tail a.name (arm_names arms) rising) (λ n x found. each n x (later n x (same_name n a.name) refl found)),
+  all_arms P arms (ascending_tail name_below a.name (arm_names arms) rising) (λ n x found. each n x (later n x (same_name n a.name) refl found)),
 )
   where
     named : (n : FullName) (x : Arm) (xs : List Arm) → arm_of n xs ≡ Some x → among (arm_names xs) n ≡ true
