@@ -10,6 +10,7 @@ use Rattle.srm_names.specs.Histories.{or_else, first_of}
 use Rattle.srm_names.specs.Names.{same_name, name_below, ascending, among}
 use Rattle.srm_names.proofs.Same.{same_name-is, same_name-itself}
 use Rattle.srm_names.proofs.Snoc.{or_else-none}
+use Rattle.srm_names.proofs.Rising.{ascending_joined, ascending_take}
 use Rattle.srm_store.specs.Held as stores
 use Rattle.srm_store.specs.Finals.{Settling}
 use Rattle.srm_store.specs.Fits as store
@@ -36,7 +37,7 @@ use Rattle.srm_agent_state.specs.TimerCalls.{IsAnswered}
 use Rattle.srm_entries.proofs.Setting.{of_kind}
 use Rattle.srm_agent_state.proofs.Midway.{Midway}
 use Rattle.srm_agent_state.proofs.Missing.{no_name}
-use Rattle.srm_agent_state.proofs.RisingNames.{rises_join, take_rises, front_below, last_is_new}
+use Rattle.srm_agent_state.proofs.RisingNames.{front_below, last_is_new}
 use Rattle.srm_agent_state.proofs.JoinedArms.{arm_of-append, arm_named, none_of, joined}
 
 -- The arm that a request makes for a name that it asks for, by what the entries before say.
@@ -225,7 +226,7 @@ one_answered c past from dist now done arms t t' held name arm a is ans rising =
     hold_offs = λ n u. off_more held name from now arm a.mid.fix_calls n u ∙ a.mid.hold_offs n u;
   };
   rising = ap (ascending name_below) (map-append (λ (x : Arm). x.name) arms (option_to_list arm))
-      ∙ rises_join (arm_names arms) (arm_names (option_to_list arm)) a.rising (one_rises arm)
+      ∙ ascending_joined (arm_names arms) (arm_names (option_to_list arm)) a.rising (one_rises arm)
       (λ x y i j. subst (λ k. name_below x k ≡ true) (sym (named_so arm plan y j)) (front_below done name x rising (a.inside x i)));
   inside = λ n at. list_any-append (same_name n) done (name ∷ [])
       ∙ within n (among (arm_names arms) n) refl (among (arm_names (option_to_list arm)) n) refl
@@ -281,7 +282,7 @@ one_more_answered s from dist now asked i arms arms' old t t' holds name arm lt 
       let front : take (i + 1) asked ≡ take i asked ++ name ∷ [] = take_more asked i name lt ∙ ap (λ n. take i asked ++ n ∷ []) (sym is) in
       subst (λ ns. AnsweredIn c past from dist now ns (arms ++ option_to_list arm) t') (sym front)
       (one_answered c past from dist now (take i asked) arms t t' holds name arm (h.each c past fits f rises) (held_is (held past) (evidence_in past) (settlings past) f) ans
-      (ap (ascending name_below) (sym front) ∙ take_rises (i + 1) asked rises));
+      (ap (ascending name_below) (sym front) ∙ ascending_take name_below (i + 1) asked rises));
 })
 
 pub answered_unheld : (is_held : Bool) (name : FullName) (from : ℕ) (dist : List ℕ) (now : ℕ) (arm : Option Arm) (old noted new : TimersContent) → is_held ≡ false

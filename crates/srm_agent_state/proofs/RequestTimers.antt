@@ -8,6 +8,7 @@ use Rattle.srm_names.specs.FullName.{FullName}
 use Rattle.srm_names.specs.Histories.{or_else}
 use Rattle.srm_names.specs.Names.{name_below, ascending, among, named}
 use Rattle.srm_names.proofs.Same.{same_stream-is}
+use Rattle.srm_names.proofs.Rising.{ascending_joined}
 use Rattle.srm_codec.specs.declared.datagram.Datagram.{Datagram}
 use Rattle.srm_codec.specs.Spelling.{is_name}
 use Rattle.srm_store.specs.Stores.{StoreContent}
@@ -29,7 +30,7 @@ use Rattle.srm_entries.proofs.Adding.{gains}
 use Rattle.srm_entries.proofs.Setting.{of_kind, asks_of, fixes_of, is_armed, chosen_waits}
 use Rattle.srm_agent_state.proofs.Midway.{if_none, midway_fits, armed_as}
 use Rattle.srm_agent_state.proofs.Missing.{no_name, others_then, fresh_then, fresh_above, fresh_shown, fresh_near, stays_missing, settings_fit}
-use Rattle.srm_agent_state.proofs.RisingNames.{rises_join, among_all, names_no_more}
+use Rattle.srm_agent_state.proofs.RisingNames.{among_all, names_no_more}
 use Rattle.srm_agent_state.proofs.AskedNames.{below_in_stream}
 use Rattle.srm_agent_state.proofs.JoinedArms.{arm_of-append, arm_named, joined, setting_or}
 use Rattle.srm_agent_state.proofs.OneAnswered.{wanted, asked_if, AnsweredIn, AnsweredSoFar}
@@ -134,7 +135,7 @@ request_adds next_word start to c past e g from asked fresh dist now answers fou
 
     rising : ascending name_below (arm_names (answers ++ found)) ≡ true
     rising = ap (ascending name_below) (map-append (λ (x : Arm). x.name) answers found)
-        ∙ rises_join (arm_names answers) (arm_names found) a.rising first.are.in_order (λ x y i j. in_front x y i (sym (found_is y) ∙ arm_named y found ∙ j))
+        ∙ ascending_joined (arm_names answers) (arm_names found) a.rising first.are.in_order (λ x y i j. in_front x y i (sym (found_is y) ∙ arm_named y found ∙ j))
       where
         in_front : (x y : FullName) → among (arm_names answers) x ≡ true → among fresh y ≡ true → name_below x y ≡ true
         in_front x y i j =

@@ -1,39 +1,20 @@
 -- Names in order: fronts and joins of lists that rise, and how many they are.
-use Rattle.std.proofs.Common.{◌≡◌, ℕ, ◌≤◌, Bool, true, false, ◌||◌, List, [], ◌∷◌, ◌++◌, take, drop, length, refl, ap, sym, ◌∙◌, subst, arith}
+use Rattle.std.proofs.Common.{◌≡◌, ℕ, ◌≤◌, Bool, true, false, ◌||◌, List, [], ◌∷◌, ◌++◌, length, refl, sym, ◌∙◌, subst, arith}
 use Rattle.std.specs.List.{AllByRecursion}
-use Rattle.std.proofs.lemmas.Bool.{and_from}
 use Rattle.srm_names.specs.FullName.{FullName}
 use Rattle.srm_names.specs.Names.{same_name, name_below, ascending, among}
-use Rattle.srm_names.proofs.Same.{same_name-is, same_name-itself}
-use Rattle.srm_names.proofs.Orders.{and_left, and_right, name_order}
-use Rattle.srm_deadlines.proofs.Order.{take_drop, first_below, ascending_tail}
+use Rattle.srm_names.proofs.Same.{same_name-is}
+use Rattle.srm_names.proofs.Orders.{and_left, and_right, below_later, name_order}
+use Rattle.srm_names.proofs.Rising.{first_among, ascending_tail}
 
 -- names in order
 
-first_among : (x : FullName) (xs : List FullName) → among (x ∷ xs) x ≡ true
-first_among x xs = ap (λ b. b || among xs x) (same_name-itself x)
-
-pub later_among : (m x : FullName) (xs : List FullName) → among xs m ≡ true → among (x ∷ xs) m ≡ true
+later_among : (m x : FullName) (xs : List FullName) → among xs m ≡ true → among (x ∷ xs) m ≡ true
 later_among m x xs e = go (same_name m x)
   where
     go : (b : Bool) → (b || among xs m) ≡ true
     go true = refl
     go false = e
-
-pub rises_join : (xs ys : List FullName) → ascending name_below xs ≡ true → ascending name_below ys ≡ true → ((x y : FullName) → among xs x ≡ true → among ys y ≡ true → name_below x y ≡ true)
-    → ascending name_below (xs ++ ys) ≡ true
-rises_join [] ys p q h = q
-rises_join (x ∷ []) [] p q h = refl
-rises_join (x ∷ []) (y ∷ ys) p q h = and_from _ _ (h x y (first_among x []) (first_among y ys)) q
-rises_join (x ∷ z ∷ xs) ys p q h = and_from _ _ (and_left (name_below x z) (ascending name_below (z ∷ xs)) p) (rises_join (z ∷ xs) ys (and_right (name_below x z) (ascending name_below (z ∷ xs)) p) q (λ a b i j. h a b (later_among a x (z ∷ xs) i) j))
-
-rises_front : (xs ys : List FullName) → ascending name_below (xs ++ ys) ≡ true → ascending name_below xs ≡ true
-rises_front [] ys p = refl
-rises_front (x ∷ []) ys p = refl
-rises_front (x ∷ z ∷ xs) ys p = and_from _ _ (and_left (name_below x z) (ascending name_below (z ∷ xs ++ ys)) p) (rises_front (z ∷ xs) ys (and_right (name_below x z) (ascending name_below (z ∷ xs ++ ys)) p))
-
-pub take_rises : (i : ℕ) (xs : List FullName) → ascending name_below xs ≡ true → ascending name_below (take i xs) ≡ true
-take_rises i xs p = rises_front (take i xs) (drop i xs) (ap (ascending name_below) (take_drop i xs) ∙ p)
 
 pub front_below : (xs : List FullName) (y m : FullName) → ascending name_below (xs ++ y ∷ []) ≡ true → among xs m ≡ true → name_below m y ≡ true
 front_below [] y m p at = absurd (cc)
@@ -72,11 +53,11 @@ names_no_more [] [] p q h = omega arith
 names_no_more [] (x ∷ xs) p q h = let wrong : among [] x ≡ true = h x (first_among x xs) in absurd (cc)
 names_no_more (y ∷ ys) [] p q h = omega arith
 names_no_more (y ∷ ys) (x ∷ xs) p q h =
-    go (same_name x y) refl (names_no_more ys xs (ascending_tail y ys p) (ascending_tail x xs q)) (names_no_more ys (x ∷ xs) (ascending_tail y ys p) q)
+    go (same_name x y) refl (names_no_more ys xs (ascending_tail name_below y ys p) (ascending_tail name_below x xs q)) (names_no_more ys (x ∷ xs) (ascending_tail name_below y ys p) q)
   where
     apart : (n : FullName) → among xs n ≡ true → same_name n x ≡ true → ⊥
     apart n at e =
-        let below : name_below x n ≡ true = first_below x xs q n at in
+        let below : name_below x n ≡ true = below_later x n xs q at in
         let itself : name_below x x ≡ true = subst (λ m. name_below x m ≡ true) (same_name-is n x e) below in
         let wrong : true ≡ false = sym itself ∙ name_order.irreflexive x in
         absurd (cc)
@@ -93,7 +74,7 @@ names_no_more (y ∷ ys) (x ∷ xs) p q h =
         omega (arith, k)
     go false e both one =
         let later : among ys x ≡ true = rest_of x (same_name x y) refl (λ s. let wrong : true ≡ false = sym s ∙ e in absurd (cc)) (h x (first_among x xs)) in
-        let below : name_below y x ≡ true = first_below y ys p x later in
+        let below : name_below y x ≡ true = below_later y x ys p later in
         let k : length (x ∷ xs) ≤ length ys = one (λ n at. rest_of n (same_name n y) refl (λ s. behind n at (same_name-is n y s) below) (h n at)) in
         omega (arith, k)
       where
@@ -106,7 +87,7 @@ names_no_more (y ∷ ys) (x ∷ xs) p q h =
                 let wrong : true ≡ false = sym itself ∙ name_order.irreflexive y in
                 absurd (cc)
             either false s a =
-                let up : name_below x y ≡ true = subst (λ m. name_below x m ≡ true) is (first_below x xs q n a) in
+                let up : name_below x y ≡ true = subst (λ m. name_below x m ≡ true) is (below_later x n xs q a) in
                 let itself : name_below y y ≡ true = name_order.transitive y x y below up in
                 let wrong : true ≡ false = sym itself ∙ name_order.irreflexive y in
                 absurd (cc)
