@@ -2,38 +2,26 @@
 use Rattle.std.proofs.Common.{◌≡◌, ℕ, zero, suc, ◌+◌, ◌<◌, ◌≤◌, max, Bool, true, false, not, ◌&&◌, ◌||◌, List, [], ◌∷◌, ◌++◌, length, take, get_or, refl, ap, sym, ◌∙◌, subst, arith}
 use Rattle.std.specs.Prelude.{nat_lt, nat_le, if◌then◌else◌}
 use Rattle.std.specs.List.{list_any, flat_map}
-use Rattle.std.proofs.lemmas.Bool.{and_parts, or_left, or_right}
+use Rattle.std.proofs.lemmas.Bool.{and_parts, or_left}
 use Rattle.std.proofs.lemmas.Bool.Decides.{nat_tests}
 use Rattle.std.proofs.lemmas.List.{take_more}
 use Rattle.std.proofs.lemmas.List.Folds.{list_any-append}
 use Rattle.srm_names.specs.declared.stream.Stream.{Stream}
 use Rattle.srm_names.specs.FullName.{FullName}
 use Rattle.srm_names.specs.Histories.{greatest}
-use Rattle.srm_names.specs.Names.{same_stream, same_name, stream_below, name_below, ascending, among, named, AreExactly}
-use Rattle.srm_names.proofs.Orders.{name_order}
-use Rattle.srm_names.proofs.Same.{same_stream-is, same_name-itself}
+use Rattle.srm_names.specs.Names.{same_stream, same_name, stream_below, name_below, ascending, among, AreExactly}
+use Rattle.srm_names.proofs.Orders.{stream_below_trans}
+use Rattle.srm_names.proofs.Same.{same_stream-is}
 use Rattle.srm_codec.specs.Spelling.{row_below}
 use Rattle.srm_store.specs.Held.{greatest_in, number_in}
 use Rattle.srm_entries.specs.declared.entry.Entry.{Entry}
 use Rattle.srm_entries.specs.Entries.{is_held, is_missing, known}
 use Rattle.srm_agent.specs.Growth.{is_newly_missing_by_rows}
 use Rattle.srm_names.specs.Between.{is_between}
+use Rattle.srm_names.proofs.Rising.{ascending_joined, ascending_tail}
 use Rattle.srm_agent_state.specs.TimerCalls.{AreNewlyMissing}
 use Rattle.srm_entries.proofs.Adding.{shows, gains, greatest-append, is_missing-snoc}
 use Rattle.srm_agent_state.proofs.RequestSettings.{held_known}
-
--- streams are in order as names are
-
-or_false : (a b : Bool) → (a || (b && false)) ≡ a
-or_false true b = refl
-or_false false true = refl
-or_false false false = refl
-
-at_one : (s t : Stream) → name_below (named s 1) (named t 1) ≡ stream_below s t
-at_one s t = or_false (stream_below s t) (same_stream s t)
-
-stream_trans : (s t u : Stream) → stream_below s t ≡ true → stream_below t u ≡ true → stream_below s u ≡ true
-stream_trans s t u a b = sym (at_one s u) ∙ name_order.transitive (named s 1) (named t 1) (named u 1) (at_one s t ∙ a) (at_one t u ∙ b)
 
 -- in rows that rise each is below those behind it
 head_below : (x : FullName) (rows : List FullName) (i : ℕ) (r : FullName) → ascending row_below (x ∷ rows) ≡ true → i < length rows → r ≡ get_or rows i r → row_below x r ≡ true
@@ -41,35 +29,19 @@ head_below x [] i r asc l is = absurd (omega (arith, l))
 head_below x (y ∷ rows) zero r asc l is = subst (λ n. row_below x n ≡ true) (sym is) (and_parts (row_below x y) (ascending row_below (y ∷ rows)) asc).0
 head_below x (y ∷ rows) (suc i) r asc l is =
     let p = and_parts (row_below x y) (ascending row_below (y ∷ rows)) asc in
-    stream_trans x.stream y.stream r.stream p.0 (head_below y rows i r p.1 (omega (arith, l)) is)
-
-tail_rises : (x : FullName) (rows : List FullName) → ascending row_below (x ∷ rows) ≡ true → ascending row_below rows ≡ true
-tail_rises x [] asc = refl
-tail_rises x (y ∷ rows) asc = (and_parts (row_below x y) (ascending row_below (y ∷ rows)) asc).1
+    stream_below_trans x.stream y.stream r.stream p.0 (head_below y rows i r p.1 (omega (arith, l)) is)
 
 -- a name of the stream of a row before is below this row
 pub before_row : (rows : List FullName) (i : ℕ) (r n : FullName) → ascending row_below rows ≡ true → i < length rows → r ≡ get_or rows i r
     → list_any (λ (x : FullName). same_stream n.stream x.stream) (take i rows) ≡ true → stream_below n.stream r.stream ≡ true
 before_row [] i r n asc l is h = absurd (omega (arith, l))
 before_row (x ∷ rows) zero r n asc l is h = absurd (cc)
-before_row (x ∷ rows) (suc i) r n asc l is h = go (same_stream n.stream x.stream) refl h (before_row rows i r n (tail_rises x rows asc) (omega (arith, l)) is)
+before_row (x ∷ rows) (suc i) r n asc l is h = go (same_stream n.stream x.stream) refl h (before_row rows i r n (ascending_tail row_below x rows asc) (omega (arith, l)) is)
   where
     go : (b : Bool) → same_stream n.stream x.stream ≡ b → (b || list_any (λ (y : FullName). same_stream n.stream y.stream) (take i rows)) ≡ true
         → (list_any (λ (y : FullName). same_stream n.stream y.stream) (take i rows) ≡ true → stream_below n.stream r.stream ≡ true) → stream_below n.stream r.stream ≡ true
     go true e h rest = subst (λ s. stream_below s r.stream ≡ true) (sym (same_stream-is n.stream x.stream e)) (head_below x rows i r asc (omega (arith, l)) is)
     go false e h rest = rest h
-
--- two lists that rise, where each name of one is below each of the other
-pub ascending_joined : (xs ys : List FullName) → ascending name_below xs ≡ true → ascending name_below ys ≡ true → ((m n : FullName) → among xs m ≡ true → among ys n ≡ true → name_below m n ≡ true) → ascending name_below (xs ++ ys) ≡ true
-ascending_joined [] ys a b below = b
-ascending_joined (x ∷ []) [] a b below = refl
-ascending_joined (x ∷ []) (y ∷ ys) a b below = let k : name_below x y ≡ true = below x y (head x []) (head y ys) in rw k b
-  where
-    head : (z : FullName) (zs : List FullName) → among (z ∷ zs) z ≡ true
-    head z zs = ap (λ b. b || among zs z) (same_name-itself z)
-ascending_joined (x ∷ z ∷ xs) ys a b below =
-    let p = and_parts (name_below x z) (ascending name_below (z ∷ xs)) a in
-    rw p.0 (ascending_joined (z ∷ xs) ys p.1 b (λ m n h k. below m n (or_right (same_name m x) _ h) k))
 
 -- one more row
 

@@ -16,7 +16,7 @@ use Rattle.srm_names.specs.Names.{named, first_page, same_page, same_stream, pag
 use Rattle.srm_names.proofs.Snoc.{along, up_to_more}
 use Rattle.srm_names.proofs.Lists.{Has, none_passes}
 use Rattle.srm_names.proofs.Same.{same_stream-is, Has-firsts}
-use Rattle.srm_names.proofs.Orders.{and_left, and_right}
+use Rattle.srm_names.proofs.Orders.{and_left, and_right, stream_below_trans}
 use Rattle.srm_codec.specs.Spelling.{is_name, is_page, row_below, AreRows}
 use Rattle.srm_store.specs.Held.{number_in}
 use Rattle.srm_entries.specs.declared.entry.Entry.{Entry}
@@ -85,14 +85,11 @@ rows_some a streams i s rows more r lt at is sofar one =
 
 -- ---- they rise as their streams do
 
-below_trans : (a b c : Stream) → stream_below a b ≡ true → stream_below b c ≡ true → stream_below a c ≡ true
-below_trans a b c h k = grind (arith, nat_tests)
-
 skipped : (s t : Stream) (ss : List Stream) → ascending stream_below (s ∷ t ∷ ss) ≡ true → ascending stream_below (s ∷ ss) ≡ true
 skipped s t [] up = refl
 skipped s t (u ∷ ss) up =
     let tail : ascending stream_below (t ∷ u ∷ ss) ≡ true = and_right _ _ up in
-    and_from _ _ (below_trans s t u (and_left _ _ up) (and_left _ _ tail)) (and_right _ _ tail)
+    and_from _ _ (stream_below_trans s t u (and_left _ _ up) (and_left _ _ tail)) (and_right _ _ tail)
 
 rise_after : (s : Stream) (ss : List Stream) (rows : List FullName) (r : FullName) → ascending stream_below (s ∷ ss) ≡ true → r.stream ≡ s → AreRowsInOrder ss rows → ascending row_below (r ∷ rows) ≡ true
 rise_after s [] rows r up q h = ap (λ w. ascending row_below (r ∷ w)) h
