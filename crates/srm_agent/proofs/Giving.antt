@@ -1,14 +1,13 @@
 -- The entry of a give.
 use Rattle.std.proofs.Common.{◌≡◌, ℕ, zero, suc, ◌==◌, Bool, true, false, List, [], ◌∷◌, ◌++◌, refl, ap, sym, ◌∙◌, subst, inl, inr}
 use Rattle.std.specs.Prelude.{Option, Some, None, Ok, slice_get, slice_set, if◌then◌else◌}
-use Rattle.std.specs.List.{list_all, cons_option}
-use Rattle.std.proofs.lemmas.Bool.{and_parts, cases_eq, eq-eqb, ne_eqb}
+use Rattle.std.specs.List.{cons_option}
+use Rattle.std.proofs.lemmas.Bool.{cases_eq, eq-eqb, ne_eqb}
 use Rattle.std.proofs.lemmas.List.{append-nil}
 use Rattle.std.proofs.lemmas.Option.{none-some, same_Some}
 use Rattle.srm_names.specs.declared.page_msg.PageMsg.{PageMsg}
-use Rattle.srm_names.specs.Histories.{Step, steps}
-use Rattle.srm_names.specs.PageFeeds.{continues, is_page_feed}
-use Rattle.srm_names.proofs.Snoc.{steps-snoc, list_all-append}
+use Rattle.srm_names.specs.PageFeeds.{continues}
+use Rattle.srm_names.proofs.Feeds.{last_continues}
 use Rattle.srm_entries.specs.declared.entry.Entry.{Entry}
 use Rattle.srm_entries.specs.declared.entry.Input.TheVariants.{Gave}
 use Rattle.srm_entries.specs.declared.entry.Verdict.TheVariants.{Done}
@@ -26,17 +25,11 @@ use Rattle.srm_entries.proofs.Running.{slots-same}
 use Rattle.srm_agent.proofs.Still.{MayFollow, still_fits, same_progress}
 use Rattle.srm_agent.proofs.Entering.{of_member, stays_at}
 
-continues_last : (g : List PageMsg) (m : PageMsg) → is_page_feed (g ++ m ∷ []) ≡ true → continues g m ≡ true
-continues_last g m fed =
-    let all : list_all (λ (s : Step PageMsg). continues s.before s.this) (steps g ++ record { before = g; this = m } ∷ []) ≡ true = subst (λ w. list_all (λ (s : Step PageMsg). continues s.before s.this) w ≡ true) (steps-snoc g m) fed in
-    let parts = and_parts (list_all (λ (s : Step PageMsg). continues s.before s.this) (steps g)) _ (sym (list_all-append (λ (s : Step PageMsg). continues s.before s.this) (steps g) (record { before = g; this = m } ∷ [])) ∙ all) in
-    (and_parts (continues g m) true parts.1).0
-
 -- what may be given continues the page feed of its slot
 pub give_continues : {W : Type 0} (c : Config) (made : ℕ) (past : List Entry) (a : Content W) (j : ℕ) (m : PageMsg) → Fits c made past a → GiveRight c past j (Some m) → continues (given past j) m ≡ true
 give_continues c made past a j m h right =
     let fed = feeds_right c made past h.run in
-    continues_last (given past j) m (fed_gives c past (slice_get (slots past) j) (given past j) m fed.tells right (fed.feeds j)).fed
+    last_continues (given past j) m (fed_gives c past (slice_get (slots past) j) (given past j) m fed.tells right (fed.feeds j)).fed
 
 may_give : {W : Type 0} (c : Config) (made : ℕ) (past : List Entry) (a : Content W) (j : ℕ) (m : Option PageMsg) → Fits c made past a → GiveRight c past j m → MayFollow c made past a.last (Gave j) Done m a.state
 may_give c made past a j m h right = record { unheard = refl; undrawn = refl; idle = refl; moment_right = h.last; verdict_right = refl; message_right = right; state_right = h.state }
