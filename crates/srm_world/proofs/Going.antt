@@ -6,7 +6,7 @@ use Rattle.std.proofs.lemmas.List.{append-nil}
 use Rattle.std.proofs.lemmas.List.Elements.{filter_map-append}
 use Rattle.srm_names.specs.declared.page_msg.PageMsg.{PageMsg}
 use Rattle.srm_names.specs.Histories.{steps, greatest}
-use Rattle.srm_names.proofs.Lists.{at_parts}
+use Rattle.srm_names.proofs.Lists.{at_parts, rest_first}
 use Rattle.srm_codec.specs.declared.datagram.Datagram.{Datagram}
 use Rattle.srm_codec.specs.declared.fault.DecodeFault.{DecodeFault}
 use Rattle.srm_codec.specs.Spelling.{AreBytes}
@@ -241,10 +241,6 @@ taken_lanes past e slot lanes now is loses h j l at =
     taken-snoc past e j ∙ ap (λ i. taken past j ++ cons_option (taken_in j i e.effects.message) []) is ∙ ap (λ ms. taken past j ++ ms) (lane_of_slot (j == slot) e.effects.message) in
     gives ∙ h j w at_w ∙ ap (λ ms. taken past j ++ ms) w_is ∙ sym (append_assoc (taken past j) (in_lane slot (option_to_list e.effects.message) j) l.waiting) ∙ ap (λ ms. ms ++ l.waiting) (sym takes)
 
-next_waits : (ts ws : List PageMsg) → slice_get (ts ++ ws) (length ts) ≡ slice_get ws 0
-next_waits [] ws = refl
-next_waits (t ∷ ts) ws = next_waits ts ws
-
 pub takes_on : {W : Type 0} (next_word : W → ℕ × W) (slot : ℕ) (p q : Content W) (message : Option PageMsg) (e : Entry) → e ≡ still_entry p.config.me p.last (Took slot) Done message p.state
     → Loses slot message p.lanes q.lanes → q.agent ≡ p.agent → q.config ≡ p.config → q.last ≡ p.last → q.state ≡ p.state → GoesOn next_word None (Took slot) p q e
 takes_on next_word slot p q message e is loses agent config last after = record {
@@ -257,7 +253,7 @@ takes_on next_word slot p q message e is loses agent config last after = record 
     by c made past h =
         let e : Entry = still_entry c.me p.last (Took slot) Done message p.state in
         let (w, at, m) = loses.first in
-        let next : message ≡ next_taken past slot = m ∙ sym (next_waits (taken past slot) w.waiting) ∙ ap (λ ms. slice_get ms (length (taken past slot))) (sym (h.lanes slot w at)) in
+        let next : message ≡ next_taken past slot = m ∙ sym (rest_first (taken past slot) w.waiting) ∙ ap (λ ms. slice_get ms (length (taken past slot))) (sym (h.lanes slot w at)) in
         let fits : agents_fit.Fits c made (past ++ e ∷ []) p.agent = still_fits c made past p.agent p.agent p.last (Took slot) Done message p.state h.agent
         (record { unheard = refl; undrawn = refl; idle = refl; moment_right = h.last; verdict_right = refl; message_right = next; state_right = h.state })
         (record { config = refl; store = refl; distances = refl; timers = refl; bucket = refl; due = refl })

@@ -26,12 +26,6 @@ get_map f [] k = refl
 get_map f (x ∷ xs) zero = refl
 get_map f (x ∷ xs) (suc k) = get_map f xs k
 
--- what is at a place within a list
-pub at_place : {X : Type 0} (xs : List X) (k : ℕ) → k < length xs → (x : X) × (slice_get xs k ≡ Some x)
-at_place [] k l = absurd (omega arith)
-at_place (x ∷ xs) zero l = (x, refl)
-at_place (x ∷ xs) (suc k) l = at_place xs k (omega arith)
-
 -- one lane is written, and gains these messages
 pub gains_at : (lanes : List LaneContent) (slot : ℕ) (w l : LaneContent) (more : List PageMsg) → slice_get lanes slot ≡ Some w → l.waiting ≡ w.waiting ++ more → Gains slot more lanes (slice_set lanes slot l)
 gains_at lanes slot w l more at e = record { each = λ j x there. which j x there (cases_eq j slot) }

@@ -5,7 +5,7 @@ use Rattle.std.specs.List.{AllByRecursion, enumerate_from}
 use Rattle.std.proofs.lemmas.Bool.{cases_lt, ne_eqb}
 use Rattle.std.proofs.lemmas.Bool.Decides.{nat_tests}
 use Rattle.std.proofs.lemmas.List.Elements.{filter-append}
-use Rattle.srm_names.proofs.Lists.{Has, Has-kept, All-Has}
+use Rattle.srm_names.proofs.Lists.{Has, Has-kept, All-Has, all_by}
 use Rattle.srm_entries.specs.declared.entry.Entry.{Entry}
 use Rattle.srm_entries.specs.Configs.{Config}
 use Rattle.srm_entries.specs.Runs.{IsMemberRun}
@@ -85,10 +85,6 @@ places_from (a ∷ starts) from many h =
     ((first.0 ∙ omega arith, first.1), places_from starts (from + 1) many (λ k b at. let q = h (suc k) b at in (q.0 ∙ omega arith, q.1)))
 
 -- what holds of the run of a member holds of each member
-
-all_by : {X : Type 0} (P Q : X → Type 0) (xs : List X) → ((x : X) → P x → Q x) → AllByRecursion P xs → AllByRecursion Q xs
-all_by P Q [] f all = tt
-all_by P Q (x ∷ xs) f all = (f x all.0, all_by P Q xs f all.1)
 
 pub responds_each : (t : Trace) → IsRun t → RespondsEach t
 responds_each t r = all_by (IsRunOfMember t.entries) (RespondsByItself t.entries) t.starts (λ (a : Start) run. response_law a.config a.made (of_member a.config.me t.entries) run) r.each

@@ -6,7 +6,7 @@ use Rattle.std.proofs.lemmas.Option.{same_Some, slice_get-get_or, slice_get_with
 use Rattle.std.proofs.lemmas.Bool.Decides.{nat_tests}
 use Rattle.std.proofs.lemmas.Bool.{cases_eq, lt-ltb, ne_eqb}
 use Rattle.std.proofs.lemmas.List.{length-set, append-nil, map-append, take_more}
-use Rattle.srm_names.proofs.Lists.{AllByRecursion-append}
+use Rattle.srm_names.proofs.Lists.{AllByRecursion-append, by_place, from_places, at_place}
 use Rattle.srm_codec.specs.declared.datagram.Datagram.{Datagram}
 use Rattle.srm_timers.specs.Arms.{AreChosen}
 use Rattle.srm_outbox.specs.declared.out.Out.{Out}
@@ -34,7 +34,7 @@ use Rattle.srm_world.specs.WaitWords.{WorldView, AreByOwnWords, PlaysByWords}
 use Rattle.srm_world.specs.Participants.{Content, Fits, Adds, GoesOn, Stays, HearsBytes, SendsOuts}
 use Rattle.srm_world.specs.Worlds.{words_of, AllFit, AreSent, AreWorld, EntersTrace, EntersAll, Skips, KeepsParticipants, Appends, after_entry}
 use Rattle.srm_world.proofs.Members.{of_member-append, of_member-own}
-use Rattle.srm_world.proofs.Laning.{get_set_same, get_set_other, get_map, at_place}
+use Rattle.srm_world.proofs.Laning.{get_set_same, get_set_other, get_map}
 use Rattle.srm_world.proofs.Wording.{plays_nothing, plays_one, sources_stay, plays_still, plays_on}
 use Rattle.srm_world.proofs.Going.{newest_right}
 use Rattle.srm_world.proofs.Silent.{unticked_sends_nothing}
@@ -51,15 +51,6 @@ me_from (x ∷ starts) from (suc k) many a all at = me_from starts (from + 1) k 
 
 pub me_at : (starts : List Start) (m : ℕ) (a : Start) → IsRoster starts → slice_get starts m ≡ Some a → a.config.me ≡ m
 me_at starts m a roster at = me_from starts 0 m (length starts) a roster.places at ∙ omega arith
-
-pub all_by_place : {X : Type 0} (P : X → Type 0) (xs : List X) → ((k : ℕ) (x : X) → slice_get xs k ≡ Some x → P x) → AllByRecursion P xs
-all_by_place P [] h = tt
-all_by_place P (x ∷ xs) h = (h 0 x refl, all_by_place P xs (λ k y at. h (suc k) y at))
-
-by_place : {X : Type 0} (P : X → Type 0) (xs : List X) (k : ℕ) (x : X) → AllByRecursion P xs → slice_get xs k ≡ Some x → P x
-by_place P [] k x all at = cc
-by_place P (y ∷ xs) zero x all at = subst P (same_Some y x at) all.0
-by_place P (y ∷ xs) (suc k) x all at = by_place P xs k x all.1 at
 
 pub sent-snoc : (es : List Entry) (e : Entry) → sent (es ++ e ∷ []) ≡ sent es ++ e.effects.outs
 sent-snoc es e = flat_map-snoc (λ (x : Entry). x.effects.outs) es e
@@ -274,7 +265,7 @@ pub run_more : {W : Type 0} (starts : List Start) (es : List Entry) (ps : List (
 run_more starts es ps roster count fit inside = record {
   roster = roster;
   inside = inside;
-  each = all_by_place (IsRunOfMember es) starts (λ k a at.
+  each = from_places (IsRunOfMember es) starts (λ k a at.
       let (p, there) = at_place ps k (omega (arith, count, slice_get_within starts k a at)) in
       subst (λ m. IsMemberRun a.config a.made (of_member m es)) (sym (me_at starts k a roster at)) (fits_run a.config a.made (of_member k es) p.agent (fit k a p at there).agent));
 }

@@ -5,6 +5,7 @@ use Rattle.std.proofs.lemmas.Bool.{cases_eq, ne_eqb}
 use Rattle.std.proofs.lemmas.Grind.{flat_map-append}
 use Rattle.std.proofs.lemmas.List.{append-nil, length-set, length-map}
 use Rattle.std.proofs.lemmas.Option.{same_Some, slice_get-get_or, slice_get_within}
+use Rattle.srm_names.proofs.Lists.{at_place}
 use Rattle.srm_timers.specs.declared.arm.Arm.{Arm}
 use Rattle.srm_timers.specs.Arms.{AreChosen}
 use Rattle.srm_outbox.specs.declared.out.Out.{Out}
@@ -20,7 +21,7 @@ use Rattle.srm_world.specs.Traces.{Trace, Journal, of_member}
 use Rattle.srm_world.specs.Participants.{Content}
 use Rattle.srm_world.specs.WaitWords.{RecorderView, WorldView, AreByWords, AreByOwnWords, RecordsByWords, PlaysByWords, arms_in}
 use Rattle.srm_world.specs.Worlds.{AreWorld, words_of}
-use Rattle.srm_world.proofs.Laning.{get_set_same, get_set_other, get_map, at_place}
+use Rattle.srm_world.proofs.Laning.{get_set_same, get_set_other, get_map}
 use Rattle.srm_world.proofs.Members.{of_member-append}
 
 -- one source
