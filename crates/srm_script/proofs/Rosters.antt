@@ -3,12 +3,11 @@ use Rattle.std.proofs.Common.{◌≡◌, ℕ, zero, suc, ◌+◌, ◌<◌, List,
 use Rattle.std.specs.Prelude.{Some, slice_get}
 use Rattle.std.specs.List.{AllByRecursion}
 use Rattle.std.proofs.lemmas.Option.{same_Some}
-use Rattle.srm_names.proofs.Lists.{slice_get-snoc}
+use Rattle.srm_names.proofs.Lists.{slice_get-snoc, from_places}
 use Rattle.srm_entries.specs.Configs.{Config}
 use Rattle.srm_world.specs.declared.start.Start.{Start}
 use Rattle.srm_world.specs.Traces.{IsRoster, SameSession, started}
 use Rattle.srm_world.proofs.Members.{places_from}
-use Rattle.srm_world.proofs.Stepping.{all_by_place}
 
 -- each of the settings is that of the member at its place, in one session
 pub record AreSettings (members session : ℕ) (configs : List Config) : Type 0 where
@@ -41,8 +40,8 @@ is_roster members session configs h long some = record {
       let (c, there, is) = started_at configs k a at in
       let s = h.each k c there in
       (ap (λ (x : Config). x.me) is ∙ s.0 ∙ omega arith, ap (λ (x : Config). x.members) is ∙ s.1 ∙ sym count));
-  session = all_by_place (λ (a : Start). AllByRecursion (SameSession a) (started configs)) (started configs) (λ k a at.
-      all_by_place (SameSession a) (started configs) (λ j b here. in_session k a at ∙ sym (in_session j b here)));
+  session = from_places (λ (a : Start). AllByRecursion (SameSession a) (started configs)) (started configs) (λ k a at.
+      from_places (SameSession a) (started configs) (λ j b here. in_session k a at ∙ sym (in_session j b here)));
 }
   where
     count : length (started configs) ≡ members
