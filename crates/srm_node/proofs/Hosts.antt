@@ -7,8 +7,8 @@ use Rattle.srm_node.specs.declared.hosting.Hosted.{Hosted}
 use Rattle.std.proofs.lemmas.List.{append-nil, length-append}
 use Rattle.std.proofs.lemmas.Option.{same_Some, slice_get_within}
 use Rattle.srm_names.specs.declared.page_msg.PageMsg.{PageMsg}
+use Rattle.srm_names.proofs.Lists.{at_place}
 use Rattle.srm_pages.specs.Ends.{FeedView, TapView}
-use Rattle.srm_world.proofs.Laning.{at_place}
 use Rattle.srm_node.specs.declared.hosting.Worker.{Worker}
 use Rattle.srm_node.specs.declared.working.Worked.{Worked}
 use Rattle.srm_node.specs.Working.{WorkedFrom}

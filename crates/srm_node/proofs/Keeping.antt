@@ -6,10 +6,10 @@ use Rattle.std.proofs.lemmas.List.{append-nil, map-append}
 use Rattle.std.proofs.lemmas.List.Elements.{filter_map-append}
 use Rattle.srm_names.specs.declared.limits.TheConstants.{PAGES}
 use Rattle.srm_names.specs.declared.page_msg.PageMsg.{PageMsg}
+use Rattle.srm_names.proofs.Lists.{at_place}
 use Rattle.srm_pages.specs.declared.stroke.Stroke.{Stroke}
 use Rattle.srm_pages.specs.Ends.{FeedView, TapView, WellView, AreLanes}
 use Rattle.srm_pages.specs.Seats.{LookoutView}
-use Rattle.srm_world.proofs.Laning.{at_place}
 use Rattle.std.proofs.lemmas.Option.{slice_get_within}
 use Rattle.srm_codec.specs.declared.datagram.Datagram.{Datagram}
 use Rattle.srm_codec.specs.declared.fault.DecodeFault.{DecodeFault}
