@@ -7,6 +7,7 @@ use Rattle.std.proofs.lemmas.Bool.{cases_lt}
 use Rattle.std.proofs.lemmas.List.{append-nil, length-map, take-append-drop}
 use Rattle.std.proofs.lemmas.Option.{same_Some, slice_get_within, none-some}
 use Rattle.srm_names.specs.Histories.{steps_after}
+use Rattle.srm_names.proofs.Lists.{by_place, at_place, rest_first}
 use Rattle.srm_codec.specs.declared.datagram.Datagram.{Datagram}
 use Rattle.srm_entries.specs.Configs.{Config}
 use Rattle.srm_entries.specs.declared.entry.Entry.{Entry}
@@ -27,7 +28,7 @@ use Rattle.srm_audit.specs.Finding.{IsFirstForeign}
 use Rattle.srm_audit.specs.Endings.{ending_of}
 use Rattle.srm_audit.specs.Refusals.{IsRefusedInOrder, IsForeignAt}
 use Rattle.srm_world.proofs.Members.{none_of}
-use Rattle.srm_audit.proofs.Ordering.{by_place, me_at, start_at}
+use Rattle.srm_audit.proofs.Ordering.{me_at, start_at}
 
 -- a run of a member
 
@@ -93,19 +94,10 @@ none_there [] k l = refl
 none_there (j ∷ q) zero l = absurd (omega arith)
 none_there (j ∷ q) (suc k) l = none_there q k (omega arith)
 
-place_in : {X : Type 0} (xs : List X) (k : ℕ) → k < length xs → (x : X) × (slice_get xs k ≡ Some x)
-place_in [] k l = absurd (omega arith)
-place_in (x ∷ xs) zero l = (x, refl)
-place_in (x ∷ xs) (suc k) l = place_in xs k (omega arith)
-
-rest_first : {X : Type 0} (xs rest : List X) → slice_get (xs ++ rest) (length xs) ≡ slice_get rest 0
-rest_first [] rest = refl
-rest_first (x ∷ xs) rest = rest_first xs rest
-
 prefixes : (q : List Journal) (m : Content) → Merges q m → ArePrefixes q m.entries
 prefixes q m h = record {
   each = λ k. elim (cases_lt k (length q)) [
-    | inl l ↦ let (rest, at) = place_in m.queues k (subst (λ n. k < n) (sym h.count) l) in (rest, h.each k rest at)
+    | inl l ↦ let (rest, at) = at_place m.queues k (subst (λ n. k < n) (sym h.count) l) in (rest, h.each k rest at)
     | inr l ↦ ([], append-nil (of_member k m.entries) ∙ none_of (length q) k m.entries l h.inside ∙ sym (none_there q k l))
   ];
 }
@@ -165,7 +157,7 @@ orders old new stops all = record {
       let now = stops.keeps.each q h in
       record {
         each = λ k. elim (cases_lt k (length q)) [
-          | inl l ↦ let (rest, at) = place_in new.queues k (subst (λ n. k < n) (sym now.count) l) in
+          | inl l ↦ let (rest, at) = at_place new.queues k (subst (λ n. k < n) (sym now.count) l) in
               sym (append-nil (of_member k new.entries)) ∙ ap (λ xs. of_member k new.entries ++ xs) (sym (emptied_at new.queues k rest all at)) ∙ now.each k rest at
           | inr l ↦ none_of (length q) k new.entries l now.inside ∙ sym (none_there q k l)
         ];

@@ -7,7 +7,7 @@ use Rattle.std.proofs.lemmas.List.{append-nil, map-append, take_more}
 use Rattle.std.proofs.lemmas.Option.{same_Some, none-some, unwrap_or-slice_get}
 use Rattle.srm_names.specs.declared.page_msg.PageMsg.{PageMsg}
 use Rattle.srm_names.specs.Histories.{Step, steps_after, greatest}
-use Rattle.srm_names.proofs.Lists.{AllByRecursion-snoc}
+use Rattle.srm_names.proofs.Lists.{AllByRecursion-snoc, by_place, from_places, at_place}
 use Rattle.srm_bucket.specs.Law.{BucketLaw}
 use Rattle.srm_entries.specs.Configs.{Config}
 use Rattle.srm_entries.specs.declared.entry.Entry.{Entry}
@@ -29,7 +29,6 @@ use Rattle.srm_world.specs.declared.start.Start.{Start}
 use Rattle.srm_world.specs.Traces.{Trace, Journal, of_member, IsHonest, IsUntaken, is_take, IsRoster, IsRunOf, IsRunOfMember}
 use Rattle.srm_world.specs.Claims.{IsLawfulJournal}
 use Rattle.srm_world.proofs.Lawful.{lawful}
-use Rattle.srm_world.proofs.Laning.{at_place}
 use Rattle.srm_world.proofs.Going.{taken-snoc}
 use Rattle.srm_world.proofs.Members.{of_member-own}
 use Rattle.srm_world.proofs.Stepping.{of_member-other}
@@ -37,7 +36,7 @@ use Rattle.srm_audit.specs.declared.got.Got.{Got}
 use Rattle.srm_audit.specs.declared.ending.Ending.{Ending}
 use Rattle.srm_audit.specs.Audits.{IsFound, AreFound, entries_at, starts_of, is_of, listed, outline, takes_of}
 use Rattle.srm_audit.proofs.Finding.{after_front, entries_here}
-use Rattle.srm_audit.proofs.Ordering.{by_place, from_places, me_at, journal_at, count_starts}
+use Rattle.srm_audit.proofs.Ordering.{me_at, journal_at, count_starts}
 use Rattle.srm_audit.specs.Merging.{Completes}
 use Rattle.srm_audit.specs.Refusals.{IsReconciled}
 use Rattle.srm_audit.specs.Endings.{ending_of, take_entry, ending_at, takes_with}

@@ -8,13 +8,12 @@ use Rattle.std.specs.List.Sorted.{IsPermutation}
 use Rattle.std.proofs.lemmas.Bool.{or_right}
 use Rattle.std.proofs.lemmas.List.Sorted.{list_any-IsPermutation}
 use Rattle.std.proofs.lemmas.List.{append-nil, take_more, take_all}
-use Rattle.srm_names.proofs.Lists.{Has, Has-append, Has-front, Has-back, Has-contained}
+use Rattle.srm_names.proofs.Lists.{Has, Has-append, Has-front, Has-back, Has-contained, Has-Contains}
 use Rattle.srm_codec.specs.declared.datagram.Datagram.{Datagram}
 use Rattle.srm_codec.specs.Spelling.{IsSpellable}
 use Rattle.srm_codec.proofs.JudgingLaws as judging
 use Rattle.srm_audit.specs.declared.spellings.TheConstants.{ANY_SESSION}
 use Rattle.srm_audit.specs.Spellings.{spelling_of, is_spelling, Knows, Learns}
-use Rattle.srm_audit.proofs.Stuck.{Has-Contains}
 
 pub list_any-map : {X Y : Type 0} (p : Y → Bool) (f : X → Y) (xs : List X) → list_any p (map f xs) ≡ list_any (λ x. p (f x)) xs
 list_any-map p f [] = refl
