@@ -6,7 +6,7 @@ use Rattle.std.proofs.lemmas.Option.{same_Some}
 use Rattle.std.proofs.lemmas.List.{map-append, append-nil}
 use Rattle.srm_names.specs.Histories.{steps, steps_after}
 use Rattle.srm_names.proofs.Snoc.{steps-snoc}
-use Rattle.srm_names.proofs.Lists.{slice_get-front, AllByRecursion-append}
+use Rattle.srm_names.proofs.Lists.{slice_get-front, AllByRecursion-append, at_end}
 use Rattle.srm_codec.specs.declared.datagram.Datagram.{Datagram}
 use Rattle.srm_entries.specs.declared.entry.Entry.{Entry}
 use Rattle.srm_entries.specs.declared.entry.Input.{Input}
@@ -28,10 +28,6 @@ use Rattle.srm_played.specs.Plays.{came, arrival_in, delivered_number}
 length-steps_after : {X : Type 0} (before xs : List X) → length (steps_after before xs) ≡ length xs
 length-steps_after before [] = refl
 length-steps_after before (x ∷ xs) = ap suc (length-steps_after (before ++ x ∷ []) xs)
-
-at_end : {X : Type 0} (xs : List X) (x : X) → slice_get (xs ++ x ∷ []) (length xs) ≡ Some x
-at_end [] x = refl
-at_end (y ∷ xs) x = at_end xs x
 
 newest_step : (es : List Entry) (e : Entry) → slice_get (steps (es ++ e ∷ [])) (length es) ≡ Some (record { before = es; this = e })
 newest_step es e =
