@@ -17,6 +17,7 @@ use Rattle.srm_deadlines.specs.Least.{lesser}
 use Rattle.srm_timers.specs.AskCalls.{AskCall, AskContent, AskFits, AskStays, AskDue, AskTimersRun, AskNext, ArmsOfFound, AskKeepsRoom, ask_timer, first_exponent, AskReady, DetectAndDueReady}
 use Rattle.srm_timers.specs.FixCalls.{FixCall, FixContent, FixFits, FixStays, FixDue, FixNext, FixKeepsRoom, FixPlace, fix_timer, asked_first, calls_hold_off, FixPlaces}
 use Rattle.srm_timers.specs.Distances.{distance_to}
+use Rattle.srm_timers.proofs.Arming.{chosen-append}
 use Rattle.srm_entries.specs.declared.entry.Entry.{Entry}
 use Rattle.srm_entries.specs.Configs.{Config}
 use Rattle.srm_entries.specs.Entries.{is_missing}
@@ -306,9 +307,5 @@ if_none true o e = e
 if_none false o e = refl
 
 -- words that are used one after another
-drawn_append : {W : Type 0} (next_word : W → ℕ × W) (low high : Arm → ℕ) (from mid to : W) (xs ys : List Arm) → AreChosen next_word low high from xs mid → AreChosen next_word low high mid ys to → AreChosen next_word low high from (xs ++ ys) to
-drawn_append next_word low high from mid to [] ys h k = subst (λ w. AreChosen next_word low high w ys to) h k
-drawn_append next_word low high from mid to (x ∷ xs) ys h k = (h.0, drawn_append next_word low high (next_word from).1 mid to xs ys h.1 k)
-
 pub waits_join : {W : Type 0} (next_word : W → ℕ × W) (t : TimersContent) (from mid to : W) (xs ys all : List Arm) → all ≡ xs ++ ys → WaitsAreChosen next_word t from xs mid → WaitsAreChosen next_word t mid ys to → WaitsAreChosen next_word t from all to
-waits_join next_word t from mid to xs ys all is h k = rw is (record { each = λ c s. drawn_append next_word (low_of c) (high_of c) from mid to xs ys (h.each c s) (k.each c s) })
+waits_join next_word t from mid to xs ys all is h k = rw is (record { each = λ c s. chosen-append next_word (low_of c) (high_of c) from mid to xs ys (h.each c s) (k.each c s) })
