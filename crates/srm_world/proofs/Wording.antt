@@ -6,8 +6,8 @@ use Rattle.std.proofs.lemmas.Grind.{flat_map-append}
 use Rattle.std.proofs.lemmas.List.{append-nil, length-set, length-map}
 use Rattle.std.proofs.lemmas.Option.{same_Some, slice_get-get_or, slice_get_within}
 use Rattle.srm_names.proofs.Lists.{at_place}
-use Rattle.srm_timers.specs.declared.arm.Arm.{Arm}
 use Rattle.srm_timers.specs.Arms.{AreChosen}
+use Rattle.srm_timers.proofs.Arming.{chosen-append}
 use Rattle.srm_outbox.specs.declared.out.Out.{Out}
 use Rattle.srm_entries.specs.declared.entry.Entry.{Entry}
 use Rattle.srm_entries.specs.declared.entry.Input.{Input}
@@ -25,10 +25,6 @@ use Rattle.srm_world.proofs.Laning.{get_set_same, get_set_other, get_map}
 use Rattle.srm_world.proofs.Members.{of_member-append}
 
 -- one source
-
-chosen-append : {W : Type 0} (next_word : W → ℕ × W) (low high : Arm → ℕ) (from mid to : W) (xs ys : List Arm) → AreChosen next_word low high from xs mid → AreChosen next_word low high mid ys to → AreChosen next_word low high from (xs ++ ys) to
-chosen-append next_word low high from mid to [] ys h k = subst (λ w. AreChosen next_word low high w ys to) h k
-chosen-append next_word low high from mid to (a ∷ xs) ys h k = (h.0, chosen-append next_word low high (next_word from).1 mid to xs ys h.1 k)
 
 by_one : {W : Type 0} (next_word : W → ℕ × W) (c : Config) (from to : W) (e : Entry) → AreChosen next_word (low_of c) (high_of c) from e.effects.arms to → AreByWords next_word c from (e ∷ []) to
 by_one next_word c from to e h = subst (λ xs. AreChosen next_word (low_of c) (high_of c) from xs to) (sym (append-nil e.effects.arms)) h
