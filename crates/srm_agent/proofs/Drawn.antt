@@ -23,7 +23,7 @@ use Rattle.srm_codec.specs.declared.datagram.Datagram.{Datagram}
 use Rattle.srm_codec.specs.declared.datagram.Datagram.TheVariants.{Data}
 use Rattle.srm_codec.specs.Spelling.{is_drawop, length_of, sender_of, is_session}
 use Rattle.srm_store.specs.Held.{page_of_drawop, page_of_name, pages_named, outgrow}
-use Rattle.srm_store.specs.Tables.{is_in}
+use Rattle.srm_store.specs.PageTables.{is_in}
 use Rattle.srm_store.specs.Finals.{Settling}
 use Rattle.srm_store.specs.Fits.{StillFits}
 use Rattle.srm_store.specs.Fits as store
@@ -50,7 +50,7 @@ use Rattle.srm_entries.specs.Verdicts.{first_cause, verdict_of, lacks_slots_for,
 use Rattle.srm_entries.specs.Sessions.{session_due, interval_after}
 use Rattle.srm_entries.specs.Bucket.{Going, GoesAsCharged, bucket_calls, classed}
 use Rattle.srm_entries.specs.Runs.{EntryRight}
-use Rattle.srm_agent_state.specs.PageTables.{with_page}
+use Rattle.srm_store.specs.PageTables.{with_page}
 use Rattle.srm_agent_state.specs.TimersKept.{TimersContent, TimersFit}
 use Rattle.srm_agent.specs.Contents.{Content}
 use Rattle.srm_agent.specs.Fits.{Fits, EachProgressFits, BucketFits}
@@ -63,8 +63,8 @@ use Rattle.srm_agent_state.specs.Growth.{HoldsToo}
 use Rattle.srm_entries.proofs.Adding.{known-snoc, is_missing-snoc, flat_map-snoc, last_ask-snoc, fix_running-snoc, held_off-snoc}
 use Rattle.srm_entries.proofs.Showing.{kind, shown_drawing, shown_hearing, shown_quiet, shown-snoc, held-snoc, drawn-snoc, state-snoc, held_is_shown, refused_is_not_done}
 use Rattle.srm_entries.proofs.Running.{steps_more, last_moment-snoc, shown-page-snoc}
-use Rattle.srm_agent_state.proofs.Running.{slots-one}
 use Rattle.srm_agent_state.proofs.Midway.{if_none}
+use Rattle.srm_agent.proofs.Slotted.{slots_lack, slots-one}
 use Rattle.srm_entries.proofs.Arming.{ask_at}
 use Rattle.srm_entries.proofs.Marking.{bucket_calls-snoc, entries-snoc}
 use Rattle.srm_agent.proofs.Still.{same_progress}
@@ -348,6 +348,7 @@ full_last c past page = (nat_le DRAWOPS (drawn_in past (stream_on c.me page)), R
 kept_refusals : {W : Type 0} (c : Config) (made : ℕ) (past : List Entry) (a : Content W) (page : Page) (body : List ℕ) (v : Verdict) → Fits c made past a
     → v ≡ first_cause (refusals a.state a.pages page (length body)) → v ≡ first_cause (in_turn (is_gone (state past)) (is_leaving (state past)) (nat_lt LONGEST_BODY (length body)) (lacks_slots_for past (page ∷ [])) [])
 kept_refusals c made past a page body v h r = r ∙ ap (λ s. first_cause (refusals s a.pages page (length body))) h.state ∙ ap (λ ps. first_cause (refusals (state past) ps page (length body))) h.pages
+    ∙ ap (λ full. first_cause (in_turn (is_gone (state past)) (is_leaving (state past)) (nat_lt LONGEST_BODY (length body)) full [])) (sym (slots_lack past (page ∷ [])))
 
 pub draw_refused : {W : Type 0} (next_word : W → ℕ × W) (a : Content W) (now moment : ℕ) (page : Page) (body : List ℕ) (fault : AgentFault) (x : Entry) → Refused fault ≡ first_cause (refusals a.state a.pages page (length body))
     → x ≡ still_entry a.config.me moment (Drew page body) (Refused fault) None a.state → moment ≡ max now a.last → Enters next_word (Some now) (Drew page body) a a x

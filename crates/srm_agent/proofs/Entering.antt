@@ -14,7 +14,7 @@ use Rattle.srm_entries.specs.declared.entry.Verdict.{Verdict}
 use Rattle.srm_entries.specs.declared.entry.Verdict.TheVariants.{Done, Refused}
 use Rattle.srm_entries.specs.Configs.{Config}
 use Rattle.srm_entries.specs.Entries.{is_tick, takes_moment, clock_of, last_moment, is_gone, state, done_input, page_shown, slots}
-use Rattle.srm_agent_state.specs.PageTables.{lacks_room, with_page}
+use Rattle.srm_store.specs.PageTables.{table_lacks_room, with_page}
 use Rattle.srm_entries.specs.Verdicts.{VerdictRight}
 use Rattle.srm_entries.specs.Giving.{MessageRight, given_in}
 use Rattle.srm_agent.specs.Contents.{Content}
@@ -22,7 +22,7 @@ use Rattle.srm_agent.specs.Fits.{Fits, EachProgressFits}
 use Rattle.srm_entries.specs.Still.{still_entry}
 use Rattle.srm_agent.specs.Noting.{AnswersAs, Enters, EntersStill, HasEntry, IsAllowed, verdict_answering}
 use Rattle.srm_entries.proofs.Running.{slots-same}
-use Rattle.srm_agent_state.proofs.Running.{slots-one}
+use Rattle.srm_agent.proofs.Slotted.{slots_lack, slots-one}
 use Rattle.srm_agent.proofs.Still.{MayFollow, SameParts, undone_follows, still_fits, same_progress}
 
 -- an entry of this agent is one of the member whose run it fits
@@ -118,13 +118,13 @@ pub show_gone : {W : Type 0} (next_word : W → ℕ × W) (a : Content W) (now m
 show_gone next_word a now moment page e gone is at =
     refused_enters next_word a now moment (Showed page) faults.Gone e is at refl refl (λ j. refl) (λ c past. refl) (λ c made past h. rw (ap is_gone (sym h.state) ∙ gone) refl)
 
-pub show_full : {W : Type 0} (next_word : W → ℕ × W) (a : Content W) (now moment : ℕ) (page : Page) (e : Entry) → is_gone a.state ≡ false → lacks_room a.pages page ≡ true
+pub show_full : {W : Type 0} (next_word : W → ℕ × W) (a : Content W) (now moment : ℕ) (page : Page) (e : Entry) → is_gone a.state ≡ false → table_lacks_room a.pages page ≡ true
     → e ≡ still_entry a.config.me moment (Showed page) (Refused faults.PageLimit) None a.state → moment ≡ max now a.last → Enters next_word (Some now) (Showed page) a a e
 show_full next_word a now moment page e here full is at =
     refused_enters next_word a now moment (Showed page) faults.PageLimit e is at refl refl (λ j. refl) (λ c past. refl)
-    (λ c made past h. rw (ap is_gone (sym h.state) ∙ here, ap (λ ps. lacks_room ps page) (sym h.pages) ∙ full) refl)
+    (λ c made past h. rw (ap is_gone (sym h.state) ∙ here, slots_lack past (page ∷ []) ∙ ap (λ ps. table_lacks_room ps page) (sym h.pages) ∙ full) refl)
 
-pub show_done : {W : Type 0} (next_word : W → ℕ × W) (a : Content W) (now moment : ℕ) (page : Page) (pages : List Page) (e : Entry) → is_gone a.state ≡ false → lacks_room a.pages page ≡ false → pages ≡ with_page a.pages page
+pub show_done : {W : Type 0} (next_word : W → ℕ × W) (a : Content W) (now moment : ℕ) (page : Page) (pages : List Page) (e : Entry) → is_gone a.state ≡ false → table_lacks_room a.pages page ≡ false → pages ≡ with_page a.pages page
     → e ≡ still_entry a.config.me moment (Showed page) Done None a.state → moment ≡ max now a.last
     → Enters next_word (Some now) (Showed page) a (record a { last = moment; showing = page; pages = pages }) e
 show_done next_word a now moment page pages e here room added is at =
@@ -134,7 +134,7 @@ show_done next_word a now moment page pages e here room added is at =
       undrawn = refl;
       idle = refl;
       moment_right = late;
-      verdict_right = rw (ap is_gone (sym h.state) ∙ here, ap (λ ps. lacks_room ps page) (sym h.pages) ∙ room) refl;
+      verdict_right = rw (ap is_gone (sym h.state) ∙ here, slots_lack past (page ∷ []) ∙ ap (λ ps. table_lacks_room ps page) (sym h.pages) ∙ room) refl;
       message_right = refl;
       state_right = h.state;
     })

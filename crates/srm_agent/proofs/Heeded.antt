@@ -1,5 +1,5 @@
 -- An agent after an entry in which a datagram was heard and accepted.
-use Rattle.std.proofs.Common.{◌≡◌, ℕ, ◌≤◌, ◌==◌, max, Bool, true, false, ◌&&◌, List, [], ◌∷◌, ◌++◌, length, ◌+◌, refl, ap, sym, ◌∙◌, subst, arith, append_assoc}
+use Rattle.std.proofs.Common.{◌≡◌, ℕ, ◌≤◌, ◌==◌, max, Bool, true, false, ◌&&◌, List, [], ◌∷◌, ◌++◌, length, ◌+◌, refl, ap, sym, ◌∙◌, subst, arith}
 use Rattle.std.specs.Prelude.{Some, filter, nat_lt, if◌then◌else◌, unwrap_or}
 use Rattle.std.specs.List.{flat_map, list_any, AllByRecursion, cons_option}
 use Rattle.std.proofs.lemmas.List.{append-nil, map-append}
@@ -9,8 +9,8 @@ use Rattle.srm_names.specs.declared.page.Page.{Page}
 use Rattle.srm_names.specs.declared.stream.Stream.{Stream}
 use Rattle.srm_names.specs.declared.drawop.Drawop.{Drawop}
 use Rattle.srm_names.specs.FullName.{FullName}
-use Rattle.srm_names.specs.Histories.{steps, last_of, greatest, firsts}
-use Rattle.srm_names.specs.Names.{first_page, same_page, same_stream}
+use Rattle.srm_names.specs.Histories.{steps, last_of, greatest}
+use Rattle.srm_names.specs.Names.{same_stream}
 use Rattle.srm_names.proofs.Snoc.{steps-snoc, last_of-snoc}
 use Rattle.srm_names.proofs.Same.{same_stream-is}
 use Rattle.srm_names.proofs.Lists.{AllByRecursion-append}
@@ -27,12 +27,12 @@ use Rattle.srm_entries.specs.declared.entry.Verdict.TheVariants.{Done}
 use Rattle.srm_entries.specs.declared.state.AgentState.{AgentState}
 use Rattle.srm_outbox.specs.declared.out.Outgoing.{Outgoing}
 use Rattle.srm_entries.specs.Configs.{Config}
-use Rattle.srm_entries.specs.Entries.{done, accepted, is_gone, state, slots, pages_in, last_moment, held, evidence_in, known, drawn, drawops_in}
+use Rattle.srm_entries.specs.Entries.{accepted, is_gone, state, last_moment, held, evidence_in, known, drawn, drawops_in}
 use Rattle.srm_entries.specs.Distances.{distance_calls, calls_in, calls_of}
 use Rattle.srm_entries.specs.Timers.{TimersRight}
 use Rattle.srm_agent_state.specs.TimerCalls.{HearsWith, TimersAdd, WaitsAreChosen}
 use Rattle.srm_agent_state.specs.TimersKept.{HaveSettings}
-use Rattle.srm_agent_state.specs.PageTables.{with_pages_of}
+use Rattle.srm_store.specs.PageTables.{with_pages_of}
 use Rattle.srm_entries.specs.Verdicts.{verdict_of, settlings, settling_of, drawn_in, stream_on, exceeds, is_beyond, final}
 use Rattle.srm_entries.specs.Sessions.{session_due, interval_after}
 use Rattle.srm_entries.specs.Bucket.{Going, GoesAsCharged, bucket_calls}
@@ -44,9 +44,9 @@ use Rattle.srm_agent.specs.Noting.{Enters, IsAllowed}
 use Rattle.srm_bucket.specs.Content.{Content as BucketContent}
 use Rattle.srm_entries.proofs.Adding.{flat_map-snoc, known-snoc}
 use Rattle.srm_entries.proofs.Cutting.{bucket_calls-append}
-use Rattle.srm_agent_state.proofs.Listing.{firsts_more, firsts_again}
 use Rattle.srm_entries.proofs.Showing.{state-snoc, held-snoc, shown-snoc, drawn-snoc, hearing_fine}
 use Rattle.srm_entries.proofs.Running.{steps_more, last_moment-snoc, shown-page-snoc}
+use Rattle.srm_agent.proofs.Slotted.{slots-all}
 use Rattle.srm_agent.proofs.Entering.{of_member}
 use Rattle.srm_agent.proofs.Still.{same_progress}
 
@@ -117,19 +117,6 @@ heard_right c made past a b moment g arms h = record {
   message = refl;
   state = h.fits.state;
 }
-
--- the pages, each where it was first named
-firsts_front : (xs ps : List Page) → firsts same_page (xs ++ ps) ≡ firsts same_page (firsts same_page xs ++ ps)
-firsts_front xs [] = ap (firsts same_page) (append-nil xs) ∙ sym (firsts_again xs) ∙ ap (firsts same_page) (sym (append-nil (firsts same_page xs)))
-firsts_front xs (p ∷ ps) =
-    ap (firsts same_page) (sym (append_assoc xs (p ∷ []) ps)) ∙ firsts_front (xs ++ p ∷ []) ps
-    ∙ ap (λ ys. firsts same_page (ys ++ ps)) (firsts_more xs p (firsts_again xs))
-    ∙ sym (firsts_front (firsts same_page xs ++ p ∷ []) ps) ∙ ap (firsts same_page) (append_assoc (firsts same_page xs) (p ∷ []) ps)
-
-slots-all : (past : List Entry) (e : Entry) → slots (past ++ e ∷ []) ≡ firsts same_page (slots past ++ pages_in (done e))
-slots-all past e =
-    ap (λ ps. firsts same_page (first_page ∷ ps)) (flat_map-snoc (λ (x : Entry). pages_in (done x)) past e)
-    ∙ firsts_front (first_page ∷ flat_map (λ (x : Entry). pages_in (done x)) past) (pages_in (done e))
 
 -- the bucket: nothing is handed in, and nothing goes
 bucket_stays : (c : Config) (past : List Entry) (moment : ℕ) (g : Datagram) (arms : List Arm) (s : AgentState) (b : BucketContent Outgoing)

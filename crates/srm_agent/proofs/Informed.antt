@@ -28,7 +28,7 @@ use Rattle.srm_entries.specs.Distances.{distance_calls, calls_in, calls_of}
 use Rattle.srm_entries.specs.Verdicts.{settlings, settling_of}
 use Rattle.srm_agent.specs.Growth.{AreNewlyMissingByRows}
 use Rattle.srm_agent_state.specs.Growth.{HearsToo, LearnsToo}
-use Rattle.srm_agent_state.specs.PageTables.{with_pages_of}
+use Rattle.srm_store.specs.PageTables.{with_pages_of}
 use Rattle.srm_agent_state.specs.TimersKept.{HaveSettings, TimersContent}
 use Rattle.srm_agent_state.specs.TimerCalls.{AreDistancesAfter, TimersHear, TimersStay, WaitsAreChosen, IsSession}
 use Rattle.srm_agent.specs.Contents.{Content}

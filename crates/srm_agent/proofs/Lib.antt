@@ -2,6 +2,7 @@ pub mod NextDueExample
 pub mod Begins
 pub mod Quiet
 pub mod Still
+pub mod Slotted
 pub mod Entering
 pub mod Nexting
 pub mod Giving

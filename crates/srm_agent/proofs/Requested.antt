@@ -24,7 +24,7 @@ use Rattle.srm_entries.specs.Verdicts.{settlings}
 use Rattle.srm_agent.specs.Growth.{AreNewlyMissingUpTo}
 use Rattle.srm_names.specs.Between.{is_between}
 use Rattle.srm_agent_state.specs.Growth.{LearnsNames}
-use Rattle.srm_agent_state.specs.PageTables.{with_pages_of}
+use Rattle.srm_store.specs.PageTables.{with_pages_of}
 use Rattle.srm_agent_state.specs.TimersKept.{HaveSettings}
 use Rattle.srm_distance.specs.Fits.{IsTableOf}
 use Rattle.srm_agent_state.specs.TimerCalls.{AreDistancesAfter, TimersHearRequest, WaitsAreChosen}

@@ -1,13 +1,9 @@
 -- Room in the store: an agent fits with it what it fitted before, so what is heard with room is heard.
-use Rattle.std.proofs.Common.{◌≡◌, ℕ, ◌≤◌, true, false, List, ◌++◌, length, refl, ap, sym, ◌∙◌, subst}
-use Rattle.std.specs.Prelude.{◌↔◌, nat_lt, map, Some, Result, Ok, Err, OnErr}
+use Rattle.std.proofs.Common.{◌≡◌, ℕ, ◌≤◌, true, false, List, refl, ap, sym, ◌∙◌}
+use Rattle.std.specs.Prelude.{◌↔◌, map, Some, Result, Ok, Err, OnErr}
 use Rattle.std.proofs.lemmas.Bool.{false≢true}
-use Rattle.srm_names.specs.declared.limits.TheConstants.{PAGES}
-use Rattle.srm_names.specs.declared.page.Page.{Page}
 use Rattle.srm_names.specs.declared.drawop.Drawop.{Drawop}
 use Rattle.srm_names.specs.FullName.{FullName}
-use Rattle.srm_names.specs.Histories.{firsts}
-use Rattle.srm_names.specs.Names.{same_page}
 use Rattle.srm_codec.specs.declared.datagram.Datagram.{Datagram}
 use Rattle.srm_store.specs.Held.{outgrow, page_of_name}
 use Rattle.srm_store.specs.Finals.{Settling}
@@ -23,13 +19,14 @@ use Rattle.srm_entries.specs.declared.entry.Input.TheVariants.{Heard}
 use Rattle.srm_entries.specs.declared.entry.Verdict.TheVariants.{Done}
 use Rattle.srm_entries.specs.Causes.{ignored_for}
 use Rattle.srm_entries.specs.Configs.{Config}
-use Rattle.srm_entries.specs.Entries.{is_gone, slots, held, evidence_in}
+use Rattle.srm_entries.specs.Entries.{is_gone, held, evidence_in}
 use Rattle.srm_entries.specs.Verdicts.{verdict_of, settlings}
-use Rattle.srm_agent_state.specs.PageTables.{lacks_room_for, pages_of}
+use Rattle.srm_store.specs.PageTables.{table_lacks_room_for}
 use Rattle.srm_agent.specs.Contents.{Content}
 use Rattle.srm_agent.specs.Fits.{Fits}
 use Rattle.srm_agent.specs.Heeding.{IsJudgedBy, MayAccept}
 use Rattle.srm_agent.specs.Noting.{Enters, IsAllowed, Stays}
+use Rattle.srm_agent.proofs.Slotted.{slots_lack}
 use Rattle.srm_agent.proofs.Drawn.{slots_suffice}
 use Rattle.srm_agent.proofs.Ignoring.{ignored_datagram, ignored_judged, ignored_entry}
 use Rattle.srm_agent_state.proofs.Midway.{all_stays}
@@ -75,18 +72,18 @@ judged_accepted g a e taken done = record { each = λ c made past h. done ∙ sy
 abbrev pub Outgrows : StoreContent → List FullName → Type 0
 Outgrows s names = (inserted : List Drawop) (evidence : List FullName) (settled : List Settling) → store.Fits inserted evidence settled s → outgrow inserted evidence (map page_of_name names) ≡ true
 
-pub never_full : {W : Type 0} (g : Datagram) (a : Content W) (names : List FullName) → lacks_room_for a.pages names ≡ false → Outgrows a.store names
+pub never_full : {W : Type 0} (g : Datagram) (a : Content W) (names : List FullName) → table_lacks_room_for a.pages names ≡ false → Outgrows a.store names
     → (c : Config) (made : ℕ) (past : List Entry) → Fits c made past a → ignored_for (Some causes.PageLimit) ≡ verdict_of c past (Heard g)
 never_full g a names room full c made past h =
-    let fine : nat_lt PAGES (length (firsts same_page (slots past ++ pages_of names))) ≡ false = subst (λ (ps : List Page). nat_lt PAGES (length (firsts same_page (ps ++ pages_of names))) ≡ false) h.pages room in
-    absurd (false≢true (sym (slots_suffice c made past (pages_of names) h.run fine) ∙ full (held past) (evidence_in past) (settlings past) h.store))
+    let fine = slots_lack past (map page_of_name names) ∙ ap (λ ps. table_lacks_room_for ps names) (sym h.pages) ∙ room in
+    absurd (false≢true (sym (slots_suffice c made past (map page_of_name names) h.run fine) ∙ full (held past) (evidence_in past) (settlings past) h.store))
 
 pub unslotted_enters : {W : Type 0} (next_word : W → ℕ × W) (a b : Content W) (moment : ℕ) (g : Datagram) (names : List FullName) (e : Entry) → is_gone a.state ≡ false → a.last ≤ moment
-    → lacks_room_for a.pages names ≡ false → Outgrows a.store names → b ≡ record a { last = moment } → e ≡ ignored_entry a moment (Heard g) causes.PageLimit → Enters next_word (Some moment) (Heard g) a b e
+    → table_lacks_room_for a.pages names ≡ false → Outgrows a.store names → b ≡ record a { last = moment } → e ≡ ignored_entry a moment (Heard g) causes.PageLimit → Enters next_word (Some moment) (Heard g) a b e
 unslotted_enters next_word a b moment g names e here late room full new is = ignored_datagram next_word a b moment g causes.PageLimit (Some causes.PageLimit) e here late refl (never_full g a names room full) new is
 
 pub unslotted_judged : {W : Type 0} (a : Content W) (moment : ℕ) (g : Datagram) (names : List FullName) (e : Entry)
-    → lacks_room_for a.pages names ≡ false → Outgrows a.store names → e ≡ ignored_entry a moment (Heard g) causes.PageLimit → IsJudgedBy g a e
+    → table_lacks_room_for a.pages names ≡ false → Outgrows a.store names → e ≡ ignored_entry a moment (Heard g) causes.PageLimit → IsJudgedBy g a e
 unslotted_judged a moment g names e room full is = ignored_judged a moment g causes.PageLimit (Some causes.PageLimit) e refl (never_full g a names room full) is
 
 -- what room says where it is refused for pages

@@ -12,8 +12,9 @@ use Rattle.srm_deadlines.specs.Agenda.{page_order}
 use Rattle.srm_deadlines.proofs.Agendas.{same_count}
 use Rattle.srm_deadlines.proofs.Dues.{fewer, rise_by}
 use Rattle.srm_deadlines.proofs.Orders.{page_lt_is}
-use Rattle.srm_agent_state.specs.PageTables.{IsTable}
+use Rattle.srm_store.specs.PageTables.{IsPageTable}
 use Rattle.srm_agent.specs.Reports.{AreInOrder}
+use Rattle.srm_agent.proofs.Slotted.{firsts_each_once}
 
 -- each page stands once
 abbrev EachOnce : List Page → Type 0
@@ -43,9 +44,9 @@ firsts_once (q ∷ pages) p = go (same_page p q) refl (firsts_once pages p)
 once_moved : (pages sorted : List Page) → IsPermutation pages sorted → EachOnce pages → EachOnce sorted
 once_moved pages sorted moved once p = let k = same_count (same_page p) pages sorted moved in let l = once p in omega arith
 
-pub sorted_pages : (pages sorted : List Page) → IsTable pages → IsPermutation pages sorted → IsSorted page_order sorted → AreInOrder pages sorted
+pub sorted_pages : (pages sorted : List Page) → IsPageTable pages → IsPermutation pages sorted → IsSorted page_order sorted → AreInOrder pages sorted
 sorted_pages pages sorted table moved in_order = record {
-  in_order = rise_by page_order page_below same_page page_lt_is below_or same_page-itself sorted in_order (once_moved pages sorted moved (subst EachOnce table.distinct (firsts_once pages)));
+  in_order = rise_by page_order page_below same_page page_lt_is below_or same_page-itself sorted in_order (once_moved pages sorted moved (subst EachOnce (firsts_each_once pages table.once) (firsts_once pages)));
   exact = λ p. sym (list_any-IsPermutation (same_page p) pages sorted moved);
   few = let k = length_permutation pages sorted moved in let l = table.few in omega arith;
 }

@@ -26,7 +26,7 @@ use Rattle.srm_entries.specs.Distances.{distance_calls, calls_in, calls_of}
 use Rattle.srm_entries.specs.Verdicts.{settlings}
 use Rattle.srm_names.specs.Between.{is_between}
 use Rattle.srm_agent_state.specs.Growth.{HoldsToo}
-use Rattle.srm_agent_state.specs.PageTables.{with_pages_of}
+use Rattle.srm_store.specs.PageTables.{with_pages_of}
 use Rattle.srm_agent_state.specs.TimersKept.{HaveSettings, TimersContent}
 use Rattle.srm_distance.specs.Fits.{IsTableOf}
 use Rattle.srm_agent_state.specs.TimerCalls.{AreDistancesAfter, IsDrawopOf, TimersHear, TimersStay, WaitsAreChosen}

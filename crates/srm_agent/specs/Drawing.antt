@@ -17,7 +17,7 @@ use Rattle.srm_entries.specs.declared.entry.Input.TheVariants.{Drew}
 use Rattle.srm_entries.specs.declared.entry.Verdict.{Verdict}
 use Rattle.srm_entries.specs.declared.entry.Verdict.TheVariants.{Done, Refused}
 use Rattle.srm_entries.specs.Entries.{is_gone, is_leaving}
-use Rattle.srm_agent_state.specs.PageTables.{lacks_room}
+use Rattle.srm_store.specs.PageTables.{table_lacks_room}
 use Rattle.srm_outbox.specs.Outs.{IsOutgoingOf}
 
 abbrev pub verdict_of_refusal : Option AgentFault → Verdict
@@ -30,7 +30,7 @@ refusals state pages page length =
     (is_gone state, Refused faults.Gone)
     ∷ (is_leaving state, Refused faults.Leaving)
     ∷ (nat_lt LONGEST_BODY length, Refused faults.BodyLong)
-    ∷ (lacks_room pages page, Refused faults.PageLimit) ∷ []
+    ∷ (table_lacks_room pages page, Refused faults.PageLimit) ∷ []
 
 -- the name after so many of a stream, and None where it is full
 abbrev pub name_after : Stream → ℕ → Option FullName

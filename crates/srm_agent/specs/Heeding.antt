@@ -22,7 +22,7 @@ use Rattle.srm_agent.specs.Contents.{Content}
 use Rattle.srm_agent.specs.Fits.{Fits}
 use Rattle.srm_codec.specs.Spelling.{IsSpellable, names_in}
 use Rattle.srm_entries.specs.Entries.{is_gone, known}
-use Rattle.srm_agent_state.specs.PageTables.{lacks_room_for}
+use Rattle.srm_store.specs.PageTables.{table_lacks_room_for}
 use Rattle.srm_names.specs.Between.{is_between}
 use Rattle.srm_entries.specs.Verdicts.{verdict_of}
 use Rattle.srm_agent.specs.Noting.{Enters, IsAllowed, verdict_of_outcome}
@@ -50,7 +50,7 @@ pub record MayAccept {W : Type 0} (datagram : Datagram) (names : List FullName) 
   pub in_range : moment ≤ LATEST_MOMENT
   pub allowed : IsAllowed (Heard datagram) a
   pub named : names ≡ names_in datagram
-  pub pages : lacks_room_for a.pages names ≡ false
+  pub pages : table_lacks_room_for a.pages names ≡ false
 
 -- the entry of what a member heard, by what is answered: it sets timers, and does nothing else
 abbrev pub entry_with : ℕ → ℕ → Input → AgentState → answers.Heard → Entry

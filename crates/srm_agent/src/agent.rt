@@ -31,13 +31,13 @@ mod showing;
 mod ticking;
 
 use crate::noted::Noted;
-use srm_agent_state::{PageTable, Progress, Timers};
+use srm_agent_state::{Progress, Timers};
 use srm_bucket::Bucket;
 use srm_distance::Distances;
 use srm_entries::{AgentFault, AgentState, Config, Entry, Input, SHORTEST_INTERVAL, Verdict};
 use srm_names::{PAGES, Page, PageMsg};
 use srm_outbox::Outgoing;
-use srm_store::Store;
+use srm_store::{PageTable, Store};
 use srm_timers::Words;
 use std::alloc::{AllocError, Global};
 use std::marker::Model;

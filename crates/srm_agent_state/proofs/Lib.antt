@@ -1,7 +1,4 @@
-pub mod Listing
 pub mod ProgressSteps
-pub mod Running
-pub mod Roomy
 pub mod Midway
 pub mod Missing
 pub mod Dueness

@@ -10,14 +10,12 @@
 //! let arms = timers.tick(&asks, &fixes, &distances, now, &mut words)?;
 //! ```
 //!
-//! **What is refused.** Timers are refused for want of memory alone, and are then as before; a page finds no slot where the table
-//! has eight.
+//! **What is refused.** Timers are refused for want of memory alone, and are then as before.
 #![tactic(auto)]
 
 mod distances;
 mod evidence;
 mod keeping;
-mod page_table;
 mod progress;
 mod reports;
 mod roster;
@@ -26,7 +24,6 @@ mod timers;
 pub use distances::distance_table;
 pub use evidence::{greatest_in, learn_all};
 pub use keeping::keep;
-pub use page_table::PageTable;
 pub use progress::Progress;
 pub use reports::{hear_session_message, learn_datagram};
 pub use roster::{member, page_in_range, stream_in_range};

@@ -12,7 +12,7 @@ ghost use Rattle.srm_entries.specs.declared.entry.Entry.{Entry as AnEntry};
 ghost use Rattle.srm_entries.specs.Configs.{Config as Settings};
 ghost use Rattle.srm_entries.specs.Verdicts.{first_cause, stream_on};
 ghost use Rattle.srm_entries.specs.Entries.{known};
-ghost use Rattle.srm_agent_state.specs.PageTables.{lacks_room, with_page};
+ghost use Rattle.srm_store.specs.PageTables.{table_lacks_room, with_page};
 ghost use Rattle.srm_agent.specs.Drawing.{verdict_of_refusal, refusals, name_after, drawn_entry};
 ghost use Rattle.srm_agent_state.specs.Growth.{HoldsToo};
 ghost use Rattle.srm_outbox.specs.Outs.{IsOwn};
@@ -127,7 +127,7 @@ impl<W: Words + Drop> Agent<W> {
 
     /// From this moment on the drawop is held, and waits to be sent, and its page is in the table.
     fn take_up(&mut self, page: &Page, moment: u64, drawop: Drawop, going: Item<Outgoing>)
-        requires room { lacks_room self.old.pages page.now ≡ false }
+        requires room { table_lacks_room self.old.pages page.now ≡ false }
         requires moment { moment ≤ LATEST_MOMENT }
         requires ready { HavePlaces (drawop.name ∷ []) self.old.store }
         requires waiting { 0 < self.old.bucket.waiting.room }

@@ -11,7 +11,7 @@ ghost use Rattle.srm_entries.specs.declared.entry.Verdict.TheVariants.{Ignored};
 ghost use Rattle.srm_entries.specs.Causes.{ignored_for};
 ghost use Rattle.srm_entries.specs.Entries.{is_gone, slots, known, held_at, drawops_in};
 ghost use Rattle.srm_entries.specs.Verdicts.{verdict_of, first_cause, is_stranger, is_beyond, exceeds, says_too_little, final, drawn_in, differs, stream_on};
-ghost use Rattle.srm_agent_state.specs.PageTables.{lacks_room_for};
+ghost use Rattle.srm_store.specs.PageTables.{table_lacks_room_for};
 ghost use Rattle.srm_agent.specs.Fits.{Fits};
 
 use super::Agent;
@@ -59,7 +59,7 @@ impl<W: Words + Drop> Agent<W> {
         requires here { is_gone self.now.state ≡ false }
         requires names { names.now ≡ names_in datagram.now }
         ensures verdict { (c : Settings) (made : ℕ) (past : List AnEntry) → Fits c made past self.now → ignored_for result ≡ verdict_of c past (Heard datagram.now) }
-        ensures room { result ≡ None → lacks_room_for self.now.pages names.now ≡ false }
+        ensures room { result ≡ None → table_lacks_room_for self.now.pages names.now ≡ false }
     {
         let findings = Findings {
             own: self.is_own(datagram),

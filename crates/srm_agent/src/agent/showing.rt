@@ -2,7 +2,7 @@
 
 ghost use Rattle.std.specs.Prelude.{◌≡◌, ◌≤◌, IfOk, OnErr, Ok, Some, false};
 ghost use Rattle.srm_names.specs.declared.limits.TheConstants.{LATEST_MOMENT};
-ghost use Rattle.srm_agent_state.specs.PageTables.{lacks_room, with_page};
+ghost use Rattle.srm_store.specs.PageTables.{table_lacks_room, with_page};
 ghost use Rattle.srm_agent.specs.Noting.{Enters, EntersStill, Stays, AnswersAs, IsAllowed, Does};
 
 use super::Agent;
@@ -56,7 +56,7 @@ impl<W: Words + Drop> Agent<W> {
 
     /// From this moment on a page is in the table, and shown.
     fn turn_to(&mut self, page: &Page, moment: u64)
-        requires room { lacks_room self.old.pages page.now ≡ false }
+        requires room { table_lacks_room self.old.pages page.now ≡ false }
         requires moment { moment ≤ LATEST_MOMENT }
         ensures { self.new ≡ record self.old { last = moment; showing = page.now; pages = with_page self.old.pages page.now } }
     {

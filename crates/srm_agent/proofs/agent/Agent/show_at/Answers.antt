@@ -1,6 +1,6 @@
 use Rattle.std.proofs.Common.{sym, ◌∙◌, refl}
 use Rattle.srm_agent.proofs.Entering.{at_moment, show_gone, show_full, show_done}
-use Rattle.srm_agent_state.proofs.Listing.{is_full, is_roomy}
+use Rattle.srm_agent.proofs.Slotted.{is_full, is_roomy}
 use Rattle.srm_agent.proofs.agent.Agent.show_at.Goals as goal
 
 pub returns-then-is_gone : goal.returns-then-is_gone
