@@ -147,7 +147,7 @@ pub record Leaves (now : ℕ) (leaves : Bool) (old new : Journal) : Type 0 where
 -- The entry is a tick's, which sends these, each spelled in the session.
 pub record IsTick (session : ℕ) (e : Entry) (outs : List Out) : Type 0 where
   pub input : e.input ≡ Ticked
-  pub outs : AreOutsOf session outs e.effects.outs
+  pub sends : AreOutsOf session outs e.effects.outs
 
 -- the journal has one more entry, of a tick that sends these
 pub record Ticks (now : ℕ) (outs : List Out) (old new : Journal) : Type 0 where
