@@ -309,10 +309,10 @@ acts_outs next_word a b d f z moment due arms went last outs answered s is = (
   sym (ap datagrams_of is ∙ map-append (λ (x : Out). x.datagram) went.outs (option_to_list (option_map out_of last))
       ∙ ap (λ xs. datagrams_of xs ++ datagrams_of (option_to_list (option_map out_of last))) s.sent.lets.outs
       ∙ ap (λ gs. gs ++ datagrams_of (option_to_list (option_map out_of last))) (sent_outs d.config.me d.config.session s.sent.lets.items own ∙ sym s.sent.lets.noted)
-      ∙ ap (λ gs. went.noted ++ gs) (last_out a.config.session last ending) ∙ sym s.outs_are),
+      ∙ ap (λ gs. went.noted ++ gs) (last_out a.config.session last spelled) ∙ sym s.outs_are),
   subst (AllByRecursion (IsOut a.config.session)) (sym is) (AllByRecursion-append (IsOut a.config.session) went.outs (option_to_list (option_map out_of last))
       (subst (AllByRecursion (IsOut a.config.session)) (sym s.sent.lets.outs) (subst (λ n. AllByRecursion (IsOut n) (map (λ (o : Outgoing). o.out) s.sent.lets.items)) (ap (λ k. k.session) d_config) (sent_spelled d.config.me d.config.session s.sent.lets.items own)))
-      (last_spelled a.config.session last ending)),
+      (last_spelled a.config.session last spelled)),
 )
   where
     d_config : d.config ≡ a.config
@@ -322,8 +322,8 @@ acts_outs next_word a b d f z moment due arms went last outs answered s is = (
     own = s.sent.lets.own d.config.me d.config.session (s.sent.hands.own d.config.me d.config.session s.waited
         (subst (λ k. AllByRecursion (λ x. IsOwn k.me k.session x.item.value) due.due_items.items) (sym d_config) s.due_is.due_items.spelled.own))
 
-    ending : IfSome last (λ r. IsOutgoing a.config.session r.outgoing)
-    ending = subst (λ l. IfSome l (λ r. IsOutgoing a.config.session r.outgoing)) (sym s.last_is) (each_last (λ r. IsOutgoing a.config.session r.outgoing) (data_waits f.bucket) due.farewell due.report
+    spelled : IfSome last (λ r. IsOutgoing a.config.session r.outgoing)
+    spelled = subst (λ l. IfSome l (λ r. IsOutgoing a.config.session r.outgoing)) (sym s.last_is) (each_last (λ r. IsOutgoing a.config.session r.outgoing) (data_waits f.bucket) due.farewell due.report
         (if_some a moment true (λ r. IsOutgoing a.config.session r.outgoing) (λ r k. k.report.outgoing) (is_leaving a.state) due.farewell s.due_is.farewell)
         (if_some a moment false (λ r. IsOutgoing a.config.session r.outgoing) (λ r k. k.report.outgoing) (nat_le a.due moment) due.report s.due_is.report))
 
