@@ -26,7 +26,7 @@ use Rattle.srm_agent.specs.Contents.{Content}
 use Rattle.srm_entries.specs.Entries.{state, is_gone, is_leaving}
 use Rattle.srm_entries.specs.Timers.{low_of, high_of, TimersRight}
 use Rattle.srm_codec.specs.Spelling.{is_session, is_farewell}
-use Rattle.srm_entries.specs.Sessions.{session_interval, IsReport, ending}
+use Rattle.srm_entries.specs.Sessions.{session_interval, IsSessionMessage, session_message_due}
 use Rattle.srm_entries.specs.Runs.{expected_state}
 use Rattle.srm_agent.specs.Fits.{Fits, BucketFits}
 use Rattle.srm_agent_state.specs.TimersKept.{TimersFit}
@@ -35,7 +35,7 @@ use Rattle.srm_agent_state.specs.TimerCalls.{TicksWith, TimersAdd, TimersStay}
 use Rattle.srm_outbox.specs.DueItems.{AreDueItems}
 use Rattle.srm_outbox.specs.Outbox.{WentContent}
 use Rattle.srm_agent.specs.Noting.{Stays}
-use Rattle.srm_agent.specs.Ticking.{TicksAs, tick_entry, IsReportAt, IsReportIf, IsDue, HandsOut, SendsAll, data_waits, last_report, state_after, due_then}
+use Rattle.srm_agent.specs.Ticking.{TicksAs, tick_entry, IsSessionMessageAt, IsReportIf, IsDue, HandsOut, SendsAll, data_waits, last_message, state_after, due_then}
 use Rattle.srm_entries.proofs.Ending.{ending_of, ending_is, EndsIn, NoSessions, charged_is, due_by}
 use Rattle.srm_agent.proofs.Fitting.{refit, roomy}
 use Rattle.srm_agent.proofs.Sent.{bucket_ticks}
@@ -75,7 +75,7 @@ pub record Acts {W : Type 0} (next_word : W → ℕ × W) (a b d f z : Content W
   pub waited : AreOwn d.config.me d.config.session d.bucket.waiting
   pub sent : SendsAll moment due.due_items.items d.bucket f.bucket went
   pub sent_rest : f ≡ record d { bucket = f.bucket }
-  pub last_is : last ≡ last_report (data_waits f.bucket) due.farewell due.report
+  pub last_is : last ≡ last_message (data_waits f.bucket) due.farewell due.report
   pub ended : z ≡ record f { state = state_after (data_waits f.bucket) due.farewell f.state; last = moment; due = due_then last f.due }
   pub outs_are : outs ≡ went.noted ++ option_to_list (option_map noted_of last)
 
@@ -92,26 +92,26 @@ went_charged me session (o ∷ items) own = (ap is_session own.0.spelled.noted �
 
 -- what ends a tick
 
-each_last : (P : DueMessage → Type 0) (waits : Bool) (farewell report : Option DueMessage) → IfSome farewell P → IfSome report P → IfSome (last_report waits farewell report) P
+each_last : (P : DueMessage → Type 0) (waits : Bool) (farewell report : Option DueMessage) → IfSome farewell P → IfSome report P → IfSome (last_message waits farewell report) P
 each_last P true farewell report p q = q
 each_last P false None report p q = q
 each_last P false (Some r) report p q = p
 
-if_some : {W : Type 0} (a : Content W) (moment : ℕ) (farewell : Bool) (P : DueMessage → Type 0) → ((r : DueMessage) → IsReportAt a moment farewell r → P r) → (wanted : Bool) (o : Option DueMessage) → IsReportIf wanted a moment farewell o → IfSome o P
+if_some : {W : Type 0} (a : Content W) (moment : ℕ) (farewell : Bool) (P : DueMessage → Type 0) → ((r : DueMessage) → IsSessionMessageAt a moment farewell r → P r) → (wanted : Bool) (o : Option DueMessage) → IsReportIf wanted a moment farewell o → IfSome o P
 if_some a moment farewell P each wanted None h = tt
 if_some a moment farewell P each wanted (Some r) h = each r h.1
 
-report_sent : {W : Type 0} (a : Content W) (moment : ℕ) (farewell : Bool) (r : DueMessage) → IsReportAt a moment farewell r → IsSent a.config.me r.outgoing.noted
+report_sent : {W : Type 0} (a : Content W) (moment : ℕ) (farewell : Bool) (r : DueMessage) → IsSessionMessageAt a moment farewell r → IsSent a.config.me r.outgoing.noted
 report_sent a moment farewell r h = subst (IsSent a.config.me) (sym h.report.outgoing.noted) (record { sender = h.report.report.sender; spellable = h.report.report.spellable })
 
-report_next : {W : Type 0} (c : Config) (made : ℕ) (past : List Entry) (a : Content W) (moment : ℕ) (farewell : Bool) (r : DueMessage) → Fits c made past a → IsReportAt a moment farewell r
+report_next : {W : Type 0} (c : Config) (made : ℕ) (past : List Entry) (a : Content W) (moment : ℕ) (farewell : Bool) (r : DueMessage) → Fits c made past a → IsSessionMessageAt a moment farewell r
     → r.next ≡ moment + session_interval c past r.outgoing.noted
 report_next c made past a moment farewell r fits h = h.next c made past fits ∙ ap (λ g. moment + session_interval c past g) (sym h.report.outgoing.noted)
 
-report_is : {W : Type 0} (c : Config) (made : ℕ) (past : List Entry) (a : Content W) (moment : ℕ) (farewell : Bool) (r : DueMessage) → Fits c made past a → IsReportAt a moment farewell r → IsReport c past moment farewell r.outgoing.noted
-report_is c made past a moment farewell r fits h = subst (IsReport c past moment farewell) (sym h.report.outgoing.noted) (h.report.report.right c made past fits)
+report_is : {W : Type 0} (c : Config) (made : ℕ) (past : List Entry) (a : Content W) (moment : ℕ) (farewell : Bool) (r : DueMessage) → Fits c made past a → IsSessionMessageAt a moment farewell r → IsSessionMessage c past moment farewell r.outgoing.noted
+report_is c made past a moment farewell r fits h = subst (IsSessionMessage c past moment farewell) (sym h.report.outgoing.noted) (h.report.report.right c made past fits)
 
-report_leaves : {W : Type 0} (a : Content W) (moment : ℕ) (farewell : Bool) (r : DueMessage) → IsReportAt a moment farewell r → is_farewell r.outgoing.noted ≡ farewell
+report_leaves : {W : Type 0} (a : Content W) (moment : ℕ) (farewell : Bool) (r : DueMessage) → IsSessionMessageAt a moment farewell r → is_farewell r.outgoing.noted ≡ farewell
 report_leaves a moment farewell r h = ap is_farewell h.report.outgoing.noted ∙ h.report.report.farewell
 
 report_ends : {W : Type 0} (c : Config) (made : ℕ) (past : List Entry) (a : Content W) (moment : ℕ) → Fits c made past a → (is_due : Bool) (report : Option DueMessage) → IsReportIf is_due a moment false report
@@ -122,7 +122,7 @@ report_ends c made past a moment fits false (Some r) h = absurd (let k : false �
 report_ends c made past a moment fits true (Some r) h = report_is c made past a moment false r fits h.1
 
 ends_in : {W : Type 0} (c : Config) (made : ℕ) (past : List Entry) (a : Content W) (moment : ℕ) → Fits c made past a → (old : AgentState) (waits is_due : Bool) (farewell report : Option DueMessage) → is_gone old ≡ false
-    → IsReportIf (is_leaving old) a moment true farewell → IsReportIf is_due a moment false report → EndsIn c past moment (ending_of old waits is_due) (option_map noted_of (last_report waits farewell report))
+    → IsReportIf (is_leaving old) a moment true farewell → IsReportIf is_due a moment false report → EndsIn c past moment (ending_of old waits is_due) (option_map noted_of (last_message waits farewell report))
 ends_in c made past a moment fits Gone waits is_due farewell report here f r = absurd (cc)
 ends_in c made past a moment fits Active true is_due farewell report here f r = report_ends c made past a moment fits is_due report r
 ends_in c made past a moment fits Active false is_due None report here f r = report_ends c made past a moment fits is_due report r
@@ -160,7 +160,7 @@ report_state a moment old here is_due (Some r) h = stays_here old here ∙ ap (�
 
 state_is : {W : Type 0} (a : Content W) (moment : ℕ) (old : AgentState) (waits is_due : Bool) (farewell report : Option DueMessage) → is_gone old ≡ false
     → IsReportIf (is_leaving old) a moment true farewell → IsReportIf is_due a moment false report
-    → state_after waits farewell old ≡ expected_state old (list_any is_farewell (option_to_list (option_map noted_of (last_report waits farewell report)))) (Some Ticked)
+    → state_after waits farewell old ≡ expected_state old (list_any is_farewell (option_to_list (option_map noted_of (last_message waits farewell report)))) (Some Ticked)
 state_is a moment old true is_due None report here f r = report_state a moment old here is_due report r
 state_is a moment old true is_due (Some x) report here f r = report_state a moment old here is_due report r
 state_is a moment old false is_due None report here f r = report_state a moment old here is_due report r
@@ -259,7 +259,7 @@ acts_fits next_word a b d f z moment due arms went last outs c made past s h =
         h.showing s.sent.hands s.sent.lets
         (record { ticked = refl; here = here; drawn = refl; datagrams_are = s.due_is.due_items.value c made past h; charged_are = charged_is c past e wanted went.noted o none s.outs_are ends })
 
-    ending_right : ending c made past e ≡ wanted
+    ending_right : session_message_due c made past e ≡ wanted
     ending_right = ending_is c made past e a.state waits is_due refl h.state
         (not-not (length (queue f.bucket.waiting New) == 0) ∙ sym (all_sent c (past ++ e ∷ []) f.bucket in_bucket)) (ap (λ n. nat_le n moment) h.due)
 

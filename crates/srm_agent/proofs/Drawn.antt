@@ -55,7 +55,7 @@ use Rattle.srm_agent_state.specs.TimersKept.{TimersContent, TimersFit}
 use Rattle.srm_agent.specs.Contents.{Content}
 use Rattle.srm_agent.specs.Fits.{Fits, EachProgressFits, BucketFits}
 use Rattle.srm_outbox.specs.Outs.{datagram_of, IsOwn}
-use Rattle.srm_entries.specs.Still.{still_entry}
+use Rattle.srm_entries.specs.Still.{entry_without_effects}
 use Rattle.srm_agent.specs.Noting.{HasEntry, IsAllowed, IsDrawnName, Enters, Stays}
 use Rattle.srm_agent.specs.declared.agent.drafting.Draft.{Draft}
 use Rattle.srm_agent.specs.Drawing.{refusals, name_after, drawn_entry, IsDraftOf}
@@ -351,7 +351,7 @@ kept_refusals c made past a page body v h r = r ∙ ap (λ s. first_cause (refus
     ∙ ap (λ full. first_cause (in_turn (is_gone (state past)) (is_leaving (state past)) (nat_lt LONGEST_BODY (length body)) full [])) (sym (slots_lack past (page ∷ [])))
 
 pub draw_refused : {W : Type 0} (next_word : W → ℕ × W) (a : Content W) (now moment : ℕ) (page : Page) (body : List ℕ) (fault : AgentFault) (x : Entry) → Refused fault ≡ first_cause (refusals a.state a.pages page (length body))
-    → x ≡ still_entry a.config.me moment (Drew page body) (Refused fault) None a.state → moment ≡ max now a.last → Enters next_word (Some now) (Drew page body) a a x
+    → x ≡ entry_without_effects a.config.me moment (Drew page body) (Refused fault) None a.state → moment ≡ max now a.last → Enters next_word (Some now) (Drew page body) a a x
 draw_refused next_word a now moment page body fault x refused is at =
     refused_enters next_word a now moment (Drew page body) fault x is at refl refl (λ j. refl) (λ c past. refl)
     (λ c made past h. first_stays (is_gone (state past)) (is_leaving (state past)) (nat_lt LONGEST_BODY (length body)) (lacks_slots_for past (page ∷ [])) (full_last c past page) fault (kept_refusals c made past a page body (Refused fault) h refused))
@@ -379,7 +379,7 @@ fullness : {W : Type 0} (c : Config) (made : ℕ) (past : List Entry) (a : Conte
 fullness c made past a page b h q = ap (λ (x : Bool). if x then Refused faults.StreamFull else Done) (sym q ∙ ap (nat_le DRAWOPS) (sym (h.own page)))
 
 pub draw_full : {W : Type 0} (next_word : W → ℕ × W) (a : Content W) (now moment : ℕ) (page : Page) (body : List ℕ) (x : Entry) → Done ≡ first_cause (refusals a.state a.pages page (length body))
-    → Names a page None → x ≡ still_entry a.config.me moment (Drew page body) (Refused faults.StreamFull) None a.state → moment ≡ max now a.last → Enters next_word (Some now) (Drew page body) a a x
+    → Names a page None → x ≡ entry_without_effects a.config.me moment (Drew page body) (Refused faults.StreamFull) None a.state → moment ≡ max now a.last → Enters next_word (Some now) (Drew page body) a a x
 draw_full next_word a now moment page body x fine none is at =
     refused_enters next_word a now moment (Drew page body) faults.StreamFull x is at refl refl (λ j. refl) (λ c past. refl)
     (λ c made past h.
@@ -397,9 +397,9 @@ four_fine false false false false r = refl
 pub draw_unslotted : {W : Type 0} (next_word : W → ℕ × W) (a b : Content W) (now moment : ℕ) (page : Page) (body : List ℕ) (name : FullName) (x : Entry) → Done ≡ first_cause (refusals a.state a.pages page (length body))
     → Names a page (Some name) → b ≡ a
     → ((inserted : List Drawop) (evidence : List FullName) (settled : List Settling) → store.Fits inserted evidence settled a.store → outgrow inserted evidence (name.stream.page ∷ []) ≡ true)
-    → x ≡ still_entry b.config.me moment (Drew page body) (Refused faults.PageLimit) None b.state → moment ≡ max now a.last → Enters next_word (Some now) (Drew page body) a b x
+    → x ≡ entry_without_effects b.config.me moment (Drew page body) (Refused faults.PageLimit) None b.state → moment ≡ max now a.last → Enters next_word (Some now) (Drew page body) a b x
 draw_unslotted next_word a b now moment page body name x fine some same full is at = subst (λ y. Enters next_word (Some now) (Drew page body) a y x) (sym same)
-    (refused_enters next_word a now moment (Drew page body) faults.PageLimit x (subst (λ (y : Content _). x ≡ still_entry y.config.me moment (Drew page body) (Refused faults.PageLimit) None y.state) same is) at refl refl (λ j. refl) (λ c past. refl)
+    (refused_enters next_word a now moment (Drew page body) faults.PageLimit x (subst (λ (y : Content _). x ≡ entry_without_effects y.config.me moment (Drew page body) (Refused faults.PageLimit) None y.state) same is) at refl refl (λ j. refl) (λ c past. refl)
     (λ c made past h.
     let named_so = (next_of_name (stream_on c.me page) (known past (stream_on c.me page)) name (some c made past h)).1 in
     let room = four_fine (is_gone (state past)) (is_leaving (state past)) (nat_lt LONGEST_BODY (length body)) (lacks_slots_for past (page ∷ [])) (kept_refusals c made past a page body Done h fine) in
@@ -465,9 +465,9 @@ draw_done {W} next_word a b n now moment page body name draft x fine some at roo
         (subst (λ y. HoldsToo y b.store n.store) (drafted.held ∙ drawop_is) keeps) (subst is_drawop drawop_is spellable) (drafted.going.of ∙ ap Data drawop_is) (drafted.length ∙ ap (λ y. length_of (Data y)) drawop_is) adds)
 
 -- what a draw answers that is refused, and one that is done
-pub draw_refuses : {W : Type 0} (next_word : W → ℕ × W) (a b : Content W) (now moment : ℕ) (page : Page) (body : List ℕ) (fault : AgentFault) → Enters next_word (Some now) (Drew page body) a b (still_entry a.config.me moment (Drew page body) (Refused fault) None a.state)
+pub draw_refuses : {W : Type 0} (next_word : W → ℕ × W) (a b : Content W) (now moment : ℕ) (page : Page) (body : List ℕ) (fault : AgentFault) → Enters next_word (Some now) (Drew page body) a b (entry_without_effects a.config.me moment (Drew page body) (Refused fault) None a.state)
     → HasEntry next_word (Some now) (Drew page body) IsDrawnName a b (Err fault)
-draw_refuses next_word a b now moment page body fault enters = (still_entry a.config.me moment (Drew page body) (Refused fault) None a.state, enters, refl)
+draw_refuses next_word a b now moment page body fault enters = (entry_without_effects a.config.me moment (Drew page body) (Refused fault) None a.state, enters, refl)
 
 pub draw_names : {W : Type 0} (next_word : W → ℕ × W) (a b n : Content W) (now moment : ℕ) (page : Page) (body : List ℕ) (name : FullName) (draft : Draft) → IsDraftOf a.config.session (record { name = name; stamp = moment; body = body }) draft
     → Enters next_word (Some now) (Drew page body) a n (drawn_entry b.config.me moment page body draft.held b.state) → HasEntry next_word (Some now) (Drew page body) IsDrawnName a n (Ok name)

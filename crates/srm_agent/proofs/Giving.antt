@@ -18,7 +18,7 @@ use Rattle.srm_agent_state.specs.Progress.{ProgressContent, ProgressFits}
 use Rattle.srm_agent_state.proofs.Midway.{if_none}
 use Rattle.srm_agent.specs.Contents.{Content}
 use Rattle.srm_agent.specs.Fits.{Fits, EachProgressFits}
-use Rattle.srm_entries.specs.Still.{still_entry}
+use Rattle.srm_entries.specs.Still.{entry_without_effects}
 use Rattle.srm_agent.specs.Noting.{Enters, HasEntry, gave_by}
 use Rattle.srm_entries.proofs.Feeding.{feeds_right, fed_gives, given-snoc}
 use Rattle.srm_entries.proofs.Running.{slots-same}
@@ -37,13 +37,13 @@ may_give c made past a j m h right = record { unheard = refl; undrawn = refl; id
 not_given : (j slot : ℕ) → given_in j (Gave slot) None ≡ None
 not_given j slot = if_none (j == slot) None refl
 
-pub gives_nothing : {W : Type 0} (next_word : W → ℕ × W) (a : Content W) (slot : ℕ) (e : Entry) → e ≡ still_entry a.config.me a.last (Gave slot) Done None a.state
+pub gives_nothing : {W : Type 0} (next_word : W → ℕ × W) (a : Content W) (slot : ℕ) (e : Entry) → e ≡ entry_without_effects a.config.me a.last (Gave slot) Done None a.state
     → ((c : Config) (made : ℕ) (past : List Entry) → Fits c made past a → GiveRight c past slot None) → Enters next_word None (Gave slot) a a e
 gives_nothing next_word a slot e is right = record {
   input_is = ap (λ (x : Entry). x.input) is;
   words = rw is refl;
   moment_is = ap (λ (x : Entry). x.moment) is;
-  fits = λ c made past h. of_member c made past a a e (λ me. still_entry me a.last (Gave slot) Done None a.state) h is
+  fits = λ c made past h. of_member c made past a a e (λ me. entry_without_effects me a.last (Gave slot) Done None a.state) h is
       (still_fits c made past a a a.last (Gave slot) Done None a.state h (may_give c made past a slot None h (right c made past h))
       (record { config = refl; store = refl; distances = refl; timers = refl; bucket = refl; due = refl }) refl (stays_at a.last) refl
       (h.pages ∙ sym (slots-same past _ refl)) (same_progress past _ a.progress (λ j. not_given j slot) h.progress));
@@ -77,7 +77,7 @@ progress_more past e progress slot i f m input message at h more = record { each
       | inr other ↦ subst (λ g. ProgressFits g x) (sym (given_then j false (ne_eqb j slot (λ k. other (k ∙ sym at))) ∙ append-nil (given past j))) (h.each j x (sym (set_elsewhere progress i f j other) ∙ there))
     ]
 
-pub gives_message : {W : Type 0} (next_word : W → ℕ × W) (a : Content W) (slot i : ℕ) (m : PageMsg) (f : ProgressContent) (e : Entry) → e ≡ still_entry a.config.me a.last (Gave slot) Done (Some m) a.state → i ≡ slot
+pub gives_message : {W : Type 0} (next_word : W → ℕ × W) (a : Content W) (slot i : ℕ) (m : PageMsg) (f : ProgressContent) (e : Entry) → e ≡ entry_without_effects a.config.me a.last (Gave slot) Done (Some m) a.state → i ≡ slot
     → ((c : Config) (made : ℕ) (past : List Entry) → Fits c made past a → GiveRight c past slot (Some m))
     → ((c : Config) (made : ℕ) (past : List Entry) → Fits c made past a → ProgressFits (given past slot ++ m ∷ []) f)
     → Enters next_word None (Gave slot) a (record a { progress = slice_set a.progress i f }) e
@@ -85,7 +85,7 @@ gives_message next_word a slot i m f e is at right more = record {
   input_is = ap (λ (x : Entry). x.input) is;
   words = rw is refl;
   moment_is = ap (λ (x : Entry). x.moment) is;
-  fits = λ c made past h. of_member c made past a (record a { progress = slice_set a.progress i f }) e (λ me. still_entry me a.last (Gave slot) Done (Some m) a.state) h is
+  fits = λ c made past h. of_member c made past a (record a { progress = slice_set a.progress i f }) e (λ me. entry_without_effects me a.last (Gave slot) Done (Some m) a.state) h is
       (still_fits c made past a (record a { progress = slice_set a.progress i f }) a.last (Gave slot) Done (Some m) a.state h (may_give c made past a slot (Some m) h (right c made past h))
       (record { config = refl; store = refl; distances = refl; timers = refl; bucket = refl; due = refl }) refl (stays_at a.last) refl
       (h.pages ∙ sym (slots-same past _ refl)) (progress_more past _ a.progress slot i f m refl refl at h.progress (more c made past h)));

@@ -23,13 +23,13 @@ use Rattle.srm_entries.specs.Hearing.{read_as}
 use Rattle.srm_agent.specs.Heeding.{IsJudgedBy, IsNoiseFor}
 use Rattle.srm_agent.specs.Contents.{Content}
 use Rattle.srm_agent.specs.Fits.{Fits}
-use Rattle.srm_entries.specs.Still.{still_entry}
+use Rattle.srm_entries.specs.Still.{entry_without_effects}
 use Rattle.srm_agent.specs.Noting.{Enters, IsAllowed, ReadsAs}
 use Rattle.srm_entries.proofs.Running.{slots-same}
 use Rattle.srm_agent.proofs.Still.{undone_follows, same_progress}
 use Rattle.srm_agent.proofs.Entering.{still_enters, moves_on}
 
-ignored_enters : {W : Type 0} (next_word : W → ℕ × W) (a : Content W) (now moment : ℕ) (input : Input) (cause : Cause) (e : Entry) → e ≡ still_entry a.config.me moment input (Ignored cause) None a.state → moment ≡ max now a.last
+ignored_enters : {W : Type 0} (next_word : W → ℕ × W) (a : Content W) (now moment : ℕ) (input : Input) (cause : Cause) (e : Entry) → e ≡ entry_without_effects a.config.me moment input (Ignored cause) None a.state → moment ≡ max now a.last
     → is_tick input ≡ false → takes_moment input ≡ true → ((j : ℕ) → given_in j input None ≡ None) → ((c : Config) (past : List Entry) → MessageRight c past input None)
     → ((c : Config) (made : ℕ) (past : List Entry) → Fits c made past a → VerdictRight c past input (Ignored cause)) → Enters next_word (Some now) input a (record a { last = moment }) e
 ignored_enters next_word a now moment input cause e is at unticked takes ungiven message right =
@@ -39,7 +39,7 @@ ignored_enters next_word a now moment input cause e is at unticked takes ungiven
     (λ c made past h. h.pages ∙ sym (slots-same past _ refl)) (λ c made past h. same_progress past _ a.progress ungiven h.progress)
 
 abbrev pub ignored_entry : {W : Type 0} → Content W → ℕ → Input → Cause → Entry
-ignored_entry a moment input cause = still_entry a.config.me moment input (Ignored cause) None a.state
+ignored_entry a moment input cause = entry_without_effects a.config.me moment input (Ignored cause) None a.state
 
 -- to a gone agent all is noise
 pub gone_enters : {W : Type 0} (next_word : W → ℕ × W) (a b : Content W) (now moment : ℕ) (e : Entry) → is_gone a.state ≡ true → b ≡ record a { last = moment } → e ≡ ignored_entry a moment Noise causes.Gone → moment ≡ max now a.last
@@ -56,7 +56,7 @@ pub noise_enters : {W : Type 0} (next_word : W → ℕ × W) (a b : Content W) (
 noise_enters next_word a b moment fault e here late other new is = subst (λ x. Enters next_word (Some moment) Noise a x e) (sym new)
     (ignored_enters next_word a moment moment Noise (causes.Decode fault) e is (omega (arith, late)) refl refl (λ j. refl) (λ c past. refl) (λ c made past h. rw (ap is_gone (sym h.state) ∙ here) (fault, other, refl)))
 
-pub noise_is : (me moment : ℕ) (s : AgentState) (fault : DecodeFault) (cause : Cause) (e : Entry) → fault ≢ decoding.Memory → cause ≡ causes.Decode fault → e ≡ still_entry me moment Noise (Ignored cause) None s → IsNoiseFor fault e
+pub noise_is : (me moment : ℕ) (s : AgentState) (fault : DecodeFault) (cause : Cause) (e : Entry) → fault ≢ decoding.Memory → cause ≡ causes.Decode fault → e ≡ entry_without_effects me moment Noise (Ignored cause) None s → IsNoiseFor fault e
 noise_is me moment s fault cause e other found is = record { input = ap (λ (x : Entry). x.input) is; verdict = ap (λ (x : Entry). x.verdict) is ∙ ap Ignored found; other = other }
 
 judged_fault : (fault : DecodeFault) (judged : Result Datagram DecodeFault) → fault ≢ decoding.Memory → IsJudged takes_memory (Err fault) judged → judged ≡ Err fault

@@ -59,15 +59,15 @@ shows_rows (Request sender name mask) me moment arms state is = absurd is
 shows_rows (Repair sender drawop) me moment arms state is = absurd is
 
 -- room changes nothing of what is heard
-pub hears_roomy : (is : Datagram → Type 0) (fresh : List FullName) (dist : List ℕ) (now : ℕ) (arms : List Arm) (a b d : TimersContent) → TimersStay a b → TimersHear is fresh dist now arms b d → TimersHear is fresh dist now arms a d
-hears_roomy is fresh dist now arms a b d stays hears = record { each = λ c past e g it with_this fits. hears.each c past e g it with_this (stays.each c past fits) }
+pub hears_roomy : (is : Datagram → Type 0) (newly_missing : List FullName) (dist : List ℕ) (now : ℕ) (arms : List Arm) (a b d : TimersContent) → TimersStay a b → TimersHear is newly_missing dist now arms b d → TimersHear is newly_missing dist now arms a d
+hears_roomy is newly_missing dist now arms a b d stays hears = record { each = λ c past e g it with_this fits. hears.each c past e g it with_this (stays.each c past fits) }
 
-pub session_enters : {W : Type 0} (next_word : W → ℕ × W) (a b : Content W) (moment : ℕ) (g : Datagram) (names fresh : List FullName) (dist : List ℕ) (arms : List Arm) (roomy : StoreContent) (after : DistancesContent) (e : Entry)
-    → IsSession g → names ≡ names_in g → is_gone a.state ≡ false → IsSpellable g → a.last ≤ moment → IsAllowed (Heard g) a → AreNewlyMissingByRows names a fresh → HearsToo a.config.me moment g a.distances after → IsTableOf after dist
-    → TimersHear IsSession fresh dist moment arms a.timers b.timers → StillFits a.store roomy → LearnsToo g roomy b.store → b.pages ≡ with_pages_of a.pages names → b.distances ≡ after → Goes a b moment
+pub session_enters : {W : Type 0} (next_word : W → ℕ × W) (a b : Content W) (moment : ℕ) (g : Datagram) (names newly_missing : List FullName) (dist : List ℕ) (arms : List Arm) (roomy : StoreContent) (after : DistancesContent) (e : Entry)
+    → IsSession g → names ≡ names_in g → is_gone a.state ≡ false → IsSpellable g → a.last ≤ moment → IsAllowed (Heard g) a → AreNewlyMissingByRows names a newly_missing → HearsToo a.config.me moment g a.distances after → IsTableOf after dist
+    → TimersHear IsSession newly_missing dist moment arms a.timers b.timers → StillFits a.store roomy → LearnsToo g roomy b.store → b.pages ≡ with_pages_of a.pages names → b.distances ≡ after → Goes a b moment
     → HaveSettings a.config a.timers → WaitsAreChosen next_word a.timers a.words arms b.words → e ≡ heard_entry a.config.me moment g arms a.state
     → Enters next_word (Some moment) (Heard g) a b e
-session_enters next_word a b moment g names fresh dist arms roomy after e is named here spellable late allowed fresh_of hears_too table hears kept learns pages same goes settings drawn e_is =
+session_enters next_word a b moment g names newly_missing dist arms roomy after e is named here spellable late allowed fresh_of hears_too table hears kept learns pages same goes settings drawn e_is =
     heard_enters next_word a b moment g arms e late settings drawn e_is heeds
   where
     hears_by : (c : Config) (made : ℕ) (past : List Entry) → Fits c made past a → distances.Fits c.me (distance_calls c.me past ++ calls_of c.me moment (Some g)) after
@@ -82,8 +82,8 @@ session_enters next_word a b moment g names fresh dist arms roomy after e is nam
     heeds : (c : Config) (made : ℕ) (past : List Entry) → Fits c made past a → Heeds c made past a b moment g (heard_entry c.me moment g arms a.state)
     heeds c made past h = heeds_by c made past a b moment g arms h late here spellable allowed
         (hears.each c past (heard_entry c.me moment g arms a.state) g is (heard_with c.me moment g arms a.state spellable) h.timers
-          (fresh_rows past (heard_entry c.me moment g arms a.state) names fresh (subst (λ ns. ShowsRows ns (heard_entry c.me moment g arms a.state)) (sym named) (shows_rows g c.me moment arms a.state is)) (fresh_of.each c made past h)) (dist_after c made past h))
+        (fresh_rows past (heard_entry c.me moment g arms a.state) names newly_missing (subst (λ ns. ShowsRows ns (heard_entry c.me moment g arms a.state)) (sym named) (shows_rows g c.me moment arms a.state is)) (fresh_of.each c made past h)) (dist_after c made past h))
         (subst (λ ds. store.Fits ds (evidence_in past ++ names_in g) (settlings past ++ cons_option (settling_of (Some g)) []) b.store) (sym (ap (λ ds. held past ++ ds) (no_drawops g is) ∙ append-nil (held past)))
-          (learns.each (held past) (evidence_in past) (settlings past) (kept.each (held past) (evidence_in past) (settlings past) h.store)))
+        (learns.each (held past) (evidence_in past) (settlings past) (kept.each (held past) (evidence_in past) (settlings past) h.store)))
         (subst (λ d. distances.Fits c.me (distance_calls c.me past ++ calls_of c.me moment (Some g)) d) (sym same) (hears_by c made past h))
         (pages ∙ ap (with_pages_of a.pages) named) goes

@@ -48,36 +48,36 @@ before_row (x ∷ rows) (suc i) r n asc l is h = go (same_stream n.stream x.stre
 pub within_one : (s : Stream) (above below : ℕ) (names : List FullName) (n : FullName) → AreExactly (is_between s above below) names → among names n ≡ true → same_stream n.stream s ≡ true
 within_one s above below names n h at = (and_parts (same_stream n.stream s) (nat_lt above n.number) (and_parts (same_stream n.stream s && nat_lt above n.number) (nat_lt n.number below) (sym (h.exact n) ∙ at)).0).0
 
-pub rises_on : (rows fresh more joined : List FullName) (i : ℕ) (r : FullName) (s : Stream) (above below : ℕ) → ascending row_below rows ≡ true → i < length rows → r ≡ get_or rows i r → s ≡ r.stream
-    → ascending name_below fresh ≡ true → ((n : FullName) → among fresh n ≡ true → list_any (λ (x : FullName). same_stream n.stream x.stream) (take i rows) ≡ true) → AreExactly (is_between s above below) more → joined ≡ fresh ++ more
+pub rises_on : (rows newly_missing more joined : List FullName) (i : ℕ) (r : FullName) (s : Stream) (above below : ℕ) → ascending row_below rows ≡ true → i < length rows → r ≡ get_or rows i r → s ≡ r.stream
+    → ascending name_below newly_missing ≡ true → ((n : FullName) → among newly_missing n ≡ true → list_any (λ (x : FullName). same_stream n.stream x.stream) (take i rows) ≡ true) → AreExactly (is_between s above below) more → joined ≡ newly_missing ++ more
     → ascending name_below joined ≡ true
-rises_on rows fresh more joined i r s above below asc l is s_is rising within exactly join = ap (ascending name_below) join ∙ ascending_joined fresh more rising exactly.in_order (λ m n h k. lower m n h k)
+rises_on rows newly_missing more joined i r s above below asc l is s_is rising within exactly join = ap (ascending name_below) join ∙ ascending_joined newly_missing more rising exactly.in_order (λ m n h k. lower m n h k)
   where
-    lower : (m n : FullName) → among fresh m ≡ true → among more n ≡ true → name_below m n ≡ true
+    lower : (m n : FullName) → among newly_missing m ≡ true → among more n ≡ true → name_below m n ≡ true
     lower m n h k =
         let at : n.stream ≡ r.stream = same_stream-is n.stream s (within_one s above below more n exactly k) ∙ s_is in
         or_left (stream_below m.stream n.stream) (same_stream m.stream n.stream && nat_lt m.number n.number) (ap (stream_below m.stream) at ∙ before_row rows i r m asc l is (within m h))
 
-pub within_more : (rows fresh more joined : List FullName) (i : ℕ) (r : FullName) (s : Stream) (above below : ℕ) → i < length rows → r ≡ get_or rows i r → s ≡ r.stream
-    → ((n : FullName) → among fresh n ≡ true → list_any (λ (x : FullName). same_stream n.stream x.stream) (take i rows) ≡ true) → AreExactly (is_between s above below) more → joined ≡ fresh ++ more
+pub within_more : (rows newly_missing more joined : List FullName) (i : ℕ) (r : FullName) (s : Stream) (above below : ℕ) → i < length rows → r ≡ get_or rows i r → s ≡ r.stream
+    → ((n : FullName) → among newly_missing n ≡ true → list_any (λ (x : FullName). same_stream n.stream x.stream) (take i rows) ≡ true) → AreExactly (is_between s above below) more → joined ≡ newly_missing ++ more
     → (n : FullName) → among joined n ≡ true → list_any (λ (x : FullName). same_stream n.stream x.stream) (take (i + 1) rows) ≡ true
-within_more rows fresh more joined i r s above below l is s_is within exactly join n h =
+within_more rows newly_missing more joined i r s above below l is s_is within exactly join n h =
     ap (list_any (λ (x : FullName). same_stream n.stream x.stream)) (take_more rows i r l) ∙ list_any-append (λ (x : FullName). same_stream n.stream x.stream) (take i rows) (get_or rows i r ∷ [])
-    ∙ go (among fresh n) refl (sym (ap (λ ns. among ns n) join ∙ list_any-append (same_name n) fresh more) ∙ h)
+    ∙ go (among newly_missing n) refl (sym (ap (λ ns. among ns n) join ∙ list_any-append (same_name n) newly_missing more) ∙ h)
   where
     or_last : (a : Bool) {b : Bool} → b ≡ true → (a || (b || false)) ≡ true
     or_last true e = refl
     or_last false e = ap (λ b. b || false) e
 
-    go : (b : Bool) → among fresh n ≡ b → (b || among more n) ≡ true → (list_any (λ (x : FullName). same_stream n.stream x.stream) (take i rows) || (same_stream n.stream (get_or rows i r).stream || false)) ≡ true
+    go : (b : Bool) → among newly_missing n ≡ b → (b || among more n) ≡ true → (list_any (λ (x : FullName). same_stream n.stream x.stream) (take i rows) || (same_stream n.stream (get_or rows i r).stream || false)) ≡ true
     go true e h = ap (λ b. b || (same_stream n.stream (get_or rows i r).stream || false)) (within n e)
     go false e h = or_last (list_any (λ (x : FullName). same_stream n.stream x.stream) (take i rows))
         (ap (λ (k : FullName). same_stream n.stream k.stream) (sym is) ∙ ap (same_stream n.stream) (sym s_is) ∙ within_one s above below more n exactly h)
 
-pub exact_more : (past : List Entry) (rows fresh more joined : List FullName) (i : ℕ) (r : FullName) (s : Stream) (above below : ℕ) → i < length rows → r ≡ get_or rows i r → s ≡ r.stream → above ≡ known past r.stream → below ≡ r.number + 1
-    → ((n : FullName) → among fresh n ≡ is_newly_missing_by_rows past (take i rows) n) → AreExactly (is_between s above below) more → joined ≡ fresh ++ more → (n : FullName) → among joined n ≡ is_newly_missing_by_rows past (take (i + 1) rows) n
-exact_more past rows fresh more joined i r s above below l is s_is above_is below_is exact exactly join n =
-    ap (λ ns. among ns n) join ∙ list_any-append (same_name n) fresh more ∙ ap (λ b. b || among more n) (exact n) ∙ ap (λ b. is_newly_missing_by_rows past (take i rows) n || b) one
+pub exact_more : (past : List Entry) (rows newly_missing more joined : List FullName) (i : ℕ) (r : FullName) (s : Stream) (above below : ℕ) → i < length rows → r ≡ get_or rows i r → s ≡ r.stream → above ≡ known past r.stream → below ≡ r.number + 1
+    → ((n : FullName) → among newly_missing n ≡ is_newly_missing_by_rows past (take i rows) n) → AreExactly (is_between s above below) more → joined ≡ newly_missing ++ more → (n : FullName) → among joined n ≡ is_newly_missing_by_rows past (take (i + 1) rows) n
+exact_more past rows newly_missing more joined i r s above below l is s_is above_is below_is exact exactly join n =
+    ap (λ ns. among ns n) join ∙ list_any-append (same_name n) newly_missing more ∙ ap (λ b. b || among more n) (exact n) ∙ ap (λ b. is_newly_missing_by_rows past (take i rows) n || b) one
     ∙ sym (ap (λ rs. is_newly_missing_by_rows past rs n) (take_more rows i r l) ∙ list_any-append (λ (x : FullName). is_between x.stream (known past x.stream) (x.number + 1) n) (take i rows) (get_or rows i r ∷ []))
   where
     or_nothing : (b : Bool) → b ≡ (b || false)

@@ -11,7 +11,7 @@ use Rattle.srm_entries.specs.declared.state.AgentState.TheVariants.{Active, Leav
 use Rattle.srm_entries.specs.declared.entry.Input.{Input}
 use Rattle.srm_entries.specs.declared.entry.Input.TheVariants.{Drew, Ticked, AskedLeave}
 use Rattle.srm_entries.specs.Entries.{is_missing, is_tick}
-use Rattle.srm_entries.specs.Sessions.{SessionRight, EndsWith, ending, charged}
+use Rattle.srm_entries.specs.Sessions.{SessionRight, EndsWith, session_message_due, charged}
 use Rattle.srm_entries.specs.Bucket.{Going, GoesAsCharged, entries_of, datagrams_of, bucket_calls}
 use Rattle.srm_entries.specs.Runs.{EntryRight, IsMemberRun}
 use Rattle.srm_entries.proofs.Parting.{tick_draws_nothing}
@@ -53,7 +53,7 @@ idle_before now l = (
   },
 )
 
-ends_with_one : (e : Entry) → e.input ≡ Ticked → e.moment ≡ 1000000 → ending (config 0) 0 [] e ≡ Some false
+ends_with_one : (e : Entry) → e.input ≡ Ticked → e.moment ≡ 1000000 → session_message_due (config 0) 0 [] e ≡ Some false
 ends_with_one e i m =
     ap (λ (input : Input). if not (is_tick input) || false then None else if nat_le 1000000 e.moment then Some false else None) i
     ∙ ap (λ now. if nat_le 1000000 now then Some false else None) m

@@ -30,7 +30,7 @@ use Rattle.srm_agent.specs.Contents.{Content}
 use Rattle.srm_entries.specs.Entries.{state, is_gone, is_leaving, ticked, last_moment, is_missing, drawn, sent}
 use Rattle.srm_entries.specs.Timers.{last_ask, fix_running, ArmsRight, TimersRight, only_if}
 use Rattle.srm_codec.specs.Spelling.{is_data}
-use Rattle.srm_entries.specs.Sessions.{charged, all_data_sent, ending}
+use Rattle.srm_entries.specs.Sessions.{charged, all_data_sent, session_message_due}
 use Rattle.srm_entries.specs.Bucket.{Going, GoesAsCharged, BucketRight, entries_of, calls_by, bucket_calls}
 use Rattle.srm_entries.specs.Runs.{EntryRight}
 use Rattle.srm_agent.specs.Fits.{Fits, BucketFits}
@@ -100,7 +100,7 @@ unsent_stays past e uncharged none =
 
 -- what such a tick ends with
 pub ends_by : {W : Type 0} (c : Config) (made : ℕ) (past : List Entry) (a : Content W) (e : Entry) → Fits c made past a → ticked e ≡ true → charged e ≡ [] → e.effects.drawn ≡ None
-    → ending c made past e ≡ ending_of a.state (not (length (queue a.bucket.waiting New) == 0)) (nat_le a.due e.moment)
+    → session_message_due c made past e ≡ ending_of a.state (not (length (queue a.bucket.waiting New) == 0)) (nat_le a.due e.moment)
 ends_by c made past a e h t uncharged none =
     ending_is c made past e a.state (not (length (queue a.bucket.waiting New) == 0)) (nat_le a.due e.moment) t h.state
     (not-not (length (queue a.bucket.waiting New) == 0) ∙ sym (unsent_stays past e uncharged none ∙ all_sent c past a.bucket h.bucket)) (ap (λ n. nat_le n e.moment) h.due)

@@ -18,7 +18,7 @@ use Rattle.srm_entries.specs.Configs.{Config}
 use Rattle.srm_entries.specs.Entries.{state, is_gone, ticked}
 use Rattle.srm_entries.specs.Timers.{ask_due, fix_due}
 use Rattle.srm_codec.specs.Spelling.{is_session}
-use Rattle.srm_entries.specs.Sessions.{charged, session_due, all_data_sent, ending, EndsWith}
+use Rattle.srm_entries.specs.Sessions.{charged, session_due, all_data_sent, session_message_due, EndsWith}
 use Rattle.srm_entries.specs.Bucket.{Going, GoesAsCharged, entries_of, datagrams_of, lets_go, pops, calls_by, bucket_calls}
 use Rattle.srm_entries.specs.Runs.{EntryRight, IsMemberRun}
 use Rattle.srm_entries.specs.Promises.{MayDoNothing, DoesNothing, NothingIsDue}
@@ -120,17 +120,17 @@ goes_none c past now e m here t at none asks fixes nothing =
 
 -- what it sends at its end
 
-ends_not : (c : Config) (made : ℕ) (past : List Entry) (i : Entry) (o : Option Bool) → ending c made past i ≡ o → EndsWith c past i o → i.effects.outs ≡ [] → o ≡ None
+ends_not : (c : Config) (made : ℕ) (past : List Entry) (i : Entry) (o : Option Bool) → session_message_due c made past i ≡ o → EndsWith c past i o → i.effects.outs ≡ [] → o ≡ None
 ends_not c made past i None e ends none = refl
 ends_not c made past i (Some f) e (g, is, report) none = absurd (not_empty (charged i) g (sym none ∙ is))
 
 -- two ticks at a moment in which nothing is charged end alike
 ends_alike : (c : Config) (made : ℕ) (past : List Entry) (now : ℕ) (e : Entry) → ticked e ≡ true → e.moment ≡ now → e.effects.drawn ≡ None → charged e ≡ []
-    → ending c made past e ≡ ending_of (state past) (not (all_data_sent past)) (nat_le (session_due c made past) now)
+    → session_message_due c made past e ≡ ending_of (state past) (not (all_data_sent past)) (nat_le (session_due c made past) now)
 ends_alike c made past now e t at none uncharged =
     ending_is c made past e (state past) (not (all_data_sent past)) (nat_le (session_due c made past) now) t refl (not-not (all_data_sent past) ∙ sym (unsent_stays past e uncharged none)) (ap (nat_le (session_due c made past)) (sym at))
 
-sends_none : (c : Config) (made : ℕ) (past : List Entry) (e : Entry) → EntryRight c made (record { before = past; this = e }) → ending c made past e ≡ None → charged e ≡ [] → e.effects.outs ≡ []
+sends_none : (c : Config) (made : ℕ) (past : List Entry) (e : Entry) → EntryRight c made (record { before = past; this = e }) → session_message_due c made past e ≡ None → charged e ≡ [] → e.effects.outs ≡ []
 sends_none c made past e right none uncharged = subst (EndsWith c past e) none right.session ∙ uncharged
 
 active_rests : (c : Config) (made : ℕ) (past : List Entry) (now : ℕ) (i e : Entry) → DidNothing c made past now i → MayCome c made past now e → is_gone (state past) ≡ false → DoesNothing e
@@ -143,8 +143,8 @@ active_rests c made past now i e d m here =
     let goes : with_e.goes ≡ [] = goes_none c past now e with_e here m.ticks m.moment m.drawn asks fixes (subst (λ gs. may_go c.rate c.depth (bucket_calls c.me gs) now ≡ None) same (none_may_go c made past now i d here with_i)) in
     let uncharged : charged e ≡ [] = sym with_e.right.same ∙ ap datagrams_of goes in
     let uncharged_i : charged i ≡ [] = ap (filter (λ g. not (is_session g))) d.outs in
-    let ends : ending c made past e ≡ None =
-    ends_alike c made past now e m.ticks m.moment m.drawn uncharged ∙ sym (ends_alike c made past now i d.comes.ticks d.comes.moment d.comes.drawn uncharged_i) ∙ ends_not c made past i (ending c made past i) refl d.comes.right.session d.outs in
+    let ends : session_message_due c made past e ≡ None =
+    ends_alike c made past now e m.ticks m.moment m.drawn uncharged ∙ sym (ends_alike c made past now i d.comes.ticks d.comes.moment d.comes.drawn uncharged_i) ∙ ends_not c made past i (session_message_due c made past i) refl d.comes.right.session d.outs in
     record { asks = asks; fixes = fixes; outs = sends_none c made past e m.right ends uncharged }
 
 -- a member that is gone
@@ -153,7 +153,7 @@ gone_does_nothing c made past now e m gone =
     let with_e : MarkedWith c past e = marked_with c made past e m.run in
     let lets : not (lets_go (record { before = with_e.before; this = record { entry = e; goes = with_e.goes } })) ≡ true = rw (m.ticks, with_e.entries, gone) refl in
     let uncharged : charged e ≡ [] = sym with_e.right.same ∙ ap datagrams_of (OnTrue_at lets with_e.right.at_ticks) in
-    let ends : ending c made past e ≡ None = rw (m.ticks, gone) refl in
+    let ends : session_message_due c made past e ≡ None = rw (m.ticks, gone) refl in
     record {
       asks = asks_none c made past now e m (λ n. rw gone refl);
       fixes = fixes_none c made past now e m (λ n. rw gone refl);

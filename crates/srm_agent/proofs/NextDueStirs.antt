@@ -27,7 +27,7 @@ use Rattle.srm_agent.specs.Contents.{Content}
 use Rattle.srm_entries.specs.Entries.{state, is_gone, is_leaving, is_tick, ticked, is_missing}
 use Rattle.srm_entries.specs.Timers.{last_ask, fix_running, ask_running, only_if}
 use Rattle.srm_codec.specs.Spelling.{is_session}
-use Rattle.srm_entries.specs.Sessions.{charged, ending, EndsWith}
+use Rattle.srm_entries.specs.Sessions.{charged, session_message_due, EndsWith}
 use Rattle.srm_entries.specs.Bucket.{Going, GoesAsCharged, entries_of, datagrams_of, bucket_calls}
 use Rattle.srm_entries.specs.Runs.{EntryRight, IsMemberRun}
 use Rattle.srm_agent.specs.Fits.{Fits}
@@ -99,7 +99,7 @@ not_empty (x ∷ xs) g e = absurd (cc)
 pub reports_then : {W : Type 0} (c : Config) (made : ℕ) (past : List Entry) (a : Content W) (now : ℕ) (e : Entry) → Fits c made past a → DidNothing c made past now e → is_gone (state past) ≡ false → report_next a ≤ now → ⊥
 reports_then c made past a now e h d here l =
     let (f, some) = ends_with_some a.state (length (queue a.bucket.waiting New) == 0) a.last a.due now (ap is_gone h.state ∙ here) l in
-    let ends : ending c made past e ≡ Some f = ends_by c made past a e h d.comes.ticks (ap (filter (λ g. not (is_session g))) d.outs) d.comes.drawn ∙ ap (λ m. ending_of a.state (not (length (queue a.bucket.waiting New) == 0)) (nat_le a.due m)) d.comes.moment ∙ some in
+    let ends : session_message_due c made past e ≡ Some f = ends_by c made past a e h d.comes.ticks (ap (filter (λ g. not (is_session g))) d.outs) d.comes.drawn ∙ ap (λ m. ending_of a.state (not (length (queue a.bucket.waiting New) == 0)) (nat_le a.due m)) d.comes.moment ∙ some in
     let (g, is, report) = subst (λ o. EndsWith c past e o) ends d.comes.right.session in
     not_empty (charged e) g (sym d.outs ∙ is)
 

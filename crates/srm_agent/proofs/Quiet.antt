@@ -22,7 +22,7 @@ use Rattle.srm_entries.specs.Entries.{accepted, ticked, state, is_gone, held, he
 use Rattle.srm_entries.specs.Distances.{distance_calls, calls_in, calls_of}
 use Rattle.srm_entries.specs.Timers.{arm_in, last_ask, fix_running, held_off, asker, asker_in, repaired, repairs_in, ask_exponent, ask_basis_of, fix_basis_of, basis_of, ArmsRight, TimersRight, only_if}
 use Rattle.srm_entries.specs.Verdicts.{settlings, settling_of}
-use Rattle.srm_entries.specs.Sessions.{session_due, interval_after, ending, EndsWith, SessionRight}
+use Rattle.srm_entries.specs.Sessions.{session_due, interval_after, session_message_due, EndsWith, SessionRight}
 use Rattle.srm_entries.specs.Bucket.{Going, GoesAsCharged, entries_of, bucket_calls, calls_by}
 use Rattle.srm_agent_state.specs.TimersKept.{TimersContent, TimersFit}
 use Rattle.srm_agent_state.proofs.Midway.{if_none}
@@ -195,5 +195,5 @@ no_ending false g rest i = refl
 
 pub no_session : (c : Config) (made : ℕ) (past : List Entry) (e : Entry) → IsIdle past e → SessionRight c made past e
 no_session c made past e i =
-    let none : ending c made past e ≡ None = no_ending (ticked e) (is_gone (state past)) _ i.rests in
+    let none : session_message_due c made past e ≡ None = no_ending (ticked e) (is_gone (state past)) _ i.rests in
     subst (EndsWith c past e) (sym none) (rw i.outs refl)

@@ -16,7 +16,7 @@ use Rattle.srm_distance.specs.Fits.{Fits as DistancesFit}
 use Rattle.srm_entries.specs.Configs.{Config}
 use Rattle.srm_agent.specs.Contents.{Content}
 use Rattle.srm_entries.specs.Distances.{distance_calls}
-use Rattle.srm_agent.specs.Reports.{IsReportOf, AreReported, AreOwed}
+use Rattle.srm_agent.specs.Reports.{IsSessionMessageOf, AreReported, AreOwed}
 
 -- echoes that can be sent at a moment have a spelling
 each_echo : (me now : ℕ) (echoes : List Echo) → now ≤ LATEST_MOMENT → All (CanBeSent me now) echoes → AllByRecursion is_echo echoes
@@ -50,7 +50,7 @@ is_spellable a moment farewell me page rows echoes same low below paged reported
 -- a session message of these rows and echoes
 pub report_is : {W : Type 0} (a : Content W) (moment : ℕ) (farewell : Bool) (me : ℕ) (page : Page) (rows : List FullName) (echoes : List Echo)
     → me ≡ a.config.me → page ≡ a.showing → AreReported a farewell rows → AreOwed a moment echoes → IsSpellable (Session me moment farewell page rows echoes)
-    → IsReportOf a moment farewell (Session me moment farewell page rows echoes)
+    → IsSessionMessageOf a moment farewell (Session me moment farewell page rows echoes)
 report_is a moment farewell me page rows echoes same shown reported owed spellable = record {
   right = λ c made past fits. (same ∙ ap (λ (k : Config). k.me) fits.config, refl, refl, shown ∙ fits.showing, owed.is c made past fits, reported.right c made past moment fits);
   sender = same;

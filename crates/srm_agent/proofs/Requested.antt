@@ -40,18 +40,18 @@ use Rattle.srm_agent.proofs.Heeded.{Goes, Heeds, heard_with, heeds_by, heard_ent
 pub up_to_is : (s : Stream) (k l known_of greatest : ℕ) (names : List FullName) → known_of ≡ k → greatest ≡ l → AreExactly (is_between s known_of (greatest + 1)) names → AreExactly (is_between s k (l + 1)) names
 up_to_is s k l known_of greatest names e f h = rw (sym e, sym f) h
 
-pub fresh_in : {W : Type 0} {a : Content W} {s t : Stream} {names fresh : List FullName} → s ≡ t → AreNewlyMissingUpTo s names a fresh → AreNewlyMissingUpTo t names a fresh
-fresh_in {a = a} {names = names} {fresh = fresh} e h = subst (λ s. AreNewlyMissingUpTo s names a fresh) e h
+pub fresh_in : {W : Type 0} {a : Content W} {s t : Stream} {names newly_missing : List FullName} → s ≡ t → AreNewlyMissingUpTo s names a newly_missing → AreNewlyMissingUpTo t names a newly_missing
+fresh_in {a = a} {names = names} {newly_missing = newly_missing} e h = subst (λ s. AreNewlyMissingUpTo s names a newly_missing) e h
 
 no_calls : (me : ℕ) (past : List Entry) (moment sender : ℕ) (name : FullName) (mask : ℕ) (arms : List Arm) (s : AgentState) → distance_calls me (past ++ heard_entry me moment (Request sender name mask) arms s ∷ []) ≡ distance_calls me past
 no_calls me past moment sender name mask arms s = flat_map-snoc (calls_in me) past (heard_entry me moment (Request sender name mask) arms s) ∙ append-nil (distance_calls me past)
 
-pub request_enters : {W : Type 0} (next_word : W → ℕ × W) (a b : Content W) (moment sender : ℕ) (name : FullName) (mask : ℕ) (names fresh : List FullName) (dist : List ℕ) (arms : List Arm) (roomy : StoreContent) (e : Entry)
-    → names ≡ asked_by name mask → is_gone a.state ≡ false → IsSpellable (Request sender name mask) → a.last ≤ moment → IsAllowed (Heard (Request sender name mask)) a → AreNewlyMissingUpTo name.stream names a fresh → IsTableOf a.distances dist
-    → TimersHearRequest roomy sender names fresh dist moment arms a.timers b.timers → StillFits a.store roomy → LearnsNames names roomy b.store → b.pages ≡ with_pages_of a.pages names → b.distances ≡ a.distances → Goes a b moment
+pub request_enters : {W : Type 0} (next_word : W → ℕ × W) (a b : Content W) (moment sender : ℕ) (name : FullName) (mask : ℕ) (names newly_missing : List FullName) (dist : List ℕ) (arms : List Arm) (roomy : StoreContent) (e : Entry)
+    → names ≡ asked_by name mask → is_gone a.state ≡ false → IsSpellable (Request sender name mask) → a.last ≤ moment → IsAllowed (Heard (Request sender name mask)) a → AreNewlyMissingUpTo name.stream names a newly_missing → IsTableOf a.distances dist
+    → TimersHearRequest roomy sender names newly_missing dist moment arms a.timers b.timers → StillFits a.store roomy → LearnsNames names roomy b.store → b.pages ≡ with_pages_of a.pages names → b.distances ≡ a.distances → Goes a b moment
     → HaveSettings a.config a.timers → WaitsAreChosen next_word a.timers a.words arms b.words → e ≡ heard_entry a.config.me moment (Request sender name mask) arms a.state
     → Enters next_word (Some moment) (Heard (Request sender name mask)) a b e
-request_enters next_word a b moment sender name mask names fresh dist arms roomy e asked here spellable late allowed up_to table hears kept shows pages same goes settings drawn e_is =
+request_enters next_word a b moment sender name mask names newly_missing dist arms roomy e asked here spellable late allowed up_to table hears kept shows pages same goes settings drawn e_is =
     heard_enters next_word a b moment (Request sender name mask) arms e late settings drawn e_is heeds
   where
     after : (c : Config) (made : ℕ) (past : List Entry) → Fits c made past a → AreDistancesAfter c (past ++ heard_entry c.me moment (Request sender name mask) arms a.state ∷ []) dist
@@ -63,9 +63,9 @@ request_enters next_word a b moment sender name mask names fresh dist arms roomy
     heeds c made past h =
         let old_fits = kept.each (held past) (evidence_in past) (settlings past) h.store in
         heeds_by c made past a b moment (Request sender name mask) arms h late here spellable allowed
-          (hears.each c past (heard_entry c.me moment (Request sender name mask) arms a.state) (Request sender name mask) (refl, sym asked)
-              (heard_with c.me moment (Request sender name mask) arms a.state spellable) h.timers old_fits
-              (fresh_request past c.me moment sender name mask arms a.state fresh (subst (λ ns. AreExactly (is_between name.stream (known past name.stream) (greatest_in ns name.stream + 1)) fresh) asked (up_to.each c made past h))) (after c made past h))
-          (rw (append-nil (held past), append-nil (settlings past)) (subst (λ ns. store.Fits (held past) (evidence_in past ++ ns) (settlings past) b.store) asked (shows.each (held past) (evidence_in past) (settlings past) old_fits)))
-          (rw (append-nil (distance_calls c.me past), same) h.distances)
-          (pages ∙ ap (with_pages_of a.pages) asked) goes
+        (hears.each c past (heard_entry c.me moment (Request sender name mask) arms a.state) (Request sender name mask) (refl, sym asked)
+        (heard_with c.me moment (Request sender name mask) arms a.state spellable) h.timers old_fits
+        (fresh_request past c.me moment sender name mask arms a.state newly_missing (subst (λ ns. AreExactly (is_between name.stream (known past name.stream) (greatest_in ns name.stream + 1)) newly_missing) asked (up_to.each c made past h))) (after c made past h))
+        (rw (append-nil (held past), append-nil (settlings past)) (subst (λ ns. store.Fits (held past) (evidence_in past ++ ns) (settlings past) b.store) asked (shows.each (held past) (evidence_in past) (settlings past) old_fits)))
+        (rw (append-nil (distance_calls c.me past), same) h.distances)
+        (pages ∙ ap (with_pages_of a.pages) asked) goes

@@ -10,14 +10,14 @@ use Rattle.srm_entries.specs.declared.entry.Entry.{Entry}
 use Rattle.srm_entries.specs.declared.entry.Input.{Input}
 use Rattle.srm_entries.specs.declared.entry.Verdict.{Verdict}
 use Rattle.srm_entries.specs.Configs.{Config}
-use Rattle.srm_entries.specs.Entries.{done_input, heard_in, page_shown, is_tick, takes_moment, last_moment, clock_of, state, is_gone, slots}
+use Rattle.srm_entries.specs.Entries.{done_input, heard_in, page_shown, is_tick, takes_moment, last_moment, moments_counted, state, is_gone, slots}
 use Rattle.srm_entries.specs.Verdicts.{VerdictRight}
 use Rattle.srm_entries.specs.Giving.{given, given_in, MessageRight}
 use Rattle.srm_entries.specs.Runs.{EntryRight, MomentRight, expected_drawop, expected_state}
 use Rattle.srm_agent_state.specs.Progress.{ProgressContent, ProgressFits}
 use Rattle.srm_agent.specs.Contents.{Content}
 use Rattle.srm_agent.specs.Fits.{Fits, EachProgressFits}
-use Rattle.srm_entries.specs.Still.{still_entry}
+use Rattle.srm_entries.specs.Still.{entry_without_effects}
 use Rattle.srm_entries.proofs.Feeding.{given-snoc}
 use Rattle.srm_entries.proofs.Showing.{state-snoc}
 use Rattle.srm_entries.proofs.Running.{steps_more, last_moment-snoc, shown-page-snoc}
@@ -28,7 +28,7 @@ pub record MayFollow (c : Config) (made : ℕ) (past : List Entry) (moment : ℕ
   pub unheard : heard_in (done_input verdict input) ≡ None
   pub undrawn : expected_drawop c past moment (done_input verdict input) ≡ None
   pub idle : (is_tick input && not (is_gone (state past))) ≡ false
-  pub moment_right : MomentRight c made past (still_entry c.me moment input verdict message after)
+  pub moment_right : MomentRight c made past (entry_without_effects c.me moment input verdict message after)
   pub verdict_right : VerdictRight c past input verdict
   pub message_right : MessageRight c past input message
   pub state_right : after ≡ expected_state (state past) false (done_input verdict input)
@@ -47,11 +47,11 @@ undone_follows c made past moment input verdict after undone unticked takes late
 }
 
 quiet : (c : Config) (made : ℕ) (past : List Entry) (moment : ℕ) (input : Input) (verdict : Verdict) (message : Option PageMsg) (after : AgentState)
-    → MayFollow c made past moment input verdict message after → Quiet (still_entry c.me moment input verdict message after)
+    → MayFollow c made past moment input verdict message after → Quiet (entry_without_effects c.me moment input verdict message after)
 quiet c made past moment input verdict message after m = record { unheard = m.unheard; drawn = refl; arms = refl; asks = refl; fixes = refl }
 
 pub still_right : (c : Config) (made : ℕ) (past : List Entry) (moment : ℕ) (input : Input) (verdict : Verdict) (message : Option PageMsg) (after : AgentState)
-    → MayFollow c made past moment input verdict message after → EntryRight c made (record { before = past; this = still_entry c.me moment input verdict message after })
+    → MayFollow c made past moment input verdict message after → EntryRight c made (record { before = past; this = entry_without_effects c.me moment input verdict message after })
 still_right c made past moment input verdict message after m =
     let q = quiet c made past moment input verdict message after m in
     record {
@@ -80,18 +80,18 @@ pub record SameParts {W : Type 0} (a b : Content W) : Type 0 where
 
 pub still_fits : {W : Type 0} (c : Config) (made : ℕ) (past : List Entry) (a b : Content W) (moment : ℕ) (input : Input) (verdict : Verdict) (message : Option PageMsg) (after : AgentState)
     → Fits c made past a → MayFollow c made past moment input verdict message after → SameParts a b → b.state ≡ after
-    → b.last ≡ max a.last (greatest (clock_of verdict (still_entry c.me moment input verdict message after)))
+    → b.last ≡ max a.last (greatest (moments_counted verdict (entry_without_effects c.me moment input verdict message after)))
     → b.showing ≡ unwrap_or (page_shown (done_input verdict input)) a.showing
-    → b.pages ≡ slots (past ++ still_entry c.me moment input verdict message after ∷ [])
-    → EachProgressFits (past ++ still_entry c.me moment input verdict message after ∷ []) b.progress
-    → Fits c made (past ++ still_entry c.me moment input verdict message after ∷ []) b
+    → b.pages ≡ slots (past ++ entry_without_effects c.me moment input verdict message after ∷ [])
+    → EachProgressFits (past ++ entry_without_effects c.me moment input verdict message after ∷ []) b.progress
+    → Fits c made (past ++ entry_without_effects c.me moment input verdict message after ∷ []) b
 still_fits c made past a b moment input verdict message after h m same is_state is_last is_showing is_pages progress =
     let q = quiet c made past moment input verdict message after m in
     record {
       run = steps_more (EntryRight c made) past _ h.run (still_right c made past moment input verdict message after m);
       config = same.config ∙ h.config;
       state = is_state ∙ sym (state-snoc past _);
-      last = is_last ∙ ap (λ n. max n (greatest (clock_of verdict (still_entry c.me moment input verdict message after)))) h.last ∙ sym (last_moment-snoc made past _);
+      last = is_last ∙ ap (λ n. max n (greatest (moments_counted verdict (entry_without_effects c.me moment input verdict message after)))) h.last ∙ sym (last_moment-snoc made past _);
       showing = is_showing ∙ ap (unwrap_or (page_shown (done_input verdict input))) h.showing ∙ sym (shown-page-snoc past _);
       pages = is_pages;
       progress = progress;

@@ -88,12 +88,12 @@ no_calls : (me : ℕ) (past : List Entry) (moment : ℕ) (d : Drawop) (g : Datag
 no_calls me past moment d g arms s one =
     flat_map-snoc (calls_in me) past (heard_entry me moment g arms s) ∙ ap (λ cs. distance_calls me past ++ cs) (one.uncalled me moment) ∙ append-nil (distance_calls me past)
 
-pub drawop_enters : {W : Type 0} (next_word : W → ℕ × W) (a b : Content W) (moment : ℕ) (g : Datagram) (is : Datagram → Type 0) (d : Drawop) (fresh : List FullName) (dist : List ℕ) (arms : List Arm) (roomy : StoreContent) (e : Entry)
-    → BringsOne d g → is g → is_gone a.state ≡ false → IsSpellable g → a.last ≤ moment → IsAllowed (Heard g) a → AreNewlyMissingBelow d.name a fresh → IsTableOf a.distances dist
-    → TimersHear is fresh dist moment arms a.timers b.timers → StillFits a.store roomy → HoldsToo d roomy b.store → b.pages ≡ with_pages_of a.pages (d.name ∷ []) → b.distances ≡ a.distances → Goes a b moment
+pub drawop_enters : {W : Type 0} (next_word : W → ℕ × W) (a b : Content W) (moment : ℕ) (g : Datagram) (is : Datagram → Type 0) (d : Drawop) (newly_missing : List FullName) (dist : List ℕ) (arms : List Arm) (roomy : StoreContent) (e : Entry)
+    → BringsOne d g → is g → is_gone a.state ≡ false → IsSpellable g → a.last ≤ moment → IsAllowed (Heard g) a → AreNewlyMissingBelow d.name a newly_missing → IsTableOf a.distances dist
+    → TimersHear is newly_missing dist moment arms a.timers b.timers → StillFits a.store roomy → HoldsToo d roomy b.store → b.pages ≡ with_pages_of a.pages (d.name ∷ []) → b.distances ≡ a.distances → Goes a b moment
     → HaveSettings a.config a.timers → WaitsAreChosen next_word a.timers a.words arms b.words → e ≡ heard_entry a.config.me moment g arms a.state
     → Enters next_word (Some moment) (Heard g) a b e
-drawop_enters next_word a b moment g is d fresh dist arms roomy e one it here spellable late allowed below table hears kept holds pages same goes settings drawn e_is =
+drawop_enters next_word a b moment g is d newly_missing dist arms roomy e one it here spellable late allowed below table hears kept holds pages same goes settings drawn e_is =
     heard_enters next_word a b moment g arms e late settings drawn e_is heeds
   where
     after : (c : Config) (made : ℕ) (past : List Entry) → Fits c made past a → AreDistancesAfter c (past ++ heard_entry c.me moment g arms a.state ∷ []) dist
@@ -104,7 +104,7 @@ drawop_enters next_word a b moment g is d fresh dist arms roomy e one it here sp
     heeds : (c : Config) (made : ℕ) (past : List Entry) → Fits c made past a → Heeds c made past a b moment g (heard_entry c.me moment g arms a.state)
     heeds c made past h = heeds_by c made past a b moment g arms h late here spellable allowed
         (hears.each c past (heard_entry c.me moment g arms a.state) g it (heard_with c.me moment g arms a.state spellable) h.timers
-          (fresh_drawop past (heard_entry c.me moment g arms a.state) d _ fresh (one.brings c.me moment arms a.state) refl (below.each c made past h)) (after c made past h))
+        (fresh_drawop past (heard_entry c.me moment g arms a.state) d _ newly_missing (one.brings c.me moment arms a.state) refl (below.each c made past h)) (after c made past h))
         (rw (one.drawops, one.names, one.unparting, append-nil (settlings past)) (holds.each (held past) (evidence_in past) (settlings past) (kept.each (held past) (evidence_in past) (settlings past) h.store)))
         (rw (one.uncalled c.me moment, append-nil (distance_calls c.me past), same) h.distances)
         (rw one.names pages) goes

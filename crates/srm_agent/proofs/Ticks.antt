@@ -17,7 +17,7 @@ use Rattle.srm_entries.specs.Entries.{state, last_moment, held, evidence_in, dra
 use Rattle.srm_entries.specs.Distances.{distance_calls, calls_in}
 use Rattle.srm_entries.specs.Timers.{ArmsRight, TimersRight}
 use Rattle.srm_entries.specs.Verdicts.{settlings, settling_of}
-use Rattle.srm_entries.specs.Sessions.{ending}
+use Rattle.srm_entries.specs.Sessions.{session_message_due}
 use Rattle.srm_entries.specs.Runs.{EntryRight, expected_state}
 use Rattle.srm_agent.specs.Ticking.{tick_entry}
 use Rattle.srm_agent.specs.Contents.{Content}
@@ -70,7 +70,7 @@ pub record TickRight (c : Config) (made : ℕ) (past : List Entry) (e : Entry) (
   pub each : AllByRecursion (IsSent c.me) went
   pub charged : NoSessions went
   pub last : AllByRecursion (IsSent c.me) (option_to_list o)
-  pub ending : ending c made past e ≡ wanted
+  pub ending : session_message_due c made past e ≡ wanted
   pub ends : EndsIn c past e.moment wanted o
   pub state : e.effects.state ≡ expected_state (state past) (list_any is_farewell e.effects.outs) (Some Ticked)
 

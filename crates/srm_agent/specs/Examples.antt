@@ -18,7 +18,7 @@ use Rattle.srm_entries.specs.declared.entry.Input.TheVariants.{Gave}
 use Rattle.srm_entries.specs.declared.entry.Verdict.TheVariants.{Done, Ignored, Refused}
 use Rattle.srm_entries.specs.Sample.{first_stream, first_drawop, third_drawop, draws, hears, gives, ask_arm}
 use Rattle.srm_agent.specs.declared.heard.Heard.{Heard}
-use Rattle.srm_entries.specs.Still.{still_entry}
+use Rattle.srm_entries.specs.Still.{entry_without_effects}
 use Rattle.srm_agent.specs.Noting.{moment_that_counts, AnswersAs, AnswersHeard, IsDrawnName, verdict_of_outcome}
 use Rattle.srm_agent.specs.Heeding.{entry_with}
 use Rattle.srm_agent.specs.Waking.{sooner_of}
@@ -82,5 +82,5 @@ drawn_name = refl
 not_another_name : IsDrawnName (draws 0 1 first_drawop) (named first_stream 2) → ⊥
 not_another_name h = let k : 1 ≡ 2 = ap (λ (n : FullName). n.number) (same_Some (named first_stream 1) (named first_stream 2) h) in absurd (omega (arith, k))
 
-an_entry_without_effects : still_entry 1 10 (Gave 0) Done (Some (Open first_page)) Active ≡ gives 1 10 (Some (Open first_page))
+an_entry_without_effects : entry_without_effects 1 10 (Gave 0) Done (Some (Open first_page)) Active ≡ gives 1 10 (Some (Open first_page))
 an_entry_without_effects = refl

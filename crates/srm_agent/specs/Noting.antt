@@ -17,7 +17,7 @@ use Rattle.srm_entries.specs.declared.entry.Input.TheVariants.{Gave}
 use Rattle.srm_entries.specs.declared.entry.Verdict.{Verdict}
 use Rattle.srm_entries.specs.declared.entry.Verdict.TheVariants.{Done, Ignored, Refused}
 use Rattle.srm_entries.specs.Configs.{Config}
-use Rattle.srm_entries.specs.Still.{still_entry}
+use Rattle.srm_entries.specs.Still.{entry_without_effects}
 use Rattle.srm_entries.specs.Entries.{is_gone}
 use Rattle.srm_entries.specs.Verdicts.{verdict_of}
 use Rattle.srm_agent.specs.Contents.{Content}
@@ -33,7 +33,7 @@ verdict_answering (Err fault) = Refused fault
 
 -- the entry of a give, by what is answered
 abbrev pub gave_by : {W : Type 0} → Content W → ℕ → Option PageMsg → Entry
-gave_by a slot message = still_entry a.config.me a.last (Gave slot) Done message a.state
+gave_by a slot message = entry_without_effects a.config.me a.last (Gave slot) Done message a.state
 
 -- the moment that counts: a lower one than the last counts as the last, and a call that takes none has the last
 abbrev pub moment_that_counts : Option ℕ → ℕ → ℕ
@@ -49,8 +49,8 @@ pub record Enters {W : Type 0} (next_word : W → ℕ × W) (now : Option ℕ) (
   pub words : AreChosen next_word (low_of old.config) (high_of old.config) old.words e.effects.arms new.words
 
 -- a call without effects has the entry of the agent that it leaves, with the verdict of what it answers
-abbrev pub EntersStill : {W A : Type 0} → (W → ℕ × W) → ℕ → Input → Content W → Content W → Result A AgentFault → Type 0
-EntersStill next_word moment input old new answer = Enters next_word (Some moment) input old new (still_entry new.config.me moment input (verdict_answering answer) None new.state)
+abbrev pub EntersWithoutEffects : {W A : Type 0} → (W → ℕ × W) → ℕ → Input → Content W → Content W → Result A AgentFault → Type 0
+EntersWithoutEffects next_word moment input old new answer = Enters next_word (Some moment) input old new (entry_without_effects new.config.me moment input (verdict_answering answer) None new.state)
 
 -- whatever run the agent fitted, it still fits, and no word was used
 pub record Stays {W : Type 0} (old new : Content W) : Type 0 where

@@ -15,22 +15,22 @@ use Rattle.srm_outbox.specs.declared.out.Outgoing.{Outgoing}
 use Rattle.srm_entries.specs.Configs.{Config}
 use Rattle.srm_agent.specs.Contents.{Content}
 use Rattle.srm_entries.specs.Entries.{known}
-use Rattle.srm_entries.specs.Sessions.{IsReport, ReportRight, echoes_owed, if_positive}
+use Rattle.srm_entries.specs.Sessions.{IsSessionMessage, SessionMessageRight, echoes_owed, if_positive}
 use Rattle.srm_outbox.specs.Outs.{IsOutgoing}
 use Rattle.srm_entries.specs.Verdicts.{told, stream_on}
 use Rattle.srm_agent.specs.Fits.{Fits}
 
 -- the session message that an agent sends at a moment, by all that it keeps
-pub record IsReportOf {W : Type 0} (a : Content W) (moment : ℕ) (wanted : Bool) (g : Datagram) : Type 0 where
-  pub right : (c : Config) (made : ℕ) (past : List Entry) → Fits c made past a → IsReport c past moment wanted g
+pub record IsSessionMessageOf {W : Type 0} (a : Content W) (moment : ℕ) (wanted : Bool) (g : Datagram) : Type 0 where
+  pub right : (c : Config) (made : ℕ) (past : List Entry) → Fits c made past a → IsSessionMessage c past moment wanted g
   pub sender : sender_of g ≡ a.config.me
   pub session : is_session g ≡ true
   pub farewell : is_farewell g ≡ wanted
   pub spellable : IsSpellable g
 
 -- and with its spelling
-pub record IsReportSpelled {W : Type 0} (a : Content W) (moment : ℕ) (wanted : Bool) (o : Outgoing) : Type 0 where
-  pub report : IsReportOf a moment wanted o.out.datagram
+pub record IsSessionMessageSpelled {W : Type 0} (a : Content W) (moment : ℕ) (wanted : Bool) (o : Outgoing) : Type 0 where
+  pub report : IsSessionMessageOf a moment wanted o.out.datagram
   pub outgoing : IsOutgoing a.config.session o
 
 -- whether a member is known to have left, by all that an agent keeps
@@ -86,7 +86,7 @@ pub record AreOwnStreams {W : Type 0} (a : Content W) (streams : List Stream) : 
 
 -- the rows of a session message, or of a farewell
 pub record AreReported {W : Type 0} (a : Content W) (wanted : Bool) (rows : List FullName) : Type 0 where
-  pub right : (c : Config) (made : ℕ) (past : List Entry) (now : ℕ) → Fits c made past a → ReportRight c past now wanted rows
+  pub right : (c : Config) (made : ℕ) (past : List Entry) (now : ℕ) → Fits c made past a → SessionMessageRight c past now wanted rows
   pub spelled : AreRows wanted a.config.me rows
 
 -- the echoes that are owed at a moment

@@ -30,7 +30,7 @@ use Rattle.srm_agent.specs.Fits.{Fits}
 use Rattle.srm_agent_state.specs.TimersKept.{TimersContent}
 use Rattle.srm_agent_state.specs.TimerCalls.{AreDueAsks, AreDueFixes, AsksRanOut, FixesRanOut, AreToAsk, AreToFix, TicksWith, TimersAdd}
 use Rattle.srm_agent.specs.Noting.{Enters}
-use Rattle.srm_agent.specs.Reports.{IsReportSpelled}
+use Rattle.srm_agent.specs.Reports.{IsSessionMessageSpelled}
 use Rattle.srm_agent.specs.DueItems.{DueItems}
 use Rattle.srm_outbox.specs.Outbox.{WentContent, HandsIn, LetsGo}
 
@@ -65,14 +65,14 @@ pub record IsIdle (ticked : answers.Ticked) : Type 0 where
   pub outs : ticked.outs ≡ []
 
 -- a session message or a farewell of an agent at a moment, and when the next one is due after it
-pub record IsReportAt {W : Type 0} (a : Content W) (moment : ℕ) (farewell : Bool) (r : DueMessage) : Type 0 where
-  pub report : IsReportSpelled a moment farewell r.outgoing
+pub record IsSessionMessageAt {W : Type 0} (a : Content W) (moment : ℕ) (farewell : Bool) (r : DueMessage) : Type 0 where
+  pub report : IsSessionMessageSpelled a moment farewell r.outgoing
   pub next : (c : Config) (made : ℕ) (past : List Entry) → Fits c made past a → r.next ≡ moment + session_interval c past r.outgoing.out.datagram
 
 -- there is one exactly where it is wanted
 abbrev pub IsReportIf : {W : Type 0} → Bool → Content W → ℕ → Bool → Option DueMessage → Type 0
 IsReportIf wanted a moment farewell None = wanted ≡ false
-IsReportIf wanted a moment farewell (Some r) = (wanted ≡ true) × IsReportAt a moment farewell r
+IsReportIf wanted a moment farewell (Some r) = (wanted ≡ true) × IsSessionMessageAt a moment farewell r
 
 -- the names whose timers ran out, over whatever run the agent fits
 pub record IsToHandOut {W : Type 0} (a : Content W) (moment : ℕ) (h : HandedOut) : Type 0 where
@@ -111,10 +111,10 @@ abbrev pub data_waits : BucketContent Outgoing → Bool
 data_waits b = not (length (queue b.waiting New) == 0)
 
 -- the message that a tick ends with: the farewell of a member that is leaving, once no data of its own waits, else the session message
-abbrev pub last_report : (waits : Bool) → (farewell report : Option DueMessage) → Option DueMessage
-last_report true farewell report = report
-last_report false None report = report
-last_report false (Some farewell) report = Some farewell
+abbrev pub last_message : (waits : Bool) → (farewell report : Option DueMessage) → Option DueMessage
+last_message true farewell report = report
+last_message false None report = report
+last_message false (Some farewell) report = Some farewell
 
 -- the state after it
 abbrev pub state_after : (waits : Bool) → (farewell : Option DueMessage) → AgentState → AgentState

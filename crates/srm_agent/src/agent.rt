@@ -7,7 +7,7 @@ ghost use Rattle.srm_entries.specs.declared.entry.Entry.{Entry as AnEntry};
 ghost use Rattle.srm_entries.specs.Entries.{is_gone, state};
 ghost use Rattle.srm_agent.specs.Fits.{Fits, AreNewProgress};
 ghost use Rattle.srm_entries.specs.Runs.{IsMemberRun};
-ghost use Rattle.srm_entries.specs.Still.{still_entry};
+ghost use Rattle.srm_entries.specs.Still.{entry_without_effects};
 ghost use Rattle.srm_agent.specs.Noting.{Does, verdict_answering};
 
 mod accepting;
@@ -164,7 +164,7 @@ impl<W: Words + Drop> Agent<W> {
 
     /// What is answered, and the entry, where a call is refused.
     fn refused<A>(&self, moment: u64, input: Input, fault: AgentFault) -> Noted<A>
-        ensures entry { result.entry ≡ still_entry self.now.config.me moment input (Verdict.Refused fault) None self.now.state }
+        ensures entry { result.entry ≡ entry_without_effects self.now.config.me moment input (Verdict.Refused fault) None self.now.state }
         ensures answer { result.answer ≡ Err fault }
     {
         self.noted(moment, input, Err(fault))
@@ -172,7 +172,7 @@ impl<W: Words + Drop> Agent<W> {
 
     /// What is answered, and the entry, of a call that is refused, or done and has no effects.
     fn noted<A>(&self, moment: u64, input: Input, answer: Result<A, AgentFault>) -> Noted<A>
-        ensures entry { result.entry ≡ still_entry self.now.config.me moment input (verdict_answering answer) None self.now.state }
+        ensures entry { result.entry ≡ entry_without_effects self.now.config.me moment input (verdict_answering answer) None self.now.state }
         ensures answer { result.answer ≡ answer }
     {
         let verdict = verdict_answering(&answer);
@@ -184,10 +184,10 @@ impl<W: Words + Drop> Agent<W> {
 
     /// An entry without effects, but perhaps a message. It takes no memory.
     fn entry(&self, moment: u64, input: Input, verdict: Verdict, message: Option<PageMsg>) -> Entry
-        ensures { result ≡ still_entry self.now.config.me moment input verdict message self.now.state }
+        ensures { result ≡ entry_without_effects self.now.config.me moment input verdict message self.now.state }
     {
         let (me, state) = (self.config.me(), self.state);
-        Entry::still(self.alloc, me, moment, input, verdict, message, state)
+        Entry::without_effects(self.alloc, me, moment, input, verdict, message, state)
     }
 }
 

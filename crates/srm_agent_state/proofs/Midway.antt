@@ -287,7 +287,7 @@ first_of_both t a b asks fixes = record {
 pub room_stays : (names : List FullName) (a b : AskContent) → DetectAndDueReady names a → AskKeepsRoom a b → DetectAndDueReady names b
 room_stays names a b ready holds =
     let set : AskReady names b = record {
-      ends = record { places = λ n at. holds.ends.places n (ready.detect.set.ends.places n at); room = omega (arith, ready.detect.set.ends.room, holds.ends.room) };
+      expiries = record { places = λ n at. holds.expiries.places n (ready.detect.set.expiries.places n at); room = omega (arith, ready.detect.set.expiries.room, holds.expiries.room) };
       timers = λ n at. holds.timers n (ready.detect.set.timers n at);
     } in
     record {

@@ -189,42 +189,42 @@ fresh_by f h m m' wanted armed e q s = ap (λ (b : Bool). if b then Some wanted 
     go false false true q s = ap Some (s refl)
     go false false false q s = refl
 
-found_by : (me : ℕ) (past : List Entry) (e : Entry) (n : FullName) (fresh : List FullName) (dist : List ℕ) → asker n e ≡ None → e.effects.asks ≡ [] → AreNewlyMissing past e fresh
-    → (among fresh n ≡ true → distance_to dist n.stream.source ≡ distance (past ++ e ∷ []) me n.stream.source) → found_basis fresh [] dist n ≡ basis_of me past e n
-found_by me past e n fresh dist none nothing are near =
-    fresh_by (among fresh n) (is_held past n) (is_missing past n) (is_missing (past ++ e ∷ []) n) (asks.ask_basis 0 (distance_to dist n.stream.source)) (ask_at me (past ++ e ∷ []) n)
+found_by : (me : ℕ) (past : List Entry) (e : Entry) (n : FullName) (newly_missing : List FullName) (dist : List ℕ) → asker n e ≡ None → e.effects.asks ≡ [] → AreNewlyMissing past e newly_missing
+    → (among newly_missing n ≡ true → distance_to dist n.stream.source ≡ distance (past ++ e ∷ []) me n.stream.source) → found_basis newly_missing [] dist n ≡ basis_of me past e n
+found_by me past e n newly_missing dist none nothing are near =
+    fresh_by (among newly_missing n) (is_held past n) (is_missing past n) (is_missing (past ++ e ∷ []) n) (asks.ask_basis 0 (distance_to dist n.stream.source)) (ask_at me (past ++ e ∷ []) n)
     (are.exact n) (held_then past e n) (λ f. ap (λ d. asks.ask_basis 0 d) (near f))
     ∙ sym (unasked me past e n none nothing)
 
 pub settings_fit : (c : Config) (past : List Entry) (t : TimersContent) → TimersFit c past t → HaveSettings c t
 settings_fit c past t h = record { c1 = h.asks.c1_is; c2 = h.asks.c2_is; d1 = h.fixes.d1_is; d2 = h.fixes.d2_is }
 
-pub fresh_near : (c : Config) (past : List Entry) (e : Entry) (g : Datagram) (now : ℕ) (arms : List Arm) (fresh : List FullName) (dist : List ℕ) (n : FullName) → HearsWith g now arms e → AreNewlyMissing past e fresh
-    → AreDistancesAfter c (past ++ e ∷ []) dist → among fresh n ≡ true → distance_to dist n.stream.source ≡ distance (past ++ e ∷ []) c.me n.stream.source
-fresh_near c past e g now arms fresh dist n with_ are d f =
+pub fresh_near : (c : Config) (past : List Entry) (e : Entry) (g : Datagram) (now : ℕ) (arms : List Arm) (newly_missing : List FullName) (dist : List ℕ) (n : FullName) → HearsWith g now arms e → AreNewlyMissing past e newly_missing
+    → AreDistancesAfter c (past ++ e ∷ []) dist → among newly_missing n ≡ true → distance_to dist n.stream.source ≡ distance (past ++ e ∷ []) c.me n.stream.source
+fresh_near c past e g now arms newly_missing dist n with_ are d f =
     let k = fresh_then past e n (sym (are.exact n) ∙ f) in
     d.each n.stream.source (fresh_source past e g n with_.heard with_.drawn with_.read k.0 k.1)
 
 -- the arms of an entry that hears no request
-arms_right : {W : Type 0} (next_word : W → ℕ × W) (from to : W) (c : Config) (past : List Entry) (e : Entry) (g : Datagram) (now : ℕ) (arms : List Arm) (fresh : List FullName) (dist : List ℕ) (t : TimersContent)
-    → TimersFit c past t → HearsWith g now arms e → ((n : FullName) → asker n e ≡ None) → AreNewlyMissing past e fresh → AreDistancesAfter c (past ++ e ∷ []) dist
-    → ArmsOfFound fresh [] dist arms → WaitsAreChosen next_word t from arms to → ArmsRight c past e
-arms_right next_word from to c past e g now arms fresh dist t h with_ none are d first drawn = record {
+arms_right : {W : Type 0} (next_word : W → ℕ × W) (from to : W) (c : Config) (past : List Entry) (e : Entry) (g : Datagram) (now : ℕ) (arms : List Arm) (newly_missing : List FullName) (dist : List ℕ) (t : TimersContent)
+    → TimersFit c past t → HearsWith g now arms e → ((n : FullName) → asker n e ≡ None) → AreNewlyMissing past e newly_missing → AreDistancesAfter c (past ++ e ∷ []) dist
+    → ArmsOfFound newly_missing [] dist arms → WaitsAreChosen next_word t from arms to → ArmsRight c past e
+arms_right next_word from to c past e g now arms newly_missing dist t h with_ none are d first drawn = record {
   are = record {
     in_order = ap (λ as_. ascending name_below (arm_names as_)) with_.arms ∙ first.are.in_order;
     exact = λ n. ap (λ as_. option_map wait_basis (arm_of n as_)) with_.arms ∙ first.are.exact n
-        ∙ found_by c.me past e n fresh dist (none n) with_.asks are (fresh_near c past e g now arms fresh dist n with_ are d);
+        ∙ found_by c.me past e n newly_missing dist (none n) with_.asks are (fresh_near c past e g now arms newly_missing dist n with_ are d);
   };
   waits = rw with_.arms (chosen_waits next_word c from to arms (drawn.each c (settings_fit c past t h)));
 }
 
 -- What it does to the timers, where it gains such names and repairs such names.
-does_so : (c : Config) (past : List Entry) (e : Entry) (g : Datagram) (now : ℕ) (arms : List Arm) (fresh : List FullName) (dist : List ℕ) (gained ended : FullName → Bool) (until : FullName → ℕ)
-    → HearsWith g now arms e → ((n : FullName) → asker n e ≡ None) → AreNewlyMissing past e fresh → ArmsOfFound fresh [] dist arms
+does_so : (c : Config) (past : List Entry) (e : Entry) (g : Datagram) (now : ℕ) (arms : List Arm) (newly_missing : List FullName) (dist : List ℕ) (gained ended : FullName → Bool) (until : FullName → ℕ)
+    → HearsWith g now arms e → ((n : FullName) → asker n e ≡ None) → AreNewlyMissing past e newly_missing → ArmsOfFound newly_missing [] dist arms
     → ((n : FullName) → gains e n ≡ gained n) → ((n : FullName) → repaired n e ≡ ended n)
     → ((n : FullName) → ended n ≡ true → until n ≡ now + 3 * distance (past ++ e ∷ []) c.me (first_asker past n))
     → Does c past e now arms gained (λ n. None) ended until
-does_so c past e g now arms fresh dist gained ended until with_ none are first gain repair hold = record {
+does_so c past e g now arms newly_missing dist gained ended until with_ none are first gain repair hold = record {
   moment = with_.moment;
   arms_are = with_.arms;
   rising = first.are.in_order;
@@ -233,13 +233,13 @@ does_so c past e g now arms fresh dist gained ended until with_ none are first g
   others_stay = λ n unset k. others_then past e n (sym (are.exact n) ∙ sym (set n) ∙ unset) (gain n ∙ k);
   asked_is = none;
   ended_is = repair;
-  ended_unset = λ n k. fixes_of (arm_of n arms) (among fresh n) (first_exponent [] n) (distance_to dist n.stream.source) (first.are.exact n);
+  ended_unset = λ n k. fixes_of (arm_of n arms) (among newly_missing n) (first_exponent [] n) (distance_to dist n.stream.source) (first.are.exact n);
   until_is = hold;
 }
   where
-    set : (n : FullName) → is_some (of_kind Ask (arm_of n arms)) ≡ among fresh n
-    set n = ap is_some (asks_of (arm_of n arms) (among fresh n) (first_exponent [] n) (distance_to dist n.stream.source) (first.are.exact n))
-        ∙ is_armed (arm_of n arms) (among fresh n) (first_exponent [] n) (distance_to dist n.stream.source) (first.are.exact n)
+    set : (n : FullName) → is_some (of_kind Ask (arm_of n arms)) ≡ among newly_missing n
+    set n = ap is_some (asks_of (arm_of n arms) (among newly_missing n) (first_exponent [] n) (distance_to dist n.stream.source) (first.are.exact n))
+        ∙ is_armed (arm_of n arms) (among newly_missing n) (first_exponent [] n) (distance_to dist n.stream.source) (first.are.exact n)
 
 -- such datagrams ask for nothing, and gain and repair at most the name
 
@@ -280,25 +280,25 @@ unrepaired e g n h none = ap (λ o. repairs_in n o || among e.effects.fixes n) h
 -- the parts after it
 
 -- requests are set, and none of the names is gained
-asks_set : (c : Config) (past : List Entry) (now : ℕ) (arms : List Arm) (calls : List AskCall) (fresh : List FullName) (dist : List ℕ) (n : FullName)
-    → ask_timer calls n ≡ ask_running past n → ArmsOfFound fresh [] dist arms
+asks_set : (c : Config) (past : List Entry) (now : ℕ) (arms : List Arm) (calls : List AskCall) (newly_missing : List FullName) (dist : List ℕ) (n : FullName)
+    → ask_timer calls n ≡ ask_running past n → ArmsOfFound newly_missing [] dist arms
     → ask_timer (calls ++ sets now arms) n ≡ or_else (armed_as Ask now arms n) (ask_running past n)
-asks_set c past now arms calls fresh dist n h first =
+asks_set c past now arms calls newly_missing dist n h first =
     ask_timer-sets calls now arms n first.are.in_order
     ∙ ap (or_else (option_map (armed_at now) (arm_of n arms))) h
-    ∙ ap (λ o. or_else (option_map (armed_at now) o) (ask_running past n)) (sym (asks_of (arm_of n arms) (among fresh n) (first_exponent [] n) (distance_to dist n.stream.source) (first.are.exact n)))
+    ∙ ap (λ o. or_else (option_map (armed_at now) o) (ask_running past n)) (sym (asks_of (arm_of n arms) (among newly_missing n) (first_exponent [] n) (distance_to dist n.stream.source) (first.are.exact n)))
 
 gained_last : (s : Bool) (o last : Option Armed) → (s ≡ true → o ≡ None) → (if s then None else or_else o last) ≡ or_else o (if s then None else last)
 gained_last true o last e = ap (λ x. or_else x None) (sym (e refl))
 gained_last false o last e = refl
 
 -- and a name is gained that isn't among them
-asks_gained : (c : Config) (past : List Entry) (e : Entry) (now : ℕ) (arms : List Arm) (calls : List AskCall) (fresh : List FullName) (dist : List ℕ) (name n : FullName)
-    → ask_timer calls n ≡ ask_running past n → ArmsOfFound fresh [] dist arms → AreNewlyMissing past e fresh → gains e n ≡ same_name n name
+asks_gained : (c : Config) (past : List Entry) (e : Entry) (now : ℕ) (arms : List Arm) (calls : List AskCall) (newly_missing : List FullName) (dist : List ℕ) (name n : FullName)
+    → ask_timer calls n ≡ ask_running past n → ArmsOfFound newly_missing [] dist arms → AreNewlyMissing past e newly_missing → gains e n ≡ same_name n name
     → ask_timer ((calls ++ sets now arms) ++ Gained name ∷ []) n ≡ or_else (armed_as Ask now arms n) (if same_name n name then None else ask_running past n)
-asks_gained c past e now arms calls fresh dist name n h first are gain =
+asks_gained c past e now arms calls newly_missing dist name n h first are gain =
     ask_timer-gained (calls ++ sets now arms) name n
-    ∙ ap (λ o. if same_name n name then None else o) (asks_set c past now arms calls fresh dist n h first)
+    ∙ ap (λ o. if same_name n name then None else o) (asks_set c past now arms calls newly_missing dist n h first)
     ∙ gained_last (same_name n name) (armed_as Ask now arms n) (ask_running past n) (λ s. unset (gained_then past e n (gain ∙ s)))
   where
     no_fresh : (m m' : Bool) → m' ≡ false → (not m && m') ≡ false
@@ -311,33 +311,33 @@ asks_gained c past e now arms calls fresh dist name n h first are gain =
 
     unset : is_missing (past ++ e ∷ []) n ≡ false → armed_as Ask now arms n ≡ None
     unset m = none (arm_of n arms)
-        (is_armed (arm_of n arms) (among fresh n) (first_exponent [] n) (distance_to dist n.stream.source) (first.are.exact n) ∙ are.exact n ∙ no_fresh (is_missing past n) (is_missing (past ++ e ∷ []) n) m)
+        (is_armed (arm_of n arms) (among newly_missing n) (first_exponent [] n) (distance_to dist n.stream.source) (first.are.exact n) ∙ are.exact n ∙ no_fresh (is_missing past n) (is_missing (past ++ e ∷ []) n) m)
 
-fixes_as_they_were : (past : List Entry) (now : ℕ) (arms : List Arm) (fresh : List FullName) (dist : List ℕ) (n : FullName) (last : Option Armed) → ArmsOfFound fresh [] dist arms
+fixes_as_they_were : (past : List Entry) (now : ℕ) (arms : List Arm) (newly_missing : List FullName) (dist : List ℕ) (n : FullName) (last : Option Armed) → ArmsOfFound newly_missing [] dist arms
     → last ≡ or_else (armed_as Fix now arms n) last
-fixes_as_they_were past now arms fresh dist n last first =
-    ap (λ o. or_else (option_map (armed_at now) o) last) (sym (fixes_of (arm_of n arms) (among fresh n) (first_exponent [] n) (distance_to dist n.stream.source) (first.are.exact n)))
+fixes_as_they_were past now arms newly_missing dist n last first =
+    ap (λ o. or_else (option_map (armed_at now) o) last) (sym (fixes_of (arm_of n arms) (among newly_missing n) (first_exponent [] n) (distance_to dist n.stream.source) (first.are.exact n)))
 
 -- a session message
-pub rows_hear : {W : Type 0} (next_word : W → ℕ × W) (from to : W) (fresh : List FullName) (dist : List ℕ) (now : ℕ) (arms : List Arm) (old new : TimersContent)
-    → AskAdds (sets now arms) old.asks new.asks → new.fixes ≡ old.fixes → ArmsOfFound fresh [] dist arms → WaitsAreChosen next_word old from arms to → TimersHear IsSession fresh dist now arms old new
-rows_hear next_word from to fresh dist now arms old new adds same first drawn = record {
+pub rows_hear : {W : Type 0} (next_word : W → ℕ × W) (from to : W) (newly_missing : List FullName) (dist : List ℕ) (now : ℕ) (arms : List Arm) (old new : TimersContent)
+    → AskAdds (sets now arms) old.asks new.asks → new.fixes ≡ old.fixes → ArmsOfFound newly_missing [] dist arms → WaitsAreChosen next_word old from arms to → TimersHear IsSession newly_missing dist now arms old new
+rows_hear next_word from to newly_missing dist now arms old new adds same first drawn = record {
   each = λ c past e g is with_ h are d.
       let none : (n : FullName) → asker n e ≡ None = λ n. no_asker e g n with_.heard ((session_says n g is).asks) in
       record {
-        arms = arms_right next_word from to c past e g now arms fresh dist old h with_ none are d first drawn;
+        arms = arms_right next_word from to c past e g now arms newly_missing dist old h with_ none are d first drawn;
         fits = midway_fits c past e now arms no_name (λ n. None) no_name (λ n. 0) new
-            (does_so c past e g now arms fresh dist no_name no_name (λ n. 0) with_ none are first
+            (does_so c past e g now arms newly_missing dist no_name no_name (λ n. 0) with_ none are first
             (λ n. gains_heard e g n with_.heard with_.drawn ∙ (session_says n g is).gains)
             (λ n. unrepaired e g n with_.heard with_.fixes ∙ (session_says n g is).repairs)
             (λ n k. absurd (cc)))
             (record {
               ask_calls = h.ask_calls ++ sets now arms;
               asks = adds.each c.c1 c.c2 h.ask_calls h.asks;
-              ask_timers = λ n. asks_set c past now arms h.ask_calls fresh dist n (h.ask_timers n) first;
+              ask_timers = λ n. asks_set c past now arms h.ask_calls newly_missing dist n (h.ask_timers n) first;
               fix_calls = h.fix_calls;
               fixes = rw same h.fixes;
-              fix_timers = λ n. h.fix_timers n ∙ fixes_as_they_were past now arms fresh dist n (fix_running past n) first;
+              fix_timers = λ n. h.fix_timers n ∙ fixes_as_they_were past now arms newly_missing dist n (fix_running past n) first;
               askers = λ n. h.askers n ∙ sym (or_else-none (first_of (asker n) past));
               hold_offs = λ n u. h.hold_offs n u ∙ sym (or-false (held_off c.me past n u));
             });
@@ -345,30 +345,30 @@ rows_hear next_word from to fresh dist now arms old new adds same first drawn = 
 }
 
 -- data
-data_hears : {W : Type 0} (next_word : W → ℕ × W) (from to : W) (name : FullName) (fresh : List FullName) (dist : List ℕ) (now : ℕ) (arms : List Arm) (old roomy set held new : TimersContent)
+data_hears : {W : Type 0} (next_word : W → ℕ × W) (from to : W) (name : FullName) (newly_missing : List FullName) (dist : List ℕ) (now : ℕ) (arms : List Arm) (old roomy set held new : TimersContent)
     → roomy.asks ≡ old.asks → FixStays old.fixes roomy.fixes → KeepSettings old roomy
-    → AskAdds (sets now arms) roomy.asks set.asks → set.fixes ≡ roomy.fixes → ArmsOfFound fresh [] dist arms → WaitsAreChosen next_word roomy from arms to
+    → AskAdds (sets now arms) roomy.asks set.asks → set.fixes ≡ roomy.fixes → ArmsOfFound newly_missing [] dist arms → WaitsAreChosen next_word roomy from arms to
     → AskAdds (Gained name ∷ []) set.asks held.asks → held.fixes ≡ set.fixes
-    → new.fixes ≡ held.fixes → new.asks ≡ held.asks → TimersHear (IsDataOf name) fresh dist now arms old new
-data_hears next_word from to name fresh dist now arms old roomy set held new roomy_asks stays keeps adds set_fixes first roomy_drawn gained held_fixes new_fixes new_asks = record {
+    → new.fixes ≡ held.fixes → new.asks ≡ held.asks → TimersHear (IsDataOf name) newly_missing dist now arms old new
+data_hears next_word from to name newly_missing dist now arms old roomy set held new roomy_asks stays keeps adds set_fixes first roomy_drawn gained held_fixes new_fixes new_asks = record {
   each = λ c past e g is with_ h are d.
       let none : (n : FullName) → asker n e ≡ None = λ n. no_asker e g n with_.heard ((drawop_says false n name g is).asks) in
       let gain : (n : FullName) → gains e n ≡ same_name n name = λ n. gains_heard e g n with_.heard with_.drawn ∙ (drawop_says false n name g is).gains in
       let drawn : WaitsAreChosen next_word old from arms to = waits_before next_word old roomy from to arms keeps roomy_drawn in
       record {
-        arms = arms_right next_word from to c past e g now arms fresh dist old h with_ none are d first drawn;
+        arms = arms_right next_word from to c past e g now arms newly_missing dist old h with_ none are d first drawn;
         fits = midway_fits c past e now arms (λ n. same_name n name) (λ n. None) no_name (λ n. 0) new
-            (does_so c past e g now arms fresh dist (λ n. same_name n name) no_name (λ n. 0) with_ none are first gain
+            (does_so c past e g now arms newly_missing dist (λ n. same_name n name) no_name (λ n. 0) with_ none are first gain
             (λ n. unrepaired e g n with_.heard with_.fixes ∙ (drawop_says false n name g is).repairs)
             (λ n k. absurd (cc)))
             (record {
               ask_calls = (h.ask_calls ++ sets now arms) ++ Gained name ∷ [];
               asks = subst (AskFits c.c1 c.c2 ((h.ask_calls ++ sets now arms) ++ Gained name ∷ [])) (sym new_asks)
                   (gained.each c.c1 c.c2 (h.ask_calls ++ sets now arms) (adds.each c.c1 c.c2 h.ask_calls (subst (AskFits c.c1 c.c2 h.ask_calls) (sym roomy_asks) h.asks)));
-              ask_timers = λ n. asks_gained c past e now arms h.ask_calls fresh dist name n (h.ask_timers n) first are (gain n);
+              ask_timers = λ n. asks_gained c past e now arms h.ask_calls newly_missing dist name n (h.ask_timers n) first are (gain n);
               fix_calls = h.fix_calls;
               fixes = subst (FixFits c.d1 c.d2 h.fix_calls) (sym (new_fixes ∙ held_fixes ∙ set_fixes)) (stays.each c.d1 c.d2 h.fix_calls h.fixes);
-              fix_timers = λ n. h.fix_timers n ∙ fixes_as_they_were past now arms fresh dist n (fix_running past n) first;
+              fix_timers = λ n. h.fix_timers n ∙ fixes_as_they_were past now arms newly_missing dist n (fix_running past n) first;
               askers = λ n. h.askers n ∙ sym (or_else-none (first_of (asker n) past));
               hold_offs = λ n u. h.hold_offs n u ∙ sym (or-false (held_off c.me past n u));
             });
@@ -383,32 +383,32 @@ holds_until c past e now dist calls n d asked near =
     ap (λ k. now + 3 * k) (d.each (fixes.first_asker calls n) near ∙ ap (λ o. distance (past ++ e ∷ []) c.me (unwrap_or o n.stream.source)) asked)
 
 -- a repair
-repair_hears : {W : Type 0} (next_word : W → ℕ × W) (from to : W) (name : FullName) (fresh : List FullName) (dist : List ℕ) (now : ℕ) (arms : List Arm) (old roomy set held new : TimersContent)
+repair_hears : {W : Type 0} (next_word : W → ℕ × W) (from to : W) (name : FullName) (newly_missing : List FullName) (dist : List ℕ) (now : ℕ) (arms : List Arm) (old roomy set held new : TimersContent)
     → roomy.asks ≡ old.asks → FixStays old.fixes roomy.fixes → KeepSettings old roomy
-    → AskAdds (sets now arms) roomy.asks set.asks → set.fixes ≡ roomy.fixes → ArmsOfFound fresh [] dist arms → WaitsAreChosen next_word roomy from arms to
+    → AskAdds (sets now arms) roomy.asks set.asks → set.fixes ≡ roomy.fixes → ArmsOfFound newly_missing [] dist arms → WaitsAreChosen next_word roomy from arms to
     → AskAdds (Gained name ∷ []) set.asks held.asks → held.fixes ≡ set.fixes
-    → FixRepairs now dist (name ∷ []) held.fixes new.fixes → new.asks ≡ held.asks → TimersHear (IsRepairOf name) fresh dist now arms old new
-repair_hears next_word from to name fresh dist now arms old roomy set held new roomy_asks stays keeps adds set_fixes first roomy_drawn gained held_fixes repaired_ new_asks = record {
+    → FixRepairs now dist (name ∷ []) held.fixes new.fixes → new.asks ≡ held.asks → TimersHear (IsRepairOf name) newly_missing dist now arms old new
+repair_hears next_word from to name newly_missing dist now arms old roomy set held new roomy_asks stays keeps adds set_fixes first roomy_drawn gained held_fixes repaired_ new_asks = record {
   each = λ c past e g is with_ h are d.
       let none : (n : FullName) → asker n e ≡ None = λ n. no_asker e g n with_.heard ((drawop_says true n name g is).asks) in
       let gain : (n : FullName) → gains e n ≡ same_name n name = λ n. gains_heard e g n with_.heard with_.drawn ∙ (drawop_says true n name g is).gains in
       let drawn : WaitsAreChosen next_word old from arms to = waits_before next_word old roomy from to arms keeps roomy_drawn in
       let kept : FixFits c.d1 c.d2 h.fix_calls held.fixes = subst (FixFits c.d1 c.d2 h.fix_calls) (sym (held_fixes ∙ set_fixes)) (stays.each c.d1 c.d2 h.fix_calls h.fixes) in
       record {
-        arms = arms_right next_word from to c past e g now arms fresh dist old h with_ none are d first drawn;
+        arms = arms_right next_word from to c past e g now arms newly_missing dist old h with_ none are d first drawn;
         fits = midway_fits c past e now arms (λ n. same_name n name) (λ n. None) (λ n. among (name ∷ []) n) (repair_holds_until now dist h.fix_calls) new
-            (does_so c past e g now arms fresh dist (λ n. same_name n name) (λ n. among (name ∷ []) n) (repair_holds_until now dist h.fix_calls) with_ none are first gain
+            (does_so c past e g now arms newly_missing dist (λ n. same_name n name) (λ n. among (name ∷ []) n) (repair_holds_until now dist h.fix_calls) with_ none are first gain
             (λ n. unrepaired e g n with_.heard with_.fixes ∙ (drawop_says true n name g is).repairs)
             (λ n at. holds_until c past e now dist h.fix_calls n d (h.askers n) (repaired_.near c.d1 c.d2 h.fix_calls kept n at)))
             (record {
               ask_calls = (h.ask_calls ++ sets now arms) ++ Gained name ∷ [];
               asks = subst (AskFits c.c1 c.c2 ((h.ask_calls ++ sets now arms) ++ Gained name ∷ [])) (sym new_asks)
                   (gained.each c.c1 c.c2 (h.ask_calls ++ sets now arms) (adds.each c.c1 c.c2 h.ask_calls (subst (AskFits c.c1 c.c2 h.ask_calls) (sym roomy_asks) h.asks)));
-              ask_timers = λ n. asks_gained c past e now arms h.ask_calls fresh dist name n (h.ask_timers n) first are (gain n);
+              ask_timers = λ n. asks_gained c past e now arms h.ask_calls newly_missing dist name n (h.ask_timers n) first are (gain n);
               fix_calls = h.fix_calls ++ repair_calls now dist h.fix_calls (name ∷ []);
               fixes = repaired_.each c.d1 c.d2 h.fix_calls kept;
               fix_timers = λ n. fix_timer-repairs now dist h.fix_calls (name ∷ []) n ∙ ap (λ o. if among (name ∷ []) n then None else o) (h.fix_timers n)
-                  ∙ fixes_as_they_were past now arms fresh dist n (if among (name ∷ []) n then None else fix_running past n) first;
+                  ∙ fixes_as_they_were past now arms newly_missing dist n (if among (name ∷ []) n then None else fix_running past n) first;
               askers = λ n. asked_first-repairs now dist h.fix_calls (name ∷ []) n ∙ h.askers n ∙ sym (or_else-none (first_of (asker n) past));
               hold_offs = λ n u. calls_hold_off-repairs now dist h.fix_calls (name ∷ []) n u ∙ ap (λ b. b || among (name ∷ []) n && nat_lt u (repair_holds_until now dist h.fix_calls n)) (h.hold_offs n u);
             });
@@ -416,12 +416,12 @@ repair_hears next_word from to name fresh dist now arms old roomy set held new r
 }
 
 -- either
-pub drawop_hears : {W : Type 0} (next_word : W → ℕ × W) (from to : W) (repaired : Bool) (name : FullName) (fresh : List FullName) (dist : List ℕ) (now : ℕ) (arms : List Arm) (old roomy set held new : TimersContent)
+pub drawop_hears : {W : Type 0} (next_word : W → ℕ × W) (from to : W) (repaired : Bool) (name : FullName) (newly_missing : List FullName) (dist : List ℕ) (now : ℕ) (arms : List Arm) (old roomy set held new : TimersContent)
     → roomy.asks ≡ old.asks → FixStays old.fixes roomy.fixes → KeepSettings old roomy
-    → AskAdds (sets now arms) roomy.asks set.asks → set.fixes ≡ roomy.fixes → ArmsOfFound fresh [] dist arms → WaitsAreChosen next_word roomy from arms to
+    → AskAdds (sets now arms) roomy.asks set.asks → set.fixes ≡ roomy.fixes → ArmsOfFound newly_missing [] dist arms → WaitsAreChosen next_word roomy from arms to
     → AskAdds (Gained name ∷ []) set.asks held.asks → held.fixes ≡ set.fixes
-    → FixEnds repaired now dist name held.fixes new.fixes → new.asks ≡ held.asks → TimersHear (IsDrawopOf repaired name) fresh dist now arms old new
-drawop_hears next_word from to false name fresh dist now arms old roomy set held new roomy_asks stays keeps adds set_fixes first drawn gained held_fixes ends new_asks =
-    data_hears next_word from to name fresh dist now arms old roomy set held new roomy_asks stays keeps adds set_fixes first drawn gained held_fixes ends new_asks
-drawop_hears next_word from to true name fresh dist now arms old roomy set held new roomy_asks stays keeps adds set_fixes first drawn gained held_fixes ends new_asks =
-    repair_hears next_word from to name fresh dist now arms old roomy set held new roomy_asks stays keeps adds set_fixes first drawn gained held_fixes ends new_asks
+    → FixEnds repaired now dist name held.fixes new.fixes → new.asks ≡ held.asks → TimersHear (IsDrawopOf repaired name) newly_missing dist now arms old new
+drawop_hears next_word from to false name newly_missing dist now arms old roomy set held new roomy_asks stays keeps adds set_fixes first drawn gained held_fixes expiries new_asks =
+    data_hears next_word from to name newly_missing dist now arms old roomy set held new roomy_asks stays keeps adds set_fixes first drawn gained held_fixes expiries new_asks
+drawop_hears next_word from to true name newly_missing dist now arms old roomy set held new roomy_asks stays keeps adds set_fixes first drawn gained held_fixes expiries new_asks =
+    repair_hears next_word from to name newly_missing dist now arms old roomy set held new roomy_asks stays keeps adds set_fixes first drawn gained held_fixes expiries new_asks

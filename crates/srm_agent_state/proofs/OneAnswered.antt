@@ -33,7 +33,7 @@ use Rattle.srm_entries.specs.Entries.{held, evidence_in, is_held}
 use Rattle.srm_entries.specs.Timers.{asker, fix_running, held_off, ask_running}
 use Rattle.srm_entries.specs.Verdicts.{settlings}
 use Rattle.srm_agent_state.specs.TimersKept.{TimersContent, TimersFit}
-use Rattle.srm_agent_state.specs.TimerCalls.{IsAnswered}
+use Rattle.srm_agent_state.specs.TimerCalls.{IsRequestHeard}
 use Rattle.srm_entries.proofs.Setting.{of_kind}
 use Rattle.srm_agent_state.proofs.Midway.{Midway}
 use Rattle.srm_agent_state.proofs.Missing.{no_name}
@@ -171,7 +171,7 @@ unarmed {done = done} {arms = arms} n a new = none_of (arm_of n arms) (arm_named
 
 -- the arm is the one that is wanted
 wants : (c : Config) (past : List Entry) (from : ℕ) (dist : List ℕ) (now : ℕ) (done : List FullName) (arms : List Arm) (t t' : TimersContent) (held : Bool) (name : FullName) (arm : Option Arm)
-    → AnsweredIn c past from dist now done arms t → held ≡ is_held past name → IsAnswered held name from dist now arm t t' → among done name ≡ false
+    → AnsweredIn c past from dist now done arms t → held ≡ is_held past name → IsRequestHeard held name from dist now arm t t' → among done name ≡ false
     → option_map plan_of arm ≡ option_map (plan_at name) (wanted c past from dist now name)
 wants c past from dist now done arms t t' held name arm a is ans new = go held is ans
   where
@@ -188,7 +188,7 @@ wants c past from dist now done arms t t' held name arm a is ans new = go held i
     free = ap (λ o. not (is_some o) && not (calls_hold_off a.mid.fix_calls name now)) fix_at_name
         ∙ ap (λ b. not (is_some (fix_running past name)) && not b) (a.mid.hold_offs name now ∙ or-false (held_off c.me past name now))
 
-    go : (b : Bool) → b ≡ is_held past name → IsAnswered b name from dist now arm t t' → option_map plan_of arm ≡ option_map (plan_at name) (wanted c past from dist now name)
+    go : (b : Bool) → b ≡ is_held past name → IsRequestHeard b name from dist now arm t t' → option_map plan_of arm ≡ option_map (plan_at name) (wanted c past from dist now name)
     go true e r =
         (r.to_fix refl).each c.d1 c.d2 a.mid.fix_calls a.mid.fixes
         ∙ ap (λ b. if true && b then Some (fixes.fix_plan name (distance_to dist from)) else None) free
@@ -203,7 +203,7 @@ wants c past from dist now done arms t t' held name arm a is ans new = go held i
         else option_map (λ i. asks.ask_basis i (distance_to dist name.stream.source)) (backs_off now (ask_running past name)))) e
 
 one_answered : (c : Config) (past : List Entry) (from : ℕ) (dist : List ℕ) (now : ℕ) (done : List FullName) (arms : List Arm) (t t' : TimersContent) (held : Bool) (name : FullName) (arm : Option Arm)
-    → AnsweredIn c past from dist now done arms t → held ≡ is_held past name → IsAnswered held name from dist now arm t t' → ascending name_below (done ++ name ∷ []) ≡ true
+    → AnsweredIn c past from dist now done arms t → held ≡ is_held past name → IsRequestHeard held name from dist now arm t t' → ascending name_below (done ++ name ∷ []) ≡ true
     → AnsweredIn c past from dist now (done ++ name ∷ []) (arms ++ option_to_list arm) t'
 one_answered c past from dist now done arms t t' held name arm a is ans rising = record {
   mid = record {
@@ -275,7 +275,7 @@ one_answered c past from dist now done arms t t' held name arm a is ans rising =
 pub one_more_answered : (s : StoreContent) (from : ℕ) (dist : List ℕ) (now : ℕ) (asked : List FullName) (i : ℕ) (arms arms' : List Arm) (old t t' : TimersContent) (holds : Bool) (name : FullName) (arm : Option Arm)
     → i < length asked → name ≡ get_or asked i name
     → ((inserted : List Drawop) (shown : List FullName) (settled : List Settling) → store.Fits inserted shown settled s → holds ≡ stores.is_held inserted name)
-    → AnsweredSoFar s from dist now asked i arms old t → IsAnswered holds name from dist now arm t t' → arms' ≡ arms ++ option_to_list arm
+    → AnsweredSoFar s from dist now asked i arms old t → IsRequestHeard holds name from dist now arm t t' → arms' ≡ arms ++ option_to_list arm
     → AnsweredSoFar s from dist now asked (i + 1) arms' old t'
 one_more_answered s from dist now asked i arms arms' old t t' holds name arm lt is held_is h ans added = rw added (record {
   each = λ c past fits f rises.
@@ -288,10 +288,10 @@ one_more_answered s from dist now asked i arms arms' old t t' holds name arm lt 
 pub answered_unheld : (is_held : Bool) (name : FullName) (from : ℕ) (dist : List ℕ) (now : ℕ) (arm : Option Arm) (old noted new : TimersContent) → is_held ≡ false
     → FixAdds (Asked name from ∷ []) old.fixes noted.fixes → noted.asks ≡ old.asks → new.fixes ≡ noted.fixes → AskAdds (sets now (option_to_list arm)) noted.asks new.asks → IfSome arm (λ a. a.kind ≡ Ask)
     → ((c1 c2 : ℕ) (calls : List AskCall) → AskFits c1 c2 calls noted.asks → option_map plan_of arm ≡ option_map (ask_plan name (distance_to dist name.stream.source)) (backs_off now (ask_timer calls name)))
-    → IsAnswered is_held name from dist now arm old new
+    → IsRequestHeard is_held name from dist now arm old new
 answered_unheld is_held name from dist now arm old noted new e notes same_asks same_fixes set kind plan = go is_held e
   where
-    go : (t : Bool) → t ≡ false → IsAnswered t name from dist now arm old new
+    go : (t : Bool) → t ≡ false → IsRequestHeard t name from dist now arm old new
     go true k = absurd (cc)
     go false k = record {
       fixes = rw same_fixes notes;

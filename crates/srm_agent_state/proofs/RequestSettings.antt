@@ -63,17 +63,17 @@ ask_case q false false true d now armed last e s = absurd (cc)
 ask_case true false false false d now armed last e s = refl
 ask_case false false false false d now armed last e s = refl
 
-pub request_setting : (c : Config) (past : List Entry) (e : Entry) (from : ℕ) (asked fresh : List FullName) (dist : List ℕ) (now : ℕ) (n : FullName)
-    → asker n e ≡ asked_if asked from n → e.effects.asks ≡ [] → e.moment ≡ now → among fresh n ≡ (not (is_missing past n) && is_missing (past ++ e ∷ []) n)
-    → distance_to dist from ≡ distance past c.me from → ((among asked n || among fresh n) ≡ true → distance_to dist n.stream.source ≡ distance (past ++ e ∷ []) c.me n.stream.source)
-    → or_else (if among asked n then wanted c past from dist now n else None) (found_basis fresh asked dist n) ≡ basis_of c.me past e n
-request_setting c past e from asked fresh dist now n ask_is nothing at f near_from near = go (is_held past n) refl
+pub request_setting : (c : Config) (past : List Entry) (e : Entry) (from : ℕ) (asked newly_missing : List FullName) (dist : List ℕ) (now : ℕ) (n : FullName)
+    → asker n e ≡ asked_if asked from n → e.effects.asks ≡ [] → e.moment ≡ now → among newly_missing n ≡ (not (is_missing past n) && is_missing (past ++ e ∷ []) n)
+    → distance_to dist from ≡ distance past c.me from → ((among asked n || among newly_missing n) ≡ true → distance_to dist n.stream.source ≡ distance (past ++ e ∷ []) c.me n.stream.source)
+    → or_else (if among asked n then wanted c past from dist now n else None) (found_basis newly_missing asked dist n) ≡ basis_of c.me past e n
+request_setting c past e from asked newly_missing dist now n ask_is nothing at f near_from near = go (is_held past n) refl
   where
     free : ℕ → Bool
     free k = not (is_some (fix_running past n)) && not (held_off c.me past n k)
 
     found : Option WaitBasis
-    found = if among fresh n then Some (asks.ask_basis (if among asked n then 1 else 0) (distance_to dist n.stream.source)) else None
+    found = if among newly_missing n then Some (asks.ask_basis (if among asked n then 1 else 0) (distance_to dist n.stream.source)) else None
 
     to_fix : Option WaitBasis
     to_fix = if free now then Some (fixes.fix_basis (distance_to dist from)) else None
@@ -81,12 +81,12 @@ request_setting c past e from asked fresh dist now n ask_is nothing at f near_fr
     to_ask : Option WaitBasis
     to_ask = option_map (λ i. asks.ask_basis i (distance_to dist n.stream.source)) (backs_off now (ask_running past n))
 
-    unfresh : is_held past n ≡ true → among fresh n ≡ false
-    unfresh h = f ∙ ap (λ m'. not (is_missing past n) && m') (held_then past e n h) ∙ ends (not (is_missing past n))
+    unfresh : is_held past n ≡ true → among newly_missing n ≡ false
+    unfresh h = f ∙ ap (λ m'. not (is_missing past n) && m') (held_then past e n h) ∙ expiries (not (is_missing past n))
       where
-        ends : (b : Bool) → (b && false) ≡ false
-        ends true = refl
-        ends false = refl
+        expiries : (b : Bool) → (b && false) ≡ false
+        expiries true = refl
+        expiries false = refl
 
     fix_is : is_held past n ≡ true → fix_basis_of c.me past e n ≡ (if free now then option_map (fix_at c.me past) (asked_if asked from n) else None)
     fix_is h =
@@ -108,12 +108,12 @@ request_setting c past e from asked fresh dist now n ask_is nothing at f near_fr
     go : (b : Bool) → is_held past n ≡ b → or_else (if among asked n then (if is_held past n then to_fix else to_ask) else None) found ≡ (if is_held past n then fix_basis_of c.me past e n else ask_basis_of c.me past e n)
     go true h =
         ap (λ (b : Bool). or_else (if among asked n then (if b then to_fix else to_ask) else None) found) h
-        ∙ fix_case (among asked n) (among fresh n) (free now) (distance_to dist from) from (λ a. distance past c.me a) (asks.ask_basis (if among asked n then 1 else 0) (distance_to dist n.stream.source)) (unfresh h) near_from
+        ∙ fix_case (among asked n) (among newly_missing n) (free now) (distance_to dist from) from (λ a. distance past c.me a) (asks.ask_basis (if among asked n then 1 else 0) (distance_to dist n.stream.source)) (unfresh h) near_from
         ∙ sym (fix_is h)
         ∙ sym (ap (λ (b : Bool). if b then fix_basis_of c.me past e n else ask_basis_of c.me past e n) h)
     go false h =
         ap (λ (b : Bool). or_else (if among asked n then (if b then to_fix else to_ask) else None) found) h
-        ∙ ask_case (among asked n) (among fresh n) (is_missing past n) (is_missing (past ++ e ∷ []) n) (distance_to dist n.stream.source) now (ask_at c.me (past ++ e ∷ []) n) (last_ask past n) f (λ k i. ap (asks.ask_basis i) (near k))
+        ∙ ask_case (among asked n) (among newly_missing n) (is_missing past n) (is_missing (past ++ e ∷ []) n) (distance_to dist n.stream.source) now (ask_at c.me (past ++ e ∷ []) n) (last_ask past n) f (λ k i. ap (asks.ask_basis i) (near k))
         ∙ sym (ap (option_map (ask_at c.me (past ++ e ∷ []) n)) exponent_is)
         ∙ sym (ap (λ (b : Bool). if b then fix_basis_of c.me past e n else ask_basis_of c.me past e n) h)
 

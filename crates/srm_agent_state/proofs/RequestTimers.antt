@@ -38,24 +38,24 @@ use Rattle.srm_agent_state.proofs.RequestSays.{asker_is, request_gains, request_
 use Rattle.srm_agent_state.proofs.RequestSettings.{request_setting, wanted_known, fresh_unwanted, ask_wanted, no_setting_no_arm}
 
 -- as many arms as names, at most
-pub found_fits : (fresh asked : List FullName) (dist : List ℕ) (found : List Arm) → ascending name_below fresh ≡ true → ArmsOfFound fresh asked dist found → length found ≤ length fresh
-found_fits fresh asked dist found rising first =
-    let k : length (arm_names found) ≤ length fresh = names_no_more fresh (arm_names found) rising first.are.in_order
-    (λ n at. sym (is_armed (arm_of n found) (among fresh n) (first_exponent asked n) (distance_to dist n.stream.source) (first.are.exact n)) ∙ arm_named n found ∙ at) in
+pub found_fits : (newly_missing asked : List FullName) (dist : List ℕ) (found : List Arm) → ascending name_below newly_missing ≡ true → ArmsOfFound newly_missing asked dist found → length found ≤ length newly_missing
+found_fits newly_missing asked dist found rising first =
+    let k : length (arm_names found) ≤ length newly_missing = names_no_more newly_missing (arm_names found) rising first.are.in_order
+    (λ n at. sym (is_armed (arm_of n found) (among newly_missing n) (first_exponent asked n) (distance_to dist n.stream.source) (first.are.exact n)) ∙ arm_named n found ∙ at) in
     omega (arith, k, length-map found (λ (a : Arm). a.name))
 
-request_adds : {W : Type 0} (next_word : W → ℕ × W) (start to : W) (c : Config) (past : List Entry) (e : Entry) (g : Datagram) (from : ℕ) (asked fresh : List FullName) (dist : List ℕ) (now : ℕ) (answers found arms : List Arm) (old mid new : TimersContent)
-    → TimersFit c past old → HearsWith g now arms e → IsRequestOf from asked g → RequestSays from asked g → AreNewlyMissing past e fresh → AreDistancesAfter c (past ++ e ∷ []) dist
-    → AnsweredIn c past from dist now asked answers mid → AskAdds (sets now found) mid.asks new.asks → new.fixes ≡ mid.fixes → ArmsOfFound fresh asked dist found
+request_adds : {W : Type 0} (next_word : W → ℕ × W) (start to : W) (c : Config) (past : List Entry) (e : Entry) (g : Datagram) (from : ℕ) (asked newly_missing : List FullName) (dist : List ℕ) (now : ℕ) (answers found arms : List Arm) (old mid new : TimersContent)
+    → TimersFit c past old → HearsWith g now arms e → IsRequestOf from asked g → RequestSays from asked g → AreNewlyMissing past e newly_missing → AreDistancesAfter c (past ++ e ∷ []) dist
+    → AnsweredIn c past from dist now asked answers mid → AskAdds (sets now found) mid.asks new.asks → new.fixes ≡ mid.fixes → ArmsOfFound newly_missing asked dist found
     → WaitsAreChosen next_word old start arms to → arms ≡ answers ++ found → TimersAdd c past e new
-request_adds next_word start to c past e g from asked fresh dist now answers found arms old mid new h with_ is says are d a adds same first drawn arms_are = record {
+request_adds next_word start to c past e g from asked newly_missing dist now answers found arms old mid new h with_ is says are d a adds same first drawn arms_are = record {
   arms = record {
     are = record {
       in_order = ap (λ as_. ascending name_below (arm_names as_)) (with_.arms ∙ arms_are) ∙ rising;
       exact = λ n. ap (λ as_. option_map wait_basis (arm_of n as_)) (with_.arms ∙ arms_are)
           ∙ ap (option_map wait_basis) (arm_of-append n answers found) ∙ setting_or (arm_of n answers) (arm_of n found)
           ∙ ap (λ o. or_else o (option_map wait_basis (arm_of n found))) (a.exact n) ∙ ap (or_else (if among asked n then wanted c past from dist now n else None)) (first.are.exact n)
-          ∙ request_setting c past e from asked fresh dist now n (asker_is e g from asked n with_.heard is) with_.asks with_.moment (are.exact n)
+          ∙ request_setting c past e from asked newly_missing dist now n (asker_is e g from asked n with_.heard is) with_.asks with_.moment (are.exact n)
           (d.each from says.member ∙ same_distance c.me past e g from with_.heard (says.far c.me e.moment)) (near n);
     };
     waits = rw with_.arms (chosen_waits next_word c start to arms (drawn.each c (settings_fit c past old h)));
@@ -67,7 +67,7 @@ request_adds next_word start to c past e g from asked fresh dist now answers fou
         rising = rising;
         set_missing = λ n some. now_missing n (arm_of n answers) refl (arm_of n found) refl (ap (λ o. is_some (of_kind Ask o)) (sym (arm_of-append n answers found)) ∙ some);
         gained_held = λ n k. absurd (cc);
-        others_stay = λ n unset k. others_then past e n (sym (are.exact n) ∙ unfresh n (among fresh n) refl unset) (gain n);
+        others_stay = λ n unset k. others_then past e n (sym (are.exact n) ∙ unfresh n (among newly_missing n) refl unset) (gain n);
         asked_is = λ n. asker_is e g from asked n with_.heard is;
         ended_is = λ n. request_repairs e g from asked n with_.heard with_.fixes is;
         ended_unset = λ n k. absurd (cc);
@@ -95,10 +95,10 @@ request_adds next_word start to c past e g from asked fresh dist now answers fou
     gain : (n : FullName) → gains e n ≡ false
     gain n = request_gains e g from asked n with_.heard with_.drawn is
 
-    found_is : (n : FullName) → is_some (arm_of n found) ≡ among fresh n
+    found_is : (n : FullName) → is_some (arm_of n found) ≡ among newly_missing n
     found_is n = is_armed (arm_of n found) _ _ _ (first.are.exact n)
 
-    fresh_is : (n : FullName) → among fresh n ≡ true → (is_missing past n ≡ false) × (is_missing (past ++ e ∷ []) n ≡ true)
+    fresh_is : (n : FullName) → among newly_missing n ≡ true → (is_missing past n ≡ false) × (is_missing (past ++ e ∷ []) n ≡ true)
     fresh_is n k = fresh_then past e n (sym (are.exact n) ∙ k)
 
     apart : (n : FullName) → is_some (arm_of n found) ≡ true → arm_of n answers ≡ None
@@ -106,14 +106,14 @@ request_adds next_word start to c past e g from asked fresh dist now answers fou
         let k = fresh_is n (sym (found_is n) ∙ there) in
         no_setting_no_arm (arm_of n answers) (a.exact n ∙ if_none (among asked n) (wanted c past from dist now n) (fresh_unwanted c past e from dist now n k.0 k.1))
 
-    near : (n : FullName) → (among asked n || among fresh n) ≡ true → distance_to dist n.stream.source ≡ distance (past ++ e ∷ []) c.me n.stream.source
+    near : (n : FullName) → (among asked n || among newly_missing n) ≡ true → distance_to dist n.stream.source ≡ distance (past ++ e ∷ []) c.me n.stream.source
     near n k = go (among asked n) refl k
       where
-        go : (q : Bool) → among asked n ≡ q → (q || among fresh n) ≡ true → distance_to dist n.stream.source ≡ distance (past ++ e ∷ []) c.me n.stream.source
+        go : (q : Bool) → among asked n ≡ q → (q || among newly_missing n) ≡ true → distance_to dist n.stream.source ≡ distance (past ++ e ∷ []) c.me n.stream.source
         go true t k = let name = among_all is_name asked n says.spelled t in d.each n.stream.source name.0
-        go false t k = fresh_near c past e g now arms fresh dist n with_ are d k
+        go false t k = fresh_near c past e g now arms newly_missing dist n with_ are d k
 
-    stream_of : (n : FullName) → among fresh n ≡ true → n.stream ≡ says.stream
+    stream_of : (n : FullName) → among newly_missing n ≡ true → n.stream ≡ says.stream
     stream_of n k =
         let m = fresh_is n k in
         let (x, of_it, alike) = fresh_shown past e g n with_.heard with_.drawn m.0 m.1 (λ (y : FullName). y.stream ≡ says.stream) (subst (AllByRecursion (λ (y : FullName). y.stream ≡ says.stream)) (sym says.names_are) says.in_stream) in
@@ -137,7 +137,7 @@ request_adds next_word start to c past e g from asked fresh dist now answers fou
     rising = ap (ascending name_below) (map-append (λ (x : Arm). x.name) answers found)
         ∙ ascending_joined (arm_names answers) (arm_names found) a.rising first.are.in_order (λ x y i j. in_front x y i (sym (found_is y) ∙ arm_named y found ∙ j))
       where
-        in_front : (x y : FullName) → among (arm_names answers) x ≡ true → among fresh y ≡ true → name_below x y ≡ true
+        in_front : (x y : FullName) → among (arm_names answers) x ≡ true → among newly_missing y ≡ true → name_below x y ≡ true
         in_front x y i j =
             let m = fresh_is y j in
             let x_in : x.stream ≡ says.stream = among_all (λ (n : FullName). n.stream ≡ says.stream) asked x says.in_stream (a.inside x i) in
@@ -159,7 +159,7 @@ request_adds next_word start to c past e g from asked fresh dist now answers fou
             let wrong : Some (wait_basis x) ≡ None = ap (option_map wait_basis) (sym p) ∙ a.exact n ∙ ap (λ (b : Bool). if b then wanted c past from dist now n else None) t in
             absurd (cc)
 
-    unfresh : (n : FullName) (b : Bool) → among fresh n ≡ b → is_some (of_kind Ask (arm_of n (answers ++ found))) ≡ false → among fresh n ≡ false
+    unfresh : (n : FullName) (b : Bool) → among newly_missing n ≡ b → is_some (of_kind Ask (arm_of n (answers ++ found))) ≡ false → among newly_missing n ≡ false
     unfresh n false k unset = k
     unfresh n true k unset =
         let there : is_some (arm_of n found) ≡ true = found_is n ∙ k in
@@ -168,14 +168,14 @@ request_adds next_word start to c past e g from asked fresh dist now answers fou
         let wrong : true ≡ false = sym all ∙ unset in
         absurd (cc)
 
-pub request_hears : {W : Type 0} (next_word : W → ℕ × W) (start to : W) (s : StoreContent) (from : ℕ) (asked fresh : List FullName) (dist : List ℕ) (now : ℕ) (i : ℕ) (answers found arms : List Arm) (old begun mid new : TimersContent)
+pub request_hears : {W : Type 0} (next_word : W → ℕ × W) (start to : W) (s : StoreContent) (from : ℕ) (asked newly_missing : List FullName) (dist : List ℕ) (now : ℕ) (i : ℕ) (answers found arms : List Arm) (old begun mid new : TimersContent)
     → TimersStay old begun → AnsweredSoFar s from dist now asked i answers begun mid → length asked ≤ i → AskAdds (sets now found) mid.asks new.asks → new.fixes ≡ mid.fixes
-    → ArmsOfFound fresh asked dist found → WaitsAreChosen next_word old start arms to → arms ≡ answers ++ found → TimersHearRequest s from asked fresh dist now arms old new
-request_hears next_word start to s from asked fresh dist now i answers found arms old begun mid new stays so_far all adds same first drawn arms_are = record {
+    → ArmsOfFound newly_missing asked dist found → WaitsAreChosen next_word old start arms to → arms ≡ answers ++ found → TimersHearRequest s from asked newly_missing dist now arms old new
+request_hears next_word start to s from asked newly_missing dist now i answers found arms old begun mid new stays so_far all adds same first drawn arms_are = record {
   each = λ c past e g is with_ h f are d.
       let says = request_says from asked g is with_.read in
       let a = subst (λ ns. AnsweredIn c past from dist now ns answers mid) (take_all i asked all) (so_far.each c past (stays.each c past h) f says.rising) in
-      request_adds next_word start to c past e g from asked fresh dist now answers found arms old mid new h with_ is says are d a adds same first drawn arms_are;
+      request_adds next_word start to c past e g from asked newly_missing dist now answers found arms old mid new h with_ is says are d a adds same first drawn arms_are;
 }
 
 pub one_more_at_most : (xs ys : List Arm) (o : Option Arm) → ys ≡ xs ++ option_to_list o → length ys ≤ length xs + 1

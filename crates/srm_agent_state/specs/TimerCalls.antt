@@ -12,7 +12,7 @@ use Rattle.srm_timers.specs.declared.arm.Arm.{Arm}
 use Rattle.srm_timers.specs.declared.arm.ArmKind.TheVariants.{Ask, Fix}
 use Rattle.srm_timers.specs.Arms.{AreChosen, ran_out, plan_of, backs_off}
 use Rattle.srm_timers.specs.AskCalls.{AskCall, AskFits, AskAdds, AskDue, AskTimersRun, ask_timer, ask_plan, sets}
-use Rattle.srm_timers.specs.FixCalls.{Asked, FixContent, FixAdds, FixAnswers, FixDue, FixRepairs, sets_fix}
+use Rattle.srm_timers.specs.FixCalls.{Asked, FixContent, FixAdds, NotesRequest, FixDue, FixRepairs, sets_fix}
 use Rattle.srm_timers.specs.Distances.{distance_to}
 use Rattle.srm_entries.specs.declared.entry.Entry.{Entry}
 use Rattle.srm_entries.specs.Configs.{Config}
@@ -97,9 +97,9 @@ pub record TimersStay (old new : TimersContent) : Type 0 where
   pub each : (c : Config) (past : List Entry) → TimersFit c past old → TimersFit c past new
 
 -- such a datagram is heard, by which these names become missing; the distances are those after it
-pub record TimersHear (is : Datagram → Type 0) (fresh : List FullName) (dist : List ℕ) (now : ℕ) (arms : List Arm) (old new : TimersContent) : Type 0 where
+pub record TimersHear (is : Datagram → Type 0) (newly_missing : List FullName) (dist : List ℕ) (now : ℕ) (arms : List Arm) (old new : TimersContent) : Type 0 where
   pub each : (c : Config) (past : List Entry) (e : Entry) (g : Datagram) → is g → HearsWith g now arms e → TimersFit c past old
-      → AreNewlyMissing past e fresh → AreDistancesAfter c (past ++ e ∷ []) dist → TimersAdd c past e new
+      → AreNewlyMissing past e newly_missing → AreDistancesAfter c (past ++ e ∷ []) dist → TimersAdd c past e new
 
 -- a repair of a name ends its repair timer and holds it off; data changes nothing of these
 abbrev pub FixEnds : Bool → ℕ → List ℕ → FullName → FixContent → FixContent → Type 0
@@ -107,10 +107,10 @@ FixEnds false now dist name old new = new ≡ old
 FixEnds true now dist name old new = FixRepairs now dist (name ∷ []) old new
 
 -- a request is heard, over the store as it is before
-pub record TimersHearRequest (s : StoreContent) (from : ℕ) (asked fresh : List FullName) (dist : List ℕ) (now : ℕ) (arms : List Arm) (old new : TimersContent) : Type 0 where
+pub record TimersHearRequest (s : StoreContent) (from : ℕ) (asked newly_missing : List FullName) (dist : List ℕ) (now : ℕ) (arms : List Arm) (old new : TimersContent) : Type 0 where
   pub each : (c : Config) (past : List Entry) (e : Entry) (g : Datagram) → IsRequestOf from asked g → HearsWith g now arms e → TimersFit c past old
       → store.Fits (held past) (evidence_in past) (settlings past) s
-      → AreNewlyMissing past e fresh → AreDistancesAfter c (past ++ e ∷ []) dist → TimersAdd c past e new
+      → AreNewlyMissing past e newly_missing → AreDistancesAfter c (past ++ e ∷ []) dist → TimersAdd c past e new
 
 -- the names are those whose request timers ran out, in order
 abbrev pub AreToAsk : ℕ → List Entry → List FullName → Type 0
@@ -139,11 +139,11 @@ pub record AreDueFixes (now : ℕ) (t : TimersContent) (names : List FullName) :
 
 -- One name of a request: who asked is noted. Where the name is held a repair timer is set, where none runs and it isn't held
 -- off; where it isn't held its request timer is set again, where one runs and the request isn't ignored.
-pub record IsAnswered (is_held : Bool) (name : FullName) (from : ℕ) (dist : List ℕ) (now : ℕ) (arm : Option Arm) (old new : TimersContent) : Type 0 where
+pub record IsRequestHeard (is_held : Bool) (name : FullName) (from : ℕ) (dist : List ℕ) (now : ℕ) (arm : Option Arm) (old new : TimersContent) : Type 0 where
   pub fixes : FixAdds (Asked name from ∷ (if is_held then sets_fix now (option_to_list arm) else [])) old.fixes new.fixes
   pub asks : AskAdds (if is_held then [] else sets now (option_to_list arm)) old.asks new.asks
   pub kind : IfSome arm (λ a. a.kind ≡ (if is_held then Fix else Ask))
-  pub to_fix : is_held ≡ true → FixAnswers name (distance_to dist from) true now old.fixes arm
+  pub to_fix : is_held ≡ true → NotesRequest name (distance_to dist from) true now old.fixes arm
   pub to_ask : is_held ≡ false → (c1 c2 : ℕ) (calls : List AskCall) → AskFits c1 c2 calls old.asks
       → option_map plan_of arm ≡ option_map (ask_plan name (distance_to dist name.stream.source)) (backs_off now (ask_timer calls name))
 

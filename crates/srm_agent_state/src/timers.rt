@@ -57,7 +57,7 @@ impl Timers {
     pub fn asks_that_ran_out(&self, now: u64) -> Result<Vec<Name>, AllocError>
         ensures pending { IfOk result (λ names. AsksRanOut now self.now names.items) }
         ensures rising { IfOk result (λ names. ascending name_below names.items ≡ true) }
-        ensures among { IfOk result (λ names. DueAmong now self.now.asks.ends.places names.items) }
+        ensures among { IfOk result (λ names. DueAmong now self.now.asks.expiries.places names.items) }
         ensures due { IfOk result (λ names. AreDueAsks now self.now names.items) }
     {
         let names = Vec::new(self.alloc);
@@ -69,7 +69,7 @@ impl Timers {
     #[tactic(auto, using(crate::proofs::Midway::fixes_pending, crate::proofs::Midway::fixes_due))]
     pub fn fixes_that_ran_out(&self, now: u64) -> Result<Vec<Name>, AllocError>
         ensures pending { IfOk result (λ names. FixesRanOut now self.now names.items) }
-        ensures among { IfOk result (λ names. DueAmong now self.now.fixes.ends.places names.items) }
+        ensures among { IfOk result (λ names. DueAmong now self.now.fixes.expiries.places names.items) }
         ensures due { IfOk result (λ names. AreDueFixes now self.now names.items) }
     {
         let names = Vec::new(self.alloc);
@@ -81,26 +81,26 @@ impl Timers {
     #[tactic(auto, using(crate::proofs::Midway::asks_stay, crate::proofs::Midway::waits_drawn, crate::proofs::RequestTimers::found_fits))]
     fn detect<W: Words>(
         &mut self,
-        fresh: &[Name],
+        newly_missing: &[Name],
         asked: &[Name],
         dist: &[u64],
         now: u64,
         words: &mut W,
     ) -> Result<Vec<Arm>, AllocError>
-        requires rising { ascending name_below fresh.now ≡ true }
+        requires rising { ascending name_below newly_missing.now ≡ true }
         requires distances { AreDistances dist.now }
         requires now { now ≤ LATEST_MOMENT }
         ensures fits { IfOk result (λ arms. AskAdds (sets now arms.items) self.old.asks self.new.asks) }
-        ensures arms { IfOk result (λ arms. ArmsOfFound fresh.now asked.now dist.now arms.items) }
-        ensures few { IfOk result (λ arms. length arms.items ≤ length fresh.now) }
+        ensures arms { IfOk result (λ arms. ArmsOfFound newly_missing.now asked.now dist.now arms.items) }
+        ensures few { IfOk result (λ arms. length arms.items ≤ length newly_missing.now) }
         ensures chosen { IfOk result (λ arms. WaitsAreChosen W.next_word self.old words.old arms.items words.new) }
         ensures fixes { self.new.fixes ≡ self.old.fixes }
         ensures kept { OnErr result (TimersStay self.old self.new) }
         ensures unchosen { OnErr result (words.new ≡ words.old) }
         ensures settings { KeepSettings self.old self.new }
-        ensures room { DetectAndDueReady fresh.now self.old.asks → IsOk result }
+        ensures room { DetectAndDueReady newly_missing.now self.old.asks → IsOk result }
     {
-        let arms = self.asks.detect(fresh, asked, dist, now, words)?;
+        let arms = self.asks.detect(newly_missing, asked, dist, now, words)?;
         Ok(arms)
     }
 

@@ -63,7 +63,7 @@ fn ink<R: Wait + Abort>(rt: &R, alloc: Global, pen: &mut Pen, byte: u8) {
     };
     let body = Bytes::copy_from_slice(alloc, &[byte]).expect(rt, "memory");
     let stroke = Stroke {
-        pen: pen.place(),
+        pen: pen.number(),
         page,
         body,
     };

@@ -82,7 +82,7 @@ impl Tokens {
         requires range { AreInRange self.old }
         requires length { length ≤ GREATEST_LENGTH }
         ensures value { result ≡ nat_le (cost_of length) self.old.level }
-        ensures taken { self.new ≡ (if result then spent length self.old else self.old) }
+        ensures spends { self.new ≡ (if result then spent length self.old else self.old) }
         ensures range { AreInRange self.new }
     {
         let price = cost(length);

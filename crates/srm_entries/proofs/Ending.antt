@@ -13,7 +13,7 @@ use Rattle.srm_entries.specs.declared.state.AgentState.{AgentState}
 use Rattle.srm_entries.specs.Configs.{Config}
 use Rattle.srm_entries.specs.Entries.{ticked, state, is_gone, is_leaving}
 use Rattle.srm_codec.specs.Spelling.{is_session}
-use Rattle.srm_entries.specs.Sessions.{charged, session_interval, interval_after, session_due, all_data_sent, IsReport, ending, EndsWith, SessionRight}
+use Rattle.srm_entries.specs.Sessions.{charged, session_interval, interval_after, session_due, all_data_sent, IsSessionMessage, session_message_due, EndsWith, SessionRight}
 
 -- by the member's state, whether data that it drew waits, and whether a session message is due: nothing, or whether a farewell
 abbrev pub ending_of : AgentState → Bool → Bool → Option Bool
@@ -24,7 +24,7 @@ ending_of old waits due =
 
 pub ending_is : (c : Config) (made : ℕ) (before : List Entry) (e : Entry) (old : AgentState) (waits due : Bool)
     → ticked e ≡ true → old ≡ state before → not waits ≡ all_data_sent (before ++ e ∷ []) → due ≡ nat_le (session_due c made before) e.moment
-    → ending c made before e ≡ ending_of old waits due
+    → session_message_due c made before e ≡ ending_of old waits due
 ending_is c made before e old waits due t s w d =
     ap (λ b. if not b || is_gone (state before) then None else if is_leaving (state before) && all_data_sent (before ++ e ∷ []) then Some true else if nat_le (session_due c made before) e.moment then Some false else None) t
     ∙ ap (λ o. if is_gone o then None else if is_leaving o && all_data_sent (before ++ e ∷ []) then Some true else if nat_le (session_due c made before) e.moment then Some false else None) (sym s)
@@ -36,12 +36,12 @@ abbrev pub EndsIn : Config → List Entry → ℕ → Option Bool → Option Dat
 EndsIn c before now None None = ⊤
 EndsIn c before now None (Some g) = ⊥
 EndsIn c before now (Some farewell) None = ⊥
-EndsIn c before now (Some farewell) (Some g) = IsReport c before now farewell g
+EndsIn c before now (Some farewell) (Some g) = IsSessionMessage c before now farewell g
 
 abbrev pub NoSessions : List Datagram → Type 0
 NoSessions went = AllByRecursion (λ g. is_session g ≡ false) went
 
-pub report_is_session : (c : Config) (before : List Entry) (now : ℕ) (farewell : Bool) (g : Datagram) → IsReport c before now farewell g → is_session g ≡ true
+pub report_is_session : (c : Config) (before : List Entry) (now : ℕ) (farewell : Bool) (g : Datagram) → IsSessionMessage c before now farewell g → is_session g ≡ true
 report_is_session c before now farewell (Data d) r = absurd r
 report_is_session c before now farewell (Request a n m) r = absurd r
 report_is_session c before now farewell (Repair a d) r = absurd r
@@ -65,7 +65,7 @@ charged_is c before e wanted went o none outs ends =
 
 -- the entry ends as it is to
 pub session_right : (c : Config) (made : ℕ) (before : List Entry) (e : Entry) (wanted : Option Bool) (went : List Datagram) (o : Option Datagram)
-    → ending c made before e ≡ wanted → NoSessions went → e.effects.outs ≡ went ++ option_to_list o → EndsIn c before e.moment wanted o → SessionRight c made before e
+    → session_message_due c made before e ≡ wanted → NoSessions went → e.effects.outs ≡ went ++ option_to_list o → EndsIn c before e.moment wanted o → SessionRight c made before e
 session_right c made before e wanted went o is none outs ends = subst (EndsWith c before e) (sym is) (go wanted o (charged_is c before e wanted went o none outs ends) outs ends)
   where
     go : (wanted : Option Bool) (o : Option Datagram) → charged e ≡ went → e.effects.outs ≡ went ++ option_to_list o → EndsIn c before e.moment wanted o → EndsWith c before e wanted

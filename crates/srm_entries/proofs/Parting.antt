@@ -25,13 +25,13 @@ use Rattle.srm_entries.specs.Entries.{done, ticked, is_tick, state, is_gone, is_
 use Rattle.srm_store.specs.Finals.{row_number, number_or_zero}
 use Rattle.srm_entries.specs.Verdicts.{stream_on}
 use Rattle.srm_codec.specs.Spelling.{is_session, is_farewell}
-use Rattle.srm_entries.specs.Sessions.{charged, all_data_sent, session_due, ending, EndsWith, IsReport, number_in_rows, if_positive}
+use Rattle.srm_entries.specs.Sessions.{charged, all_data_sent, session_due, session_message_due, EndsWith, IsSessionMessage, number_in_rows, if_positive}
 use Rattle.srm_entries.specs.Runs.{EntryRight, expected_state}
 use Rattle.srm_entries.proofs.Showing.{IsDrawing, kind, drawing_not_gone, leaving_not_gone, state-snoc, drawn-snoc, done_is}
 use Rattle.srm_entries.proofs.Drawing.{draws_right}
 
 -- a session message that went was the one that ends its entry
-pub ends : (c : Config) (before : List Entry) (e : Entry) (g : Datagram) (o : Option Bool) → EndsWith c before e o → Has g e.effects.outs → is_session g ≡ true → (f : Bool) × (o ≡ Some f) × IsReport c before e.moment f g
+pub ends : (c : Config) (before : List Entry) (e : Entry) (g : Datagram) (o : Option Bool) → EndsWith c before e o → Has g e.effects.outs → is_session g ≡ true → (f : Bool) × (o ≡ Some f) × IsSessionMessage c before e.moment f g
 ends c before e g None q h s = let k = Has-passes (λ (x : Datagram). not (is_session x)) g e.effects.outs (subst (λ w. Has g w) q h) in absurd (both_ways (is_session g) (flip (is_session g) k.1) s)
   where
     flip : (b : Bool) → not b ≡ true → b ≡ false
@@ -39,7 +39,7 @@ ends c before e g None q h s = let k = Has-passes (λ (x : Datagram). not (is_se
     flip false e = refl
 ends c before e g (Some f) (last, q, r) h s = elim (Has-append g (charged e) (last ∷ []) (subst (λ w. Has g w) q h)) [
   | inl l ↦ (let k = Has-passes (λ (x : Datagram). not (is_session x)) g e.effects.outs l in absurd (both_ways (is_session g) (flip (is_session g) k.1) s))
-  | inr k ↦ elim k [ inl w ↦ (f, refl, subst (λ x. IsReport c before e.moment f x) (sym w) r) | inr w ↦ absurd w ]
+  | inr k ↦ elim k [ inl w ↦ (f, refl, subst (λ x. IsSessionMessage c before e.moment f x) (sym w) r) | inr w ↦ absurd w ]
 ]
   where
     flip : (b : Bool) → not b ≡ true → b ≡ false
@@ -57,22 +57,22 @@ pub record Sending (c : Config) (made : ℕ) (es : List Entry) (g : Datagram) : 
   pub later : AllByRecursion (EntryRight c made) (steps_after (before ++ this ∷ []) after)
   pub out : Has g this.effects.outs
   pub farewell : Bool
-  pub due : ending c made before this ≡ Some farewell
-  pub report : IsReport c before this.moment farewell g
+  pub due : session_message_due c made before this ≡ Some farewell
+  pub report : IsSessionMessage c before this.moment farewell g
 
 pub session_sent : (c : Config) (made : ℕ) (es : List Entry) (g : Datagram) → AllByRecursion (EntryRight c made) (steps es) → is_session g ≡ true → Has g (sent es) → Sending c made es g
 session_sent c made es g all s h =
     let (e, k, m) = Has-flat_map (λ (x : Entry). x.effects.outs) g es h in
     let (before, after, q) = Has-split e es k in
     let parts = at_parts (EntryRight c made) before (e ∷ after) (subst (λ w. AllByRecursion (EntryRight c made) (steps w)) q all) in
-    let (f, due, report) = ends c before e g (ending c made before e) parts.1.0.session m s in
+    let (f, due, report) = ends c before e g (session_message_due c made before e) parts.1.0.session m s in
     record { before = before; this = e; after = after; split = q; earlier = parts.0; right = parts.1.0; later = parts.1.1; out = m; farewell = f; due = due; report = report }
 
 ticks_if : (b gone : Bool) (x : Option Bool) (f : Bool) → (if not b || gone then None else x) ≡ Some f → b ≡ true
 ticks_if true gone x f e = refl
 ticks_if false gone x f e = absurd (none-some f e)
 
-pub ending_ticks : (c : Config) (made : ℕ) (before : List Entry) (e : Entry) (f : Bool) → ending c made before e ≡ Some f → ticked e ≡ true
+pub ending_ticks : (c : Config) (made : ℕ) (before : List Entry) (e : Entry) (f : Bool) → session_message_due c made before e ≡ Some f → ticked e ≡ true
 ending_ticks c made before e f q = ticks_if (ticked e) (is_gone (state before))
     (if is_leaving (state before) && all_data_sent (before ++ e ∷ []) then Some true else if nat_le (session_due c made before) e.moment then Some false else None) f q
 

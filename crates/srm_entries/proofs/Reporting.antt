@@ -17,7 +17,7 @@ use Rattle.srm_entries.specs.Configs.{Config}
 use Rattle.srm_entries.specs.declared.entry.Entry.{Entry}
 use Rattle.srm_store.specs.Held.{number_in}
 use Rattle.srm_entries.specs.Entries.{accepted, ticked, shown, known, evidence_by, names_heard}
-use Rattle.srm_entries.specs.Sessions.{number_in_rows, if_positive, ReportRight, ending}
+use Rattle.srm_entries.specs.Sessions.{number_in_rows, if_positive, SessionMessageRight, session_message_due}
 use Rattle.srm_entries.specs.Verdicts.{stream_on}
 use Rattle.srm_entries.specs.Runs.{EntryRight}
 use Rattle.srm_entries.proofs.Adding.{known-snoc}
@@ -30,12 +30,12 @@ use Rattle.srm_entries.proofs.Knowing.{known_at_least, known_inside}
 pub record Reports (c : Config) (before : List Entry) (e : Entry) (page : Page) (rows : List FullName) : Type 0 where
   pub at_tick : ticked e ≡ true
   pub on_page : page ≡ shown before
-  pub right : ReportRight c before e.moment false rows
+  pub right : SessionMessageRight c before e.moment false rows
 
 pub report_sent : (c : Config) (made : ℕ) (before : List Entry) (e : Entry) (sender sent : ℕ) (page : Page) (rows : List FullName) (echoes : List Echo)
     → EntryRight c made (record { before = before; this = e }) → Has (Session sender sent false page rows echoes) e.effects.outs → Reports c before e page rows
 report_sent c made before e sender sent page rows echoes r h =
-    let (f, due, is) = ends c before e (Session sender sent false page rows echoes) (ending c made before e) r.session h refl in
+    let (f, due, is) = ends c before e (Session sender sent false page rows echoes) (session_message_due c made before e) r.session h refl in
     record { at_tick = ending_ticks c made before e f due; on_page = is.3; right = is.5 }
 
 -- a tick shows nothing new

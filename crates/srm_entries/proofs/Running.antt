@@ -8,7 +8,7 @@ use Rattle.srm_names.specs.Histories.{Step, steps, or_else, last_of, greatest, f
 use Rattle.srm_names.specs.Names.{first_page, same_page}
 use Rattle.srm_names.proofs.Snoc.{steps-snoc, last_of-snoc}
 use Rattle.srm_entries.specs.declared.entry.Entry.{Entry}
-use Rattle.srm_entries.specs.Entries.{done, pages_in, slots, page_shown, shown, clock_of, last_moment}
+use Rattle.srm_entries.specs.Entries.{done, pages_in, slots, page_shown, shown, moments_counted, last_moment}
 use Rattle.srm_entries.proofs.Adding.{flat_map-snoc, greatest-append}
 
 -- what holds at each step, and at one more
@@ -19,10 +19,10 @@ steps_more R xs x all right = subst (λ w. AllByRecursion R w) (sym (steps-snoc 
     more [] all = (right, tt)
     more (y ∷ ys) all = (all.0, more ys all.1)
 
-pub last_moment-snoc : (made : ℕ) (past : List Entry) (e : Entry) → last_moment made (past ++ e ∷ []) ≡ max (last_moment made past) (greatest (clock_of e.verdict e))
+pub last_moment-snoc : (made : ℕ) (past : List Entry) (e : Entry) → last_moment made (past ++ e ∷ []) ≡ max (last_moment made past) (greatest (moments_counted e.verdict e))
 last_moment-snoc made past e =
-    ap (λ ns. greatest (made ∷ ns)) (flat_map-snoc (λ (x : Entry). clock_of x.verdict x) past e)
-    ∙ greatest-append (made ∷ flat_map (λ (x : Entry). clock_of x.verdict x) past) (clock_of e.verdict e)
+    ap (λ ns. greatest (made ∷ ns)) (flat_map-snoc (λ (x : Entry). moments_counted x.verdict x) past e)
+    ∙ greatest-append (made ∷ flat_map (λ (x : Entry). moments_counted x.verdict x) past) (moments_counted e.verdict e)
 
 pub shown-page-snoc : (past : List Entry) (e : Entry) → shown (past ++ e ∷ []) ≡ unwrap_or (page_shown (done e)) (shown past)
 shown-page-snoc past e = ap (λ o. unwrap_or o first_page) (last_of-snoc (λ (x : Entry). page_shown (done x)) past e) ∙ go (page_shown (done e)) (last_of (λ (x : Entry). page_shown (done x)) past)

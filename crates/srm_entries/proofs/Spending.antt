@@ -19,7 +19,7 @@ use Rattle.srm_entries.specs.declared.entry.Entry.{Entry}
 use Rattle.srm_entries.specs.declared.entry.Input.{Input}
 use Rattle.srm_entries.specs.declared.entry.Input.TheVariants.{Drew, Heard, Noise, Ticked, Showed, AskedLeave, Gave, Took}
 use Rattle.srm_entries.specs.declared.entry.Verdict.TheVariants.{Done}
-use Rattle.srm_entries.specs.Entries.{is_tick, ticked, takes_moment, clock_of, last_moment, state, is_gone}
+use Rattle.srm_entries.specs.Entries.{is_tick, ticked, takes_moment, moments_counted, last_moment, state, is_gone}
 use Rattle.srm_entries.specs.Verdicts.{VerdictRight}
 use Rattle.srm_entries.specs.Sessions.{charged}
 use Rattle.srm_entries.specs.Bucket.{Going, GoesAsCharged, entries_of, datagrams_of, lets_go, pops, calls_by, bucket_calls}
@@ -53,7 +53,7 @@ pub tick_is_last : (c : Config) (made : ℕ) (es : List Entry) (e : Entry) → E
 tick_is_last c made es e right t =
     let input : e.input ≡ Ticked = ticked_input e t in
     let done : e.verdict ≡ Done = subst (λ i. VerdictRight c es i e.verdict) input right.verdict in
-    let clock : clock_of e.verdict e ≡ e.moment ∷ [] = ap (λ v. clock_of v e) done ∙ ap (λ i. if takes_moment i then e.moment ∷ [] else []) input in
+    let clock : moments_counted e.verdict e ≡ e.moment ∷ [] = ap (λ v. moments_counted v e) done ∙ ap (λ i. if takes_moment i then e.moment ∷ [] else []) input in
     let l : last_moment made es ≤ e.moment = not_before c made es e right t in
     last_moment-snoc made es e ∙ ap (λ ns. max (last_moment made es) (greatest ns)) clock ∙ omega arith
 
@@ -177,7 +177,7 @@ charged_step : (c : Config) (made : ℕ) (before : List Going) (x : Going) → C
     → ((i : Classed Datagram) → Has i x.goes → i.item.length ≡ length_of i.item.value) → EntryRight c made (record { before = entries_of before; this = x.entry })
     → BucketLaw c.rate c.depth (bucket_calls c.me (before ++ x ∷ [])) → Charged c made (before ++ x ∷ [])
 charged_step c made before x p right lengths entry law =
-    let grown : last_moment made (entries_of before ++ x.entry ∷ []) ≡ max (last_moment made (entries_of before)) (greatest (clock_of x.entry.verdict x.entry)) = last_moment-snoc made (entries_of before) x.entry in
+    let grown : last_moment made (entries_of before ++ x.entry ∷ []) ≡ max (last_moment made (entries_of before)) (greatest (moments_counted x.entry.verdict x.entry)) = last_moment-snoc made (entries_of before) x.entry in
     let later : last_moment made (entries_of before) ≤ last_moment made (entries_of before ++ x.entry ∷ []) = omega arith in
     let early = p.last in
     let at : ticked x.entry ≡ true → x.entry.moment ≡ last_moment made (entries_of before ++ x.entry ∷ []) = λ t. sym (tick_is_last c made (entries_of before) x.entry entry t) in

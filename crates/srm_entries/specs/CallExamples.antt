@@ -20,7 +20,7 @@ use Rattle.srm_entries.specs.declared.entry.Input.TheVariants.{Drew, Heard, Nois
 use Rattle.srm_entries.specs.declared.entry.Verdict.TheVariants.{Done, Ignored, Refused}
 use Rattle.srm_entries.specs.Entries.{last_moment, shown, slots, held_at}
 use Rattle.srm_entries.specs.Verdicts.{verdict_of, stream_on, final, VerdictRight}
-use Rattle.srm_entries.specs.Sessions.{ending, session_due, echoes_owed, expected_row, members_remaining}
+use Rattle.srm_entries.specs.Sessions.{session_message_due, session_due, echoes_owed, expected_row, members_remaining}
 use Rattle.srm_entries.specs.Bucket.{classed, due_item}
 use Rattle.srm_entries.specs.Hearing.{bytes_heard}
 use Rattle.srm_entries.specs.Promises.{page_to_come}
@@ -139,8 +139,8 @@ report_of_sixteen = Session 0 1000000 false first_page (map (λ m. named (stream
 length_of_sixteen : length_of report_of_sixteen ≡ 406
 length_of_sixteen = refl
 
-pause_of_sixteen : session_due (in_roster 0 16 4204) 0 (of_sixteen ++ ticks 0 1000000 [] [] [] (report_of_sixteen ∷ []) ∷ []) ≡ 1000000 + 16240000
-pause_of_sixteen = refl
+interval_of_sixteen : session_due (in_roster 0 16 4204) 0 (of_sixteen ++ ticks 0 1000000 [] [] [] (report_of_sixteen ∷ []) ∷ []) ≡ 1000000 + 16240000
+interval_of_sixteen = refl
 
 -- a member that left counts no more, and gets no echo
 abbrev one_left : List Entry
@@ -172,7 +172,7 @@ full n = drawop_of n 1 (replicate 1024 7)
 abbrev waits_leaving : List Entry
 waits_leaving = draws 0 1 (full 1) ∷ draws 0 1 (full 2) ∷ ticks 0 10 [] [] [] (Data (full 1) ∷ []) ∷ entry 0 11 AskedLeave (quiet Leaving) ∷ []
 
-ordinary_message : map (λ now. ending slow 0 waits_leaving (entry 0 now Ticked (quiet Leaving))) (999999 ∷ 1000000 ∷ []) ≡ None ∷ Some false ∷ []
+ordinary_message : map (λ now. session_message_due slow 0 waits_leaving (entry 0 now Ticked (quiet Leaving))) (999999 ∷ 1000000 ∷ []) ≡ None ∷ Some false ∷ []
 ordinary_message = refl
 
 -- its second drawop waits for 1,051 seconds

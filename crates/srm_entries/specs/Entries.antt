@@ -77,13 +77,13 @@ takes_moment (Gave slot) = false
 takes_moment (Took slot) = false
 takes_moment _ = true
 
-abbrev pub clock_of : Verdict → Entry → List ℕ
-clock_of (Refused fault) e = []
-clock_of _ e = if takes_moment e.input then e.moment ∷ [] else []
+abbrev pub moments_counted : Verdict → Entry → List ℕ
+moments_counted (Refused fault) e = []
+moments_counted _ e = if takes_moment e.input then e.moment ∷ [] else []
 
 -- the last moment of an agent that was made at a moment
 abbrev pub last_moment : ℕ → List Entry → ℕ
-last_moment made es = greatest (made ∷ flat_map (λ e. clock_of e.verdict e) es)
+last_moment made es = greatest (made ∷ flat_map (λ e. moments_counted e.verdict e) es)
 
 abbrev pub sent : List Entry → List Datagram
 sent es = flat_map (λ e. e.effects.outs) es

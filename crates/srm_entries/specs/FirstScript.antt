@@ -21,7 +21,7 @@ use Rattle.srm_entries.specs.declared.entry.Verdict.TheVariants.{Done}
 use Rattle.srm_entries.specs.Entries.{done, state, slots, last_moment, known, is_missing, released}
 use Rattle.srm_entries.specs.Timers.{basis_of, ask_due, fix_due, low_of, high_of}
 use Rattle.srm_entries.specs.Verdicts.{verdict_of}
-use Rattle.srm_entries.specs.Sessions.{ending, session_due}
+use Rattle.srm_entries.specs.Sessions.{session_message_due, session_due}
 use Rattle.srm_entries.specs.Bucket.{Going, classed, bucket_calls}
 use Rattle.srm_entries.specs.Giving.{given, taken, GiveRight, next_taken}
 use Rattle.srm_entries.specs.Runs.{MomentRight, expected_drawop, expected_state}
@@ -126,7 +126,7 @@ level_left : level_at 8000 4204 (bucket_calls 0 going_0) 4 ≡ 4120000000
 level_left = refl
 
 -- endings: the tick is too early for a session message
-endings : at_each (λ s. ending (pair 0) 0 s.before s.this) member_0 ≡ replicate 4 None
+endings : at_each (λ s. session_message_due (pair 0) 0 s.before s.this) member_0 ≡ replicate 4 None
 endings = refl
 
 first_session_due : map (λ m. session_due (pair m) 0 []) (0 ∷ 1 ∷ []) ≡ 1000000 ∷ 1000000 ∷ []

@@ -23,7 +23,7 @@ use Rattle.srm_entries.specs.declared.entry.Input.TheVariants.{Drew, Heard, Tick
 use Rattle.srm_entries.specs.declared.entry.Verdict.{Verdict}
 use Rattle.srm_entries.specs.declared.entry.Verdict.TheVariants.{Done, Ignored, Refused}
 use Rattle.srm_entries.specs.Verdicts.{verdict_of, stream_on}
-use Rattle.srm_entries.specs.Sessions.{ending, session_due, echoes_owed}
+use Rattle.srm_entries.specs.Sessions.{session_message_due, session_due, echoes_owed}
 use Rattle.srm_entries.specs.Packing.{packed}
 use Rattle.srm_entries.specs.Bucket.{Going, GoesAsCharged, BucketRight, classed, entries_of, calls_by, bucket_calls}
 use Rattle.srm_entries.specs.Giving.{GiveRight, given, is_smallest}
@@ -127,10 +127,10 @@ refused : verdict_of (in_roster 0 1 1051) two (Drew first_page []) ≡ Refused f
 refused = refl
 
 -- an idle tick before it, without the data
-no_farewell : ending (in_roster 0 1 1051) 0 two (entry 0 131384 Ticked (quiet Leaving)) ≡ None
+no_farewell : session_message_due (in_roster 0 1 1051) 0 two (entry 0 131384 Ticked (quiet Leaving)) ≡ None
 no_farewell = refl
 
-then_farewell : ending (in_roster 0 1 1051) 0 two (entry 0 131385 Ticked (record (quiet Gone) { outs = Data (full 2) ∷ farewell_two ∷ [] })) ≡ Some true
+then_farewell : session_message_due (in_roster 0 1 1051) 0 two (entry 0 131385 Ticked (record (quiet Gone) { outs = Data (full 2) ∷ farewell_two ∷ [] })) ≡ Some true
 then_farewell = refl
 
 abbrev left : List Entry
@@ -181,8 +181,8 @@ big = Session 0 1000000 false first_page (map (λ m. named (stream_on m first_pa
 big_length : length_of big ≡ 806
 big_length = refl
 
-big_pause : session_due (in_roster 0 32 4204) 0 (all_heard ++ entry 0 1000000 Ticked (record (quiet Active) { outs = big ∷ [] }) ∷ []) ≡ 1000000 + 64480000
-big_pause = refl
+long_interval : session_due (in_roster 0 32 4204) 0 (all_heard ++ entry 0 1000000 Ticked (record (quiet Active) { outs = big ∷ [] }) ∷ []) ≡ 1000000 + 64480000
+long_interval = refl
 
 -- the newest message of a member is echoed, and an older one that comes later isn't
 echoed : echoes_owed (in_roster 0 3 4204) (hears 0 600000 (Session 1 500000 false first_page [] []) [] ∷ hears 0 700000 (Session 1 400000 false first_page [] []) [] ∷ []) 800000

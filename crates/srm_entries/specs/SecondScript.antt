@@ -20,7 +20,7 @@ use Rattle.srm_entries.specs.declared.entry.Verdict.TheVariants.{Done, Refused}
 use Rattle.srm_entries.specs.Entries.{done, state, is_missing, released}
 use Rattle.srm_entries.specs.Timers.{basis_of, ask_due, fix_due, held_off, first_asker}
 use Rattle.srm_entries.specs.Verdicts.{verdict_of, final}
-use Rattle.srm_entries.specs.Sessions.{ending, expected_row, number_in_rows, echoes_owed, members_remaining}
+use Rattle.srm_entries.specs.Sessions.{session_message_due, expected_row, number_in_rows, echoes_owed, members_remaining}
 use Rattle.srm_entries.specs.Bucket.{classed}
 use Rattle.srm_entries.specs.Giving.{given, GiveRight, may_leave}
 use Rattle.srm_entries.specs.Runs.{expected_drawop, expected_state}
@@ -181,13 +181,13 @@ lengths : map length_of (farewell ∷ asks_b ∷ Repair 2 second_drawop ∷ []) 
 lengths = refl
 
 -- endings: the tick after the leaving ends with a farewell, no other with a session message
-endings_0 : at_each (λ s. ending (trio 0) 0 s.before s.this) member_0 ≡ replicate 5 None ++ Some true ∷ []
+endings_0 : at_each (λ s. session_message_due (trio 0) 0 s.before s.this) member_0 ≡ replicate 5 None ++ Some true ∷ []
 endings_0 = refl
 
-endings_1 : at_each (λ s. ending (trio 1) 0 s.before s.this) member_1 ≡ replicate 13 None
+endings_1 : at_each (λ s. session_message_due (trio 1) 0 s.before s.this) member_1 ≡ replicate 13 None
 endings_1 = refl
 
-endings_2 : at_each (λ s. ending (trio 2) 0 s.before s.this) member_2 ≡ replicate 6 None
+endings_2 : at_each (λ s. session_message_due (trio 2) 0 s.before s.this) member_2 ≡ replicate 6 None
 endings_2 = refl
 
 abbrev before_parting : List Entry

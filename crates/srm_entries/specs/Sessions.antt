@@ -55,18 +55,18 @@ abbrev pub number_in_rows : List FullName → Stream → Option ℕ
 number_in_rows rows s = option_map (λ n. n.number) (find (λ n. same_stream s n.stream) rows)
 
 -- the contents of a session message that is sent after these entries
-pub record ReportRight (c : Config) (es : List Entry) (now : ℕ) (farewell : Bool) (rows : List FullName) : Type 0 where
+pub record SessionMessageRight (c : Config) (es : List Entry) (now : ℕ) (farewell : Bool) (rows : List FullName) : Type 0 where
   pub in_order : ascending row_below rows ≡ true
   pub exact : (s : Stream) → number_in_rows rows s ≡ expected_row c es farewell s
 
-abbrev pub IsReport : Config → List Entry → ℕ → Bool → Datagram → Type 0
-IsReport c es now wanted (Session sender sent farewell page rows owed) =
-    (sender ≡ c.me) × (sent ≡ now) × (farewell ≡ wanted) × (page ≡ shown es) × (owed ≡ echoes_owed c es now) × ReportRight c es now farewell rows
-IsReport c es now wanted _ = ⊥
+abbrev pub IsSessionMessage : Config → List Entry → ℕ → Bool → Datagram → Type 0
+IsSessionMessage c es now wanted (Session sender sent farewell page rows owed) =
+    (sender ≡ c.me) × (sent ≡ now) × (farewell ≡ wanted) × (page ≡ shown es) × (owed ≡ echoes_owed c es now) × SessionMessageRight c es now farewell rows
+IsSessionMessage c es now wanted _ = ⊥
 
 -- whether a tick ends with a session message, and with which: Some true is a farewell
-abbrev pub ending : Config → ℕ → List Entry → Entry → Option Bool
-ending c made before e =
+abbrev pub session_message_due : Config → ℕ → List Entry → Entry → Option Bool
+session_message_due c made before e =
     if not (ticked e) || is_gone (state before) then None
     else if is_leaving (state before) && all_data_sent (before ++ e ∷ []) then Some true
     else if nat_le (session_due c made before) e.moment then Some false
@@ -74,7 +74,7 @@ ending c made before e =
 
 abbrev pub EndsWith : Config → List Entry → Entry → Option Bool → Type 0
 EndsWith c before e None = e.effects.outs ≡ charged e
-EndsWith c before e (Some farewell) = (g : Datagram) × (e.effects.outs ≡ charged e ++ g ∷ []) × IsReport c before e.moment farewell g
+EndsWith c before e (Some farewell) = (g : Datagram) × (e.effects.outs ≡ charged e ++ g ∷ []) × IsSessionMessage c before e.moment farewell g
 
 abbrev pub SessionRight : Config → ℕ → List Entry → Entry → Type 0
-SessionRight c made before e = EndsWith c before e (ending c made before e)
+SessionRight c made before e = EndsWith c before e (session_message_due c made before e)

@@ -7,8 +7,8 @@ use Rattle.srm_entries.specs.declared.entry.Input.{Input}
 use Rattle.srm_entries.specs.declared.entry.Verdict.{Verdict}
 
 -- an entry without effects, but perhaps a message
-abbrev pub still_entry : ℕ → ℕ → Input → Verdict → Option PageMsg → AgentState → Entry
-still_entry me moment input verdict message after = record {
+abbrev pub entry_without_effects : ℕ → ℕ → Input → Verdict → Option PageMsg → AgentState → Entry
+entry_without_effects me moment input verdict message after = record {
   member = me;
   moment = moment;
   input = input;

@@ -17,7 +17,7 @@ use Rattle.srm_entries.specs.declared.entry.Verdict.TheVariants.{Done}
 use Rattle.srm_entries.specs.Entries.{is_missing}
 use Rattle.srm_entries.specs.Timers.{basis_of, last_ask, ask_due, fix_due, fix_running, held_off, first_asker, low_of, high_of}
 use Rattle.srm_entries.specs.Verdicts.{verdict_of}
-use Rattle.srm_entries.specs.Sessions.{ending, session_due}
+use Rattle.srm_entries.specs.Sessions.{session_message_due, session_due}
 use Rattle.srm_entries.specs.Packing.{packed}
 use Rattle.srm_entries.specs.Bucket.{classed}
 use Rattle.srm_entries.specs.Sample.{in_roster, first_stream, drawop_of, hears, ticks, ask_arm, fix_arm, ask_set, fix_set, at_each, idle, let_go}
@@ -133,7 +133,7 @@ asks_for_it = ticks 1 1200000 (named first_stream 1 ∷ []) [] (ask_arm 1 1 4000
 sends_at_the_end : map length_of (report ∷ Request 1 (named first_stream 1) 0 ∷ []) ≡ 31 ∷ 17 ∷ []
 sends_at_the_end = refl
 
-reports_then_asks : at_each (λ s. ending one_of_four 0 s.before s.this) (reported ++ asks_for_it ∷ []) ≡ None ∷ Some false ∷ None ∷ []
+reports_then_asks : at_each (λ s. session_message_due one_of_four 0 s.before s.this) (reported ++ asks_for_it ∷ []) ≡ None ∷ Some false ∷ None ∷ []
 reports_then_asks = refl
 
 next_report : session_due one_of_four 0 reported ≡ 2199999
@@ -153,7 +153,7 @@ four_due = refl
 in_one_request : packed 1 (names_up_to first_stream 4) ≡ Request 1 (named first_stream 1) 7 ∷ []
 in_one_request = refl
 
-report_is_due : ending one_of_four 0 four_missing (ticks 1 1200000 (names_up_to first_stream 4) [] [] []) ≡ Some false
+report_is_due : session_message_due one_of_four 0 four_missing (ticks 1 1200000 (names_up_to first_stream 4) [] [] []) ≡ Some false
 report_is_due = refl
 
 -- the largest jump: all numbers below it are missing

@@ -4,7 +4,7 @@ ghost use Rattle.std.specs.Prelude.{◌≡◌};
 ghost use Rattle.std.specs.Option.{option_copied};
 ghost use Rattle.srm_entries.specs.Entries.{accepted};
 ghost use Rattle.srm_entries.specs.Effects.{becomes_gone};
-ghost use Rattle.srm_entries.specs.Still.{still_entry};
+ghost use Rattle.srm_entries.specs.Still.{entry_without_effects};
 
 use crate::cause::Cause;
 use crate::fault::AgentFault;
@@ -20,7 +20,7 @@ use std::alloc::Global;
 pub enum Input {
     /// A body was drawn on a page.
     Drew(Page, Bytes),
-    /// A datagram came. The verdict says whether it was taken.
+    /// A datagram came. The verdict says whether it was accepted.
     Heard(Datagram),
     /// Bytes came that spell no datagram of the session, or any to a member that is gone.
     Noise,
@@ -37,7 +37,7 @@ pub enum Input {
 #[derive(Clone, Copy, Debug, PartialEq, Eq)]
 pub enum Verdict {
     Done,
-    /// What came wasn't taken. Nothing but the last moment changed.
+    /// What came wasn't accepted. Nothing but the last moment changed.
     Ignored(Cause),
     /// Nothing changed, the last moment too.
     Refused(AgentFault),
@@ -83,7 +83,7 @@ pub struct Entry {
 
 impl Entry {
     /// An entry without effects, but perhaps a message. It takes no memory.
-    pub fn still(
+    pub fn without_effects(
         alloc: Global,
         member: Member,
         moment: u64,
@@ -92,7 +92,7 @@ impl Entry {
         message: Option<PageMsg>,
         state: AgentState,
     ) -> Entry
-        ensures { result ≡ still_entry member moment input verdict message state }
+        ensures { result ≡ entry_without_effects member moment input verdict message state }
     {
         Entry {
             member,
@@ -111,7 +111,7 @@ impl Entry {
         }
     }
 
-    /// The datagram that was heard and taken.
+    /// The datagram that was heard and accepted.
     pub fn accepted(&self) -> Option<&Datagram>
         ensures { option_copied result ≡ accepted self.now }
     {

@@ -28,7 +28,7 @@ impl DatagramKind {
     }
 
     /// Its word in what `srm world` prints.
-    pub fn name(self) -> &'static str {
+    pub fn printed(self) -> &'static str {
         match self {
             DatagramKind::Data => "data",
             DatagramKind::Request => "request",

@@ -5,7 +5,7 @@ ghost use Rattle.srm_entries.specs.Rates.{RateLaw};
 ghost use Rattle.srm_entries.specs.Runs.{ResponseLaw};
 
 /// The law of response: in every run of a member, each missing name has a timer; after a request for a held name that isn't held
-/// off a repair timer runs; and each timer is answered by the first tick at or after its longest wait.
+/// off a repair timer runs; and what each timer is for is handed out by the first tick at or after its longest wait.
 pub fn responds()
     ensures { ResponseLaw }
 {}

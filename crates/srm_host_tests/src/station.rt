@@ -206,7 +206,7 @@ pub(crate) fn ink<R: Wait + Abort>(
     };
     let creator = member(rt, 0);
     let stroke = Stroke {
-        pen: pen.place(),
+        pen: pen.number(),
         page: Page { creator, number },
         body: body_of(alloc, byte).expect(rt, "memory"),
     };

@@ -19,15 +19,15 @@ const STDIN: RawFd = 0;
 fn main(rt: HostRuntime) -> ExitCode {
     let alloc = rt.alloc();
     let mut err = rt.stderr();
-    let words = match read_words(&rt) {
-        Ok(words) => words,
-        Err(error) => return ExitCode::from(tell_words(&error, &mut err)),
+    let arguments = match read_arguments(&rt) {
+        Ok(arguments) => arguments,
+        Err(error) => return ExitCode::from(tell_arguments(&error, &mut err)),
     };
-    let Ok(texts) = texts_of(alloc, words.as_slice()) else {
+    let Ok(texts) = texts_of(alloc, arguments.as_slice()) else {
         return ExitCode::from(ScriptFault::Memory.print(&mut err));
     };
     let status = match texts.as_slice() {
-        ["node", words @ ..] => match read_node(alloc, words) {
+        ["node", arguments @ ..] => match read_node(alloc, arguments) {
             Ok(options) if options.live => {
                 let input = PolledInput::new(&rt, alloc, rt.stdin(), STDIN);
                 run_live(&rt, options, input, rt.stdout(), rt.stderr())
@@ -35,11 +35,11 @@ fn main(rt: HostRuntime) -> ExitCode {
             Ok(options) => run_node(&rt, options, &mut rt.stdin(), &mut writer(&rt), &mut err),
             Err(reply) => print_reply(&reply, &mut writer(&rt), &mut err),
         },
-        ["picture", words @ ..] => match read_picture(alloc, words) {
+        ["picture", arguments @ ..] => match read_picture(alloc, arguments) {
             Ok(()) => run_picture(alloc, &mut rt.stdin(), &mut writer(&rt), &mut err),
             Err(reply) => print_reply(&reply, &mut writer(&rt), &mut err),
         },
-        words => match read_world(alloc, words) {
+        arguments => match read_world(alloc, arguments) {
             Ok(()) => run_script(alloc, &mut rt.stdin(), &mut writer(&rt), &mut err),
             Err(reply) => print_reply(&reply, &mut writer(&rt), &mut err),
         },
@@ -47,18 +47,18 @@ fn main(rt: HostRuntime) -> ExitCode {
     ExitCode::from(status)
 }
 
-/// The words behind the program's name.
-fn read_words<R: Env + AllocGlobal>(rt: &R) -> io::Result<Vec<String>> {
-    let words: Vec<String> = env::args(rt)?.skip(1).collect(rt.alloc())?;
-    Ok(words)
+/// The arguments behind the program's name.
+fn read_arguments<R: Env + AllocGlobal>(rt: &R) -> io::Result<Vec<String>> {
+    let arguments: Vec<String> = env::args(rt)?.skip(1).collect(rt.alloc())?;
+    Ok(arguments)
 }
 
-fn texts_of<'a>(alloc: Global, words: &'a [String]) -> Result<Vec<&'a str>, AllocError> {
-    words.iter().map(|word| word.as_str()).collect(alloc)
+fn texts_of<'a>(alloc: Global, arguments: &'a [String]) -> Result<Vec<&'a str>, AllocError> {
+    arguments.iter().map(|word| word.as_str()).collect(alloc)
 }
 
 /// Prints why the command line can't be read, and answers the status.
-fn tell_words<E: Write>(error: &io::Error, err: &mut E) -> u8 {
+fn tell_arguments<E: Write>(error: &io::Error, err: &mut E) -> u8 {
     match error.kind() {
         ErrorKind::OutOfMemory => ScriptFault::Memory.print(err),
         _ => {

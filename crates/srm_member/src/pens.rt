@@ -116,7 +116,7 @@ pub fn send_stroke<R: time::Clock + Wait>(
     ensures ended { OnFalse result (pen.new ≡ pen.old) }
 {
     let mut stroke = Stroke {
-        pen: pen.place(),
+        pen: pen.number(),
         page: Page::first(),
         body,
     };

@@ -23,7 +23,7 @@ use Rattle.srm_node.specs.Carrying.{Carries, PutsReleased}
 use Rattle.srm_node.specs.Parts.{HearingEnds}
 use Rattle.srm_node.specs.Nodes.{NodeView, has_ended}
 use Rattle.srm_node.specs.Turns.{Paused, RunEnds, TurnEnds}
-use Rattle.srm_node.specs.Working.{Took, SeesEach, TakesAndShows}
+use Rattle.srm_node.specs.Working.{Took, SeesEach, TakesAndHands}
 use Rattle.srm_node.specs.Hosting.{StopsBy, WorkedEach}
 
 -- HEARING
@@ -143,11 +143,11 @@ not_stopped_at_one : SeesEach Stops 3 false (Open first_page ∷ []) 0 1
 not_stopped_at_one = (1, true, (refl, refl, refl), (refl, refl))
 
 -- a step of the worker that took the second one, which the sink saw and stopped it at
-took_the_second : (lane : LaneId) → TakesAndShows Stops true (tap (Open first_page ∷ []) lane) (tap (Open first_page ∷ Draw first_drawop ∷ []) lane) (Open first_page ∷ []) (Open first_page ∷ Draw first_drawop ∷ []) 1 2
+took_the_second : (lane : LaneId) → TakesAndHands Stops true (tap (Open first_page ∷ []) lane) (tap (Open first_page ∷ Draw first_drawop ∷ []) lane) (Open first_page ∷ []) (Open first_page ∷ Draw first_drawop ∷ []) 1 2
 took_the_second lane = record { more = Draw first_drawop ∷ []; took = record { is = refl }; grew = refl; seen = (2, false, (refl, refl, refl), (refl, refl, refl)) }
 
 -- a step that took nothing, where the lane was at its end
-took_nothing : (lane : LaneId) → TakesAndShows Stops false (tap (Open first_page ∷ []) lane) (tap (Open first_page ∷ []) lane) (Open first_page ∷ []) (Open first_page ∷ []) 1 1
+took_nothing : (lane : LaneId) → TakesAndHands Stops false (tap (Open first_page ∷ []) lane) (tap (Open first_page ∷ []) lane) (Open first_page ∷ []) (Open first_page ∷ []) 1 1
 took_nothing lane = record { more = []; took = record { is = refl }; grew = refl; seen = (refl, refl) }
 
 -- HOSTS

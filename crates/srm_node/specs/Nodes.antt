@@ -9,7 +9,7 @@ use Rattle.srm_entries.specs.Configs.{Config}
 use Rattle.srm_entries.specs.Entries.{state, is_gone}
 use Rattle.srm_world.specs.Traces.{Journal}
 use Rattle.srm_world.specs.WaitWords.{RecorderView}
-use Rattle.srm_node.specs.declared.limits.TheConstants.{BUFFER}
+use Rattle.srm_node.specs.declared.limits.TheConstants.{BUFFER_BYTES}
 use Rattle.srm_wire.specs.Wires.{Told}
 use Rattle.srm_node.specs.Carrying.{KeepsLists}
 
@@ -24,7 +24,7 @@ pub record NodeView : Type 0 where
   pub failures : ℕ
   pub told : Option Told
 
--- what contracts see of a node: this, and its source of words and its clock as they stand
+-- what contracts see of a node: this, and its words and its clock as they stand
 pub record NodeState (W C : Type 0) : Type 0 where
   pub view : NodeView
   pub words : W
@@ -55,7 +55,7 @@ has_ended n = is_gone (state n.journal.entries) && list_all has_nothing_more n.f
 pub record IsNode (n : NodeView) (config : Config) (room : ℕ) (closed : List Bool) : Type 0 where
   pub lists : NodeKeepsLists n
   pub settings : n.journal.start.config ≡ config
-  pub room_is : room ≡ BUFFER
+  pub room_is : room ≡ BUFFER_BYTES
   pub closed_are : closed ≡ map has_closed n.feeds
 
 -- a feed for each slot, which put nothing and isn't disconnected

@@ -23,7 +23,7 @@ use Rattle.srm_entries.specs.Timers.{fix_running}
 use Rattle.srm_entries.specs.Giving.{given, MessageRight}
 use Rattle.srm_entries.specs.Bucket.{GoesAsCharged, bucket_calls}
 use Rattle.srm_entries.specs.Runs.{EntryRight, MomentRight, expected_state}
-use Rattle.srm_entries.specs.Sessions.{ReportRight}
+use Rattle.srm_entries.specs.Sessions.{SessionMessageRight}
 use Rattle.srm_entries.specs.Sample.{idle}
 use Rattle.srm_entries.proofs.Plain.{config, plain, idle_right, right, missing_none, unknown_unmissed, neither}
 use Rattle.srm_outbox.specs.declared.out.Out.{Out}
@@ -87,7 +87,7 @@ spelled_so = refl
 
 -- THE JOURNAL IS LAWFUL
 
-report_right : ReportRight (config 0) (asks ∷ []) 1 true []
+report_right : SessionMessageRight (config 0) (asks ∷ []) 1 true []
 report_right = record { in_order = refl; exact = λ (s : Stream). neither (s.source == 0) }
 
 -- a give that the entries before it allow

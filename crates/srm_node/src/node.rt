@@ -34,7 +34,7 @@ use std::marker::Model;
 use std::sync::Wait;
 
 /// A member that takes part in a session: its agent over a wire and a clock, the feeds of its page workers, and the well of its pens.
-/// Contracts see it as a record, and its source of words and its clock as they stand.
+/// Contracts see it as a record, and its words and its clock as they stand.
 #[derive(Drop)]
 pub struct Node<
     W: Words + Drop,

@@ -2,10 +2,10 @@
 
 ghost use Rattle.std.specs.Prelude.{◌≡◌, vec_len, replicate, false, IfOk};
 ghost use Rattle.srm_names.specs.declared.limits.TheConstants.{PAGES};
-ghost use Rattle.srm_node.specs.declared.limits.TheConstants.{BUFFER};
+ghost use Rattle.srm_node.specs.declared.limits.TheConstants.{BUFFER_BYTES};
 
 use crate::ending::none_closed;
-use crate::limits::BUFFER;
+use crate::limits::BUFFER_BYTES;
 use std::alloc::{AllocError, Global};
 
 /// The buffer that datagrams are received into, and that no feed put its close yet.
@@ -17,11 +17,11 @@ pub struct Spare {
 
 /// By itself, so that one exit alone drops what a node is made of. Only want of memory refuses it.
 pub fn make_spare(alloc: Global) -> Result<Spare, AllocError>
-    ensures buffer { IfOk result (λ s. vec_len s.buffer ≡ BUFFER) }
+    ensures buffer { IfOk result (λ s. vec_len s.buffer ≡ BUFFER_BYTES) }
     ensures closed { IfOk result (λ s. s.closed.items ≡ replicate PAGES false) }
 {
     Ok(Spare {
-        buffer: vec![in alloc; 0; BUFFER]?,
+        buffer: vec![in alloc; 0; BUFFER_BYTES]?,
         closed: none_closed(alloc)?,
     })
 }

@@ -31,7 +31,7 @@ fn has_inked<R: Wait + Abort>(
 ) -> bool {
     let creator = member(rt, 0);
     let stroke = Stroke {
-        pen: pen.place(),
+        pen: pen.number(),
         page: Page { creator, number },
         body: body_of(alloc, byte, length).expect(rt, "memory"),
     };

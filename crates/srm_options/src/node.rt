@@ -22,12 +22,12 @@ const STAY: u64 = 5_000_000;
 /// Without `--turns` it turns so often, at most.
 const TURNS: u64 = 1_000_000;
 
-/// Reads the words behind `srm node`.
-pub fn read_node<'a>(alloc: Global, words: &'a [&'a str]) -> Result<NodeOptions, Reply>
+/// Reads the arguments behind `srm node`.
+pub fn read_node<'a>(alloc: Global, arguments: &'a [&'a str]) -> Result<NodeOptions, Reply>
     ensures { IfOk result IsInRange }
 {
     let mut command = node_command(alloc)?;
-    let matches = command.try_get_matches_from_mut(words)?;
+    let matches = command.try_get_matches_from_mut(arguments)?;
     let options = match options_in(alloc, &matches) {
         Ok(options) => options,
         Err(mistake) => return Err(told(alloc, &mut command, mistake)),
@@ -136,7 +136,7 @@ fn with_addresses<'a>(alloc: Global, command: Command<'a>) -> Result<Command<'a>
     command.arg(addresses)
 }
 
-/// What the words say.
+/// What the arguments say.
 fn options_in<'a>(alloc: Global, matches: &ArgMatches<'a>) -> Result<NodeOptions, Mistake<'a>> {
     let addresses = addresses_in(alloc, matches.get_strs("ADDR").unwrap_or(&[]))?;
     let me = member_in(matches, addresses.len()).ok_or(Mistake::NoPlace)?;

@@ -5,10 +5,10 @@ use crate::reply::Reply;
 use clap::Command;
 use std::alloc::{AllocError, Global};
 
-/// Reads the words behind `srm picture`, which takes none: Ok where there are none.
-pub fn read_picture<'a>(alloc: Global, words: &'a [&'a str]) -> Result<(), Reply> {
+/// Reads the arguments behind `srm picture`, which takes none: Ok where there are none.
+pub fn read_picture<'a>(alloc: Global, arguments: &'a [&'a str]) -> Result<(), Reply> {
     let mut command = picture_command(alloc)?;
-    command.try_get_matches_from_mut(words)?;
+    command.try_get_matches_from_mut(arguments)?;
     Ok(())
 }
 

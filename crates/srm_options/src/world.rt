@@ -8,10 +8,10 @@ use clap::Command;
 use clap::error::ErrorKind;
 use std::alloc::{AllocError, Global};
 
-/// Reads the words behind `srm`, of which the first isn't `node` or `picture`: Ok where they ask for `srm world`.
-pub fn read_world<'a>(alloc: Global, words: &'a [&'a str]) -> Result<(), Reply> {
+/// Reads the arguments behind `srm`, of which the first isn't `node` or `picture`: Ok where they ask for `srm world`.
+pub fn read_world<'a>(alloc: Global, arguments: &'a [&'a str]) -> Result<(), Reply> {
     let mut command = srm_command(alloc)?;
-    let matches = command.try_get_matches_from_mut(words)?;
+    let matches = command.try_get_matches_from_mut(arguments)?;
     match matches.subcommand_name() {
         Some("world") => Ok(()),
         Some("picture") => Err(told(&mut command, "'picture' has to be the first word")),

@@ -23,4 +23,4 @@ mod packing;
 
 pub use due_items::{DueItem, requests_and_repairs, spelled};
 pub use out::{Out, Outgoing};
-pub use outbox::{Went, hand_in, let_go, pass};
+pub use outbox::{Went, hand_in, let_go, let_time_pass};

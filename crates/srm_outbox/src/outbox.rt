@@ -96,7 +96,7 @@ pub fn let_go(bucket: &mut Bucket<Outgoing>, now: u64, mut went: Went) -> Went
 /// Lets time pass up to a moment in microseconds. It is for moments at which nothing may go: what may go is dropped. It takes
 /// no memory.
 #[tactic(auto, using(crate::proofs::Handing::pop_passes))]
-pub fn pass(bucket: &mut Bucket<Outgoing>, now: u64)
+pub fn let_time_pass(bucket: &mut Bucket<Outgoing>, now: u64)
     requires { now ≤ LATEST_MOMENT }
     ensures { Passes now bucket.old bucket.new }
 {

@@ -14,7 +14,7 @@ use Rattle.srm_pages.specs.declared.board.BoardView.{BoardView}
 use Rattle.srm_pages.proofs.Views.{all_set, all_one, snoc_cases}
 use Rattle.srm_names.specs.declared.limits.TheConstants.{MEMBERS}
 use Rattle.srm_pages.proofs.Shown.{order_alike}
-use Rattle.srm_pages.specs.declared.board.TheConstants.{BOARD_REGISTERS, STRIDE}
+use Rattle.srm_pages.specs.declared.board.TheConstants.{BOARD_REGISTERS, REGISTERS_A_SLOT}
 use Rattle.srm_pages.specs.Board.{count_register, number_register, total, drawops_posted, CountsPosted, board_view, zeros, dealer, looking, with_seen, FitsBoard, IsBoardState, BoardState, Raised, Looked}
 
 replicate_zero : (n i : ℕ) → get_or {A = ℕ} (replicate n 0) i 0 ≡ 0
@@ -76,7 +76,7 @@ begins = record {
 }
 
 -- the tap of a slot raises one of its registers
-pub raises : (slots id word n : ℕ) (m : Me ℕ BoardView) → m.0.taps ≡ true → word / STRIDE ≡ m.0.slot → word < BOARD_REGISTERS → get_or m.0.seen word 0 ≤ n → (word % STRIDE ≢ 0 → n < 2 ^ 32) → CountsPosted (set m.0.seen word n) m.0.slot
+pub raises : (slots id word n : ℕ) (m : Me ℕ BoardView) → m.0.taps ≡ true → word / REGISTERS_A_SLOT ≡ m.0.slot → word < BOARD_REGISTERS → get_or m.0.seen word 0 ≤ n → (word % REGISTERS_A_SLOT ≢ 0 → n < 2 ^ 32) → CountsPosted (set m.0.seen word n) m.0.slot
     → Allows BoardState slots id m word (λ _. n) (λ _. Raised (step slots word n 0 none) m n)
 raises slots id word n m taps mine inside more narrow order s h _ at _ =
     let v = m.0 in
@@ -93,14 +93,14 @@ raises slots id word n m taps mine inside more narrow order s h _ at _ =
         dealt = h.dealt;
         sized = length-set s.words word n ∙ h.sized;
         narrow = λ i odd. dite (ℕ_discrete i word)
-            (λ (e : i ≡ word). subst (λ k. get_or (set s.words word n) k 0 < 2 ^ 32) (sym e) (subst (λ k. k < 2 ^ 32) (sym (get_or-set_same s.words word n 0 in_words)) (narrow (subst (λ k. k % STRIDE ≢ 0) e odd))))
+            (λ (e : i ≡ word). subst (λ k. get_or (set s.words word n) k 0 < 2 ^ 32) (sym e) (subst (λ k. k < 2 ^ 32) (sym (get_or-set_same s.words word n 0 in_words)) (narrow (subst (λ k. k % REGISTERS_A_SLOT ≢ 0) e odd))))
             (λ (ne : i ≢ word). subst (λ k. k < 2 ^ 32) (sym (get_or-set_other s.words word i n 0 ne)) (h.narrow i odd));
         order = λ slot. dite (ℕ_discrete slot v.slot)
             (λ (e : slot ≡ v.slot). subst (λ k. CountsPosted (set s.words word n) k) (sym e)
             (order_alike (set v.seen word n) (set s.words word n) v.slot (λ i own. noted_exact v.seen s.words word n i in_words in_seen (λ _. my.exact taps i own)) order))
             (λ (ne : slot ≢ v.slot). order_alike s.words (set s.words word n) slot
-            (λ i own. sym (get_or-set_other s.words word i n 0 (λ (e : i ≡ word). ne (sym own ∙ ap (λ k. k / STRIDE) e ∙ mine)))) (h.order slot));
-        blank = λ i late. let apart : i ≢ word = (λ (e : i ≡ word). let own = (my.tap taps).1 in let d : i / STRIDE ≡ v.slot = ap (λ k. k / STRIDE) e ∙ mine in let l : h.dealt ≤ v.slot = subst (λ k. h.dealt ≤ k) d late in omega arith) in get_or-set_other s.words word i n 0 apart ∙ h.blank i late;
+            (λ i own. sym (get_or-set_other s.words word i n 0 (λ (e : i ≡ word). ne (sym own ∙ ap (λ k. k / REGISTERS_A_SLOT) e ∙ mine)))) (h.order slot));
+        blank = λ i late. let apart : i ≢ word = (λ (e : i ≡ word). let own = (my.tap taps).1 in let d : i / REGISTERS_A_SLOT ≡ v.slot = ap (λ k. k / REGISTERS_A_SLOT) e ∙ mine in let l : h.dealt ≤ v.slot = subst (λ k. h.dealt ≤ k) d late in omega arith) in get_or-set_other s.words word i n 0 apart ∙ h.blank i late;
         fits = all_set (FitsBoard h.seat h.dealt (set s.words word n)) s.views id (with_seen v word n)
             record {
               sized = length-set v.seen word n ∙ my.sized;
@@ -113,7 +113,7 @@ raises slots id word n m taps mine inside more narrow order s h _ at _ =
               sized = its.sized;
               bound = grown u.seen s.words word n in_words less its.bound;
               tap = its.tap;
-              exact = λ t i d. let elsewhere : i ≢ word = (λ (same : i ≡ word). apart (sym (its.tap t).0 ∙ ap h.seat (sym d ∙ ap (λ k. k / STRIDE) same ∙ mine) ∙ (my.tap taps).0)) in its.exact t i d ∙ sym (get_or-set_other s.words word i n 0 elsewhere);
+              exact = λ t i d. let elsewhere : i ≢ word = (λ (same : i ≡ word). apart (sym (its.tap t).0 ∙ ap h.seat (sym d ∙ ap (λ k. k / REGISTERS_A_SLOT) same ∙ mine) ∙ (my.tap taps).0)) in its.exact t i d ∙ sym (get_or-set_other s.words word i n 0 elsewhere);
               dealer = its.dealer;
             });
       },
@@ -136,9 +136,9 @@ looks slots id word m inside s h _ at _ =
         seat = h.seat;
         dealt = h.dealt;
         sized = length-set s.words word n ∙ h.sized;
-        narrow = subst (λ (ws : List ℕ). (i : ℕ) → i % STRIDE ≢ 0 → get_or ws i 0 < 2 ^ 32) (sym same) h.narrow;
+        narrow = subst (λ (ws : List ℕ). (i : ℕ) → i % REGISTERS_A_SLOT ≢ 0 → get_or ws i 0 < 2 ^ 32) (sym same) h.narrow;
         order = subst (λ (ws : List ℕ). (slot : ℕ) → CountsPosted ws slot) (sym same) h.order;
-        blank = subst (λ (ws : List ℕ). (i : ℕ) → h.dealt ≤ i / STRIDE → get_or ws i 0 ≡ 0) (sym same) h.blank;
+        blank = subst (λ (ws : List ℕ). (i : ℕ) → h.dealt ≤ i / REGISTERS_A_SLOT → get_or ws i 0 ≡ 0) (sym same) h.blank;
         fits = all_set (FitsBoard h.seat h.dealt (set s.words word n)) s.views id (with_seen v word n)
             record {
               sized = length-set v.seen word n ∙ my.sized;

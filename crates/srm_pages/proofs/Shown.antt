@@ -8,7 +8,7 @@ use Rattle.srm_names.specs.declared.drawop.Drawop.{Drawop}
 use Rattle.srm_names.specs.declared.page_msg.PageMsg.{PageMsg}
 use Rattle.srm_names.specs.declared.page_msg.PageMsg.TheVariants.{Open, Draw, Left, Close}
 use Rattle.srm_names.specs.PageFeeds.{is_page_feed, drawops_of, drawop_from}
-use Rattle.srm_pages.specs.declared.board.TheConstants.{STRIDE}
+use Rattle.srm_pages.specs.declared.board.TheConstants.{REGISTERS_A_SLOT}
 use Rattle.srm_pages.specs.Board.{total, count_register, number_register, drawops_posted, CountsPosted}
 use Rattle.srm_pages.proofs.Feeds.{front_of, not_drawn_by}
 
@@ -28,14 +28,14 @@ total_more f g k (suc n) others one =
     (λ (ne : n ≢ k). let before = total_more f g k n others one in let last = others n ne in omega arith)
 
 -- the registers of a slot stand side by side
-pub of_slot : (slot member : ℕ) → member < MEMBERS → number_register slot member / STRIDE ≡ slot
+pub of_slot : (slot member : ℕ) → member < MEMBERS → number_register slot member / REGISTERS_A_SLOT ≡ slot
 of_slot slot member small = omega arith
 
-pub count_of_slot : (slot : ℕ) → count_register slot / STRIDE ≡ slot
+pub count_of_slot : (slot : ℕ) → count_register slot / REGISTERS_A_SLOT ≡ slot
 count_of_slot slot = omega arith
 
 -- registers that are alike in a slot
-pub order_alike : (xs ys : List ℕ) (slot : ℕ) → ((i : ℕ) → i / STRIDE ≡ slot → get_or xs i 0 ≡ get_or ys i 0) → CountsPosted xs slot → CountsPosted ys slot
+pub order_alike : (xs ys : List ℕ) (slot : ℕ) → ((i : ℕ) → i / REGISTERS_A_SLOT ≡ slot → get_or xs i 0 ≡ get_or ys i 0) → CountsPosted xs slot → CountsPosted ys slot
 unfolding drawops_posted
 order_alike xs ys slot alike was =
     let shown = total_le (λ m. get_or ys (number_register slot m) 0) (λ m. get_or xs (number_register slot m) 0) MEMBERS (λ m small. let same = alike (number_register slot m) (of_slot slot m small) in omega arith) in

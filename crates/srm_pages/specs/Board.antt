@@ -4,7 +4,7 @@ use mathlib.Core.Option.{some}
 use lib.ListN.{get_elem?}
 use Rattle.atomic_table.specs.Table.{State, Me, Step}
 use Rattle.srm_names.specs.declared.limits.TheConstants.{MEMBERS}
-use Rattle.srm_pages.specs.declared.board.TheConstants.{BOARD_REGISTERS, STRIDE}
+use Rattle.srm_pages.specs.declared.board.TheConstants.{BOARD_REGISTERS, REGISTERS_A_SLOT}
 use Rattle.srm_pages.specs.declared.board.BoardView.{BoardView}
 
 abbrev pub board_view : Bool → ℕ → Bool → ℕ → List ℕ → BoardView
@@ -12,10 +12,10 @@ board_view taps slot deals next seen = record { taps = taps; slot = slot; deals 
 
 -- the register of a slot that counts the messages taken, and the register that has the number of a member's last drawop
 abbrev pub count_register : ℕ → ℕ
-count_register slot = slot * STRIDE
+count_register slot = slot * REGISTERS_A_SLOT
 
 abbrev pub number_register : ℕ → ℕ → ℕ
-number_register slot member = slot * STRIDE + (member + 1)
+number_register slot member = slot * REGISTERS_A_SLOT + (member + 1)
 
 -- f 0, f 1, .. up to below n, added up
 abbrev pub total : (ℕ → ℕ) → ℕ → ℕ
@@ -50,7 +50,7 @@ pub record FitsBoard (seat : ℕ → ℕ) (dealt : ℕ) (words : List ℕ) (id :
   pub sized : length v.seen ≡ BOARD_REGISTERS
   pub bound : (i : ℕ) → slice_index v.seen i ≤ slice_index words i
   pub tap : v.taps ≡ true → (seat v.slot ≡ id) × (v.slot < dealt)
-  pub exact : v.taps ≡ true → (i : ℕ) → i / STRIDE ≡ v.slot → slice_index v.seen i ≡ slice_index words i
+  pub exact : v.taps ≡ true → (i : ℕ) → i / REGISTERS_A_SLOT ≡ v.slot → slice_index v.seen i ≡ slice_index words i
   pub dealer : v.deals ≡ true → (id ≡ 0) × (v.next ≡ dealt)
 
 -- The numbers of drawops fit a u32, a slot shows no more than it counts behind the first, and the registers of slots that have no tap yet are 0
@@ -58,9 +58,9 @@ pub record IsBoardState (words : List ℕ) (views : List BoardView) : Type 0 whe
   pub seat : ℕ → ℕ
   pub dealt : ℕ
   pub sized : length words ≡ BOARD_REGISTERS
-  pub narrow : (i : ℕ) → i % STRIDE ≢ 0 → slice_index words i < 2 ^ 32
+  pub narrow : (i : ℕ) → i % REGISTERS_A_SLOT ≢ 0 → slice_index words i < 2 ^ 32
   pub order : (slot : ℕ) → CountsPosted words slot
-  pub blank : (i : ℕ) → dealt ≤ i / STRIDE → slice_index words i ≡ 0
+  pub blank : (i : ℕ) → dealt ≤ i / REGISTERS_A_SLOT → slice_index words i ≡ 0
   pub fits : (id : ℕ) (v : BoardView) → get_elem? views id ≡ some v → FitsBoard seat dealt words id v
 
 abbrev pub BoardState : State ℕ BoardView → Type 0
@@ -70,4 +70,4 @@ abbrev pub Raised : Step ℕ → Me ℕ BoardView → ℕ → Me ℕ BoardView �
 Raised s m n r = (r ≡ (with_seen m.0 s.word n, m.1)) × (slice_index r.0.seen s.word ≡ n)
 
 abbrev pub Looked : Step ℕ → Me ℕ BoardView → ℕ → Me ℕ BoardView → Type 0
-Looked s m n r = (r ≡ (with_seen m.0 s.word n, m.1)) × (slice_index r.0.seen s.word ≡ n) × (slice_index m.0.seen s.word ≤ n) × (s.word % STRIDE ≢ 0 → n < 2 ^ 32)
+Looked s m n r = (r ≡ (with_seen m.0 s.word n, m.1)) × (slice_index r.0.seen s.word ≡ n) × (slice_index m.0.seen s.word ≤ n) × (s.word % REGISTERS_A_SLOT ≢ 0 → n < 2 ^ 32)

@@ -12,23 +12,23 @@ use std::alloc::Global;
 use std::collections::LinkedList;
 
 /// How many registers a slot has: one for the count, and one for each member.
-pub const STRIDE: usize = 1 + MEMBERS as usize;
+pub const REGISTERS_A_SLOT: usize = 1 + MEMBERS as usize;
 
 /// How many registers there are.
-pub const BOARD_REGISTERS: usize = PAGES as usize * STRIDE;
+pub const BOARD_REGISTERS: usize = PAGES as usize * REGISTERS_A_SLOT;
 
 /// The register of a slot that counts the messages taken.
 pub(crate) fn count_register(slot: u8) -> usize
     ensures { result ≡ count_register slot }
 {
-    usize::from(slot) * STRIDE
+    usize::from(slot) * REGISTERS_A_SLOT
 }
 
 /// The register of a slot that has the number of a member's last drawop.
 pub(crate) fn number_register(slot: u8, member: Member) -> usize
     ensures { result ≡ number_register slot member }
 {
-    usize::from(slot) * STRIDE + (member.index() + 1)
+    usize::from(slot) * REGISTERS_A_SLOT + (member.index() + 1)
 }
 
 /// What a seat knows: whether it is a tap's and of which slot, whether it deals the slots from `next` on, and the number that it

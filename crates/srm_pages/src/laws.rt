@@ -8,7 +8,7 @@ ghost use Rattle.srm_pages.specs.declared.lane.LaneView.{LaneView};
 ghost use Rattle.srm_pages.specs.declared.ink.InkView.{InkView};
 ghost use Rattle.srm_pages.specs.declared.stroke.Stroke.{Stroke};
 ghost use Rattle.atomic_table.specs.Table.{State};
-ghost use Rattle.srm_pages.specs.declared.board.TheConstants.{STRIDE};
+ghost use Rattle.srm_pages.specs.declared.board.TheConstants.{REGISTERS_A_SLOT};
 ghost use Rattle.srm_pages.specs.Board.{IsBoardState, CountsPosted};
 ghost use Rattle.srm_pages.specs.Lane.{IsLaneState};
 ghost use Rattle.srm_pages.specs.Ink.{IsWellState, strokes_of};
@@ -28,7 +28,7 @@ pub fn lane_keeps_its_rule()
 pub fn board_keeps_its_rule()
     ensures seen { (words : List ℕ) (views : List BoardView) → IsBoardState words views
         → (i j : ℕ) (t v : BoardView) → get_elem? views i ≡ some t → t.taps ≡ true → get_elem? views j ≡ some v
-        → (w : ℕ) → w / STRIDE ≡ t.slot → (slice_index t.seen w ≡ slice_index words w) × (slice_index v.seen w ≤ slice_index t.seen w) }
+        → (w : ℕ) → w / REGISTERS_A_SLOT ≡ t.slot → (slice_index t.seen w ≡ slice_index words w) × (slice_index v.seen w ≤ slice_index t.seen w) }
     ensures order { (board : State ℕ BoardView) → ⟦<BoardRule as TableRule<u8, BoardView, ()>>⟧.holds tt board → (slot : ℕ) → CountsPosted board.words slot }
 {}
 

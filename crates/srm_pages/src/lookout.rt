@@ -1,7 +1,7 @@
 //! One who only looks at the board.
 
 ghost use Rattle.std.specs.Prelude.{◌≡◌, ◌≢◌, ◌%◌, ◌^◌, ◌<◌, ◌≤◌, slice_index, slice_set};
-ghost use Rattle.srm_pages.specs.declared.board.TheConstants.{BOARD_REGISTERS, STRIDE};
+ghost use Rattle.srm_pages.specs.declared.board.TheConstants.{BOARD_REGISTERS, REGISTERS_A_SLOT};
 
 use crate::board::{Board, BoardSeat, Looks};
 use std::alloc::Global;
@@ -36,7 +36,7 @@ impl Lookout {
         ensures seen { self.new ≡ record self.old { seen = slice_set self.old.seen register result } }
         ensures there { slice_index self.new.seen register ≡ result }
         ensures rises { slice_index self.old.seen register ≤ result }
-        ensures narrow { register % STRIDE ≢ 0 → result < 2 ^ 32 }
+        ensures narrow { register % REGISTERS_A_SLOT ≢ 0 → result < 2 ^ 32 }
     {
         self.board.shared.load::<Looks>(&mut self.seat, register)
     }

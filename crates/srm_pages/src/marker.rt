@@ -2,7 +2,7 @@
 
 ghost use Rattle.std.specs.Prelude.{◌≡◌, ◌≢◌, ◌/◌, ◌%◌, ◌^◌, ◌<◌, ◌≤◌, length, slice_index, slice_set};
 ghost use Rattle.crossbeam_channel.specs.Claims.{view as knows};
-ghost use Rattle.srm_pages.specs.declared.board.TheConstants.{BOARD_REGISTERS, STRIDE};
+ghost use Rattle.srm_pages.specs.declared.board.TheConstants.{BOARD_REGISTERS, REGISTERS_A_SLOT};
 ghost use Rattle.srm_pages.specs.Board.{count_register, CountsPosted};
 ghost use Rattle.srm_pages.specs.Seats.{MayPost, Posts};
 
@@ -71,9 +71,9 @@ impl Marker {
 
     // Stores a number that isn't below the one there.
     fn raise(&mut self, register: usize, number: u64)
-        requires mine { (register < BOARD_REGISTERS) × (register / STRIDE ≡ self.old.slot) }
+        requires mine { (register < BOARD_REGISTERS) × (register / REGISTERS_A_SLOT ≡ self.old.slot) }
         requires rises { slice_index self.old.seat register ≤ number }
-        requires narrow { register % STRIDE ≢ 0 → number < 2 ^ 32 }
+        requires narrow { register % REGISTERS_A_SLOT ≢ 0 → number < 2 ^ 32 }
         requires order { CountsPosted (slice_set self.old.seat register number) self.old.slot }
         ensures seat { self.new ≡ record self.old { seat = slice_set self.old.seat register number } }
         ensures there { slice_index self.new.seat register ≡ number }

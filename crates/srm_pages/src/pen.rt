@@ -55,7 +55,7 @@ impl Model for Inked {
 
 impl Pen {
     /// Its place among all pens, from 0.
-    pub fn place(&self) -> u8
+    pub fn number(&self) -> u8
         ensures { result ≡ self.now.place }
     {
         self.place

@@ -48,7 +48,7 @@ fn send_one<R: Wait>(rt: &R, pen: &mut Pen, mut stroke: Stroke)
 /// Sends strokes on the pages with the numbers from 0, and then is done.
 fn send_all<R: Wait>(rt: &R, mut pen: Pen) -> Option<Inked> {
     for number in 0..STROKES {
-        let stroke = stroke_of(pen.place(), number)?;
+        let stroke = stroke_of(pen.number(), number)?;
         send_one(rt, &mut pen, stroke);
     }
     Some(pen.done())
@@ -127,7 +127,7 @@ fn there_are_four_pens_in_order(rt: HostRuntime) -> Result<(), Fail> {
     let (mut well, pens) = well(rt.alloc())?;
     assert_eq!(rt; pens.len(), 4);
     for (place, pen) in pens.iter().enumerate() {
-        assert_eq!(rt; usize::from(pen.place()), place);
+        assert_eq!(rt; usize::from(pen.number()), place);
     }
     assert!(rt; well.next(&rt).is_none());
     Ok(())
@@ -138,7 +138,7 @@ fn came_of_each<R: Wait>(rt: &R, alloc: Global, number: u16) -> Result<Option<u3
     let (mut well, pens) = well(alloc)?;
     let mut count = 0u32;
     for mut pen in pens {
-        let place = pen.place();
+        let place = pen.number();
         let Some(stroke) = stroke_of(place, number) else {
             return Ok(None);
         };

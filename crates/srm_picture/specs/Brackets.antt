@@ -30,19 +30,19 @@ abbrev pub sets_anew : Arm → Entry → Bool
 sets_anew a e = list_any (λ (b : Arm). same_kind a.kind b.kind && same_name a.name b.name) e.effects.arms
 
 -- the entry accepts the drawop that was to be asked for, or a repair like the one that was to be made
-abbrev pub answered_by_kind : ArmKind → FullName → Option Datagram → Bool
-answered_by_kind Ask n accepted = list_any (λ (d : Drawop). same_name n d.name) (drawops_in accepted)
-answered_by_kind Fix n accepted = repairs_in n accepted
+abbrev pub cancelled_by : ArmKind → FullName → Option Datagram → Bool
+cancelled_by Ask n accepted = list_any (λ (d : Drawop). same_name n d.name) (drawops_in accepted)
+cancelled_by Fix n accepted = repairs_in n accepted
 
-abbrev pub answers : ArmKind → FullName → Entry → Bool
-answers kind n e = answered_by_kind kind n (accepted e)
+abbrev pub cancels : ArmKind → FullName → Entry → Bool
+cancels kind n e = cancelled_by kind n (accepted e)
 
 -- how a later entry of the member ends a timer, if it does
 abbrev pub ends_later : Arm → Entry → Option TimerEnd
 ends_later a e =
     if among (handed_out a.kind e) a.name then Some RanOut
     else if sets_anew a e then Some BackedOff
-    else if is_gone e.effects.state || answers a.kind a.name e then Some Cancelled
+    else if is_gone e.effects.state || cancels a.kind a.name e then Some Cancelled
     else None
 
 -- the entry that sets it ends it only as the member goes

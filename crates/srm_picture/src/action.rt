@@ -8,7 +8,7 @@ use srm_entries::{Effects, Entry, Input, Verdict};
 use srm_names::PageMsg;
 use std::alloc::{AllocError, Global};
 
-/// What a tick on a lifeline stands for.
+/// What a notch on a lifeline stands for.
 #[derive(Clone, Copy, Debug, PartialEq, Eq)]
 pub enum LocalActionKind {
     /// A drawop was drawn.
@@ -23,7 +23,7 @@ pub enum LocalActionKind {
     Gone,
 }
 
-/// A tick on a lifeline.
+/// A notch on a lifeline.
 #[derive(Clone, Copy, Debug, PartialEq, Eq)]
 pub struct LocalAction {
     pub at: Point,
@@ -32,7 +32,7 @@ pub struct LocalAction {
     pub kind: LocalActionKind,
 }
 
-/// The ticks of a trace, in order.
+/// The notches of a trace, in order.
 pub(crate) fn actions(alloc: Global, entries: &[Entry]) -> Result<Vec<LocalAction>, AllocError>
     ensures { IfOk result (λ actions. actions.items ≡ actions_in entries.now) }
 {

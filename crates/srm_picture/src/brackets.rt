@@ -2,7 +2,7 @@
 
 ghost use Rattle.std.specs.Prelude.{◌≡◌, map, Some, IfOk};
 ghost use Rattle.std.specs.List.{enumerate_from};
-ghost use Rattle.srm_picture.specs.Brackets.{answers, answered_by_kind, bracket, brackets_in, bracket_end as end_in, ended_in as how_ended_in, ending_in as how_ended, ends_later as how_ended_later, handed_out, sets_anew};
+ghost use Rattle.srm_picture.specs.Brackets.{cancels, cancelled_by, bracket, brackets_in, bracket_end as end_in, ended_in as how_ended_in, ending_in as how_ended, ends_later as how_ended_later, handed_out, sets_anew};
 ghost use Rattle.srm_names.specs.Names.{among};
 
 use crate::bracket::{Bracket, BracketEnd, TimerEnd};
@@ -130,7 +130,7 @@ fn is_set(entry: &Entry, arm: &Arm) -> bool
 
 /// Whether the entry takes what the timer was to ask for, or a repair like the one that it was to make.
 fn is_answered(entry: &Entry, arm: &Arm) -> bool
-    ensures { result ≡ answers arm.now.kind arm.now.name entry.now }
+    ensures { result ≡ cancels arm.now.kind arm.now.name entry.now }
 {
     match entry.accepted() {
         Some(datagram) => is_answer(datagram, arm),
@@ -139,7 +139,7 @@ fn is_answered(entry: &Entry, arm: &Arm) -> bool
 }
 
 fn is_answer(datagram: &Datagram, arm: &Arm) -> bool
-    ensures { result ≡ answered_by_kind arm.now.kind arm.now.name (Some datagram.now) }
+    ensures { result ≡ cancelled_by arm.now.kind arm.now.name (Some datagram.now) }
 {
     match datagram {
         Datagram::Data(drawop) => matches!(arm.kind, ArmKind::Ask) && arm.name == drawop.name,

@@ -26,6 +26,6 @@ pub fn write_svg<W: Write>(
     shapes::write_brackets(alloc, out, subject, picture, &plan)?;
     shapes::write_arrows(alloc, out, subject, picture, &plan)?;
     labels::write_datagrams(out, subject, picture, &plan)?;
-    labels::write_ticks(alloc, out, subject, picture, &plan)?;
+    labels::write_notches(alloc, out, subject, picture, &plan)?;
     legend::write_legend(out, &plan)
 }

@@ -72,7 +72,7 @@ fn ink<R: Wait + Abort>(rt: &R, alloc: Global, pen: &mut Pen, byte: u8) {
         number: 0,
     };
     let stroke = Stroke {
-        pen: pen.place(),
+        pen: pen.number(),
         page,
         body: body(rt, alloc, byte),
     };

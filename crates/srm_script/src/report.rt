@@ -108,7 +108,7 @@ impl EntryPrinter {
         requires { AllByRecursion IsSpellable outs.now }
     {
         for datagram in outs {
-            let kind = DatagramKind::of(datagram).name();
+            let kind = DatagramKind::of(datagram).printed();
             writeln!(
                 out,
                 "out {} {member} {kind} {}",

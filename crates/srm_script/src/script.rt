@@ -19,7 +19,7 @@ use srm_timers::Listed;
 use srm_world::Event;
 use std::alloc::Global;
 
-/// The settings of all members, 1 to 32, and as many sources of words. The events happen in order.
+/// The settings of all members, 1 to 32, and for each its words. The events happen in order.
 #[derive(Drop)]
 pub struct Script {
     pub configs: Vec<Config>,

@@ -16,7 +16,7 @@ use Rattle.srm_deadlines.proofs.Order.{map_take}
 use Rattle.srm_timers.specs.declared.arm.Arm.{Arm}
 use Rattle.srm_deadlines.specs.declared.timed.Timed.{Timed}
 use Rattle.srm_timers.specs.Arms.{Plan, WaitBasis, plan_of, wait_basis, arm_name, arm_names, arm_of, ArmsAre, AreChosen, IsAsk, AreAsks, AreOfMembers}
-use Rattle.srm_timers.specs.Ends.{timed_at, arm_end, is_short, AreShort}
+use Rattle.srm_timers.specs.Expiries.{timed_at, expiry_of, is_short, AreShort}
 use Rattle.srm_deadlines.specs.Places.{names_of, moment_among, is_timed}
 
 -- arms that are drawn one after the other
@@ -103,16 +103,16 @@ module _ {C V : Type 0} (tell : FullName → C → Option V) (make : Arm → C) 
       ∙ ap (or_else (option_map value (arm_of n arms))) (tells n a)
       ∙ pick n a arms (same_name n a.name) refl rising (among (arm_names arms) n) refl
 
--- the ends of arms as moments
+-- when arms run out, as moments
 pub moments_names : (now : ℕ) (arms : List Arm) → names_of (map (timed_at now) arms) ≡ arm_names arms
 moments_names now [] = refl
 moments_names now (a ∷ arms) = ap (λ ns. a.name ∷ ns) (moments_names now arms)
 
-pub moments_of : (now : ℕ) (arms : List Arm) (n : FullName) → moment_among (map (timed_at now) arms) n ≡ option_map (arm_end now) (arm_of n arms)
+pub moments_of : (now : ℕ) (arms : List Arm) (n : FullName) → moment_among (map (timed_at now) arms) n ≡ option_map (expiry_of now) (arm_of n arms)
 moments_of now [] n = refl
 moments_of now (a ∷ arms) n = go (same_name n a.name) (moments_of now arms n)
   where
-    go : (b : Bool) → option_map (λ (t : Timed). t.moment) (find (is_timed n) (map (timed_at now) arms)) ≡ option_map (arm_end now) (arm_of n arms)
-        → option_map (λ (t : Timed). t.moment) (cond b (Some (timed_at now a)) (find (is_timed n) (map (timed_at now) arms))) ≡ option_map (arm_end now) (cond b (Some a) (arm_of n arms))
+    go : (b : Bool) → option_map (λ (t : Timed). t.moment) (find (is_timed n) (map (timed_at now) arms)) ≡ option_map (expiry_of now) (arm_of n arms)
+        → option_map (λ (t : Timed). t.moment) (cond b (Some (timed_at now a)) (find (is_timed n) (map (timed_at now) arms))) ≡ option_map (expiry_of now) (cond b (Some a) (arm_of n arms))
     go true more = refl
     go false more = more

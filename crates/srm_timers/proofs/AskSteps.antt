@@ -12,7 +12,7 @@ use Rattle.srm_timers.specs.declared.arm.ArmKind.TheVariants.{Ask}
 use Rattle.srm_deadlines.specs.declared.by_name.NamedValue.{NamedValue}
 use Rattle.srm_timers.specs.Arms.{arm_names, arm_of, runs_out_at, ran_out, backs_off, next_exponent, RunsOutFirst, ArmsAre, WaitBasis, Plan, plan_of}
 use Rattle.srm_names.specs.Moments.{has_come}
-use Rattle.srm_timers.specs.Ends.{arm_end, SetsEnds}
+use Rattle.srm_timers.specs.Expiries.{expiry_of, SetsExpiries}
 use Rattle.srm_timers.specs.Timers.{armed_at, SetsTimers}
 use Rattle.srm_deadlines.specs.Places.{value_at, value_in, is_at, has_place, KeepsValues, Sets, IsLeast}
 use Rattle.srm_timers.specs.AskCalls.{AskCall, Set, Gained, timer_after, flat, ask_timer, sets, AskFits, AskContent, AskAdds, AskExponentWhenHeard, AskExponentWhenDue, AskNext, AskDue, ArmsOfFound, ArmsSetAgain, found_plan, found_basis, AskStays, ask_basis, ask_plan, AskReady, AskTimersRun, DetectReady, DueReady, again_exponent, again_plan, again_basis, due_basis}
@@ -58,8 +58,8 @@ sets_one now arm old new h = record { each = λ n. h.each n ∙ go (same_name n 
     go true o = refl
     go false o = refl
 
--- the ends go with the timers
-pub ends_set : (now : ℕ) (o : Option Arm) (t : Option Armed) → or_else (option_map (arm_end now) o) (option_map runs_out_at t) ≡ option_map runs_out_at (or_else (option_map (armed_at now) o) t)
+-- the expiries go with the timers
+pub ends_set : (now : ℕ) (o : Option Arm) (t : Option Armed) → or_else (option_map (expiry_of now) o) (option_map runs_out_at t) ≡ option_map runs_out_at (or_else (option_map (armed_at now) o) t)
 ends_set now None t = refl
 ends_set now (Some a) t = refl
 
@@ -89,17 +89,17 @@ pub come_ran_out : (now : ℕ) (o : Option Armed) → has_come now (option_map r
 come_ran_out now None = refl
 come_ran_out now (Some a) = refl
 
--- what has come by the ends that are kept are the timers that ran out
-pub due_ran_out : (now : ℕ) (ends : List (NamedValue ℕ)) (timer : FullName → Option Armed) (names : List FullName) → ((n : FullName) → value_at ends n ≡ option_map runs_out_at (timer n))
-    → AreExactly (λ n. has_come now (value_at ends n)) names → AreExactly (λ n. ran_out now (timer n)) names
-due_ran_out now ends timer names right due = record {
+-- what has come by the expiries that are kept are the timers that ran out
+pub due_ran_out : (now : ℕ) (expiries : List (NamedValue ℕ)) (timer : FullName → Option Armed) (names : List FullName) → ((n : FullName) → value_at expiries n ≡ option_map runs_out_at (timer n))
+    → AreExactly (λ n. has_come now (value_at expiries n)) names → AreExactly (λ n. ran_out now (timer n)) names
+due_ran_out now expiries timer names right due = record {
   in_order = due.in_order;
   exact = λ n. due.exact n ∙ ap (has_come now) (right n) ∙ come_ran_out now (timer n);
 }
 
--- the least of the ends is when the first timer runs out
-pub first_end : (ends : List (NamedValue ℕ)) (timer : FullName → Option Armed) (t : Option ℕ) → ((n : FullName) → value_at ends n ≡ option_map runs_out_at (timer n)) → IsLeast ends t → RunsOutFirst timer t
-first_end ends timer t right h = record {
+-- the least of the expiries is when the first timer runs out
+pub first_end : (expiries : List (NamedValue ℕ)) (timer : FullName → Option Armed) (t : Option ℕ) → ((n : FullName) → value_at expiries n ≡ option_map runs_out_at (timer n)) → IsLeast expiries t → RunsOutFirst timer t
+first_end expiries timer t right h = record {
   none = λ e n. no_timer (timer n) (sym (right n) ∙ h.none e n);
   least = sooner t h.least;
   is_one = one t h.is_one;
@@ -113,11 +113,11 @@ first_end ends timer t right h = record {
     until t None h = h
     until t (Some a) h = h
 
-    sooner : (t : Option ℕ) → IfSome t (λ t. (n : FullName) → IfSome (value_at ends n) (λ m. t ≤ m)) → IfSome t (λ t. (n : FullName) → IfSome (timer n) (λ a. t ≤ runs_out_at a))
+    sooner : (t : Option ℕ) → IfSome t (λ t. (n : FullName) → IfSome (value_at expiries n) (λ m. t ≤ m)) → IfSome t (λ t. (n : FullName) → IfSome (timer n) (λ a. t ≤ runs_out_at a))
     sooner None h = h
     sooner (Some t) h = λ n. until t (timer n) (subst (λ o. IfSome o (λ m. t ≤ m)) (right n) (h n))
 
-    one : (t : Option ℕ) → IfSome t (λ t. (n : FullName) × (value_at ends n ≡ Some t)) → IfSome t (λ t. (n : FullName) × (option_map runs_out_at (timer n) ≡ Some t))
+    one : (t : Option ℕ) → IfSome t (λ t. (n : FullName) × (value_at expiries n ≡ Some t)) → IfSome t (λ t. (n : FullName) × (option_map runs_out_at (timer n) ≡ Some t))
     one None h = h
     one (Some t) (n, e) = (n, sym (right n) ∙ e)
 
@@ -144,7 +144,7 @@ stays_on a b c p q = record { each = λ c1 c2 calls h. q.each c1 c2 calls (p.eac
 
 -- the list for the next answer has no part in what can be set
 pub ready_still : (names : List FullName) (a : AskContent) (list : ℕ) → AskReady names a → AskReady names (record a { detect_list = list })
-ready_still names a list h = record { ends = h.ends; timers = h.timers }
+ready_still names a list h = record { expiries = h.expiries; timers = h.timers }
 
 -- what has a value has a place
 pub placed : {V : Type 0} (places : List (NamedValue V)) (n : FullName) → IsSome (value_at places n) → has_place places n ≡ true
@@ -172,17 +172,17 @@ has_end None h = h
 has_end (Some a) h = refl
 
 -- the names that are due have timers
-pub timers_run : (now : ℕ) (a : AskContent) (names : List FullName) → ((n : FullName) → value_at a.ends.places n ≡ option_map runs_out_at (value_at a.timers n))
-    → AreExactly (λ n. has_come now (value_at a.ends.places n)) names → AskTimersRun names a
-timers_run now a names right due = record { each = λ n at. due_runs now a.ends.places a.timers n (right n) (sym (due.exact n) ∙ at) }
+pub timers_run : (now : ℕ) (a : AskContent) (names : List FullName) → ((n : FullName) → value_at a.expiries.places n ≡ option_map runs_out_at (value_at a.timers n))
+    → AreExactly (λ n. has_come now (value_at a.expiries.places n)) names → AskTimersRun names a
+timers_run now a names right due = record { each = λ n at. due_runs now a.expiries.places a.timers n (right n) (sym (due.exact n) ∙ at) }
 
 -- names that have timers can be set again where there is room for so many
 pub again_ready : (dist : List ℕ) (timer : FullName → Option Armed) (names : List FullName) (arms arms' : List Arm) (places : List (NamedValue ℕ)) (a b : AskContent)
-    → ((n : FullName) → value_at places n ≡ option_map runs_out_at (value_at a.timers n)) → AskTimersRun names a → b.ends.places ≡ places → b.timers ≡ a.timers → length names ≤ b.ends.room
+    → ((n : FullName) → value_at places n ≡ option_map runs_out_at (value_at a.timers n)) → AskTimersRun names a → b.expiries.places ≡ places → b.timers ≡ a.timers → length names ≤ b.expiries.room
     → map plan_of arms ≡ map (again_plan dist timer) names → arms' ≡ arms → AskReady (arm_names arms') b
 again_ready dist timer names arms arms' places a b right run same_ends same room plans is =
     subst (λ ns. AskReady ns b) (sym (ap arm_names is ∙ planned_names (again_plan dist timer) (λ n. refl) names arms plans)) (record {
-      ends = record { places = λ n at. ap (λ ps. has_place ps n) same_ends ∙ placed places n (ap is_some (right n) ∙ has_end (value_at a.timers n) (run.each n at)); room = room };
+      expiries = record { places = λ n at. ap (λ ps. has_place ps n) same_ends ∙ placed places n (ap is_some (right n) ∙ has_end (value_at a.timers n) (run.each n at)); room = room };
       timers = λ n at. ap (λ ps. has_place ps n) same ∙ placed a.timers n (run.each n at);
     })
 
@@ -222,10 +222,10 @@ stays_between a b c d p q same stays p' q' same' = record { each = λ c1 c2 call
 pub adds_between : (more : List AskCall) (a b c d : AskContent) → b.c1 ≡ a.c1 → b.c2 ≡ a.c2 → b.timers ≡ a.timers → AskAdds more b c → d.c1 ≡ c.c1 → d.c2 ≡ c.c2 → d.timers ≡ c.timers → AskAdds more a d
 adds_between more a b c d p q same adds p' q' same' = record { each = λ c1 c2 calls h. fits_as c1 c2 (calls ++ more) c d p' q' same' (adds.each c1 c2 calls (fits_as c1 c2 calls a b p q same h)) }
 
-pub due_is : (now : ℕ) (a : AskContent) (names : List FullName) → ((n : FullName) → value_at a.ends.places n ≡ option_map runs_out_at (value_at a.timers n))
-    → AreExactly (λ n. has_come now (value_at a.ends.places n)) names → AskDue now a names
+pub due_is : (now : ℕ) (a : AskContent) (names : List FullName) → ((n : FullName) → value_at a.expiries.places n ≡ option_map runs_out_at (value_at a.timers n))
+    → AreExactly (λ n. has_come now (value_at a.expiries.places n)) names → AskDue now a names
 due_is now a names right due = record {
-  each = λ c1 c2 calls h. due_ran_out now a.ends.places (ask_timer calls) names (λ n. right n ∙ ap (option_map runs_out_at) (h.timers n)) due;
+  each = λ c1 c2 calls h. due_ran_out now a.expiries.places (ask_timer calls) names (λ n. right n ∙ ap (option_map runs_out_at) (h.timers n)) due;
 }
 
 -- the names whose timers ran out, armed again
@@ -260,7 +260,7 @@ backs_off_is name now a exponent is = record { each = λ c1 c2 calls h. is ∙ a
 pub runs_is : (name : FullName) (a : AskContent) (exponent : Option ℕ) → exponent ≡ option_map next_exponent (value_at a.timers name) → AskExponentWhenDue name a exponent
 runs_is name a exponent is = record { each = λ c1 c2 calls h. is ∙ ap (option_map next_exponent) (h.timers name) }
 
-pub next_is : (a : AskContent) (moment : Option ℕ) → ((n : FullName) → value_at a.ends.places n ≡ option_map runs_out_at (value_at a.timers n)) → IsLeast a.ends.places moment → AskNext a moment
+pub next_is : (a : AskContent) (moment : Option ℕ) → ((n : FullName) → value_at a.expiries.places n ≡ option_map runs_out_at (value_at a.timers n)) → IsLeast a.expiries.places moment → AskNext a moment
 next_is a moment right least = record {
-  each = λ c1 c2 calls h. first_end a.ends.places (ask_timer calls) moment (λ n. right n ∙ ap (option_map runs_out_at) (h.timers n)) least;
+  each = λ c1 c2 calls h. first_end a.expiries.places (ask_timer calls) moment (λ n. right n ∙ ap (option_map runs_out_at) (h.timers n)) least;
 }

@@ -17,12 +17,12 @@ use Rattle.srm_deadlines.specs.declared.by_name.NamedValue.{NamedValue}
 use Rattle.srm_timers.specs.Arms.{Plan, plan_of, runs_out_at, ran_out, arm_names, arm_of}
 use Rattle.srm_names.specs.Moments.{has_come}
 use Rattle.srm_timers.specs.Distances.{distance_to}
-use Rattle.srm_timers.specs.Ends.{ExpiryContent, arm_end, SetsEnds}
+use Rattle.srm_timers.specs.Expiries.{ExpiryContent, expiry_of, SetsExpiries}
 use Rattle.srm_timers.specs.Timers.{armed_at}
 use Rattle.srm_deadlines.specs.Places.{value_at, KeepsValues, Sets, ClearsAll, IsLeast}
 use Rattle.srm_timers.specs.AskCalls.{flat}
 use Rattle.srm_timers.specs.Marks.{NotesAsker, OffAsBefore}
-use Rattle.srm_timers.specs.FixCalls.{FixCall, Asked, SetFix, Repaired, asker_by, asked_first, first_asker, fix_timer_after, fix_timer, call_holds_off, calls_hold_off, is_free, sets_fix, repair_holds_until, repair_by, repair_calls, FixFits, FixContent, FixStays, FixAdds, FixRepairs, FixDue, FixNext, FixIsFree, FixFirstAsker, FixAnswers, fix_plan, FixPlace, FixPlaces, HoldsOff, HoldAllOff, asker_at, is_held_off, held_off_until}
+use Rattle.srm_timers.specs.FixCalls.{FixCall, Asked, SetFix, Repaired, asker_by, asked_first, first_asker, fix_timer_after, fix_timer, call_holds_off, calls_hold_off, is_free, sets_fix, repair_holds_until, repair_by, repair_calls, FixFits, FixContent, FixStays, FixAdds, FixRepairs, FixDue, FixNext, FixIsFree, FixFirstAsker, NotesRequest, fix_plan, FixPlace, FixPlaces, HoldsOff, HoldAllOff, asker_at, is_held_off, held_off_until}
 use Rattle.srm_deadlines.proofs.Order.{map_take}
 use Rattle.srm_timers.proofs.Arming.{last_arms}
 pub use Rattle.srm_deadlines.proofs.Tables.{holds_on}
@@ -75,13 +75,13 @@ calls_hold_off-repaired calls name until n now = list_any-snoc (call_holds_off n
 
 -- who asked is noted, with the askers as they are then
 fits_asked : (d1 d2 : ℕ) (calls : List FixCall) (name : FullName) (from : ℕ) (a b : FixContent) → FixFits d1 d2 calls a → b.d1 ≡ a.d1 → b.d2 ≡ a.d2
-    → b.ends ≡ a.ends → OffAsBefore a.held_off b.held_off → NotesAsker name from a.askers b.askers
+    → b.expiries ≡ a.expiries → OffAsBefore a.held_off b.held_off → NotesAsker name from a.askers b.askers
     → FixFits d1 d2 (calls ++ Asked name from ∷ []) b
-fits_asked d1 d2 calls name from a b h p q ends held_off askers = record {
+fits_asked d1 d2 calls name from a b h p q expiries held_off askers = record {
   d1_is = p ∙ h.d1_is;
   d2_is = q ∙ h.d2_is;
   askers = λ n. askers.each n ∙ ap (λ o. or_else o (if same_name n name then Some from else None)) (h.askers n) ∙ sym (asked_first-snoc calls (Asked name from) n);
-  ends = λ n. ap (λ (e : ExpiryContent). value_at e.places n) ends ∙ h.ends n ∙ sym (ap (option_map runs_out_at) (fix_timer-asked calls name from n));
+  expiries = λ n. ap (λ (e : ExpiryContent). value_at e.places n) expiries ∙ h.expiries n ∙ sym (ap (option_map runs_out_at) (fix_timer-asked calls name from n));
   held_off = λ n now. held_off.each n now ∙ h.held_off n now ∙ sym (calls_hold_off-asked calls name from n now);
 }
 
@@ -92,22 +92,22 @@ new_asker name from n f none false other = sym (or_else-none (f n))
 
 -- timers are set
 pub fits_sets_fix : (d1 d2 : ℕ) (calls : List FixCall) (now : ℕ) (arms : List Arm) (a b : FixContent) → FixFits d1 d2 calls a → b.d1 ≡ a.d1 → b.d2 ≡ a.d2
-    → b.askers ≡ a.askers → b.held_off ≡ a.held_off → ascending name_below (arm_names arms) ≡ true → SetsEnds now arms a.ends.places b.ends.places
+    → b.askers ≡ a.askers → b.held_off ≡ a.held_off → ascending name_below (arm_names arms) ≡ true → SetsExpiries now arms a.expiries.places b.expiries.places
     → FixFits d1 d2 (calls ++ sets_fix now arms) b
-fits_sets_fix d1 d2 calls now arms a b h p q askers held_off rising ends = record {
+fits_sets_fix d1 d2 calls now arms a b h p q askers held_off rising expiries = record {
   d1_is = p ∙ h.d1_is;
   d2_is = q ∙ h.d2_is;
   askers = λ n. ap (λ e. value_at e n) askers ∙ h.askers n ∙ sym (asked_first-append calls (sets_fix now arms) n (no_asker-sets now arms n));
-  ends = λ n. ends.each n ∙ ap (or_else (option_map (arm_end now) (arm_of n arms))) (h.ends n) ∙ ends_set now (arm_of n arms) (fix_timer calls n)
+  expiries = λ n. expiries.each n ∙ ap (or_else (option_map (expiry_of now) (arm_of n arms))) (h.expiries n) ∙ ends_set now (arm_of n arms) (fix_timer calls n)
       ∙ sym (ap (option_map runs_out_at) (fix_timer-sets calls now arms n rising));
   held_off = λ n t. ap (λ e. nat_lt t (unwrap_or (value_at e n) 0)) held_off ∙ h.held_off n t ∙ sym (calls_hold_off-append calls (sets_fix now arms) n t (none_off-sets now arms n t));
 }
 
 -- one end is set
-pub ends_one : (now : ℕ) (arm : Arm) (old new : List (NamedValue ℕ)) → Sets arm.name (Some (now + arm.wait)) old new → SetsEnds now (arm ∷ []) old new
+pub ends_one : (now : ℕ) (arm : Arm) (old new : List (NamedValue ℕ)) → Sets arm.name (Some (now + arm.wait)) old new → SetsExpiries now (arm ∷ []) old new
 ends_one now arm old new h = record { each = λ n. h.each n ∙ go (same_name n arm.name) (value_at old n) }
   where
-    go : (b : Bool) (o : Option ℕ) → (if b then Some (now + arm.wait) else o) ≡ or_else (option_map (arm_end now) (cond b (Some arm) None)) o
+    go : (b : Bool) (o : Option ℕ) → (if b then Some (now + arm.wait) else o) ≡ or_else (option_map (expiry_of now) (cond b (Some arm) None)) o
     go true o = refl
     go false o = refl
 
@@ -117,14 +117,14 @@ map_if f false o p = refl
 
 -- a repair was heard or handed out
 fits_ended : (d1 d2 : ℕ) (calls : List FixCall) (name : FullName) (until : ℕ) (a b : FixContent) → FixFits d1 d2 calls a → b.d1 ≡ a.d1 → b.d2 ≡ a.d2
-    → KeepsValues a.askers b.askers → Sets name None a.ends.places b.ends.places
+    → KeepsValues a.askers b.askers → Sets name None a.expiries.places b.expiries.places
     → ((n : FullName) (now : ℕ) → nat_lt now (unwrap_or (value_at b.held_off n) 0) ≡ nat_lt now (unwrap_or (value_at a.held_off n) 0) || same_name n name && nat_lt now until)
     → FixFits d1 d2 (calls ++ Repaired name until ∷ []) b
-fits_ended d1 d2 calls name until a b h p q askers ends held_off = record {
+fits_ended d1 d2 calls name until a b h p q askers expiries held_off = record {
   d1_is = p ∙ h.d1_is;
   d2_is = q ∙ h.d2_is;
   askers = λ n. askers.each n ∙ h.askers n ∙ sym (asked_first-append calls (Repaired name until ∷ []) n refl);
-  ends = λ n. ends.each n ∙ if_same (same_name n name) _ _ _ (h.ends n)
+  expiries = λ n. expiries.each n ∙ if_same (same_name n name) _ _ _ (h.expiries n)
       ∙ sym (ap (option_map runs_out_at) (fix_timer-repaired calls name until n) ∙ map_if runs_out_at (same_name n name) _ _);
   held_off = λ n t. held_off n t ∙ ap (λ b. b || same_name n name && nat_lt t until) (h.held_off n t) ∙ sym (calls_hold_off-repaired calls name until n t);
 }
@@ -237,15 +237,15 @@ pub calls_hold_off-repairs : (now : ℕ) (dist : List ℕ) (calls : List FixCall
     → calls_hold_off (calls ++ repair_calls now dist calls names) n t ≡ (calls_hold_off calls n t || among names n && nat_lt t (repair_holds_until now dist calls n))
 calls_hold_off-repairs now dist calls names n t = any_append calls (repair_calls now dist calls names) n t ∙ ap (λ b. calls_hold_off calls n t || b) (repairs_hold now dist calls names n t)
 
-pub repairs_all : (now : ℕ) (dist : List ℕ) (names : List FullName) (a b : FixContent) → b.d1 ≡ a.d1 → b.d2 ≡ a.d2 → KeepsValues a.askers b.askers → ClearsAll names a.ends.places b.ends.places
+pub repairs_all : (now : ℕ) (dist : List ℕ) (names : List FullName) (a b : FixContent) → b.d1 ≡ a.d1 → b.d2 ≡ a.d2 → KeepsValues a.askers b.askers → ClearsAll names a.expiries.places b.expiries.places
     → HoldAllOff now dist names a.askers a.held_off b.held_off → FixRepairs now dist names a b
-repairs_all now dist names a b p q askers ends off = record {
+repairs_all now dist names a b p q askers expiries off = record {
   near = λ d1 d2 calls h n at. subst (λ o. unwrap_or o n.stream.source < MEMBERS) (h.askers n) (off.near n at);
   each = λ d1 d2 calls h. record {
     d1_is = p ∙ h.d1_is;
     d2_is = q ∙ h.d2_is;
     askers = λ n. askers.each n ∙ h.askers n ∙ sym (asked_first-append calls (repair_calls now dist calls names) n (no_asker-repairs now dist calls names n));
-    ends = λ n. ends.each n ∙ ap (λ o. if among names n then None else o) (h.ends n)
+    expiries = λ n. expiries.each n ∙ ap (λ o. if among names n then None else o) (h.expiries n)
         ∙ sym (ap (λ o. option_map runs_out_at (flat o)) (last_of-append (fix_timer_after n) calls (repair_calls now dist calls names) ∙ ap (λ o. or_else o (last_of (fix_timer_after n) calls)) (repairs_cancel now dist calls names n))
         ∙ cancels (among names n) (fix_timer calls n) (last_of (fix_timer_after n) calls) refl);
     held_off = λ n t. off.each n t ∙ ap (λ b. b || among names n && nat_lt t (held_off_until now dist a.askers n)) (h.held_off n t)
@@ -255,13 +255,13 @@ repairs_all now dist names a b p q askers ends off = record {
 }
 
 -- nothing changes
-pub fix_stays : (a b : FixContent) → b.d1 ≡ a.d1 → b.d2 ≡ a.d2 → KeepsValues a.ends.places b.ends.places → KeepsValues a.askers b.askers → KeepsValues a.held_off b.held_off → FixStays a b
-fix_stays a b p q ends askers held_off = record {
+pub fix_stays : (a b : FixContent) → b.d1 ≡ a.d1 → b.d2 ≡ a.d2 → KeepsValues a.expiries.places b.expiries.places → KeepsValues a.askers b.askers → KeepsValues a.held_off b.held_off → FixStays a b
+fix_stays a b p q expiries askers held_off = record {
   each = λ d1 d2 calls h. record {
     d1_is = p ∙ h.d1_is;
     d2_is = q ∙ h.d2_is;
     askers = λ n. askers.each n ∙ h.askers n;
-    ends = λ n. ends.each n ∙ h.ends n;
+    expiries = λ n. expiries.each n ∙ h.expiries n;
     held_off = λ n now. ap (λ o. nat_lt now (unwrap_or o 0)) (held_off.each n) ∙ h.held_off n now;
   };
 }
@@ -272,9 +272,9 @@ some_map (Some a) = refl
 
 -- whether a request sets the timer of a name
 pub free_is : (d1 d2 : ℕ) (calls : List FixCall) (a : FixContent) (n : FullName) (now : ℕ) → FixFits d1 d2 calls a
-    → (not (is_some (value_at a.ends.places n)) && not (nat_lt now (unwrap_or (value_at a.held_off n) 0))) ≡ is_free calls n now
+    → (not (is_some (value_at a.expiries.places n)) && not (nat_lt now (unwrap_or (value_at a.held_off n) 0))) ≡ is_free calls n now
 free_is d1 d2 calls a n now h =
-    ap (λ o. not (is_some o) && not (nat_lt now (unwrap_or (value_at a.held_off n) 0))) (h.ends n)
+    ap (λ o. not (is_some o) && not (nat_lt now (unwrap_or (value_at a.held_off n) 0))) (h.expiries n)
     ∙ ap (λ b. not b && not (nat_lt now (unwrap_or (value_at a.held_off n) 0))) (some_map (fix_timer calls n))
     ∙ ap (λ b. not (is_some (fix_timer calls n)) && not b) (h.held_off n now)
 
@@ -300,32 +300,32 @@ pub unanswered : (b told : Bool) (q : Plan) → b ≡ false → b ≡ told → N
 unanswered b told q none is = ap (λ t. if t then Some q else None) (sym none ∙ is)
 
 -- the same, for every list of calls
-pub note_adds : (name : FullName) (from : ℕ) (a b : FixContent) → b.d1 ≡ a.d1 → b.d2 ≡ a.d2 → b.ends ≡ a.ends → OffAsBefore a.held_off b.held_off → NotesAsker name from a.askers b.askers → FixAdds (Asked name from ∷ []) a b
-note_adds name from a b p q ends held_off noted = record { each = λ d1 d2 calls h. fits_asked d1 d2 calls name from a b h p q ends held_off noted }
+pub note_adds : (name : FullName) (from : ℕ) (a b : FixContent) → b.d1 ≡ a.d1 → b.d2 ≡ a.d2 → b.expiries ≡ a.expiries → OffAsBefore a.held_off b.held_off → NotesAsker name from a.askers b.askers → FixAdds (Asked name from ∷ []) a b
+note_adds name from a b p q expiries held_off noted = record { each = λ d1 d2 calls h. fits_asked d1 d2 calls name from a b h p q expiries held_off noted }
 
 pub set_adds_fix : (now : ℕ) (arm : Arm) (a b : FixContent) → b.d1 ≡ a.d1 → b.d2 ≡ a.d2 → b.askers ≡ a.askers → b.held_off ≡ a.held_off
-    → Sets arm.name (Some (now + arm.wait)) a.ends.places b.ends.places → FixAdds (SetFix now arm ∷ []) a b
-set_adds_fix now arm a b p q askers held_off ends = record { each = λ d1 d2 calls h. fits_sets_fix d1 d2 calls now (arm ∷ []) a b h p q askers held_off refl (ends_one now arm a.ends.places b.ends.places ends) }
+    → Sets arm.name (Some (now + arm.wait)) a.expiries.places b.expiries.places → FixAdds (SetFix now arm ∷ []) a b
+set_adds_fix now arm a b p q askers held_off expiries = record { each = λ d1 d2 calls h. fits_sets_fix d1 d2 calls now (arm ∷ []) a b h p q askers held_off refl (ends_one now arm a.expiries.places b.expiries.places expiries) }
 
 pub sets_adds_fix : (now : ℕ) (arms : List Arm) (a b : FixContent) → b.d1 ≡ a.d1 → b.d2 ≡ a.d2 → b.askers ≡ a.askers → b.held_off ≡ a.held_off
-    → ascending name_below (arm_names arms) ≡ true → SetsEnds now arms a.ends.places b.ends.places → FixAdds (sets_fix now arms) a b
-sets_adds_fix now arms a b p q askers held_off rising ends = record { each = λ d1 d2 calls h. fits_sets_fix d1 d2 calls now arms a b h p q askers held_off rising ends }
+    → ascending name_below (arm_names arms) ≡ true → SetsExpiries now arms a.expiries.places b.expiries.places → FixAdds (sets_fix now arms) a b
+sets_adds_fix now arms a b p q askers held_off rising expiries = record { each = λ d1 d2 calls h. fits_sets_fix d1 d2 calls now arms a b h p q askers held_off rising expiries }
 
-pub repaired_adds : (name : FullName) (until : ℕ) (a b : FixContent) → b.d1 ≡ a.d1 → b.d2 ≡ a.d2 → KeepsValues a.askers b.askers → Sets name None a.ends.places b.ends.places
+pub repaired_adds : (name : FullName) (until : ℕ) (a b : FixContent) → b.d1 ≡ a.d1 → b.d2 ≡ a.d2 → KeepsValues a.askers b.askers → Sets name None a.expiries.places b.expiries.places
     → HoldsOff name until a.held_off b.held_off → FixAdds (Repaired name until ∷ []) a b
-repaired_adds name until a b p q askers ends off = record { each = λ d1 d2 calls h. fits_ended d1 d2 calls name until a b h p q askers ends off.each }
+repaired_adds name until a b p q askers expiries off = record { each = λ d1 d2 calls h. fits_ended d1 d2 calls name until a b h p q askers expiries off.each }
 
-pub is_free_is : (name : FullName) (now : ℕ) (a : FixContent) (runs off : Bool) → runs ≡ is_some (value_at a.ends.places name) → off ≡ nat_lt now (unwrap_or (value_at a.held_off name) 0)
+pub is_free_is : (name : FullName) (now : ℕ) (a : FixContent) (runs off : Bool) → runs ≡ is_some (value_at a.expiries.places name) → off ≡ nat_lt now (unwrap_or (value_at a.held_off name) 0)
     → FixIsFree name now a (not runs && not off)
 is_free_is name now a runs off runs_is off_is = record {
-  each = λ d1 d2 calls h. ap (λ b. not b && not off) runs_is ∙ ap (λ b. not (is_some (value_at a.ends.places name)) && not b) off_is ∙ free_is d1 d2 calls a name now h;
+  each = λ d1 d2 calls h. ap (λ b. not b && not off) runs_is ∙ ap (λ b. not (is_some (value_at a.expiries.places name)) && not b) off_is ∙ free_is d1 d2 calls a name now h;
 }
 
 pub first_is : (name : FullName) (a : FixContent) (member : ℕ) → member ≡ unwrap_or (value_at a.askers name) name.stream.source → FixFirstAsker name a member
 first_is name a member is = record { each = λ d1 d2 calls h. is ∙ ap (λ o. unwrap_or o name.stream.source) (h.askers name) }
 
-pub fix_due_is : (now : ℕ) (a : FixContent) (names : List FullName) → AreExactly (λ n. has_come now (value_at a.ends.places n)) names → FixDue now a names
-fix_due_is now a names due = record { each = λ d1 d2 calls h. due_ran_out now a.ends.places (fix_timer calls) names h.ends due }
+pub fix_due_is : (now : ℕ) (a : FixContent) (names : List FullName) → AreExactly (λ n. has_come now (value_at a.expiries.places n)) names → FixDue now a names
+fix_due_is now a names due = record { each = λ d1 d2 calls h. due_ran_out now a.expiries.places (fix_timer calls) names h.expiries due }
 
 pub repairs_after : (now : ℕ) (dist : List ℕ) (names names' : List FullName) (a b c : FixContent) → FixStays a b → names ≡ names' → FixRepairs now dist names b c → FixRepairs now dist names' a c
 repairs_after now dist names names' a b c stays is repair_calls =
@@ -338,12 +338,12 @@ asks_then_sets name from now arm a b c asked set = record {
 }
 
 pub answers_with : (name : FullName) (distance now : ℕ) (held free : Bool) (arm : Arm) (a : FixContent) → FixIsFree name now a free → (held && free) ≡ true
-    → plan_of arm ≡ fix_plan name distance → FixAnswers name distance held now a (Some arm)
+    → plan_of arm ≡ fix_plan name distance → NotesRequest name distance held now a (Some arm)
 answers_with name distance now held free arm a is sets plan = record {
   each = λ d1 d2 calls h. answered (held && free) _ _ _ sets (ap (λ f. held && f) (is.each d1 d2 calls h)) plan;
 }
 
-pub answers_not : (name : FullName) (distance now : ℕ) (held free : Bool) (a : FixContent) → FixIsFree name now a free → (held && free) ≡ false → FixAnswers name distance held now a None
+pub answers_not : (name : FullName) (distance now : ℕ) (held free : Bool) (a : FixContent) → FixIsFree name now a free → (held && free) ≡ false → NotesRequest name distance held now a None
 answers_not name distance now held free a is sets = record {
   each = λ d1 d2 calls h. unanswered (held && free) _ _ sets (ap (λ f. held && f) (is.each d1 d2 calls h));
 }
@@ -352,8 +352,8 @@ answers_not name distance now held free a is sets = record {
 pub adds_after : (more : List FixCall) (a b c : FixContent) → FixStays a b → FixAdds more b c → FixAdds more a c
 adds_after more a b c stays adds = record { each = λ d1 d2 calls h. adds.each d1 d2 calls (stays.each d1 d2 calls h) }
 
-pub answers_after : (name : FullName) (distance now : ℕ) (held : Bool) (arm : Option Arm) (a b : FixContent) → FixStays a b → FixAnswers name distance held now b arm → FixAnswers name distance held now a arm
+pub answers_after : (name : FullName) (distance now : ℕ) (held : Bool) (arm : Option Arm) (a b : FixContent) → FixStays a b → NotesRequest name distance held now b arm → NotesRequest name distance held now a arm
 answers_after name distance now held arm a b stays answers = record { each = λ d1 d2 calls h. answers.each d1 d2 calls (stays.each d1 d2 calls h) }
 
-pub fix_next_is : (a : FixContent) (moment : Option ℕ) → IsLeast a.ends.places moment → FixNext a moment
-fix_next_is a moment least = record { each = λ d1 d2 calls h. first_end a.ends.places (fix_timer calls) moment h.ends least }
+pub fix_next_is : (a : FixContent) (moment : Option ℕ) → IsLeast a.expiries.places moment → FixNext a moment
+fix_next_is a moment least = record { each = λ d1 d2 calls h. first_end a.expiries.places (fix_timer calls) moment h.expiries least }

@@ -1,4 +1,4 @@
--- Arms: their ends, their ignore moments, on which basis they are made, and how their waits are chosen.
+-- Arms: when they run out, their ignore moments, on which basis they are made, and how their waits are chosen.
 use Rattle.std.specs.Prelude.{◌≡◌, ℕ, ◌==◌, ◌+◌, ◌-◌, ◌*◌, ◌/◌, ◌%◌, ◌^◌, ◌<◌, ◌≤◌, min, nat_le, Bool, true, false, ◌||◌, List, [], ◌∷◌, map, find, if◌then◌else◌, Option, Some, None, option_map, IsNone, IfSome}
 use Rattle.std.specs.List.{AllByRecursion}
 use Rattle.srm_names.specs.declared.limits.TheConstants.{MEMBERS}
@@ -86,14 +86,14 @@ pub record ArmsAre (bases : FullName → Option WaitBasis) (arms : List Arm) : T
 pub record AreOfMembers (arms : List Arm) : Type 0 where
   pub each : AllByRecursion (λ a. a.name.stream.source < MEMBERS) arms
 
--- the ends of the range from which the wait of an arm is chosen, by the two settings of its kind
+-- the bounds of the range from which the wait of an arm is chosen, by the two settings of its kind
 abbrev pub low_of : ℕ → Arm → ℕ
 low_of first a = 2 ^ a.exponent * first * a.distance
 
 abbrev pub high_of : ℕ → ℕ → Arm → ℕ
 high_of first second a = 2 ^ a.exponent * (first + second) * a.distance
 
--- The waits of the arms are chosen by words of a source, one word an arm, in order, each between its ends; `to` is the source after them.
+-- The waits of the arms are chosen by the next words, one word an arm, in order, each between its bounds; `to` is what is left of the words.
 abbrev pub AreChosen : {W : Type 0} → (W → ℕ × W) → (low high : Arm → ℕ) → W → List Arm → W → Type 0
 AreChosen next_word low high from [] to = to ≡ from
 AreChosen next_word low high from (a ∷ arms) to = (a.wait ≡ low a + (next_word from).0 % (high a - low a + 1)) × AreChosen next_word low high (next_word from).1 arms to

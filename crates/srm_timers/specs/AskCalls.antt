@@ -11,14 +11,14 @@ use Rattle.srm_timers.specs.declared.limits.TheConstants.{GREATEST_TIMER_SETTING
 use Rattle.srm_timers.specs.Arms.{WaitBasis, Plan, ArmsAre, RunsOutFirst, runs_out_at, ran_out, next_exponent, backs_off}
 use Rattle.srm_timers.specs.Timers.{armed_at}
 use Rattle.srm_timers.specs.Distances.{distance_to}
-use Rattle.srm_timers.specs.Ends.{ExpiryContent, HaveRoom, KeepsRoom}
+use Rattle.srm_timers.specs.Expiries.{ExpiryContent, HaveRoom, KeepsRoom}
 use Rattle.srm_deadlines.specs.Places.{value_at, has_place}
 
 -- what an Asks keeps
 pub record AskContent : Type 0 where
   pub c1 : ℕ
   pub c2 : ℕ
-  pub ends : ExpiryContent
+  pub expiries : ExpiryContent
   pub timers : List (NamedValue Armed)
   -- so many arms can be answered without memory, of names that are found missing
   pub detect_list : ℕ
@@ -120,7 +120,7 @@ pub record AskStays (old new : AskContent) : Type 0 where
 
 -- the timers of these names can be set in one call without memory
 pub record AskReady (names : List FullName) (a : AskContent) : Type 0 where
-  pub ends : HaveRoom names a.ends
+  pub expiries : HaveRoom names a.expiries
   pub timers : (n : FullName) → among names n ≡ true → has_place a.timers n ≡ true
 
 -- one `detect` of these names needs no memory
@@ -143,7 +143,7 @@ pub record DetectAndDueReady (names : List FullName) (a : AskContent) : Type 0 w
 pub record AskKeepsRoom (old new : AskContent) : Type 0 where
   pub c1 : new.c1 ≡ old.c1
   pub c2 : new.c2 ≡ old.c2
-  pub ends : KeepsRoom old.ends new.ends
+  pub expiries : KeepsRoom old.expiries new.expiries
   pub timers : (n : FullName) → has_place old.timers n ≡ true → has_place new.timers n ≡ true
   pub detect_list : old.detect_list ≤ new.detect_list
   pub due_list : old.due_list ≤ new.due_list
@@ -165,6 +165,6 @@ pub record AskTimersRun (names : List FullName) (a : AskContent) : Type 0 where
 pub record AskIsRight (a : AskContent) (detect_list due_list : List Arm) : Type 0 where
   pub c1 : a.c1 ≤ GREATEST_TIMER_SETTING
   pub c2 : a.c2 ≤ GREATEST_TIMER_SETTING
-  pub ends : (n : FullName) → value_at a.ends.places n ≡ option_map runs_out_at (value_at a.timers n)
+  pub expiries : (n : FullName) → value_at a.expiries.places n ≡ option_map runs_out_at (value_at a.timers n)
   pub detect_empty : detect_list ≡ []
   pub due_empty : due_list ≡ []

@@ -14,17 +14,17 @@ use Rattle.srm_timers.specs.Arms.{WaitBasis, Plan, RunsOutFirst, plan_of, runs_o
 use Rattle.srm_timers.specs.AskCalls.{flat}
 use Rattle.srm_timers.specs.Timers.{armed_at}
 use Rattle.srm_timers.specs.Distances.{distance_to}
-use Rattle.srm_timers.specs.Ends.{ExpiryContent, HaveRoom, KeepsRoom}
+use Rattle.srm_timers.specs.Expiries.{ExpiryContent, HaveRoom, KeepsRoom}
 use Rattle.srm_deadlines.specs.Places.{value_at, has_place}
 
 -- what a Fixes keeps
 pub record FixContent : Type 0 where
   pub d1 : ℕ
   pub d2 : ℕ
-  pub ends : ExpiryContent
+  pub expiries : ExpiryContent
   pub askers : List (NamedValue ℕ)
   pub held_off : List (NamedValue ℕ)
-  -- so many names that are due can be answered without memory
+  -- so many names that are due can be repaired without memory
   pub list : ℕ
 
 -- a request that was heard, a timer that was set, with its arm, or a repair that holds the name off until a moment
@@ -106,7 +106,7 @@ pub record FixFits (d1 d2 : ℕ) (calls : List FixCall) (a : FixContent) : Type 
   pub d1_is : a.d1 ≡ d1
   pub d2_is : a.d2 ≡ d2
   pub askers : (n : FullName) → value_at a.askers n ≡ asked_first calls n
-  pub ends : (n : FullName) → value_at a.ends.places n ≡ option_map runs_out_at (fix_timer calls n)
+  pub expiries : (n : FullName) → value_at a.expiries.places n ≡ option_map runs_out_at (fix_timer calls n)
   pub held_off : (n : FullName) (now : ℕ) → is_held_off a.held_off n now ≡ calls_hold_off calls n now
 
 -- one name is held off until a moment, or for as long as it was
@@ -138,8 +138,8 @@ pub record FixIsFree (name : FullName) (now : ℕ) (a : FixContent) (free : Bool
 pub record FixFirstAsker (name : FullName) (a : FixContent) (member : ℕ) : Type 0 where
   pub each : (d1 d2 : ℕ) (calls : List FixCall) → FixFits d1 d2 calls a → member ≡ first_asker calls name
 
--- a request of the name that is held, or isn't, is answered by such an arm
-pub record FixAnswers (name : FullName) (distance : ℕ) (held : Bool) (now : ℕ) (a : FixContent) (arm : Option Arm) : Type 0 where
+-- a request of the name that is held, or isn't, sets such an arm
+pub record NotesRequest (name : FullName) (distance : ℕ) (held : Bool) (now : ℕ) (a : FixContent) (arm : Option Arm) : Type 0 where
   pub each : (d1 d2 : ℕ) (calls : List FixCall) → FixFits d1 d2 calls a
       → option_map plan_of arm ≡ (if held && is_free calls name now then Some (fix_plan name distance) else None)
 
@@ -153,17 +153,17 @@ pub record FixStays (old new : FixContent) : Type 0 where
 
 -- a request for the name, and a repair of it, need no memory
 pub record FixPlace (a : FixContent) (n : FullName) : Type 0 where
-  pub ends : has_place a.ends.places n ≡ true
+  pub expiries : has_place a.expiries.places n ≡ true
   pub askers : has_place a.askers n ≡ true
   pub held_off : has_place a.held_off n ≡ true
 
 pub record FixPlaces (names : List FullName) (a : FixContent) : Type 0 where
   pub each : (n : FullName) → among names n ≡ true → FixPlace a n
 
--- nor does setting the timers of all these names in one call, nor answering them as those that are due
+-- nor does setting the timers of all these names in one call, nor repairing them as those that are due
 pub record FixReady (names : List FullName) (a : FixContent) : Type 0 where
   pub places : FixPlaces names a
-  pub ends : HaveRoom names a.ends
+  pub expiries : HaveRoom names a.expiries
   pub list : length names ≤ a.list
 
 -- whatever needed no memory needs none, and the settings are the same
@@ -171,7 +171,7 @@ pub record FixKeepsRoom (old new : FixContent) : Type 0 where
   pub d1 : new.d1 ≡ old.d1
   pub d2 : new.d2 ≡ old.d2
   pub each : (n : FullName) → FixPlace old n → FixPlace new n
-  pub ends : KeepsRoom old.ends new.ends
+  pub expiries : KeepsRoom old.expiries new.expiries
   pub list : old.list ≤ new.list
 
 -- what holds of each Fixes: settings in range

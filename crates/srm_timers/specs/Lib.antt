@@ -2,7 +2,7 @@ pub mod ListedWords
 pub mod Seeds
 pub mod Distances
 pub mod Arms
-pub mod Ends
+pub mod Expiries
 pub mod Timers
 pub mod AskCalls
 pub mod FixCalls

@@ -62,7 +62,7 @@ eight_stays = refl
 asks_differ_from_fixes : same_kind Ask Fix ≡ false
 asks_differ_from_fixes = refl
 
--- the ends of intervals
+-- the bounds of ranges
 first_low : low_of 2 (ask 1 0 100000 0) ≡ 200000
 first_low = refl
 

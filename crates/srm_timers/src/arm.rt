@@ -7,13 +7,13 @@ use srm_names::Name;
 pub enum ArmKind {
     /// To ask for a drawop that is missing.
     Ask,
-    /// To answer a request with the drawop.
+    /// To repair what a request asks for.
     Fix,
 }
 
 impl ArmKind {
     /// Its word in what `srm world` prints.
-    pub fn name(self) -> &'static str {
+    pub fn printed(self) -> &'static str {
         match self {
             ArmKind::Ask => "ask",
             ArmKind::Fix => "fix",

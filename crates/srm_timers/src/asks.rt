@@ -8,12 +8,12 @@ ghost use Rattle.srm_timers.specs.declared.arm.ArmKind.TheVariants.{Ask};
 ghost use Rattle.srm_timers.specs.AskCalls.{AskCall, Gained, ask_timer, sets, ask_plan, first_exponent, found_plan, again_plan, AskFits, AskAdds, AskExponentWhenHeard, AskExponentWhenDue, AskNext, AskDue, ArmsOfFound, ArmsSetAgain, AskStays, AskReady, DetectReady, DueReady, DetectAndDueReady, AskKeepsRoom, DetectStaysReady, DueStaysReady, AskTimersRun};
 ghost use Rattle.srm_deadlines.specs.Deadlines.{DueAmong, DueFit};
 ghost use Rattle.srm_timers.specs.Distances.{distance_to, AreDistances};
-ghost use Rattle.srm_timers.specs.Ends.{AreShort};
+ghost use Rattle.srm_timers.specs.Expiries.{AreShort};
 ghost use Rattle.srm_deadlines.specs.Places.{value_at, has_place, KeepsValues};
 
 use crate::arm::{Arm, ArmKind, Armed};
 use crate::distance::distance_in;
-use crate::ends::Expiries;
+use crate::expiries::Expiries;
 use crate::limits::{GREATEST_EXPONENT, GREATEST_TIMER_SETTING, LONGEST_WAIT};
 use crate::timers::{arm_at, set_timers};
 use crate::wait::choose_wait;
@@ -26,14 +26,14 @@ use std::mem;
 
 /// The request timers that run: one for each name that is missing.
 ///
-/// A call that is refused for memory has changed nothing and taken no word. Moments are microseconds, at most
+/// A call that is refused for memory has changed nothing and used no word. Moments are microseconds, at most
 /// 2^48, and distances microseconds, at most 10,000,000.
 #[derive(Drop)]
 pub struct Asks<D: Deadlines> {
     alloc: Global,
     c1: u8,
     c2: u8,
-    ends: Expiries<D>,
+    expiries: Expiries<D>,
     timers: ByName<Armed>,
     /// Empty, with room for what `detect` answers next.
     detect_list: Vec<Arm>,
@@ -49,9 +49,9 @@ impl<D: Deadlines> Model for Asks<D> {
 
     ghost Value = { AskContent };
 
-    ghost view = { λ a. record { c1 = a.c1; c2 = a.c2; ends = a.ends; timers = a.timers; detect_list = vec_capacity a.detect_list; due_list = vec_capacity a.due_list; names = vec_capacity a.names } };
+    ghost view = { λ a. record { c1 = a.c1; c2 = a.c2; expiries = a.expiries; timers = a.timers; detect_list = vec_capacity a.detect_list; due_list = vec_capacity a.due_list; names = vec_capacity a.names } };
 
-    ghost invariant = { λ a. AskIsRight (record { c1 = a.c1; c2 = a.c2; ends = a.ends; timers = a.timers; detect_list = vec_capacity a.detect_list; due_list = vec_capacity a.due_list; names = vec_capacity a.names }) a.detect_list.items a.due_list.items };
+    ghost invariant = { λ a. AskIsRight (record { c1 = a.c1; c2 = a.c2; expiries = a.expiries; timers = a.timers; detect_list = vec_capacity a.detect_list; due_list = vec_capacity a.due_list; names = vec_capacity a.names }) a.detect_list.items a.due_list.items };
 }
 
 impl<D: Deadlines> Asks<D> {
@@ -66,7 +66,7 @@ impl<D: Deadlines> Asks<D> {
             alloc,
             c1,
             c2,
-            ends: Expiries::new(alloc, deadlines),
+            expiries: Expiries::new(alloc, deadlines),
             timers: ByName::new(alloc),
             detect_list: Vec::new(alloc),
             due_list: Vec::new(alloc),
@@ -79,7 +79,7 @@ impl<D: Deadlines> Asks<D> {
     /// that the calls before made is still there.
     pub fn room(&mut self, names: &[Name]) -> Result<(), AllocError>
         ensures kept { AskStays self.old self.new }
-        ensures ends { KeepsValues self.old.ends.places self.new.ends.places }
+        ensures expiries { KeepsValues self.old.expiries.places self.new.expiries.places }
         ensures keeps_room { AskKeepsRoom self.old self.new }
         ensures ready { OnOk result (DetectAndDueReady names.now self.new) }
     {
@@ -95,7 +95,7 @@ impl<D: Deadlines> Asks<D> {
     fn room_to_set(&mut self, names: &[Name]) -> Result<(), AllocError>
         ensures kept { AskStays self.old self.new }
         ensures timers { (n : FullName) → value_at self.new.timers n ≡ value_at self.old.timers n }
-        ensures ends { KeepsValues self.old.ends.places self.new.ends.places }
+        ensures expiries { KeepsValues self.old.expiries.places self.new.expiries.places }
         ensures c1 { self.new.c1 ≡ self.old.c1 }
         ensures c2 { self.new.c2 ≡ self.old.c2 }
         ensures detect_list { self.new.detect_list ≡ self.old.detect_list }
@@ -104,7 +104,7 @@ impl<D: Deadlines> Asks<D> {
         ensures ok { OnOk result (AskReady names.now self.new) }
         ensures again { AskReady names.now self.old → IsOk result }
     {
-        self.ends.room(names)?;
+        self.expiries.room(names)?;
         self.timers.room(names)
     }
 
@@ -200,7 +200,7 @@ impl<D: Deadlines> Asks<D> {
         ensures chosen { AreChosen W.next_word (low_of self.old.c1) (high_of self.old.c1 self.old.c2) words.old (option_to_list result) words.new }
         ensures keeps_room { AskKeepsRoom self.old self.new }
     {
-        let _ = &self.ends;
+        let _ = &self.expiries;
         let exponent = self.exponent_when_heard(name, now)?;
         let arm = self.arm(name, exponent, distance_in(dist, name.source()), words);
         self.set(now, &arm);
@@ -213,7 +213,7 @@ impl<D: Deadlines> Asks<D> {
         ensures fits { AskAdds (Gained name ∷ []) self.old self.new }
         ensures keeps_room { AskKeepsRoom self.old self.new }
     {
-        self.ends.clear(name);
+        self.expiries.clear(name);
         self.timers.clear(name);
     }
 
@@ -225,13 +225,13 @@ impl<D: Deadlines> Asks<D> {
     #[tactic(auto, using(crate::proofs::AskSteps::due_is, crate::proofs::AskSteps::timers_run))]
     pub fn pending(&self, now: u64, names: Vec<Name>) -> Result<Vec<Name>, AllocError>
         ensures due { IfOk result (λ names. AskDue now self.now names.items) }
-        ensures among { IfOk result (λ names. DueAmong now self.now.ends.places names.items) }
+        ensures among { IfOk result (λ names. DueAmong now self.now.expiries.places names.items) }
         ensures rising { IfOk result (λ names. ascending name_below names.items ≡ true) }
         ensures timers { IfOk result (λ names. AskTimersRun names.items self.now) }
-        ensures room { DueFit now self.now.ends.places (vec_capacity names) → IsOk result }
+        ensures room { DueFit now self.now.expiries.places (vec_capacity names) → IsOk result }
     {
         let mut names = names;
-        self.ends.due(now, &mut names)?;
+        self.expiries.due(now, &mut names)?;
         Ok(names)
     }
 
@@ -248,7 +248,7 @@ impl<D: Deadlines> Asks<D> {
         requires now { now ≤ LATEST_MOMENT }
         ensures fits { IfOk result (λ arms. AskAdds (sets now arms.items) self.old self.new) }
         ensures arms { IfOk result (λ arms. ArmsSetAgain now dist.now self.old arms.items) }
-        ensures few { IfOk result (λ arms. (names : List FullName) → DueAmong now self.old.ends.places names → length arms.items ≤ length names) }
+        ensures few { IfOk result (λ arms. (names : List FullName) → DueAmong now self.old.expiries.places names → length arms.items ≤ length names) }
         ensures kinds { IfOk result (λ arms. AreAsks arms.items) }
         ensures members { IfOk result (λ arms. AreOfMembers arms.items) }
         ensures chosen { IfOk result (λ arms. AreChosen W.next_word (low_of self.old.c1) (high_of self.old.c1 self.old.c2) words.old arms.items words.new) }
@@ -256,7 +256,7 @@ impl<D: Deadlines> Asks<D> {
         ensures unchosen { OnErr result (words.new ≡ words.old) }
         ensures keeps_room { AskKeepsRoom (record self.old { due_list = 0 }) self.new }
         ensures list { OnErr result (self.old.due_list ≤ self.new.due_list) }
-        ensures room { (names : List FullName) → DueReady names self.old → DueAmong now self.old.ends.places names → IsOk result }
+        ensures room { (names : List FullName) → DueReady names self.old → DueAmong now self.old.expiries.places names → IsOk result }
         ensures detect { DetectStaysReady self.old self.new }
     {
         let names = self.take_due(now)?;
@@ -272,12 +272,12 @@ impl<D: Deadlines> Asks<D> {
         ensures due { IfOk result (λ names. AskDue now self.old names.items) }
         ensures rising { IfOk result (λ names. ascending name_below names.items ≡ true) }
         ensures timers { IfOk result (λ names. AskTimersRun names.items self.old) }
-        ensures few { IfOk result (λ names. (all : List FullName) → DueAmong now self.old.ends.places all → length names.items ≤ length all) }
+        ensures few { IfOk result (λ names. (all : List FullName) → DueAmong now self.old.expiries.places all → length names.items ≤ length all) }
         ensures capacity { IfOk result (λ names. self.old.names ≤ vec_capacity names) }
         ensures list { OnErr result (self.old.names ≤ self.new.names) }
-        ensures room { (all : List FullName) → length all ≤ self.old.names → DueAmong now self.old.ends.places all → IsOk result }
+        ensures room { (all : List FullName) → length all ≤ self.old.names → DueAmong now self.old.expiries.places all → IsOk result }
     {
-        self.ends.due(now, &mut self.names)?;
+        self.expiries.due(now, &mut self.names)?;
         Ok(mem::replace(&mut self.names, Vec::new(self.alloc)))
     }
 
@@ -305,10 +305,10 @@ impl<D: Deadlines> Asks<D> {
         ensures unchosen { OnErr result (words.new ≡ words.old) }
         ensures keeps_room { AskKeepsRoom (record self.old { due_list = 0 }) self.new }
         ensures list { OnErr result (self.old.due_list ≤ self.new.due_list) }
-        ensures room { length names.now ≤ self.old.ends.room → length names.now ≤ self.old.due_list → IsOk result }
+        ensures room { length names.now ≤ self.old.expiries.room → length names.now ≤ self.old.due_list → IsOk result }
     {
         let count = names.len();
-        self.ends.reserve(count)?;
+        self.expiries.reserve(count)?;
         self.due_list.reserve(count)?;
         let list = mem::replace(&mut self.due_list, Vec::new(self.alloc));
         let again = self.again(list, names, dist, words);
@@ -347,7 +347,7 @@ impl<D: Deadlines> Asks<D> {
     pub fn next(&self) -> Option<u64>
         ensures { AskNext self.now result }
     {
-        self.ends.next()
+        self.expiries.next()
     }
 
     /// The exponent with which a request for a name, heard now, arms it again: `None` where it is ignored, or no timer
@@ -394,13 +394,13 @@ impl<D: Deadlines> Asks<D> {
     #[tactic(auto, using(crate::proofs::AskSteps::set_adds))]
     fn set(&mut self, now: u64, arm: &Arm)
         requires timers { has_place self.old.timers arm.now.name ≡ true }
-        requires ends { has_place self.old.ends.places arm.now.name ≡ true }
+        requires expiries { has_place self.old.expiries.places arm.now.name ≡ true }
         requires now { now ≤ LATEST_MOMENT }
         requires short { arm.now.wait ≤ LONGEST_WAIT }
         ensures fits { AskAdds (sets now (arm.now ∷ [])) self.old self.new }
         ensures keeps_room { AskKeepsRoom self.old self.new }
     {
-        self.ends.set(arm.name, now + arm.wait);
+        self.expiries.set(arm.name, now + arm.wait);
         self.timers.set(arm.name, Some(arm_at(now, *arm)));
     }
 
@@ -415,7 +415,7 @@ impl<D: Deadlines> Asks<D> {
         ensures fits { AskAdds (sets now arms.now) self.old self.new }
         ensures keeps_room { AskKeepsRoom self.old self.new }
     {
-        self.ends.set_all(now, arms);
+        self.expiries.set_all(now, arms);
         set_timers(&mut self.timers, now, arms);
     }
 }

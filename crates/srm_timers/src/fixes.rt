@@ -1,18 +1,18 @@
-//! When a member answers others.
+//! When a member repairs what others ask for.
 
 ghost use Rattle.std.specs.Prelude.{◌≡◌, ◌≤◌, ◌+◌, List, [], ◌∷◌, true, not, ◌&&◌, option_to_list, vec_capacity, IfOk, OnOk, OnErr, IsOk, IfSome};
 ghost use Rattle.srm_names.specs.FullName.{FullName};
 ghost use Rattle.srm_names.specs.Names.{ascending, name_below};
 ghost use Rattle.srm_timers.specs.Arms.{plan_of, arm_names, low_of, high_of, AreChosen, IsFix, AreFixes, wait_basis};
-ghost use Rattle.srm_timers.specs.FixCalls.{Asked, Repaired, sets_fix, fix_plan, FixFits, FixAdds, FixRepairs, FixDue, FixNext, FixIsFree, FixFirstAsker, FixAnswers, FixStays, FixPlace, FixPlaces, FixReady, FixKeepsRoom, fix_basis, held_until};
+ghost use Rattle.srm_timers.specs.FixCalls.{Asked, Repaired, sets_fix, fix_plan, FixFits, FixAdds, FixRepairs, FixDue, FixNext, FixIsFree, FixFirstAsker, NotesRequest, FixStays, FixPlace, FixPlaces, FixReady, FixKeepsRoom, fix_basis, held_until};
 ghost use Rattle.srm_deadlines.specs.Deadlines.{DueAmong, DueFit};
 ghost use Rattle.srm_timers.specs.Distances.{distance_to, AreDistances};
-ghost use Rattle.srm_timers.specs.Ends.{HaveRoom, AreShort};
+ghost use Rattle.srm_timers.specs.Expiries.{HaveRoom, AreShort};
 ghost use Rattle.srm_deadlines.specs.Places.{HasPlaces, KeepsValues};
 
 use crate::arm::{Arm, ArmKind};
 use crate::distance::distance_in;
-use crate::ends::Expiries;
+use crate::expiries::Expiries;
 use crate::limits::{GREATEST_TIMER_SETTING, LONGEST_WAIT};
 use crate::marks::Marks;
 use crate::wait::choose_wait;
@@ -25,14 +25,14 @@ use std::mem;
 
 /// The repair timers that run, who asked first for each name, and until when names are held off.
 ///
-/// A call that is refused for memory has changed nothing and taken no word. Moments are microseconds, at most
+/// A call that is refused for memory has changed nothing and used no word. Moments are microseconds, at most
 /// 2^48, and distances microseconds, at most 10,000,000.
 #[derive(Drop)]
 pub struct Fixes<D: Deadlines> {
     alloc: Global,
     d1: u8,
     d2: u8,
-    ends: Expiries<D>,
+    expiries: Expiries<D>,
     marks: Marks,
     /// Room for what `due` answers next.
     list: Vec<Name>,
@@ -44,9 +44,9 @@ impl<D: Deadlines> Model for Fixes<D> {
 
     ghost Value = { FixContent };
 
-    ghost view = { λ a. record { d1 = a.d1; d2 = a.d2; ends = a.ends; askers = a.marks.askers; held_off = a.marks.held_off; list = vec_capacity a.list } };
+    ghost view = { λ a. record { d1 = a.d1; d2 = a.d2; expiries = a.expiries; askers = a.marks.askers; held_off = a.marks.held_off; list = vec_capacity a.list } };
 
-    ghost invariant = { λ a. FixIsRight (record { d1 = a.d1; d2 = a.d2; ends = a.ends; askers = a.marks.askers; held_off = a.marks.held_off; list = vec_capacity a.list }) };
+    ghost invariant = { λ a. FixIsRight (record { d1 = a.d1; d2 = a.d2; expiries = a.expiries; askers = a.marks.askers; held_off = a.marks.held_off; list = vec_capacity a.list }) };
 }
 
 impl<D: Deadlines> Fixes<D> {
@@ -61,7 +61,7 @@ impl<D: Deadlines> Fixes<D> {
             alloc,
             d1,
             d2,
-            ends: Expiries::new(alloc, deadlines),
+            expiries: Expiries::new(alloc, deadlines),
             marks: Marks::new(alloc),
             list: Vec::new(alloc),
         }
@@ -71,12 +71,12 @@ impl<D: Deadlines> Fixes<D> {
     /// refused at which no other names are due. Nothing else changes. Only want of memory refuses it.
     pub fn room(&mut self, names: &[Name]) -> Result<(), AllocError>
         ensures kept { FixStays self.old self.new }
-        ensures ends { KeepsValues self.old.ends.places self.new.ends.places }
+        ensures expiries { KeepsValues self.old.expiries.places self.new.expiries.places }
         ensures keeps_room { FixKeepsRoom self.old self.new }
         ensures ready { OnOk result (FixReady names.now self.new) }
     {
         self.make_places(names)?;
-        self.ends.room(names)?;
+        self.expiries.room(names)?;
         self.list.reserve(names.len())?;
         Ok(())
     }
@@ -98,14 +98,14 @@ impl<D: Deadlines> Fixes<D> {
     #[tactic(auto, using(crate::proofs::FixSteps::fix_stays, crate::proofs::AskSteps::keeps_self))]
     pub fn make_places(&mut self, names: &[Name]) -> Result<(), AllocError>
         ensures kept { FixStays self.old self.new }
-        ensures ends { KeepsValues self.old.ends.places self.new.ends.places }
+        ensures expiries { KeepsValues self.old.expiries.places self.new.expiries.places }
         ensures keeps_room { FixKeepsRoom self.old self.new }
         ensures d1 { self.new.d1 ≡ self.old.d1 }
         ensures d2 { self.new.d2 ≡ self.old.d2 }
         ensures ok { OnOk result (FixPlaces names.now self.new) }
         ensures again { FixPlaces names.now self.old → IsOk result }
     {
-        self.ends.make_places(names)?;
+        self.expiries.make_places(names)?;
         self.marks.room(names)
     }
 
@@ -124,7 +124,7 @@ impl<D: Deadlines> Fixes<D> {
         requires distances { AreDistances dist.now }
         requires now { now ≤ LATEST_MOMENT }
         ensures fits { IfOk result (λ arm. FixAdds (Asked name from ∷ sets_fix now (option_to_list arm)) self.old self.new) }
-        ensures arm { IfOk result (FixAnswers name (distance_to dist.now from) held now self.old) }
+        ensures arm { IfOk result (NotesRequest name (distance_to dist.now from) held now self.old) }
         ensures wait_basis { IfOk result (λ arm. IfSome arm (λ a. wait_basis a ≡ fix_basis (distance_to dist.now from))) }
         ensures chosen { IfOk result (λ arm. AreChosen W.next_word (low_of self.old.d1) (high_of self.old.d1 self.old.d2) words.old (option_to_list arm) words.new) }
         ensures kept { OnErr result (FixStays self.old self.new) }
@@ -133,12 +133,12 @@ impl<D: Deadlines> Fixes<D> {
         ensures room { FixPlace self.old name → IsOk result }
     {
         self.make_place(name)?;
-        Ok(self.answer(name, from, held, dist, now, words))
+        Ok(self.note_request(name, from, held, dist, now, words))
     }
 
     /// The same for a name that has room. Takes no memory.
     #[tactic(auto, using(crate::proofs::FixSteps::asks_then_sets, crate::proofs::FixSteps::answers_with, crate::proofs::FixSteps::answers_not))]
-    pub fn answer<W: Words>(
+    pub fn note_request<W: Words>(
         &mut self,
         name: Name,
         from: Member,
@@ -151,7 +151,7 @@ impl<D: Deadlines> Fixes<D> {
         requires distances { AreDistances dist.now }
         requires now { now ≤ LATEST_MOMENT }
         ensures fits { FixAdds (Asked name from ∷ sets_fix now (option_to_list result)) self.old self.new }
-        ensures arm { FixAnswers name (distance_to dist.now from) held now self.old result }
+        ensures arm { NotesRequest name (distance_to dist.now from) held now self.old result }
         ensures wait_basis { IfSome result (λ arm. wait_basis arm ≡ fix_basis (distance_to dist.now from)) }
         ensures chosen { AreChosen W.next_word (low_of self.old.d1) (high_of self.old.d1 self.old.d2) words.old (option_to_list result) words.new }
         ensures keeps_room { FixKeepsRoom self.old self.new }
@@ -191,12 +191,12 @@ impl<D: Deadlines> Fixes<D> {
     #[tactic(auto, using(crate::proofs::FixSteps::fix_due_is))]
     pub fn pending(&self, now: u64, names: Vec<Name>) -> Result<Vec<Name>, AllocError>
         ensures due { IfOk result (λ names. FixDue now self.now names.items) }
-        ensures among { IfOk result (λ names. DueAmong now self.now.ends.places names.items) }
+        ensures among { IfOk result (λ names. DueAmong now self.now.expiries.places names.items) }
         ensures rising { IfOk result (λ names. ascending name_below names.items ≡ true) }
-        ensures room { DueFit now self.now.ends.places (vec_capacity names) → IsOk result }
+        ensures room { DueFit now self.now.expiries.places (vec_capacity names) → IsOk result }
     {
         let mut names = names;
-        self.ends.due(now, &mut names)?;
+        self.expiries.due(now, &mut names)?;
         Ok(names)
     }
 
@@ -211,9 +211,9 @@ impl<D: Deadlines> Fixes<D> {
         ensures kept { OnErr result (FixStays self.old self.new) }
         ensures keeps_room { FixKeepsRoom (record self.old { list = 0 }) self.new }
         ensures list { OnErr result (self.old.list ≤ self.new.list) }
-        ensures room { (names : List FullName) → FixReady names self.old → DueAmong now self.old.ends.places names → IsOk result }
+        ensures room { (names : List FullName) → FixReady names self.old → DueAmong now self.old.expiries.places names → IsOk result }
     {
-        self.ends.due(now, &mut self.list)?;
+        self.expiries.due(now, &mut self.list)?;
         self.marks.room(&self.list)?;
         let names = mem::replace(&mut self.list, Vec::new(self.alloc));
         self.repair_all(&names, dist, now);
@@ -241,7 +241,7 @@ impl<D: Deadlines> Fixes<D> {
         ensures fits { FixRepairs now dist.now names.now self.old self.new }
         ensures keeps_room { FixKeepsRoom self.old self.new }
     {
-        self.ends.clear_all(names);
+        self.expiries.clear_all(names);
         self.marks.hold_all_off(names, dist, now);
     }
 
@@ -261,7 +261,7 @@ impl<D: Deadlines> Fixes<D> {
     pub fn next(&self) -> Option<u64>
         ensures { FixNext self.now result }
     {
-        self.ends.next()
+        self.expiries.next()
     }
 
     /// Whether a request for a name that is held, heard now, sets its timer: none runs, and the name isn't held off.
@@ -270,7 +270,7 @@ impl<D: Deadlines> Fixes<D> {
     pub fn is_free(&self, name: Name, now: u64) -> bool
         ensures { FixIsFree name now self.now result }
     {
-        let runs = self.ends.get(name).is_some();
+        let runs = self.expiries.get(name).is_some();
         let off = now < self.marks.until(name);
         neither(runs, off)
     }
@@ -322,21 +322,21 @@ impl<D: Deadlines> Fixes<D> {
         ensures fits { FixAdds (sets_fix now (arm.now ∷ [])) self.old self.new }
         ensures keeps_room { FixKeepsRoom self.old self.new }
     {
-        self.ends.set(arm.name, now + arm.wait);
+        self.expiries.set(arm.name, now + arm.wait);
     }
 
     /// These timers run from now on: arms of repairs, whose names rise, with room for them. Takes no memory.
     #[tactic(auto, using(crate::proofs::FixSteps::sets_adds_fix))]
     pub fn set_all(&mut self, now: u64, arms: &[Arm])
         requires rising { ascending name_below (arm_names arms.now) ≡ true }
-        requires room { HaveRoom (arm_names arms.now) self.old.ends }
+        requires room { HaveRoom (arm_names arms.now) self.old.expiries }
         requires now { now ≤ LATEST_MOMENT }
         requires fixes { AreFixes arms.now }
         requires short { AreShort arms.now }
         ensures fits { FixAdds (sets_fix now arms.now) self.old self.new }
         ensures keeps_room { FixKeepsRoom self.old self.new }
     {
-        self.ends.set_all(now, arms);
+        self.expiries.set_all(now, arms);
     }
 
     /// A repair of a name was heard or is handed out: its timer is gone, and it is held off for three of these
@@ -349,7 +349,7 @@ impl<D: Deadlines> Fixes<D> {
         ensures fits { FixAdds (Repaired name (held_until now distance) ∷ []) self.old self.new }
         ensures keeps_room { FixKeepsRoom self.old self.new }
     {
-        self.ends.clear(name);
+        self.expiries.clear(name);
         self.marks.hold_off(name, distance, now);
     }
 }

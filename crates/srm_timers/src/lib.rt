@@ -1,4 +1,4 @@
-//! When a member asks for what it misses, and when it answers others: request and repair timers, suppressed by what
+//! When a member asks for what it misses, and when it repairs what others ask for: request and repair timers, suppressed by what
 //! is heard.
 //!
 //! Contracts speak of the calls so far: timers *fit* a list of calls, each with the arms that it made, where all that
@@ -12,7 +12,7 @@
 //! let names = asks.pending(later, Vec::new(alloc))?; // what has run out, to be asked for
 //! ```
 //!
-//! [`Fixes`] answers requests in the same way. All times are microseconds; words are 64 bits each, one for each timer that is
+//! [`Fixes`] does so with repairs. All times are microseconds; words are 64 bits each, one for each timer that is
 //! set. **What is refused**: want of memory alone, `AllocError`, before any word is used; after `room` for its names a
 //! call isn't.
 #![tactic(auto)]
@@ -20,7 +20,7 @@
 mod arm;
 mod asks;
 mod distance;
-mod ends;
+mod expiries;
 mod fixes;
 mod limits;
 mod listed;

@@ -2,7 +2,7 @@
 
 ghost use Rattle.std.specs.Prelude.{◌≡◌, ℕ, ◌+◌, ◌-◌, ◌%◌, ◌≤◌, ◌<◌, ◌^◌};
 
-/// A source of words, which has no end.
+/// Words, of which there is no end.
 pub trait Words {
     // the word that comes next, and the source after it
     ghost next_word: { Self → ℕ × Self };
@@ -12,7 +12,7 @@ pub trait Words {
         ensures { (result, self.new) ≡ next_word self.old };
 }
 
-/// A wait between two ends, both in microseconds and both included, by one word.
+/// A wait between two bounds, both in microseconds and both included, by one word.
 pub fn wait_between<W: Words>(low: u64, high: u64, words: &mut W) -> u64
     requires rises { low ≤ high }
     requires small { high < 2 ^ 63 }

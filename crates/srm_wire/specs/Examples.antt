@@ -30,10 +30,10 @@ pub none_behind_none : coming (Late 0 ∷ []) 2 ≡ 0 ∷ 1 ∷ []
 none_behind_none = refl
 
 -- the last call that is left fails, and none after it
-pub the_last_left_fails : fails_next {W = ℕ} (record { wire = 7; left = 1; own = 0 }) ≡ true
+pub the_last_left_fails : fails_next {W = ℕ} (record { wire = 7; remaining = 1; own = 0 }) ≡ true
 the_last_left_fails = refl
 
-pub no_call_fails_after_it : fails_next {W = ℕ} (record { wire = 7; left = 0; own = 1 }) ≡ false
+pub no_call_fails_after_it : fails_next {W = ℕ} (record { wire = 7; remaining = 0; own = 1 }) ≡ false
 no_call_fails_after_it = refl
 
 pub counts_to_the_greatest : one_more 18446744073709551615 ≡ 18446744073709551615

@@ -13,7 +13,7 @@ use std::marker::Model;
 pub struct Flaky<X: Wire + Drop> {
     wire: X,
     // How many calls there are up to and with the one that fails; 0 after it.
-    left: u64,
+    remaining: u64,
     own: u64,
 }
 
@@ -22,29 +22,29 @@ impl<X: Wire + Drop> Model for Flaky<X> {
 
     ghost Value = { FlakyView X };
 
-    ghost view = { λ f. record { wire = f.wire; left = f.left; own = f.own } };
+    ghost view = { λ f. record { wire = f.wire; remaining = f.remaining; own = f.own } };
 }
 
 impl<X: Wire + Drop> Flaky<X> {
     /// A wire over this one, whose k-th call fails; none does where k is 0.
     pub fn new(wire: X, k: u64) -> Flaky<X>
-        ensures { result ≡ record { wire = wire; left = k; own = 0 } }
+        ensures { result ≡ record { wire = wire; remaining = k; own = 0 } }
     {
         Flaky {
             wire,
-            left: k,
+            remaining: k,
             own: 0,
         }
     }
 }
 
 // Counts a call. Whether it is the one that fails.
-fn fails(left: &mut u64) -> bool
-    ensures next { result ≡ (left.old == 1) }
-    ensures left { left.new ≡ left.old - 1 }
+fn fails(remaining: &mut u64) -> bool
+    ensures next { result ≡ (remaining.old == 1) }
+    ensures remaining { remaining.new ≡ remaining.old - 1 }
 {
-    let before = *left;
-    *left = before.saturating_sub(1);
+    let before = *remaining;
+    *remaining = before.saturating_sub(1);
     before == 1
 }
 
@@ -62,7 +62,7 @@ impl<X: Wire + Drop> Wire for Flaky<X> {
 
     #[tactic(auto, using(crate::proofs::Telling::counts_below, crate::proofs::Telling::counts_own, crate::proofs::Telling::tells_nothing))]
     fn send(&mut self, to: Member, datagram: &[u8]) -> Result<(), WireFault> {
-        if fails(&mut self.left) {
+        if fails(&mut self.remaining) {
             return Err(count_failure(&mut self.own));
         }
         self.wire.send(to, datagram)
@@ -70,7 +70,7 @@ impl<X: Wire + Drop> Wire for Flaky<X> {
 
     #[tactic(auto, using(crate::proofs::Telling::counts_below, crate::proofs::Telling::counts_own, crate::proofs::Telling::tells_nothing))]
     fn receive(&mut self, buffer: &mut [u8]) -> Result<Option<usize>, WireFault> {
-        if fails(&mut self.left) {
+        if fails(&mut self.remaining) {
             return Err(count_failure(&mut self.own));
         }
         self.wire.receive(buffer)

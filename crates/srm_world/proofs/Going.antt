@@ -25,7 +25,7 @@ use Rattle.srm_entries.specs.declared.entry.Verdict.TheVariants.{Done, Ignored, 
 use Rattle.srm_entries.specs.declared.state.AgentState.TheVariants.{Active}
 use Rattle.srm_entries.specs.Configs.{Config}
 use Rattle.srm_agent.specs.Contents as agents
-use Rattle.srm_entries.specs.Entries.{takes_moment, clock_of, last_moment, state, is_gone}
+use Rattle.srm_entries.specs.Entries.{takes_moment, moments_counted, last_moment, state, is_gone}
 use Rattle.srm_entries.specs.Giving.{given, taken, given_in, taken_in, next_taken}
 use Rattle.srm_entries.specs.Hearing.{read_as}
 use Rattle.srm_outbox.specs.Outs.{IsOut, datagrams_of}
@@ -33,7 +33,7 @@ use Rattle.srm_entries.specs.Verdicts.{VerdictRight}
 use Rattle.srm_entries.specs.Runs.{EntryRight}
 use Rattle.srm_agent.specs.Fits as agents_fit
 use Rattle.srm_agent.specs.Noting as noting
-use Rattle.srm_entries.specs.Still.{still_entry}
+use Rattle.srm_entries.specs.Still.{entry_without_effects}
 use Rattle.srm_agent.specs.Noting.{Enters, ReadsAs, AnswersAs, IsTicked, moment_that_counts}
 use Rattle.srm_entries.proofs.Running.{last_moment-snoc, slots-same}
 use Rattle.srm_agent.proofs.Still.{still_fits, same_progress}
@@ -60,7 +60,7 @@ last_after made past e right = at e.verdict refl ∙ sym (last_moment-snoc made 
     clocked true m l r = omega (arith, r)
     clocked false m l r = omega (arith, r)
 
-    at : (v : Verdict) → e.verdict ≡ v → last_with (last_moment made past) v e.moment ≡ max (last_moment made past) (greatest (clock_of v e))
+    at : (v : Verdict) → e.verdict ≡ v → last_with (last_moment made past) v e.moment ≡ max (last_moment made past) (greatest (moments_counted v e))
     at (Refused fault) q = omega arith
     at Done q = clocked (takes_moment e.input) e.moment (last_moment made past) right
     at (Ignored cause) q = clocked (takes_moment e.input) e.moment (last_moment made past) right
@@ -241,17 +241,17 @@ taken_lanes past e slot lanes now is loses h j l at =
     taken-snoc past e j ∙ ap (λ i. taken past j ++ cons_option (taken_in j i e.effects.message) []) is ∙ ap (λ ms. taken past j ++ ms) (lane_of_slot (j == slot) e.effects.message) in
     gives ∙ h j w at_w ∙ ap (λ ms. taken past j ++ ms) w_is ∙ sym (append_assoc (taken past j) (in_lane slot (option_to_list e.effects.message) j) l.waiting) ∙ ap (λ ms. ms ++ l.waiting) (sym takes)
 
-pub takes_on : {W : Type 0} (next_word : W → ℕ × W) (slot : ℕ) (p q : Content W) (message : Option PageMsg) (e : Entry) → e ≡ still_entry p.config.me p.last (Took slot) Done message p.state
+pub takes_on : {W : Type 0} (next_word : W → ℕ × W) (slot : ℕ) (p q : Content W) (message : Option PageMsg) (e : Entry) → e ≡ entry_without_effects p.config.me p.last (Took slot) Done message p.state
     → Loses slot message p.lanes q.lanes → q.agent ≡ p.agent → q.config ≡ p.config → q.last ≡ p.last → q.state ≡ p.state → GoesOn next_word None (Took slot) p q e
 takes_on next_word slot p q message e is loses agent config last after = record {
   input_is = ap (λ (x : Entry). x.input) is;
   words = rw is (ap (λ a. a.words) agent);
-  adds = λ c made past h. subst (λ (x : Entry). Adds c made past None q x) (sym (is ∙ ap (λ m. still_entry m p.last (Took slot) Done message p.state) (ap (λ (s : Config). s.me) h.config))) (by c made past h);
+  adds = λ c made past h. subst (λ (x : Entry). Adds c made past None q x) (sym (is ∙ ap (λ m. entry_without_effects m p.last (Took slot) Done message p.state) (ap (λ (s : Config). s.me) h.config))) (by c made past h);
 }
   where
-    by : (c : Config) (made : ℕ) (past : List Entry) → Fits c made past p → Adds c made past None q (still_entry c.me p.last (Took slot) Done message p.state)
+    by : (c : Config) (made : ℕ) (past : List Entry) → Fits c made past p → Adds c made past None q (entry_without_effects c.me p.last (Took slot) Done message p.state)
     by c made past h =
-        let e : Entry = still_entry c.me p.last (Took slot) Done message p.state in
+        let e : Entry = entry_without_effects c.me p.last (Took slot) Done message p.state in
         let (w, at, m) = loses.first in
         let next : message ≡ next_taken past slot = m ∙ sym (rest_first (taken past slot) w.waiting) ∙ ap (λ ms. slice_get ms (length (taken past slot))) (sym (h.lanes slot w at)) in
         let fits : agents_fit.Fits c made (past ++ e ∷ []) p.agent = still_fits c made past p.agent p.agent p.last (Took slot) Done message p.state h.agent

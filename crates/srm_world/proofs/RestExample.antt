@@ -18,7 +18,7 @@ use Rattle.srm_entries.specs.declared.entry.Entry.{Entry}
 use Rattle.srm_entries.specs.declared.state.AgentState.TheVariants.{Active}
 use Rattle.srm_entries.specs.declared.entry.Input.TheVariants.{Drew, Heard, Ticked}
 use Rattle.srm_entries.specs.Entries.{shown, known, is_missing, released}
-use Rattle.srm_entries.specs.Sessions.{expected_row, number_in_rows, if_positive, ReportRight}
+use Rattle.srm_entries.specs.Sessions.{expected_row, number_in_rows, if_positive, SessionMessageRight}
 use Rattle.srm_entries.specs.Bucket.{Going, classed, bucket_calls}
 use Rattle.srm_entries.specs.Verdicts.{stream_on}
 use Rattle.srm_entries.specs.Runs.{EntryRight, IsMemberRun}
@@ -94,7 +94,7 @@ missing_answered n = none_missing_in (hears ∷ hears_report ∷ answers ∷ [])
 
 -- the rows of the reports are those due
 rows_right : (c : Config) (before : List Entry) (now : ℕ) → (number_in_rows (named first_stream 1 ∷ []) first_stream ≡ expected_row c before false first_stream) → ((s : Stream) → same_stream s first_stream ≡ false → known before s ≡ 0)
-    → ReportRight c before now false (named first_stream 1 ∷ [])
+    → SessionMessageRight c before now false (named first_stream 1 ∷ [])
 rows_right c before now here there = record { in_order = refl; exact = λ s. go s (same_stream s first_stream) refl }
   where
     empty : (b : Bool) → (if b then if_positive 0 else None) ≡ None

@@ -8,7 +8,7 @@ use Rattle.srm_names.proofs.Lists.{at_parts, map-split}
 use Rattle.srm_entries.specs.Configs.{Config}
 use Rattle.srm_entries.specs.declared.entry.Entry.{Entry}
 use Rattle.srm_entries.specs.Entries.{ticked, state, is_gone, is_leaving}
-use Rattle.srm_entries.specs.Sessions.{charged, ending, EndsWith, all_data_sent, session_due}
+use Rattle.srm_entries.specs.Sessions.{charged, session_message_due, EndsWith, all_data_sent, session_due}
 use Rattle.srm_entries.specs.Bucket.{Going, GoesAsCharged, BucketRight, entries_of, datagrams_of}
 use Rattle.srm_entries.specs.Runs.{EntryRight, IsMemberRun}
 
@@ -36,6 +36,6 @@ no_ending true gone x e = absurd (grind arith)
 pub unticked_sends_nothing : (c : Config) (made : ℕ) (before : List Entry) (e : Entry) → IsMemberRun c made (before ++ e ∷ []) → ticked e ≡ false → e.effects.outs ≡ []
 unticked_sends_nothing c made before e run still =
     let right : EntryRight c made (record { before = before; this = e }) = (at_parts (EntryRight c made) before (e ∷ []) run.each).1.0 in
-    let none : ending c made before e ≡ None = no_ending (ticked e) (is_gone (state before))
+    let none : session_message_due c made before e ≡ None = no_ending (ticked e) (is_gone (state before))
     (if is_leaving (state before) && all_data_sent (before ++ e ∷ []) then Some true else if nat_le (session_due c made before) e.moment then Some false else None) still in
     subst (EndsWith c before e) none right.session ∙ charged_none c before e run.bucket still

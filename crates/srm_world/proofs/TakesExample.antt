@@ -23,7 +23,7 @@ use Rattle.srm_entries.specs.declared.entry.Input.TheVariants.{Drew, Heard, Tick
 use Rattle.srm_entries.specs.Entries.{heard_in, is_missing, state}
 use Rattle.srm_entries.specs.Timers.{asker, fix_running}
 use Rattle.srm_entries.specs.Verdicts.{VerdictRight}
-use Rattle.srm_entries.specs.Sessions.{SessionRight, ReportRight, number_in_rows, expected_row, if_positive}
+use Rattle.srm_entries.specs.Sessions.{SessionRight, SessionMessageRight, number_in_rows, expected_row, if_positive}
 use Rattle.srm_entries.specs.Bucket.{Going, GoesAsCharged, classed, bucket_calls}
 use Rattle.srm_entries.specs.Giving.{MessageRight}
 use Rattle.srm_entries.specs.Runs.{EntryRight, IsMemberRun, MomentRight, expected_drawop, expected_state}
@@ -81,7 +81,7 @@ row_right s = which (same_stream s first_stream) refl
     which true e = ap (λ (t : Stream). if t.source == 0 then Some 1 else None) (sym (same_stream-is s first_stream e))
     which false e = neither (s.source == 0)
 
-report_right : ReportRight (config 0) (draws ∷ sends ∷ asks_leave ∷ []) 21 true (named first_stream 1 ∷ [])
+report_right : SessionMessageRight (config 0) (draws ∷ sends ∷ asks_leave ∷ []) 21 true (named first_stream 1 ∷ [])
 report_right = record { in_order = refl; exact = row_right }
 
 abbrev first_run : List Entry

@@ -8,12 +8,12 @@ use Rattle.srm_entries.specs.Timers.{low_of, high_of}
 use Rattle.srm_world.specs.declared.start.Start.{Start}
 use Rattle.srm_world.specs.Traces.{Trace, Journal, of_member}
 
--- what contracts see of a recorder: its journal, and its source of words as it stands
+-- what contracts see of a recorder: its journal, and its words as they stand
 pub record RecorderView (W : Type 0) : Type 0 where
   pub journal : Journal
   pub words : W
 
--- what contracts see of a world: its trace, and the source of words of each member as it stands
+-- what contracts see of a world: its trace, and the words of each member as they stand
 pub record WorldView (W : Type 0) : Type 0 where
   pub trace : Trace
   pub words : List W

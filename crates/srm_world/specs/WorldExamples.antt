@@ -13,7 +13,7 @@ use Rattle.srm_codec.specs.declared.fault.DecodeFault.TheVariants.{Short, Magic}
 use Rattle.srm_codec.specs.Judging.{judge, magic_at, front_at}
 use Rattle.srm_entries.specs.declared.state.AgentState.TheVariants.{Active}
 use Rattle.srm_entries.specs.declared.state.AgentState.TheVariants as states
-use Rattle.srm_entries.specs.Still.{still_entry}
+use Rattle.srm_entries.specs.Still.{entry_without_effects}
 use Rattle.srm_entries.specs.Sample.{in_roster}
 use Rattle.srm_world.specs.declared.start.Start.{Start}
 use Rattle.srm_world.specs.Traces.{Journal, started}
@@ -38,10 +38,10 @@ abbrev start : Start
 start = record { config = in_roster 0 2 4204; made = 3 }
 
 abbrev shows : Entry
-shows = still_entry 0 7 (Showed first_page) Done None Active
+shows = entry_without_effects 0 7 (Showed first_page) Done None Active
 
 abbrev leaves : Entry
-leaves = still_entry 0 7 AskedLeave Done None states.Leaving
+leaves = entry_without_effects 0 7 AskedLeave Done None states.Leaving
 
 abbrev journal : List Entry → Journal
 journal es = record { start = start; entries = es }
@@ -58,7 +58,7 @@ unrecorded = inr (refl, refl)
 
 -- bytes that spell nothing, one after another: each has its entry, at the last moment that counted
 abbrev noise : DecodeFault → Entry
-noise fault = still_entry 0 7 Noise (Ignored (Decode fault)) None Active
+noise fault = entry_without_effects 0 7 Noise (Ignored (Decode fault)) None Active
 
 abbrev shown : Journal
 shown = journal (shows ∷ [])

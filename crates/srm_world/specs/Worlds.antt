@@ -31,7 +31,7 @@ pub record AreWorld {W : Type 0} (ps : List (Content W)) (sents : List Out) (t :
   pub sent : AreSent t.starts sents t.entries
   pub lawful : IsLawful t
 
--- the sources of words of the members
+-- the words of the members
 abbrev pub words_of : {W : Type 0} → List (Content W) → List W
 words_of {W = W} ps = map (λ (p : Content W). p.agent.words) ps
 

@@ -23,7 +23,7 @@ use std::marker::Model;
 
 /// An agent that keeps its journal: each call answers as the agent's, and appends its entry to its [`Past`]. Room for the entry is made first, so
 /// here want of memory may come before another refusal; a call that is refused for it has no entry. Contracts see the journal, whatever the past
-/// keeps of it, and the source of words as it stands.
+/// keeps of it, and the words as they stand.
 #[derive(Drop)]
 pub struct Recorder<W: Words + Drop, P: Past<Entry> + Drop = Vec<Entry>> {
     agent: Agent<W>,
@@ -212,17 +212,17 @@ impl<W: Words + Drop, P: Past<Entry> + Drop> Recorder<W, P> {
     }
 
     /// [`Agent::admits_draw`]. It has no entry.
-    pub fn admits_draw(&self, body: usize, now: u64) -> bool
-        ensures { AdmitsDraw self.now.journal.start.config self.now.journal.start.made self.now.journal.entries body now result }
+    pub fn admits_draw(&self, body_length: usize, now: u64) -> bool
+        ensures { AdmitsDraw self.now.journal.start.config self.now.journal.start.made self.now.journal.entries body_length now result }
     {
-        self.agent.admits_draw(body, now)
+        self.agent.admits_draw(body_length, now)
     }
 
     /// [`Agent::admits_draw_from`]. It has no entry.
-    pub fn admits_draw_from(&self, body: usize) -> Option<u64>
-        ensures { AdmitsDrawFrom self.now.journal.start.config self.now.journal.start.made self.now.journal.entries body result }
+    pub fn admits_draw_from(&self, body_length: usize) -> Option<u64>
+        ensures { AdmitsDrawFrom self.now.journal.start.config self.now.journal.start.made self.now.journal.entries body_length result }
     {
-        self.agent.admits_draw_from(body)
+        self.agent.admits_draw_from(body_length)
     }
 
     /// What the member did so far, as it is kept. It takes no memory.

@@ -23,7 +23,7 @@ use std::marker::Model;
 use std::vec::IntoIter;
 
 /// All members of one session, and what happened so far. What is sent comes to a member only where an event delivers it, so it
-/// may be lost, repeated, late and out of order. Contracts see the trace, and the sources of words as they stand.
+/// may be lost, repeated, late and out of order. Contracts see the trace, and each member's words as they stand.
 ///
 /// Whatever happens, the trace is an honest run of all members: what page workers take of a source is a prefix of what it
 /// drew, and all of it once its leaving is taken; each request and each repair is handed out exactly where its timer ran out.
@@ -47,7 +47,7 @@ impl<W: Words + Drop> Model for World<W> {
 }
 
 impl<W: Words + Drop> World<W> {
-    /// A world in which nothing happened yet, with a member for each of the settings, made at moment 0, and a source of words
+    /// A world in which nothing happened yet, with a member for each of the settings, made at moment 0, and words
     /// for each. The settings are those of all members of one roster, 1 to 32, in order, in one session. Only want of memory
     /// refuses it.
     pub fn new(alloc: Global, configs: Vec<Config>, words: Vec<W>) -> Result<World<W>, AllocError>
@@ -89,7 +89,7 @@ impl<W: Words + Drop> World<W> {
     /// Applies one event, and answers whether it left an entry. It is skipped where it names no member of the session, no
     /// datagram that was sent, or no slot. What the member refuses leaves an entry without effects. Its moment is at most 2^48.
     ///
-    /// Refused is [`WorldFault::Memory`] alone, and then the trace and the sources of words are as before.
+    /// Refused is [`WorldFault::Memory`] alone, and then the trace and all words are as before.
     pub fn apply(&mut self, event: Event) -> Result<bool, WorldFault>
         requires { IsTimely event }
         ensures follows { OnOk result (FollowsOne self.old.trace.starts self.old.trace.entries event self.new.trace.entries) }
@@ -142,7 +142,7 @@ impl<W: Words + Drop> World<W> {
     }
 }
 
-/// The next of the sources of words.
+/// The next member's words.
 fn next_source<W: Drop>(sources: &mut IntoIter<W>) -> W
     requires { 0 < into_iter_len sources.old }
     ensures items { into_iter_items sources.old ≡ result ∷ into_iter_items sources.new }

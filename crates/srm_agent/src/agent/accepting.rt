@@ -31,13 +31,18 @@ impl<W: Words + Drop> Agent<W> {
         ensures err { OnErr result (Stays self.old self.new) }
     {
         let name = drawop.name;
-        let fresh = self.newly_missing_below(name)?;
-        let mut copies = room_to_note(self.alloc, notes, fresh.len())?;
+        let newly_missing = self.newly_missing_below(name)?;
+        let mut copies = room_to_note(self.alloc, notes, newly_missing.len())?;
         let dist = distance_table(&self.distances);
         let repaired = repairer.is_some();
-        let arms = self
-            .timers
-            .hear_drawop(name, repaired, &fresh, dist, moment, &mut self.words)?;
+        let arms = self.timers.hear_drawop(
+            name,
+            repaired,
+            &newly_missing,
+            dist,
+            moment,
+            &mut self.words,
+        )?;
         note_arms(&mut copies, notes, &arms);
         keep(&mut self.store, drawop);
         self.pages.add_all(&[name]);

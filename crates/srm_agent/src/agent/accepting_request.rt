@@ -34,14 +34,18 @@ impl<W: Words + Drop> Agent<W> {
         ensures noted { IfOk result (λ hearing. notes ≡ true → hearing.noted ≡ hearing.heard.arms) }
         ensures err { OnErr result (Stays self.old self.new) }
     {
-        let fresh = self.newly_missing_up_to(&name.stream(), names)?;
-        let mut copies = room_to_note(self.alloc, notes, names.len().saturating_add(fresh.len()))?;
+        let newly_missing = self.newly_missing_up_to(&name.stream(), names)?;
+        let mut copies = room_to_note(
+            self.alloc,
+            notes,
+            names.len().saturating_add(newly_missing.len()),
+        )?;
         let dist = distance_table(&self.distances);
         let arms = self.timers.hear_request(
             &self.store,
             sender,
             names,
-            &fresh,
+            &newly_missing,
             dist,
             moment,
             &mut self.words,
@@ -55,8 +59,8 @@ impl<W: Words + Drop> Agent<W> {
 
     /// The names of a stream that aren't known of, up to the greatest of these, in order. Only want of memory refuses it.
     fn newly_missing_up_to(&self, stream: &Stream, names: &[Name]) -> Result<Vec<Name>, AllocError>
-        ensures value { IfOk result (λ fresh. AreNewlyMissingUpTo stream.now names.now self.now fresh.items) }
-        ensures rising { IfOk result (λ fresh. ascending name_below fresh.items ≡ true) }
+        ensures value { IfOk result (λ newly_missing. AreNewlyMissingUpTo stream.now names.now self.now newly_missing.items) }
+        ensures rising { IfOk result (λ newly_missing. ascending name_below newly_missing.items ≡ true) }
     {
         let known = self.store.known(*stream);
         let last = greatest_in(names, stream);

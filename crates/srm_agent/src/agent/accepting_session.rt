@@ -35,14 +35,14 @@ impl<W: Words + Drop> Agent<W> {
         ensures noted { IfOk result (λ hearing. notes ≡ true → hearing.noted ≡ hearing.heard.arms) }
         ensures err { OnErr result (Stays self.old self.new) }
     {
-        let fresh = self.newly_missing_by_rows(names)?;
-        let mut copies = room_to_note(self.alloc, notes, fresh.len())?;
-        self.timers.rows_room(&fresh)?;
+        let newly_missing = self.newly_missing_by_rows(names)?;
+        let mut copies = room_to_note(self.alloc, notes, newly_missing.len())?;
+        self.timers.rows_room(&newly_missing)?;
         hear_session_message(&mut self.distances, self.config.me(), &datagram, moment);
         let dist = distance_table(&self.distances);
         let arms = self
             .timers
-            .hear_rows(&fresh, dist, moment, &mut self.words)
+            .hear_rows(&newly_missing, dist, moment, &mut self.words)
             .unwrap();
         note_arms(&mut copies, notes, &arms);
         learn_datagram(&mut self.store, &datagram, names);
@@ -55,15 +55,15 @@ impl<W: Words + Drop> Agent<W> {
     /// refuses it.
     fn newly_missing_by_rows(&self, rows: &[Name]) -> Result<Vec<Name>, AllocError>
         requires { ascending row_below rows.now ≡ true }
-        ensures value { IfOk result (λ fresh. AreNewlyMissingByRows rows.now self.now fresh.items) }
-        ensures rising { IfOk result (λ fresh. ascending name_below fresh.items ≡ true) }
+        ensures value { IfOk result (λ newly_missing. AreNewlyMissingByRows rows.now self.now newly_missing.items) }
+        ensures rising { IfOk result (λ newly_missing. ascending name_below newly_missing.items ≡ true) }
     {
-        let mut fresh = Vec::new(self.alloc);
+        let mut newly_missing = Vec::new(self.alloc);
         for row in rows {
             let known = self.store.known(row.stream());
             let more = names_between(self.alloc, row.stream(), known, row.number() + 1)?;
-            fresh.extend_from_slice(&more)?;
+            newly_missing.extend_from_slice(&more)?;
         }
-        Ok(fresh)
+        Ok(newly_missing)
     }
 }

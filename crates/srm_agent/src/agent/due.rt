@@ -5,7 +5,7 @@ ghost use Rattle.srm_names.specs.declared.limits.TheConstants.{LATEST_MOMENT};
 ghost use Rattle.srm_names.specs.Names.{ascending, name_below};
 ghost use Rattle.srm_agent.specs.DueItems.{DueItems};
 ghost use Rattle.srm_entries.specs.Entries.{is_leaving};
-ghost use Rattle.srm_agent.specs.Ticking.{IsDue, IsReportAt, IsReportIf, IsToHandOut};
+ghost use Rattle.srm_agent.specs.Ticking.{IsDue, IsSessionMessageAt, IsReportIf, IsToHandOut};
 
 use super::Agent;
 use srm_entries::AgentState;
@@ -112,7 +112,7 @@ impl<W: Words + Drop> Agent<W> {
     /// The session message or the farewell of a moment. Only want of memory refuses it.
     fn report_at(&self, farewell: bool, moment: u64) -> Result<DueMessage, AllocError>
         requires { moment ≤ LATEST_MOMENT }
-        ensures { IfOk result (IsReportAt self.now moment farewell) }
+        ensures { IfOk result (IsSessionMessageAt self.now moment farewell) }
     {
         let outgoing = self.report(farewell, moment)?;
         let next = moment + self.session_interval(&outgoing.out.datagram);

@@ -3,7 +3,7 @@
 ghost use Rattle.std.specs.Prelude.{◌≡◌, ◌≤◌, IfOk, OnErr, Ok, Some};
 ghost use Rattle.srm_names.specs.declared.limits.TheConstants.{LATEST_MOMENT};
 ghost use Rattle.srm_entries.specs.declared.state.AgentState.TheVariants.{Leaving};
-ghost use Rattle.srm_agent.specs.Noting.{Enters, EntersStill, Stays, AnswersAs, IsAllowed, HasEntry};
+ghost use Rattle.srm_agent.specs.Noting.{Enters, EntersWithoutEffects, Stays, AnswersAs, IsAllowed, HasEntry};
 
 use super::Agent;
 use crate::noted::Noted;
@@ -41,7 +41,7 @@ impl<W: Words + Drop> Agent<W> {
     fn leave_at(&mut self, moment: u64) -> Result<(), AgentFault>
         requires later { self.old.last ≤ moment }
         requires moment { moment ≤ LATEST_MOMENT }
-        ensures { EntersStill W.next_word moment Input.AskedLeave self.old self.new result }
+        ensures { EntersWithoutEffects W.next_word moment Input.AskedLeave self.old self.new result }
     {
         match self.state {
             AgentState::Gone => Err(AgentFault::Gone),

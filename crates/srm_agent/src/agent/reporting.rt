@@ -10,7 +10,7 @@ ghost use Rattle.srm_entries.specs.Configs.{Config as Settings};
 ghost use Rattle.srm_agent.specs.declared.agent.reporting.TheConstants.{LONGEST_INTERVAL, LONGEST_SESSION_MESSAGE};
 ghost use Rattle.srm_entries.specs.declared.entry.Entry.{Entry as AnEntry};
 ghost use Rattle.srm_agent.specs.Fits.{Fits};
-ghost use Rattle.srm_agent.specs.Reports.{IsReportOf, IsReportSpelled, AreReported, AreOwed, AreShown, AreOwnStreams, AreInOrder, AreRowsOf, IsRow, SaysLeft, CountsOnce};
+ghost use Rattle.srm_agent.specs.Reports.{IsSessionMessageOf, IsSessionMessageSpelled, AreReported, AreOwed, AreShown, AreOwnStreams, AreInOrder, AreRowsOf, IsRow, SaysLeft, CountsOnce};
 ghost use Rattle.srm_entries.specs.Sessions.{members_remaining, session_interval, if_positive};
 ghost use Rattle.srm_entries.specs.Verdicts.{stream_on};
 
@@ -28,7 +28,7 @@ const LONGEST_SESSION_MESSAGE: usize = HEAD_BYTES
     + SESSION_MESSAGE_BYTES
     + 255 * (NAME_BYTES + ECHO_BYTES);
 
-/// No pause is longer, in microseconds: that of 32 members at one byte a second.
+/// No interval is longer, in microseconds: that of 32 members at one byte a second.
 pub const LONGEST_INTERVAL: u64 = SESSION_SHARE
     * MEMBERS as u64
     * LONGEST_SESSION_MESSAGE as u64
@@ -39,7 +39,7 @@ impl<W: Words + Drop> Agent<W> {
     /// refuses it.
     pub(super) fn report(&self, farewell: bool, moment: u64) -> Result<Outgoing, AllocError>
         requires { moment ≤ LATEST_MOMENT }
-        ensures { IfOk result (λ report. IsReportSpelled self.now moment farewell report) }
+        ensures { IfOk result (λ report. IsSessionMessageSpelled self.now moment farewell report) }
     {
         let message = self.message(farewell, moment)?;
         Outgoing::new(self.alloc, self.config.session(), message)
@@ -48,7 +48,7 @@ impl<W: Words + Drop> Agent<W> {
     /// The same, not yet spelled.
     fn message(&self, farewell: bool, moment: u64) -> Result<Datagram, AllocError>
         requires { moment ≤ LATEST_MOMENT }
-        ensures { IfOk result (λ message. IsReportOf self.now moment farewell message) }
+        ensures { IfOk result (λ message. IsSessionMessageOf self.now moment farewell message) }
     {
         let rows = self.rows(farewell)?;
         let echoes = self.echoes(moment)?;
@@ -185,7 +185,7 @@ impl<W: Words + Drop> Agent<W> {
     }
 }
 
-/// The pause after so many bytes, where so many members are left, at a rate in bytes a second. Rounded down.
+/// The interval after so many bytes, where so many members are left, at a rate in bytes a second. Rounded down.
 fn interval_after(members: u8, bytes: usize, rate: u32) -> u64
     requires members { members ≤ MEMBERS }
     requires bytes { bytes ≤ LONGEST_SESSION_MESSAGE }

@@ -7,7 +7,7 @@ ghost use Rattle.srm_bucket.specs.Fits.{Stays as BucketStays};
 ghost use Rattle.srm_bucket.specs.Waiting.{HasLength, SameQueues, count_of};
 ghost use Rattle.srm_outbox.specs.Outs.{IsOwn, AreOwn};
 ghost use Rattle.srm_outbox.specs.Outbox.{NothingWent};
-ghost use Rattle.srm_agent.specs.Ticking.{SendsAll, data_waits, last_report, state_after, due_then};
+ghost use Rattle.srm_agent.specs.Ticking.{SendsAll, data_waits, last_message, state_after, due_then};
 
 use super::Agent;
 use super::due::DueMessage;
@@ -59,14 +59,14 @@ impl<W: Words + Drop> Agent<W> {
         moment: u64,
     ) -> Option<DueMessage>
         requires { moment ≤ LATEST_MOMENT }
-        ensures value { result ≡ last_report (data_waits self.old.bucket) farewell report }
+        ensures value { result ≡ last_message (data_waits self.old.bucket) farewell report }
         ensures new { self.new ≡ record self.old { state = state_after (data_waits self.old.bucket) farewell self.old.state; last = moment; due = due_then result self.old.due } }
     {
         let waits = self.bucket.waiting(Class::New) > 0;
         if farewell.is_some() && !waits {
             self.state = AgentState::Gone;
         }
-        let last = last_report(waits, farewell, report);
+        let last = last_message(waits, farewell, report);
         if let Some(report) = &last {
             self.due = report.next;
         }
@@ -88,12 +88,12 @@ pub(super) fn with_last(mut went: Went, last: Option<DueMessage>) -> Went
 }
 
 /// What a tick ends with, by whether data of the member's own waits.
-fn last_report(
+fn last_message(
     waits: bool,
     farewell: Option<DueMessage>,
     report: Option<DueMessage>,
 ) -> Option<DueMessage>
-    ensures { result ≡ last_report waits farewell report }
+    ensures { result ≡ last_message waits farewell report }
 {
     if waits { report } else { farewell.or(report) }
 }

@@ -3,7 +3,7 @@
 ghost use Rattle.std.specs.Prelude.{◌≡◌, ◌≤◌, IfOk, OnErr, Ok, Some, false};
 ghost use Rattle.srm_names.specs.declared.limits.TheConstants.{LATEST_MOMENT};
 ghost use Rattle.srm_store.specs.PageTables.{table_lacks_room, with_page};
-ghost use Rattle.srm_agent.specs.Noting.{Enters, EntersStill, Stays, AnswersAs, IsAllowed, Does};
+ghost use Rattle.srm_agent.specs.Noting.{Enters, EntersWithoutEffects, Stays, AnswersAs, IsAllowed, Does};
 
 use super::Agent;
 use crate::noted::Noted;
@@ -42,7 +42,7 @@ impl<W: Words + Drop> Agent<W> {
     fn show_at(&mut self, page: &Page, moment: u64) -> Result<(), AgentFault>
         requires later { self.old.last ≤ moment }
         requires moment { moment ≤ LATEST_MOMENT }
-        ensures { EntersStill W.next_word moment (Input.Showed page.now) self.old self.new result }
+        ensures { EntersWithoutEffects W.next_word moment (Input.Showed page.now) self.old self.new result }
     {
         if self.is_gone() {
             return Err(AgentFault::Gone);

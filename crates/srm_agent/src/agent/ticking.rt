@@ -16,7 +16,7 @@ use crate::ticked::Ticked;
 use srm_codec::Datagram;
 use srm_entries::{AgentFault, Effects, Entry, Input, Verdict};
 use srm_names::{Items, Member};
-use srm_outbox::pass;
+use srm_outbox::let_time_pass;
 use srm_timers::{Arm, Words};
 use std::alloc::{AllocError, Global};
 
@@ -94,7 +94,7 @@ impl<W: Words + Drop> Agent<W> {
         ensures ticks { TicksAs W.next_word moment moment self.old self.new result }
         ensures idle { IsIdle result }
     {
-        pass(&mut self.bucket, moment);
+        let_time_pass(&mut self.bucket, moment);
         self.rest(moment)
     }
 

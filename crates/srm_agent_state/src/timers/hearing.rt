@@ -16,12 +16,12 @@ use std::alloc::AllocError;
 impl Timers {
     /// Makes room for a session message by which these names become missing. No timer changes, and only want of memory refuses it.
     #[tactic(auto, using(crate::proofs::Midway::asks_stay, crate::proofs::Midway::asks_keep))]
-    pub fn rows_room(&mut self, fresh: &[Name]) -> Result<(), AllocError>
+    pub fn rows_room(&mut self, newly_missing: &[Name]) -> Result<(), AllocError>
         ensures kept { TimersStay self.old self.new }
         ensures settings { KeepSettings self.old self.new }
-        ensures ready { OnOk result (DetectAndDueReady fresh.now self.new.asks) }
+        ensures ready { OnOk result (DetectAndDueReady newly_missing.now self.new.asks) }
     {
-        self.asks.room(fresh)
+        self.asks.room(newly_missing)
     }
 
     /// A session message was heard, by which these names, which rise, become missing: their request timers are set. Only
@@ -29,23 +29,23 @@ impl Timers {
     #[tactic(auto, using(crate::proofs::Missing::rows_hear))]
     pub fn hear_rows<W: Words>(
         &mut self,
-        fresh: &[Name],
+        newly_missing: &[Name],
         dist: &[u64],
         now: u64,
         words: &mut W,
     ) -> Result<Vec<Arm>, AllocError>
-        requires rising { ascending name_below fresh.now ≡ true }
+        requires rising { ascending name_below newly_missing.now ≡ true }
         requires distances { AreDistances dist.now }
         requires now { now ≤ LATEST_MOMENT }
-        ensures hears { IfOk result (λ arms. TimersHear IsSession fresh.now dist.now now arms.items self.old self.new) }
-        ensures few { IfOk result (λ arms. length arms.items ≤ length fresh.now) }
+        ensures hears { IfOk result (λ arms. TimersHear IsSession newly_missing.now dist.now now arms.items self.old self.new) }
+        ensures few { IfOk result (λ arms. length arms.items ≤ length newly_missing.now) }
         ensures chosen { IfOk result (λ arms. WaitsAreChosen W.next_word self.old words.old arms.items words.new) }
         ensures kept { OnErr result (TimersStay self.old self.new) }
         ensures unchosen { OnErr result (words.new ≡ words.old) }
         ensures settings { KeepSettings self.old self.new }
-        ensures room { DetectAndDueReady fresh.now self.old.asks → IsOk result }
+        ensures room { DetectAndDueReady newly_missing.now self.old.asks → IsOk result }
     {
-        self.detect(fresh, &[], dist, now, words)
+        self.detect(newly_missing, &[], dist, now, words)
     }
 
     /// A name's drawop was heard, as data or as a repair, by which these names of its stream, which rise, become missing. A repair
@@ -55,23 +55,23 @@ impl Timers {
         &mut self,
         name: Name,
         repaired: bool,
-        fresh: &[Name],
+        newly_missing: &[Name],
         dist: &[u64],
         now: u64,
         words: &mut W,
     ) -> Result<Vec<Arm>, AllocError>
-        requires rising { ascending name_below fresh.now ≡ true }
+        requires rising { ascending name_below newly_missing.now ≡ true }
         requires distances { AreDistances dist.now }
         requires now { now ≤ LATEST_MOMENT }
-        ensures hears { IfOk result (λ arms. TimersHear (IsDrawopOf repaired name) fresh.now dist.now now arms.items self.old self.new) }
-        ensures few { IfOk result (λ arms. length arms.items ≤ length fresh.now) }
+        ensures hears { IfOk result (λ arms. TimersHear (IsDrawopOf repaired name) newly_missing.now dist.now now arms.items self.old self.new) }
+        ensures few { IfOk result (λ arms. length arms.items ≤ length newly_missing.now) }
         ensures chosen { IfOk result (λ arms. WaitsAreChosen W.next_word self.old words.old arms.items words.new) }
         ensures kept { OnErr result (TimersStay self.old self.new) }
         ensures unchosen { OnErr result (words.new ≡ words.old) }
         ensures settings { KeepSettings self.old self.new }
     {
         self.drawop_room(name, repaired)?;
-        let arms = self.detect(fresh, &[], dist, now, words)?;
+        let arms = self.detect(newly_missing, &[], dist, now, words)?;
         self.gain(name);
         self.end_repair(name, repaired, dist, now);
         Ok(arms)

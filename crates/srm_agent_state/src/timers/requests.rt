@@ -6,7 +6,7 @@ ghost use Rattle.srm_names.specs.Names.{ascending, name_below};
 ghost use Rattle.srm_timers.specs.AskCalls.{DetectAndDueReady, AskKeepsRoom};
 ghost use Rattle.srm_timers.specs.FixCalls.{Asked, FixAdds, FixKeepsRoom, FixPlace, FixPlaces};
 ghost use Rattle.srm_timers.specs.Distances.{AreDistances};
-ghost use Rattle.srm_agent_state.specs.TimerCalls.{IsAnswered, KeepSettings, TimersHearRequest, TimersStay, WaitsAreChosen};
+ghost use Rattle.srm_agent_state.specs.TimerCalls.{IsRequestHeard, KeepSettings, TimersHearRequest, TimersStay, WaitsAreChosen};
 
 use super::Timers;
 use srm_names::{Member, Name};
@@ -15,7 +15,7 @@ use srm_timers::{Arm, Words};
 use std::alloc::AllocError;
 
 impl Timers {
-    /// A request of a member for the names `asked` was heard, by which the names `fresh` of their stream, which rise, become
+    /// A request of a member for the names `asked` was heard, by which the names `newly_missing` of their stream, which rise, become
     /// missing. The store is as it was before. Of the names that are asked for those that are held set repair timers, where
     /// none runs and they aren't held off; those that are missing set their request timers again, one exponent higher, where
     /// the request isn't ignored. Only want of memory refuses it.
@@ -24,44 +24,48 @@ impl Timers {
         store: &Store,
         from: Member,
         asked: &[Name],
-        fresh: &[Name],
+        newly_missing: &[Name],
         dist: &[u64],
         now: u64,
         words: &mut W,
     ) -> Result<Vec<Arm>, AllocError>
-        requires rising { ascending name_below fresh.now ≡ true }
+        requires rising { ascending name_below newly_missing.now ≡ true }
         requires distances { AreDistances dist.now }
         requires now { now ≤ LATEST_MOMENT }
-        ensures hears { IfOk result (λ arms. TimersHearRequest store.now from asked.now fresh.now dist.now now arms.items self.old self.new) }
-        ensures few { IfOk result (λ arms. length arms.items ≤ length asked.now + length fresh.now) }
+        ensures hears { IfOk result (λ arms. TimersHearRequest store.now from asked.now newly_missing.now dist.now now arms.items self.old self.new) }
+        ensures few { IfOk result (λ arms. length arms.items ≤ length asked.now + length newly_missing.now) }
         ensures chosen { IfOk result (λ arms. WaitsAreChosen W.next_word self.old words.old arms.items words.new) }
         ensures kept { OnErr result (TimersStay self.old self.new) }
         ensures unchosen { OnErr result (words.new ≡ words.old) }
         ensures settings { KeepSettings self.old self.new }
     {
-        let mut arms = self.request_room(asked, fresh)?;
+        let mut arms = self.request_room(asked, newly_missing)?;
         for name in asked {
-            let arm = self.answer(store.holds(*name), *name, from, dist, now, words);
+            let arm = self.hear_request_for(store.holds(*name), *name, from, dist, now, words);
             add_arm(&mut arms, arm);
         }
-        let found = self.detect(fresh, asked, dist, now, words).unwrap();
+        let found = self.detect(newly_missing, asked, dist, now, words).unwrap();
         arms.extend_from_slice(&found).unwrap();
         Ok(arms)
     }
-    /// Makes room for a request for the names `asked`, by which `fresh` become missing: a list with room for its arms. No
+    /// Makes room for a request for the names `asked`, by which `newly_missing` become missing: a list with room for its arms. No
     /// timer changes.
     #[tactic(auto, using(crate::proofs::Midway::asks_stay, crate::proofs::Midway::asks_keep))]
-    fn request_room(&mut self, asked: &[Name], fresh: &[Name]) -> Result<Vec<Arm>, AllocError>
+    fn request_room(
+        &mut self,
+        asked: &[Name],
+        newly_missing: &[Name],
+    ) -> Result<Vec<Arm>, AllocError>
         ensures kept { TimersStay self.old self.new }
         ensures settings { KeepSettings self.old self.new }
         ensures empty { IfOk result (λ arms. arms.items ≡ []) }
-        ensures room { IfOk result (λ arms. length asked.now + length fresh.now ≤ vec_capacity arms) }
+        ensures room { IfOk result (λ arms. length asked.now + length newly_missing.now ≤ vec_capacity arms) }
         ensures places { OnOk result (FixPlaces asked.now self.new.fixes) }
-        ensures ready { OnOk result (DetectAndDueReady fresh.now self.new.asks) }
+        ensures ready { OnOk result (DetectAndDueReady newly_missing.now self.new.asks) }
     {
         self.fixes.make_places(asked)?;
-        self.asks.room(fresh)?;
-        Vec::with_capacity(self.alloc, asked.len() + fresh.len())
+        self.asks.room(newly_missing)?;
+        Vec::with_capacity(self.alloc, asked.len() + newly_missing.len())
     }
 
     /// Notes who asked for a name, unless one asked before. Takes no memory.
@@ -77,7 +81,7 @@ impl Timers {
     }
 
     /// One name of a request that a member sent. Takes no memory.
-    fn answer<W: Words>(
+    fn hear_request_for<W: Words>(
         &mut self,
         is_held: bool,
         name: Name,
@@ -89,13 +93,13 @@ impl Timers {
         requires place { FixPlace self.old.fixes name }
         requires distances { AreDistances dist.now }
         requires now { now ≤ LATEST_MOMENT }
-        ensures answered { IsAnswered is_held name from dist.now now result self.old self.new }
+        ensures hears { IsRequestHeard is_held name from dist.now now result self.old self.new }
         ensures chosen { WaitsAreChosen W.next_word self.old words.old (option_to_list result) words.new }
         ensures places { FixKeepsRoom self.old.fixes self.new.fixes }
         ensures room { AskKeepsRoom self.old.asks self.new.asks }
     {
         if is_held {
-            self.fixes.answer(name, from, true, dist, now, words)
+            self.fixes.note_request(name, from, true, dist, now, words)
         } else {
             self.note(name, from);
             self.asks.heard_request(name, dist, now, words)

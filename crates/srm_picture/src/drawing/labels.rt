@@ -66,7 +66,7 @@ pub(super) fn write_datagrams<W: Write>(
         if let Some(datagram) = datagram {
             let x = plan.x(from.member).saturating_add(9);
             let y = plan.y(from.entry, arrow.launch.nth).saturating_sub(5);
-            let class = arrow.launch.kind.name();
+            let class = arrow.launch.kind.printed();
             let shown = ShownDatagram(datagram);
             writeln!(
                 out,
@@ -78,7 +78,7 @@ pub(super) fn write_datagrams<W: Write>(
 }
 
 /// A notch and its line for each thing that happens at a member by itself.
-pub(super) fn write_ticks<W: Write>(
+pub(super) fn write_notches<W: Write>(
     alloc: Global,
     out: &mut W,
     subject: &Subject<'_>,

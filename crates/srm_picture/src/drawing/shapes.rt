@@ -27,7 +27,7 @@ pub(super) fn write_brackets<W: Write>(
 ) -> io::Result<()> {
     for (index, bracket) in picture.brackets.iter().enumerate() {
         let x = plan.bracket_x(index, bracket.from.member);
-        let class = bracket.kind.name();
+        let class = bracket.kind.printed();
         write!(out, "<g class=\"bracket {class}\"><title>")?;
         let line = line_of(subject.lines_of(bracket.from.entry), b"arm ", bracket.nth);
         write_text(alloc, out, line)?;
@@ -104,7 +104,7 @@ pub(super) fn write_arrows<W: Write>(
         write!(
             out,
             "<g class=\"arrow {}\"><title>",
-            arrow.launch.kind.name()
+            arrow.launch.kind.printed()
         )?;
         write_title(alloc, out, subject, arrow)?;
         writeln!(out, "</title>")?;

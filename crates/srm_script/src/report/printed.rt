@@ -35,7 +35,7 @@ pub struct PrintedArm<'a>(pub &'a Arm);
 
 impl fmt::Display for PrintedArm<'_> {
     fn fmt<W: fmt::Write>(&self, f: &mut fmt::Formatter<W>) -> fmt::Result {
-        let kind = self.0.kind.name();
+        let kind = self.0.kind.printed();
         let exponent = self.0.exponent;
         let wait = self.0.wait;
         write!(f, "{kind} {} {exponent} {wait}", PrintedName(self.0.name))

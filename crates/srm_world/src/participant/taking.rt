@@ -3,7 +3,7 @@
 ghost use Rattle.std.specs.Prelude.{◌≡◌, ◌<◌, None, IfOk, OnErr};
 ghost use Rattle.srm_names.specs.declared.limits.TheConstants.{PAGES};
 ghost use Rattle.srm_entries.specs.declared.entry.Verdict.TheVariants.{Done};
-ghost use Rattle.srm_entries.specs.Still.{still_entry};
+ghost use Rattle.srm_entries.specs.Still.{entry_without_effects};
 ghost use Rattle.srm_world.specs.Participants.{GoesOn, Stays};
 
 use super::Participant;
@@ -37,9 +37,9 @@ impl<W: Words + Drop> Participant<W> {
 
     /// The entry of a take.
     fn took(&self, slot: u8, message: Option<PageMsg>) -> Entry
-        ensures { result ≡ still_entry self.now.config.me self.now.last (Input.Took slot) Done message self.now.state }
+        ensures { result ≡ entry_without_effects self.now.config.me self.now.last (Input.Took slot) Done message self.now.state }
     {
-        Entry::still(
+        Entry::without_effects(
             self.alloc,
             self.config.me(),
             self.last,

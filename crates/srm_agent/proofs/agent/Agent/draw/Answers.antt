@@ -5,7 +5,7 @@ use Rattle.srm_entries.specs.declared.entry.Verdict.TheVariants.{Refused}
 use Rattle.srm_entries.specs.declared.fault.AgentFault.TheVariants as faults
 use Rattle.srm_entries.specs.Verdicts.{first_cause}
 use Rattle.srm_agent.specs.Drawing.{verdict_of_refusal, refusals}
-use Rattle.srm_entries.specs.Still.{still_entry}
+use Rattle.srm_entries.specs.Still.{entry_without_effects}
 use Rattle.srm_agent.proofs.Drawn.{draw_refused, draw_full, draw_unslotted, roomy_stays, own_draft, draw_done, draw_allowed, draw_refuses, draw_names}
 use Rattle.srm_agent.proofs.agent.Agent.draw.Goals as goal
 
@@ -25,7 +25,7 @@ returns-in-Err-PageLimit g c = inl (draw_refuses g.W.Words.next_word c.args.self
     (draw_unslotted g.W.Words.next_word c.args.self.now c.draft.new.self c.args.now c.moment-moment.result c.args.page c.args.body c.in-Some-next_name.name _
     (ap verdict_of_refusal (sym c.in_default.is) ∙ c.refusal.ensures ∙ ap (λ k. first_cause (refusals c.args.self.now.state c.args.self.now.pages c.args.page k)) c.len.ensures.value)
     (λ s made past h. sym c.in-Some-next_name.is ∙ c.next_name.ensures.value s made past h) (c.draft.ensures.same (c.in-Err-PageLimit.is ∙ ap Err c.in-Err-PageLimit.field-0-is)) (c.draft.ensures.limit (c.in-Err-PageLimit.is ∙ ap Err c.in-Err-PageLimit.field-0-is))
-    (ap (λ a. still_entry a.config.me c.moment-moment.result (Drew c.args.page c.args.body) (Refused faults.PageLimit) None a.state) (sym (c.draft.ensures.same (c.in-Err-PageLimit.is ∙ ap Err c.in-Err-PageLimit.field-0-is)))) c.moment-moment.ensures.value))
+    (ap (λ a. entry_without_effects a.config.me c.moment-moment.result (Drew c.args.page c.args.body) (Refused faults.PageLimit) None a.state) (sym (c.draft.ensures.same (c.in-Err-PageLimit.is ∙ ap Err c.in-Err-PageLimit.field-0-is)))) c.moment-moment.ensures.value))
 
 pub returns-in-Err-Memory : goal.returns-in-Err-Memory
 returns-in-Err-Memory g c = inr (

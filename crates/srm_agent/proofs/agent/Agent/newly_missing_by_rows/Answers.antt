@@ -8,15 +8,15 @@ use Rattle.srm_agent.proofs.agent.Agent.newly_missing_by_rows.Goals as goal
 
 pub loop-row-preserved : goal.loop-row-preserved
 loop-row-preserved g c =
-    let join = c.in_ok-extend_from_slice.ensures.items ∙ ap (λ ns. c.loop-row.fresh.items ++ ns) c.deref.ensures.value in
+    let join = c.in_ok-extend_from_slice.ensures.items ∙ ap (λ ns. c.loop-row.newly_missing.items ++ ns) c.deref.ensures.value in
     record {
-      rising = rises_on c.args.rows.now c.loop-row.fresh.items c.in_ok-more.more.items _ c.loop-row.row-index c.row-item.result c.stream-in-loop-row.result c.known-known.result (c.number.result + 1) c.requires c.loop-row-test.true c.row-item.is
+      rising = rises_on c.args.rows.now c.loop-row.newly_missing.items c.in_ok-more.more.items _ c.loop-row.row-index c.row-item.result c.stream-in-loop-row.result c.known-known.result (c.number.result + 1) c.requires c.loop-row-test.true c.row-item.is
           c.stream-in-loop-row.ensures c.loop-row.invariant.rising c.loop-row.invariant.within c.in_ok-more.ensures join;
-      within = within_more c.args.rows.now c.loop-row.fresh.items c.in_ok-more.more.items _ c.loop-row.row-index c.row-item.result c.stream-in-loop-row.result c.known-known.result (c.number.result + 1) c.loop-row-test.true c.row-item.is
+      within = within_more c.args.rows.now c.loop-row.newly_missing.items c.in_ok-more.more.items _ c.loop-row.row-index c.row-item.result c.stream-in-loop-row.result c.known-known.result (c.number.result + 1) c.loop-row-test.true c.row-item.is
           c.stream-in-loop-row.ensures c.loop-row.invariant.within c.in_ok-more.ensures join;
       exact = λ s made past h.
           let fits = rw (← c.self.view_is) at h in
-          exact_more past c.args.rows.now c.loop-row.fresh.items c.in_ok-more.more.items _ c.loop-row.row-index c.row-item.result c.stream-in-loop-row.result c.known-known.result (c.number.result + 1) c.loop-row-test.true c.row-item.is
+          exact_more past c.args.rows.now c.loop-row.newly_missing.items c.in_ok-more.more.items _ c.loop-row.row-index c.row-item.result c.stream-in-loop-row.result c.known-known.result (c.number.result + 1) c.loop-row-test.true c.row-item.is
           c.stream-in-loop-row.ensures (c.known-known.ensures.value (held past) (evidence_in past) (settlings past) fits.store ∙ ap (known past) c.stream.ensures) (ap (λ k. k + 1) c.number.ensures.value)
           (c.loop-row.invariant.exact s made past h) c.in_ok-more.ensures join;
     }

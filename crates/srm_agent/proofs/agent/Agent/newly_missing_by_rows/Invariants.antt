@@ -11,7 +11,7 @@ use Rattle.srm_agent.proofs.agent.Agent.newly_missing_by_rows.Given as goal
 
 abbrev pub invariant-loop-row : goal.invariant-loop-row
 invariant-loop-row g l = record {
-  rising : ascending name_below l.fresh.items ≡ true;
-  within : (n : FullName) → among l.fresh.items n ≡ true → list_any (λ (x : FullName). same_stream n.stream x.stream) (take l.row-index l.rows) ≡ true;
-  exact : (c : Config) (made : ℕ) (past : List Entry) → Fits c made past l.fn.self → (n : FullName) → among l.fresh.items n ≡ is_newly_missing_by_rows past (take l.row-index l.rows) n;
+  rising : ascending name_below l.newly_missing.items ≡ true;
+  within : (n : FullName) → among l.newly_missing.items n ≡ true → list_any (λ (x : FullName). same_stream n.stream x.stream) (take l.row-index l.rows) ≡ true;
+  exact : (c : Config) (made : ℕ) (past : List Entry) → Fits c made past l.fn.self → (n : FullName) → among l.newly_missing.items n ≡ is_newly_missing_by_rows past (take l.row-index l.rows) n;
 }

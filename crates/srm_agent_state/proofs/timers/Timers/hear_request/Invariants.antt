@@ -12,8 +12,8 @@ invariant-loop-name g l = record {
   chosen : WaitsAreChosen g.W.Words.next_word l.initial.self l.initial.words l.arms.items l.words;
   settings : KeepSettings l.initial.self l.self;
   places : FixPlaces l.asked l.self.fixes;
-  ready : DetectAndDueReady l.fresh l.self.asks;
+  ready : DetectAndDueReady l.newly_missing l.self.asks;
   count : length l.arms.items ≤ l.name-index;
   few : vec_len l.arms ≤ l.name-index;
-  room : length l.asked + length l.fresh ≤ vec_capacity l.arms;
+  room : length l.asked + length l.newly_missing ≤ vec_capacity l.arms;
 }

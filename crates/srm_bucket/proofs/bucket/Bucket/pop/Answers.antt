@@ -19,7 +19,7 @@ returns-then-not-spend-clause-pops g c =
     let no : c.spend.result ≡ false = search rules in
     rw (← c.self.view_is) (pop_refused c.args.now _ _ c.in_ok-length.length c.refill.new.self (sym c.next_length.ensures ∙ c.in_ok-length.was) c.refill.ensures.value
     (sym c.spend.ensures.value ∙ no)
-    (c.spend.ensures.taken ∙ ap (λ b. if b then spent c.in_ok-length.length c.refill.new.self else c.refill.new.self) no) (λ k. refl))
+    (c.spend.ensures.spends ∙ ap (λ b. if b then spent c.in_ok-length.length c.refill.new.self else c.refill.new.self) no) (λ k. refl))
 
 pub invariant_of-self-2 : goal.invariant_of-self-2
 invariant_of-self-2 g c = record { tokens = c.spend.ensures.range; lengths = lengths-lost (next_in c.self.inside.queues) c.self.inside.queues c.pop.new.self c.pop.ensures.queues c.self.invariant.lengths }
@@ -29,7 +29,7 @@ returns-clause-pops g c =
     let covered : c.spend.result ≡ true = search rules in
     rw (← c.self.view_is) (pop_first c.args.now _ _ c.pop.result c.in_ok-length.length c.refill.new.self (sym c.next_length.ensures ∙ c.in_ok-length.was) c.refill.ensures.value
     (sym c.spend.ensures.value ∙ covered)
-    (c.spend.ensures.taken ∙ ap (λ b. if b then spent c.in_ok-length.length c.refill.new.self else c.refill.new.self) covered)
+    (c.spend.ensures.spends ∙ ap (λ b. if b then spent c.in_ok-length.length c.refill.new.self else c.refill.new.self) covered)
     c.pop.ensures.value c.pop.ensures.queues)
 
 pub returns-clause-range : goal.returns-clause-range

@@ -2,7 +2,7 @@ use Rattle.std.proofs.Common.{◌+◌, [], ◌∷◌, sym, ap, subst, ◌∙◌,
 use Rattle.srm_timers.specs.Arms.{low_of, high_of, AreChosen, AreAsks, Plan, AreOfMembers}
 use Rattle.srm_timers.specs.AskCalls.{again_plan}
 use Rattle.srm_timers.specs.Distances.{distance_to}
-use Rattle.srm_timers.specs.Ends.{AreShort}
+use Rattle.srm_timers.specs.Expiries.{AreShort}
 use Rattle.srm_deadlines.specs.Places.{value_at}
 use Rattle.srm_timers.proofs.Arming.{plans_more, chosen-append, short_more, asks_more, members_more}
 use Rattle.srm_timers.proofs.AskSteps.{ask_plan_is, again_is}

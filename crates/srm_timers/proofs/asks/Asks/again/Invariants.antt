@@ -2,7 +2,7 @@ use Rattle.std.proofs.Common.{◌≡◌, ◌≤◌, map, take, length}
 use Rattle.std.specs.Prelude.{vec_len, vec_capacity}
 use Rattle.srm_timers.specs.Arms.{plan_of, low_of, high_of, AreChosen, AreAsks, AreOfMembers}
 use Rattle.srm_timers.specs.AskCalls.{again_plan}
-use Rattle.srm_timers.specs.Ends.{AreShort}
+use Rattle.srm_timers.specs.Expiries.{AreShort}
 use Rattle.srm_deadlines.specs.Places.{value_at}
 use Rattle.srm_timers.proofs.asks.Asks.again.Given as goal
 

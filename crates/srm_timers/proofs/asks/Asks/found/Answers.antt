@@ -3,7 +3,7 @@ use Rattle.std.proofs.lemmas.List.{take_all}
 use Rattle.srm_timers.specs.Arms.{plan_of, low_of, high_of, AreChosen, AreAsks}
 use Rattle.srm_timers.specs.AskCalls.{found_plan}
 use Rattle.srm_timers.specs.Distances.{distance_to}
-use Rattle.srm_timers.specs.Ends.{AreShort}
+use Rattle.srm_timers.specs.Expiries.{AreShort}
 use Rattle.srm_timers.proofs.Arming.{plans_more, chosen-append, short_more, asks_more}
 use Rattle.srm_timers.proofs.AskSteps.{found_are, ask_plan_is}
 use Rattle.srm_timers.proofs.asks.Asks.found.Goals as goal

@@ -2,7 +2,7 @@ use Rattle.std.proofs.Common.{◌≡◌, ◌≤◌, map, take, length}
 use Rattle.std.specs.Prelude.{vec_len, vec_capacity}
 use Rattle.srm_timers.specs.Arms.{plan_of, low_of, high_of, AreChosen, AreAsks}
 use Rattle.srm_timers.specs.AskCalls.{found_plan}
-use Rattle.srm_timers.specs.Ends.{AreShort}
+use Rattle.srm_timers.specs.Expiries.{AreShort}
 use Rattle.srm_timers.proofs.asks.Asks.found.Given as goal
 
 abbrev pub invariant-loop-name : goal.invariant-loop-name

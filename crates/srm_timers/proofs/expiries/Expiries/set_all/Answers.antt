@@ -1,10 +1,10 @@
 use Rattle.std.proofs.Common.{◌≡◌, true, map, ◌++◌, sym, subst, ap, ◌∙◌}
 use Rattle.srm_names.specs.Histories.{or_else}
 use Rattle.srm_names.specs.Names.{ascending, name_below, among}
-use Rattle.srm_timers.specs.Ends.{ExpiryContent, timed_at}
+use Rattle.srm_timers.specs.Expiries.{ExpiryContent, timed_at}
 use Rattle.srm_deadlines.specs.Places.{names_of, moment_among, value_at, has_place}
 use Rattle.srm_timers.proofs.Arming.{moments_names, moments_of}
-use Rattle.srm_timers.proofs.ends.Expiries.set_all.Goals as goal
+use Rattle.srm_timers.proofs.expiries.Expiries.set_all.Goals as goal
 
 pub set_all-requires-clause-rising : goal.set_all-requires-clause-rising
 set_all-requires-clause-rising g c =

@@ -5,7 +5,7 @@ ghost use Rattle.srm_names.specs.Names.{AreExactly, ascending, name_below};
 ghost use Rattle.srm_timers.specs.Arms.{arm_names};
 ghost use Rattle.srm_names.specs.Moments.{has_come};
 ghost use Rattle.srm_deadlines.specs.Deadlines.{DueFit};
-ghost use Rattle.srm_timers.specs.Ends.{timed_at, SetsEnds, AreShort, HaveRoom, KeepsRoom};
+ghost use Rattle.srm_timers.specs.Expiries.{timed_at, SetsExpiries, AreShort, HaveRoom, KeepsRoom};
 ghost use Rattle.srm_deadlines.specs.Places.{value_at, has_place, KeepsValues, Sets, ClearsAll, IsLeast, HasPlaces};
 
 use crate::arm::Arm;
@@ -23,7 +23,7 @@ pub(crate) struct Expiries<D: Deadlines> {
 
 impl<D: Deadlines> Model for Expiries<D> {
     ghost use Rattle.std.specs.Prelude.{◌≡◌, [], vec_capacity};
-    ghost use Rattle.srm_timers.specs.Ends.{ExpiryContent};
+    ghost use Rattle.srm_timers.specs.Expiries.{ExpiryContent};
 
     ghost Value = { ExpiryContent };
 
@@ -94,7 +94,7 @@ impl<D: Deadlines> Expiries<D> {
         requires room { HaveRoom (arm_names arms.now) self.old }
         requires now { now ≤ LATEST_MOMENT }
         requires short { AreShort arms.now }
-        ensures sets { SetsEnds now arms.now self.old.places self.new.places }
+        ensures sets { SetsExpiries now arms.now self.old.places self.new.places }
         ensures keeps_room { KeepsRoom self.old self.new }
     {
         add_moments(&mut self.moments, now, arms);
@@ -135,7 +135,7 @@ impl<D: Deadlines> Expiries<D> {
     }
 }
 
-/// Adds the ends of arms that are set now.
+/// Adds the moments at which arms that are set now run out.
 fn add_moments(moments: &mut Vec<Timed>, now: u64, arms: &[Arm])
     requires room { vec_len moments.old + length arms.now ≤ vec_capacity moments.old }
     requires now { now ≤ LATEST_MOMENT }

@@ -1,7 +1,7 @@
 use Rattle.std.proofs.Common.{◌≡◌, ◌≤◌, ◌+◌, ◌++◌, map, take}
 use Rattle.std.specs.Prelude.{vec_len, vec_capacity}
-use Rattle.srm_timers.specs.Ends.{timed_at}
-use Rattle.srm_timers.proofs.ends.add_moments.Given as goal
+use Rattle.srm_timers.specs.Expiries.{timed_at}
+use Rattle.srm_timers.proofs.expiries.add_moments.Given as goal
 
 abbrev pub invariant-loop-arm : goal.invariant-loop-arm
 invariant-loop-arm l = record {

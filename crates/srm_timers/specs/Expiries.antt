@@ -18,16 +18,16 @@ pub record ExpiryContent : Type 0 where
   -- so many can be set in one call without memory
   pub room : ℕ
 
-abbrev pub arm_end : ℕ → Arm → ℕ
-arm_end now a = runs_out_at (armed_at now a)
+abbrev pub expiry_of : ℕ → Arm → ℕ
+expiry_of now a = runs_out_at (armed_at now a)
 
 -- the end of an arm that is set at a moment
 abbrev pub timed_at : ℕ → Arm → Timed
-timed_at now a = record { name = a.name; moment = arm_end now a }
+timed_at now a = record { name = a.name; moment = expiry_of now a }
 
 -- the arms run from now on
-pub record SetsEnds (now : ℕ) (arms : List Arm) (old new : List (NamedValue ℕ)) : Type 0 where
-  pub each : (n : FullName) → value_at new n ≡ or_else (option_map (arm_end now) (arm_of n arms)) (value_at old n)
+pub record SetsExpiries (now : ℕ) (arms : List Arm) (old new : List (NamedValue ℕ)) : Type 0 where
+  pub each : (n : FullName) → value_at new n ≡ or_else (option_map (expiry_of now) (arm_of n arms)) (value_at old n)
 
 abbrev pub is_short : Arm → Type 0
 is_short a = a.wait ≤ LONGEST_WAIT
@@ -36,10 +36,10 @@ is_short a = a.wait ≤ LONGEST_WAIT
 pub record AreShort (arms : List Arm) : Type 0 where
   pub each : AllByRecursion is_short arms
 
--- the ends of the names can be set in one call without memory
-pub record HaveRoom (names : List FullName) (ends : ExpiryContent) : Type 0 where
-  pub places : (n : FullName) → among names n ≡ true → has_place ends.places n ≡ true
-  pub room : length names ≤ ends.room
+-- the expiries of the names can be set in one call without memory
+pub record HaveRoom (names : List FullName) (expiries : ExpiryContent) : Type 0 where
+  pub places : (n : FullName) → among names n ≡ true → has_place expiries.places n ≡ true
+  pub room : length names ≤ expiries.room
 
 -- whatever has a place, or room, still has it
 pub record KeepsRoom (old new : ExpiryContent) : Type 0 where
