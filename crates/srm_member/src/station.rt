@@ -1,6 +1,6 @@
 //! A member's station: its node, the taps for its page workers, and its pens.
 
-ghost use Rattle.std.specs.Prelude.{◌≡◌, Bool, None, [], length, vec_len, map, IfOk, IfSome, MatchResult};
+ghost use Rattle.std.specs.Prelude.{◌≡◌, Bool, false, None, [], length, vec_len, map, IfOk, IfSome, MatchResult};
 ghost use Rattle.srm_names.specs.declared.limits.TheConstants.{PAGES};
 ghost use Rattle.srm_pages.specs.Ends.{AreNewPens};
 ghost use Rattle.srm_node.specs.Nodes.{AreNewFeeds};
@@ -253,11 +253,11 @@ impl Crew {
     }
 }
 
-/// Runs the node with its workers, unless a thread that draws for it couldn't be started. Then, and for want of memory before any worker is started, there is none.
+/// Runs the node with its workers, if each thread that draws for it was started. Else, and for want of memory before any worker is started, there is none.
 pub fn host_if<R, X, P, S, L>(
     rt: &R,
     alloc: Global,
-    all: bool,
+    started: bool,
     node: Node<Pcg, X, SystemClock<R>, P>,
     taps: Vec<Tap>,
     sinks: Vec<S>,
@@ -271,10 +271,11 @@ where
     L: Past<PageMsg> + Send + Drop + 'static,
     requires taps { vec_len taps ≡ PAGES }
     requires sinks { vec_len sinks ≡ PAGES }
+    ensures refused { started ≡ false → result ≡ None }
     ensures hosts { IfSome result (λ h. MatchResult h.end (λ _. Hosts L.appended node.view taps.items turns h) (λ fault. (all : Bool) × HostFails L.appended all node.view taps.items turns fault h)) }
     ensures lanes { IfSome result (λ h. IfOk h.end (λ _. AreEndsOfLanes node.view.feeds taps.items → AreEndsOfLanes h.feeds.items (map (λ w. w.tap) h.worked.items))) }
 {
-    if !all {
+    if !started {
         return None;
     }
     match host(rt, alloc, node, taps, sinks, turns) {
