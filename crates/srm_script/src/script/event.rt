@@ -1,6 +1,7 @@
 //! The lines of events.
 
-ghost use Rattle.std.specs.Prelude.{IfOk};
+ghost use Rattle.std.specs.Prelude.{◌≤◌, IfOk};
+ghost use Rattle.srm_names.specs.declared.limits.TheConstants.{LATEST_MOMENT};
 ghost use Rattle.srm_world.specs.Events.{IsTimely};
 
 use super::line_reader::{LineFault, LineReader};
@@ -16,11 +17,23 @@ pub fn read_event(alloc: Global, kind: &str, reader: LineReader<'_>) -> Result<E
     match kind {
         "draw" => read_draw(alloc, reader),
         "deliver" => read_deliver(reader),
-        "tick" => read_tick(reader),
+        "tick" => {
+            let (member, now) = read_moment(reader)?;
+            Ok(Event::Tick { member, now })
+        }
         "show" => read_show(reader),
-        "leave" => read_leave(reader),
-        "give" => read_give(reader),
-        "take" => read_take(reader),
+        "leave" => {
+            let (member, now) = read_moment(reader)?;
+            Ok(Event::Leave { member, now })
+        }
+        "give" => {
+            let (member, slot) = read_slot(reader)?;
+            Ok(Event::Give { member, slot })
+        }
+        "take" => {
+            let (member, slot) = read_slot(reader)?;
+            Ok(Event::Take { member, slot })
+        }
         _ => Err(LineFault::Bad),
     }
 }
@@ -57,13 +70,13 @@ fn read_deliver(mut reader: LineReader<'_>) -> Result<Event, LineFault>
 }
 
 /// `M T`.
-fn read_tick(mut reader: LineReader<'_>) -> Result<Event, LineFault>
-    ensures { IfOk result IsTimely }
+fn read_moment(mut reader: LineReader<'_>) -> Result<(u8, u64), LineFault>
+    ensures { IfOk result (λ r. r.1 ≤ LATEST_MOMENT) }
 {
     let member = reader.member()?;
     let now = reader.moment()?;
     reader.end()?;
-    Ok(Event::Tick { member, now })
+    Ok((member, now))
 }
 
 /// `M T C.P`.
@@ -77,32 +90,10 @@ fn read_show(mut reader: LineReader<'_>) -> Result<Event, LineFault>
     Ok(Event::Show { member, now, page })
 }
 
-/// `M T`.
-fn read_leave(mut reader: LineReader<'_>) -> Result<Event, LineFault>
-    ensures { IfOk result IsTimely }
-{
-    let member = reader.member()?;
-    let now = reader.moment()?;
-    reader.end()?;
-    Ok(Event::Leave { member, now })
-}
-
 /// `M J`.
-fn read_give(mut reader: LineReader<'_>) -> Result<Event, LineFault>
-    ensures { IfOk result IsTimely }
-{
+fn read_slot(mut reader: LineReader<'_>) -> Result<(u8, u8), LineFault> {
     let member = reader.member()?;
     let slot = reader.slot()?;
     reader.end()?;
-    Ok(Event::Give { member, slot })
-}
-
-/// `M J`.
-fn read_take(mut reader: LineReader<'_>) -> Result<Event, LineFault>
-    ensures { IfOk result IsTimely }
-{
-    let member = reader.member()?;
-    let slot = reader.slot()?;
-    reader.end()?;
-    Ok(Event::Take { member, slot })
+    Ok((member, slot))
 }
