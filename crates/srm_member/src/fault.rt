@@ -9,7 +9,7 @@ ghost use Rattle.srm_member.specs.Statuses.{fault_of, fault_of_live, fault_of_bi
 
 use srm_names::PageMsg;
 use srm_node::{NodeFault, WorkEnd, Worked};
-use srm_script::ScriptFault;
+use srm_script::{ScriptFault, print_fault};
 use srm_world::Past;
 use std::alloc::AllocError;
 use std::io;
@@ -72,8 +72,8 @@ impl MemberFault {
     {
         match self {
             MemberFault::Script(fault) => fault.print(err),
-            MemberFault::Wire => told(self, err, 3),
-            MemberFault::Turns => told(self, err, 4),
+            MemberFault::Wire => print_fault(self, err, 3),
+            MemberFault::Turns => print_fault(self, err, 4),
         }
     }
 
@@ -102,15 +102,6 @@ impl From<AllocError> for MemberFault {
     fn from(_error: AllocError) -> MemberFault {
         MemberFault::Script(ScriptFault::Memory)
     }
-}
-
-// Prints the fault, and answers its status.
-fn told<E: Write>(fault: &MemberFault, err: &mut E, status: u8) -> u8
-    ensures { result ≡ status }
-{
-    // Where this can't be written there is nobody left to tell.
-    let _ = writeln!(err, "{fault}");
-    status
 }
 
 // Whether one of these workers ended for want of memory.

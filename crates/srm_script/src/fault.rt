@@ -6,8 +6,8 @@ ghost use Rattle.srm_script.specs.Statuses.{status_of};
 
 use srm_world::WorldFault;
 use std::alloc::AllocError;
-use std::io;
 use std::io::Write;
+use std::{fmt, io};
 use thiserror::Error;
 
 /// Why a script isn't run to its end. Its text is the line that standard error gets.
@@ -35,8 +35,12 @@ impl ScriptFault {
     pub fn print<E: Write>(&self, err: &mut E) -> u8
         ensures { result ≡ status_of self.now }
     {
-        // Where this can't be written there is nobody left to tell.
-        let _ = writeln!(err, "{self}");
+        print_fault(self, err, self.status())
+    }
+
+    fn status(&self) -> u8
+        ensures { result ≡ status_of self.now }
+    {
         match self {
             ScriptFault::StandardInput
             | ScriptFault::TooLong
@@ -55,6 +59,15 @@ impl ScriptFault {
     pub fn of_output(error: io::Error) -> ScriptFault {
         of_io(error, ScriptFault::Output)
     }
+}
+
+/// Prints a fault as a line of its own, and answers the status that the program ends with because of it.
+pub fn print_fault<F: fmt::Display, E: Write>(fault: &F, err: &mut E, status: u8) -> u8
+    ensures { result ≡ status }
+{
+    // Where this can't be written there is nobody left to tell.
+    let _ = writeln!(err, "{fault}");
+    status
 }
 
 // Want of memory, or else this fault.

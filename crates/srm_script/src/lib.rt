@@ -17,7 +17,7 @@ mod play;
 mod report;
 mod script;
 
-pub use fault::ScriptFault;
+pub use fault::{ScriptFault, print_fault};
 pub use input::read_input;
 pub use play::{print_newest, run_event, run_script};
 pub use report::{EntryPrinter, PrintedGone, PrintedTake};
