@@ -11,7 +11,8 @@ use Rattle.srm_node.specs.declared.working.WorkEnd.TheVariants.{Closed}
 use Rattle.srm_node.specs.Carrying.{DrawsReceived}
 use Rattle.srm_node.specs.Nodes.{NodeKeepsLists, IsNode}
 use Rattle.srm_node.specs.Hosting.{WorkedEach, HostFails, Hosts}
-use Rattle.srm_node.specs.WholeTurnExamples.{before, after, put, feeds, journal, entries, stroke, lawful, carries, new_feeds}
+use Rattle.srm_node.specs.TurnSample.{journal}
+use Rattle.srm_node.specs.WholeTurnExamples.{before, after, put, feeds, entries, stroke, lawful, carries, new_feeds}
 use Rattle.srm_node.specs.HostExamples.{tap, worked_so}
 use Rattle.srm_node.specs.PartingExamples as parting
 use Rattle.srm_node.proofs.Keeping.{keeps_new}

@@ -13,7 +13,8 @@ use Rattle.srm_node.specs.declared.working.Worked.{Worked}
 use Rattle.srm_node.specs.declared.working.WorkEnd.TheVariants.{Closed, Broken}
 use Rattle.srm_node.specs.Working.{Took, WorkedFrom}
 use Rattle.srm_node.specs.Hosting.{tap_of_worker, Starts, StopsBy, Joins, WorkedEach, AreEndsOfLanes, HostFails, Hosts}
-use Rattle.srm_node.specs.WholeTurnExamples.{before, after, feed, whole}
+use Rattle.srm_node.specs.TurnSample.{feed}
+use Rattle.srm_node.specs.WholeTurnExamples.{before, after, whole}
 
 abbrev pub tap : ℕ → List PageMsg → LaneId → TapView
 tap slot taken lane = record { taken = taken; seat = []; slot = slot; lane = lane; board = lane.stamps }

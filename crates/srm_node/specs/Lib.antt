@@ -9,6 +9,7 @@ pub mod TurnExamples
 pub mod Working
 pub mod Hosting
 pub mod NodeExamples
+pub mod TurnSample
 pub mod WholeTurnExamples
 pub mod PartingExamples
 pub mod HostExamples

@@ -1,9 +1,8 @@
 -- A node's turn in which its member leaves and each lane has its close, and the run that ends by it, at worked examples.
-use Rattle.std.specs.Prelude.{◌≡◌, ◌+◌, ℕ, ◌==◌, true, false, List, [], ◌∷◌, ◌++◌, map, take, Option, Some, None, Ok, Err, slice_get, refl}
+use Rattle.std.specs.Prelude.{◌≡◌, ◌+◌, ℕ, ◌==◌, true, false, List, [], ◌∷◌, ◌++◌, map, take, Option, Some, None, Ok, Err, refl}
 use Rattle.std.specs.List.{AllByRecursion}
-use Rattle.std.proofs.Common.{arith, inl, inr, subst, sym, ◌∙◌, ap, lit≤, lit<}
+use Rattle.std.proofs.Common.{arith, inl, sym, ◌∙◌, ap, lit≤, lit<}
 use Rattle.std.proofs.lemmas.List.{append-nil}
-use Rattle.std.proofs.lemmas.Option.{same_Some}
 use Rattle.srm_names.specs.FullName.{FullName}
 use Rattle.srm_names.specs.Histories.{steps}
 use Rattle.srm_names.specs.Names.{first_page}
@@ -32,10 +31,9 @@ use Rattle.srm_world.proofs.Lawful.{lawful_journal}
 use Rattle.srm_wire.specs.Wires.{bytes_to}
 use Rattle.srm_node.specs.declared.fault.NodeFault.TheVariants.{Turns}
 use Rattle.srm_node.specs.Carrying.{Carries, CarriesEach}
-use Rattle.srm_node.specs.Parts.{SameFeed, is_served}
 use Rattle.srm_node.specs.Nodes.{NodeView, has_ended}
-use Rattle.srm_node.specs.Turns.{HearsNow, DrawsNow, LeavesNow, TicksNow, GivesNow, Turned, RunEnds}
-use Rattle.srm_node.specs.WholeTurnExamples.{at_each, feed, feeds, journal, before}
+use Rattle.srm_node.specs.Turns.{DrawsNow, LeavesNow, TicksNow, GivesNow, Turned, RunEnds}
+use Rattle.srm_node.specs.TurnSample.{at_each, eight, journal, unturned, heard_nothing, hears_nothing, gives_up_to}
 
 -- WHAT THE TURN WRITES
 
@@ -173,10 +171,10 @@ lawful = lawful_journal (journal entries) (record {
 
 -- the node was asked to leave at once
 abbrev pub asked_before : LaneId → WellView → NodeView
-asked_before lane well = record (before lane well) { asked = Some 0 }
+asked_before lane well = unturned (Some 0) lane well
 
 abbrev heard : LaneId → WellView → NodeView
-heard lane well = record (asked_before lane well) { told = Some (record { came = None ∷ []; went = [] }) }
+heard lane well = heard_nothing (Some 0) lane well
 
 -- the well has no stroke
 abbrev drawn : LaneId → WellView → NodeView
@@ -193,23 +191,11 @@ put = Open first_page ∷ Close ∷ []
 
 -- the first feed put its page and its close, and the others their close
 abbrev closed : LaneId → List FeedView
-closed lane = feed 0 put lane ∷ feed 1 (Close ∷ []) lane ∷ feed 2 (Close ∷ []) lane ∷ feed 3 (Close ∷ []) lane ∷ feed 4 (Close ∷ []) lane ∷ feed 5 (Close ∷ []) lane ∷ feed 6 (Close ∷ []) lane ∷ feed 7 (Close ∷ []) lane ∷ []
+closed lane = eight put (Close ∷ []) lane
 
 -- the node after its turn
 abbrev pub ended : LaneId → WellView → NodeView
 ended lane well = record (ticked lane well) { journal = journal entries; feeds = closed lane }
-
-hears : (lane : LaneId) (well : WellView) → HearsNow 1 false (asked_before lane well) (heard lane well)
-hears lane well = record {
-  listened = record {
-    count = 0;
-    ended = None ∷ [];
-    listens = record { came = []; entries = []; counted = refl; grown = refl; each = tt; told = record { told = refl } };
-    ends = inr (omega arith, refl);
-  };
-  failures = (omega arith, tt);
-  same = refl;
-}
 
 -- no stroke is there
 draws_none : (lane : LaneId) (well : WellView) → DrawsNow 1 true (heard lane well) (drawn lane well)
@@ -243,22 +229,9 @@ carries lane = at_each (λ slot f. Carries (given entries slot) f) (closed lane)
 
 pub gives_all : (lane : LaneId) (well : WellView) → GivesNow 8 (ticked lane well) (ended lane well)
 gives_all lane well = record {
-  gives = record {
-    entries = all_gives;
-    grown = refl;
-    inputs = (refl, (refl, (refl, (refl, (refl, (refl, (refl, (refl, (refl, (refl, (refl, (refl, (refl, (refl, (refl, (refl, (refl, tt)))))))))))))))));
-    lawful = lawful;
-    carries = carries lane;
-    slots = refl;
-    same = λ slot f g at_f at_g. at_each (λ k y. (x : FeedView) → slice_get (feeds [] lane) k ≡ Some x → SameFeed x y) (closed lane)
-        (is 0 put, (is 1 (Close ∷ []), (is 2 (Close ∷ []), (is 3 (Close ∷ []), (is 4 (Close ∷ []), (is 5 (Close ∷ []), (is 6 (Close ∷ []), (is 7 (Close ∷ []), tt)))))))) slot g at_g f at_f;
-    served = λ slot f below at_f. at_each (λ k y. is_served k all_gives y ≡ true) (closed lane) (refl, (refl, (refl, (refl, (refl, (refl, (refl, (refl, tt)))))))) slot f at_f;
-  };
+  gives = gives_up_to put (Close ∷ []) (first 2) all_gives lane (refl, (refl, (refl, (refl, (refl, (refl, (refl, (refl, (refl, (refl, (refl, (refl, (refl, (refl, (refl, (refl, (refl, tt))))))))))))))))) lawful (carries lane) (refl, (refl, (refl, (refl, (refl, (refl, (refl, (refl, tt))))))));
   same = refl;
 }
-  where
-    is : (slot : ℕ) (more : List PageMsg) (x : FeedView) → Some (feed slot [] lane) ≡ Some x → SameFeed x (feed slot more lane)
-    is slot more x at_x = subst (λ (y : FeedView). SameFeed y (feed slot more lane)) (same_Some (feed slot [] lane) x at_x) refl
 
 pub turned : (lane : LaneId) (well : WellView) → Turned false false (asked_before lane well) (ended lane well)
 turned lane well = record {
@@ -269,7 +242,7 @@ turned lane well = record {
     heard = heard lane well;
     drawn = drawn lane well;
     left = left lane well;
-    hears = hears lane well;
+    hears = hears_nothing (Some 0) lane well;
     draws = draws_none lane well;
     leaves = leaves lane well;
     ticks = ticks_once lane well;

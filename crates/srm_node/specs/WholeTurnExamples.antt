@@ -1,8 +1,7 @@
 -- A node's first turn, in which it draws a stroke and gives it, whole and cut, at worked examples.
-use Rattle.std.specs.Prelude.{◌≡◌, ◌+◌, ℕ, zero, suc, true, false, List, [], ◌∷◌, ◌++◌, map, take, Option, Some, None, Ok, slice_get, refl}
+use Rattle.std.specs.Prelude.{◌≡◌, ◌+◌, ℕ, true, false, List, [], ◌∷◌, ◌++◌, map, take, Option, Some, None, Ok, refl}
 use Rattle.std.specs.List.{AllByRecursion}
-use Rattle.std.proofs.Common.{arith, inl, inr, subst, ap, lit≤}
-use Rattle.std.proofs.lemmas.Option.{same_Some}
+use Rattle.std.proofs.Common.{arith, inl, inr, ap, lit≤}
 use Rattle.srm_names.specs.FullName.{FullName}
 use Rattle.srm_names.specs.Histories.{steps, greatest}
 use Rattle.srm_names.specs.Names.{first_page}
@@ -32,36 +31,20 @@ use Rattle.srm_world.specs.Claims.{IsLawfulJournal}
 use Rattle.srm_world.proofs.Lawful.{lawful_journal}
 use Rattle.srm_wire.specs.Wires.{bytes_to}
 use Rattle.srm_node.specs.Carrying.{Carries, CarriesEach, DrawsReceived}
-use Rattle.srm_node.specs.Parts.{IsAdmitted, SameFeed, is_served}
+use Rattle.srm_node.specs.Parts.{IsAdmitted}
+use Rattle.srm_node.specs.TurnSample.{at_each, feed, eight, journal, unturned, heard_nothing, hears_nothing, gives_up_to}
 use Rattle.srm_node.specs.Nodes.{NodeView, AreNewFeeds, IsNewJournal, IsNewNode}
-use Rattle.srm_node.specs.Turns.{HearsNow, DrawsNow, LeavesNow, TicksNow, GivesNow, DrawsCut, Turned, TurnEnds, IsCut}
-
--- WHAT HOLDS OF EACH FEED
-
-abbrev pub AllAt : (ℕ → FeedView → Type 0) → List FeedView → Type 0
-AllAt P [] = Unit {0}
-AllAt P (f ∷ fs) = P zero f × AllAt (λ k g. P (suc k) g) fs
-
-pub at_each : (P : ℕ → FeedView → Type 0) (fs : List FeedView) → AllAt P fs → (slot : ℕ) (f : FeedView) → slice_get fs slot ≡ Some f → P slot f
-at_each P [] h slot f at_f = cc
-at_each P (x ∷ xs) h zero f at_f = subst (P zero) (same_Some x f at_f) h.0
-at_each P (x ∷ xs) h (suc k) f at_f = at_each (λ i g. P (suc i) g) xs h.1 k f at_f
+use Rattle.srm_node.specs.Turns.{DrawsNow, LeavesNow, TicksNow, GivesNow, DrawsCut, Turned, TurnEnds, IsCut}
 
 -- A NEW NODE
 
-abbrev pub feed : ℕ → List PageMsg → LaneId → FeedView
-feed slot put lane = record { put = put; seen = 0; disconnected = false; slot = slot; lane = lane; board = lane.stamps }
-
 -- eight feeds, of which the first one put these
 abbrev pub feeds : List PageMsg → LaneId → List FeedView
-feeds put lane = feed 0 put lane ∷ feed 1 [] lane ∷ feed 2 [] lane ∷ feed 3 [] lane ∷ feed 4 [] lane ∷ feed 5 [] lane ∷ feed 6 [] lane ∷ feed 7 [] lane ∷ []
-
-abbrev pub journal : List Entry → Journal
-journal es = record { start = record { config = config 0; made = 0 }; entries = es }
+feeds put lane = eight put [] lane
 
 -- member 0 of two over a wire that tells, which did nothing yet
 abbrev pub before : LaneId → WellView → NodeView
-before lane well = record { journal = journal []; feeds = feeds [] lane; well = well; hand = None; asked = None; failures = 0; told = Some (record { came = []; went = [] }) }
+before lane well = unturned None lane well
 
 pub new_feeds : (lane : LaneId) → AreNewFeeds (feeds [] lane)
 new_feeds lane = record {
@@ -205,7 +188,7 @@ lawful = lawful_journal (journal entries) (record {
 -- A WHOLE TURN
 
 abbrev heard : LaneId → WellView → NodeView
-heard lane well = record (before lane well) { told = Some (record { came = None ∷ []; went = [] }) }
+heard lane well = heard_nothing None lane well
 
 -- the stroke was received, and then none was there so often
 abbrev popped : ℕ → WellView → WellView
@@ -223,18 +206,6 @@ put = Open first_page ∷ Draw one ∷ []
 -- the node after its turn
 abbrev pub after : LaneId → WellView → NodeView
 after lane well = record (ticked lane well) { journal = journal entries; feeds = feeds put lane }
-
-hears : (lane : LaneId) (well : WellView) → HearsNow 1 false (before lane well) (heard lane well)
-hears lane well = record {
-  listened = record {
-    count = 0;
-    ended = None ∷ [];
-    listens = record { came = []; entries = []; counted = refl; grown = refl; each = tt; told = record { told = refl } };
-    ends = inr (omega arith, refl);
-  };
-  failures = (omega arith, tt);
-  same = refl;
-}
 
 admitted : IsAdmitted 1 (journal []) stroke true
 admitted = record { goings = ([], refl, tt, tt); is = refl }
@@ -271,22 +242,9 @@ carries lane = at_each (λ slot f. Carries (given entries slot) f) (feeds put la
 
 pub gives_all : (lane : LaneId) (well : WellView) → GivesNow 8 (ticked lane well) (after lane well)
 gives_all lane well = record {
-  gives = record {
-    entries = all_gives;
-    grown = refl;
-    inputs = (refl, (refl, (refl, (refl, (refl, (refl, (refl, (refl, (refl, (refl, tt))))))))));
-    lawful = lawful;
-    carries = carries lane;
-    slots = refl;
-    same = λ slot f g at_f at_g. at_each (λ k y. (x : FeedView) → slice_get (feeds [] lane) k ≡ Some x → SameFeed x y) (feeds put lane)
-        (is 0 put, (is 1 [], (is 2 [], (is 3 [], (is 4 [], (is 5 [], (is 6 [], (is 7 [], tt)))))))) slot g at_g f at_f;
-    served = λ slot f below at_f. at_each (λ k y. is_served k all_gives y ≡ true) (feeds put lane) (refl, (refl, (refl, (refl, (refl, (refl, (refl, (refl, tt)))))))) slot f at_f;
-  };
+  gives = gives_up_to put [] (draws ∷ sends ∷ []) all_gives lane (refl, (refl, (refl, (refl, (refl, (refl, (refl, (refl, (refl, (refl, tt)))))))))) lawful (carries lane) (refl, (refl, (refl, (refl, (refl, (refl, (refl, (refl, tt))))))));
   same = refl;
 }
-  where
-    is : (slot : ℕ) (more : List PageMsg) (x : FeedView) → Some (feed slot [] lane) ≡ Some x → SameFeed x (feed slot more lane)
-    is slot more x at_x = subst (λ (y : FeedView). SameFeed y (feed slot more lane)) (same_Some (feed slot [] lane) x at_x) refl
 
 pub whole : (lane : LaneId) (well : WellView) → Turned false false (before lane well) (after lane well)
 whole lane well = record {
@@ -297,7 +255,7 @@ whole lane well = record {
     heard = heard lane well;
     drawn = drawn lane well;
     left = drawn lane well;
-    hears = hears lane well;
+    hears = hears_nothing None lane well;
     draws = draws_it lane well;
     leaves = stays lane well;
     ticks = ticks_once lane well;
@@ -344,7 +302,7 @@ draws_none lane well = record {
 }
 
 cut_drawing : (lane : LaneId) (well : WellView) → IsCut (before lane well) (cut lane well)
-cut_drawing lane well = inr (inl (record { now = 1; unheard = false; heard = heard lane well; hears = hears lane well; draws = draws_none lane well }))
+cut_drawing lane well = inr (inl (record { now = 1; unheard = false; heard = heard lane well; hears = hears_nothing None lane well; draws = draws_none lane well }))
 
 -- where the stroke isn't in hand the turn isn't cut so
 not_lost : (lane : LaneId) (well : WellView) → DrawsCut 1 (heard lane well) (record (cut lane well) { hand = None }) → ⊥

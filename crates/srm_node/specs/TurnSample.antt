@@ -1,0 +1,79 @@
+-- What the examples of whole turns have in common: eight feeds, a turn in which nothing came, and gives by which each slot is served.
+use Rattle.std.specs.Prelude.{◌≡◌, ℕ, zero, suc, true, false, List, [], ◌∷◌, ◌++◌, Option, Some, None, slice_get, refl}
+use Rattle.std.specs.List.{AllByRecursion}
+use Rattle.std.proofs.Common.{arith, inr, subst}
+use Rattle.std.proofs.lemmas.Option.{same_Some}
+use Rattle.srm_names.specs.declared.page_msg.PageMsg.{PageMsg}
+use Rattle.srm_pages.specs.Ends.{FeedView, WellView, LaneId}
+use Rattle.srm_entries.specs.declared.entry.Entry.{Entry}
+use Rattle.srm_entries.proofs.Plain.{config}
+use Rattle.srm_world.specs.Traces.{Journal}
+use Rattle.srm_world.specs.Claims.{IsLawfulJournal}
+use Rattle.srm_node.specs.Carrying.{CarriesEach}
+use Rattle.srm_node.specs.Parts.{GivesUpTo, SameFeed, is_give, is_served}
+use Rattle.srm_node.specs.Nodes.{NodeView}
+use Rattle.srm_node.specs.Turns.{HearsNow}
+
+-- WHAT HOLDS OF EACH FEED
+
+abbrev pub AllAt : (ℕ → FeedView → Type 0) → List FeedView → Type 0
+AllAt P [] = Unit {0}
+AllAt P (f ∷ fs) = P zero f × AllAt (λ k g. P (suc k) g) fs
+
+pub at_each : (P : ℕ → FeedView → Type 0) (fs : List FeedView) → AllAt P fs → (slot : ℕ) (f : FeedView) → slice_get fs slot ≡ Some f → P slot f
+at_each P [] h slot f at_f = cc
+at_each P (x ∷ xs) h zero f at_f = subst (P zero) (same_Some x f at_f) h.0
+at_each P (x ∷ xs) h (suc k) f at_f = at_each (λ i g. P (suc i) g) xs h.1 k f at_f
+
+-- A NODE THAT HEARS NOTHING
+
+abbrev pub feed : ℕ → List PageMsg → LaneId → FeedView
+feed slot put lane = record { put = put; seen = 0; disconnected = false; slot = slot; lane = lane; board = lane.stamps }
+
+-- eight feeds, of which the first one put these, and each other one those
+abbrev pub eight : List PageMsg → List PageMsg → LaneId → List FeedView
+eight put rest lane = feed 0 put lane ∷ feed 1 rest lane ∷ feed 2 rest lane ∷ feed 3 rest lane ∷ feed 4 rest lane ∷ feed 5 rest lane ∷ feed 6 rest lane ∷ feed 7 rest lane ∷ []
+
+abbrev pub journal : List Entry → Journal
+journal es = record { start = record { config = config 0; made = 0 }; entries = es }
+
+-- member 0 of two over a wire that tells, which did no turn yet, and is to leave at this moment, if at any
+abbrev pub unturned : Option ℕ → LaneId → WellView → NodeView
+unturned asked lane well = record { journal = journal []; feeds = eight [] [] lane; well = well; hand = None; asked = asked; failures = 0; told = Some (record { came = []; went = [] }) }
+
+-- nothing came
+abbrev pub heard_nothing : Option ℕ → LaneId → WellView → NodeView
+heard_nothing asked lane well = record (unturned asked lane well) { told = Some (record { came = None ∷ []; went = [] }) }
+
+pub hears_nothing : (asked : Option ℕ) (lane : LaneId) (well : WellView) → HearsNow 1 false (unturned asked lane well) (heard_nothing asked lane well)
+hears_nothing asked lane well = record {
+  listened = record {
+    count = 0;
+    ended = None ∷ [];
+    listens = record { came = []; entries = []; counted = refl; grown = refl; each = tt; told = record { told = refl } };
+    ends = inr (omega arith, refl);
+  };
+  failures = (omega arith, tt);
+  same = refl;
+}
+
+-- GIVES
+
+-- the first feed puts these by the gives, and each other one those
+pub gives_up_to : (put rest : List PageMsg) (past gives : List Entry) (lane : LaneId) → AllByRecursion (λ (e : Entry). is_give e.input ≡ true) gives → IsLawfulJournal (journal (past ++ gives))
+    → CarriesEach (journal (past ++ gives)) (eight put rest lane) → AllAt (λ k y. is_served k gives y ≡ true) (eight put rest lane)
+    → GivesUpTo 8 (journal past) (journal (past ++ gives)) (eight [] [] lane) (eight put rest lane)
+gives_up_to put rest past gives lane inputs lawful carries served = record {
+  entries = gives;
+  grown = refl;
+  inputs = inputs;
+  lawful = lawful;
+  carries = carries;
+  slots = refl;
+  same = λ slot f g at_f at_g. at_each (λ k y. (x : FeedView) → slice_get (eight [] [] lane) k ≡ Some x → SameFeed x y) (eight put rest lane)
+      (is 0 put, (is 1 rest, (is 2 rest, (is 3 rest, (is 4 rest, (is 5 rest, (is 6 rest, (is 7 rest, tt)))))))) slot g at_g f at_f;
+  served = λ slot f below at_f. at_each (λ k y. is_served k gives y ≡ true) (eight put rest lane) served slot f at_f;
+}
+  where
+    is : (slot : ℕ) (more : List PageMsg) (x : FeedView) → Some (feed slot [] lane) ≡ Some x → SameFeed x (feed slot more lane)
+    is slot more x at_x = subst (λ (y : FeedView). SameFeed y (feed slot more lane)) (same_Some (feed slot [] lane) x at_x) refl
