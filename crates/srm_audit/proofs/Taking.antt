@@ -21,7 +21,7 @@ use Rattle.srm_entries.specs.Runs.{EntryRight, IsMemberRun}
 use Rattle.srm_entries.specs.declared.state.AgentState.TheVariants.{Active}
 use Rattle.srm_entries.proofs.Adding.{flat_map-snoc}
 use Rattle.srm_entries.proofs.Cutting.{bucket_calls-append}
-use Rattle.srm_entries.proofs.Feeding.{given-snoc}
+use Rattle.srm_entries.proofs.Feeding.{given-snoc, taken-snoc}
 use Rattle.srm_entries.proofs.Showing.{state-snoc}
 use Rattle.srm_entries.proofs.Running.{steps_more, last_moment-snoc}
 use Rattle.srm_agent.proofs.Still.{still_right}
@@ -29,7 +29,6 @@ use Rattle.srm_world.specs.declared.start.Start.{Start}
 use Rattle.srm_world.specs.Traces.{Trace, Journal, of_member, IsHonest, IsUntaken, is_take, IsRoster, IsRunOf, IsRunOfMember}
 use Rattle.srm_world.specs.Claims.{IsLawfulJournal}
 use Rattle.srm_world.proofs.Lawful.{lawful}
-use Rattle.srm_world.proofs.Going.{taken-snoc}
 use Rattle.srm_world.proofs.Members.{of_member-own}
 use Rattle.srm_world.proofs.Stepping.{of_member-other}
 use Rattle.srm_audit.specs.declared.got.Got.{Got}

@@ -3,7 +3,6 @@ use Rattle.std.proofs.Common.{◌≡◌, ℕ, ◌^◌, ◌≤◌, ◌<◌, max, 
 use Rattle.std.specs.Prelude.{Option, Some, None, Result, Ok, Err, IfOk, OnErr, MatchBool, ◌==◌, cond, slice_get, option_to_list}
 use Rattle.std.specs.List.{cons_option, AllByRecursion}
 use Rattle.std.proofs.lemmas.List.{append-nil}
-use Rattle.std.proofs.lemmas.List.Elements.{filter_map-append}
 use Rattle.srm_names.specs.declared.page_msg.PageMsg.{PageMsg}
 use Rattle.srm_names.specs.Histories.{steps, greatest}
 use Rattle.srm_names.proofs.Lists.{at_parts, rest_first}
@@ -38,7 +37,7 @@ use Rattle.srm_agent.specs.Noting.{Enters, ReadsAs, AnswersAs, IsTicked, moment_
 use Rattle.srm_entries.proofs.Running.{last_moment-snoc, slots-same}
 use Rattle.srm_agent.proofs.Still.{still_fits, same_progress}
 use Rattle.srm_entries.proofs.Showing.{state-snoc}
-use Rattle.srm_entries.proofs.Feeding.{given-snoc}
+use Rattle.srm_entries.proofs.Feeding.{given-snoc, taken-snoc}
 use Rattle.srm_world.specs.Events.{input_heard}
 use Rattle.srm_world.specs.Lane.{LaneContent}
 use Rattle.srm_world.specs.Lanes.{AreEmpty, Gains, Loses, in_lane}
@@ -47,9 +46,6 @@ use Rattle.srm_world.specs.Participants.{Content, Fits, LanesFit, Adds, GoesOn, 
 -- the newest entry of a run is right
 pub newest_right : (c : Config) (made : ℕ) (past : List Entry) (e : Entry) → AllByRecursion (EntryRight c made) (steps (past ++ e ∷ [])) → EntryRight c made (record { before = past; this = e })
 newest_right c made past e all = (at_parts (EntryRight c made) past (e ∷ []) all).1.0
-
-pub taken-snoc : (es : List Entry) (e : Entry) (j : ℕ) → taken (es ++ e ∷ []) j ≡ taken es j ++ cons_option (taken_in j e.input e.effects.message) []
-taken-snoc es e j = filter_map-append (λ (x : Entry). taken_in j x.input x.effects.message) es (e ∷ [])
 
 -- the last moment after an entry that was at the moment that counts
 last_after : (made : ℕ) (past : List Entry) (e : Entry) → MatchBool (takes_moment e.input) (last_moment made past ≤ e.moment) (e.moment ≡ last_moment made past)
