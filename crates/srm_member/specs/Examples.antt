@@ -1,5 +1,5 @@
 -- Texts and their lines, how a member ends, and the words of a number.
-use Rattle.std.specs.Prelude.{◌≡◌, true, false, [], ◌∷◌, map, codes, refl, Some, None, Ok, Err}
+use Rattle.std.specs.Prelude.{◌≡◌, true, false, [], ◌∷◌, map, refl, Some, None, Ok, Err}
 use Rattle.std.specs.declared.io.ErrorKind.TheVariants as kind
 use Rattle.rand_core.specs.Pcg32Seed.{pcg32_seed}
 use Rattle.rand_core.specs.Steps.{u32_at, word_bytes}

@@ -1,5 +1,4 @@
-use Rattle.std.proofs.Common.{◌≡◌, ◌++◌, ◌≤◌, length}
-use Rattle.srm_names.specs.declared.limits.TheConstants.{PENS}
+use Rattle.std.proofs.Common.{◌≡◌, ◌++◌, length}
 use Rattle.srm_member.specs.Lines.{lines_of, each_fourth}
 use Rattle.srm_member.proofs.dealing.bodies_of.Given as goal
 
