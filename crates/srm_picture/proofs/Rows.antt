@@ -1,5 +1,5 @@
 -- What is made of a list element by element, each with its place.
-use Rattle.std.proofs.Common.{◌≡◌, ℕ, suc, zero, ◌+◌, ◌<◌, get_or, List, [], ◌∷◌, ◌++◌, length, take, drop, refl, ap, sym, ◌∙◌, arith}
+use Rattle.std.proofs.Common.{◌≡◌, ℕ, ◌+◌, ◌<◌, get_or, List, [], ◌∷◌, ◌++◌, length, take, drop, ap, sym, ◌∙◌, arith}
 use Rattle.std.specs.Prelude.{Option, Some, None, map}
 use Rattle.std.specs.List.{flat_map, enumerate_from}
 use Rattle.std.proofs.lemmas.List.{take_more, length-take-le, map-append, take-append-drop}

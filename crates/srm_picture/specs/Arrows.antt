@@ -1,6 +1,6 @@
 -- What was sent and what came, and the arrows of both.
 use Rattle.std.specs.Prelude.{◌≡◌, ℕ, ◌==◌, Bool, true, false, List, [], ◌∷◌, map, filter, Some, slice_get, if◌then◌else◌}
-use Rattle.std.specs.List.{flat_map, enumerate_from, AllByRecursion}
+use Rattle.std.specs.List.{enumerate_from, AllByRecursion}
 use Rattle.srm_names.specs.Histories.{Step, steps}
 use Rattle.srm_codec.specs.declared.datagram.Datagram.{Datagram}
 use Rattle.srm_entries.specs.declared.entry.Entry.{Entry}

@@ -1,5 +1,5 @@
 -- Timers, from the entry that sets them to the one that ends them.
-use Rattle.std.specs.Prelude.{ℕ, ◌==◌, nat_lt, Bool, not, ◌||◌, ◌&&◌, List, map, Option, Some, None, option_map, is_some, if◌then◌else◌}
+use Rattle.std.specs.Prelude.{ℕ, ◌==◌, nat_lt, Bool, not, ◌||◌, ◌&&◌, List, map, Option, Some, None, option_map, if◌then◌else◌}
 use Rattle.std.specs.List.{enumerate_from, list_any}
 use Rattle.srm_names.specs.FullName.{FullName}
 use Rattle.srm_codec.specs.declared.datagram.Datagram.{Datagram}
