@@ -1,19 +1,17 @@
 -- What was put is a page feed of what is released.
-use Rattle.std.proofs.Common.{◌≡◌, ℕ, Bool, true, false, List, [], ◌∷◌, ◌++◌, refl, ap, sym, ◌∙◌, subst}
-use Rattle.std.specs.Prelude.{MatchBool, Some, slice_get}
+use Rattle.std.proofs.Common.{◌≡◌, Bool, true, false, List, [], ◌∷◌, ◌++◌, sym, ◌∙◌}
+use Rattle.std.specs.Prelude.{MatchBool}
 use Rattle.std.proofs.lemmas.List.{append-nil}
-use Rattle.srm_names.specs.declared.page.Page.{Page}
-use Rattle.srm_names.specs.declared.drawop.Drawop.{Drawop}
 use Rattle.srm_names.specs.declared.page_msg.PageMsg.{PageMsg}
 use Rattle.srm_names.specs.PageFeeds.{drawops_of, drawop_from}
 use Rattle.srm_names.specs.Histories.{IsPrefix}
-use Rattle.srm_names.proofs.Lists.{front_itself, front_of_front, filter_map-front}
+use Rattle.srm_names.proofs.Lists.{front_of_front, filter_map-front}
 use Rattle.srm_names.proofs.Feeds.{is_page_feed-front}
 use Rattle.srm_pages.specs.Ends.{FeedView}
 use Rattle.srm_entries.specs.Giving.{given}
 use Rattle.srm_world.specs.Traces.{Journal}
 use Rattle.srm_world.specs.Claims.{IsLawfulJournal}
-use Rattle.srm_node.specs.Carrying.{Carries, CarriesEach, PutsReleased, PutsReleasedEach}
+use Rattle.srm_node.specs.Carrying.{CarriesEach, PutsReleasedEach}
 
 -- what was put is what was given, or all of it but a last message that came back
 put_is_front : (lost : Bool) (gave put : List PageMsg) → MatchBool lost ((back : PageMsg) × (gave ≡ put ++ back ∷ [])) (gave ≡ put) → IsPrefix put gave

@@ -1,5 +1,5 @@
 -- The moments of a turn's entries, part by part.
-use Rattle.std.proofs.Common.{◌≡◌, ℕ, true, false, List, [], ◌∷◌, ◌++◌, refl, ap, sym, ◌∙◌, subst, inl, inr, append_assoc}
+use Rattle.std.proofs.Common.{◌≡◌, ℕ, true, false, List, [], ◌∷◌, ◌++◌, ap, sym, ◌∙◌, subst, inl, inr, append_assoc}
 use Rattle.std.specs.Prelude.{Bool, map, min, if◌then◌else◌, Result, Ok, Err, IfOk}
 use Rattle.std.specs.List.{AllByRecursion}
 use Rattle.std.proofs.lemmas.List.{append-nil}
@@ -14,7 +14,7 @@ use Rattle.srm_world.specs.Recording.{with_entry, with_entries, IsAt, HearsEach}
 use Rattle.srm_node.specs.Parts.{DrawsEach, is_give}
 use Rattle.srm_node.specs.Nodes.{NodeView, NodeState}
 use Rattle.srm_node.specs.Turns.{HearsNow, DrawsNow, LeavesNow, TicksNow, GivesNow, HearsCut, DrawsCut, GivesCut, Paused}
-use Rattle.srm_node.specs.Moments.{IsTold, IsMadeAt, AreMadeAt, GrowsAt, GrowsAtTold}
+use Rattle.srm_node.specs.Moments.{IsTold, AreMadeAt, GrowsAt, GrowsAtTold}
 
 abbrev at : Journal → List Entry → Journal
 at j es = record { start = j.start; entries = es }

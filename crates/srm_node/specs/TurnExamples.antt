@@ -9,7 +9,6 @@ use Rattle.srm_pages.specs.declared.stroke.Stroke.{Stroke}
 use Rattle.srm_pages.specs.Ends.{WellView}
 use Rattle.srm_entries.specs.declared.entry.Entry.{Entry}
 use Rattle.srm_entries.specs.declared.entry.Input.TheVariants.{AskedLeave}
-use Rattle.srm_entries.specs.declared.state.AgentState.TheVariants.{Active}
 use Rattle.srm_entries.specs.declared.state.AgentState.TheVariants as states
 use Rattle.srm_entries.specs.Sample.{in_roster, drawop_of, draws, hears, ask_arm, entry, quiet}
 use Rattle.srm_agent.specs.Noting.{moment_that_counts}
