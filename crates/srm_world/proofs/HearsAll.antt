@@ -1,6 +1,6 @@
 -- Hearing one datagram after another.
-use Rattle.std.proofs.Common.{◌≡◌, ℕ, ◌+◌, ◌<◌, List, [], ◌∷◌, ◌++◌, length, take, get_or, refl, ap, sym, ◌∙◌, subst, inl, inr, arith, append_assoc}
-use Rattle.std.specs.Prelude.{Result, Ok, Err, map}
+use Rattle.std.proofs.Common.{◌≡◌, ℕ, ◌+◌, ◌<◌, List, [], ◌∷◌, ◌++◌, length, take, get_or, ap, sym, ◌∙◌, subst, inl, inr, arith, append_assoc}
+use Rattle.std.specs.Prelude.{Ok, Err, map}
 use Rattle.std.proofs.lemmas.List.{append-nil, length-map, take_more, get_or-map}
 use Rattle.srm_entries.specs.declared.entry.Entry.{Entry}
 use Rattle.srm_agent.specs.declared.heard.Heard.{Heard}

@@ -2,8 +2,8 @@
 use Rattle.srm_entries.proofs.Given.{gives_law}
 use Rattle.srm_entries.proofs.Rating.{rate_law}
 use Rattle.srm_entries.proofs.Responding.{response_law}
-use Rattle.srm_world.specs.Traces.{Trace, Journal, IsRun, IsHonest, IsJournal}
-use Rattle.srm_world.specs.Claims.{IsLawful, IsLawfulJournal, LawfulLaw}
+use Rattle.srm_world.specs.Traces.{Journal, IsJournal}
+use Rattle.srm_world.specs.Claims.{IsLawfulJournal, LawfulLaw}
 use Rattle.srm_world.proofs.Members.{responds_each, gives_each, keeps_rate_each}
 use Rattle.srm_world.proofs.Taking.{takes_law}
 use Rattle.srm_world.proofs.Resting.{rest_law}

@@ -1,5 +1,5 @@
 -- By which words the waits of a run were chosen.
-use Rattle.std.specs.Prelude.{◌≡◌, ℕ, List, ◌++◌, length, map, flat_map, Some, slice_get}
+use Rattle.std.specs.Prelude.{◌≡◌, ℕ, List, ◌++◌, length, flat_map, Some, slice_get}
 use Rattle.srm_timers.specs.declared.arm.Arm.{Arm}
 use Rattle.srm_timers.specs.Arms.{AreChosen}
 use Rattle.srm_entries.specs.declared.entry.Entry.{Entry}

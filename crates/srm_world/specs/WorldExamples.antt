@@ -1,5 +1,5 @@
 -- What a world and a recorder keep, at small values.
-use Rattle.std.specs.Prelude.{◌≡◌, ℕ, List, [], ◌∷◌, map, replicate, Some, None, Ok, Err, refl}
+use Rattle.std.specs.Prelude.{◌≡◌, List, [], ◌∷◌, map, replicate, Some, None, Ok, Err, refl}
 use Rattle.std.proofs.Common.{inl, inr, lit<}
 use Rattle.srm_names.specs.declared.page_msg.PageMsg.TheVariants.{Close, Left}
 use Rattle.srm_names.specs.Names.{first_page}
