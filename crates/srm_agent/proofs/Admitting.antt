@@ -1,6 +1,6 @@
 -- What an agent admits is what its bucket does, over the run that it fits.
 use Rattle.std.proofs.Common.{◌≡◌, ℕ, ◌≤◌, max, Bool, true, false, List, refl, ap, sym, ◌∙◌, subst, arith}
-use Rattle.std.specs.Prelude.{Option, Some, None, IfSome, nat_le}
+use Rattle.std.specs.Prelude.{Some, None, nat_le}
 use Rattle.std.proofs.lemmas.Bool.Decides.{nat_tests}
 use Rattle.srm_bucket.specs.declared.class.Class.TheVariants.{New}
 use Rattle.srm_bucket.specs.Ticks.{last_moment as last_of_calls}
@@ -12,7 +12,7 @@ use Rattle.srm_entries.specs.declared.entry.Entry.{Entry}
 use Rattle.srm_entries.specs.Configs.{Config}
 use Rattle.srm_entries.specs.Entries.{last_moment}
 use Rattle.srm_entries.specs.Bucket.{entries_of, bucket_calls}
-use Rattle.srm_entries.specs.Admitting.{draw_length, admits_draw, AdmitsDraw, AdmitsDrawFrom}
+use Rattle.srm_entries.specs.Admitting.{draw_length, admits_draw}
 use Rattle.srm_outbox.specs.Outs.{datagram_of}
 use Rattle.srm_agent.specs.Contents.{Content}
 use Rattle.srm_agent.specs.Fits.{Fits}

@@ -1,6 +1,6 @@
 -- The entry of what was heard, by what is answered.
 use Rattle.std.proofs.Common.{◌≡◌, ℕ, max, true, false, List, [], refl, ap}
-use Rattle.std.specs.Prelude.{Some, None, Result, Ok, Err, IfOk}
+use Rattle.std.specs.Prelude.{Some, Ok, Err}
 use Rattle.srm_codec.specs.declared.datagram.Datagram.{Datagram}
 use Rattle.srm_codec.specs.declared.fault.DecodeFault.{DecodeFault}
 use Rattle.srm_codec.specs.Judging.{judge}

@@ -13,7 +13,7 @@ use Rattle.srm_entries.specs.declared.state.AgentState.{AgentState}
 use Rattle.srm_entries.specs.declared.entry.Entry.{Entry}
 use Rattle.srm_entries.specs.declared.entry.Input.{Input}
 use Rattle.srm_entries.specs.declared.entry.Input.TheVariants.{Heard, Noise}
-use Rattle.srm_entries.specs.declared.entry.Verdict.TheVariants.{Done, Ignored}
+use Rattle.srm_entries.specs.declared.entry.Verdict.TheVariants.{Ignored}
 use Rattle.srm_entries.specs.Configs.{Config}
 use Rattle.srm_entries.specs.Causes.{ignored_for}
 use Rattle.srm_entries.specs.Entries.{is_tick, takes_moment, is_gone}

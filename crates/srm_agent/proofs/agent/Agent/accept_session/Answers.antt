@@ -1,5 +1,5 @@
 use Rattle.std.proofs.Common.{refl}
-use Rattle.srm_agent_state.proofs.Midway.{keep_on, waits_before}
+use Rattle.srm_agent_state.proofs.Midway.{waits_before}
 use Rattle.srm_agent.proofs.Informed.{hears_roomy, session_enters, rows_rise}
 use Rattle.srm_agent.proofs.Taken.{stays, at_err}
 use Rattle.srm_store.proofs.Fitting.{still_fits}
