@@ -1,5 +1,5 @@
 -- The names that a request asks for rise, and are of one stream.
-use Rattle.std.proofs.Common.{◌≡◌, ℕ, zero, suc, ◌+◌, ◌/◌, ◌%◌, ◌<◌, ◌==◌, Bool, true, false, List, [], ◌∷◌, ◌++◌, map, refl, ap, ◌∙◌, arith}
+use Rattle.std.proofs.Common.{◌≡◌, ℕ, zero, suc, ◌+◌, ◌/◌, ◌%◌, ◌<◌, ◌==◌, Bool, true, false, List, [], ◌∷◌, ◌++◌, map, refl, sym, ap, ◌∙◌, arith}
 use Rattle.std.specs.Prelude.{if◌then◌else◌}
 use Rattle.std.specs.List.{AllByRecursion}
 use Rattle.std.proofs.lemmas.Bool.{and_from, or_right}
@@ -9,45 +9,38 @@ use Rattle.srm_names.specs.FullName.{FullName}
 use Rattle.srm_names.specs.Names.{stream_below, name_below, ascending, named}
 use Rattle.srm_names.proofs.Same.{same_stream-itself}
 use Rattle.srm_codec.specs.Spelling.{bits_set, asked_by}
+use Rattle.srm_codec.proofs.Asked.{at_bit, bits_more, no_bits, shifted}
 
 -- the names that a request asks for rise, and are of one stream
 
 pub below_in_stream : (s : Stream) (a b : ℕ) → a < b → name_below (named s a) (named s b) ≡ true
 below_in_stream s a b lt = or_right (stream_below s s) _ (and_from _ _ (same_stream-itself s) (grind (arith, nat_tests)))
 
-more_bits : (k mask : ℕ) → bits_set (suc k) mask ≡ (if mask % 2 == 1 then 0 ∷ [] else []) ++ map (λ b. b + 1) (bits_set k (mask / 2))
-unfolding bits_set
-more_bits k mask = refl
+abbrev bit_names : FullName → ℕ → List ℕ → List FullName
+bit_names name bit bits = map (λ b. at_bit name (bit + b)) bits
 
-no_bits : (mask : ℕ) → bits_set 0 mask ≡ []
-unfolding bits_set
-no_bits mask = refl
-
-abbrev bit_names : Stream → ℕ → List ℕ → List FullName
-bit_names s from bits = map (λ b. named s (from + b)) bits
-
-shifted : (s : Stream) (from : ℕ) (bits : List ℕ) → bit_names s from (map (λ b. b + 1) bits) ≡ bit_names s (from + 1) bits
-shifted s from [] = refl
-shifted s from (b ∷ bits) = ap (λ k. named s k ∷ bit_names s from (map (λ x. x + 1) bits)) (omega arith) ∙ ap (λ ns. named s (from + 1 + b) ∷ ns) (shifted s from bits)
-
-bits_rise : (s : Stream) (k low from mask : ℕ) → low < from → ascending name_below (named s low ∷ bit_names s from (bits_set k mask)) ≡ true
-bits_rise s zero low from mask lt = ap (λ bits. ascending name_below (named s low ∷ bit_names s from bits)) (no_bits mask)
-bits_rise s (suc k) low from mask lt =
-    ap (λ bits. ascending name_below (named s low ∷ bit_names s from bits)) (more_bits k mask)
-    ∙ go (mask % 2 == 1) (bits_rise s k from (from + 1) (mask / 2) (omega arith)) (bits_rise s k low (from + 1) (mask / 2) (omega (arith, lt)))
+bits_rise : (name : FullName) (k low bit mask : ℕ) → low < name.number + 1 + bit → ascending name_below (named name.stream low ∷ bit_names name bit (bits_set k mask)) ≡ true
+bits_rise name zero low bit mask lt = ap (λ bits. ascending name_below (named name.stream low ∷ bit_names name bit bits)) (no_bits mask)
+bits_rise name (suc k) low bit mask lt =
+    ap (λ bits. ascending name_below (named name.stream low ∷ bit_names name bit bits)) (bits_more k mask)
+    ∙ go (mask % 2 == 1) (bits_rise name k (name.number + 1 + bit) (bit + 1) (mask / 2) (omega arith)) (bits_rise name k low (bit + 1) (mask / 2) (omega (arith, lt)))
   where
-    go : (b : Bool) → ascending name_below (named s from ∷ bit_names s (from + 1) (bits_set k (mask / 2))) ≡ true → ascending name_below (named s low ∷ bit_names s (from + 1) (bits_set k (mask / 2))) ≡ true
-        → ascending name_below (named s low ∷ bit_names s from ((if b then 0 ∷ [] else []) ++ map (λ x. x + 1) (bits_set k (mask / 2)))) ≡ true
+    go : (b : Bool) → ascending name_below (at_bit name bit ∷ bit_names name (bit + 1) (bits_set k (mask / 2))) ≡ true → ascending name_below (named name.stream low ∷ bit_names name (bit + 1) (bits_set k (mask / 2))) ≡ true
+        → ascending name_below (named name.stream low ∷ bit_names name bit ((if b then 0 ∷ [] else []) ++ map (λ x. x + 1) (bits_set k (mask / 2)))) ≡ true
     go true with_ without =
-        ap (λ ns. ascending name_below (named s low ∷ named s (from + 0) ∷ ns)) (shifted s from (bits_set k (mask / 2)))
-        ∙ and_from _ _ (below_in_stream s low (from + 0) (omega (arith, lt))) (ap (λ f. ascending name_below (named s f ∷ bit_names s (from + 1) (bits_set k (mask / 2)))) (zero_more from) ∙ with_)
+        ap (λ ns. ascending name_below (named name.stream low ∷ at_bit name (bit + 0) ∷ ns)) (shifted name bit (bits_set k (mask / 2)))
+        ∙ and_from _ _ (below_in_stream name.stream low (name.number + 1 + (bit + 0)) (omega (arith, lt))) (ap (λ b. ascending name_below (at_bit name b ∷ bit_names name (bit + 1) (bits_set k (mask / 2)))) (zero_more bit) ∙ with_)
       where
         zero_more : (n : ℕ) → n + 0 ≡ n
         zero_more n = omega arith
-    go false with_ without = ap (λ ns. ascending name_below (named s low ∷ ns)) (shifted s from (bits_set k (mask / 2))) ∙ without
+    go false with_ without = ap (λ ns. ascending name_below (named name.stream low ∷ ns)) (shifted name bit (bits_set k (mask / 2))) ∙ without
+
+from_0 : (name : FullName) (bits : List ℕ) → bit_names name 0 bits ≡ map (at_bit name) bits
+from_0 name [] = refl
+from_0 name (b ∷ bits) = ap (λ k. at_bit name k ∷ bit_names name 0 bits) (omega arith) ∙ ap (λ ns. at_bit name b ∷ ns) (from_0 name bits)
 
 pub asked_rise : (name : FullName) (mask : ℕ) → ascending name_below (asked_by name mask) ≡ true
-asked_rise name mask = bits_rise name.stream 32 name.number (name.number + 1) mask (omega arith)
+asked_rise name mask = ap (λ ns. ascending name_below (name ∷ ns)) (sym (from_0 name (bits_set 32 mask))) ∙ bits_rise name 32 name.number 0 mask (omega arith)
 
 one_stream : (s : Stream) (f : ℕ → ℕ) (bits : List ℕ) → AllByRecursion (λ (n : FullName). n.stream ≡ s) (map (λ b. named s (f b)) bits)
 one_stream s f [] = tt
