@@ -16,8 +16,8 @@ use Rattle.srm_timers.specs.declared.arm.Arm.{Arm}
 use Rattle.srm_timers.specs.declared.arm.Armed.{Armed}
 use Rattle.srm_timers.specs.declared.arm.ArmKind.TheVariants.{Ask}
 use Rattle.srm_timers.specs.Arms as timers
-use Rattle.srm_timers.specs.Arms.{WaitBasis, wait_basis, arm_names, ran_out, next_exponent, ArmsAre, IsAsk, AreAsks, AreOfMembers, AreChosen, arm_of}
-use Rattle.srm_timers.specs.AskCalls.{AskContent, AskStays, AskAdds, ArmsSetAgain, ask_timer, sets, due_basis, again_basis, again_exponent}
+use Rattle.srm_timers.specs.Arms.{WaitBasis, wait_basis, arm_names, ran_out, next_exponent, IsAsk, AreAsks, AreOfMembers, AreChosen, arm_of}
+use Rattle.srm_timers.specs.AskCalls.{AskStays, AskAdds, ArmsSetAgain, sets, again_basis, again_exponent}
 use Rattle.srm_timers.specs.AskCalls as asks
 use Rattle.srm_timers.specs.FixCalls.{FixStays, FixDue, FixRepairs, repair_calls, repair_holds_until}
 use Rattle.srm_timers.specs.Timers.{armed_at}

@@ -11,7 +11,7 @@ use Rattle.srm_timers.specs.declared.arm.ArmKind.{ArmKind}
 use Rattle.srm_timers.specs.declared.arm.ArmKind.TheVariants.{Ask, Fix}
 use Rattle.srm_timers.specs.declared.arm.Armed.{Armed}
 use Rattle.srm_timers.specs.Arms as timers
-use Rattle.srm_timers.specs.Arms.{wait_basis, arm_names, AreChosen, runs_out_at, ran_out, RunsOutFirst, ArmsAre, arm_of}
+use Rattle.srm_timers.specs.Arms.{arm_names, AreChosen, runs_out_at, ran_out, RunsOutFirst, arm_of}
 use Rattle.srm_timers.specs.Timers.{armed_at}
 use Rattle.srm_deadlines.specs.Least.{lesser}
 use Rattle.srm_timers.specs.AskCalls.{AskCall, AskContent, AskFits, AskStays, AskDue, AskTimersRun, AskNext, ArmsOfFound, AskKeepsRoom, ask_timer, first_exponent, AskReady, DetectAndDueReady}

@@ -21,9 +21,9 @@ use Rattle.srm_timers.specs.declared.arm.Arm.{Arm}
 use Rattle.srm_timers.specs.declared.arm.Armed.{Armed}
 use Rattle.srm_timers.specs.declared.arm.ArmKind.TheVariants.{Ask, Fix}
 use Rattle.srm_timers.specs.Arms.{WaitBasis, wait_basis, arm_names, arm_of}
-use Rattle.srm_timers.specs.AskCalls.{AskCall, Gained, AskContent, AskFits, AskAdds, ArmsOfFound, sets, ask_timer, found_basis, first_exponent}
+use Rattle.srm_timers.specs.AskCalls.{AskCall, Gained, AskFits, AskAdds, ArmsOfFound, sets, ask_timer, found_basis, first_exponent}
 use Rattle.srm_timers.specs.AskCalls as asks
-use Rattle.srm_timers.specs.FixCalls.{FixCall, FixContent, FixFits, FixStays, FixRepairs, repair_calls, repair_holds_until}
+use Rattle.srm_timers.specs.FixCalls.{FixCall, FixFits, FixStays, FixRepairs, repair_calls, repair_holds_until}
 use Rattle.srm_timers.specs.FixCalls as fixes
 use Rattle.srm_timers.specs.Timers.{armed_at}
 use Rattle.srm_deadlines.proofs.Same.{same_flip}

@@ -1,10 +1,8 @@
-use Rattle.std.proofs.Common.{◌≡◌, ap, refl, subst, sym, map}
-use Rattle.srm_names.specs.FullName.{FullName}
+use Rattle.std.proofs.Common.{◌≡◌, refl, subst, sym, map}
 use Rattle.srm_timers.specs.Arms.{plan_of}
 use Rattle.srm_timers.specs.AskCalls.{AskContent, AskStays, AskTimersRun, again_plan}
-use Rattle.srm_deadlines.specs.Places.{value_at, HasPlaces}
+use Rattle.srm_deadlines.specs.Places.{value_at}
 use Rattle.srm_timers.proofs.AskSteps.{asked_again, stays_kept, keeps_self}
-use Rattle.srm_agent_state.specs.TimersKept.{TimersContent}
 use Rattle.srm_agent_state.proofs.Midway.{keep_on, asks_keep_with, fixes_keep_with, waits_before}
 use Rattle.srm_agent_state.proofs.Dueness.{tick_ticks, due_drawn}
 use Rattle.srm_agent_state.proofs.timers.Timers.tick.Goals as goal
