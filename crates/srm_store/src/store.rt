@@ -73,9 +73,7 @@ impl Store {
         ensures same { result ≡ Err PageLimit → self.new ≡ self.old }
         ensures earlier { OnErr result (KeepsRoom self.old self.new) }
     {
-        if self.table.lacks_room_for(names) {
-            return Err(StoreFault::PageLimit);
-        }
+        self.find_slots(names)?;
         self.make_room(names)?;
         Ok(())
     }
@@ -95,10 +93,20 @@ impl Store {
         ensures same { result ≡ Err PageLimit → self.new ≡ self.old }
         ensures earlier { KeepsRoom self.old self.new }
     {
+        self.find_slots(names)?;
+        self.make_places(names)?;
+        Ok(())
+    }
+
+    /// Whether the pages of the names all find slots: [`StoreFault::PageLimit`] where they don't. It takes no memory.
+    fn find_slots(&self, names: &[Name]) -> Result<(), StoreFault>
+        ensures slots { OnOk result (HasSlots (map page_of_name names.now) self.now) }
+        ensures limit { (inserted : List ADrawop) (evidence : List FullName) (settled : List Settling) → Fits inserted evidence settled self.now
+            → ((result ≡ Err PageLimit) ↔ (outgrow inserted evidence (map page_of_name names.now) ≡ true)) }
+    {
         if self.table.lacks_room_for(names) {
             return Err(StoreFault::PageLimit);
         }
-        self.make_places(names)?;
         Ok(())
     }
 

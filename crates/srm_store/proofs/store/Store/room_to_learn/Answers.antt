@@ -1,25 +1,15 @@
-use Rattle.std.proofs.Common.{refl, sym, subst, map, ◌∙◌}
-use Rattle.std.proofs.lemmas.Bool.{false≢true}
 use Rattle.srm_store.specs.declared.fault.StoreFault.TheVariants.{Memory}
-use Rattle.srm_store.specs.Held.{page_of_name}
-use Rattle.srm_store.specs.Fits.{Fits}
-use Rattle.srm_store.proofs.Faults.{err_is, no_page_limit}
-use Rattle.srm_store.proofs.Seating.{outgrows}
+use Rattle.srm_store.proofs.Faults.{err_is, no_page_limit, limit_handed_on, limit_past}
 use Rattle.srm_store.proofs.store.Store.room_to_learn.Goals as goal
 
-pub returns-then-lacks_room_for-clause-limit : goal.returns-then-lacks_room_for-clause-limit
-returns-then-lacks_room_for-clause-limit c = λ inserted evidence settled h.
-    let fits = subst (Fits inserted evidence settled) (sym c.self.view_is) h in
-    (λ e. outgrows fits (map page_of_name c.args.names.now) ∙ sym c.lacks_room_for.ensures ∙ c.if-lacks_room_for.true, λ over. refl)
+pub returns-in_err-find_slots-clause-limit : goal.returns-in_err-find_slots-clause-limit
+returns-in_err-find_slots-clause-limit c = λ inserted evidence settled h.
+    limit_handed_on _ c.from_residual.result (c.in_err-find_slots.ensures.limit inserted evidence settled h) (err_is c.from_residual.result _ c.from_residual.ensures.1)
 
 pub returns-in_err-make_places-clause-limit : goal.returns-in_err-make_places-clause-limit
 returns-in_err-make_places-clause-limit c = λ inserted evidence settled h.
-    let fits = subst (Fits inserted evidence settled) (sym c.self.view_is) h in (
-      λ e. absurd (no_page_limit c.from_residual.result (err_is c.from_residual.result Memory c.from_residual.ensures.1) e),
-      λ over. absurd (false≢true (sym c.if-lacks_room_for.false ∙ c.lacks_room_for.ensures ∙ sym (outgrows fits (map page_of_name c.args.names.now)) ∙ over)),
-    )
+    limit_past c.from_residual-in_err-make_places.result (c.in_ok-find_slots.ensures.limit inserted evidence settled h)
+    (no_page_limit c.from_residual-in_err-make_places.result (err_is c.from_residual-in_err-make_places.result Memory c.from_residual-in_err-make_places.ensures.1))
 
 pub returns-clause-limit : goal.returns-clause-limit
-returns-clause-limit c = λ inserted evidence settled h.
-    let fits = subst (Fits inserted evidence settled) (sym c.self.view_is) h in
-    (λ e. absurd (cc), λ over. absurd (false≢true (sym c.if-lacks_room_for.false ∙ c.lacks_room_for.ensures ∙ sym (outgrows fits (map page_of_name c.args.names.now)) ∙ over)))
+returns-clause-limit c = λ inserted evidence settled h. limit_past _ (c.in_ok-find_slots.ensures.limit inserted evidence settled h) (λ e. cc)
