@@ -13,7 +13,7 @@ use Rattle.srm_names.proofs.Same.{same_page-is}
 use Rattle.srm_store.specs.Places.{has_place}
 use Rattle.srm_store.specs.StreamPlaces.{StreamContent, blank_stream, SameStreamPlaces, StreamStillHas, StreamGains}
 use Rattle.srm_store.specs.PageTables.{is_in, slot_of, with_page}
-use Rattle.srm_store.specs.Tables.{TableContent, stream_in, places_of_stream, slots_end, SameTable, TableGains, TableLearns, HasPlaceFor, StillHasPlaces}
+use Rattle.srm_store.specs.Tables.{TableContent, stream_in, places_of_stream, slots_end, TableGains, TableLearns, HasPlaceFor, StillHasPlaces}
 use Rattle.srm_store.proofs.Slots.{slot_of-absent, with_page-slot, with_page-has, with_page-longer, with_page-few, others_slot, others_apart, others_absent, slots_shrink}
 
 pub same_row : (r : StreamContent) → SameStreamPlaces r r
@@ -45,14 +45,6 @@ module _ (streams : List StreamContent) (slot source : ℕ) (r : StreamContent) 
 
   pub set_source : (b : ℕ) → b ≢ source → stream_in after slot b ≡ stream_in streams slot b
   set_source b other = get_or-set_other streams (slot * 32 + source) (slot * 32 + b) r blank_stream (λ e. other (omega arith))
-
-  -- the stream holds the same
-  pub set_same : SameStreamPlaces (stream_in streams slot source) r → (a b : ℕ) → SameStreamPlaces (stream_in streams a b) (stream_in after a b)
-  set_same h a b = go (cases_eq (a * 32 + b) (slot * 32 + source))
-    where
-      go : ((a * 32 + b ≡ slot * 32 + source) ⊎ (a * 32 + b ≢ slot * 32 + source)) → SameStreamPlaces (stream_in streams a b) (stream_in after a b)
-      go (inl e) = rw e (rw set_here h)
-      go (inr ne) = rw (get_or-set_other streams (slot * 32 + source) (a * 32 + b) r blank_stream ne) (same_row (stream_in streams a b))
 
   -- places stay
   pub set_still : StreamStillHas (stream_in streams slot source) r → (a b n : ℕ) → has_place (stream_in streams a b).places n ≡ true → has_place (stream_in after a b).places n ≡ true
@@ -145,25 +137,6 @@ module _ {t old : TableContent} {s : Stream} {slot k : ℕ} {read r : StreamCont
 
   pub in_size : length (set t.streams k r) ≡ 288
   in_size = length-set t.streams k r ∙ w.size
-
-  -- the stream holds the same, and the pages stay
-  module _ (same : SameStreamPlaces read r) where
-    kept : (a b : ℕ) → SameStreamPlaces (stream_in t.streams a b) (stream_in (set t.streams k r) a b)
-    kept a b = subst (λ streams. SameStreamPlaces (stream_in t.streams a b) (stream_in streams a b)) (sym rows_are) (set_same t.streams (slot_of t.pages s.page) s.source r there (subst (λ x. SameStreamPlaces x r) read_is same) a b)
-
-    pub in_kept_blank : AreBlank t.pages (set t.streams k r)
-    in_kept_blank a b past lt = same_row_on _ _ _ (w.blank a b past lt) (kept a b)
-
-    pub in_kept : SameTable old (record { pages = t.pages; streams = set t.streams k r })
-    in_kept = subst (λ x. SameTable x (record { pages = t.pages; streams = set t.streams k r })) w.is (record { pages = refl; streams = λ u lt. kept (slot_of t.pages u.page) u.source })
-
-  pub in_kept_still : StreamStillHas read r → StillHasPlaces old (record { pages = t.pages; streams = set t.streams k r })
-  in_kept_still h = subst (λ x. StillHasPlaces x (record { pages = t.pages; streams = set t.streams k r })) w.is (record {
-    each = λ n had. record {
-      each = λ a low high. subst (λ streams. has_place (stream_in streams a n.stream.source).places n.number ≡ true) (sym rows_are)
-          (set_still t.streams (slot_of t.pages s.page) s.source r there (subst (λ x. StreamStillHas x r) read_is h) a n.stream.source n.number (had.each a low high));
-    };
-  })
 
   module _ (pages : List Page) (seated : pages ≡ with_page t.pages s.page) where
     abbrev new : TableContent
