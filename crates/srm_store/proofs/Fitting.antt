@@ -15,6 +15,7 @@ use Rattle.srm_names.specs.declared.drawop.Drawop.{Drawop}
 use Rattle.srm_names.specs.FullName.{FullName}
 use Rattle.srm_names.specs.Histories.{or_else, greatest, firsts}
 use Rattle.srm_names.specs.Names.{first_page, same_page, same_stream, same_name}
+use Rattle.srm_names.proofs.Lists.{greatest-append}
 use Rattle.srm_names.proofs.Same.{same_stream-is, same_stream-itself, same_name-is}
 use Rattle.srm_names.proofs.Snoc.{firsts-snoc, first_of-snoc, or_else-none}
 use Rattle.srm_store.specs.Held.{has_name, held_at, number_in, known, page_of_drawop, page_of_name, pages_named, lacks_room}
@@ -92,10 +93,6 @@ learns_known a old new g s lt = go (same_stream s a.stream) refl
     go false e = (g.others s lt e).known
 
 -- the greatest number, and one more
-pub greatest-append : (xs ys : List ℕ) → greatest (xs ++ ys) ≡ max (greatest xs) (greatest ys)
-greatest-append [] ys = omega arith
-greatest-append (x ∷ xs) ys = rw (greatest-append xs ys) (omega arith)
-
 known_more : (evidence : List FullName) (a : FullName) (s : Stream) → known (evidence ++ a ∷ []) s ≡ (if same_stream s a.stream then max (known evidence s) a.number else known evidence s)
 known_more evidence a s = ap greatest (flat_map-append (number_in s) evidence (a ∷ [])) ∙ greatest-append (flat_map (number_in s) evidence) _ ∙ go (same_stream s a.stream)
   where
