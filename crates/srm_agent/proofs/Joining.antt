@@ -20,7 +20,8 @@ use Rattle.srm_agent.specs.Growth.{is_newly_missing_by_rows}
 use Rattle.srm_names.specs.Between.{is_between}
 use Rattle.srm_names.proofs.Rising.{ascending_joined, ascending_tail}
 use Rattle.srm_agent_state.specs.TimerCalls.{AreNewlyMissing}
-use Rattle.srm_entries.proofs.Adding.{shows, gains, greatest-append, is_missing-snoc}
+use Rattle.srm_names.proofs.Lists.{greatest-append}
+use Rattle.srm_entries.proofs.Adding.{shows, gains, is_missing-snoc}
 use Rattle.srm_agent_state.proofs.RequestSettings.{held_known}
 
 -- in rows that rise each is below those behind it

@@ -9,7 +9,8 @@ use Rattle.srm_names.specs.Histories.{greatest}
 use Rattle.srm_names.specs.Names.{same_stream, same_name, among}
 use Rattle.srm_store.specs.Held.{greatest_in, number_in}
 use Rattle.srm_names.proofs.Same.{same_name-itself}
-use Rattle.srm_entries.proofs.Adding.{flat_map-snoc, greatest-append}
+use Rattle.srm_names.proofs.Lists.{greatest-append}
+use Rattle.srm_entries.proofs.Adding.{flat_map-snoc}
 
 -- the greatest number of a stream among names, and one more
 

@@ -1,12 +1,14 @@
 -- What one more entry does to the definitions on entries.
-use Rattle.std.proofs.Common.{◌≡◌, ℕ, max, Bool, true, false, not, ◌&&◌, ◌||◌, List, [], ◌∷◌, ◌++◌, refl, ap, ◌∙◌, arith}
+use Rattle.std.proofs.Common.{◌≡◌, ℕ, max, Bool, true, false, not, ◌&&◌, ◌||◌, List, [], ◌∷◌, ◌++◌, refl, ap, ◌∙◌}
 use Rattle.std.specs.Prelude.{if◌then◌else◌, None, nat_le}
 use Rattle.std.specs.List.{flat_map, list_any}
 use Rattle.std.proofs.lemmas.List.{append-nil}
+use Rattle.std.proofs.lemmas.List.Folds.{list_any-append}
 use Rattle.std.proofs.lemmas.Grind.{flat_map-append}
 use Rattle.srm_names.specs.declared.stream.Stream.{Stream}
 use Rattle.srm_names.specs.FullName.{FullName}
 use Rattle.srm_names.specs.Histories.{steps, or_else, last_of, greatest, since}
+use Rattle.srm_names.proofs.Lists.{greatest-append}
 use Rattle.srm_names.proofs.Snoc.{steps-snoc, last_of-snoc, since-snoc, list_any-snoc}
 use Rattle.srm_entries.specs.declared.entry.Entry.{Entry}
 use Rattle.srm_timers.specs.declared.arm.ArmKind.TheVariants.{Ask, Fix}
@@ -16,10 +18,6 @@ use Rattle.srm_entries.specs.Timers.{arm_in, last_ask, fix_running, repaired, he
 
 pub flat_map-snoc : {X Y : Type 0} (f : X → List Y) (xs : List X) (y : X) → flat_map f (xs ++ y ∷ []) ≡ flat_map f xs ++ f y
 flat_map-snoc f xs y = flat_map-append f xs (y ∷ []) ∙ ap (λ zs. flat_map f xs ++ zs) (append-nil (f y))
-
-pub greatest-append : (ms ns : List ℕ) → greatest (ms ++ ns) ≡ max (greatest ms) (greatest ns)
-greatest-append [] ns = omega arith
-greatest-append (m ∷ ms) ns = rw (greatest-append ms ns) (omega arith)
 
 -- what an entry shows of a stream
 abbrev pub shows : Entry → Stream → ℕ
@@ -34,14 +32,6 @@ known-snoc es e s =
 -- whether an entry gains the name
 abbrev pub gains : Entry → FullName → Bool
 gains e n = is_held (e ∷ []) n
-
-pub list_any-append : {X : Type 0} (p : X → Bool) (xs ys : List X) → list_any p (xs ++ ys) ≡ list_any p xs || list_any p ys
-list_any-append p [] ys = refl
-list_any-append p (x ∷ xs) ys = ap (λ b. p x || b) (list_any-append p xs ys) ∙ assoc (p x) (list_any p xs) (list_any p ys)
-  where
-    assoc : (a b c : Bool) → (a || (b || c)) ≡ ((a || b) || c)
-    assoc true b c = refl
-    assoc false b c = refl
 
 pub is_held-snoc : (es : List Entry) (e : Entry) (n : FullName) → is_held (es ++ e ∷ []) n ≡ is_held es n || gains e n
 is_held-snoc es e n = ap (list_any (has_name n)) (flat_map-append held_by es (e ∷ [])) ∙ list_any-append (has_name n) (held es) (held (e ∷ []))

@@ -6,7 +6,7 @@ use Rattle.std.proofs.lemmas.List.Elements.{filter-append}
 use Rattle.srm_names.specs.declared.page.Page.{Page}
 use Rattle.srm_names.specs.Histories.{greatest}
 use Rattle.srm_entries.specs.Promises.{next_number}
-use Rattle.srm_entries.proofs.Adding.{greatest-append}
+use Rattle.srm_names.proofs.Lists.{greatest-append}
 
 pub next_number-snoc : (me : ℕ) (pages : List Page) (p : Page) → next_number me (pages ++ p ∷ []) ≡ max (next_number me pages) (if p.creator == me then p.number + 1 else 0)
 next_number-snoc me pages p =

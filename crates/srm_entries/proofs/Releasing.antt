@@ -14,7 +14,7 @@ use Rattle.srm_names.specs.Names.{named}
 use Rattle.srm_entries.specs.declared.entry.Entry.{Entry}
 use Rattle.srm_store.specs.Held.{has_name, number_in, greatest_in}
 use Rattle.srm_entries.specs.Entries.{held, held_by, held_at, released}
-use Rattle.srm_entries.proofs.Adding.{greatest-append}
+use Rattle.srm_names.proofs.Lists.{greatest-append}
 
 grows_at : (f g : ℕ → Option Drawop) (from : ℕ) (xs ys : List (Option Drawop)) (o : Option Drawop) → f from ≡ o → ((d : Drawop) → f from ≡ Some d → g from ≡ Some d)
     → IsPrefix (until_none xs) (until_none ys) → IsPrefix (until_none (f from ∷ xs)) (until_none (g from ∷ ys))
