@@ -21,8 +21,8 @@ use Rattle.std.specs.List.{AllByRecursion}
 use Rattle.srm_entries.specs.Promises.{MayDoNothing, IsNextDue}
 use Rattle.srm_agent.proofs.NextDueRests.{gone_rests, idle_rests}
 use Rattle.srm_agent.proofs.NextDueStirs.{not_empty, nothing_went}
-use Rattle.srm_entries.specs.Sample.{first_stream, idle}
-use Rattle.srm_entries.proofs.Plain.{config, plain, idle_right, right, missing_none, unknown_unmissed}
+use Rattle.srm_entries.specs.Sample.{first_stream, idle, config}
+use Rattle.srm_entries.proofs.Plain.{plain, idle_right, right, missing_none, unknown_unmissed}
 
 -- a new member: its first session message is due after a second
 

@@ -7,7 +7,7 @@ use Rattle.srm_names.specs.FullName.{FullName}
 use Rattle.srm_names.specs.Histories.{greatest, last_of}
 use Rattle.srm_names.specs.Names.{named, same_name, same_stream}
 use Rattle.srm_codec.specs.declared.datagram.Datagram.{Datagram}
-use Rattle.srm_codec.specs.declared.datagram.Datagram.TheVariants.{Data, Request}
+use Rattle.srm_codec.specs.declared.datagram.Datagram.TheVariants.{Request}
 use Rattle.srm_codec.specs.Spelling.{bits_set, IsSpellable}
 use Rattle.srm_bucket.specs.declared.class.Class.TheVariants.{Shown}
 use Rattle.srm_bucket.specs.Calls.{Classed}
@@ -15,21 +15,14 @@ use Rattle.srm_bucket.specs.Law.{BucketLaw}
 use Rattle.srm_timers.specs.declared.arm.Arm.{Arm}
 use Rattle.srm_timers.specs.declared.arm.ArmKind.TheVariants.{Ask}
 use Rattle.srm_timers.specs.Arms.{WaitBasis, wait_basis, next_exponent, ran_out, arm_of}
-use Rattle.srm_entries.specs.Configs.{Config}
 use Rattle.srm_entries.specs.declared.entry.Entry.{Entry}
 use Rattle.srm_entries.specs.Entries.{is_held, is_missing, ticked}
 use Rattle.srm_entries.specs.Timers.{arm_in, ask_due, held_off, basis_of}
 use Rattle.srm_entries.specs.Bucket.{Going, classed, bucket_calls}
 use Rattle.srm_entries.specs.Runs.{EntryRight, IsMemberRun}
-use Rattle.srm_entries.specs.Sample.{in_roster, first_stream, drawop_of, hears, ticks, ask_arm, idle}
+use Rattle.srm_entries.specs.Sample.{first_stream, ticks, ask_arm, idle, gap, one_of_four}
 use Rattle.srm_entries.proofs.Plain.{idle_right, of_all, neither, missing_none, unknown_unmissed, one_goes}
 use Rattle.srm_entries.proofs.Responding.{response_law}
-
-abbrev one_of_four : Config
-one_of_four = in_roster 1 4 4204
-
-abbrev gap : Entry
-gap = hears 1 1000000 (Data (drawop_of 2 0 [])) (ask_arm 1 0 200000 ∷ [])
 
 abbrev request : Datagram
 request = Request 1 (named first_stream 1) 0

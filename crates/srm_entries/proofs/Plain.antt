@@ -8,8 +8,8 @@ use Rattle.srm_names.specs.declared.stream.Stream.{Stream}
 use Rattle.srm_names.specs.declared.drawop.Drawop.{Drawop}
 use Rattle.srm_names.specs.declared.page_msg.PageMsg.{PageMsg}
 use Rattle.srm_names.specs.FullName.{FullName}
-use Rattle.srm_names.specs.Histories.{IsPrefix}
-use Rattle.srm_names.specs.Names.{named, same_stream}
+use Rattle.srm_names.specs.Histories.{IsPrefix, greatest}
+use Rattle.srm_names.specs.Names.{named, same_stream, first_page}
 use Rattle.srm_names.proofs.Same.{same_stream-is}
 use Rattle.srm_codec.specs.declared.datagram.Datagram.{Datagram}
 use Rattle.srm_codec.specs.declared.datagram.Datagram.TheVariants.{Data}
@@ -24,29 +24,30 @@ use Rattle.srm_bucket.specs.Law.{BucketLaw, level_at, GoesRight as CallRight}
 use Rattle.srm_entries.specs.Configs.{Config}
 use Rattle.srm_entries.specs.declared.entry.Entry.{Entry}
 use Rattle.srm_entries.specs.declared.state.AgentState.{AgentState}
+use Rattle.srm_entries.specs.declared.state.AgentState.TheVariants.{Active}
 use Rattle.srm_entries.specs.declared.entry.Input.{Input}
+use Rattle.srm_entries.specs.declared.entry.Input.TheVariants.{Drew}
 use Rattle.srm_entries.specs.declared.entry.Verdict.TheVariants.{Done}
 use Rattle.srm_entries.specs.Entries.{heard_in, state, is_gone, is_missing, is_held, known, ticked}
 use Rattle.srm_entries.specs.Timers.{asker, fix_running, held_off, ask_basis_of, fix_basis_of, basis_of, last_ask}
 use Rattle.srm_timers.specs.Arms.{ran_out}
 use Rattle.srm_entries.specs.Verdicts.{VerdictRight}
 use Rattle.srm_entries.specs.Sessions.{SessionRight, charged}
-use Rattle.srm_entries.specs.Bucket.{Going, GoesAsCharged, lets_go}
+use Rattle.srm_entries.specs.Bucket.{Going, GoesAsCharged, lets_go, classed}
 use Rattle.srm_entries.specs.Giving.{MessageRight}
 use Rattle.srm_entries.specs.Runs.{EntryRight, MomentRight, expected_drawop, expected_state}
-use Rattle.srm_entries.specs.Sample.{in_roster, first_stream, drawop_of, quiet, entry, idle}
-
--- the one drawop of the examples
-abbrev pub one : Drawop
-one = drawop_of 1 1 (97 ∷ [])
-
--- the settings of one of two members
-abbrev pub config : ℕ → Config
-config me = in_roster me 2 4204
+use Rattle.srm_entries.specs.Sample.{first_stream, quiet, entry, idle, first_drawop}
 
 -- a done entry without timers
 abbrev pub plain : ℕ → ℕ → Input → Option Drawop → List Datagram → Option PageMsg → AgentState → Entry
 plain m now input drawn outs message after = entry m now input (record (quiet after) { drawn = drawn; outs = outs; message = message })
+
+-- the first drawop is the only one of these examples: the entry by which it is drawn, and its datum
+abbrev pub draws_one : Entry
+draws_one = plain 0 1 (Drew first_page (97 ∷ [])) (Some first_drawop) [] None Active
+
+abbrev pub one_data : Classed Datagram
+one_data = classed New (Data first_drawop)
 
 pub idle_right : {before : List Going} {e : Entry} → charged e ≡ [] → GoesAsCharged (record { before = before; this = idle e })
 idle_right {before} {e} q = record { same = sym q; at_ticks = whenever (not (lets_go (record { before = before; this = idle e }))) }
@@ -108,7 +109,7 @@ one_goes rate depth now k item within within_then = (hands, (goes, (ends, tt)))
       all_that_may = subst (λ (o : Option (Classed Datagram)). IfSome o (λ c. level_at rate depth (went_one now k item ++ Popped now None ∷ []) (last_moment (went_one now k item ++ Popped now None ∷ [])) < cost (Some c))) (sym (none_next now k item)) tt;
     }
 
-pub one_spelled : IsSpellable (Data one)
+pub one_spelled : IsSpellable (Data first_drawop)
 one_spelled = ((lit< tt, (lit< tt, lit< tt), lit≤ tt, lit≤ tt), lit≤ tt, lit≤ tt)
 
 pub row_spelled : is_name (named first_stream 1)
@@ -187,6 +188,15 @@ missing_none n = unknown_unmissed [] n refl
 
 abbrev pub one_of : Bool → List ℕ
 one_of b = if b then 1 ∷ [] else []
+
+pub one_known : (n : FullName) → same_stream n.stream first_stream ≡ false → greatest (one_of (same_stream n.stream first_stream) ++ []) ≡ 0
+one_known n e = ap (λ b. greatest (one_of b ++ [])) e
+
+pub twice_known : (n : FullName) → same_stream n.stream first_stream ≡ false → greatest (one_of (same_stream n.stream first_stream) ++ (one_of (same_stream n.stream first_stream) ++ [])) ≡ 0
+twice_known n e = ap (λ b. greatest (one_of b ++ (one_of b ++ []))) e
+
+pub missing_drawn : (n : FullName) → is_missing (draws_one ∷ []) n ≡ false
+missing_drawn n = none_missing_in (draws_one ∷ []) one_held one_known n
 
 -- what holds of each name of the one stream and of every other name holds of all
 pub of_all : (P : FullName → Type 0) → ((k : ℕ) → P (named first_stream k)) → ((n : FullName) → same_stream n.stream first_stream ≡ false → P n) → (n : FullName) → P n

@@ -23,21 +23,21 @@ use Rattle.srm_entries.specs.Distances.{distance}
 use Rattle.srm_entries.specs.Timers.{repaired, ask_due, fix_due, asker, basis_of}
 use Rattle.srm_entries.specs.Bucket.{Going, classed, bucket_calls}
 use Rattle.srm_entries.specs.Runs.{EntryRight, IsMemberRun}
-use Rattle.srm_entries.specs.Sample.{in_roster, first_stream, hears, ticks, fix_arm, idle}
-use Rattle.srm_entries.proofs.Plain.{idle_right, of_all, no_setting, missing_none, unknown_unmissed, one_held, one, one_spelled, one_goes}
+use Rattle.srm_entries.specs.Sample.{in_roster, first_stream, hears, ticks, fix_arm, idle, first_drawop}
+use Rattle.srm_entries.proofs.Plain.{idle_right, of_all, no_setting, missing_none, unknown_unmissed, one_held, one_spelled, one_goes}
 use Rattle.srm_entries.proofs.Responding.{response_law}
 
 abbrev two_of_four : Config
 two_of_four = in_roster 2 4 4204
 
 abbrev holds : Entry
-holds = hears 2 5000000 (Data one) []
+holds = hears 2 5000000 (Data first_drawop) []
 
 abbrev asked : Entry
 asked = hears 2 5000000 (Request 1 (named first_stream 1) 0) (fix_arm 1 100000 ∷ [])
 
 abbrev repairs : Entry
-repairs = ticks 2 5200000 [] (named first_stream 1 ∷ []) [] (Repair 2 one ∷ [])
+repairs = ticks 2 5200000 [] (named first_stream 1 ∷ []) [] (Repair 2 first_drawop ∷ [])
 
 -- nothing is missing at any time
 
@@ -147,7 +147,7 @@ repairs_right = record {
 -- the repair goes
 
 abbrev repair_item : Classed Datagram
-repair_item = classed Shown (Repair 2 one)
+repair_item = classed Shown (Repair 2 first_drawop)
 
 abbrev goings : List Going
 goings = idle holds ∷ idle asked ∷ record { entry = repairs; goes = repair_item ∷ [] } ∷ []

@@ -1,9 +1,9 @@
 -- What draws are admitted, at worked examples.
-use Rattle.std.specs.Prelude.{◌≡◌, ℕ, Bool, true, false, List, [], ◌∷◌, ◌++◌, map, replicate, refl}
+use Rattle.std.specs.Prelude.{◌≡◌, ℕ, true, false, List, [], ◌∷◌, ◌++◌, map, refl}
 use Rattle.srm_names.specs.declared.page.Page.{Page}
 use Rattle.srm_names.specs.declared.drawop.Drawop.{Drawop}
 use Rattle.srm_names.specs.Histories.{count_up}
-use Rattle.srm_codec.specs.declared.datagram.Datagram.TheVariants.{Data, Repair}
+use Rattle.srm_codec.specs.declared.datagram.Datagram.TheVariants.{Data}
 use Rattle.srm_codec.specs.Spelling.{length_of}
 use Rattle.srm_bucket.specs.declared.class.Class.TheVariants.{New}
 use Rattle.srm_entries.specs.Bucket.{Going, classed}
@@ -11,15 +11,12 @@ use Rattle.srm_entries.specs.Admitting.{draw_length, admits_draw}
 use Rattle.srm_entries.specs.declared.entry.Entry.{Entry}
 use Rattle.srm_entries.specs.declared.entry.Input.TheVariants.{Showed}
 use Rattle.srm_entries.specs.declared.state.AgentState.TheVariants.{Active}
-use Rattle.srm_entries.specs.Sample.{in_roster, drawop_of, quiet, entry, draws, ticks, idle}
+use Rattle.srm_entries.specs.Sample.{in_roster, drawop_of, quiet, entry, draws, ticks, idle, full}
 
 lengths : map draw_length (0 ∷ 1 ∷ 1024 ∷ 1025 ∷ 5000 ∷ []) ≡ 27 ∷ 28 ∷ 1051 ∷ 1051 ∷ 1051 ∷ []
 lengths = refl
 
 -- bodies of 1,024 bytes that were drawn and wait: of a full bucket three and one more go, a fifth doesn't
-abbrev full : ℕ → Drawop
-full n = drawop_of n 1 (replicate 1024 7)
-
 abbrev drawn : ℕ → List Going
 drawn count = map (λ n. idle (draws 0 1 (full n))) (count_up 1 count)
 

@@ -2,7 +2,6 @@
 use Rattle.std.specs.Prelude.{◌≡◌, ℕ, ◌+◌, List, [], ◌∷◌, ◌++◌, map, replicate, true, false, Some, None, refl}
 use Rattle.std.proofs.Common.{arith}
 use Rattle.srm_names.specs.declared.page.Page.{Page}
-use Rattle.srm_names.specs.declared.drawop.Drawop.{Drawop}
 use Rattle.srm_names.specs.Histories.{count_up}
 use Rattle.srm_names.specs.Names.{first_page, named}
 use Rattle.srm_codec.specs.declared.datagram.Datagram.{Datagram}
@@ -25,7 +24,7 @@ use Rattle.srm_entries.specs.Bucket.{classed, due_item}
 use Rattle.srm_entries.specs.Hearing.{bytes_heard}
 use Rattle.srm_entries.specs.Promises.{page_to_come}
 use Rattle.srm_entries.specs.Runs.{MomentRight, expected_drawop}
-use Rattle.srm_entries.specs.Sample.{in_roster, first_stream, drawop_of, quiet, entry, draws, hears, ticks, idle, let_go}
+use Rattle.srm_entries.specs.Sample.{in_roster, first_stream, drawop_of, quiet, entry, draws, hears, ticks, idle, let_go, full}
 
 abbrev trio : ℕ → Config
 trio me = in_roster me 3 4204
@@ -165,9 +164,6 @@ rows_of_a_farewell = refl
 -- a leaving member whose data waits sends an ordinary session message when it is due
 abbrev slow : Config
 slow = record (in_roster 0 1 1051) { rate = 1 }
-
-abbrev full : ℕ → Drawop
-full n = drawop_of n 1 (replicate 1024 7)
 
 abbrev waits_leaving : List Entry
 waits_leaving = draws 0 1 (full 1) ∷ draws 0 1 (full 2) ∷ ticks 0 10 [] [] [] (Data (full 1) ∷ []) ∷ entry 0 11 AskedLeave (quiet Leaving) ∷ []

@@ -9,7 +9,7 @@ use Rattle.srm_entries.specs.declared.entry.Entry.{Entry}
 use Rattle.srm_timers.specs.declared.arm.Arm.{Arm}
 use Rattle.srm_entries.specs.Distances.{distance}
 use Rattle.srm_timers.specs.Arms.{wait_basis, arm_of}
-use Rattle.srm_entries.specs.Sample.{in_roster, first_stream, drawop_of, hears, ticks, ask_arm, fix_arm, ask_set, fix_set}
+use Rattle.srm_entries.specs.Sample.{in_roster, first_stream, drawop_of, hears, ticks, ask_arm, fix_arm, ask_set, fix_set, gap}
 use Rattle.srm_entries.specs.Timers.{basis_of, ask_due, fix_due, low_of, high_of}
 
 abbrev config : ℕ → Config
@@ -23,9 +23,6 @@ of_another_rate : config_with 2 4 1 (record default_settings { rate = 100000 }) 
 of_another_rate = refl
 
 -- a gap is found and asked for
-abbrev gap : Entry
-gap = hears 1 1000000 (Data (drawop_of 2 0 [])) (ask_arm 1 0 200000 ∷ [])
-
 gap_arms : map (basis_of 1 [] gap) (names_up_to first_stream 4) ≡ ask_set 0 ∷ None ∷ None ∷ None ∷ []
 gap_arms = refl
 

@@ -1,6 +1,6 @@
 -- The first stored script, step by step: member 0 draws three drawops and sends them; member 1 hears them late, out of order
 -- and one of them twice, gives them in order and has them taken.
-use Rattle.std.specs.Prelude.{◌≡◌, ℕ, List, [], ◌∷◌, ◌++◌, map, replicate, drop, true, false, Option, Some, None, option_map, refl}
+use Rattle.std.specs.Prelude.{◌≡◌, List, [], ◌∷◌, ◌++◌, map, replicate, drop, true, false, Option, Some, None, option_map, refl}
 use Rattle.std.proofs.Common.{lit≤, arith}
 use Rattle.std.specs.List.{AllByRecursion}
 use Rattle.srm_names.specs.declared.page_msg.PageMsg.{PageMsg}
@@ -14,7 +14,6 @@ use Rattle.srm_codec.specs.Spelling.{length_of}
 use Rattle.srm_bucket.specs.declared.class.Class.TheVariants.{New}
 use Rattle.srm_bucket.specs.Law.{level_at}
 use Rattle.srm_timers.specs.Arms.{wait_basis, arm_of}
-use Rattle.srm_entries.specs.Configs.{Config}
 use Rattle.srm_entries.specs.declared.entry.Entry.{Entry}
 use Rattle.srm_entries.specs.declared.state.AgentState.TheVariants.{Active}
 use Rattle.srm_entries.specs.declared.entry.Verdict.TheVariants.{Done}
@@ -25,10 +24,7 @@ use Rattle.srm_entries.specs.Sessions.{session_message_due, session_due}
 use Rattle.srm_entries.specs.Bucket.{Going, classed, bucket_calls}
 use Rattle.srm_entries.specs.Giving.{given, taken, GiveRight, next_taken}
 use Rattle.srm_entries.specs.Runs.{MomentRight, expected_drawop, expected_state}
-use Rattle.srm_entries.specs.Sample.{in_roster, first_stream, first_drawop, second_drawop, third_drawop, draws, hears, ticks, gives, takes, ask_arm, ask_set, at_each, idle, let_go}
-
-abbrev pair : ℕ → Config
-pair me = in_roster me 2 4204
+use Rattle.srm_entries.specs.Sample.{first_stream, first_drawop, second_drawop, third_drawop, draws, hears, ticks, gives, takes, ask_arm, ask_set, at_each, idle, let_go, config}
 
 -- what the member that draws did
 abbrev pub member_0 : List Entry
@@ -54,17 +50,17 @@ abbrev four_names : List FullName
 four_names = names_up_to first_stream 4
 
 -- verdicts: every call is done, also the one that hears a drawop again
-verdicts_0 : at_each (λ s. verdict_of (pair 0) s.before s.this.input) member_0 ≡ replicate 4 Done
+verdicts_0 : at_each (λ s. verdict_of (config 0) s.before s.this.input) member_0 ≡ replicate 4 Done
 verdicts_0 = refl
 
-verdicts_1 : at_each (λ s. verdict_of (pair 1) s.before s.this.input) member_1 ≡ replicate 14 Done
+verdicts_1 : at_each (λ s. verdict_of (config 1) s.before s.this.input) member_1 ≡ replicate 14 Done
 verdicts_1 = refl
 
 -- drawops: each draw makes the next one, with its moment
-drawn_0 : at_each (λ s. expected_drawop (pair 0) s.before s.this.moment (done s.this)) member_0 ≡ Some first_drawop ∷ Some second_drawop ∷ Some third_drawop ∷ None ∷ []
+drawn_0 : at_each (λ s. expected_drawop (config 0) s.before s.this.moment (done s.this)) member_0 ≡ Some first_drawop ∷ Some second_drawop ∷ Some third_drawop ∷ None ∷ []
 drawn_0 = refl
 
-drawn_1 : at_each (λ s. expected_drawop (pair 1) s.before s.this.moment (done s.this)) member_1 ≡ replicate 14 None
+drawn_1 : at_each (λ s. expected_drawop (config 1) s.before s.this.moment (done s.this)) member_1 ≡ replicate 14 None
 drawn_1 = refl
 
 -- moments: gives and takes have the last one
@@ -74,7 +70,7 @@ moments_0 = refl
 moments_1 : at_each (λ s. last_moment 0 s.before) member_1 ≡ 0 ∷ 10 ∷ 11 ∷ 12 ∷ replicate 10 13
 moments_1 = refl
 
-moments_right : AllByRecursion (λ (s : Step Entry). MomentRight (pair 1) 0 s.before s.this) (steps heard_by_1)
+moments_right : AllByRecursion (λ (s : Step Entry). MomentRight (config 1) 0 s.before s.this) (steps heard_by_1)
 moments_right = (lit≤ tt, (lit≤ tt, (lit≤ tt, (lit≤ tt, tt))))
 
 -- arms: the third drawop, heard first, makes the first two missing
@@ -87,10 +83,10 @@ arms_1 = refl
 arms_are_these : at_each (λ s. map (λ n. option_map wait_basis (arm_of n s.this.effects.arms)) four_names) member_1 ≡ at_each (λ s. map (basis_of 1 s.before s.this) four_names) member_1
 arms_are_these = refl
 
-waits_from : map (low_of (pair 1)) (ask_arm 1 0 200000 ∷ ask_arm 2 0 200000 ∷ []) ≡ 200000 ∷ 200000 ∷ []
+waits_from : map (low_of (config 1)) (ask_arm 1 0 200000 ∷ ask_arm 2 0 200000 ∷ []) ≡ 200000 ∷ 200000 ∷ []
 waits_from = refl
 
-waits_to : map (high_of (pair 1)) (ask_arm 1 0 200000 ∷ ask_arm 2 0 200000 ∷ []) ≡ 400000 ∷ 400000 ∷ []
+waits_to : map (high_of (config 1)) (ask_arm 1 0 200000 ∷ ask_arm 2 0 200000 ∷ []) ≡ 400000 ∷ 400000 ∷ []
 waits_to = refl
 
 -- timers: none runs out at the one tick, and none would, as the drawops came before their timers ran out
@@ -115,7 +111,7 @@ abbrev going_0 : List Going
 going_0 = idle (draws 0 1 first_drawop) ∷ idle (draws 0 2 second_drawop) ∷ idle (draws 0 3 third_drawop)
     ∷ record { entry = ticks 0 4 [] [] [] (Data first_drawop ∷ Data second_drawop ∷ Data third_drawop ∷ []); goes = map (classed New) (Data first_drawop ∷ Data second_drawop ∷ Data third_drawop ∷ []) } ∷ []
 
-all_three_go : let_go (pair 0) going_0 ≡ Some (classed New (Data first_drawop)) ∷ Some (classed New (Data second_drawop)) ∷ Some (classed New (Data third_drawop)) ∷ None ∷ []
+all_three_go : let_go (config 0) going_0 ≡ Some (classed New (Data first_drawop)) ∷ Some (classed New (Data second_drawop)) ∷ Some (classed New (Data third_drawop)) ∷ None ∷ []
 all_three_go = refl
 
 lengths : map length_of (Data first_drawop ∷ Data second_drawop ∷ Data third_drawop ∷ []) ≡ 28 ∷ 28 ∷ 28 ∷ []
@@ -126,10 +122,10 @@ level_left : level_at 8000 4204 (bucket_calls 0 going_0) 4 ≡ 4120000000
 level_left = refl
 
 -- endings: the tick is too early for a session message
-endings : at_each (λ s. session_message_due (pair 0) 0 s.before s.this) member_0 ≡ replicate 4 None
+endings : at_each (λ s. session_message_due (config 0) 0 s.before s.this) member_0 ≡ replicate 4 None
 endings = refl
 
-first_session_due : map (λ m. session_due (pair m) 0 []) (0 ∷ 1 ∷ []) ≡ 1000000 ∷ 1000000 ∷ []
+first_session_due : map (λ m. session_due (config m) 0 []) (0 ∷ 1 ∷ []) ≡ 1000000 ∷ 1000000 ∷ []
 first_session_due = refl
 
 -- states
@@ -137,19 +133,19 @@ states : at_each (λ s. expected_state (state s.before) false (done s.this)) (me
 states = refl
 
 -- what may be given: at each give, its message
-opens : GiveRight (pair 1) heard_by_1 0 (Some (Open first_page))
+opens : GiveRight (config 1) heard_by_1 0 (Some (Open first_page))
 opens = (refl, refl)
 
-gives_first : GiveRight (pair 1) (heard_by_1 ++ gives 1 13 (Some (Open first_page)) ∷ []) 0 (Some (Draw first_drawop))
+gives_first : GiveRight (config 1) (heard_by_1 ++ gives 1 13 (Some (Open first_page)) ∷ []) 0 (Some (Draw first_drawop))
 gives_first = (refl, refl, refl, refl)
 
-gives_second : GiveRight (pair 1) (heard_by_1 ++ map (gives 1 13) (Some (Open first_page) ∷ Some (Draw first_drawop) ∷ [])) 0 (Some (Draw second_drawop))
+gives_second : GiveRight (config 1) (heard_by_1 ++ map (gives 1 13) (Some (Open first_page) ∷ Some (Draw first_drawop) ∷ [])) 0 (Some (Draw second_drawop))
 gives_second = (refl, refl, refl, refl)
 
-gives_third : GiveRight (pair 1) (heard_by_1 ++ map (gives 1 13) (Some (Open first_page) ∷ Some (Draw first_drawop) ∷ Some (Draw second_drawop) ∷ [])) 0 (Some (Draw third_drawop))
+gives_third : GiveRight (config 1) (heard_by_1 ++ map (gives 1 13) (Some (Open first_page) ∷ Some (Draw first_drawop) ∷ Some (Draw second_drawop) ∷ [])) 0 (Some (Draw third_drawop))
 gives_third = (refl, refl, refl, refl)
 
-gives_no_more : GiveRight (pair 1) (heard_by_1 ++ map (gives 1 13) (Some (Open first_page) ∷ Some (Draw first_drawop) ∷ Some (Draw second_drawop) ∷ Some (Draw third_drawop) ∷ [])) 0 None
+gives_no_more : GiveRight (config 1) (heard_by_1 ++ map (gives 1 13) (Some (Open first_page) ∷ Some (Draw first_drawop) ∷ Some (Draw second_drawop) ∷ Some (Draw third_drawop) ∷ [])) 0 None
 gives_no_more = (λ gone. absurd (grind arith), refl)
 
 -- what is released grows from nothing to all three

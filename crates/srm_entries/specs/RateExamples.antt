@@ -1,8 +1,7 @@
 -- The bucket law over entries, at worked examples.
-use Rattle.std.specs.Prelude.{◌≡◌, ℕ, ◌<◌, List, [], ◌∷◌, ◌++◌, map, replicate, Some, None, refl}
+use Rattle.std.specs.Prelude.{◌≡◌, ◌<◌, List, [], ◌∷◌, ◌++◌, map, Some, None, refl}
 use Rattle.std.proofs.Common.{lit<}
 use Rattle.srm_names.specs.declared.page.Page.{Page}
-use Rattle.srm_names.specs.declared.drawop.Drawop.{Drawop}
 use Rattle.srm_names.specs.Histories.{count_up}
 use Rattle.srm_codec.specs.declared.datagram.Datagram.{Datagram}
 use Rattle.srm_codec.specs.declared.datagram.Datagram.TheVariants.{Data, Repair}
@@ -15,12 +14,9 @@ use Rattle.srm_entries.specs.declared.state.AgentState.TheVariants.{Active}
 use Rattle.srm_entries.specs.declared.entry.Input.TheVariants.{Showed}
 use Rattle.srm_entries.specs.Bucket.{Going, classed, entries_of}
 use Rattle.srm_entries.specs.Rates.{of_class, handed_so_far, departed_so_far, queued_of, cost_all, ticks_of}
-use Rattle.srm_entries.specs.Sample.{drawop_of, quiet, entry, draws, ticks, idle}
+use Rattle.srm_entries.specs.Sample.{drawop_of, quiet, entry, draws, ticks, idle, full}
 
 -- five data of 1,051 bytes are drawn: four go at once, the fifth 131,375 microseconds later
-abbrev full : ℕ → Drawop
-full n = drawop_of n 1 (replicate 1024 7)
-
 abbrev drawn : List Going
 drawn = map (λ n. idle (draws 0 1 (full n))) (count_up 1 5)
 

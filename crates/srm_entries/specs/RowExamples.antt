@@ -27,7 +27,7 @@ use Rattle.srm_entries.specs.Sessions.{session_message_due, session_due, echoes_
 use Rattle.srm_entries.specs.Packing.{packed}
 use Rattle.srm_entries.specs.Bucket.{Going, GoesAsCharged, BucketRight, classed, entries_of, calls_by, bucket_calls}
 use Rattle.srm_entries.specs.Giving.{GiveRight, given, is_smallest}
-use Rattle.srm_entries.specs.Sample.{in_roster, first_stream, drawop_of, quiet, entry, draws, hears, idle}
+use Rattle.srm_entries.specs.Sample.{in_roster, first_stream, drawop_of, quiet, entry, draws, hears, idle, full}
 
 -- verdicts at member 1 in a roster of 3
 abbrev judged : List Entry → Datagram → Verdict
@@ -85,9 +85,6 @@ four_asks : map length_of (packed 1 (names_up_to first_stream 4)) ≡ 21 ∷ []
 four_asks = refl
 
 -- five data of 1,051 bytes with a full bucket: the fifth waits for 131,375 microseconds
-abbrev full : ℕ → Drawop
-full n = drawop_of n 1 (replicate 1024 7)
-
 abbrev data_of : ℕ → Classed Datagram
 data_of n = classed New (Data (full n))
 

@@ -1,5 +1,5 @@
 -- Settings, drawops and entries for examples.
-use Rattle.std.specs.Prelude.{ℕ, List, [], ◌∷◌, map, Option, Some, None}
+use Rattle.std.specs.Prelude.{ℕ, List, [], ◌∷◌, map, Option, Some, None, replicate}
 use Rattle.std.specs.List.{flat_map}
 use Rattle.srm_names.specs.declared.stream.Stream.{Stream}
 use Rattle.srm_names.specs.declared.drawop.Drawop.{Drawop}
@@ -8,6 +8,7 @@ use Rattle.srm_names.specs.FullName.{FullName}
 use Rattle.srm_names.specs.Histories.{Step, steps}
 use Rattle.srm_names.specs.Names.{first_page, named}
 use Rattle.srm_codec.specs.declared.datagram.Datagram.{Datagram}
+use Rattle.srm_codec.specs.declared.datagram.Datagram.TheVariants.{Data}
 use Rattle.srm_bucket.specs.Calls.{Classed, Call, Handed, Refilled, Popped}
 use Rattle.srm_bucket.specs.Law.{may_go}
 use Rattle.srm_timers.specs.declared.arm.Arm.{Arm}
@@ -27,6 +28,13 @@ use Rattle.srm_entries.specs.Bucket.{Going, bucket_calls}
 abbrev pub in_roster : ℕ → ℕ → ℕ → Config
 in_roster me members depth = record { me = me; members = members; session = 1; rate = 8000; depth = depth; c1 = 2; c2 = 2; d1 = 1; d2 = 1 }
 
+-- of one of two members, and of member 1 of four
+abbrev pub config : ℕ → Config
+config me = in_roster me 2 4204
+
+abbrev pub one_of_four : Config
+one_of_four = in_roster 1 4 4204
+
 -- the stream of member 0 on the first page
 abbrev pub first_stream : Stream
 first_stream = record { source = 0; page = first_page }
@@ -43,6 +51,10 @@ second_drawop = drawop_of 2 2 (98 ∷ [])
 
 abbrev pub third_drawop : Drawop
 third_drawop = drawop_of 3 3 (99 ∷ [])
+
+-- one with the longest body
+abbrev pub full : ℕ → Drawop
+full n = drawop_of n 1 (replicate 1024 7)
 
 -- what a call does that does nothing but leave this state
 abbrev pub quiet : AgentState → Effects
@@ -73,6 +85,10 @@ ask_arm number exponent wait = record { kind = Ask; name = named first_stream nu
 
 abbrev pub fix_arm : ℕ → ℕ → Arm
 fix_arm number wait = record { kind = Fix; name = named first_stream number; exponent = 0; distance = 100000; wait = wait }
+
+-- a gap is found: the first drawop is missing
+abbrev pub gap : Entry
+gap = hears 1 1000000 (Data (drawop_of 2 0 [])) (ask_arm 1 0 200000 ∷ [])
 
 abbrev pub ask_set : ℕ → Option WaitBasis
 ask_set exponent = Some (record { kind = Ask; exponent = exponent; distance = 100000 })

@@ -3,7 +3,6 @@ use Rattle.std.proofs.Common.{◌≡◌, List, false, [], ◌∷◌, ◌++◌, r
 use Rattle.std.specs.Prelude.{None, replicate}
 use Rattle.srm_names.specs.declared.page_msg.PageMsg.{PageMsg}
 use Rattle.srm_pages.specs.Ends.{WellView, LaneId}
-use Rattle.srm_entries.proofs.Plain.{config}
 use Rattle.srm_node.specs.declared.fault.NodeFault.TheVariants.{Memory}
 use Rattle.srm_node.specs.declared.hosting.Hosted.{Hosted}
 use Rattle.srm_node.specs.declared.working.Worked.{Worked}
@@ -17,6 +16,7 @@ use Rattle.srm_node.specs.HostExamples.{tap, worked_so}
 use Rattle.srm_node.specs.PartingExamples as parting
 use Rattle.srm_node.proofs.Keeping.{keeps_new}
 use Rattle.srm_node.proofs.Releasing.{puts_released}
+use Rattle.srm_entries.specs.Sample.{config}
 
 -- over a well of which nothing had been received
 keeps : (lane : LaneId) (well : WellView) → well.received ≡ [] → NodeKeepsLists (after lane well)

@@ -23,8 +23,8 @@ use Rattle.srm_entries.specs.Giving.{given, MessageRight}
 use Rattle.srm_entries.specs.Bucket.{GoesAsCharged, bucket_calls}
 use Rattle.srm_entries.specs.Runs.{EntryRight, MomentRight, expected_state}
 use Rattle.srm_entries.specs.Sessions.{SessionMessageRight}
-use Rattle.srm_entries.specs.Sample.{idle}
-use Rattle.srm_entries.proofs.Plain.{config, plain, idle_right, right, missing_none, unknown_unmissed, neither}
+use Rattle.srm_entries.specs.Sample.{idle, config}
+use Rattle.srm_entries.proofs.Plain.{plain, idle_right, right, missing_none, unknown_unmissed, neither}
 use Rattle.srm_outbox.specs.declared.out.Out.{Out}
 use Rattle.srm_world.specs.Claims.{IsLawfulJournal}
 use Rattle.srm_world.proofs.Lawful.{lawful_journal}

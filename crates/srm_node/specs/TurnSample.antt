@@ -6,13 +6,13 @@ use Rattle.std.proofs.lemmas.Option.{same_Some}
 use Rattle.srm_names.specs.declared.page_msg.PageMsg.{PageMsg}
 use Rattle.srm_pages.specs.Ends.{FeedView, WellView, LaneId}
 use Rattle.srm_entries.specs.declared.entry.Entry.{Entry}
-use Rattle.srm_entries.proofs.Plain.{config}
 use Rattle.srm_world.specs.Traces.{Journal}
 use Rattle.srm_world.specs.Claims.{IsLawfulJournal}
 use Rattle.srm_node.specs.Carrying.{CarriesEach}
 use Rattle.srm_node.specs.Parts.{GivesUpTo, SameFeed, is_give, is_served}
 use Rattle.srm_node.specs.Nodes.{NodeView}
 use Rattle.srm_node.specs.Turns.{HearsNow}
+use Rattle.srm_entries.specs.Sample.{config}
 
 -- WHAT HOLDS OF EACH FEED
 

@@ -3,15 +3,13 @@ use Rattle.std.specs.Prelude.{◌≡◌, ◌+◌, ℕ, true, false, List, [], �
 use Rattle.std.specs.List.{AllByRecursion}
 use Rattle.std.proofs.Common.{arith, inl, inr, ap, lit≤}
 use Rattle.srm_names.specs.FullName.{FullName}
-use Rattle.srm_names.specs.Histories.{steps, greatest}
+use Rattle.srm_names.specs.Histories.{steps}
 use Rattle.srm_names.specs.Names.{first_page}
 use Rattle.srm_names.specs.declared.page_msg.PageMsg.{PageMsg}
 use Rattle.srm_names.specs.declared.page_msg.PageMsg.TheVariants.{Open, Draw}
-use Rattle.srm_codec.specs.declared.datagram.Datagram.{Datagram}
 use Rattle.srm_codec.specs.declared.datagram.Datagram.TheVariants.{Data}
 use Rattle.srm_codec.specs.Spelling.{head, page_bytes, name_bytes, drawop_bytes, spelling}
 use Rattle.srm_bucket.specs.declared.class.Class.TheVariants.{New}
-use Rattle.srm_bucket.specs.Calls.{Classed}
 use Rattle.srm_bucket.specs.Law.{BucketLaw}
 use Rattle.srm_pages.specs.declared.stroke.Stroke.{Stroke}
 use Rattle.srm_pages.specs.Ends.{FeedView, WellView, LaneId}
@@ -21,10 +19,10 @@ use Rattle.srm_entries.specs.declared.state.AgentState.TheVariants.{Active}
 use Rattle.srm_entries.specs.Entries.{state, is_missing}
 use Rattle.srm_entries.specs.Timers.{fix_running}
 use Rattle.srm_entries.specs.Giving.{given, MessageRight}
-use Rattle.srm_entries.specs.Bucket.{Going, GoesAsCharged, classed, bucket_calls}
+use Rattle.srm_entries.specs.Bucket.{Going, GoesAsCharged, bucket_calls}
 use Rattle.srm_entries.specs.Runs.{EntryRight, MomentRight, expected_state}
-use Rattle.srm_entries.specs.Sample.{idle}
-use Rattle.srm_entries.proofs.Plain.{one, config, plain, idle_right, one_spelled, right, one_held, none_missing_in, missing_none, one_of, one_goes}
+use Rattle.srm_entries.specs.Sample.{idle, first_drawop, config}
+use Rattle.srm_entries.proofs.Plain.{plain, idle_right, one_spelled, right, missing_none, one_goes, draws_one, missing_drawn, one_data}
 use Rattle.srm_outbox.specs.declared.out.Out.{Out}
 use Rattle.srm_world.specs.Traces.{Journal}
 use Rattle.srm_world.specs.Claims.{IsLawfulJournal}
@@ -72,11 +70,8 @@ not_a_new_journal e h = let none : e ∷ [] ≡ [] = ap (λ (j : Journal). j.ent
 abbrev pub stroke : Stroke
 stroke = record { pen = 0; page = first_page; body = 97 ∷ [] }
 
-abbrev draws : Entry
-draws = plain 0 1 (Drew first_page (97 ∷ [])) (Some one) [] None Active
-
 abbrev sends : Entry
-sends = plain 0 1 Ticked None (Data one ∷ []) None Active
+sends = plain 0 1 Ticked None (Data first_drawop ∷ []) None Active
 
 abbrev gives : ℕ → Option PageMsg → Entry
 gives slot message = plain 0 1 (Gave slot) None [] message Active
@@ -85,7 +80,7 @@ abbrev opens : Entry
 opens = gives 0 (Some (Open first_page))
 
 abbrev shows : Entry
-shows = gives 0 (Some (Draw one))
+shows = gives 0 (Some (Draw first_drawop))
 
 -- nothing is given in slot 0, and in those behind it
 abbrev nothing_more : List Entry
@@ -95,22 +90,19 @@ abbrev all_gives : List Entry
 all_gives = opens ∷ shows ∷ nothing_more
 
 abbrev pub entries : List Entry
-entries = draws ∷ sends ∷ all_gives
+entries = draws_one ∷ sends ∷ all_gives
 
 abbrev one_bytes : List ℕ
 one_bytes = 0x53 ∷ 0x52 ∷ 1 ∷ 1 ∷ 0 ∷ 0 ∷ 0 ∷ 1 ∷ 0 ∷ 0 ∷ 0 ∷ 0 ∷ 0 ∷ 0 ∷ 0 ∷ 0 ∷ 1 ∷ 0 ∷ 0 ∷ 0 ∷ 0 ∷ 0 ∷ 0 ∷ 0 ∷ 1 ∷ 0 ∷ 1 ∷ 97 ∷ []
 
 abbrev out : Out
-out = record { datagram = Data one; bytes = one_bytes }
+out = record { datagram = Data first_drawop; bytes = one_bytes }
 
-spelled_so : one_bytes ≡ spelling 1 (Data one)
+spelled_so : one_bytes ≡ spelling 1 (Data first_drawop)
 unfolding head page_bytes name_bytes drawop_bytes spelling
 spelled_so = refl
 
 -- THE JOURNAL IS LAWFUL
-
-missing_drawn : (n : FullName) → is_missing (draws ∷ []) n ≡ false
-missing_drawn n = none_missing_in (draws ∷ []) one_held (λ n e. ap (λ b. greatest (one_of b ++ [])) e) n
 
 -- a give that the entries before it allow
 gives_right : (past : List Entry) (slot : ℕ) (message : Option PageMsg) → ((n : FullName) → is_missing past n ≡ false) → ((n : FullName) → is_missing (past ++ gives slot message ∷ []) n ≡ false)
@@ -119,7 +111,7 @@ gives_right : (past : List Entry) (slot : ℕ) (message : Option PageMsg) → ((
 gives_right past slot message here next fix moment given after = right (config 0) 0 past 0 1 (Gave slot) None [] message Active here next (λ n. refl) fix refl moment refl refl tt tt tt refl given after
 
 abbrev sent : List Entry
-sent = draws ∷ sends ∷ []
+sent = draws_one ∷ sends ∷ []
 
 abbrev shown : List Entry
 shown = sent ++ opens ∷ shows ∷ []
@@ -130,13 +122,13 @@ served below = shown ++ take below nothing_more
 
 each_right : AllByRecursion (EntryRight (config 0) 0) (steps entries)
 each_right = (
-  right (config 0) 0 [] 0 1 (Drew first_page (97 ∷ [])) (Some one) [] None Active missing_none missing_drawn (λ n. refl) (λ n. refl) refl (lit≤ tt) refl refl tt tt tt refl refl refl,
+  right (config 0) 0 [] 0 1 (Drew first_page (97 ∷ [])) (Some first_drawop) [] None Active missing_none missing_drawn (λ n. refl) (λ n. refl) refl (lit≤ tt) refl refl tt tt tt refl refl refl,
   (
-    right (config 0) 0 (draws ∷ []) 0 1 Ticked None (Data one ∷ []) None Active missing_drawn missing_drawn (λ n. refl) (λ n. refl) refl (lit≤ tt) refl refl (refl, tt) (one_spelled, tt) tt refl refl refl,
+    right (config 0) 0 (draws_one ∷ []) 0 1 Ticked None (Data first_drawop ∷ []) None Active missing_drawn missing_drawn (λ n. refl) (λ n. refl) refl (lit≤ tt) refl refl (refl, tt) (one_spelled, tt) tt refl refl refl,
     (
       gives_right sent 0 (Some (Open first_page)) missing_drawn missing_drawn (λ n. refl) refl (refl, refl) refl,
       (
-        gives_right (sent ++ opens ∷ []) 0 (Some (Draw one)) missing_drawn missing_drawn (λ n. refl) refl (refl, refl, refl, refl) refl,
+        gives_right (sent ++ opens ∷ []) 0 (Some (Draw first_drawop)) missing_drawn missing_drawn (λ n. refl) refl (refl, refl, refl, refl) refl,
         (
           gives_right (served 0) 0 None missing_drawn missing_drawn (λ n. refl) refl ((λ h. h), refl) refl,
           (
@@ -167,11 +159,8 @@ each_right = (
   ),
 )
 
-abbrev one_data : Classed Datagram
-one_data = classed New (Data one)
-
 abbrev goings : List Going
-goings = idle draws ∷ record { entry = sends; goes = one_data ∷ [] } ∷ map idle all_gives
+goings = idle draws_one ∷ record { entry = sends; goes = one_data ∷ [] } ∷ map idle all_gives
 
 law : BucketLaw 8000 4204 (bucket_calls 0 goings)
 law = one_goes 8000 4204 1 New one_data.item (lit≤ tt, lit≤ tt, tt) (lit≤ tt, lit≤ tt, tt)
@@ -195,13 +184,13 @@ abbrev popped : ℕ → WellView → WellView
 popped nones well = record well { received = well.received ++ stroke ∷ []; nones = well.nones + nones }
 
 abbrev drawn : LaneId → WellView → NodeView
-drawn lane well = record (heard lane well) { journal = journal (draws ∷ []); well = popped 1 well }
+drawn lane well = record (heard lane well) { journal = journal (draws_one ∷ []); well = popped 1 well }
 
 abbrev ticked : LaneId → WellView → NodeView
-ticked lane well = record (drawn lane well) { journal = journal (draws ∷ sends ∷ []); told = Some (record { came = None ∷ []; went = bytes_to 1 one_bytes ∷ [] }) }
+ticked lane well = record (drawn lane well) { journal = journal (draws_one ∷ sends ∷ []); told = Some (record { came = None ∷ []; went = bytes_to 1 one_bytes ∷ [] }) }
 
 abbrev pub put : List PageMsg
-put = Open first_page ∷ Draw one ∷ []
+put = Open first_page ∷ Draw first_drawop ∷ []
 
 -- the node after its turn
 abbrev pub after : LaneId → WellView → NodeView
@@ -218,7 +207,7 @@ draws_it lane well = record {
     draws = record {
       all = stroke ∷ [];
       pops = record { popped = stroke ∷ []; received = refl; all_is = refl };
-      draws = record { strokes = stroke ∷ []; entries = draws ∷ []; counted = refl; grown = refl; each = (record { moment = refl; input = refl; admitted = admitted }, tt); all_is = refl };
+      draws = record { strokes = stroke ∷ []; entries = draws_one ∷ []; counted = refl; grown = refl; each = (record { moment = refl; input = refl; admitted = admitted }, tt); all_is = refl };
     };
     ends = omega arith;
   };
@@ -242,7 +231,7 @@ carries lane = at_each (λ slot f. Carries (given entries slot) f) (feeds put la
 
 pub gives_all : (lane : LaneId) (well : WellView) → GivesNow 8 (ticked lane well) (after lane well)
 gives_all lane well = record {
-  gives = gives_up_to put [] (draws ∷ sends ∷ []) all_gives lane (refl, (refl, (refl, (refl, (refl, (refl, (refl, (refl, (refl, (refl, tt)))))))))) lawful (carries lane) (refl, (refl, (refl, (refl, (refl, (refl, (refl, (refl, tt))))))));
+  gives = gives_up_to put [] (draws_one ∷ sends ∷ []) all_gives lane (refl, (refl, (refl, (refl, (refl, (refl, (refl, (refl, (refl, (refl, tt)))))))))) lawful (carries lane) (refl, (refl, (refl, (refl, (refl, (refl, (refl, (refl, tt))))))));
   same = refl;
 }
 

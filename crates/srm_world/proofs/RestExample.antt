@@ -11,7 +11,6 @@ use Rattle.srm_codec.specs.declared.datagram.Datagram.{Datagram}
 use Rattle.srm_codec.specs.declared.datagram.Datagram.TheVariants.{Data, Session}
 use Rattle.srm_codec.specs.Spelling.{IsSpellable}
 use Rattle.srm_bucket.specs.declared.class.Class.TheVariants.{New}
-use Rattle.srm_bucket.specs.Calls.{Classed}
 use Rattle.srm_bucket.specs.Law.{BucketLaw}
 use Rattle.srm_entries.specs.Configs.{Config}
 use Rattle.srm_entries.specs.declared.entry.Entry.{Entry}
@@ -19,25 +18,22 @@ use Rattle.srm_entries.specs.declared.state.AgentState.TheVariants.{Active}
 use Rattle.srm_entries.specs.declared.entry.Input.TheVariants.{Drew, Heard, Ticked}
 use Rattle.srm_entries.specs.Entries.{shown, known, is_missing, released}
 use Rattle.srm_entries.specs.Sessions.{expected_row, number_in_rows, if_positive, SessionMessageRight}
-use Rattle.srm_entries.specs.Bucket.{Going, classed, bucket_calls}
+use Rattle.srm_entries.specs.Bucket.{Going, bucket_calls}
 use Rattle.srm_entries.specs.Verdicts.{stream_on}
 use Rattle.srm_entries.specs.Runs.{EntryRight, IsMemberRun}
 use Rattle.srm_world.specs.Traces.{Trace, of_member, IsHonest, IsRun}
 use Rattle.srm_world.specs.Claims.{AtRest}
-use Rattle.srm_entries.specs.Sample.{first_stream, idle}
-use Rattle.srm_entries.proofs.Plain.{one, config, plain, idle_right, one_spelled, row_spelled, right, one_held, none_missing_in, missing_none, one_of, one_goes}
-
-abbrev draws : Entry
-draws = plain 0 1 (Drew first_page (97 ∷ [])) (Some one) [] None Active
+use Rattle.srm_entries.specs.Sample.{first_stream, idle, first_drawop, config}
+use Rattle.srm_entries.proofs.Plain.{plain, idle_right, one_spelled, row_spelled, right, one_held, none_missing_in, missing_none, one_of, one_goes, draws_one, missing_drawn, one_data, one_known, twice_known}
 
 abbrev report_of_0 : Datagram
 report_of_0 = Session 0 1000000 false first_page (named first_stream 1 ∷ []) []
 
 abbrev sends : Entry
-sends = plain 0 1000000 Ticked None (Data one ∷ report_of_0 ∷ []) None Active
+sends = plain 0 1000000 Ticked None (Data first_drawop ∷ report_of_0 ∷ []) None Active
 
 abbrev hears : Entry
-hears = plain 1 1000100 (Heard (Data one)) None [] None Active
+hears = plain 1 1000100 (Heard (Data first_drawop)) None [] None Active
 
 abbrev hears_report : Entry
 hears_report = plain 1 1000200 (Heard report_of_0) None [] None Active
@@ -52,7 +48,7 @@ abbrev hears_back : Entry
 hears_back = plain 0 1000600 (Heard report_of_1) None [] None Active
 
 abbrev entries : List Entry
-entries = draws ∷ sends ∷ hears ∷ hears_report ∷ answers ∷ hears_back ∷ []
+entries = draws_one ∷ sends ∷ hears ∷ hears_report ∷ answers ∷ hears_back ∷ []
 
 report_of_0_spelled : IsSpellable report_of_0
 report_of_0_spelled = (lit< tt, lit≤ tt, (lit< tt, lit< tt), record { few = lit< tt; names = (row_spelled, tt); rising = refl; sources = ((λ e. refl), tt) }, record { few = lit< tt; each = tt; rising = refl })
@@ -68,20 +64,11 @@ report_of_1_spelled = (
 
 -- neither misses anything at any time
 
-one_known : (n : FullName) → same_stream n.stream first_stream ≡ false → greatest (one_of (same_stream n.stream first_stream) ++ []) ≡ 0
-one_known n e = ap (λ b. greatest (one_of b ++ [])) e
+missing_sent : (n : FullName) → is_missing (draws_one ∷ sends ∷ []) n ≡ false
+missing_sent n = none_missing_in (draws_one ∷ sends ∷ []) one_held one_known n
 
-twice_known : (n : FullName) → same_stream n.stream first_stream ≡ false → greatest (one_of (same_stream n.stream first_stream) ++ (one_of (same_stream n.stream first_stream) ++ [])) ≡ 0
-twice_known n e = ap (λ b. greatest (one_of b ++ (one_of b ++ []))) e
-
-missing_drawn : (n : FullName) → is_missing (draws ∷ []) n ≡ false
-missing_drawn n = none_missing_in (draws ∷ []) one_held one_known n
-
-missing_sent : (n : FullName) → is_missing (draws ∷ sends ∷ []) n ≡ false
-missing_sent n = none_missing_in (draws ∷ sends ∷ []) one_held one_known n
-
-missing_told : (n : FullName) → is_missing (draws ∷ sends ∷ hears_back ∷ []) n ≡ false
-missing_told n = none_missing_in (draws ∷ sends ∷ hears_back ∷ []) one_held twice_known n
+missing_told : (n : FullName) → is_missing (draws_one ∷ sends ∷ hears_back ∷ []) n ≡ false
+missing_told n = none_missing_in (draws_one ∷ sends ∷ hears_back ∷ []) one_held twice_known n
 
 missing_heard : (n : FullName) → is_missing (hears ∷ []) n ≡ false
 missing_heard n = none_missing_in (hears ∷ []) one_held one_known n
@@ -109,22 +96,19 @@ rows_right c before now here there = record { in_order = refl; exact = λ s. go 
 
 -- the member that drew
 
-each_0 : AllByRecursion (EntryRight (config 0) 0) (steps (draws ∷ sends ∷ hears_back ∷ []))
+each_0 : AllByRecursion (EntryRight (config 0) 0) (steps (draws_one ∷ sends ∷ hears_back ∷ []))
 each_0 = (
-  right (config 0) 0 [] 0 1 (Drew first_page (97 ∷ [])) (Some one) [] None Active missing_none missing_drawn (λ n. refl) (λ n. refl) refl (lit≤ tt) refl refl tt tt tt refl refl refl,
+  right (config 0) 0 [] 0 1 (Drew first_page (97 ∷ [])) (Some first_drawop) [] None Active missing_none missing_drawn (λ n. refl) (λ n. refl) refl (lit≤ tt) refl refl tt tt tt refl refl refl,
   (
-    right (config 0) 0 (draws ∷ []) 0 1000000 Ticked None (Data one ∷ report_of_0 ∷ []) None Active missing_drawn missing_sent (λ n. refl) (λ n. refl) refl (lit≤ tt) refl refl
+    right (config 0) 0 (draws_one ∷ []) 0 1000000 Ticked None (Data first_drawop ∷ report_of_0 ∷ []) None Active missing_drawn missing_sent (λ n. refl) (λ n. refl) refl (lit≤ tt) refl refl
         (refl, (refl, tt)) (one_spelled, (report_of_0_spelled, tt)) tt
-        (report_of_0, refl, (refl, refl, refl, refl, refl, rows_right (config 0) (draws ∷ []) 1000000 refl (λ s e. ap (λ b. greatest (one_of b ++ [])) e))) refl refl,
-    (right (config 0) 0 (draws ∷ sends ∷ []) 0 1000600 (Heard report_of_1) None [] None Active missing_sent missing_told (λ n. refl) (λ n. refl) refl (lit≤ tt) (refl, refl) refl tt tt report_of_1_spelled refl refl refl, tt),
+        (report_of_0, refl, (refl, refl, refl, refl, refl, rows_right (config 0) (draws_one ∷ []) 1000000 refl (λ s e. ap (λ b. greatest (one_of b ++ [])) e))) refl refl,
+    (right (config 0) 0 (draws_one ∷ sends ∷ []) 0 1000600 (Heard report_of_1) None [] None Active missing_sent missing_told (λ n. refl) (λ n. refl) refl (lit≤ tt) (refl, refl) refl tt tt report_of_1_spelled refl refl refl, tt),
   ),
 )
 
-abbrev one_data : Classed Datagram
-one_data = classed New (Data one)
-
 abbrev goings_0 : List Going
-goings_0 = idle draws ∷ record { entry = sends; goes = one_data ∷ [] } ∷ idle hears_back ∷ []
+goings_0 = idle draws_one ∷ record { entry = sends; goes = one_data ∷ [] } ∷ idle hears_back ∷ []
 
 law_0 : BucketLaw 8000 4204 (bucket_calls 0 goings_0)
 law_0 = one_goes 8000 4204 1000000 New one_data.item (lit≤ tt, lit≤ tt, tt) (lit≤ tt, lit≤ tt, tt)
@@ -136,7 +120,7 @@ run_0 = record { each = each_0; bucket = (goings_0, refl, (idle_right refl, (rec
 
 each_1 : AllByRecursion (EntryRight (config 1) 0) (steps (hears ∷ hears_report ∷ answers ∷ []))
 each_1 = (
-  right (config 1) 0 [] 1 1000100 (Heard (Data one)) None [] None Active missing_none missing_heard (λ n. refl) (λ n. refl) refl (lit≤ tt) (refl, refl) refl tt tt one_spelled refl refl refl,
+  right (config 1) 0 [] 1 1000100 (Heard (Data first_drawop)) None [] None Active missing_none missing_heard (λ n. refl) (λ n. refl) refl (lit≤ tt) (refl, refl) refl tt tt one_spelled refl refl refl,
   (
     right (config 1) 0 (hears ∷ []) 1 1000200 (Heard report_of_0) None [] None Active missing_heard missing_reported (λ n. refl) (λ n. refl) refl (lit≤ tt) (refl, refl) refl tt tt report_of_0_spelled refl refl refl,
     (
@@ -177,7 +161,7 @@ pub at_rest : AtRest trace.entries 0 1 first_page
 at_rest = record {
   one = record {
     report = report_of_1;
-    before = draws ∷ sends ∷ hears ∷ hears_report ∷ [];
+    before = draws_one ∷ sends ∷ hears ∷ hears_report ∷ [];
     sending = answers;
     after = hears_back ∷ [];
     split = refl;
@@ -189,7 +173,7 @@ at_rest = record {
   };
   other = record {
     report = report_of_0;
-    before = draws ∷ [];
+    before = draws_one ∷ [];
     sending = sends;
     after = hears ∷ hears_report ∷ answers ∷ hears_back ∷ [];
     split = refl;
@@ -203,8 +187,8 @@ at_rest = record {
   other_complete = λ n e. missing_answered n;
 }
 
-pub agreed : released (of_member 0 trace.entries) first_stream ≡ one ∷ []
+pub agreed : released (of_member 0 trace.entries) first_stream ≡ first_drawop ∷ []
 agreed = refl
 
-pub agreed_too : released (of_member 1 trace.entries) first_stream ≡ one ∷ []
+pub agreed_too : released (of_member 1 trace.entries) first_stream ≡ first_drawop ∷ []
 agreed_too = refl

@@ -14,7 +14,7 @@ use Rattle.srm_codec.specs.declared.datagram.Datagram.{Datagram}
 use Rattle.srm_codec.specs.declared.datagram.Datagram.TheVariants.{Data, Session}
 use Rattle.srm_codec.specs.Spelling.{IsSpellable}
 use Rattle.srm_bucket.specs.declared.class.Class.TheVariants.{New}
-use Rattle.srm_bucket.specs.Calls.{Classed, Popped}
+use Rattle.srm_bucket.specs.Calls.{Popped}
 use Rattle.srm_bucket.specs.Law.{BucketLaw, GoesRight as CallRight}
 use Rattle.srm_entries.specs.declared.entry.Entry.{Entry}
 use Rattle.srm_entries.specs.declared.state.AgentState.TheVariants.{Active, Leaving, Gone}
@@ -24,19 +24,16 @@ use Rattle.srm_entries.specs.Entries.{heard_in, is_missing, state}
 use Rattle.srm_entries.specs.Timers.{asker, fix_running}
 use Rattle.srm_entries.specs.Verdicts.{VerdictRight}
 use Rattle.srm_entries.specs.Sessions.{SessionRight, SessionMessageRight, number_in_rows, expected_row, if_positive}
-use Rattle.srm_entries.specs.Bucket.{Going, GoesAsCharged, classed, bucket_calls}
+use Rattle.srm_entries.specs.Bucket.{Going, GoesAsCharged, bucket_calls}
 use Rattle.srm_entries.specs.Giving.{MessageRight}
 use Rattle.srm_entries.specs.Runs.{EntryRight, IsMemberRun, MomentRight, expected_drawop, expected_state}
 use Rattle.srm_entries.specs.declared.entry.Verdict.TheVariants.{Done}
 use Rattle.srm_world.specs.Traces.{Trace, taken_by, IsRun, IsHonest}
-use Rattle.srm_entries.specs.Sample.{first_stream, idle}
-use Rattle.srm_entries.proofs.Plain.{one, config, plain, idle_right, one_spelled, row_spelled, neither, right, one_held, none_missing_in, missing_none, one_of, went_one, all_gone, one_goes}
-
-abbrev draws : Entry
-draws = plain 0 1 (Drew first_page (97 ∷ [])) (Some one) [] None Active
+use Rattle.srm_entries.specs.Sample.{first_stream, idle, first_drawop, config}
+use Rattle.srm_entries.proofs.Plain.{plain, idle_right, one_spelled, row_spelled, neither, right, one_held, none_missing_in, missing_none, one_of, went_one, all_gone, one_goes, draws_one, missing_drawn, one_data, twice_known}
 
 abbrev sends : Entry
-sends = plain 0 4 Ticked None (Data one ∷ []) None Active
+sends = plain 0 4 Ticked None (Data first_drawop ∷ []) None Active
 
 abbrev asks_leave : Entry
 asks_leave = plain 0 20 AskedLeave None [] None Leaving
@@ -51,7 +48,7 @@ abbrev parts : Entry
 parts = plain 0 21 Ticked None (farewell ∷ []) None Gone
 
 abbrev hears : Entry
-hears = plain 1 30 (Heard (Data one)) None [] None Active
+hears = plain 1 30 (Heard (Data first_drawop)) None [] None Active
 
 abbrev hears_parting : Entry
 hears_parting = plain 1 31 (Heard farewell) None [] None Active
@@ -65,15 +62,12 @@ takes m = plain 1 31 (Took 0) None [] (Some m) Active
 abbrev opens : PageMsg
 opens = Open first_page
 
-missing_drawn : (n : FullName) → is_missing (draws ∷ []) n ≡ false
-missing_drawn n = none_missing_in (draws ∷ []) one_held (λ n e. ap (λ b. greatest (one_of b ++ [])) e) n
-
 missing_told : (n : FullName) → is_missing (hears ∷ hears_parting ∷ []) n ≡ false
-missing_told n = none_missing_in (hears ∷ hears_parting ∷ []) one_held (λ n e. ap (λ b. greatest (one_of b ++ (one_of b ++ []))) e) n
+missing_told n = none_missing_in (hears ∷ hears_parting ∷ []) one_held twice_known n
 
 -- the member that draws and leaves
 
-row_right : (s : Stream) → number_in_rows (named first_stream 1 ∷ []) s ≡ expected_row (config 0) (draws ∷ sends ∷ asks_leave ∷ []) true s
+row_right : (s : Stream) → number_in_rows (named first_stream 1 ∷ []) s ≡ expected_row (config 0) (draws_one ∷ sends ∷ asks_leave ∷ []) true s
 row_right s = which (same_stream s first_stream) refl
   where
     which : (b : Bool) → same_stream s first_stream ≡ b
@@ -81,21 +75,21 @@ row_right s = which (same_stream s first_stream) refl
     which true e = ap (λ (t : Stream). if t.source == 0 then Some 1 else None) (sym (same_stream-is s first_stream e))
     which false e = neither (s.source == 0)
 
-report_right : SessionMessageRight (config 0) (draws ∷ sends ∷ asks_leave ∷ []) 21 true (named first_stream 1 ∷ [])
+report_right : SessionMessageRight (config 0) (draws_one ∷ sends ∷ asks_leave ∷ []) 21 true (named first_stream 1 ∷ [])
 report_right = record { in_order = refl; exact = row_right }
 
 abbrev first_run : List Entry
-first_run = draws ∷ sends ∷ asks_leave ∷ parts ∷ []
+first_run = draws_one ∷ sends ∷ asks_leave ∷ parts ∷ []
 
 first_each : AllByRecursion (EntryRight (config 0) 0) (steps first_run)
 first_each = (
-  right (config 0) 0 [] 0 1 (Drew first_page (97 ∷ [])) (Some one) [] None Active missing_none missing_drawn (λ n. refl) (λ n. refl) refl (lit≤ tt) refl refl tt tt tt refl refl refl,
+  right (config 0) 0 [] 0 1 (Drew first_page (97 ∷ [])) (Some first_drawop) [] None Active missing_none missing_drawn (λ n. refl) (λ n. refl) refl (lit≤ tt) refl refl tt tt tt refl refl refl,
   (
-    right (config 0) 0 (draws ∷ []) 0 4 Ticked None (Data one ∷ []) None Active missing_drawn missing_drawn (λ n. refl) (λ n. refl) refl (lit≤ tt) refl refl (refl, tt) (one_spelled, tt) tt refl refl refl,
+    right (config 0) 0 (draws_one ∷ []) 0 4 Ticked None (Data first_drawop ∷ []) None Active missing_drawn missing_drawn (λ n. refl) (λ n. refl) refl (lit≤ tt) refl refl (refl, tt) (one_spelled, tt) tt refl refl refl,
     (
-      right (config 0) 0 (draws ∷ sends ∷ []) 0 20 AskedLeave None [] None Leaving missing_drawn missing_drawn (λ n. refl) (λ n. refl) refl (lit≤ tt) refl refl tt tt tt refl refl refl,
+      right (config 0) 0 (draws_one ∷ sends ∷ []) 0 20 AskedLeave None [] None Leaving missing_drawn missing_drawn (λ n. refl) (λ n. refl) refl (lit≤ tt) refl refl tt tt tt refl refl refl,
       (
-        right (config 0) 0 (draws ∷ sends ∷ asks_leave ∷ []) 0 21 Ticked None (farewell ∷ []) None Gone missing_drawn missing_drawn (λ n. refl) (λ n. refl) refl (lit≤ tt) refl refl (refl, tt) (farewell_spelled, tt) tt
+        right (config 0) 0 (draws_one ∷ sends ∷ asks_leave ∷ []) 0 21 Ticked None (farewell ∷ []) None Gone missing_drawn missing_drawn (λ n. refl) (λ n. refl) refl (lit≤ tt) refl refl (refl, tt) (farewell_spelled, tt) tt
             (farewell, refl, (refl, refl, refl, refl, refl, report_right)) refl refl,
         tt,
       ),
@@ -103,11 +97,8 @@ first_each = (
   ),
 )
 
-abbrev one_data : Classed Datagram
-one_data = classed New (Data one)
-
 abbrev goings : List Going
-goings = idle draws ∷ record { entry = sends; goes = one_data ∷ [] } ∷ idle asks_leave ∷ idle parts ∷ []
+goings = idle draws_one ∷ record { entry = sends; goes = one_data ∷ [] } ∷ idle asks_leave ∷ idle parts ∷ []
 
 first_law : BucketLaw 8000 4204 (bucket_calls 0 goings)
 first_law = let first = one_goes 8000 4204 4 New one_data.item (lit≤ tt, lit≤ tt, tt) (lit≤ tt, lit≤ tt, tt) in (first.0, (first.1.0, (first.1.1.0, (ends_too, tt))))
@@ -124,13 +115,13 @@ first_right = record { each = first_each; bucket = (goings, refl, first_goes, fi
 -- the member that hears, gives and has it taken
 
 abbrev second_run : List Entry
-second_run = hears ∷ hears_parting ∷ gives opens ∷ gives (Draw one) ∷ gives (Left 0) ∷ takes opens ∷ takes (Draw one) ∷ takes (Left 0) ∷ []
+second_run = hears ∷ hears_parting ∷ gives opens ∷ gives (Draw first_drawop) ∷ gives (Left 0) ∷ takes opens ∷ takes (Draw first_drawop) ∷ takes (Left 0) ∷ []
 
 abbrev before_gives : List Entry
 before_gives = hears ∷ hears_parting ∷ []
 
 abbrev before_takes : List Entry
-before_takes = before_gives ++ gives opens ∷ gives (Draw one) ∷ gives (Left 0) ∷ []
+before_takes = before_gives ++ gives opens ∷ gives (Draw first_drawop) ∷ gives (Left 0) ∷ []
 
 -- an entry of it at moment 31
 later : (before : List Entry) (input : Input) (message : Option PageMsg) → ((n : FullName) → is_missing before n ≡ false)
@@ -142,7 +133,7 @@ later : (before : List Entry) (input : Input) (message : Option PageMsg) → ((n
 later before input message p1 p2 p3 p4 p5 p6 p7 read p8 p9 p10 = right (config 1) 0 before 1 31 input None [] message Active p1 p2 p3 p4 refl p5 p6 p7 tt tt read p8 p9 p10
 
 second_each : AllByRecursion (EntryRight (config 1) 0) (steps second_run)
-second_each = (right (config 1) 0 [] 1 30 (Heard (Data one)) None [] None Active missing_none missing_drawn (λ n. refl) (λ n. refl) refl (lit≤ tt) (refl, refl) refl tt tt one_spelled refl refl refl, (later (hears ∷ []) (Heard farewell) None missing_drawn missing_told (λ n. refl) (λ n. refl) (lit≤ tt) (refl, refl) refl farewell_spelled refl refl refl, (later before_gives (Gave 0) (Some opens) missing_told missing_told (λ n. refl) (λ n. refl) refl refl refl tt refl (refl, refl) refl, (later (before_gives ++ gives opens ∷ []) (Gave 0) (Some (Draw one)) missing_told missing_told (λ n. refl) (λ n. refl) refl refl refl tt refl (refl, refl, refl, refl) refl, (later (before_gives ++ gives opens ∷ gives (Draw one) ∷ []) (Gave 0) (Some (Left 0)) missing_told missing_told (λ n. refl) (λ n. refl) refl refl refl tt refl (refl, refl, refl, refl) refl, (later before_takes (Took 0) (Some opens) missing_told missing_told (λ n. refl) (λ n. refl) refl refl refl tt refl refl refl, (later (before_takes ++ takes opens ∷ []) (Took 0) (Some (Draw one)) missing_told missing_told (λ n. refl) (λ n. refl) refl refl refl tt refl refl refl, (later (before_takes ++ takes opens ∷ takes (Draw one) ∷ []) (Took 0) (Some (Left 0)) missing_told missing_told (λ n. refl) (λ n. refl) refl refl refl tt refl refl refl, tt))))))))
+second_each = (right (config 1) 0 [] 1 30 (Heard (Data first_drawop)) None [] None Active missing_none missing_drawn (λ n. refl) (λ n. refl) refl (lit≤ tt) (refl, refl) refl tt tt one_spelled refl refl refl, (later (hears ∷ []) (Heard farewell) None missing_drawn missing_told (λ n. refl) (λ n. refl) (lit≤ tt) (refl, refl) refl farewell_spelled refl refl refl, (later before_gives (Gave 0) (Some opens) missing_told missing_told (λ n. refl) (λ n. refl) refl refl refl tt refl (refl, refl) refl, (later (before_gives ++ gives opens ∷ []) (Gave 0) (Some (Draw first_drawop)) missing_told missing_told (λ n. refl) (λ n. refl) refl refl refl tt refl (refl, refl, refl, refl) refl, (later (before_gives ++ gives opens ∷ gives (Draw first_drawop) ∷ []) (Gave 0) (Some (Left 0)) missing_told missing_told (λ n. refl) (λ n. refl) refl refl refl tt refl (refl, refl, refl, refl) refl, (later before_takes (Took 0) (Some opens) missing_told missing_told (λ n. refl) (λ n. refl) refl refl refl tt refl refl refl, (later (before_takes ++ takes opens ∷ []) (Took 0) (Some (Draw first_drawop)) missing_told missing_told (λ n. refl) (λ n. refl) refl refl refl tt refl refl refl, (later (before_takes ++ takes opens ∷ takes (Draw first_drawop) ∷ []) (Took 0) (Some (Left 0)) missing_told missing_told (λ n. refl) (λ n. refl) refl refl refl tt refl refl refl, tt))))))))
 
 second_right : IsMemberRun (config 1) 0 second_run
 second_right = record {
@@ -165,5 +156,5 @@ run = record {
 pub honest : IsHonest trace.entries
 honest = (tt, (tt, (tt, (tt, ((0, lit< tt, refl), ((1, lit< tt, refl), (tt, (tt, (tt, (tt, (tt, (tt, tt))))))))))))
 
-pub took : taken_by trace.entries 1 0 ≡ opens ∷ Draw one ∷ Left 0 ∷ []
+pub took : taken_by trace.entries 1 0 ≡ opens ∷ Draw first_drawop ∷ Left 0 ∷ []
 took = refl
