@@ -16,7 +16,8 @@ use Rattle.srm_entries.specs.Causes.{ignored_for}
 use Rattle.srm_entries.specs.Configs.{Config}
 use Rattle.srm_entries.specs.Entries.{is_gone, state, known, held_at, drawops_in}
 use Rattle.srm_store.specs.PageTables.{table_lacks_room_for}
-use Rattle.srm_entries.specs.Verdicts.{verdict_of, first_cause, is_stranger, is_beyond, says_too_little, lacks_slots_for, differs, drawn_in, stream_on}
+use Rattle.srm_names.specs.Names.{stream_on}
+use Rattle.srm_entries.specs.Verdicts.{verdict_of, first_cause, is_stranger, is_beyond, says_too_little, lacks_slots_for, differs, drawn_in}
 use Rattle.srm_agent.specs.Contents.{Content}
 use Rattle.srm_agent.specs.Fits.{Fits}
 use Rattle.srm_agent.proofs.Slotted.{slots_lack}

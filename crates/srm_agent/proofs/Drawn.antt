@@ -15,7 +15,7 @@ use Rattle.srm_names.specs.declared.stream.Stream.{Stream}
 use Rattle.srm_names.specs.declared.drawop.Drawop.{Drawop}
 use Rattle.srm_names.specs.FullName.{FullName}
 use Rattle.srm_names.specs.Histories.{steps, greatest, firsts, first_of, last_of}
-use Rattle.srm_names.specs.Names.{first_page, same_page, same_stream, named}
+use Rattle.srm_names.specs.Names.{first_page, same_page, same_stream, named, stream_on}
 use Rattle.srm_names.proofs.Same.{same_page-is, same_page-itself, same_stream-is, same_stream-itself}
 use Rattle.srm_names.proofs.Lists.{Has, Has-append, Has-front, Has-back, Has-map, map-Has, AllByRecursion-snoc}
 use Rattle.srm_names.proofs.Snoc.{along, steps-snoc, last_of-snoc, first_of-snoc, or_else-none}
@@ -46,7 +46,7 @@ use Rattle.srm_entries.specs.Configs.{Config}
 use Rattle.srm_entries.specs.Entries.{done, accepted, held, evidence_by, evidence_in, drawn, is_held, is_missing, known, slots, pages_in, state, is_gone, is_leaving, last_moment}
 use Rattle.srm_entries.specs.Distances.{distance_calls, calls_in}
 use Rattle.srm_entries.specs.Timers.{last_ask, fix_running, held_off, asker, basis_of, fix_basis_of, ask_basis_of, ask_exponent, ArmsRight, TimersRight, only_if}
-use Rattle.srm_entries.specs.Verdicts.{first_cause, verdict_of, lacks_slots_for, drawn_in, stream_on, settlings, settling_of}
+use Rattle.srm_entries.specs.Verdicts.{first_cause, verdict_of, lacks_slots_for, drawn_in, settlings, settling_of}
 use Rattle.srm_entries.specs.Sessions.{session_due, interval_after}
 use Rattle.srm_entries.specs.Bucket.{Going, GoesAsCharged, bucket_calls, classed}
 use Rattle.srm_entries.specs.Runs.{EntryRight}

@@ -10,7 +10,7 @@ use Rattle.srm_names.specs.declared.stream.Stream.{Stream}
 use Rattle.srm_names.specs.declared.drawop.Drawop.{Drawop}
 use Rattle.srm_names.specs.FullName.{FullName}
 use Rattle.srm_names.specs.Histories.{steps, last_of, greatest}
-use Rattle.srm_names.specs.Names.{same_stream}
+use Rattle.srm_names.specs.Names.{same_stream, stream_on}
 use Rattle.srm_names.proofs.Snoc.{steps-snoc, last_of-snoc}
 use Rattle.srm_names.proofs.Same.{same_stream-is}
 use Rattle.srm_names.proofs.Lists.{AllByRecursion-append}
@@ -33,7 +33,7 @@ use Rattle.srm_entries.specs.Timers.{TimersRight}
 use Rattle.srm_agent_state.specs.TimerCalls.{HearsWith, TimersAdd, WaitsAreChosen}
 use Rattle.srm_agent_state.specs.TimersKept.{HaveSettings}
 use Rattle.srm_store.specs.PageTables.{with_pages_of}
-use Rattle.srm_entries.specs.Verdicts.{verdict_of, settlings, settling_of, drawn_in, stream_on, exceeds, is_beyond, final}
+use Rattle.srm_entries.specs.Verdicts.{verdict_of, settlings, settling_of, drawn_in, exceeds, is_beyond, final}
 use Rattle.srm_entries.specs.Sessions.{session_due, interval_after}
 use Rattle.srm_entries.specs.Bucket.{Going, GoesAsCharged, bucket_calls}
 use Rattle.srm_entries.specs.Runs.{EntryRight}

@@ -12,7 +12,7 @@ use Rattle.srm_names.specs.declared.page.Page.{Page}
 use Rattle.srm_names.specs.declared.stream.Stream.{Stream}
 use Rattle.srm_names.specs.FullName.{FullName}
 use Rattle.srm_names.specs.Histories.{steps, count_up, greatest}
-use Rattle.srm_names.specs.Names.{named, first_page, same_page, same_stream, page_below, stream_below, ascending}
+use Rattle.srm_names.specs.Names.{named, first_page, same_page, same_stream, page_below, stream_below, ascending, stream_on}
 use Rattle.srm_names.proofs.Snoc.{along, up_to_more}
 use Rattle.srm_names.proofs.Lists.{Has, none_passes}
 use Rattle.srm_names.proofs.Same.{same_stream-is, Has-firsts}
@@ -25,7 +25,6 @@ use Rattle.srm_agent.specs.Contents.{Content}
 use Rattle.srm_entries.specs.Entries.{done, pages_in, known, shown, slots, evidence_in}
 use Rattle.srm_entries.specs.Runs.{EntryRight}
 use Rattle.srm_entries.specs.Sessions.{if_positive, number_in_rows}
-use Rattle.srm_entries.specs.Verdicts.{stream_on}
 use Rattle.srm_agent.specs.Reports.{row_for, IsRow, AreRowsInOrder, AreRowsOf, streams_on, AreShown, AreOwnStreams, AreReported}
 use Rattle.srm_entries.proofs.Telling.{ToldRight, told_step, told_start}
 

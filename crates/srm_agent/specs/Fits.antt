@@ -16,7 +16,8 @@ use Rattle.srm_outbox.specs.declared.out.Outgoing.{Outgoing}
 use Rattle.srm_entries.specs.Configs.{Config}
 use Rattle.srm_entries.specs.Entries.{state, shown, slots, last_moment, held, evidence_in, known}
 use Rattle.srm_entries.specs.Distances.{distance_calls}
-use Rattle.srm_entries.specs.Verdicts.{settlings, drawn_in, stream_on}
+use Rattle.srm_names.specs.Names.{stream_on}
+use Rattle.srm_entries.specs.Verdicts.{settlings, drawn_in}
 use Rattle.srm_entries.specs.Sessions.{session_due}
 use Rattle.srm_entries.specs.Bucket.{Going, GoesAsCharged, entries_of, bucket_calls}
 use Rattle.srm_entries.specs.Giving.{given}

@@ -7,7 +7,7 @@ use Rattle.srm_names.specs.declared.stream.Stream.{Stream}
 use Rattle.srm_names.specs.declared.echo.Echo.{Echo}
 use Rattle.srm_names.specs.FullName.{FullName}
 use Rattle.srm_names.specs.Histories.{count_up}
-use Rattle.srm_names.specs.Names.{named, same_page, page_below, ascending}
+use Rattle.srm_names.specs.Names.{named, same_page, page_below, ascending, stream_on}
 use Rattle.srm_codec.specs.declared.datagram.Datagram.{Datagram}
 use Rattle.srm_codec.specs.Spelling.{sender_of, IsSpellable, is_name, AreRows, AreEchoes, is_session, is_farewell}
 use Rattle.srm_entries.specs.declared.entry.Entry.{Entry}
@@ -17,7 +17,7 @@ use Rattle.srm_agent.specs.Contents.{Content}
 use Rattle.srm_entries.specs.Entries.{known}
 use Rattle.srm_entries.specs.Sessions.{IsSessionMessage, SessionMessageRight, echoes_owed, if_positive}
 use Rattle.srm_outbox.specs.Outs.{IsOutgoing}
-use Rattle.srm_entries.specs.Verdicts.{told, stream_on}
+use Rattle.srm_entries.specs.Verdicts.{told}
 use Rattle.srm_agent.specs.Fits.{Fits}
 
 -- the session message that an agent sends at a moment, by all that it keeps

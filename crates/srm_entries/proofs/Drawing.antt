@@ -9,14 +9,14 @@ use Rattle.srm_names.specs.declared.page.Page.{Page}
 use Rattle.srm_names.specs.declared.drawop.Drawop.{Drawop}
 use Rattle.srm_names.specs.FullName.{FullName}
 use Rattle.srm_names.specs.Histories.{steps}
-use Rattle.srm_names.specs.Names.{named, same_stream, same_page}
+use Rattle.srm_names.specs.Names.{named, same_stream, same_page, stream_on}
 use Rattle.srm_names.proofs.Lists.{Has, Has-append, Has-back, Has-kept, Has-slice_get, filter_same_on, slice_get-snoc}
 use Rattle.srm_names.proofs.Snoc.{along}
 use Rattle.srm_names.proofs.Same.{same_page-is, same_page-itself}
 use Rattle.srm_entries.specs.Configs.{Config}
 use Rattle.srm_entries.specs.declared.entry.Entry.{Entry}
 use Rattle.srm_entries.specs.Entries.{accepted, drawn, drawn_on, evidence_in, known}
-use Rattle.srm_entries.specs.Verdicts.{drawn_in, stream_on}
+use Rattle.srm_entries.specs.Verdicts.{drawn_in}
 use Rattle.srm_entries.specs.Runs.{EntryRight}
 use Rattle.srm_entries.proofs.Adding.{known-snoc}
 use Rattle.srm_entries.proofs.Showing.{made_by, IsDrawing, kind, known_has, shown-snoc, drawn-snoc, shown_drawing}

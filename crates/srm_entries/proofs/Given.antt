@@ -8,7 +8,7 @@ use Rattle.srm_names.specs.Histories.{IsPrefix}
 use Rattle.srm_entries.specs.Configs.{Config}
 use Rattle.srm_entries.specs.declared.entry.Entry.{Entry}
 use Rattle.srm_entries.specs.Entries.{released, slots}
-use Rattle.srm_entries.specs.Verdicts.{stream_on}
+use Rattle.srm_names.specs.Names.{stream_on}
 use Rattle.srm_entries.specs.Giving.{given, taken}
 use Rattle.srm_entries.specs.Runs.{IsMemberRun}
 use Rattle.srm_entries.specs.Promises.{GivesLaw}

@@ -11,7 +11,7 @@ use Rattle.srm_names.specs.declared.drawop.Drawop.{Drawop}
 use Rattle.srm_names.specs.declared.echo.Echo.{Echo}
 use Rattle.srm_names.specs.FullName.{FullName}
 use Rattle.srm_names.specs.Histories.{steps, steps_after}
-use Rattle.srm_names.specs.Names.{same_stream, same_page}
+use Rattle.srm_names.specs.Names.{same_stream, same_page, stream_on}
 use Rattle.srm_names.proofs.Lists.{Has, Has-append, Has-flat_map, Has-split, Has-passes, at_parts, list_any-Has}
 use Rattle.srm_names.proofs.Snoc.{along}
 use Rattle.srm_codec.specs.declared.datagram.Datagram.{Datagram}
@@ -23,7 +23,6 @@ use Rattle.srm_entries.specs.declared.entry.Input.{Input}
 use Rattle.srm_entries.specs.declared.entry.Input.TheVariants.{Drew, Heard, Noise, Ticked, Showed, AskedLeave, Gave, Took}
 use Rattle.srm_entries.specs.Entries.{done, ticked, is_tick, state, is_gone, is_leaving, sent, drawn, drawn_on, known}
 use Rattle.srm_store.specs.Finals.{row_number, number_or_zero}
-use Rattle.srm_entries.specs.Verdicts.{stream_on}
 use Rattle.srm_codec.specs.Spelling.{is_session, is_farewell}
 use Rattle.srm_entries.specs.Sessions.{charged, all_data_sent, session_due, session_message_due, EndsWith, IsSessionMessage, number_in_rows, if_positive}
 use Rattle.srm_entries.specs.Runs.{EntryRight, expected_state}

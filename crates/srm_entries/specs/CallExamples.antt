@@ -3,7 +3,7 @@ use Rattle.std.specs.Prelude.{◌≡◌, ℕ, ◌+◌, List, [], ◌∷◌, ◌+
 use Rattle.std.proofs.Common.{arith}
 use Rattle.srm_names.specs.declared.page.Page.{Page}
 use Rattle.srm_names.specs.Histories.{count_up}
-use Rattle.srm_names.specs.Names.{first_page, named}
+use Rattle.srm_names.specs.Names.{first_page, named, stream_on}
 use Rattle.srm_codec.specs.declared.datagram.Datagram.{Datagram}
 use Rattle.srm_codec.specs.declared.datagram.Datagram.TheVariants.{Data, Request, Repair, Session}
 use Rattle.srm_codec.specs.declared.fault.DecodeFault.TheVariants as decoding
@@ -18,7 +18,7 @@ use Rattle.srm_entries.specs.declared.fault.AgentFault.TheVariants as faults
 use Rattle.srm_entries.specs.declared.entry.Input.TheVariants.{Drew, Heard, Noise, Ticked, Showed, AskedLeave}
 use Rattle.srm_entries.specs.declared.entry.Verdict.TheVariants.{Done, Ignored, Refused}
 use Rattle.srm_entries.specs.Entries.{last_moment, shown, slots, held_at}
-use Rattle.srm_entries.specs.Verdicts.{verdict_of, stream_on, final, VerdictRight}
+use Rattle.srm_entries.specs.Verdicts.{verdict_of, final, VerdictRight}
 use Rattle.srm_entries.specs.Sessions.{session_message_due, session_due, echoes_owed, expected_row, members_remaining}
 use Rattle.srm_entries.specs.Bucket.{classed, due_item}
 use Rattle.srm_entries.specs.Hearing.{bytes_heard}

@@ -12,7 +12,8 @@ use Rattle.srm_entries.specs.declared.entry.Entry.{Entry}
 use Rattle.srm_entries.specs.declared.entry.Input.{Input}
 use Rattle.srm_entries.specs.declared.entry.Input.TheVariants.{Gave, Took}
 use Rattle.srm_entries.specs.Entries.{state, is_gone, slots, released}
-use Rattle.srm_entries.specs.Verdicts.{final, stream_on}
+use Rattle.srm_names.specs.Names.{stream_on}
+use Rattle.srm_entries.specs.Verdicts.{final}
 
 abbrev pub given_in : ℕ → Input → Option PageMsg → Option PageMsg
 given_in j (Gave slot) message = if j == slot then message else None

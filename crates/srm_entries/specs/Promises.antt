@@ -8,7 +8,7 @@ use Rattle.srm_entries.specs.Configs.{Config}
 use Rattle.srm_entries.specs.declared.entry.Entry.{Entry}
 use Rattle.srm_entries.specs.declared.entry.Input.TheVariants.{Ticked}
 use Rattle.srm_entries.specs.Entries.{state, is_gone, slots, last_moment, released}
-use Rattle.srm_entries.specs.Verdicts.{stream_on}
+use Rattle.srm_names.specs.Names.{stream_on}
 use Rattle.srm_entries.specs.Giving.{given}
 use Rattle.srm_entries.specs.Runs.{IsMemberRun}
 

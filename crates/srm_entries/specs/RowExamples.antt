@@ -5,7 +5,7 @@ use Rattle.srm_names.specs.declared.drawop.Drawop.{Drawop}
 use Rattle.srm_names.specs.declared.page_msg.PageMsg.{PageMsg}
 use Rattle.srm_names.specs.declared.page_msg.PageMsg.TheVariants.{Open, Draw, Close}
 use Rattle.srm_names.specs.Histories.{count_up, IsPrefix}
-use Rattle.srm_names.specs.Names.{first_page, named, names_up_to}
+use Rattle.srm_names.specs.Names.{first_page, named, names_up_to, stream_on}
 use Rattle.srm_codec.specs.declared.datagram.Datagram.{Datagram}
 use Rattle.srm_codec.specs.declared.datagram.Datagram.TheVariants.{Data, Request, Repair, Session}
 use Rattle.srm_codec.specs.Spelling.{bits_set, length_of}
@@ -22,7 +22,7 @@ use Rattle.srm_entries.specs.declared.fault.AgentFault.TheVariants as faults
 use Rattle.srm_entries.specs.declared.entry.Input.TheVariants.{Drew, Heard, Ticked, AskedLeave, Gave}
 use Rattle.srm_entries.specs.declared.entry.Verdict.{Verdict}
 use Rattle.srm_entries.specs.declared.entry.Verdict.TheVariants.{Done, Ignored, Refused}
-use Rattle.srm_entries.specs.Verdicts.{verdict_of, stream_on}
+use Rattle.srm_entries.specs.Verdicts.{verdict_of}
 use Rattle.srm_entries.specs.Sessions.{session_message_due, session_due, echoes_owed}
 use Rattle.srm_entries.specs.Packing.{packed}
 use Rattle.srm_entries.specs.Bucket.{Going, GoesAsCharged, BucketRight, classed, entries_of, calls_by, bucket_calls}

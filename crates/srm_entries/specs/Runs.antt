@@ -4,7 +4,7 @@ use Rattle.std.specs.List.{list_any, AllByRecursion}
 use Rattle.srm_names.specs.declared.drawop.Drawop.{Drawop}
 use Rattle.srm_names.specs.FullName.{FullName}
 use Rattle.srm_names.specs.Histories.{Step, steps, last_of}
-use Rattle.srm_names.specs.Names.{named}
+use Rattle.srm_names.specs.Names.{named, stream_on}
 use Rattle.srm_codec.specs.Spelling.{sender_of, IsSpellable, is_farewell}
 use Rattle.srm_entries.specs.Configs.{Config}
 use Rattle.srm_entries.specs.declared.entry.Entry.{Entry}
@@ -16,7 +16,7 @@ use Rattle.srm_entries.specs.declared.entry.Input.TheVariants.{Drew, AskedLeave}
 use Rattle.srm_entries.specs.Entries.{done, accepted, ticked, state, is_gone, takes_moment, last_moment, is_held, is_missing}
 use Rattle.srm_timers.specs.declared.arm.Armed.{Armed}
 use Rattle.srm_entries.specs.Timers.{arm_in, asks_for, repaired, last_ask, held_off, fix_running, high_of, ArmsRight, TimersRight}
-use Rattle.srm_entries.specs.Verdicts.{VerdictRight, drawn_in, stream_on}
+use Rattle.srm_entries.specs.Verdicts.{VerdictRight, drawn_in}
 use Rattle.srm_entries.specs.Sessions.{SessionRight}
 use Rattle.srm_entries.specs.Bucket.{BucketRight}
 use Rattle.srm_entries.specs.Giving.{MessageRight}

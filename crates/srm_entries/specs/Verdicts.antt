@@ -7,7 +7,7 @@ use Rattle.srm_names.specs.declared.stream.Stream.{Stream}
 use Rattle.srm_names.specs.declared.drawop.Drawop.{Drawop}
 use Rattle.srm_names.specs.FullName.{FullName}
 use Rattle.srm_names.specs.Histories.{firsts}
-use Rattle.srm_names.specs.Names.{same_page, same_stream}
+use Rattle.srm_names.specs.Names.{same_page, same_stream, stream_on}
 use Rattle.srm_codec.specs.declared.datagram.Datagram.{Datagram}
 use Rattle.srm_codec.specs.declared.fault.DecodeFault.{DecodeFault}
 use Rattle.srm_codec.specs.declared.fault.DecodeFault.TheVariants as decoding
@@ -48,9 +48,6 @@ drawn_in es s = length (filter (λ d. same_stream s d.name.stream) (drawn es))
 abbrev pub exceeds : ℕ → Option ℕ → Bool
 exceeds n None = false
 exceeds n (Some bound) = nat_lt bound n
-
-abbrev pub stream_on : ℕ → Page → Stream
-stream_on source page = record { source = source; page = page }
 
 -- a number above the final of its stream, or of this member's own above what it drew
 abbrev pub is_beyond : ℕ → List Entry → FullName → Bool

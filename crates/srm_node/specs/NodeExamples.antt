@@ -1,7 +1,7 @@
 -- What lanes carry, what is counted and how runs, workers and hosts end, at worked examples.
 use Rattle.std.specs.Prelude.{◌≡◌, ℕ, suc, ◌+◌, ◌==◌, Bool, true, false, List, [], ◌∷◌, Ok, Err, Some, None, replicate, refl}
 use Rattle.std.proofs.Common.{arith, inl, inr, ap, sym}
-use Rattle.srm_names.specs.Names.{first_page}
+use Rattle.srm_names.specs.Names.{first_page, stream_on}
 use Rattle.srm_names.specs.declared.page_msg.PageMsg.{PageMsg}
 use Rattle.srm_names.specs.declared.page_msg.PageMsg.TheVariants.{Open, Draw, Close}
 use Rattle.srm_names.specs.PageFeeds.{is_page_feed}
@@ -15,7 +15,6 @@ use Rattle.srm_entries.specs.declared.entry.Verdict.TheVariants.{Ignored, Refuse
 use Rattle.srm_entries.specs.declared.state.AgentState.TheVariants.{Active, Leaving, Gone}
 use Rattle.srm_entries.specs.Entries.{released}
 use Rattle.srm_entries.specs.Giving.{given}
-use Rattle.srm_entries.specs.Verdicts.{stream_on}
 use Rattle.srm_entries.specs.Sample.{first_drawop, second_drawop, entry, quiet, draws, gives}
 use Rattle.srm_node.specs.declared.fault.NodeFault.TheVariants.{Memory, Turns}
 use Rattle.srm_node.specs.Counting.{counts_of}

@@ -18,7 +18,8 @@ use Rattle.srm_entries.specs.Entries.{accepted, sent, drawn, held, held_by, draw
 use Rattle.srm_codec.specs.Spelling.{is_session}
 use Rattle.srm_entries.specs.Sessions.{charged}
 use Rattle.srm_store.specs.Finals.{Settling, rows_for, rows_of, row_number}
-use Rattle.srm_entries.specs.Verdicts.{told, settlings, settling_of, stream_on}
+use Rattle.srm_names.specs.Names.{stream_on}
+use Rattle.srm_entries.specs.Verdicts.{told, settlings, settling_of}
 use Rattle.srm_entries.proofs.Sending.{data_sent_was_drawn, repair_sent_was_held}
 use Rattle.srm_entries.proofs.Drawing.{draws_right}
 use Rattle.srm_entries.proofs.Telling.{rows_in, farewell_in, farewell_is}

@@ -5,7 +5,7 @@ use Rattle.std.specs.List.{AllByRecursion}
 use Rattle.srm_names.specs.declared.stream.Stream.{Stream}
 use Rattle.srm_names.specs.FullName.{FullName}
 use Rattle.srm_names.specs.Histories.{steps, greatest}
-use Rattle.srm_names.specs.Names.{first_page, named, same_page, same_stream}
+use Rattle.srm_names.specs.Names.{first_page, named, same_page, same_stream, stream_on}
 use Rattle.srm_names.proofs.Same.{same_stream-is}
 use Rattle.srm_codec.specs.declared.datagram.Datagram.{Datagram}
 use Rattle.srm_codec.specs.declared.datagram.Datagram.TheVariants.{Data, Session}
@@ -19,7 +19,6 @@ use Rattle.srm_entries.specs.declared.entry.Input.TheVariants.{Drew, Heard, Tick
 use Rattle.srm_entries.specs.Entries.{shown, known, is_missing, released}
 use Rattle.srm_entries.specs.Sessions.{expected_row, number_in_rows, if_positive, SessionMessageRight}
 use Rattle.srm_entries.specs.Bucket.{Going, bucket_calls}
-use Rattle.srm_entries.specs.Verdicts.{stream_on}
 use Rattle.srm_entries.specs.Runs.{EntryRight, IsMemberRun}
 use Rattle.srm_world.specs.Traces.{Trace, of_member, IsHonest, IsRun}
 use Rattle.srm_world.specs.Claims.{AtRest}

@@ -8,14 +8,13 @@ use Rattle.srm_names.specs.declared.stream.Stream.{Stream}
 use Rattle.srm_names.specs.declared.drawop.Drawop.{Drawop}
 use Rattle.srm_names.specs.FullName.{FullName}
 use Rattle.srm_names.specs.Histories.{steps, count_up, until_none}
-use Rattle.srm_names.specs.Names.{named}
+use Rattle.srm_names.specs.Names.{named, stream_on}
 use Rattle.srm_names.proofs.Lists.{Has, Has-back, Has-map, Has-flat_map, Has-filter, Has-passes, Has-contained}
 use Rattle.srm_names.proofs.Snoc.{steps_front}
 use Rattle.srm_codec.specs.declared.datagram.Datagram.{Datagram}
 use Rattle.srm_codec.specs.declared.datagram.Datagram.TheVariants.{Data, Request, Repair, Session}
 use Rattle.srm_entries.specs.declared.entry.Entry.{Entry}
 use Rattle.srm_entries.specs.Entries.{accepted, drawn, held_at, is_held, is_missing, known, released}
-use Rattle.srm_entries.specs.Verdicts.{stream_on}
 use Rattle.srm_entries.specs.Runs.{EntryRight}
 use Rattle.srm_entries.proofs.Responding.{run_at}
 use Rattle.srm_entries.proofs.Drawing.{drawn_once}

@@ -6,7 +6,7 @@ use Rattle.std.proofs.lemmas.Bool.{both_ways}
 use Rattle.srm_names.specs.declared.page.Page.{Page}
 use Rattle.srm_names.specs.declared.drawop.Drawop.{Drawop}
 use Rattle.srm_names.specs.FullName.{FullName}
-use Rattle.srm_names.specs.Names.{named}
+use Rattle.srm_names.specs.Names.{named, stream_on}
 use Rattle.srm_names.specs.PageFeeds.{drawops_of, drawop_from, leaves, is_page_feed}
 use Rattle.srm_names.proofs.Lists.{Has, front_of_front, front_whole, filter_map-front, list_any-front, until_none-front, find-Has}
 use Rattle.srm_names.proofs.Same.{same_name-is}
@@ -15,7 +15,6 @@ use Rattle.srm_entries.specs.declared.entry.Entry.{Entry}
 use Rattle.srm_store.specs.Held.{has_name, greatest_in}
 use Rattle.srm_entries.specs.Entries.{drawn, drawn_on, held, held_at, released, slots}
 use Rattle.srm_store.specs.Finals.{row_number}
-use Rattle.srm_entries.specs.Verdicts.{stream_on}
 use Rattle.srm_entries.specs.Giving.{given, taken}
 use Rattle.srm_entries.proofs.Drawing.{drawn_at}
 use Rattle.srm_entries.proofs.Feeding.{FeedsRight, FedRight, feeds_right, final_told, slot_part, slot_left}

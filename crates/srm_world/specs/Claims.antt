@@ -11,7 +11,7 @@ use Rattle.srm_entries.specs.declared.fault.AgentFault.TheVariants.{Memory}
 use Rattle.srm_entries.specs.declared.entry.Entry.{Entry}
 use Rattle.srm_entries.specs.declared.entry.Verdict.TheVariants.{Refused}
 use Rattle.srm_entries.specs.Entries.{accepted, known, is_missing, released, slots}
-use Rattle.srm_entries.specs.Verdicts.{stream_on}
+use Rattle.srm_names.specs.Names.{stream_on}
 use Rattle.srm_entries.specs.Runs.{IsMemberRun, RespondsInTime}
 use Rattle.srm_entries.specs.Promises.{GivesReleased}
 use Rattle.srm_entries.specs.Rates.{KeepsRate}

@@ -10,7 +10,8 @@ ghost use Rattle.srm_entries.specs.declared.entry.Input.TheVariants.{Heard};
 ghost use Rattle.srm_entries.specs.declared.entry.Verdict.TheVariants.{Ignored};
 ghost use Rattle.srm_entries.specs.Causes.{ignored_for};
 ghost use Rattle.srm_entries.specs.Entries.{is_gone, slots, known, held_at, drawops_in};
-ghost use Rattle.srm_entries.specs.Verdicts.{verdict_of, first_cause, is_stranger, is_beyond, exceeds, says_too_little, final, drawn_in, differs, stream_on};
+ghost use Rattle.srm_names.specs.Names.{stream_on};
+ghost use Rattle.srm_entries.specs.Verdicts.{verdict_of, first_cause, is_stranger, is_beyond, exceeds, says_too_little, final, drawn_in, differs};
 ghost use Rattle.srm_store.specs.PageTables.{table_lacks_room_for};
 ghost use Rattle.srm_agent.specs.Fits.{Fits};
 

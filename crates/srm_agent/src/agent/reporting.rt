@@ -3,7 +3,7 @@
 ghost use Rattle.std.specs.Prelude.{◌≡◌, ◌≤◌, ◌<◌, ◌*◌, ◌/◌, max, map, ℕ, List, IfOk, option_map};
 ghost use Rattle.srm_bucket.specs.declared.limits.TheConstants.{LEAST_RATE};
 ghost use Rattle.srm_names.specs.declared.limits.TheConstants.{LATEST_MOMENT, MEMBERS, DRAWOPS};
-ghost use Rattle.srm_names.specs.Names.{named};
+ghost use Rattle.srm_names.specs.Names.{named, stream_on};
 ghost use Rattle.srm_codec.specs.declared.datagram.Datagram.TheVariants.{Session};
 ghost use Rattle.srm_codec.specs.Spelling.{IsSpellable, is_page};
 ghost use Rattle.srm_entries.specs.Configs.{Config as Settings};
@@ -12,7 +12,6 @@ ghost use Rattle.srm_entries.specs.declared.entry.Entry.{Entry as AnEntry};
 ghost use Rattle.srm_agent.specs.Fits.{Fits};
 ghost use Rattle.srm_agent.specs.Reports.{IsSessionMessageOf, IsSessionMessageSpelled, AreReported, AreOwed, AreShown, AreOwnStreams, AreInOrder, AreRowsOf, IsRow, SaysLeft, CountsOnce};
 ghost use Rattle.srm_entries.specs.Sessions.{members_remaining, session_interval, if_positive};
-ghost use Rattle.srm_entries.specs.Verdicts.{stream_on};
 
 use super::Agent;
 use srm_agent_state::{member, page_in_range, stream_in_range};

@@ -8,7 +8,8 @@ use Rattle.srm_codec.specs.declared.datagram.Datagram.TheVariants.{Session}
 use Rattle.srm_store.specs.Finals.{row_number}
 use Rattle.srm_entries.specs.declared.entry.Entry.{Entry}
 use Rattle.srm_entries.specs.Entries.{known, slots}
-use Rattle.srm_entries.specs.Verdicts.{says_too_little, stream_on}
+use Rattle.srm_names.specs.Names.{stream_on}
+use Rattle.srm_entries.specs.Verdicts.{says_too_little}
 use Rattle.srm_agent.proofs.agent.Agent.is_short.Goals as goal
 
 -- rows with these numbers say less than is known of the sender

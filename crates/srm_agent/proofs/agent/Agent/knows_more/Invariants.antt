@@ -5,7 +5,7 @@ use Rattle.srm_store.specs.Finals.{row_number}
 use Rattle.srm_entries.specs.declared.entry.Entry.{Entry}
 use Rattle.srm_entries.specs.Configs.{Config}
 use Rattle.srm_entries.specs.Entries.{known}
-use Rattle.srm_entries.specs.Verdicts.{stream_on}
+use Rattle.srm_names.specs.Names.{stream_on}
 use Rattle.srm_agent.specs.Fits.{Fits}
 use Rattle.srm_agent.proofs.agent.Agent.knows_more.Given as goal
 

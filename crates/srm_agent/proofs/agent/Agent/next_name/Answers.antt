@@ -1,6 +1,6 @@
 use Rattle.std.proofs.Common.{◌∙◌, ap, ℕ}
 use Rattle.srm_entries.specs.Entries.{known}
-use Rattle.srm_entries.specs.Verdicts.{stream_on}
+use Rattle.srm_names.specs.Names.{stream_on}
 use Rattle.srm_entries.specs.Configs.{Config}
 use Rattle.srm_agent.specs.Drawing.{name_after}
 use Rattle.srm_agent.proofs.agent.Agent.next_name.Goals as goal
