@@ -15,7 +15,7 @@ use Rattle.srm_pages.proofs.Views.{all_set, all_one, snoc_cases}
 use Rattle.srm_names.specs.declared.limits.TheConstants.{MEMBERS}
 use Rattle.srm_pages.proofs.Shown.{order_alike}
 use Rattle.srm_pages.specs.declared.board.TheConstants.{BOARD_REGISTERS, REGISTERS_A_SLOT}
-use Rattle.srm_pages.specs.Board.{count_register, number_register, total, drawops_posted, CountsPosted, board_view, zeros, dealer, looking, with_seen, FitsBoard, IsBoardState, BoardState, Raised, Looked}
+use Rattle.srm_pages.specs.Board.{number_register, total, drawops_posted, CountsPosted, board_view, zeros, dealer, looking, with_seen, FitsBoard, IsBoardState, BoardState, Raised, Looked}
 
 replicate_zero : (n i : ℕ) → get_or {A = ℕ} (replicate n 0) i 0 ≡ 0
 replicate_zero zero i = refl
