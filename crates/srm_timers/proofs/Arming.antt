@@ -1,7 +1,6 @@
 -- Lists of arms: their names, their plans, and how they are drawn.
-use Rattle.std.proofs.Common.{◌≡◌, ℕ, zero, suc, ◌+◌, ◌<◌, List, [], ◌∷◌, ◌++◌, map, length, get_or, take, Option, Some, None, Bool, true, false, ◌||◌, cond, refl, sym, ap, subst, ◌∙◌}
-use Rattle.std.specs.Prelude.{if◌then◌else◌, option_map, find, is_some}
-use Rattle.std.specs.List.{list_any}
+use Rattle.std.proofs.Common.{◌≡◌, ℕ, ◌+◌, ◌<◌, List, [], ◌∷◌, ◌++◌, map, length, get_or, take, Option, Some, None, Bool, true, false, ◌||◌, cond, refl, sym, ap, subst, ◌∙◌}
+use Rattle.std.specs.Prelude.{if◌then◌else◌, option_map, find}
 use Rattle.std.proofs.lemmas.List.{map-append}
 use Rattle.srm_names.specs.declared.limits.TheConstants.{MEMBERS}
 use Rattle.srm_names.specs.FullName.{FullName}
@@ -15,7 +14,7 @@ use Rattle.srm_names.proofs.Snoc.{or_else-none}
 use Rattle.srm_deadlines.proofs.Order.{map_take}
 use Rattle.srm_timers.specs.declared.arm.Arm.{Arm}
 use Rattle.srm_deadlines.specs.declared.timed.Timed.{Timed}
-use Rattle.srm_timers.specs.Arms.{Plan, WaitBasis, plan_of, wait_basis, arm_name, arm_names, arm_of, ArmsAre, AreChosen, IsAsk, AreAsks, AreOfMembers}
+use Rattle.srm_timers.specs.Arms.{Plan, WaitBasis, plan_of, wait_basis, arm_names, arm_of, ArmsAre, AreChosen, IsAsk, AreAsks, AreOfMembers}
 use Rattle.srm_timers.specs.Expiries.{timed_at, expiry_of, is_short, AreShort}
 use Rattle.srm_deadlines.specs.Places.{names_of, moment_among, is_timed}
 

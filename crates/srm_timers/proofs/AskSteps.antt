@@ -1,21 +1,19 @@
 -- One more call, in the request timers.
-use Rattle.std.proofs.Common.{◌≡◌, ℕ, ◌+◌, ◌≤◌, List, [], ◌∷◌, ◌++◌, map, length, Option, Some, None, Bool, true, false, cond, refl, sym, ap, subst, ◌∙◌}
-use Rattle.std.specs.Prelude.{if◌then◌else◌, option_map, nat_le, IsNone, IsSome, is_some, IfSome, find, ◌||◌}
-use Rattle.std.specs.List.{AllByRecursion}
+use Rattle.std.proofs.Common.{◌≡◌, ℕ, ◌≤◌, List, [], ◌∷◌, ◌++◌, map, length, Option, Some, None, Bool, true, false, cond, refl, sym, ap, subst, ◌∙◌}
+use Rattle.std.specs.Prelude.{if◌then◌else◌, option_map, IsSome, is_some, IfSome, find, ◌||◌}
 use Rattle.srm_names.specs.FullName.{FullName}
 use Rattle.srm_names.specs.Histories.{last_of, or_else}
 use Rattle.srm_names.specs.Names.{same_name, name_below, ascending, among, AreExactly}
 use Rattle.srm_names.proofs.Snoc.{last_of-snoc, last_of-append}
 use Rattle.srm_timers.specs.declared.arm.Arm.{Arm}
 use Rattle.srm_timers.specs.declared.arm.Armed.{Armed}
-use Rattle.srm_timers.specs.declared.arm.ArmKind.TheVariants.{Ask}
 use Rattle.srm_deadlines.specs.declared.by_name.NamedValue.{NamedValue}
-use Rattle.srm_timers.specs.Arms.{arm_names, arm_of, runs_out_at, ran_out, backs_off, next_exponent, RunsOutFirst, ArmsAre, WaitBasis, Plan, plan_of}
+use Rattle.srm_timers.specs.Arms.{arm_names, arm_of, runs_out_at, ran_out, backs_off, next_exponent, RunsOutFirst, plan_of}
 use Rattle.srm_names.specs.Moments.{has_come}
-use Rattle.srm_timers.specs.Expiries.{expiry_of, SetsExpiries}
+use Rattle.srm_timers.specs.Expiries.{expiry_of}
 use Rattle.srm_timers.specs.Timers.{armed_at, SetsTimers}
 use Rattle.srm_deadlines.specs.Places.{value_at, value_in, is_at, has_place, KeepsValues, Sets, IsLeast}
-use Rattle.srm_timers.specs.AskCalls.{AskCall, Set, Gained, timer_after, flat, ask_timer, sets, AskFits, AskContent, AskAdds, AskExponentWhenHeard, AskExponentWhenDue, AskNext, AskDue, ArmsOfFound, ArmsSetAgain, found_plan, found_basis, AskStays, ask_basis, ask_plan, AskReady, AskTimersRun, DetectReady, DueReady, again_exponent, again_plan, again_basis, due_basis}
+use Rattle.srm_timers.specs.AskCalls.{AskCall, Set, Gained, timer_after, flat, ask_timer, sets, AskFits, AskContent, AskAdds, AskExponentWhenHeard, AskExponentWhenDue, AskNext, AskDue, ArmsOfFound, ArmsSetAgain, found_plan, found_basis, AskStays, ask_basis, ask_plan, AskReady, AskTimersRun, again_exponent, again_plan, again_basis, due_basis}
 use Rattle.srm_timers.specs.Distances.{distance_to}
 use Rattle.srm_timers.proofs.Arming.{last_arms, planned_names, planned_are}
 

@@ -1,6 +1,6 @@
 -- One more call, in the repair timers.
-use Rattle.std.proofs.Common.{◌≡◌, ℕ, ◌+◌, ◌*◌, ◌<◌, ◌≤◌, List, [], ◌∷◌, ◌++◌, map, length, get_or, take, Option, Some, None, Bool, true, false, cond, refl, sym, ap, subst, ◌∙◌, append_assoc, arith}
-use Rattle.std.specs.Prelude.{if◌then◌else◌, option_map, nat_le, nat_lt, ◌||◌, ◌&&◌, not, unwrap_or, is_some, option_to_list}
+use Rattle.std.proofs.Common.{◌≡◌, ℕ, ◌+◌, ◌*◌, ◌<◌, ◌≤◌, List, [], ◌∷◌, ◌++◌, length, get_or, take, Option, Some, None, Bool, true, false, cond, refl, sym, ap, subst, ◌∙◌, append_assoc, arith}
+use Rattle.std.specs.Prelude.{if◌then◌else◌, option_map, nat_lt, ◌||◌, ◌&&◌, not, unwrap_or, is_some}
 use Rattle.std.specs.List.{list_any}
 use Rattle.std.proofs.Math.Bool.{or-false}
 use Rattle.std.proofs.lemmas.List.Folds.{list_any-append, list_any_more}
@@ -14,7 +14,7 @@ use Rattle.srm_names.proofs.Snoc.{or_else-none, last_of-snoc, last_of-append, fi
 use Rattle.srm_timers.specs.declared.arm.Arm.{Arm}
 use Rattle.srm_timers.specs.declared.arm.Armed.{Armed}
 use Rattle.srm_deadlines.specs.declared.by_name.NamedValue.{NamedValue}
-use Rattle.srm_timers.specs.Arms.{Plan, plan_of, runs_out_at, ran_out, arm_names, arm_of}
+use Rattle.srm_timers.specs.Arms.{Plan, plan_of, runs_out_at, arm_names, arm_of}
 use Rattle.srm_names.specs.Moments.{has_come}
 use Rattle.srm_timers.specs.Distances.{distance_to}
 use Rattle.srm_timers.specs.Expiries.{ExpiryContent, expiry_of, SetsExpiries}
@@ -22,8 +22,7 @@ use Rattle.srm_timers.specs.Timers.{armed_at}
 use Rattle.srm_deadlines.specs.Places.{value_at, KeepsValues, Sets, ClearsAll, IsLeast}
 use Rattle.srm_timers.specs.AskCalls.{flat}
 use Rattle.srm_timers.specs.Marks.{NotesAsker, OffAsBefore}
-use Rattle.srm_timers.specs.FixCalls.{FixCall, Asked, SetFix, Repaired, asker_by, asked_first, first_asker, fix_timer_after, fix_timer, call_holds_off, calls_hold_off, is_free, sets_fix, repair_holds_until, repair_by, repair_calls, FixFits, FixContent, FixStays, FixAdds, FixRepairs, FixDue, FixNext, FixIsFree, FixFirstAsker, NotesRequest, fix_plan, FixPlace, FixPlaces, HoldsOff, HoldAllOff, asker_at, is_held_off, held_off_until}
-use Rattle.srm_deadlines.proofs.Order.{map_take}
+use Rattle.srm_timers.specs.FixCalls.{FixCall, Asked, SetFix, Repaired, asker_by, asked_first, fix_timer_after, fix_timer, call_holds_off, calls_hold_off, is_free, sets_fix, repair_holds_until, repair_calls, FixFits, FixContent, FixStays, FixAdds, FixRepairs, FixDue, FixNext, FixIsFree, FixFirstAsker, NotesRequest, fix_plan, FixPlace, FixPlaces, HoldsOff, HoldAllOff, asker_at, is_held_off, held_off_until}
 use Rattle.srm_timers.proofs.Arming.{last_arms}
 pub use Rattle.srm_deadlines.proofs.Tables.{holds_on}
 use Rattle.srm_timers.proofs.AskSteps.{if_same, flat_told, flat_set, ends_set, due_ran_out, first_end}

@@ -8,7 +8,7 @@ use Rattle.srm_names.proofs.Same.{same_name-is}
 use Rattle.srm_deadlines.specs.declared.by_name.NamedValue.{NamedValue}
 use Rattle.srm_deadlines.specs.Places.{value_at, value_in, is_at, has_place, KeepsPlaces, HasPlaces, KeepsValues, Sets}
 use Rattle.srm_timers.specs.declared.marks.Mark.{Mark}
-use Rattle.srm_timers.specs.FixCalls.{HoldsOff, HoldAllOff, asker_at, is_held_off, held_off_until}
+use Rattle.srm_timers.specs.FixCalls.{HoldsOff, HoldAllOff, asker_at, held_off_until}
 use Rattle.srm_timers.specs.Marks.{asker_of, until_of, place_by, marks_of, MarkContent, HaveMarks, MarksKeepPlaces, NotesAsker, OffAsBefore}
 use Rattle.srm_timers.specs.Distances.{distance_to}
 use Rattle.srm_timers.proofs.FixSteps.{new_asker, held_longer, held_more}

@@ -1,6 +1,6 @@
 -- What fixtures of tests keep.
-use Rattle.std.proofs.Common.{◌≡◌, ℕ, zero, suc, ◌≤◌, List, [], ◌∷◌, length, set, refl, arith}
-use Rattle.std.specs.Prelude.{replicate, slice_index}
+use Rattle.std.proofs.Common.{ℕ, zero, suc, ◌≤◌, ◌∷◌, arith}
+use Rattle.std.specs.Prelude.{replicate}
 use Rattle.srm_names.specs.declared.limits.TheConstants.{LONGEST_DISTANCE}
 use Rattle.srm_timers.specs.Distances.{AreDistances, distance_to}
 

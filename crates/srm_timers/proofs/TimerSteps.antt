@@ -1,6 +1,6 @@
 -- One more timer that is set, in a list that is gone through.
-use Rattle.std.proofs.Common.{◌≡◌, ℕ, zero, suc, ◌+◌, ◌<◌, ◌≤◌, List, [], ◌∷◌, ◌++◌, length, get_or, take, Option, Some, None, Bool, true, false, ◌||◌, refl, sym, ap, subst, ◌∙◌, arith}
-use Rattle.std.specs.Prelude.{if◌then◌else◌, option_map}
+use Rattle.std.proofs.Common.{◌≡◌, ℕ, zero, suc, ◌+◌, ◌<◌, ◌≤◌, List, [], ◌∷◌, ◌++◌, length, get_or, take, Option, Some, None, Bool, true, false, ◌||◌, refl, sym, ap, ◌∙◌, arith}
+use Rattle.std.specs.Prelude.{if◌then◌else◌}
 use Rattle.std.proofs.lemmas.List.{take_more, take_all, map-id}
 use Rattle.srm_names.specs.FullName.{FullName}
 use Rattle.srm_names.specs.Histories.{or_else, last_of}
@@ -10,7 +10,7 @@ use Rattle.srm_names.proofs.Snoc.{last_of-snoc}
 use Rattle.srm_timers.specs.declared.arm.Arm.{Arm}
 use Rattle.srm_timers.specs.declared.arm.Armed.{Armed}
 use Rattle.srm_deadlines.specs.declared.by_name.NamedValue.{NamedValue}
-use Rattle.srm_timers.specs.Arms.{arm_name, arm_names, arm_of}
+use Rattle.srm_timers.specs.Arms.{arm_names}
 use Rattle.srm_deadlines.specs.Places.{value_at, has_place, Sets, KeepsPlaces, HasPlaces}
 use Rattle.srm_timers.specs.Timers.{armed_at, SetsTimers}
 use Rattle.srm_timers.proofs.Arming.{last_arms}

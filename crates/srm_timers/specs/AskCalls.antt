@@ -1,5 +1,5 @@
 -- The request timers, by the calls so far.
-use Rattle.std.specs.Prelude.{◌≡◌, ℕ, ◌≤◌, true, List, [], ◌∷◌, ◌++◌, map, length, if◌then◌else◌, Option, Some, None, option_map, IsSome}
+use Rattle.std.specs.Prelude.{◌≡◌, ℕ, ◌≤◌, true, List, [], ◌++◌, map, length, if◌then◌else◌, Option, Some, None, option_map, IsSome}
 use Rattle.srm_names.specs.FullName.{FullName}
 use Rattle.srm_names.specs.Histories.{last_of}
 use Rattle.srm_names.specs.Names.{same_name, among, AreExactly}

@@ -1,5 +1,5 @@
 -- The definitions of arms and timers at worked examples.
-use Rattle.std.specs.Prelude.{◌≡◌, ℕ, ◌+◌, true, false, List, [], ◌∷◌, map, Option, Some, None, option_map, refl}
+use Rattle.std.specs.Prelude.{◌≡◌, ℕ, true, false, [], ◌∷◌, Some, None, option_map, refl}
 use Rattle.srm_names.specs.FullName.{FullName}
 use Rattle.srm_names.specs.Names.{first_page, named}
 use Rattle.srm_timers.specs.declared.arm.Arm.{Arm}
@@ -10,7 +10,7 @@ use Rattle.srm_timers.specs.ListedWords.{next_listed}
 use Rattle.srm_timers.specs.Distances.{distance_to}
 use Rattle.srm_timers.specs.Timers.{armed_at}
 use Rattle.srm_timers.specs.AskCalls.{Set, Gained, ask_timer, sets, ask_basis, found_basis, due_basis}
-use Rattle.srm_timers.specs.FixCalls.{Asked, SetFix, Repaired, asked_first, first_asker, fix_timer, calls_hold_off, is_free, repair_holds_until, repair_calls}
+use Rattle.srm_timers.specs.FixCalls.{Asked, SetFix, Repaired, first_asker, fix_timer, calls_hold_off, is_free, repair_holds_until, repair_calls}
 
 abbrev name : ℕ → FullName
 name number = named (record { source = 0; page = first_page }) number

@@ -1,5 +1,5 @@
 use Rattle.std.proofs.Common.{refl, sym, subst, rules}
-use Rattle.srm_timers.specs.AskCalls.{AskContent, AskTimersRun}
+use Rattle.srm_timers.specs.AskCalls.{AskTimersRun}
 use Rattle.srm_deadlines.specs.Places.{value_at}
 use Rattle.srm_timers.proofs.AskSteps.{again_ready}
 use Rattle.srm_timers.proofs.asks.Asks.set_again.Goals as goal

@@ -1,7 +1,5 @@
 use Rattle.std.proofs.Common.{◌≡◌, sym, ◌∙◌, rules}
 use Rattle.std.specs.Prelude.{None}
-use Rattle.srm_deadlines.specs.Places.{value_at}
-use Rattle.srm_timers.specs.Marks.{marks_of}
 use Rattle.srm_timers.proofs.Marking.{asked_place, note_first, marks_hold}
 use Rattle.srm_timers.proofs.marks.Marks.note.Goals as goal
 
