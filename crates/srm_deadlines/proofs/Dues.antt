@@ -1,9 +1,9 @@
 -- What is first, what is named and what is due in lists in order.
-use Rattle.std.proofs.Common.{◌≡◌, ℕ, zero, suc, ◌+◌, ◌<◌, ◌≤◌, Bool, true, false, cond, ◌||◌, List, [], ◌∷◌, map, length, take, get_or, refl, sym, ap, subst, ◌∙◌, arith, inl, inr, add-one}
+use Rattle.std.proofs.Common.{◌≡◌, ℕ, zero, suc, ◌+◌, ◌<◌, ◌≤◌, Bool, true, false, cond, ◌||◌, List, [], ◌∷◌, map, length, take, get_or, refl, sym, ap, subst, ◌∙◌, arith, inl, inr}
 use Rattle.std.specs.Prelude.{filter, Option, Some, None, IfSome, slice_get, Result, Ok, Err, is_ok}
 use Rattle.std.specs.declared.cmp.Ordering.{Ordering}
 use Rattle.std.specs.declared.cmp.Ordering.TheVariants.{Less, Equal, Greater}
-use Rattle.std.specs.List.{list_any, All, AllWithin}
+use Rattle.std.specs.List.{list_any, All}
 use Rattle.std.specs.List.Sorted.{IsPermutation, IsSorted, IsSortedBy, IsPartitionPoint, IsBinarySearchResult, IsSearchInRange}
 use Rattle.std.specs.Ordering.{is_lt}
 use Rattle.std.proofs.lemmas.Bool.{and_from, and_parts, cases_lt, or_right}
@@ -19,7 +19,6 @@ use Rattle.srm_deadlines.specs.Places.{is_timed, names_of}
 use Rattle.srm_deadlines.specs.Agenda.{of_name, is_due, name_order}
 use Rattle.srm_deadlines.proofs.Agendas.{same_count}
 use Rattle.srm_deadlines.proofs.Orders.{IsInOrder, moments_rise, name_total, name_equal, name_lt_is}
-use Rattle.srm_deadlines.proofs.Same.{same_flip}
 
 -- ---- the first
 

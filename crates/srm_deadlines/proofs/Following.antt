@@ -1,6 +1,6 @@
 -- An agenda that follows the moments by name.
-use Rattle.std.proofs.Common.{◌≡◌, ℕ, zero, ◌+◌, ◌<◌, ◌≤◌, Bool, true, false, cond, List, [], ◌∷◌, ◌++◌, length, get_or, refl, sym, ap, subst, ◌∙◌, arith, inl, inr, length-append}
-use Rattle.std.specs.Prelude.{Option, Some, None, IfSome, find, filter, is_some, option_map, slice_get, if◌then◌else◌}
+use Rattle.std.proofs.Common.{◌≡◌, ℕ, ◌+◌, ◌<◌, ◌≤◌, Bool, true, false, cond, List, [], ◌∷◌, ◌++◌, length, refl, sym, ap, subst, ◌∙◌, arith, length-append}
+use Rattle.std.specs.Prelude.{Option, Some, None, IfSome, find, is_some, option_map, slice_get, if◌then◌else◌}
 use Rattle.std.specs.List.{All}
 use Rattle.std.proofs.lemmas.List.Elements.{All-filter, filter-append}
 use Rattle.srm_names.specs.FullName.{FullName}
@@ -9,7 +9,7 @@ use Rattle.srm_names.specs.Names.{same_name, name_below, ascending, among}
 use Rattle.srm_names.proofs.Same.{same_name-is, same_name-itself}
 use Rattle.srm_deadlines.specs.declared.by_name.NamedValue.{NamedValue}
 use Rattle.srm_deadlines.specs.declared.timed.Timed.{Timed}
-use Rattle.srm_deadlines.specs.Places.{is_timed, is_at, names_of, moment_among, value_in, value_at, has_place, SetsAll, ClearsAll, HasPlaces, IsLeast}
+use Rattle.srm_deadlines.specs.Places.{is_timed, names_of, value_at, has_place, SetsAll, ClearsAll, HasPlaces, IsLeast}
 use Rattle.srm_deadlines.specs.Agenda.{Agenda, AgendaFits, of_name, timed_for, timed_or, timed_among}
 use Rattle.srm_deadlines.proofs.Agendas.{there_is_room, appended, absent_found, short_of, none_among}
 use Rattle.srm_deadlines.proofs.Looking.{none_without}

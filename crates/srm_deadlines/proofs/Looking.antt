@@ -1,6 +1,6 @@
 -- What is due, looked for place by place.
-use Rattle.std.proofs.Common.{◌≡◌, ℕ, take, length, get_or, ◌<◌, ◌≤◌, ◌+◌, inl, inr, arith, Bool, true, false, ◌&&◌, ◌||◌, List, refl, sym, ap, subst, ◌∙◌}
-use Rattle.std.specs.Prelude.{Option, Some, None, IfSome, find, is_some, ◌⊎◌}
+use Rattle.std.proofs.Common.{◌≡◌, ℕ, take, length, get_or, ◌<◌, ◌≤◌, ◌+◌, inl, inr, Bool, true, false, ◌&&◌, ◌||◌, List, refl, sym, ap, subst, ◌∙◌}
+use Rattle.std.specs.Prelude.{Option, Some, None, IfSome, find, is_some}
 use Rattle.std.specs.List.{list_any}
 use Rattle.std.proofs.lemmas.Bool.{or_cases}
 use Rattle.std.proofs.lemmas.List.Folds.{list_any_more}

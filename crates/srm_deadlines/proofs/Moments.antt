@@ -1,7 +1,6 @@
 -- Moments that are set one after the other.
 use Rattle.std.proofs.Common.{◌≡◌, ℕ, zero, suc, take, length, get_or, ◌<◌, ◌+◌, Bool, true, false, cond, ◌||◌, List, [], ◌∷◌, refl, sym, ap, subst, ◌∙◌, arith, add-one}
 use Rattle.std.specs.Prelude.{Option, Some, None, find, option_map, if◌then◌else◌}
-use Rattle.std.specs.List.{list_any}
 use Rattle.std.proofs.lemmas.Bool.{or_right}
 use Rattle.srm_names.specs.FullName.{FullName}
 use Rattle.srm_names.specs.Histories.{or_else}
@@ -11,7 +10,7 @@ use Rattle.srm_names.proofs.Rising.{ascending_tail}
 use Rattle.srm_names.proofs.Orders.{stands_once}
 use Rattle.srm_deadlines.specs.declared.by_name.NamedValue.{NamedValue}
 use Rattle.srm_deadlines.specs.declared.timed.Timed.{Timed}
-use Rattle.srm_deadlines.specs.Places.{names_of, is_timed, moment_among, value_at, has_place, KeepsPlaces, GivesPlaces, Sets, SetsAll, HasPlaces}
+use Rattle.srm_deadlines.specs.Places.{names_of, is_timed, value_at, has_place, KeepsPlaces, GivesPlaces, Sets, SetsAll, HasPlaces}
 use Rattle.srm_deadlines.proofs.Tables.{given_on}
 
 abbrev given : Option Timed → Option ℕ → Option ℕ

@@ -1,6 +1,6 @@
 -- Lists in order of name, and what is put into them.
-use Rattle.std.proofs.Common.{◌≡◌, ℕ, map, zero, suc, take, drop, length, get_or, ◌<◌, ◌+◌, ◌⊎◌, inl, inr, Bool, true, false, ◌&&◌, ◌||◌, List, [], ◌∷◌, ◌++◌, refl, sym, ap, subst, ◌∙◌, arith}
-use Rattle.std.specs.List.{list_any, insert}
+use Rattle.std.proofs.Common.{◌≡◌, ℕ, map, zero, suc, take, drop, length, get_or, ◌<◌, ◌+◌, inl, inr, Bool, true, false, ◌||◌, List, [], ◌∷◌, ◌++◌, refl, sym, ap, subst, ◌∙◌, arith}
+use Rattle.std.specs.List.{insert}
 use Rattle.std.proofs.lemmas.Bool.{or_left, or_cases}
 use Rattle.std.proofs.lemmas.List.{take_more, map-append, take-append-drop}
 use Rattle.std.proofs.lemmas.List.Folds.{list_any-append, list_any_more}

@@ -1,5 +1,5 @@
 -- The order of names with moments, and lists that are sorted by it.
-use Rattle.std.proofs.Common.{◌≡◌, ℕ, zero, suc, ◌+◌, ◌<◌, ◌≤◌, ◌==◌, Bool, true, false, not, cond, ◌&&◌, ◌||◌, List, [], ◌∷◌, length, take, drop, get_or, refl, sym, ap, subst, ◌∙◌, arith, inl, inr, ◌⊎◌, add-one}
+use Rattle.std.proofs.Common.{◌≡◌, ℕ, zero, suc, ◌+◌, ◌<◌, ◌≤◌, ◌==◌, Bool, true, false, cond, ◌&&◌, ◌||◌, List, length, get_or, refl, sym, ap, ◌∙◌, arith, inl, inr, ◌⊎◌, add-one}
 use Rattle.std.specs.Prelude.{nat_lt, filter, Err}
 use Rattle.std.specs.Cmp.{IsTotalOrder, IsStrictWeakOrder}
 use Rattle.std.specs.declared.cmp.Ordering.{Ordering}
@@ -18,7 +18,7 @@ use Rattle.std.proofs.lemmas.Map.Lookups.{exact_unsigned}
 use Rattle.srm_names.specs.declared.page.Page.{Page}
 use Rattle.srm_names.specs.declared.stream.Stream.{Stream}
 use Rattle.srm_names.specs.FullName.{FullName}
-use Rattle.srm_names.specs.Names.{same_page, same_stream, same_name, page_below, stream_below, name_below}
+use Rattle.srm_names.specs.Names.{same_page, same_stream, page_below, stream_below, name_below}
 use Rattle.srm_deadlines.specs.declared.timed.Timed.{Timed}
 use Rattle.srm_names.proofs.Lists.{Has, Has-Contains}
 use Rattle.srm_deadlines.specs.Agenda.{page_order, stream_order, name_order, timed_order}

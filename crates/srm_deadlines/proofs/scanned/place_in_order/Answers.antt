@@ -1,4 +1,4 @@
-use Rattle.std.proofs.Common.{sym, ap, subst, ◌∙◌, ◌≡◌, true}
+use Rattle.std.proofs.Common.{sym, subst, ◌∙◌, ◌≡◌, true}
 use Rattle.srm_names.specs.Names.{name_below}
 use Rattle.srm_deadlines.proofs.Order.{before_more, drop_below}
 use Rattle.srm_deadlines.proofs.scanned.place_in_order.Goals as goal

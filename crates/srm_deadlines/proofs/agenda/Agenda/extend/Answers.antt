@@ -1,4 +1,4 @@
-use Rattle.std.proofs.Common.{sym, ap, subst, ◌∙◌, ◌≡◌, ◌+◌, ◌<◌, ◌≤◌, ◌++◌, length, rules, arith}
+use Rattle.std.proofs.Common.{ap, subst, ◌∙◌, ◌≡◌, ◌+◌, ◌≤◌, ◌++◌, length, rules}
 use Rattle.std.specs.Prelude.{IsPermutation}
 use Rattle.std.specs.Vec.{vec_capacity, vec_len}
 use Rattle.srm_deadlines.specs.Agenda.{Agenda}

@@ -1,9 +1,8 @@
 use Rattle.srm_names.specs.Names.{same_name}
 use Rattle.std.specs.Prelude.{if◌then◌else◌}
-use Rattle.std.proofs.Common.{sym, ap, subst, ◌∙◌, ◌≡◌, ◌<◌, length, get_or, Err, [], ◌∷◌, inl, refl, arith, rules}
+use Rattle.std.proofs.Common.{sym, ap, subst, ◌∙◌, ◌≡◌, ◌<◌, length, get_or, Err, [], ◌∷◌, rules}
 use Rattle.std.specs.List.{remove}
 use Rattle.std.specs.List.Sorted.{IsBinarySearchResult}
-use Rattle.srm_names.proofs.Lists.{Has}
 use Rattle.srm_deadlines.specs.declared.timed.Timed.{Timed}
 use Rattle.srm_deadlines.specs.Agenda.{Agenda, of_name, timed_for, timed_order}
 use Rattle.srm_deadlines.proofs.Agendas.{removed, has_of_name}

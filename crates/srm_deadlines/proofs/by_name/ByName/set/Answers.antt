@@ -1,4 +1,4 @@
-use Rattle.srm_deadlines.proofs.Tables.{Puts, sets_from, holds_from, given_from, none_given, not_refused, same_length}
+use Rattle.srm_deadlines.proofs.Tables.{sets_from, holds_from, given_from, none_given, not_refused, same_length}
 use Rattle.srm_deadlines.proofs.by_name.ByName.set.Goals as goal
 
 pub returns-clause-sets : goal.returns-clause-sets

@@ -1,4 +1,4 @@
-use Rattle.std.proofs.Common.{sym, subst, ◌≡◌, ◌≤◌, ◌+◌, length, arith}
+use Rattle.std.proofs.Common.{sym, subst, ◌≤◌, ◌+◌, length, arith}
 use Rattle.srm_deadlines.specs.Places.{HasPlaces, names_of}
 use Rattle.srm_deadlines.proofs.Following.{room_for_all, follows_all}
 use Rattle.srm_deadlines.proofs.ordered.Ordered.set_many.Goals as goal

@@ -1,6 +1,4 @@
-use Rattle.std.proofs.Common.{sym, subst, ◌∙◌, ◌≡◌, Some, None}
-use Rattle.std.specs.Prelude.{IfSome}
-use Rattle.std.specs.List.{All}
+use Rattle.std.proofs.Common.{sym, subst, ◌∙◌, Some, None}
 use Rattle.srm_deadlines.specs.Places.{IsLeast}
 use Rattle.srm_deadlines.proofs.Following.{none_least, first_is_least}
 use Rattle.srm_deadlines.proofs.ordered.OrderedDeadlines.next.Goals as goal

@@ -1,4 +1,4 @@
-use Rattle.std.proofs.Common.{subst, sym, ap, ◌≡◌, ◌<◌, ◌≤◌, ◌∙◌, length, take, ◌+◌, arith}
+use Rattle.std.proofs.Common.{subst, sym, ap, ◌<◌, ◌≤◌, ◌∙◌, length, take, ◌+◌, arith}
 use Rattle.std.proofs.lemmas.List.{take_all}
 use Rattle.srm_deadlines.specs.Least.{lesser}
 use Rattle.srm_deadlines.specs.Places.{IsLeast}
