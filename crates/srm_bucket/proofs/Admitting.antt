@@ -1,6 +1,6 @@
 -- What a bucket admits, from what it keeps.
-use Rattle.std.proofs.Common.{◌≡◌, ℕ, ◌+◌, ◌-◌, ◌*◌, ◌≤◌, ◌<◌, ◌==◌, ◌||◌, max, min, List, [], ◌∷◌, ◌++◌, length, Option, Some, None, Bool, true, false, refl, sym, ap, subst, ◌∙◌, arith}
-use Rattle.std.specs.Prelude.{if◌then◌else◌, nat_le, IfSome}
+use Rattle.std.proofs.Common.{◌≡◌, ℕ, ◌+◌, ◌-◌, ◌*◌, ◌≤◌, ◌<◌, ◌==◌, ◌||◌, List, length, Option, Some, None, Bool, true, false, refl, sym, ap, subst, ◌∙◌, arith}
+use Rattle.std.specs.Prelude.{nat_le, IfSome}
 use Rattle.std.proofs.lemmas.Bool.Decides.{nat_tests}
 use Rattle.std.proofs.lemmas.Option.{same_Some}
 use Rattle.srm_bucket.specs.declared.class.Class.{Class}
@@ -12,12 +12,12 @@ use Rattle.srm_bucket.specs.Classes.{queued}
 use Rattle.srm_bucket.specs.Tokens.{IsFirstLevel, cost_of, refilled}
 use Rattle.srm_bucket.specs.Ticks.{last_moment}
 use Rattle.srm_bucket.specs.Law.{level_at}
-use Rattle.srm_bucket.specs.Waiting.{Waiting, queue}
+use Rattle.srm_bucket.specs.Waiting.{queue}
 use Rattle.srm_bucket.specs.Content.{Content}
 use Rattle.srm_bucket.specs.Fits.{Fits}
 use Rattle.srm_bucket.specs.Paying.{rest_after}
 use Rattle.srm_names.specs.Moments.{has_come}
-use Rattle.srm_bucket.specs.Admitting.{ahead_of, cost_of_all, is_paid, admits, IsAdmittedFrom, Admits, AdmitsFrom}
+use Rattle.srm_bucket.specs.Admitting.{ahead_of, cost_of_all, is_paid, admits, Admits, AdmitsFrom}
 use Rattle.srm_bucket.proofs.Going.{left-is, refilled-is}
 use Rattle.srm_bucket.proofs.Paying.{rest-covers, rest-short}
 

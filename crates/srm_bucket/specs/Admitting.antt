@@ -1,5 +1,5 @@
 -- Whether a bucket admits one more item: whether it would go at once, behind all that goes before it.
-use Rattle.std.specs.Prelude.{ℕ, ◌+◌, ◌≤◌, ◌≡◌, nat_le, Bool, true, ◌||◌, List, [], ◌∷◌, ◌++◌, length, ◌==◌, Option, IfSome}
+use Rattle.std.specs.Prelude.{ℕ, ◌+◌, ◌≤◌, ◌≡◌, nat_le, Bool, ◌||◌, List, [], ◌∷◌, ◌++◌, length, ◌==◌, Option, IfSome}
 use Rattle.srm_names.specs.Moments.{has_come}
 use Rattle.srm_bucket.specs.declared.class.Class.{Class}
 use Rattle.srm_bucket.specs.declared.class.Class.TheVariants.{Shown, New, Other}

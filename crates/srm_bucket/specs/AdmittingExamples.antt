@@ -1,11 +1,11 @@
 -- What is admitted, at worked examples.
-use Rattle.std.specs.Prelude.{◌≡◌, ℕ, Bool, true, false, List, [], ◌∷◌, ◌++◌, map, length, Some, refl}
+use Rattle.std.specs.Prelude.{◌≡◌, ℕ, true, false, List, [], ◌∷◌, ◌++◌, map, Some, refl}
 use Rattle.srm_bucket.specs.declared.class.Class.{Class}
 use Rattle.srm_bucket.specs.declared.class.Class.TheVariants.{Shown, New, Other}
 use Rattle.srm_bucket.specs.Calls.{Call, Handed, Popped}
 use Rattle.srm_bucket.specs.Classes.{queued}
 use Rattle.srm_bucket.specs.Admitting.{ahead_of, cost_of_all, admits}
-use Rattle.srm_bucket.specs.Examples.{entry, full, five, four_gone, emptied}
+use Rattle.srm_bucket.specs.Examples.{full, four_gone, emptied}
 
 none : List (Call ℕ)
 none = []

@@ -4,7 +4,6 @@ use Rattle.std.specs.Bool.{OnTrue}
 use Rattle.std.specs.List.{AllByRecursion}
 use Rattle.srm_names.specs.Histories.{IsPrefix, steps}
 use Rattle.srm_bucket.specs.declared.class.Class.{Class}
-use Rattle.srm_bucket.specs.declared.item.Item.{Item}
 use Rattle.srm_bucket.specs.Calls.{Classed, Call, Handed, Refilled, Popped}
 use Rattle.srm_bucket.specs.Classes.{rank, handed, departed, next_queued}
 use Rattle.srm_bucket.specs.Ticks.{last_moment, ticks, cost, level, IsWithin}
