@@ -47,15 +47,8 @@ fn member(rt: &impl Abort, number: u8) -> Member {
     Member::new(number).expect(rt, "a member")
 }
 
-fn first_page(rt: &impl Abort) -> Page {
-    Page {
-        creator: member(rt, 0),
-        number: 0,
-    }
-}
-
 fn name(rt: &impl Abort, source: u8, number: u32) -> Name {
-    Name::new(member(rt, source), first_page(rt), number).expect(rt, "a name")
+    srm_rig::name(source, 0, number).expect(rt, "a name")
 }
 
 fn drawop(alloc: Global, rt: &impl Abort, body: &[u8]) -> Result<Drawop, Fail> {
@@ -77,7 +70,7 @@ fn report(
         sender: member(rt, 3),
         sent: 1_000_000,
         farewell,
-        shown: first_page(rt),
+        shown: Page::first(),
         rows: Items::new(rows.to_vec(alloc)?),
         echoes: Items::new(echoes.to_vec(alloc)?),
     })

@@ -2,7 +2,7 @@
 
 use crate::list_store::ListStore;
 use bytes::Bytes;
-use srm_names::{DRAWOPS, Drawop, Member, Name, Page};
+use srm_names::{DRAWOPS, Drawop, Name};
 use srm_store::{Insert, Store, StoreFault};
 use std::alloc::Global;
 use std::process::Abort;
@@ -10,13 +10,7 @@ use std::test::Fail;
 
 /// A name on a page of member 0.
 pub(crate) fn name(rt: &impl Abort, source: u8, page: u16, number: u32) -> Name {
-    let source = Member::new(source).expect(rt, "a source");
-    let creator = Member::new(0).expect(rt, "a creator");
-    let page = Page {
-        creator,
-        number: page,
-    };
-    Name::new(source, page, number).expect(rt, "a number")
+    srm_rig::name(source, page, number).expect(rt, "a name")
 }
 
 pub(crate) fn drawop(alloc: Global, name: Name, body: &[u8]) -> Result<Drawop, Fail> {

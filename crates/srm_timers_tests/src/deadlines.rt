@@ -4,7 +4,7 @@ ghost use Rattle.std.specs.Prelude.{◌≡◌, true, IfOk};
 ghost use Rattle.srm_names.specs.Names.{ascending, name_below};
 ghost use Rattle.srm_deadlines.specs.Places.{names_of};
 
-use srm_names::{Member, Name, Page};
+use srm_names::Name;
 use srm_timers::{
     Deadlines, Listed, Ordered, Pcg, Scanned, Timed, Tree, Words, put_names, wait_between,
 };
@@ -45,10 +45,8 @@ fn name(word: u64, rt: &impl Abort) -> Name {
 
 /// A name of one of four members, on the first page, with a number from 1 to 1,024.
 fn name_up_to(word: u64, rt: &impl Abort) -> Name {
-    let source = Member::new((word % 4) as u8).expect(rt, "a member");
-    let creator = Member::new(0).expect(rt, "a creator");
-    let page = Page { creator, number: 0 };
-    Name::new(source, page, (word / 4 % 1_024) as u32 + 1).expect(rt, "a number")
+    let number = (word / 4 % 1_024) as u32 + 1;
+    srm_rig::name((word % 4) as u8, 0, number).expect(rt, "a name")
 }
 
 /// Sets the moment of a name, which has a place from then on.
@@ -102,59 +100,62 @@ fn clear_due<D: Deadlines>(alloc: Global, deadlines: &mut D, now: u64) -> Result
     Ok(())
 }
 
-/// Checks that two bodies answer alike.
-fn compare<D: Deadlines, E: Deadlines>(
+/// Checks that a body answers as a list that is looked through.
+fn compare<D: Deadlines>(
     alloc: Global,
-    left: &D,
-    right: &E,
+    scanned: &Scanned,
+    other: &D,
     now: u64,
     rt: &impl Abort,
 ) -> Result<(), Fail> {
-    assert_eq!(rt; left.next(), right.next());
-    assert!(rt; due(alloc, left, now)? == due(alloc, right, now)?);
+    assert_eq!(rt; scanned.next(), other.next());
+    assert!(rt; due(alloc, scanned, now)? == due(alloc, other, now)?);
     Ok(())
 }
 
 /// Sets or clears the moment of a name in both bodies, as the words say, and compares them.
-fn set_or_clear<D: Deadlines, E: Deadlines>(
+fn set_or_clear<D: Deadlines>(
     alloc: Global,
     words: &mut Pcg,
-    left: &mut D,
-    right: &mut E,
+    scanned: &mut Scanned,
+    other: &mut D,
     rt: &impl Abort,
 ) -> Result<(), Fail> {
     let (name, moment) = (name(words.word(), rt), words.word() % 100);
     if words.word() % 4 == 0 {
-        left.clear(name);
-        right.clear(name);
+        scanned.clear(name);
+        other.clear(name);
     } else {
-        arm(left, name, moment)?;
-        arm(right, name, moment)?;
+        arm(scanned, name, moment)?;
+        arm(other, name, moment)?;
     }
-    assert_eq!(rt; left.get(name), right.get(name));
-    compare(alloc, left, right, words.word() % 100, rt)
+    assert_eq!(rt; scanned.get(name), other.get(name));
+    compare(alloc, scanned, other, words.word() % 100, rt)
+}
+
+/// A body answers 1,000 calls, which words from this number on choose, as a list that is looked through.
+fn answers_1_000_calls<D: Deadlines>(
+    alloc: Global,
+    start: u64,
+    other: &mut D,
+    rt: &impl Abort,
+) -> Result<(), Fail> {
+    let mut words = Pcg::new(start);
+    let mut scanned = Scanned::new(alloc);
+    for _ in 0..1_000 {
+        set_or_clear(alloc, &mut words, &mut scanned, other, rt)?;
+    }
+    Ok(())
 }
 
 #[test]
 fn ordered_answers_1_000_calls_as_scanned(rt: HostRuntime) -> Result<(), Fail> {
-    let mut words = Pcg::new(1);
-    let mut scanned = Scanned::new(rt.alloc());
-    let mut ordered = Ordered::new(rt.alloc());
-    for _ in 0..1_000 {
-        set_or_clear(rt.alloc(), &mut words, &mut scanned, &mut ordered, &rt)?;
-    }
-    Ok(())
+    answers_1_000_calls(rt.alloc(), 1, &mut Ordered::new(rt.alloc()), &rt)
 }
 
 #[test]
 fn tree_answers_1_000_calls_as_scanned(rt: HostRuntime) -> Result<(), Fail> {
-    let mut words = Pcg::new(2);
-    let mut scanned = Scanned::new(rt.alloc());
-    let mut tree = Tree::new(rt.alloc());
-    for _ in 0..1_000 {
-        set_or_clear(rt.alloc(), &mut words, &mut scanned, &mut tree, &rt)?;
-    }
-    Ok(())
+    answers_1_000_calls(rt.alloc(), 2, &mut Tree::new(rt.alloc()), &rt)
 }
 
 /// Sets the moment of a name of many, in both bodies, or takes away one.
@@ -297,43 +298,46 @@ fn check_first<D: Deadlines>(deadlines: &D, moments: &[Timed], rt: &impl Abort) 
 }
 
 /// Sets a list of moments in both bodies, and takes some away again, comparing them.
-fn set_list<D: Deadlines, E: Deadlines>(
+fn set_list<D: Deadlines>(
     alloc: Global,
     words: &mut Pcg,
-    left: &mut D,
-    right: &mut E,
+    scanned: &mut Scanned,
+    other: &mut D,
     rt: &impl Abort,
 ) -> Result<(), Fail> {
     let moments = some_moments(words, alloc, rt)?;
     assert!(rt; rises(&moments));
-    arm_all(alloc, left, &moments)?;
-    arm_all(alloc, right, &moments)?;
-    check_first(left, &moments, rt);
-    compare(alloc, left, right, words.word() % 100, rt)?;
+    arm_all(alloc, scanned, &moments)?;
+    arm_all(alloc, other, &moments)?;
+    check_first(scanned, &moments, rt);
+    compare(alloc, scanned, other, words.word() % 100, rt)?;
     let now = words.word() % 20;
-    clear_due(alloc, left, now)?;
-    clear_due(alloc, right, now)?;
-    compare(alloc, left, right, words.word() % 100, rt)
+    clear_due(alloc, scanned, now)?;
+    clear_due(alloc, other, now)?;
+    compare(alloc, scanned, other, words.word() % 100, rt)
+}
+
+/// A body has 100 lists of moments set, which words from this number on choose, as a list that is looked through.
+fn sets_100_lists<D: Deadlines>(
+    alloc: Global,
+    start: u64,
+    other: &mut D,
+    rt: &impl Abort,
+) -> Result<(), Fail> {
+    let mut words = Pcg::new(start);
+    let mut scanned = Scanned::new(alloc);
+    for _ in 0..100 {
+        set_list(alloc, &mut words, &mut scanned, other, rt)?;
+    }
+    Ok(())
 }
 
 #[test]
 fn ordered_sets_100_lists_as_scanned(rt: HostRuntime) -> Result<(), Fail> {
-    let mut words = Pcg::new(1);
-    let mut scanned = Scanned::new(rt.alloc());
-    let mut ordered = Ordered::new(rt.alloc());
-    for _ in 0..100 {
-        set_list(rt.alloc(), &mut words, &mut scanned, &mut ordered, &rt)?;
-    }
-    Ok(())
+    sets_100_lists(rt.alloc(), 1, &mut Ordered::new(rt.alloc()), &rt)
 }
 
 #[test]
 fn tree_sets_100_lists_as_scanned(rt: HostRuntime) -> Result<(), Fail> {
-    let mut words = Pcg::new(2);
-    let mut scanned = Scanned::new(rt.alloc());
-    let mut tree = Tree::new(rt.alloc());
-    for _ in 0..100 {
-        set_list(rt.alloc(), &mut words, &mut scanned, &mut tree, &rt)?;
-    }
-    Ok(())
+    sets_100_lists(rt.alloc(), 2, &mut Tree::new(rt.alloc()), &rt)
 }

@@ -4,7 +4,7 @@ ghost use Rattle.std.specs.Prelude.{◌≡◌, ◌≤◌};
 ghost use Rattle.srm_names.specs.Names.{first_page, named};
 ghost use Rattle.srm_timers.specs.Distances.{AreDistances};
 
-use srm_names::{LONGEST_DISTANCE, Member, Name, Page};
+use srm_names::{LONGEST_DISTANCE, Member, Name};
 use srm_timers::{Arm, ArmKind, Asks, Fixes, GREATEST_TIMER_SETTING, Listed, Scanned};
 use std::alloc::Global;
 use std::process::Abort;
@@ -17,12 +17,7 @@ pub(crate) fn member(rt: &impl Abort, number: u8) -> Member {
 pub(crate) fn name(rt: &impl Abort, number: u32) -> Name
     ensures { result ≡ named (record { source = 0; page = first_page }) number }
 {
-    let source = Member::new(0).expect(rt, "a source");
-    let page = Page {
-        creator: source,
-        number: 0,
-    };
-    Name::new(source, page, number).expect(rt, "a number")
+    srm_rig::name(0, 0, number).expect(rt, "a name")
 }
 
 /// Each member is as far away.
