@@ -1,26 +1,21 @@
 //! Calls of an agent. A call that memory refuses is made again, so that with each allocation refused in turn every test shows
 //! that nothing was changed by it.
 
-use crate::datagrams::Sent;
+use crate::datagrams::{Sent, up_to_rows};
 use crate::making::page;
 use bytes::Bytes;
 use srm_agent::{Agent, AgentFault, Heard, Ticked};
 use srm_names::{LATEST_MOMENT, Name, PAGES, PageMsg};
+use srm_rig::datagrams::request;
 use srm_timers::Listed;
 use std::alloc::{AllocError, Global};
 use std::process::Abort;
 
 /// A body of so many bytes.
-fn make_body(alloc: Global, count: usize) -> Result<Bytes, AllocError> {
-    let mut bytes = Vec::new(alloc);
-    bytes.resize(count, 7)?;
-    Bytes::copy_from_slice(alloc, &bytes)
-}
-
 pub(crate) fn body(rt: &impl Abort, alloc: Global, count: usize) -> Bytes {
-    match make_body(alloc, count) {
+    match srm_rig::body(alloc, 7, count) {
         Ok(body) => body,
-        Err(_) => make_body(alloc, count).expect(rt, "memory"),
+        Err(_) => srm_rig::body(alloc, 7, count).expect(rt, "memory"),
     }
 }
 
@@ -110,8 +105,12 @@ pub(crate) enum Noise {
     OtherSession,
 }
 
-/// Member 2 asks for number 1 of member 0 on the first page.
-const OF_SESSION_8: [u8; 17] = [0x53, 0x52, 1, 2, 0, 0, 0, 8, 2, 0, 0, 0, 0, 0, 0, 0, 1];
+/// Member 2 asks for number 1 of member 0 on the first page, in session 8.
+fn of_session_8() -> [u8; 17] {
+    let mut bytes = request(2, 0, 0, 1);
+    bytes[7] = 8;
+    bytes
+}
 
 /// Hears them at 5.
 pub(crate) fn hear_noise(rt: &impl Abort, agent: &mut Agent<Listed>, noise: Noise) -> Heard {
@@ -119,7 +118,7 @@ pub(crate) fn hear_noise(rt: &impl Abort, agent: &mut Agent<Listed>, noise: Nois
         Noise::Nothing => hear_bytes(rt, agent, &[], 5),
         Noise::Filled => hear_bytes(rt, agent, &[0xff; 4_096], 5),
         Noise::LaterVersion => hear_bytes(rt, agent, &[0x53, 0x52, 3], 5),
-        Noise::OtherSession => hear_bytes(rt, agent, &OF_SESSION_8, 5),
+        Noise::OtherSession => hear_bytes(rt, agent, &of_session_8(), 5),
     }
 }
 
@@ -137,15 +136,9 @@ pub(crate) fn hear(rt: &impl Abort, agent: &mut Agent<Listed>, sent: Sent, now: 
     hear_bytes(rt, agent, &bytes[..count], now)
 }
 
-/// Member 0's session message sent at 1, which shows page 0.0, as far as its rows.
-const REPORT: [u8; 21] = [
-    0x53, 0x52, 1, 4, 0, 0, 0, 7, 0, // head
-    0, 0, 0, 0, 0, 0, 0, 1, 0, 0, 0, 0, // when, flags, page shown
-];
-
-/// It with so many rows, each of number 1: eight pages of member 0 for each source.
+/// Member 0's session message sent at 1 with so many rows, each of number 1: eight pages of member 0 for each source.
 fn rows(alloc: Global, count: u8) -> Result<Vec<u8>, AllocError> {
-    let mut bytes = Vec::from_slice(alloc, &REPORT)?;
+    let mut bytes = Vec::from_slice(alloc, &up_to_rows(0, 1, 0))?;
     bytes.push(count)?;
     for place in 0..count {
         bytes.extend_from_slice(&[place / 8, 0, 0, place % 8, 0, 0, 0, 1])?;

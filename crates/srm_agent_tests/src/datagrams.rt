@@ -1,4 +1,6 @@
-//! Datagrams of session 7, byte by byte.
+//! Datagrams of session 7.
+
+use srm_rig::datagrams::{Kind, request, requests, up_to_body};
 
 /// What another member sent. Where nothing else is said it is about page 0.0, with stamp 0 and the body 7.
 #[derive(Clone, Copy)]
@@ -9,10 +11,10 @@ pub(crate) enum Sent {
     Repair(u8, u32),
     /// Data on a page of member 0: the source, the page and the number.
     DataOn(u8, u16, u32),
-    /// Data of kind 1, or a repair of kind 3: the kind, the sender, the source, the number, the stamp and the body.
-    Drawop(u8, u8, u8, u32, u8, u8),
-    /// The same of number 1 of member 0, with a body of two bytes: the kind, the sender and the body.
-    Word(u8, u8, [u8; 2]),
+    /// Data or a repair: the sender, the source, the number, the stamp and the body.
+    Drawop(Kind, u8, u8, u32, u8, u8),
+    /// The same of number 1 of member 0, with a body of two bytes: the sender and the body.
+    Word(Kind, u8, [u8; 2]),
     /// The sender, and the source, the page of member 0 and the number that is asked for.
     Request(u8, u8, u8, u32),
     /// The sender, and the mask of what is asked for after number 1 of member 0.
@@ -28,90 +30,74 @@ impl Sent {
     /// Its bytes, which stand first, and how many they are.
     pub(crate) fn bytes(self) -> ([u8; 31], usize) {
         match self {
-            Sent::Data(source, number) => (drawop(1, source, source, number, 0, 7), 28),
-            Sent::Repair(sender, number) => (drawop(3, sender, 0, number, 0, 7), 28),
+            Sent::Data(source, number) => drawop(Kind::Data, source, source, 0, number, 0, 7),
+            Sent::Repair(sender, number) => drawop(Kind::Repair, sender, 0, 0, number, 0, 7),
             Sent::Drawop(kind, sender, source, number, stamp, body) => {
-                (drawop(kind, sender, source, number, stamp, body), 28)
+                drawop(kind, sender, source, 0, number, stamp, body)
             }
-            Sent::DataOn(source, page, number) => (data_on(source, page, number), 28),
-            Sent::Word(kind, sender, body) => (word(kind, sender, body), 29),
+            Sent::DataOn(source, page, number) => {
+                drawop(Kind::Data, source, source, page, number, 0, 7)
+            }
+            Sent::Word(kind, sender, body) => word(kind, sender, body),
             Sent::Request(sender, source, page, number) => {
-                (request(sender, source, page, number), 17)
+                first(&request(sender, source, page, number))
             }
-            Sent::Requests(sender, mask) => (requests(sender, mask), 21),
+            Sent::Requests(sender, mask) => first(&requests(sender, 0, 1, mask)),
             Sent::Report(sender, sent, flag, source, number) => {
-                (report(sender, sent, flag, source, number), 31)
+                report(sender, sent, flag, source, number)
             }
-            Sent::LastWord(sender) => (last_word(sender), 23),
+            Sent::LastWord(sender) => last_word(sender),
         }
     }
 }
 
-fn drawop(kind: u8, sender: u8, source: u8, number: u32, stamp: u8, body: u8) -> [u8; 31] {
-    let [a, b, c, d] = number.to_be_bytes();
-    [
-        0x53, 0x52, 1, kind, 0, 0, 0, 7, sender, // head
-        source, 0, 0, 0, a, b, c, d, // name
-        0, 0, 0, 0, 0, 0, 0, stamp, 0, 1, body, // stamp, length and body
-        0, 0, 0,
-    ]
+/// These bytes first, with 0 behind them.
+fn first(bytes: &[u8]) -> ([u8; 31], usize) {
+    let mut all = [0; 31];
+    let count = bytes.len().min(31);
+    all[..count].copy_from_slice(&bytes[..count]);
+    (all, count)
 }
 
-fn data_on(source: u8, page: u16, number: u32) -> [u8; 31] {
-    let [p, q] = page.to_be_bytes();
-    let [a, b, c, d] = number.to_be_bytes();
-    [
-        0x53, 0x52, 1, 1, 0, 0, 0, 7, source, // head
-        source, 0, p, q, a, b, c, d, // name
-        0, 0, 0, 0, 0, 0, 0, 0, 0, 1, 7, // stamp, length and body
-        0, 0, 0,
-    ]
+fn drawop(
+    kind: Kind,
+    sender: u8,
+    source: u8,
+    page: u16,
+    number: u32,
+    stamp: u8,
+    body: u8,
+) -> ([u8; 31], usize) {
+    let (mut bytes, _) = first(&up_to_body(kind, sender, source, page, number, stamp, 1));
+    bytes[27] = body;
+    (bytes, 28)
 }
 
-fn word(kind: u8, sender: u8, body: [u8; 2]) -> [u8; 31] {
-    let [first, second] = body;
-    [
-        0x53, 0x52, 1, kind, 0, 0, 0, 7, sender, // head
-        0, 0, 0, 0, 0, 0, 0, 1, // name
-        0, 0, 0, 0, 0, 0, 0, 0, 0, 2, first, second, // stamp, length and body
-        0, 0,
-    ]
+fn word(kind: Kind, sender: u8, body: [u8; 2]) -> ([u8; 31], usize) {
+    let (mut bytes, _) = first(&up_to_body(kind, sender, 0, 0, 1, 0, 2));
+    bytes[27..29].copy_from_slice(&body);
+    (bytes, 29)
 }
 
-fn request(sender: u8, source: u8, page: u8, number: u32) -> [u8; 31] {
-    let [a, b, c, d] = number.to_be_bytes();
-    [
-        0x53, 0x52, 1, 2, 0, 0, 0, 7, sender, // head
-        source, 0, 0, page, a, b, c, d, // name
-        0, 0, 0, 0, 0, 0, 0, 0, 0, 0, 0, 0, 0, 0,
-    ]
-}
-
-fn requests(sender: u8, mask: u32) -> [u8; 31] {
-    let [a, b, c, d] = mask.to_be_bytes();
-    [
-        0x53, 0x52, 2, 2, 0, 0, 0, 7, sender, // head
-        0, 0, 0, 0, 0, 0, 0, 1, // name
-        a, b, c, d, // mask
-        0, 0, 0, 0, 0, 0, 0, 0, 0, 0,
-    ]
-}
-
-fn report(sender: u8, sent: u64, flag: u8, source: u8, number: u8) -> [u8; 31] {
+/// A session message that shows the first page, or a farewell where the flag is 1, as far as its rows.
+pub(crate) fn up_to_rows(sender: u8, sent: u64, flag: u8) -> [u8; 21] {
     let [a, b, c, d, e, f, g, h] = sent.to_be_bytes();
     [
         0x53, 0x52, 1, 4, 0, 0, 0, 7, sender, // head
         a, b, c, d, e, f, g, h, flag, 0, 0, 0, // when, farewell, page shown
-        1, source, 0, 0, 0, 0, 0, 0, number, // a row
-        0,
     ]
 }
 
-fn last_word(sender: u8) -> [u8; 31] {
-    [
-        0x53, 0x52, 1, 4, 0, 0, 0, 7, sender, // head
-        0, 0, 0, 0, 0, 0, 0, 1, 1, 0, 0, 0, // when, farewell, page shown
-        0, 0, // no row, no echo
-        0, 0, 0, 0, 0, 0, 0, 0,
-    ]
+fn report(sender: u8, sent: u64, flag: u8, source: u8, number: u8) -> ([u8; 31], usize) {
+    let (mut bytes, _) = first(&up_to_rows(sender, sent, flag));
+    bytes[21] = 1; // a row
+    bytes[22] = source;
+    bytes[29] = number;
+    (bytes, 31)
+}
+
+/// With no row and no echo.
+fn last_word(sender: u8) -> ([u8; 31], usize) {
+    let (bytes, _) = first(&up_to_rows(sender, 1, 1));
+    (bytes, 23)
 }

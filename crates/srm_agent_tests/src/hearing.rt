@@ -6,6 +6,7 @@ use crate::steps::{Step, play, play_with};
 use crate::told::Told;
 use srm_agent::Cause;
 use srm_codec::DecodeFault;
+use srm_rig::datagrams::Kind;
 
 #[test]
 fn noise_is_ignored(rt: HostRuntime) {
@@ -67,9 +68,9 @@ fn another_stamp_or_body_under_a_held_name_conflicts(rt: HostRuntime) {
     let steps = [
         Step::Hear(Sent::Data(0, 1), 5),
         Step::Tells(Told::Taken),
-        Step::Hear(Sent::Drawop(1, 0, 0, 1, 1, 7), 5),
+        Step::Hear(Sent::Drawop(Kind::Data, 0, 0, 1, 1, 7), 5),
         Step::Tells(Told::Ignored(Cause::Conflict)),
-        Step::Hear(Sent::Drawop(3, 2, 0, 1, 0, 8), 5),
+        Step::Hear(Sent::Drawop(Kind::Repair, 2, 0, 1, 0, 8), 5),
         Step::Tells(Told::Ignored(Cause::Conflict)),
         Step::Hear(Sent::Repair(2, 1), 5),
         Step::Tells(Told::Taken),
@@ -80,9 +81,9 @@ fn another_stamp_or_body_under_a_held_name_conflicts(rt: HostRuntime) {
 #[test]
 fn a_repair_with_another_body_changes_nothing(rt: HostRuntime) {
     let steps = [
-        Step::Hear(Sent::Word(1, 0, *b"hi"), 5),
+        Step::Hear(Sent::Word(Kind::Data, 0, *b"hi"), 5),
         Step::Tells(Told::Taken),
-        Step::Hear(Sent::Word(3, 2, *b"ho"), 5),
+        Step::Hear(Sent::Word(Kind::Repair, 2, *b"ho"), 5),
         Step::Tells(Told::Ignored(Cause::Conflict)),
         Step::Give(0),
         Step::Tells(Told::Open(0)),
@@ -99,9 +100,9 @@ fn a_repair_of_an_own_drawop_with_another_body_conflicts(rt: HostRuntime) {
     let steps = [
         Step::Draw(0, 1, 5),
         Step::Tells(Told::Drew(1)),
-        Step::Hear(Sent::Drawop(3, 2, 1, 1, 5, 8), 6),
+        Step::Hear(Sent::Drawop(Kind::Repair, 2, 1, 1, 5, 8), 6),
         Step::Tells(Told::Ignored(Cause::Conflict)),
-        Step::Hear(Sent::Drawop(3, 2, 1, 1, 5, 7), 6),
+        Step::Hear(Sent::Drawop(Kind::Repair, 2, 1, 1, 5, 7), 6),
         Step::Tells(Told::Taken),
     ];
     play_with(&rt, rt.alloc(), 1, 3, 4_204, &[], &steps);

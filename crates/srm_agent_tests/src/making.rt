@@ -1,4 +1,4 @@
-//! Agents, members and pages to try calls with.
+//! Agents and pages to try calls with.
 
 use srm_agent::{Agent, Config};
 use srm_names::{Member, Page};
@@ -6,15 +6,8 @@ use srm_timers::Listed;
 use std::alloc::{AllocError, Global};
 use std::process::Abort;
 
-pub(crate) fn member(rt: &impl Abort, number: u8) -> Member {
-    Member::new(number).expect(rt, "a member")
-}
-
 pub(crate) fn page(rt: &impl Abort, creator: u8, number: u16) -> Page {
-    Page {
-        creator: member(rt, creator),
-        number,
-    }
+    srm_rig::page(creator, number).expect(rt, "a page")
 }
 
 /// An agent that was made at 0, with these words and then 0.
@@ -31,7 +24,7 @@ pub(crate) fn agent_with(
     depth: u32,
     words: &[u64],
 ) -> Agent<Listed> {
-    let me = member(rt, me);
+    let me = Member::new(me).expect(rt, "a member");
     let config = Config::new(me, members, 7, 8_000, depth, 2, 2, 1, 1).expect(rt, "a config");
     match make_agent(alloc, config, words) {
         Ok(agent) => agent,

@@ -1,12 +1,12 @@
 //! Settings in and out of their ranges.
 
-use crate::making::member;
 use srm_agent::Config;
+use srm_names::Member;
 use std::process::Abort;
 
 /// Whether there are settings of member 1 of so many, with this rate and depth, and this for each factor.
 fn check_settings(rt: &impl Abort, members: u8, rate: u32, depth: u32, factor: u8, wanted: bool) {
-    let me = member(rt, 1);
+    let me = Member::new(1).expect(rt, "a member");
     let config = Config::new(me, members, 7, rate, depth, factor, factor, factor, factor);
     assert_eq!(rt;
         config.is_some(),
