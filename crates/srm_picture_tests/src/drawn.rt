@@ -1,23 +1,17 @@
 //! What a picture's text says.
 
-use crate::scripts::{IGNORED, REPAIR};
+use crate::scripts::IGNORED;
 use srm_played::run_picture;
+use srm_rig::Ran;
+use srm_rig::scripts::REPAIR;
 use std::alloc::Global;
 
-/// What `srm picture` writes of a script.
-#[derive(Drop)]
-pub(crate) struct Written {
-    pub out: Vec<u8>,
-    pub err: Vec<u8>,
-    pub status: u8,
-}
-
-pub(crate) fn write(alloc: Global, script: &[u8]) -> Written {
+/// Runs `srm picture` on a script.
+pub(crate) fn run_on(alloc: Global, script: &[u8]) -> Ran {
     let mut reader = script;
-    let mut out = Vec::new(alloc);
-    let mut err = Vec::new(alloc);
-    let status = run_picture(alloc, &mut reader, &mut out, &mut err);
-    Written { out, err, status }
+    let mut ran = Ran::new(alloc);
+    ran.status = run_picture(alloc, &mut reader, &mut ran.out, &mut ran.err);
+    ran
 }
 
 /// How often a text stands in another.
@@ -52,11 +46,11 @@ const REPAIRED: &[(&str, usize)] = &[
 
 #[test]
 fn a_picture_says_what_its_shapes_are(rt: HostRuntime) {
-    let written = write(rt.alloc(), REPAIR.as_bytes());
-    assert_eq!(rt; written.err.as_slice(), b"".as_slice());
-    assert_eq!(rt; written.status, 0);
+    let ran = run_on(rt.alloc(), REPAIR.as_bytes());
+    assert_eq!(rt; ran.err.as_slice(), b"".as_slice());
+    assert_eq!(rt; ran.status, 0);
     for (part, count) in REPAIRED {
-        assert_eq!(rt; times(written.out.as_slice(), part), *count, "{part}");
+        assert_eq!(rt; times(ran.out.as_slice(), part), *count, "{part}");
     }
 }
 
@@ -71,19 +65,19 @@ const ESCAPED: &[(&str, usize)] = &[
 
 #[test]
 fn what_is_ignored_is_said(rt: HostRuntime) {
-    let written = write(rt.alloc(), IGNORED.as_bytes());
-    assert_eq!(rt; written.status, 0);
+    let ran = run_on(rt.alloc(), IGNORED.as_bytes());
+    assert_eq!(rt; ran.status, 0);
     for (part, count) in ESCAPED {
-        assert_eq!(rt; times(written.out.as_slice(), part), *count, "{part}");
+        assert_eq!(rt; times(ran.out.as_slice(), part), *count, "{part}");
     }
 }
 
 #[test]
 fn bodies_are_text(rt: HostRuntime) {
     let script = "members 1\ndraw 0 1 0.0 <a \"b\">&amp;\ngive 0 0\ngive 0 0\n";
-    let written = write(rt.alloc(), script.as_bytes());
-    assert_eq!(rt; written.status, 0);
+    let ran = run_on(rt.alloc(), script.as_bytes());
+    assert_eq!(rt; ran.status, 0);
     let shown = "gave 0 0 draw 0 1 &lt;a &quot;b&quot;&gt;&amp;amp;";
-    assert_eq!(rt; times(written.out.as_slice(), shown), 2);
-    assert_eq!(rt; times(written.out.as_slice(), "<a "), 0);
+    assert_eq!(rt; times(ran.out.as_slice(), shown), 2);
+    assert_eq!(rt; times(ran.out.as_slice(), "<a "), 0);
 }

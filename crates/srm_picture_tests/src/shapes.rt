@@ -1,7 +1,8 @@
 //! How many shapes of each kind the pictures of worked scripts have. The numbers were counted by hand in what `srm world` prints of each.
 
 use crate::counts::{Counts, counts_of};
-use crate::scripts::{BACKED_OFF, IGNORED, LEAVING, LOSS, PAGES, REORDER, REPAIR};
+use crate::scripts::{BACKED_OFF, IGNORED};
+use srm_rig::scripts::{LEAVING, LOSS, PAGES, REORDER, REPAIR};
 
 const WORKED: &[(&str, Counts)] = &[
     // Of three strokes one is never delivered; a timer is set for it, and still runs.
