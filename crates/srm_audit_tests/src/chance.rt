@@ -2,9 +2,10 @@
 
 use crate::checks::check_reconciles;
 use crate::lists::whole;
-use crate::members::{finish_all, recorders};
+use crate::members::recorders;
 use crate::steps::{Call, act};
 use srm_audit::Got;
+use srm_rig_members::{count_entries, finish_all};
 use srm_timers::{Listed, Pcg, Words};
 use srm_world::{Journal, Recorder};
 use std::alloc::Global;
@@ -94,7 +95,7 @@ fn by_chance(rt: &impl Abort, alloc: Global, members: u8, seed: u64) -> Vec<Jour
         let now = count.saturating_mul(50_000);
         step(rt, alloc, &mut recorders, &mut sent, &mut words, now);
     }
-    finish_all(rt, alloc, recorders)
+    finish_all(alloc, recorders).expect(rt, "memory")
 }
 
 /// All that the journals gave.
@@ -105,14 +106,6 @@ fn all_lists(rt: &impl Abort, alloc: Global, journals: &[Journal]) -> Vec<Got> {
         lists.push(list).expect(rt, "memory");
     }
     lists
-}
-
-fn count_entries(journals: &[Journal]) -> usize {
-    let mut count = 0_usize;
-    for journal in journals {
-        count = count.saturating_add(journal.entries().len());
-    }
-    count
 }
 
 fn count_messages(lists: &[Got]) -> usize {

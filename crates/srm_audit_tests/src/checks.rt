@@ -1,14 +1,10 @@
 //! What is asked of journals and lists.
 
 use srm_audit::{Got, Mismatch, reconcile};
-use srm_world::{Journal, Trace};
+use srm_rig_members::sizes;
+use srm_world::Journal;
 use std::alloc::Global;
 use std::process::Abort;
-
-fn check_sizes(rt: &impl Abort, trace: &Trace, starts: usize, entries: usize) {
-    assert_eq!(rt; trace.starts().len(), starts);
-    assert_eq!(rt; trace.entries().len(), entries);
-}
 
 /// They are those of one honest run with so many entries.
 pub(crate) fn check_reconciles(
@@ -19,10 +15,8 @@ pub(crate) fn check_reconciles(
     entries: usize,
 ) {
     let members = journals.len();
-    match reconcile(alloc, journals, lists) {
-        Ok(trace) => check_sizes(rt, &trace, members, entries),
-        Err(mismatch) => panic!(rt; "{mismatch}"),
-    }
+    let trace = reconcile(alloc, journals, lists).expect(rt, "a trace");
+    assert_eq!(rt; sizes(&trace), (members, entries));
 }
 
 pub(crate) fn check_refused(

@@ -3,6 +3,7 @@
 use crate::members::member;
 use srm_audit::Got;
 use srm_names::{Items, PageMsg};
+use srm_rig_members::given;
 use srm_world::Journal;
 use std::alloc::Global;
 use std::process::Abort;
@@ -16,30 +17,13 @@ pub(crate) fn empty(rt: &impl Abort, alloc: Global, me: u8, slot: u8) -> Got {
     }
 }
 
-fn push_copy(rt: &impl Abort, list: &mut Vec<PageMsg>, message: &PageMsg) {
-    let copy = message.copy().expect(rt, "memory");
-    list.push(copy).expect(rt, "memory");
-}
-
-/// The messages that a journal gave, in order.
-fn given(rt: &impl Abort, alloc: Global, journal: &Journal) -> Vec<PageMsg> {
-    let mut list = Vec::new(alloc);
-    for entry in journal.entries() {
-        if let Some(message) = &entry.effects.message {
-            push_copy(rt, &mut list, message);
-        }
-    }
-    list
-}
-
 /// The messages at these places, from 0.
 fn picked(rt: &impl Abort, alloc: Global, given: &[PageMsg], order: &[usize]) -> Vec<PageMsg> {
     let mut list = Vec::new(alloc);
     for place in order {
-        match given.get(*place) {
-            Some(message) => push_copy(rt, &mut list, message),
-            None => panic!(rt; "no message"),
-        }
+        let message = given.get(*place).expect(rt, "a message");
+        let copy = message.copy().expect(rt, "memory");
+        list.push(copy).expect(rt, "memory");
     }
     list
 }
@@ -49,12 +33,12 @@ pub(crate) fn whole(rt: &impl Abort, alloc: Global, journal: &Journal) -> Got {
     Got {
         member: journal.start().config.me(),
         slot: 0,
-        list: Items::new(given(rt, alloc, journal)),
+        list: Items::new(given(alloc, journal).expect(rt, "memory")),
     }
 }
 
 fn of_journal(rt: &impl Abort, alloc: Global, journal: &Journal, order: &[usize]) -> Got {
-    let given = given(rt, alloc, journal);
+    let given = given(alloc, journal).expect(rt, "memory");
     Got {
         member: journal.start().config.me(),
         slot: 0,

@@ -1,11 +1,11 @@
 //! Members as recorders, and their journals.
 
-use srm_agent::Config;
+use srm_agent::{Config, Settings};
 use srm_names::Member;
+use srm_rig_members::recorder;
 use srm_timers::Listed;
 use srm_world::{Journal, Recorder};
 use std::alloc::Global;
-use std::collections::VecDeque;
 use std::process::Abort;
 
 pub(crate) fn member(rt: &impl Abort, number: u8) -> Member {
@@ -20,9 +20,8 @@ pub(crate) fn fresh(
     members: u8,
     session: u32,
 ) -> Recorder<Listed> {
-    let config = Config::new(member(rt, me), members, session, 8_000, 4_204, 2, 2, 1, 1);
-    let words = Listed::new(Vec::new(alloc));
-    Recorder::new(alloc, config.expect(rt, "settings"), words, 0).expect(rt, "memory")
+    let config = Config::with(member(rt, me), members, session, Settings::default());
+    recorder(alloc, config.expect(rt, "settings")).expect(rt, "memory")
 }
 
 /// The journal of a member that did nothing.
@@ -38,28 +37,4 @@ pub(crate) fn recorders(rt: &impl Abort, alloc: Global, members: u8) -> Vec<Reco
         recorders.push(recorder).expect(rt, "memory");
     }
     recorders
-}
-
-fn push_finished(
-    rt: &impl Abort,
-    journals: &mut Vec<Journal>,
-    left: &mut VecDeque<Recorder<Listed>>,
-) {
-    if let Some(recorder) = left.pop_front() {
-        journals.push(recorder.finish()).expect(rt, "memory");
-    }
-}
-
-/// The journals of all these recorders, in their order.
-pub(crate) fn finish_all(
-    rt: &impl Abort,
-    alloc: Global,
-    recorders: Vec<Recorder<Listed>>,
-) -> Vec<Journal> {
-    let mut left = VecDeque::from(recorders);
-    let mut journals = Vec::new(alloc);
-    for _ in 0..left.len() {
-        push_finished(rt, &mut journals, &mut left);
-    }
-    journals
 }

@@ -1,8 +1,10 @@
 //! Sessions whose members make the calls of a list, one after another.
 
-use crate::members::{finish_all, member, recorders};
+use crate::members::recorders;
 use bytes::Bytes;
 use srm_names::Page;
+use srm_rig::datagrams::{Kind, word};
+use srm_rig_members::finish_all;
 use srm_timers::Listed;
 use srm_world::{Journal, Recorder};
 use std::alloc::Global;
@@ -15,7 +17,7 @@ pub(crate) enum Call {
     Draw(u32),
     /// The datagram with this number, from 0, of all that were sent so far is heard.
     Hear(u32, usize),
-    /// This member's repair of a drawop is heard that nobody drew.
+    /// This member's repair of a drawop is heard that nobody drew, the first of member 2.
     HearRumour(u32, u8),
     Tick(u32),
     Leave(u32),
@@ -23,23 +25,9 @@ pub(crate) enum Call {
     Give,
 }
 
-/// The repair by a member of number 1 of member 2 on the first page, with the body `hi`, in session 7.
-fn rumour_by(member: u8) -> [u8; 29] {
-    let mut bytes = [
-        0x53, 0x52, 1, 3, 0, 0, 0, 7, 0, 2, 0, 0, 0, 0, 0, 0, 1, 0, 0, 0, 0, 0, 0, 0, 0, 0, 2,
-        b'h', b'i',
-    ];
-    bytes[8] = member;
-    bytes
-}
-
 fn draw(rt: &impl Abort, alloc: Global, recorder: &mut Recorder<Listed>, now: u32) {
-    let page = Page {
-        creator: member(rt, 0),
-        number: 0,
-    };
     let body = Bytes::copy_from_slice(alloc, b"a").expect(rt, "memory");
-    let _ = recorder.draw(page, body, now.into());
+    let _ = recorder.draw(Page::first(), body, now.into());
 }
 
 fn hear(
@@ -83,7 +71,7 @@ fn make(
         Call::Draw(now) => draw(rt, alloc, recorder, now),
         Call::Hear(now, number) => hear(rt, recorder, sent.as_slice(), now, number),
         Call::HearRumour(now, from) => {
-            let _ = recorder.hear(&rumour_by(from), now.into());
+            let _ = recorder.hear(&word(Kind::Repair, from, 2, 0, 1), now.into());
         }
         Call::Tick(now) => tick(rt, alloc, recorder, sent, now),
         Call::Leave(now) => {
@@ -122,5 +110,5 @@ pub(crate) fn play(
     for (place, call) in calls {
         act(rt, alloc, &mut recorders, &mut sent, *place, *call);
     }
-    finish_all(rt, alloc, recorders)
+    finish_all(alloc, recorders).expect(rt, "memory")
 }

@@ -1,27 +1,18 @@
 //! What a recorder answers of its entries so far, and of draws to come.
 
 use crate::recording::fresh;
-use bytes::Bytes;
 use srm_agent::{AgentFault, Verdict};
-use srm_names::{Member, Page};
+use srm_names::Page;
+use srm_rig::body;
 use srm_timers::Listed;
 use srm_world::Recorder;
-use std::alloc::{AllocError, Global};
+use std::alloc::Global;
 use std::process::Abort;
-use std::test::Fail;
-
-fn body(alloc: Global, length: usize) -> Result<Bytes, AllocError> {
-    let mut bytes = Vec::new(alloc);
-    bytes.resize(length, 7)?;
-    Bytes::copy_from_slice(alloc, &bytes)
-}
 
 /// Draws a body of so many bytes on the first page, at moment 0.
 fn draw(rt: &impl Abort, alloc: Global, recorder: &mut Recorder<Listed>, length: usize) {
-    let creator = Member::new(0).expect(rt, "a member");
-    let page = Page { creator, number: 0 };
-    let body = body(alloc, length).expect(rt, "a body");
-    let _ = recorder.draw(page, body, 0);
+    let body = body(alloc, 7, length).expect(rt, "a body");
+    let _ = recorder.draw(Page::first(), body, 0);
 }
 
 fn check_admits(rt: &impl Abort, recorder: &Recorder<Listed>, wanted: bool, from: Option<u64>) {
@@ -37,25 +28,23 @@ fn check_verdicts(rt: &impl Abort, recorder: &Recorder<Listed>, wanted: &[Verdic
 }
 
 #[test]
-fn a_full_bucket_admits_four_full_draws(rt: HostRuntime) -> Result<(), Fail> {
-    let mut recorder = fresh(&rt, rt.alloc())?;
+fn a_full_bucket_admits_four_full_draws(rt: HostRuntime) {
+    let mut recorder = fresh(&rt, rt.alloc());
     for _ in 0..3 {
         draw(&rt, rt.alloc(), &mut recorder, 1_024);
     }
     check_admits(&rt, &recorder, true, Some(0));
     draw(&rt, rt.alloc(), &mut recorder, 1_024);
     check_admits(&rt, &recorder, false, None);
-    Ok(())
 }
 
 #[test]
-fn a_recorder_shows_its_entries_so_far(rt: HostRuntime) -> Result<(), Fail> {
-    let mut recorder = fresh(&rt, rt.alloc())?;
+fn a_recorder_shows_its_entries_so_far(rt: HostRuntime) {
+    let mut recorder = fresh(&rt, rt.alloc());
     check_verdicts(&rt, &recorder, &[]);
     draw(&rt, rt.alloc(), &mut recorder, 1_024);
     check_verdicts(&rt, &recorder, &[Verdict::Done]);
     draw(&rt, rt.alloc(), &mut recorder, 1_025);
     let long = Verdict::Refused(AgentFault::BodyLong);
     check_verdicts(&rt, &recorder, &[Verdict::Done, long]);
-    Ok(())
 }

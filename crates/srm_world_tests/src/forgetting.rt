@@ -1,22 +1,17 @@
 //! A recorder that keeps no entry, beside one that does.
 
-use crate::recording::{Call, WORKED, config, make, page};
+use crate::recording::{Call, WORKED, fresh, make, settings};
 use srm_agent::Entry;
+use srm_rig::page;
 use srm_timers::Listed;
 use srm_world::{Forgotten, Recorder};
 use std::alloc::Global;
 use std::process::Abort;
 
-/// A recorder of member 1 of three, which did nothing yet.
-fn keeping(rt: &impl Abort, alloc: Global) -> Recorder<Listed> {
-    let words = Listed::new(Vec::new(alloc));
-    Recorder::new(alloc, config(rt, 1, 3), words, 0).expect(rt, "memory")
-}
-
-/// The same that keeps no entry.
+/// A recorder of member 1 of three, which did nothing yet and keeps no entry.
 fn forgetful(rt: &impl Abort, alloc: Global) -> Recorder<Listed, Forgotten<Entry>> {
     let words = Listed::new(Vec::new(alloc));
-    Recorder::forgetful(alloc, config(rt, 1, 3), words, 0).expect(rt, "memory")
+    Recorder::forgetful(alloc, settings(rt), words, 0).expect(rt, "memory")
 }
 
 /// Both answer this call alike.
@@ -64,7 +59,7 @@ fn check_next(
 
 #[test]
 fn a_forgetful_recorder_answers_as_one_that_keeps_its_entries(rt: HostRuntime) {
-    let mut keeping = keeping(&rt, rt.alloc());
+    let mut keeping = fresh(&rt, rt.alloc());
     let mut forgetful = forgetful(&rt, rt.alloc());
     for (call, _, _) in WORKED {
         check_call(&rt, rt.alloc(), &mut keeping, &mut forgetful, call);
@@ -76,7 +71,8 @@ fn a_forgetful_recorder_answers_as_one_that_keeps_its_entries(rt: HostRuntime) {
 #[test]
 fn a_forgetful_recorder_gives_what_it_drew(rt: HostRuntime) {
     let mut forgetful = forgetful(&rt, rt.alloc());
-    assert_eq!(rt; forgetful.new_page(), Some(page(&rt, 1, 0)));
+    let first = page(1, 0).expect(&rt, "a page");
+    assert_eq!(rt; forgetful.new_page(), Some(first));
     for call in [Call::Draw(5), Call::Tick(6), Call::Give, Call::Give] {
         check_done(&rt, rt.alloc(), &mut forgetful, call);
     }

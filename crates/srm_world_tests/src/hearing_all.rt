@@ -34,7 +34,7 @@ fn list(alloc: Global) -> Result<Vec<Vec<u8>>, AllocError> {
 
 #[test]
 fn all_are_heard_behind_noise_and_behind_what_is_ignored(rt: HostRuntime) -> Result<(), Fail> {
-    let mut recorder = fresh(&rt, rt.alloc())?;
+    let mut recorder = fresh(&rt, rt.alloc());
     let came = list(rt.alloc())?;
     let heard = recorder.hear_all(&came, 5);
     assert!(rt; heard.is_ok());

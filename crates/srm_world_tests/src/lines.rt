@@ -1,6 +1,6 @@
 //! Which lines are good.
 
-use crate::running::{repeated, run_bad, run_good, run_on};
+use crate::running::{run_bad, run_good, run_on};
 use std::test::Fail;
 
 #[test]

@@ -3,15 +3,14 @@
 use bytes::Bytes;
 use srm_agent::{AgentFault, Cause, Config, Entry, Verdict};
 use srm_codec::DecodeFault;
-use srm_names::{Member, Name, Page};
+use srm_names::{Name, Page};
+use srm_rig::datagrams::{Kind, word};
+use srm_rig::page;
+use srm_rig_members::{config, recorder};
 use srm_timers::Listed;
 use srm_world::{Journal, Past, Recorder};
 use std::alloc::{AllocError, Global};
 use std::process::Abort;
-use std::test::Fail;
-
-/// Data of member 0 in session 7: on the first page, number 1, with the body `hi`.
-const HI: &[u8] = b"SR\x01\x01\0\0\0\x07\0\0\0\0\0\0\0\0\x01\0\0\0\0\0\0\0\0\0\x02hi";
 
 /// A call of a recorder, and where it takes one the moment.
 #[derive(Clone, Copy)]
@@ -20,7 +19,7 @@ pub(crate) enum Call {
     Draw(u32),
     /// The second page is shown.
     Show(u32),
-    /// `HI` is heard.
+    /// The first drawop of member 0 is heard, on the first page.
     Hear(u32),
     /// No bytes are heard.
     HearNothing(u32),
@@ -48,22 +47,14 @@ pub(crate) const WORKED: [(Call, u64, Verdict); 10] = [
     (Call::Hear(13), 13, Verdict::Ignored(Cause::Gone)),
 ];
 
-pub(crate) fn page(rt: &impl Abort, creator: u8, number: u16) -> Page {
-    Page {
-        creator: Member::new(creator).expect(rt, "a member"),
-        number,
-    }
-}
-
-pub(crate) fn config(rt: &impl Abort, me: u8, members: u8) -> Config {
-    let me = Member::new(me).expect(rt, "a member");
-    Config::new(me, members, 7, 8_000, 4_204, 2, 2, 1, 1).expect(rt, "settings")
+/// The settings of member 1 of three.
+pub(crate) fn settings(rt: &impl Abort) -> Config {
+    config(1, 3).expect(rt, "settings")
 }
 
 /// A recorder of member 1 of three, which did nothing yet.
-pub(crate) fn fresh(rt: &impl Abort, alloc: Global) -> Result<Recorder<Listed>, Fail> {
-    let words = Listed::new(Vec::new(alloc));
-    Ok(Recorder::new(alloc, config(rt, 1, 3), words, 0)?)
+pub(crate) fn fresh(rt: &impl Abort, alloc: Global) -> Recorder<Listed> {
+    recorder(alloc, settings(rt)).expect(rt, "memory")
 }
 
 fn draw<P: Past<Entry> + Drop>(
@@ -73,7 +64,16 @@ fn draw<P: Past<Entry> + Drop>(
     now: u32,
 ) -> Result<Name, AgentFault> {
     let body = Bytes::copy_from_slice(alloc, b"a").expect(rt, "a body");
-    recorder.draw(page(rt, 0, 0), body, now.into())
+    recorder.draw(Page::first(), body, now.into())
+}
+
+fn show_second<P: Past<Entry> + Drop>(
+    rt: &impl Abort,
+    recorder: &mut Recorder<Listed, P>,
+    now: u32,
+) -> Result<(), AgentFault> {
+    let second = page(0, 1).expect(rt, "a page");
+    recorder.show(second, now.into())
 }
 
 /// Makes a call. What it answered, as a text.
@@ -85,8 +85,11 @@ pub(crate) fn make<P: Past<Entry> + Drop>(
 ) -> Result<String, AllocError> {
     match call {
         Call::Draw(now) => format!(in alloc; "{:?}", draw(rt, alloc, recorder, now)),
-        Call::Show(now) => format!(in alloc; "{:?}", recorder.show(page(rt, 0, 1), now.into())),
-        Call::Hear(now) => format!(in alloc; "{:?}", recorder.hear(HI, now.into())),
+        Call::Show(now) => format!(in alloc; "{:?}", show_second(rt, recorder, now)),
+        Call::Hear(now) => format!(in alloc;
+            "{:?}",
+            recorder.hear(&word(Kind::Data, 0, 0, 0, 1), now.into())
+        ),
         Call::HearNothing(now) => format!(in alloc; "{:?}", recorder.hear(b"", now.into())),
         Call::Tick(now) => format!(in alloc; "{:?}", recorder.tick(now.into())),
         Call::Give => format!(in alloc; "{:?}", recorder.give(0)),
@@ -112,11 +115,10 @@ fn check_journal(rt: &impl Abort, journal: &Journal) {
 }
 
 #[test]
-fn each_call_of_a_recorder_has_its_entry(rt: HostRuntime) -> Result<(), Fail> {
-    let mut recorder = fresh(&rt, rt.alloc())?;
+fn each_call_of_a_recorder_has_its_entry(rt: HostRuntime) {
+    let mut recorder = fresh(&rt, rt.alloc());
     make_all(&rt, rt.alloc(), &mut recorder);
     check_journal(&rt, &recorder.finish());
-    Ok(())
 }
 
 fn check_next(rt: &impl Abort, recorder: &Recorder<Listed>, next: Option<u64>) {
@@ -124,19 +126,19 @@ fn check_next(rt: &impl Abort, recorder: &Recorder<Listed>, next: Option<u64>) {
 }
 
 #[test]
-fn a_recorder_tells_what_comes_next(rt: HostRuntime) -> Result<(), Fail> {
-    let mut recorder = fresh(&rt, rt.alloc())?;
+fn a_recorder_tells_what_comes_next(rt: HostRuntime) {
+    let mut recorder = fresh(&rt, rt.alloc());
     check_next(&rt, &recorder, Some(1_000_000));
-    assert_eq!(rt; recorder.new_page(), Some(page(&rt, 1, 0)));
+    let first = page(1, 0).expect(&rt, "a page");
+    assert_eq!(rt; recorder.new_page(), Some(first));
     make_all(&rt, rt.alloc(), &mut recorder);
     check_next(&rt, &recorder, None);
-    Ok(())
 }
 
 /// In each round a draw, a show, a tick and a give are done, and bytes are ignored: 5,000 entries in all.
 #[test]
-fn a_recorder_goes_on_for_long(rt: HostRuntime) -> Result<(), Fail> {
-    let mut recorder = fresh(&rt, rt.alloc())?;
+fn a_recorder_goes_on_for_long(rt: HostRuntime) {
+    let mut recorder = fresh(&rt, rt.alloc());
     for now in 0..1_000 {
         for call in [
             Call::Draw(now),
@@ -149,5 +151,4 @@ fn a_recorder_goes_on_for_long(rt: HostRuntime) -> Result<(), Fail> {
         }
     }
     assert_eq!(rt; recorder.finish().entries().len(), 5_000);
-    Ok(())
 }

@@ -1,6 +1,7 @@
 //! Worked rows: waits by words, the rate, and session messages.
 
-use crate::running::{repeated, run_good, run_on};
+use crate::running::{run_good, run_on};
+use srm_rig::repeated;
 use std::alloc::Global;
 use std::fmt::Write;
 use std::process::Abort;
@@ -62,9 +63,9 @@ fn a_word_says_the_wait_to_repair(rt: HostRuntime) {
 fn run_long(rt: &(impl Abort + AllocGlobal), script: &str, wanted: &str) -> Result<(), Fail> {
     let alloc = rt.alloc();
     let text = repeated(alloc, "x", 1_024)?;
-    let printed = run_on(alloc, with_text(alloc, script, text.as_slice())?.as_slice());
-    assert_eq!(rt; printed.err.as_slice(), b"".as_slice());
-    assert!(rt; printed.out == with_text(alloc, wanted, text.as_slice())?);
+    let ran = run_on(alloc, with_text(alloc, script, text.as_slice())?.as_slice());
+    assert_eq!(rt; ran.err.as_slice(), b"".as_slice());
+    assert!(rt; ran.out == with_text(alloc, wanted, text.as_slice())?);
     Ok(())
 }
 
@@ -140,11 +141,10 @@ fn a_stream_is_full_after_65536_drawops(rt: HostRuntime) -> Result<(), Fail> {
     let alloc = rt.alloc();
     let mut script = b"members 1\n".to_vec(alloc)?;
     script.extend_from_slice(repeated(alloc, "draw 0 1 0.0\n", 65_537)?.as_slice())?;
-    let printed = run_on(alloc, script.as_slice());
-    assert_eq!(rt; printed.status, 0);
+    let ran = run_on(alloc, script.as_slice());
+    assert_eq!(rt; ran.status, 0);
     assert!(rt;
-        printed
-            .out
+        ran.out
             .as_slice()
             .ends_with(b"drew 0 0.0 65536\nrefused 0 4\n")
     );
@@ -193,24 +193,28 @@ fn all_heard(alloc: Global, others: u8, length: u32) -> Result<String, Fail> {
     Ok(lines)
 }
 
-#[test]
-fn sixteen_members_at_rest(rt: HostRuntime) -> Result<(), Fail> {
-    let alloc = rt.alloc();
-    let printed = run_on(alloc, hearing_all(alloc, 15, 16_240_000)?.as_bytes());
+/// Beside so many others a member pauses so long between two session messages of so many bytes.
+fn check_rest(
+    rt: &impl Abort,
+    alloc: Global,
+    others: u8,
+    pause: u32,
+    length: u32,
+) -> Result<(), Fail> {
+    let ran = run_on(alloc, hearing_all(alloc, others, pause)?.as_bytes());
     assert_eq!(rt;
-        printed.out.as_slice(),
-        all_heard(alloc, 15, 406)?.as_bytes()
+        ran.out.as_slice(),
+        all_heard(alloc, others, length)?.as_bytes()
     );
     Ok(())
 }
 
 #[test]
+fn sixteen_members_at_rest(rt: HostRuntime) -> Result<(), Fail> {
+    check_rest(&rt, rt.alloc(), 15, 16_240_000, 406)
+}
+
+#[test]
 fn thirty_two_members_at_rest(rt: HostRuntime) -> Result<(), Fail> {
-    let alloc = rt.alloc();
-    let printed = run_on(alloc, hearing_all(alloc, 31, 64_480_000)?.as_bytes());
-    assert_eq!(rt;
-        printed.out.as_slice(),
-        all_heard(alloc, 31, 806)?.as_bytes()
-    );
-    Ok(())
+    check_rest(&rt, rt.alloc(), 31, 64_480_000, 806)
 }

@@ -1,16 +1,13 @@
 //! Streams that fail, and inputs that are long.
 
-ghost use Rattle.std.specs.Prelude.{◌≤◌, IfOk};
-
-use crate::running::{repeated, run_on};
+use crate::running::run_on;
+use srm_rig::{broken, repeated, wanting};
 use srm_script::run_script;
-use std::alloc::Global;
-use std::io;
-use std::io::{Read, Write};
+use std::alloc::{AllocError, Global};
 use std::test::Fail;
 
 /// A script of 1,000,000 bytes, all of whose 90,908 events are skipped.
-fn longest_script(alloc: Global) -> Result<Vec<u8>, Fail> {
+fn longest_script(alloc: Global) -> Result<Vec<u8>, AllocError> {
     let mut script = b"members 10\n".to_vec(alloc)?;
     script.extend_from_slice(repeated(alloc, "give 0 200\n", 90_907)?.as_slice())?;
     script.extend_from_slice(b"give 10 200\n".as_slice())?;
@@ -34,60 +31,6 @@ fn an_input_has_at_most_a_million_bytes(rt: HostRuntime) -> Result<(), Fail> {
         assert_eq!(rt; refused.status, 1);
     }
     Ok(())
-}
-
-/// Reads or takes so many bytes, and then fails in this way.
-#[derive(Drop)]
-struct Failing {
-    left: usize,
-    kind: io::ErrorKind,
-}
-
-/// Reads or takes so many bytes, and then is broken.
-fn broken(left: usize) -> Failing {
-    Failing {
-        left,
-        kind: io::ErrorKind::BrokenPipe,
-    }
-}
-
-/// Reads or takes so many bytes, and then wants memory.
-fn wanting(left: usize) -> Failing {
-    Failing {
-        left,
-        kind: io::ErrorKind::OutOfMemory,
-    }
-}
-
-impl Failing {
-    fn pass(&mut self, bytes: usize) -> io::Result<usize>
-        ensures { IfOk result (λ passed. passed ≤ bytes) }
-    {
-        if self.left == 0 {
-            return Err(io::Error::from(self.kind));
-        }
-        let passed = bytes.min(self.left);
-        self.left -= passed;
-        Ok(passed)
-    }
-}
-
-impl Read for Failing {
-    fn read(&mut self, buf: &mut [u8]) -> io::Result<usize> {
-        let passed = self.pass(buf.len())?;
-        buf[..passed].fill(b'x');
-        Ok(passed)
-    }
-}
-
-impl Write for Failing {
-    fn write(&mut self, buf: &[u8]) -> io::Result<usize> {
-        self.pass(buf.len())
-    }
-
-    fn flush(&mut self) -> io::Result<()> {
-        Ok(())
-    }
 }
 
 #[test]

@@ -1,7 +1,8 @@
 //! Worlds to which all events of a list happen in one call.
 
-use crate::running::{repeated, run_good};
+use crate::running::run_good;
 use srm_agent::{AgentFault, Verdict};
+use srm_rig::repeated;
 use srm_script::{Script, ScriptFault, read_script};
 use srm_timers::Listed;
 use srm_world::World;

@@ -1,23 +1,22 @@
 //! What happens in worlds of scripts.
 
-use crate::running::{repeated, run_good};
+use crate::running::run_good;
 use bytes::Bytes;
-use srm_names::{Member, Page};
+use srm_names::Page;
+use srm_rig::repeated;
+use srm_rig::scripts::REPAIR;
 use srm_script::{EntryPrinter, read_script, run_event};
 use srm_world::{Event, World};
 use std::test::Fail;
 
 #[test]
 fn a_session_message_shows_the_last_loss(rt: HostRuntime) {
-    let script = "members 2\ntimers\ndraw 0 1 0.0 a\ndraw 0 2 0.0 b\ntick 0 3\ndeliver 1 100 0\n\
-        tick 0 1000000\ndeliver 1 1000100 2\ntick 1 1200100\ndeliver 0 1200200 3\ntick 0 1300200\n\
-        deliver 1 1300300 5\ngive 1 0\ngive 1 0\ngive 1 0\ngive 1 0\n";
     let out = "drew 0 0.0 1\ndrew 0 0.0 2\nout 0 0 data 28\nout 1 0 data 28\nheard 1 taken\n\
         out 2 0 session 31\nheard 1 taken\narm 1 ask 0 0.0 2 0 200000\n\
         ask 1 0 0.0 2\narm 1 ask 0 0.0 2 1 400000\nout 3 1 request 17\nout 4 1 session 48\n\
         heard 0 taken\narm 0 fix 0 0.0 2 0 100000\nfix 0 0 0.0 2\nout 5 0 repair 28\nheard 1 taken\n\
         gave 1 0 open 0.0\ngave 1 0 draw 0 1 a\ngave 1 0 draw 0 2 b\ngave 1 0 none\n";
-    run_good(&rt, &[(script, out)]);
+    run_good(&rt, &[(REPAIR, out)]);
 }
 
 #[test]
@@ -123,10 +122,7 @@ fn the_smallest_source_goes_first(rt: HostRuntime) {
 #[test]
 fn bodies_that_no_script_has(rt: HostRuntime) -> Result<(), Fail> {
     let alloc = rt.alloc();
-    let page = Page {
-        creator: Member::new(0).ok_or("a member")?,
-        number: 0,
-    };
+    let page = Page::first();
     let script = read_script(alloc, b"members 1")?;
     let mut world = World::new(alloc, script.configs, script.words)?;
     assert_eq!(rt; world.trace().starts().len(), 1);
