@@ -1,11 +1,11 @@
 //! Thirty-two nodes over a network in memory, of whose copies three in ten are lost and three in ten come twice.
 
 use crate::checks::{check_fronts, check_reconciles};
-use crate::clock::TestClock;
-use crate::member::{Rig, config, make_rig};
+use crate::member::{config, make_station};
 use crate::served::{Kept, keep};
 use srm_names::MEMBERS;
 use srm_node::{Fate, MemWire, hub};
+use srm_rig_nodes::{Station, StepClock};
 use srm_timers::{Pcg, Words};
 use std::alloc::Global;
 use std::collections::VecDeque;
@@ -51,11 +51,11 @@ fn node<R: Wait + Abort + Copy + Drop>(
     alloc: Global,
     me: u8,
     wire: Option<MemWire<R>>,
-) -> Rig<MemWire<R>, TestClock> {
+) -> Station<Pcg, MemWire<R>, StepClock> {
     let wire = wire.expect(&rt, "a wire");
     let settings = config(&rt, me, MEMBERS);
-    let clock = TestClock::new(50_000);
-    make_rig(
+    let clock = StepClock::new(5, 50_000);
+    make_station(
         &rt,
         alloc,
         settings,
@@ -71,19 +71,22 @@ fn nodes<R: Wait + Abort + Copy + Drop>(
     rt: R,
     alloc: Global,
     wires: Vec<MemWire<R>>,
-) -> Vec<Rig<MemWire<R>, TestClock>> {
+) -> Vec<Station<Pcg, MemWire<R>, StepClock>> {
     let mut wires = VecDeque::from(wires);
-    let mut rigs = Vec::new(alloc);
+    let mut stations = Vec::new(alloc);
     for me in 0..MEMBERS {
-        let rig = node(rt, alloc, me, wires.pop_front());
-        rigs.push(rig).expect(&rt, "memory");
+        let station = node(rt, alloc, me, wires.pop_front());
+        stations.push(station).expect(&rt, "memory");
     }
-    rigs
+    stations
 }
 
-fn turn_each<R: Wait + Abort + Copy + Drop>(rt: &R, rigs: &mut Vec<Rig<MemWire<R>, TestClock>>) {
-    for rig in rigs.as_mut_slice() {
-        assert_eq!(rt; rig.node.turn(rt), Ok(()));
+fn turn_each<R: Wait + Abort + Copy + Drop>(
+    rt: &R,
+    stations: &mut Vec<Station<Pcg, MemWire<R>, StepClock>>,
+) {
+    for station in stations.as_mut_slice() {
+        assert_eq!(rt; station.node.turn(rt), Ok(()));
     }
 }
 
@@ -91,23 +94,23 @@ fn keep_next<R: Wait + Abort + Copy + Drop>(
     rt: &R,
     alloc: Global,
     kept: &mut Kept,
-    rigs: &mut VecDeque<Rig<MemWire<R>, TestClock>>,
+    stations: &mut VecDeque<Station<Pcg, MemWire<R>, StepClock>>,
 ) {
-    if let Some(rig) = rigs.pop_front() {
-        keep(rt, alloc, kept, rig);
+    if let Some(station) = stations.pop_front() {
+        keep(rt, alloc, kept, station);
     }
 }
 
 /// What became of the members after all their turns.
 fn crowd<R: Wait + Abort + Copy + Drop>(rt: R, alloc: Global, seed: u64) -> Kept {
-    let mut rigs = nodes(rt, alloc, wires(rt, alloc, seed));
+    let mut stations = nodes(rt, alloc, wires(rt, alloc, seed));
     for _ in 0..TURNS {
-        turn_each(&rt, &mut rigs);
+        turn_each(&rt, &mut stations);
     }
     let mut kept = Kept::new(alloc);
-    let mut rigs = VecDeque::from(rigs);
+    let mut stations = VecDeque::from(stations);
     for _ in 0..MEMBERS {
-        keep_next(&rt, alloc, &mut kept, &mut rigs);
+        keep_next(&rt, alloc, &mut kept, &mut stations);
     }
     kept
 }

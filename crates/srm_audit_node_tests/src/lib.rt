@@ -5,8 +5,6 @@
 #[cfg(test)]
 mod checks;
 #[cfg(test)]
-mod clock;
-#[cfg(test)]
 mod crowd;
 #[cfg(test)]
 mod loopback;

@@ -1,8 +1,8 @@
 //! Three nodes in threads, over loopback. All sockets are bound before any of them runs.
 
 use crate::checks::{check_fronts, check_reconciles};
-use crate::member::{config, make_rig};
-use crate::served::{Kept, host_rig, keep_hosted};
+use crate::member::{config, make_station};
+use crate::served::{Kept, keep_hosted, run_in_threads};
 use mio::net::UdpSocket;
 use srm_node::Hosted;
 use srm_udp::{SystemClock, UdpWire};
@@ -50,7 +50,7 @@ fn host_member<R: Clock + Threads + Wait + Abort + Copy + Send + Drop + 'static>
     wire: UdpWire,
 ) -> Hosted {
     let settings = config(rt, me, 3);
-    let rig = make_rig(
+    let station = make_station(
         rt,
         alloc,
         settings,
@@ -60,7 +60,7 @@ fn host_member<R: Clock + Threads + Wait + Abort + Copy + Send + Drop + 'static>
         b"abcd",
         2_000_000,
     );
-    host_rig(rt, alloc, rig, 1_000_000)
+    run_in_threads(rt, alloc, station, 1_000_000)
 }
 
 fn start<R: Clock + Threads + Wait + Abort + Copy + Send + Drop + 'static>(

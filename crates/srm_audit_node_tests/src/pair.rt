@@ -1,22 +1,24 @@
 //! Two nodes that are turned by hand.
 
 use crate::checks::{check_reconciles, check_refused};
-use crate::clock::TestClock;
-use crate::member::{Rig, config, last, make_rig, member};
+use crate::member::{config, make_station};
 use crate::served::{Kept, keep};
 use srm_audit::{Got, Mismatch};
-use srm_names::{Items, PageMsg};
+use srm_names::{Items, Member, PageMsg};
 use srm_node::{Flaky, MemWire, NodeFault, Wire, hub};
+use srm_rig_members::copies_of;
+use srm_rig_nodes::{Station, StepClock};
+use srm_timers::Pcg;
 use std::alloc::Global;
 use std::process::Abort;
 use std::sync::Wait;
 
 fn turn<R: Wait + Abort, X: Wire + Drop>(
     rt: &R,
-    rig: &mut Rig<X, TestClock>,
+    station: &mut Station<Pcg, X, StepClock>,
     end: Result<(), NodeFault>,
 ) {
-    assert_eq!(rt; rig.node.turn(rt), end);
+    assert_eq!(rt; station.node.turn(rt), end);
 }
 
 /// Member 0 has three strokes and leaves in its first turn. Then member 1 turns once, is asked to leave and turns once more, which ends so: the
@@ -28,12 +30,12 @@ fn two_members<R: Wait + Abort + Copy + Drop>(
     end: Result<(), NodeFault>,
 ) -> Kept {
     let mut wires = hub(rt, alloc, 2, Vec::new(alloc)).expect(&rt, "memory");
-    let second = Flaky::new(last(&rt, &mut wires), k);
-    let first: MemWire<R> = last(&rt, &mut wires);
-    let settings = config(&rt, 0, 2);
-    let mut one = make_rig(&rt, alloc, settings, 0, first, TestClock::new(0), b"abc", 0);
-    let settings = config(&rt, 1, 2);
-    let mut other = make_rig(&rt, alloc, settings, 1, second, TestClock::new(1), b"", 7);
+    let second = Flaky::new(wires.pop().expect(&rt, "a wire"), k);
+    let first: MemWire<R> = wires.pop().expect(&rt, "a wire");
+    let (settings, clock) = (config(&rt, 0, 2), StepClock::new(5, 0));
+    let mut one = make_station(&rt, alloc, settings, 0, first, clock, b"abc", 0);
+    let (settings, clock) = (config(&rt, 1, 2), StepClock::new(5, 1));
+    let mut other = make_station(&rt, alloc, settings, 1, second, clock, b"", 7);
     turn(&rt, &mut one, Ok(()));
     turn(&rt, &mut other, Ok(()));
     turn(&rt, &mut other, end);
@@ -58,23 +60,18 @@ fn a_datagram_that_is_not_sent_is_no_fault(rt: HostRuntime) {
     check_reconciles(&rt, rt.alloc(), kept, 2, 25);
 }
 
-fn copy_list(rt: &impl Abort, alloc: Global, list: &[PageMsg]) -> Vec<PageMsg> {
-    let mut copies = Vec::new(alloc);
-    for message in list {
-        let copy = message.copy().expect(rt, "memory");
-        copies.push(copy).expect(rt, "memory");
-    }
-    copies
+fn second(rt: &impl Abort) -> Member {
+    Member::new(1).expect(rt, "a member")
 }
 
 /// The list of member 1 in slot 0, once more, with its second and third drawop swapped if it `swaps`.
 fn again(rt: &impl Abort, alloc: Global, list: &[PageMsg], swaps: bool) -> Got {
-    let mut list = copy_list(rt, alloc, list);
+    let mut list = copies_of(alloc, list).expect(rt, "memory");
     if swaps && list.len() > 2 {
         list.swap(1, 2);
     }
     Got {
-        member: member(rt, 1),
+        member: second(rt),
         slot: 0,
         list: Items::new(list),
     }
@@ -92,7 +89,7 @@ fn check_foreign(rt: &impl Abort, alloc: Global, kept: Kept, swaps: bool) {
     }
     kept.lists.push(more).expect(rt, "memory");
     let foreign = Mismatch::Foreign {
-        member: member(rt, 1),
+        member: second(rt),
         slot: 0,
     };
     check_refused(rt, alloc, kept, foreign);

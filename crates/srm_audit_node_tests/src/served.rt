@@ -3,11 +3,12 @@
 ghost use Rattle.std.specs.Prelude.{◌≡◌, vec_len};
 ghost use Rattle.srm_names.specs.declared.limits.TheConstants.{PAGES};
 
-use crate::member::Rig;
 use srm_audit::Got;
-use srm_names::{Items, Member, PAGES, PageMsg};
-use srm_node::{Clock, Hosted, NodeFault, PageSink, Wire, Worked, host, work};
+use srm_names::{Items, Member, PAGES};
+use srm_node::{Clock, Hosted, NodeFault, Wire, Worked, host, work};
 use srm_pages::Tap;
+use srm_rig_nodes::{Plain, Station, plain_sinks};
+use srm_timers::Pcg;
 use srm_world::Journal;
 use std::alloc::Global;
 use std::collections::VecDeque;
@@ -16,14 +17,7 @@ use std::sync::Wait;
 use std::thread::Threads;
 
 /// A sink that takes all.
-#[derive(Clone, Copy)]
-struct All;
-
-impl PageSink for All {
-    fn message(&mut self, _slot: u8, _message: &PageMsg) -> bool {
-        true
-    }
-}
+const ALL: Plain = Plain { stops: false };
 
 /// The journals of members in some order, the list of each slot of each, and how many entries and messages they have.
 #[derive(Drop)]
@@ -72,7 +66,8 @@ fn work_each<R: Wait + Abort>(
     let mut taps = VecDeque::from(taps);
     for _ in 0..PAGES {
         if let Some(tap) = taps.pop_front() {
-            let worked = work(rt, alloc, tap, &mut All);
+            let mut sink = ALL;
+            let worked = work(rt, alloc, tap, &mut sink);
             kept.add_list(rt, member, worked);
         }
     }
@@ -83,9 +78,9 @@ pub(crate) fn keep<R: Wait + Abort, X: Wire + Drop, C: Clock + Drop>(
     rt: &R,
     alloc: Global,
     kept: &mut Kept,
-    rig: Rig<X, C>,
+    station: Station<Pcg, X, C>,
 ) {
-    let Rig { node, taps } = rig;
+    let Station { node, taps, .. } = station;
     let (journal, feeds) = node.finish();
     drop(feeds);
     let member = journal.start().config.me();
@@ -93,26 +88,17 @@ pub(crate) fn keep<R: Wait + Abort, X: Wire + Drop, C: Clock + Drop>(
     work_each(rt, alloc, kept, member, taps);
 }
 
-/// A sink for each slot.
-fn sinks(rt: &impl Abort, alloc: Global) -> Vec<All>
-    ensures { vec_len result ≡ PAGES }
-{
-    match Vec::from_array(alloc, [All; 8]) {
-        Ok(sinks) => sinks,
-        Err(_) => panic!(rt; "memory"),
-    }
-}
-
 /// Runs a node and its workers in threads, for so many turns.
-pub(crate) fn host_rig<
+pub(crate) fn run_in_threads<
     R: Threads + Wait + Abort + Copy + Send + 'static,
     X: Wire + Drop,
     C: Clock + Drop,
->(rt: &R, alloc: Global, rig: Rig<X, C>, turns: u64) -> Hosted
-    requires { vec_len rig.taps ≡ PAGES }
+>(rt: &R, alloc: Global, station: Station<Pcg, X, C>, turns: u64) -> Hosted
+    requires { vec_len station.taps ≡ PAGES }
 {
-    let Rig { node, taps } = rig;
-    match host(rt, alloc, node, taps, sinks(rt, alloc), turns) {
+    let sinks = plain_sinks(alloc, false).expect(rt, "memory");
+    let Station { node, taps, .. } = station;
+    match host(rt, alloc, node, taps, sinks, turns) {
         Ok(hosted) => hosted,
         Err(_) => panic!(rt; "memory"),
     }

@@ -1,36 +1,15 @@
 //! Three nodes in threads, over a network in memory that drops and doubles.
 
 use crate::checks::{check_fronts, check_reconciles};
-use crate::clock::TestClock;
-use crate::member::{config, last, make_rig};
-use crate::served::{Kept, host_rig, keep_hosted};
-use srm_node::{Fate, Hosted, MemWire, hub};
-use std::alloc::{AllocError, Global};
+use crate::member::{config, make_station};
+use crate::served::{Kept, keep_hosted, run_in_threads};
+use srm_node::{Hosted, MemWire, hub};
+use srm_rig_nodes::{StepClock, lossy_fates};
+use std::alloc::Global;
 use std::process::Abort;
 use std::sync::Wait;
 use std::thread;
 use std::thread::{JoinHandle, Threads};
-
-/// Copies of a member that are dropped, doubled and late by turns.
-fn drops_and_doubles(alloc: Global) -> Result<Vec<Fate>, AllocError> {
-    let mut fates = Vec::new(alloc);
-    for _ in 0..4 {
-        fates.push(Fate::Drop)?;
-        fates.push(Fate::Twice)?;
-        fates.push(Fate::Late(2))?;
-    }
-    Ok(fates)
-}
-
-/// The wires of three members whose copies have these fates.
-fn wires_of_three<R: Wait + Abort + Copy + Drop>(rt: R, alloc: Global) -> Vec<MemWire<R>> {
-    let mut fates = Vec::new(alloc);
-    for _ in 0..3 {
-        let own = drops_and_doubles(alloc).expect(&rt, "memory");
-        fates.push(own).expect(&rt, "memory");
-    }
-    hub(rt, alloc, 3, fates).expect(&rt, "memory")
-}
 
 /// A member of three with four strokes, which leaves after two seconds, run to its end.
 fn host_member<R: Threads + Wait + Abort + Copy + Send + Drop + 'static>(
@@ -40,8 +19,8 @@ fn host_member<R: Threads + Wait + Abort + Copy + Send + Drop + 'static>(
     wire: MemWire<R>,
 ) -> Hosted {
     let settings = config(rt, me, 3);
-    let clock = TestClock::new(1_000);
-    let rig = make_rig(
+    let clock = StepClock::new(5, 1_000);
+    let station = make_station(
         rt,
         alloc,
         settings,
@@ -51,7 +30,7 @@ fn host_member<R: Threads + Wait + Abort + Copy + Send + Drop + 'static>(
         b"abcd",
         2_000_000,
     );
-    host_rig(rt, alloc, rig, 100_000)
+    run_in_threads(rt, alloc, station, 100_000)
 }
 
 fn start<R: Threads + Wait + Abort + Copy + Send + Drop + 'static>(
@@ -72,10 +51,11 @@ fn three_members<R: Threads + Wait + Abort + Copy + Send + Drop + 'static>(
     rt: R,
     alloc: Global,
 ) -> Kept {
-    let mut wires = wires_of_three(rt, alloc);
-    let third = start(&rt, alloc, 2, last(&rt, &mut wires));
-    let second = start(&rt, alloc, 1, last(&rt, &mut wires));
-    let first = start(&rt, alloc, 0, last(&rt, &mut wires));
+    let fates = lossy_fates(alloc, 3).expect(&rt, "memory");
+    let mut wires = hub(rt, alloc, 3, fates).expect(&rt, "memory");
+    let third = start(&rt, alloc, 2, wires.pop().expect(&rt, "a wire"));
+    let second = start(&rt, alloc, 1, wires.pop().expect(&rt, "a wire"));
+    let first = start(&rt, alloc, 0, wires.pop().expect(&rt, "a wire"));
     let mut kept = Kept::new(alloc);
     keep_hosted(&rt, &mut kept, third.join(&rt));
     keep_hosted(&rt, &mut kept, second.join(&rt));

@@ -3,10 +3,12 @@
 ghost use Rattle.std.specs.Prelude.{◌≡◌, vec_len};
 ghost use Rattle.srm_names.specs.declared.limits.TheConstants.{PAGES};
 
-use crate::station::Station;
-use srm_agent::{Entry, Input};
+use crate::station::SteppedStation;
+use srm_agent::Entry;
 use srm_names::PageMsg;
 use srm_node::{Hosted, NodeFault, PageSink, WorkEnd, Worked, host};
+use srm_rig_members::given_in;
+use srm_rig_nodes::Station;
 use srm_world::Past;
 use std::alloc::Global;
 use std::process::Abort;
@@ -19,7 +21,7 @@ pub(crate) fn host_station<
     P: Past<Entry> + Drop,
     S: PageSink + Send + Drop + 'static,
     L: Past<PageMsg> + Send + Drop + 'static,
->(rt: &R, alloc: Global, station: Station<R, P>, sinks: Vec<S>, turns: u64) -> Hosted<P, L>
+>(rt: &R, alloc: Global, station: SteppedStation<R, P>, sinks: Vec<S>, turns: u64) -> Hosted<P, L>
     requires taps { vec_len station.taps ≡ PAGES }
     requires sinks { vec_len sinks ≡ PAGES }
 {
@@ -37,20 +39,13 @@ pub(crate) struct Gave {
     pub closed: bool,
 }
 
-fn message_in_first(entry: &Entry) -> Option<&PageMsg> {
-    match entry.input {
-        Input::Gave(0) => entry.effects.message.as_ref(),
-        _ => None,
-    }
-}
-
 pub(crate) fn gave_in_first(entries: &[Entry]) -> Gave {
     let mut gave = Gave {
         count: 0,
         closed: false,
     };
     for entry in entries {
-        if let Some(message) = message_in_first(entry) {
+        if let Some(message) = given_in(entry, 0) {
             gave = Gave {
                 count: gave.count.saturating_add(1),
                 closed: gave.closed || matches!(message, PageMsg::Close),

@@ -2,11 +2,13 @@
 
 use crate::hosted::{assert_ended, assert_hosted, host_station};
 use crate::sinks::{held_sinks, own_sinks, plain_sinks};
-use crate::station::{SteppedNode, alone, alone_in_steps, end_all, forgetful_alone, ink, ink_text};
+use crate::station::{SteppedNode, alone, alone_in_steps, forgetful_alone, ink_all, ink_text};
+use bytes::Bytes;
 use srm_agent::Entry;
 use srm_names::PageMsg;
 use srm_node::{Hosted, NodeFault, WorkEnd};
 use srm_pages::Pen;
+use srm_rig_nodes::{end_all, ink};
 use srm_world::Forgotten;
 use std::alloc::Global;
 use std::process::Abort;
@@ -29,8 +31,7 @@ fn host_64<R: Threads + Wait + Abort + Copy + Send + Drop + 'static>(
     turns: u64,
 ) -> Hosted {
     let mut station = alone(rt, alloc);
-    ink_text(&rt, alloc, &mut station.pens, &[b'x'; 64]);
-    end_all(&mut station.pens);
+    ink_all(&rt, alloc, &mut station.pens, &[b'x'; 64]);
     station.node.ask_leave(0);
     let sinks = plain_sinks(&rt, alloc, stops);
     host_station(&rt, alloc, station, sinks, turns)
@@ -61,8 +62,7 @@ fn workers_take_all_and_the_node_ends(rt: HostRuntime) {
 fn workers_of_a_node_that_keeps_no_entry_take_all(rt: HostRuntime) {
     let alloc = rt.alloc();
     let mut station = forgetful_alone(rt, alloc);
-    ink_text(&rt, alloc, &mut station.pens, &[b'x'; 64]);
-    end_all(&mut station.pens);
+    ink_all(&rt, alloc, &mut station.pens, &[b'x'; 64]);
     station.node.ask_leave(0);
     let sinks = plain_sinks(&rt, alloc, false);
     let hosted = host_station(&rt, alloc, station, sinks, MANY);
@@ -78,8 +78,9 @@ fn host_held<R: Threads + Wait + Abort + Clock + Copy + Send + Drop + 'static>(
     alloc: Global,
 ) -> Hosted {
     let mut station = alone(rt, alloc);
-    ink(&rt, alloc, &mut station.pens, 0, 0, b'a');
-    ink(&rt, alloc, &mut station.pens, 1, 1, b'b');
+    let (first, second) = (Bytes::from_static(b"a"), Bytes::from_static(b"b"));
+    assert!(&rt; ink(&rt, &mut station.pens, 0, 0, first));
+    assert!(&rt; ink(&rt, &mut station.pens, 1, 1, second));
     end_all(&mut station.pens);
     station.node.ask_leave(0);
     host_station(&rt, alloc, station, held_sinks(rt, alloc), MANY)
@@ -100,8 +101,7 @@ fn workers_are_at_work_at_once(rt: HostRuntime) {
 fn each_worker_shows_its_own_sink_what_it_takes(rt: HostRuntime) {
     let alloc = rt.alloc();
     let mut station = alone(rt, alloc);
-    ink_text(&rt, alloc, &mut station.pens, b"ab");
-    end_all(&mut station.pens);
+    ink_all(&rt, alloc, &mut station.pens, b"ab");
     station.node.ask_leave(0);
     let seen = Arc::new(alloc, AtomicU64::new(0)).expect(&rt, "memory");
     let sinks = own_sinks(&rt, alloc, &seen);
@@ -117,8 +117,7 @@ fn each_worker_shows_its_own_sink_what_it_takes(rt: HostRuntime) {
 fn workers_that_forget_show_their_sinks_the_same(rt: HostRuntime) {
     let alloc = rt.alloc();
     let mut station = forgetful_alone(rt, alloc);
-    ink_text(&rt, alloc, &mut station.pens, b"ab");
-    end_all(&mut station.pens);
+    ink_all(&rt, alloc, &mut station.pens, b"ab");
     station.node.ask_leave(0);
     let seen = Arc::new(alloc, AtomicU64::new(0)).expect(&rt, "memory");
     let sinks = own_sinks(&rt, alloc, &seen);

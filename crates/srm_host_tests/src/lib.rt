@@ -7,8 +7,6 @@ mod hosted;
 #[cfg(test)]
 mod hosting;
 #[cfg(test)]
-mod seen;
-#[cfg(test)]
 mod sinks;
 #[cfg(test)]
 mod station;

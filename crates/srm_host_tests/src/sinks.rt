@@ -3,9 +3,10 @@
 ghost use Rattle.std.specs.Prelude.{◌≡◌, vec_len};
 ghost use Rattle.srm_names.specs.declared.limits.TheConstants.{PAGES};
 
-use crate::seen::{Seen, look_at};
 use srm_names::{PAGES, PageMsg};
 use srm_node::PageSink;
+use srm_rig::{Seen, look_at};
+use srm_rig_nodes::Plain;
 use std::alloc::Global;
 use std::process::Abort;
 use std::sync::Arc;
@@ -25,18 +26,6 @@ impl PageSink for Few {
         self.left = self.left.saturating_sub(1);
         self.last = Some((slot, look_at(message)));
         self.left > 0
-    }
-}
-
-/// A sink that takes all, or stops at the first message in slot 0.
-#[derive(Clone, Copy)]
-pub(crate) struct Plain {
-    pub stops: bool,
-}
-
-impl PageSink for Plain {
-    fn message(&mut self, slot: u8, _message: &PageMsg) -> bool {
-        !(self.stops && slot == 0)
     }
 }
 
@@ -74,10 +63,7 @@ impl<R: Clock + Drop> PageSink for Held<R> {
 pub(crate) fn plain_sinks(rt: &impl Abort, alloc: Global, stops: bool) -> Vec<Plain>
     ensures { vec_len result ≡ PAGES }
 {
-    match Vec::from_array(alloc, [Plain { stops }; 8]) {
-        Ok(sinks) => sinks,
-        Err(_) => panic!(rt; "memory"),
-    }
+    srm_rig_nodes::plain_sinks(alloc, stops).expect(rt, "memory")
 }
 
 fn make_held<R: Clock + Abort + Drop + Copy>(rt: R, drawn: &Arc<AtomicU64, Global>) -> Held<R> {

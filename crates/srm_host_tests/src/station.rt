@@ -1,51 +1,27 @@
-//! A node with its taps and pens.
+//! Nodes with their taps and pens, over networks in memory.
 
-ghost use Rattle.std.specs.Prelude.{◌≡◌, [], vec_len};
+ghost use Rattle.std.specs.Prelude.{◌≡◌, vec_len};
 ghost use Rattle.srm_names.specs.declared.limits.TheConstants.{PAGES};
-ghost use Rattle.srm_node.specs.Nodes.{AreNewFeeds};
 
-use bytes::Bytes;
 use srm_agent::{Config, Entry};
-use srm_names::{Member, Page};
-use srm_node::{Clock, Fate, MemWire, Node, hub};
-use srm_pages::{Feed, Pen, Stroke, Tap, ends, lanes, well};
+use srm_node::{Fate, MemWire, Node, hub};
+use srm_pages::Pen;
+use srm_rig_members::config;
+use srm_rig_nodes::{Station, StepClock, end_all};
 use srm_timers::Listed;
-use srm_world::{Forgotten, Past};
-use std::alloc::{AllocError, Global};
+use srm_world::Forgotten;
+use std::alloc::Global;
 use std::process::Abort;
 use std::sync::Wait;
-use std::sync::atomic::{AtomicU64, Ordering};
-
-/// A clock that stands at 0 and goes on by so many microseconds whenever it is read.
-#[derive(Drop)]
-pub(crate) struct StepClock {
-    now: AtomicU64,
-    step: u64,
-}
-
-impl Clock for StepClock {
-    fn now(&self) -> u64 {
-        self.now.fetch_add(self.step, Ordering::SeqCst)
-    }
-}
 
 /// A node over a network in memory whose waits come from a list.
-pub(crate) type SteppedNode<R, P = Vec<Entry>> = Node<Listed, MemWire<R>, StepClock, P>;
+pub(crate) type SteppedNode<R> = Node<Listed, MemWire<R>, StepClock>;
 
-/// A node over a network in memory, with its taps and pens.
-#[derive(Drop)]
-pub(crate) struct Station<R: Wait + Drop, P: Past<Entry> + Drop = Vec<Entry>> {
-    pub node: SteppedNode<R, P>,
-    pub taps: Vec<Tap>,
-    pub pens: Vec<Pen>,
-}
+/// It with its taps and pens.
+pub(crate) type SteppedStation<R, P = Vec<Entry>> = Station<Listed, MemWire<R>, StepClock, P>;
 
-pub(crate) fn member(rt: &impl Abort, number: u8) -> Member {
-    Member::new(number).expect(rt, "a member")
-}
-
-fn config(rt: &impl Abort, me: u8, members: u8) -> Config {
-    Config::new(member(rt, me), members, 7, 8_000, 4_204, 2, 2, 1, 1).expect(rt, "settings")
+fn settings(rt: &impl Abort, me: u8, members: u8) -> Config {
+    config(me, members).expect(rt, "settings")
 }
 
 /// The wires of a network of so many members, where copies have these fates, a list for each member.
@@ -58,77 +34,7 @@ pub(crate) fn wires<R: Wait + Abort + Copy + Drop>(
     hub(rt, alloc, members, fates).expect(&rt, "memory")
 }
 
-/// The wire of the member that is the last of those left.
-pub(crate) fn last<R: Wait + Abort + Drop>(rt: &R, wires: &mut Vec<MemWire<R>>) -> MemWire<R> {
-    wires.pop().expect(rt, "a wire")
-}
-
-/// The feeds and taps of new lanes.
-fn new_lanes(rt: &impl Abort, alloc: Global) -> (Vec<Feed>, Vec<Tap>)
-    ensures feeds { AreNewFeeds result.0.items }
-    ensures taps { vec_len result.1 ≡ PAGES }
-{
-    match lanes(alloc, 0) {
-        Ok(ends) => (ends.feeds, ends.taps),
-        Err(_) => panic!(rt; "memory"),
-    }
-}
-
-fn new_well(rt: &impl Abort, alloc: Global) -> (ends::Well, Vec<Pen>)
-    ensures { result.0.received ≡ [] }
-{
-    match well(alloc) {
-        Ok(made) => made,
-        Err(_) => panic!(rt; "memory"),
-    }
-}
-
-fn new_node<R: Wait + Abort + Drop>(
-    rt: &R,
-    alloc: Global,
-    config: Config,
-    wire: MemWire<R>,
-    step: u64,
-    feeds: Vec<Feed>,
-    well: ends::Well,
-) -> SteppedNode<R>
-    requires feeds { AreNewFeeds feeds.items }
-    requires well { well.received ≡ [] }
-{
-    let words = Listed::new(Vec::new(alloc));
-    let clock = StepClock {
-        now: AtomicU64::new(0),
-        step,
-    };
-    match Node::new(alloc, config, words, wire, clock, feeds, well) {
-        Ok(node) => node,
-        Err(_) => panic!(rt; "memory"),
-    }
-}
-
-fn forgetful_node<R: Wait + Abort + Drop>(
-    rt: &R,
-    alloc: Global,
-    config: Config,
-    wire: MemWire<R>,
-    feeds: Vec<Feed>,
-    well: ends::Well,
-) -> SteppedNode<R, Forgotten<Entry>>
-    requires feeds { AreNewFeeds feeds.items }
-    requires well { well.received ≡ [] }
-{
-    let words = Listed::new(Vec::new(alloc));
-    let clock = StepClock {
-        now: AtomicU64::new(0),
-        step: 0,
-    };
-    match Node::forgetful(alloc, config, words, wire, clock, feeds, well) {
-        Ok(node) => node,
-        Err(_) => panic!(rt; "memory"),
-    }
-}
-
-/// A new node of one of so many members, whose clock goes on by so many microseconds whenever it is read.
+/// A new node of one of so many members, whose clock stands at 0 and goes on by so many microseconds whenever it is read.
 pub(crate) fn make_station<R: Wait + Abort + Drop>(
     rt: &R,
     alloc: Global,
@@ -136,17 +42,19 @@ pub(crate) fn make_station<R: Wait + Abort + Drop>(
     members: u8,
     wire: MemWire<R>,
     step: u64,
-) -> Station<R>
+) -> SteppedStation<R>
     ensures { vec_len result.taps ≡ PAGES }
 {
-    let (feeds, taps) = new_lanes(rt, alloc);
-    let (well, pens) = new_well(rt, alloc);
-    let config = config(rt, me, members);
-    Station {
-        node: new_node(rt, alloc, config, wire, step, feeds, well),
-        taps,
-        pens,
-    }
+    let config = settings(rt, me, members);
+    let words = Listed::new(Vec::new(alloc));
+    let station = Station::new(alloc, config, words, wire, StepClock::new(0, step));
+    station.expect(rt, "memory")
+}
+
+/// The wire of the only member.
+fn only_wire<R: Wait + Abort + Copy + Drop>(rt: R, alloc: Global) -> MemWire<R> {
+    let mut wires = wires(rt, alloc, 1, Vec::new(alloc));
+    wires.pop().expect(&rt, "a wire")
 }
 
 /// A node that is the only member, whose clock goes on by so many microseconds whenever it is read.
@@ -154,16 +62,14 @@ pub(crate) fn alone_in_steps<R: Wait + Abort + Copy + Drop>(
     rt: R,
     alloc: Global,
     step: u64,
-) -> Station<R>
+) -> SteppedStation<R>
     ensures { vec_len result.taps ≡ PAGES }
 {
-    let mut wires = wires(rt, alloc, 1, Vec::new(alloc));
-    let wire = last(&rt, &mut wires);
-    make_station(&rt, alloc, 0, 1, wire, step)
+    make_station(&rt, alloc, 0, 1, only_wire(rt, alloc), step)
 }
 
 /// A node that is the only member, whose clock stands.
-pub(crate) fn alone<R: Wait + Abort + Copy + Drop>(rt: R, alloc: Global) -> Station<R>
+pub(crate) fn alone<R: Wait + Abort + Copy + Drop>(rt: R, alloc: Global) -> SteppedStation<R>
     ensures { vec_len result.taps ≡ PAGES }
 {
     alone_in_steps(rt, alloc, 0)
@@ -173,63 +79,23 @@ pub(crate) fn alone<R: Wait + Abort + Copy + Drop>(rt: R, alloc: Global) -> Stat
 pub(crate) fn forgetful_alone<R: Wait + Abort + Copy + Drop>(
     rt: R,
     alloc: Global,
-) -> Station<R, Forgotten<Entry>>
+) -> SteppedStation<R, Forgotten<Entry>>
     ensures { vec_len result.taps ≡ PAGES }
 {
-    let mut wires = wires(rt, alloc, 1, Vec::new(alloc));
-    let wire = last(&rt, &mut wires);
-    let (feeds, taps) = new_lanes(&rt, alloc);
-    let (well, pens) = new_well(&rt, alloc);
-    let config = config(&rt, 0, 1);
-    Station {
-        node: forgetful_node(&rt, alloc, config, wire, feeds, well),
-        taps,
-        pens,
-    }
-}
-
-fn body_of(alloc: Global, byte: u8) -> Result<Bytes, AllocError> {
-    Bytes::copy_from_slice(alloc, &[byte])
-}
-
-/// The pen at this place sends a byte as a stroke on a page of member 0.
-pub(crate) fn ink<R: Wait + Abort>(
-    rt: &R,
-    alloc: Global,
-    pens: &mut Vec<Pen>,
-    place: usize,
-    number: u16,
-    byte: u8,
-) {
-    let Some(pen) = pens.get_mut(place) else {
-        panic!(rt; "no pen")
-    };
-    let creator = member(rt, 0);
-    let stroke = Stroke {
-        pen: pen.number(),
-        page: Page { creator, number },
-        body: body_of(alloc, byte).expect(rt, "memory"),
-    };
-    assert!(rt; pen.stroke(rt, stroke).is_ok());
+    let config = settings(&rt, 0, 1);
+    let words = Listed::new(Vec::new(alloc));
+    let wire = only_wire(rt, alloc);
+    let station = Station::forgetful(alloc, config, words, wire, StepClock::new(0, 0));
+    station.expect(&rt, "memory")
 }
 
 /// The first pen sends each of these bytes as a stroke on the first page.
 pub(crate) fn ink_text<R: Wait + Abort>(rt: &R, alloc: Global, pens: &mut Vec<Pen>, text: &[u8]) {
-    for byte in text {
-        ink(rt, alloc, pens, 0, 0, *byte);
-    }
+    assert!(rt; srm_rig_nodes::ink_text(rt, alloc, pens, text).expect(rt, "memory"));
 }
 
-/// The last pen that is left is done.
-fn end_last(pens: &mut Vec<Pen>) {
-    if let Some(pen) = pens.pop() {
-        let _inked = pen.done();
-    }
-}
-
-/// All pens are done.
-pub(crate) fn end_all(pens: &mut Vec<Pen>) {
-    for _ in 0..4 {
-        end_last(pens);
-    }
+/// The same, and then all pens are done.
+pub(crate) fn ink_all<R: Wait + Abort>(rt: &R, alloc: Global, pens: &mut Vec<Pen>, text: &[u8]) {
+    ink_text(rt, alloc, pens, text);
+    end_all(pens);
 }

@@ -5,10 +5,11 @@ ghost use Rattle.srm_names.specs.declared.limits.TheConstants.{PAGES};
 
 use crate::hosted::host_station;
 use crate::sinks::plain_sinks;
-use crate::station::{Station, end_all, ink_text, last, make_station, wires};
-use srm_names::PageMsg;
-use srm_node::{Fate, Hosted, MemWire};
-use std::alloc::{AllocError, Global};
+use crate::station::{SteppedStation, ink_all, make_station, wires};
+use srm_node::{Hosted, MemWire};
+use srm_rig::counts_of_fronts;
+use srm_rig_nodes::lossy_fates;
+use std::alloc::Global;
 use std::process::Abort;
 use std::sync::Wait;
 use std::thread;
@@ -20,34 +21,13 @@ fn member_of_three<R: Wait + Abort + Drop>(
     alloc: Global,
     me: u8,
     wire: MemWire<R>,
-) -> Station<R>
+) -> SteppedStation<R>
     ensures { vec_len result.taps ≡ PAGES }
 {
     let mut station = make_station(rt, alloc, me, 3, wire, 1_000);
-    ink_text(rt, alloc, &mut station.pens, b"abcd");
-    end_all(&mut station.pens);
+    ink_all(rt, alloc, &mut station.pens, b"abcd");
     station.node.ask_leave(2_000_000);
     station
-}
-
-/// Copies of a member that are dropped, doubled and late by turns.
-fn drops_and_doubles(alloc: Global) -> Result<Vec<Fate>, AllocError> {
-    let mut fates = Vec::new(alloc);
-    for _ in 0..4 {
-        fates.push(Fate::Drop)?;
-        fates.push(Fate::Twice)?;
-        fates.push(Fate::Late(2))?;
-    }
-    Ok(fates)
-}
-
-/// The fates of the copies of three members.
-fn fates_of_three(alloc: Global) -> Result<Vec<Vec<Fate>>, AllocError> {
-    let mut fates = Vec::new(alloc);
-    for _ in 0..3 {
-        fates.push(drops_and_doubles(alloc)?)?;
-    }
-    Ok(fates)
 }
 
 fn host_member<R: Threads + Wait + Abort + Copy + Send + Drop + 'static>(
@@ -61,40 +41,12 @@ fn host_member<R: Threads + Wait + Abort + Copy + Send + Drop + 'static>(
     host_station(rt, alloc, station, sinks, 100_000)
 }
 
-/// Whether this is no drawop, or the next one of its source, with the body that was drawn. It is counted.
-fn is_next(counts: &mut [u32; 32], message: &PageMsg) -> bool {
-    let PageMsg::Draw(drawop) = message else {
-        return true;
-    };
-    let count = &mut counts[drawop.name.source().index()];
-    *count = count.saturating_add(1);
-    drawop.name.number() == *count && is_body(&drawop.body, *count)
-}
-
-/// Whether this is the body of the drawop with this number: `a`, `b`, `c` or `d`.
-fn is_body(body: &[u8], number: u32) -> bool {
-    match body.first() {
-        Some(byte) => u32::from(*byte) == number.saturating_add(96),
-        None => false,
-    }
-}
-
-/// Whether the drawops of each source are a front of what it drew.
-fn is_as_drawn(list: &[PageMsg]) -> bool {
-    let mut counts = [0; 32];
-    for message in list {
-        if !is_next(&mut counts, message) {
-            return false;
-        }
-    }
-    true
-}
-
+/// It ended well, and the drawops of each source are a front of what it drew.
 fn assert_served(rt: &impl Abort, hosted: &Hosted) {
     assert_eq!(rt; hosted.end, Ok(()));
     assert_eq!(rt; hosted.worked.len(), 8);
     for worked in &hosted.worked {
-        assert!(rt; is_as_drawn(worked.list.as_slice()));
+        assert!(rt; counts_of_fronts(worked.list.as_slice()).is_some());
     }
 }
 
@@ -117,11 +69,11 @@ fn host_three<R: Threads + Wait + Abort + Copy + Send + Drop + 'static>(
     rt: R,
     alloc: Global,
 ) -> (Hosted, (Hosted, Hosted)) {
-    let fates = fates_of_three(alloc).expect(&rt, "memory");
+    let fates = lossy_fates(alloc, 3).expect(&rt, "memory");
     let mut wires = wires(rt, alloc, 3, fates);
-    let third = last(&rt, &mut wires);
-    let second = last(&rt, &mut wires);
-    let first = last(&rt, &mut wires);
+    let third = wires.pop().expect(&rt, "a wire");
+    let second = wires.pop().expect(&rt, "a wire");
+    let first = wires.pop().expect(&rt, "a wire");
     thread::join(
         &rt,
         move || host_member(&rt, alloc, 0, first),

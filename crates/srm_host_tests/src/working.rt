@@ -1,20 +1,25 @@
 //! Page workers in the thread of a test, over lanes whose node is gone.
 
-use crate::seen::{Seen, look_at};
 use crate::sinks::Few;
-use crate::station::{Station, alone, end_all, ink_text};
+use crate::station::{SteppedStation, alone, ink_all};
 use srm_names::PageMsg;
 use srm_node::{WorkEnd, Worked, work};
 use srm_pages::Tap;
+use srm_rig::{Seen, look_at};
+use srm_rig_nodes::Station;
 use srm_world::Forgotten;
 use std::alloc::Global;
 use std::process::Abort;
 use std::sync::Wait;
 
 /// A node draws two strokes in one turn, and may leave in it.
-fn draw_two<R: Wait + Abort + Drop>(rt: &R, alloc: Global, station: &mut Station<R>, leaves: bool) {
-    ink_text(rt, alloc, &mut station.pens, b"ab");
-    end_all(&mut station.pens);
+fn draw_two<R: Wait + Abort + Drop>(
+    rt: &R,
+    alloc: Global,
+    station: &mut SteppedStation<R>,
+    leaves: bool,
+) {
+    ink_all(rt, alloc, &mut station.pens, b"ab");
     if leaves {
         station.node.ask_leave(0);
     }
@@ -54,9 +59,9 @@ fn a_worker_ends_at_the_close(rt: HostRuntime) {
     let mut sink = few(9);
     let worked = work(&rt, rt.alloc(), tap_of_two(rt, rt.alloc(), true), &mut sink);
     let wanted = [
-        Seen::Open(0),
-        Seen::Draw(0, 1, b'a'),
-        Seen::Draw(0, 2, b'b'),
+        Seen::Open(0, 0),
+        Seen::Draw(0, 1, 1, b'a'),
+        Seen::Draw(0, 2, 1, b'b'),
         Seen::Close,
     ];
     let _tap = assert_worked(&rt, worked, &wanted, WorkEnd::Closed);
@@ -72,10 +77,10 @@ fn a_worker_ends_where_its_sink_stops(rt: HostRuntime) {
         tap_of_two(rt, rt.alloc(), true),
         &mut few(2),
     );
-    let wanted = [Seen::Open(0), Seen::Draw(0, 1, b'a')];
+    let wanted = [Seen::Open(0, 0), Seen::Draw(0, 1, 1, b'a')];
     let tap = assert_worked(&rt, worked, &wanted, WorkEnd::Stopped);
     let worked = work(&rt, rt.alloc(), tap, &mut few(9));
-    let wanted = [Seen::Draw(0, 2, b'b'), Seen::Close];
+    let wanted = [Seen::Draw(0, 2, 1, b'b'), Seen::Close];
     let _tap = assert_worked(&rt, worked, &wanted, WorkEnd::Closed);
 }
 
@@ -89,9 +94,9 @@ fn a_worker_ends_where_its_feed_is_gone(rt: HostRuntime) {
         &mut few(9),
     );
     let wanted = [
-        Seen::Open(0),
-        Seen::Draw(0, 1, b'a'),
-        Seen::Draw(0, 2, b'b'),
+        Seen::Open(0, 0),
+        Seen::Draw(0, 1, 1, b'a'),
+        Seen::Draw(0, 2, 1, b'b'),
     ];
     let _tap = assert_worked(&rt, worked, &wanted, WorkEnd::Closed);
 }

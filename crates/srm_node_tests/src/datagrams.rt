@@ -1,8 +1,8 @@
 //! Datagrams, byte by byte.
 
-use crate::rig::member;
-use crate::strokes::run_of;
+use srm_names::Member;
 use srm_node::Wire;
+use srm_rig::datagrams::{Kind, request, word};
 use std::alloc::Global;
 use std::process::Abort;
 
@@ -21,31 +21,20 @@ pub(crate) enum Sent {
     Request(u8, u8),
 }
 
+/// Data of a source that ends so.
 fn data(source: u8, page: u8, number: u8, end: u8) -> [u8; 29] {
-    let mut bytes = [
-        0x53, 0x52, 1, 1, 0, 0, 0, 7, 0, 0, 0, 0, 0, 0, 0, 0, 0, 0, 0, 0, 0, 0, 0, 0, 0, 0, 2,
-        b'h', 0,
-    ];
-    bytes[8] = source;
-    bytes[9] = source;
-    bytes[12] = page;
-    bytes[16] = number;
+    let mut bytes = word(Kind::Data, source, source, page.into(), number.into());
     bytes[28] = end;
     bytes
 }
 
-fn request(source: u8, number: u8) -> [u8; 17] {
-    [
-        0x53, 0x52, 1, 2, 0, 0, 0, 7, 0, source, 0, 0, 0, 0, 0, 0, number,
-    ]
-}
-
 fn send_bytes<X: Wire>(rt: &impl Abort, wire: &mut X, bytes: &[u8]) {
-    assert!(rt; wire.send(member(rt, 1), bytes).is_ok());
+    let to = Member::new(1).expect(rt, "a member");
+    assert!(rt; wire.send(to, bytes).is_ok());
 }
 
 fn send_long<X: Wire>(rt: &impl Abort, alloc: Global, wire: &mut X) {
-    let bytes = run_of(alloc, 0xff, 5_000).expect(rt, "memory");
+    let bytes = vec![in alloc; 0xff; 5_000].expect(rt, "memory");
     send_bytes(rt, wire, bytes.as_slice());
 }
 
@@ -60,7 +49,11 @@ fn send<X: Wire>(rt: &impl Abort, alloc: Global, wire: &mut X, sent: Sent) {
         Sent::Other(source, page, number) => {
             send_bytes(rt, wire, &data(source, page, number, b'o'));
         }
-        Sent::Request(source, number) => send_bytes(rt, wire, &request(source, number)),
+        Sent::Request(source, number) => send_bytes(
+            rt,
+            wire,
+            &request(0, source, 0, number.into()),
+        ),
     }
 }
 

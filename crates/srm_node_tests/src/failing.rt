@@ -1,46 +1,17 @@
 //! Wires that fail.
 
-ghost use Rattle.std.specs.Prelude.{None};
-
 use crate::plays::{pair, play_over, two};
-use crate::rig::{config, last, wires};
-use crate::seen::Seen;
+use crate::rig::{config, wires};
 use crate::steps::{Step, play};
 use crate::tales::{Tale, end};
-use srm_names::Member;
-use srm_node::{Flaky, NodeFault, Wire, WireFault};
+use srm_node::{Flaky, NodeFault};
+use srm_rig::Seen;
+use srm_rig_nodes::{FailingWire, Replay};
 use std::alloc::Global;
 use std::process::Abort;
 use std::sync::Wait;
 
-/// A wire that fails for ever, and tells nothing.
-#[derive(Drop)]
-pub(crate) struct Broken {
-    failures: u64,
-}
-
-impl Wire for Broken {
-    ghost failure_count = { λ w. w.failures };
-
-    ghost told = { λ _. None };
-
-    fn send(&mut self, _to: Member, _datagram: &[u8]) -> Result<(), WireFault> {
-        self.failures = self.failures.saturating_add(1);
-        Err(WireFault)
-    }
-
-    fn receive(&mut self, _buffer: &mut [u8]) -> Result<Option<usize>, WireFault> {
-        self.failures = self.failures.saturating_add(1);
-        Err(WireFault)
-    }
-
-    fn pause(&mut self, _micros: u64) {}
-
-    fn failures(&self) -> u64 {
-        self.failures
-    }
-}
-
+/// Over a wire that fails for ever, and whose calls failed so often before.
 fn play_broken<R: Wait + Abort>(
     rt: &R,
     alloc: Global,
@@ -48,7 +19,7 @@ fn play_broken<R: Wait + Abort>(
     steps: &[Step],
     tales: &[Tale],
 ) {
-    let wire = Broken { failures };
+    let wire = FailingWire::new(Replay::new(Vec::new(alloc)), 0, failures);
     play_over(rt, alloc, config(rt, 0, 2), wire, 0, steps, tales);
 }
 
@@ -208,7 +179,7 @@ fn play_alone_over_flaky<R: Wait + Abort + Copy + Drop>(
     steps: &[Step],
 ) {
     let mut wires = wires(rt, alloc, 1, &[]);
-    let wire = Flaky::new(last(&rt, &mut wires), k);
+    let wire = Flaky::new(wires.pop().expect(&rt, "a wire"), k);
     play_over(&rt, alloc, config(&rt, 0, 1), wire, 0, steps, &[]);
 }
 

@@ -2,9 +2,9 @@
 
 use crate::datagrams::Sent;
 use crate::plays::{beside_one, forgetful_beside_one};
-use crate::seen::Seen;
 use crate::steps::{Step, play, play_uncounted};
 use srm_node::Wire;
+use srm_rig::Seen;
 use std::alloc::{AllocError, Global};
 use std::process::Abort;
 use std::sync::Wait;

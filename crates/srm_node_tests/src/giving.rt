@@ -1,9 +1,9 @@
 //! What a node gives into its lanes.
 
 use crate::plays::play_alone;
-use crate::seen::Seen;
 use crate::steps::Step;
 use crate::tales::Tale;
+use srm_rig::Seen;
 
 // A lane holds 64 messages: its page and 63 drawops. One more comes for each that is taken.
 #[test]

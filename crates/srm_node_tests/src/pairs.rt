@@ -1,10 +1,10 @@
 //! Two nodes over a network in memory, turned by hand.
 
 use crate::plays::{pair, two};
-use crate::seen::Seen;
 use crate::steps::{Step, play};
 use crate::tales::{Tale, end};
 use srm_node::Fate;
+use srm_rig::Seen;
 
 const DRAWS_AND_LEAVES: [Step; 12] = [
     Step::Ink(b'a'),

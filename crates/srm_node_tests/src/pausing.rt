@@ -1,10 +1,11 @@
 //! How long a node pauses in a run, and into how much room it receives.
 
 use crate::noting::{Notes, Noting, make_noting, new_notes};
-use crate::rig::{Rig, config, make_rig, member};
+use crate::rig::{Rig, config, make_rig};
 use crate::steps::{Step, play};
 use srm_agent::Config;
 use srm_node::NodeFault;
+use srm_rig_members::config_at;
 use std::alloc::Global;
 use std::process::Abort;
 use std::sync::Wait;
@@ -46,7 +47,7 @@ fn play_pauses<R: Wait + Abort>(
 
 /// The settings of the first of two members with so many bytes a second and this depth.
 fn settings(rt: &impl Abort, rate: u32, depth: u32) -> Config {
-    Config::new(member(rt, 0), 2, 7, rate, depth, 2, 2, 1, 1).expect(rt, "settings")
+    config_at(0, 2, rate, depth).expect(rt, "settings")
 }
 
 // A node made at 5 sends its first session message at 1,000,005.

@@ -1,6 +1,6 @@
 //! Worked runs: nodes take steps, and then their journals tell.
 
-use crate::rig::{Rig, TestWire, config, first, last, make_forgetful_rig, make_rig, wires};
+use crate::rig::{Rig, TestWire, config, first, make_forgetful_rig, make_rig, wires};
 use crate::steps::{Step, play};
 use crate::tales::{Tale, end};
 use srm_agent::{Config, Entry};
@@ -33,7 +33,7 @@ pub(crate) fn play_alone<R: Wait + Abort + Copy + Drop>(
     tales: &[Tale],
 ) {
     let mut wires = wires(rt, alloc, 1, &[]);
-    let wire = last(&rt, &mut wires);
+    let wire = wires.pop().expect(&rt, "a wire");
     play_over(&rt, alloc, config(&rt, 0, 1), wire, 0, steps, tales);
 }
 
@@ -86,7 +86,7 @@ pub(crate) fn pair<R: Wait + Abort + Copy + Drop>(
     fates: &[Fate],
 ) -> (Rig<TestWire<R>>, Rig<TestWire<R>>) {
     let mut wires = wires(rt, alloc, settings.1.members(), fates);
-    let own = Flaky::new(last(&rt, &mut wires), 0);
+    let own = Flaky::new(wires.pop().expect(&rt, "a wire"), 0);
     let other = Flaky::new(first(&rt, &mut wires), k);
     (
         make_rig(&rt, alloc, settings.0, other, 0),

@@ -2,13 +2,14 @@
 
 use crate::passing::Passing;
 use crate::plays::pair;
-use crate::rig::{Rig, config, first, make_rig, make_rig_at, member, new_now, wires};
-use crate::seen::Seen;
+use crate::rig::{Rig, config, first, make_rig, make_rig_at, new_now, wires};
 use crate::steps::{Step, play, turn};
 use crate::strokes::ink_what_goes;
 use crate::tales::{Tale, end};
 use srm_agent::Config;
 use srm_node::{MemWire, NodeFault};
+use srm_rig::Seen;
+use srm_rig_members::config_at;
 use std::alloc::Global;
 use std::process::Abort;
 use std::sync::atomic::Ordering;
@@ -16,7 +17,7 @@ use std::sync::{Arc, Wait};
 
 /// The settings of one of two members with the smallest depth, 1,051 bytes, and 8,000 bytes a second.
 fn shallow(rt: &impl Abort, me: u8) -> Config {
-    Config::new(member(rt, me), 2, 7, 8_000, 1_051, 2, 2, 1, 1).expect(rt, "settings")
+    config_at(me, 2, 8_000, 1_051).expect(rt, "settings")
 }
 
 // A stroke of 1,024 bytes is a datagram of 1,051, which is all the tokens: the next may go 131,375 microseconds later. The third stands

@@ -1,12 +1,9 @@
 //! A node with what is outside it: its clock, its taps, its pens, and wires of members without a node.
 
-ghost use Rattle.std.specs.Prelude.{◌≡◌, []};
-ghost use Rattle.srm_node.specs.Nodes.{AreNewFeeds};
-
 use srm_agent::{Config, Entry};
-use srm_names::Member;
 use srm_node::{Clock, Fate, Flaky, MemWire, Node, Wire, hub};
-use srm_pages::{Feed, Pen, Tap, ends, lanes, well};
+use srm_pages::{Pen, Tap};
+use srm_rig_nodes::Station;
 use srm_timers::Listed;
 use srm_world::{Forgotten, Past};
 use std::alloc::{AllocError, Global};
@@ -41,13 +38,9 @@ pub(crate) struct Rig<X: Wire + Drop, P: Past<Entry> + Drop = Vec<Entry>> {
 /// The wire that most nodes have.
 pub(crate) type TestWire<R> = Flaky<MemWire<R>>;
 
-pub(crate) fn member(rt: &impl Abort, number: u8) -> Member {
-    Member::new(number).expect(rt, "a member")
-}
-
 /// The settings that most members have, in session 7.
 pub(crate) fn config(rt: &impl Abort, me: u8, members: u8) -> Config {
-    Config::new(member(rt, me), members, 7, 8_000, 4_204, 2, 2, 1, 1).expect(rt, "settings")
+    srm_rig_members::config(me, members).expect(rt, "settings")
 }
 
 /// The wires of a network of so many members, where copies of member 0 have these fates.
@@ -79,51 +72,32 @@ pub(crate) fn first<R: Wait + Abort + Drop>(rt: &R, wires: &mut Vec<MemWire<R>>)
     wires.remove(0)
 }
 
-/// The wire of the last member of those left.
-pub(crate) fn last<R: Wait + Abort + Drop>(rt: &R, wires: &mut Vec<MemWire<R>>) -> MemWire<R> {
-    wires.pop().expect(rt, "a wire")
-}
-
-/// The feeds and taps of new lanes.
-fn new_lanes(rt: &impl Abort, alloc: Global) -> (Vec<Feed>, Vec<Tap>)
-    ensures { AreNewFeeds result.0.items }
-{
-    match lanes(alloc, 0) {
-        Ok(ends) => (ends.feeds, ends.taps),
-        Err(_) => panic!(rt; "memory"),
-    }
-}
-
-fn new_well(rt: &impl Abort, alloc: Global) -> (ends::Well, Vec<Pen>)
-    ensures { result.0.received ≡ [] }
-{
-    match well(alloc) {
-        Ok(made) => made,
-        Err(_) => panic!(rt; "memory"),
-    }
-}
-
 /// What a clock is read from and set by, which stands at 5.
 pub(crate) fn new_now(rt: &impl Abort, alloc: Global) -> Arc<AtomicU64, Global> {
     Arc::new(alloc, AtomicU64::new(5)).expect(rt, "memory")
 }
 
-fn new_node<X: Wire + Drop>(
-    rt: &impl Abort,
+/// The clock that is set here.
+fn clock_at(rt: &impl Abort, now: &Arc<AtomicU64, Global>, step: u64) -> TestClock {
+    TestClock {
+        now: Arc::try_clone(now).expect(rt, "memory"),
+        step,
+    }
+}
+
+/// A node with its clock, and with no wire beside its own.
+fn with_clock<X: Wire + Drop, P: Past<Entry> + Drop>(
     alloc: Global,
-    config: Config,
-    wire: X,
-    clock: TestClock,
-    feeds: Vec<Feed>,
-    well: ends::Well,
-) -> Node<Listed, X, TestClock>
-    requires feeds { AreNewFeeds feeds.items }
-    requires well { well.received ≡ [] }
-{
-    let words = Listed::new(Vec::new(alloc));
-    match Node::new(alloc, config, words, wire, clock, feeds, well) {
-        Ok(node) => node,
-        Err(_) => panic!(rt; "memory"),
+    station: Station<Listed, X, TestClock, P>,
+    now: Arc<AtomicU64, Global>,
+) -> Rig<X, P> {
+    let Station { node, taps, pens } = station;
+    Rig {
+        node,
+        now,
+        taps,
+        pens,
+        beside: Vec::new(alloc),
     }
 }
 
@@ -148,38 +122,9 @@ pub(crate) fn make_rig_at<X: Wire + Drop>(
     now: Arc<AtomicU64, Global>,
     step: u64,
 ) -> Rig<X> {
-    let clock = TestClock {
-        now: Arc::try_clone(&now).expect(rt, "memory"),
-        step,
-    };
-    let (feeds, taps) = new_lanes(rt, alloc);
-    let (well, pens) = new_well(rt, alloc);
-    Rig {
-        node: new_node(rt, alloc, config, wire, clock, feeds, well),
-        now,
-        taps,
-        pens,
-        beside: Vec::new(alloc),
-    }
-}
-
-fn forgetful_node<X: Wire + Drop>(
-    rt: &impl Abort,
-    alloc: Global,
-    config: Config,
-    wire: X,
-    clock: TestClock,
-    feeds: Vec<Feed>,
-    well: ends::Well,
-) -> Node<Listed, X, TestClock, Forgotten<Entry>>
-    requires feeds { AreNewFeeds feeds.items }
-    requires well { well.received ≡ [] }
-{
     let words = Listed::new(Vec::new(alloc));
-    match Node::forgetful(alloc, config, words, wire, clock, feeds, well) {
-        Ok(node) => node,
-        Err(_) => panic!(rt; "memory"),
-    }
+    let station = Station::new(alloc, config, words, wire, clock_at(rt, &now, step));
+    with_clock(alloc, station.expect(rt, "memory"), now)
 }
 
 /// A new node that keeps no entry, whose clock stands at 5.
@@ -190,17 +135,7 @@ pub(crate) fn make_forgetful_rig<X: Wire + Drop>(
     wire: X,
 ) -> Rig<X, Forgotten<Entry>> {
     let now = new_now(rt, alloc);
-    let clock = TestClock {
-        now: Arc::try_clone(&now).expect(rt, "memory"),
-        step: 0,
-    };
-    let (feeds, taps) = new_lanes(rt, alloc);
-    let (well, pens) = new_well(rt, alloc);
-    Rig {
-        node: forgetful_node(rt, alloc, config, wire, clock, feeds, well),
-        now,
-        taps,
-        pens,
-        beside: Vec::new(alloc),
-    }
+    let words = Listed::new(Vec::new(alloc));
+    let station = Station::forgetful(alloc, config, words, wire, clock_at(rt, &now, 0));
+    with_clock(alloc, station.expect(rt, "memory"), now)
 }

@@ -2,10 +2,10 @@
 
 use crate::datagrams::Sent;
 use crate::plays::{play_alone, play_beside};
-use crate::seen::Seen;
 use crate::steps::Step;
 use crate::tales::Tale;
 use srm_node::NodeFault;
+use srm_rig::Seen;
 
 // In its second turn the node is gone, and has given a close in each slot.
 #[test]

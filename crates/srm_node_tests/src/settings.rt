@@ -1,16 +1,18 @@
 //! Nodes with other settings than most have.
 
 use crate::plays::pair;
-use crate::rig::{config, member};
-use crate::seen::Seen;
+use crate::rig::config;
 use crate::steps::{Step, play};
 use crate::tales::{Tale, end};
 use srm_agent::Config;
+use srm_names::Member;
+use srm_rig::Seen;
 use std::process::Abort;
 
 /// The settings of a member of 32 in session 9, none of them as most have it.
 fn others(rt: &impl Abort, me: u8) -> Config {
-    Config::new(member(rt, me), 32, 9, 100_000_000, 1_000_000, 0, 16, 16, 0).expect(rt, "settings")
+    let me = Member::new(me).expect(rt, "a member");
+    Config::new(me, 32, 9, 100_000_000, 1_000_000, 0, 16, 16, 0).expect(rt, "settings")
 }
 
 #[test]

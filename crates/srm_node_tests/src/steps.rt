@@ -2,10 +2,12 @@
 
 use crate::datagrams::{Sent, send_by};
 use crate::rig::Rig;
-use crate::seen::{Seen, assert_taken};
-use crate::strokes::{end_all, ink_by, ink_many, ink_until_full};
+use crate::seen::assert_taken;
+use crate::strokes::{ink_by, ink_many, ink_until_full};
 use srm_agent::Entry;
 use srm_node::{Counts, NodeFault, Wire};
+use srm_rig::Seen;
+use srm_rig_nodes::end_all;
 use srm_world::Past;
 use std::alloc::Global;
 use std::process::Abort;

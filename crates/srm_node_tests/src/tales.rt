@@ -1,9 +1,10 @@
 //! What a node's journal tells in the end.
 
 use crate::rig::Rig;
-use crate::seen::{Seen, look_at};
 use srm_agent::{Config, Entry, Input, Verdict};
 use srm_node::Wire;
+use srm_rig::{Seen, look_at};
+use srm_rig_members::given_in;
 use srm_world::Journal;
 use std::process::Abort;
 
@@ -40,20 +41,12 @@ fn is_give(entry: &Entry) -> bool {
     matches!(entry.input, Input::Gave(_))
 }
 
-/// What was given in the slot, if the entry gives a message there.
-fn given(entry: &Entry, slot: u8) -> Option<Seen> {
-    match entry.input {
-        Input::Gave(own) if own == slot => Some(look_at(entry.effects.message.as_ref()?)),
-        _ => None,
-    }
-}
-
 /// How many messages were given in the slot, and the last of them, `End` where there is none.
 pub(crate) fn all_given(entries: &[Entry], slot: u8) -> (usize, Seen) {
     let mut all = (0_usize, Seen::End);
     for entry in entries {
-        if let Some(seen) = given(entry, slot) {
-            all = (all.0.saturating_add(1), seen);
+        if let Some(message) = given_in(entry, slot) {
+            all = (all.0.saturating_add(1), look_at(message));
         }
     }
     all

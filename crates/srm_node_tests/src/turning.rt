@@ -1,11 +1,11 @@
 //! One turn of one node.
 
 use crate::plays::play_alone;
-use crate::seen::Seen;
 use crate::steps::Step;
 use crate::tales::Tale;
 use srm_agent::Verdict;
 use srm_names::LATEST_MOMENT;
+use srm_rig::Seen;
 
 // The first slot gives its page and then nothing, and each other slot nothing.
 #[test]

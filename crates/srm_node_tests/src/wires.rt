@@ -1,7 +1,8 @@
 //! Pauses of the wires in memory.
 
 use crate::noting::{make_noting, new_notes};
-use crate::rig::{first, last, member, wires};
+use crate::rig::{first, wires};
+use srm_names::Member;
 use srm_node::{Flaky, Wire, WireFault};
 use std::process::Abort;
 use std::sync::atomic::Ordering;
@@ -17,9 +18,10 @@ fn assert_receives<X: Wire>(
 #[test]
 fn a_pause_of_a_wire_in_memory_takes_nothing_away(rt: HostRuntime) {
     let mut wires = wires(rt, rt.alloc(), 2, &[]);
-    let mut far = last(&rt, &mut wires);
+    let mut far = wires.pop().expect(&rt, "a wire");
     let mut near = first(&rt, &mut wires);
-    assert_eq!(rt; near.send(member(&rt, 1), b"hello"), Ok(()));
+    let to = Member::new(1).expect(&rt, "a member");
+    assert_eq!(rt; near.send(to, b"hello"), Ok(()));
     far.pause(10_000);
     assert_receives(&rt, &mut far, Ok(Some(5)));
     assert_receives(&rt, &mut far, Ok(None));

@@ -1,65 +1,15 @@
 //! Two nodes, the first over a wire that fails once, or from some call on for ever.
 
-ghost use Rattle.std.specs.Prelude.{None};
-
 use crate::lists::{Did, end};
-use crate::rig::{Rig, last, make, new_wires};
-use srm_names::Member;
-use srm_node::{Flaky, NodeFault, Wire, WireFault};
+use crate::rig::{Rig, make, new_wires};
+use srm_node::{Flaky, NodeFault, Wire};
+use srm_rig_nodes::FailingWire;
 use std::alloc::Global;
 use std::process::Abort;
 use std::sync::Wait;
 
 /// The strokes of member 0.
 const STROKES: &[u8] = b"abc";
-
-/// A wire of which all calls fail from one on, for ever. It tells nothing.
-#[derive(Drop)]
-struct Failing<X: Wire + Drop> {
-    wire: X,
-    /// How many calls don't fail yet.
-    left: u64,
-    failures: u64,
-}
-
-/// Counts a call down. Whether it fails.
-fn fails(left: &mut u64) -> bool {
-    let before = *left;
-    *left = before.saturating_sub(1);
-    before == 0
-}
-
-impl<X: Wire + Drop> Wire for Failing<X> {
-    ghost failure_count = { λ w. w.failures };
-
-    ghost told = { λ _. None };
-
-    fn send(&mut self, to: Member, datagram: &[u8]) -> Result<(), WireFault> {
-        if !fails(&mut self.left) {
-            if let Ok(()) = self.wire.send(to, datagram) {
-                return Ok(());
-            }
-        }
-        self.failures = self.failures.saturating_add(1);
-        Err(WireFault)
-    }
-
-    fn receive(&mut self, buffer: &mut [u8]) -> Result<Option<usize>, WireFault> {
-        if !fails(&mut self.left) {
-            if let Ok(received) = self.wire.receive(buffer) {
-                return Ok(received);
-            }
-        }
-        self.failures = self.failures.saturating_add(1);
-        Err(WireFault)
-    }
-
-    fn pause(&mut self, _micros: u64) {}
-
-    fn failures(&self) -> u64 {
-        self.failures
-    }
-}
 
 /// A node of member 0 over this wire, which is to draw three strokes and to leave.
 fn first<R: Wait + Abort, X: Wire + Drop>(rt: &R, alloc: Global, wire: X) -> Rig<X> {
@@ -114,26 +64,30 @@ fn fault_by(k: u64) -> Result<(), NodeFault> {
     Err(NodeFault::Wire)
 }
 
-/// The k-th call fails once.
-fn check_once<R: Wait + Abort + Copy + Drop>(rt: &R, alloc: Global, k: u64, wanted: Did) {
-    let mut wires = new_wires(rt, alloc);
-    let two = last(rt, &mut wires);
-    let one = Flaky::new(last(rt, &mut wires), k);
+/// Member 0 over the first wire, whose k-th call is the first that fails, runs until it is gone, and then member 1 hears so much.
+fn check_over<R: Wait + Abort, X: Wire + Drop, Y: Wire + Drop>(
+    rt: &R,
+    alloc: Global,
+    k: u64,
+    one: X,
+    two: Y,
+    wanted: Did,
+) {
     run_to_end(rt, first(rt, alloc, one), fault_by(k));
     hear(rt, second(rt, alloc, two), wanted);
 }
 
+/// The k-th call fails once.
+fn check_once<R: Wait + Abort + Copy + Drop>(rt: &R, alloc: Global, k: u64, wanted: Did) {
+    let (one, two) = new_wires(rt, alloc);
+    check_over(rt, alloc, k, Flaky::new(one, k), two, wanted);
+}
+
 /// All calls fail from the k-th on.
 fn check_for_ever<R: Wait + Abort + Copy + Drop>(rt: &R, alloc: Global, k: u64, wanted: Did) {
-    let mut wires = new_wires(rt, alloc);
-    let two = last(rt, &mut wires);
-    let one = Failing {
-        wire: last(rt, &mut wires),
-        left: k.saturating_sub(1),
-        failures: 0,
-    };
-    run_to_end(rt, first(rt, alloc, one), fault_by(k));
-    hear(rt, second(rt, alloc, two), wanted);
+    let (one, two) = new_wires(rt, alloc);
+    let one = FailingWire::new(one, k.saturating_sub(1), 0);
+    check_over(rt, alloc, k, one, two, wanted);
 }
 
 /// A receive that fails loses nothing here; what is sent by a call that fails is lost, and nothing else.

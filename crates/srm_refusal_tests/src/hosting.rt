@@ -1,58 +1,24 @@
 //! A node and its workers in threads, where memory may be refused to any of them.
 
-ghost use Rattle.std.specs.Prelude.{◌≡◌, vec_len, None};
+ghost use Rattle.std.specs.Prelude.{◌≡◌, vec_len};
 ghost use Rattle.srm_names.specs.declared.limits.TheConstants.{PAGES};
 
 use crate::rig::{Rig, make};
-use srm_names::{Member, PageMsg};
-use srm_node::{Hosted, NodeFault, PageSink, Wire, WireFault, WorkEnd, Worked, host};
+use srm_node::{Hosted, NodeFault, WorkEnd, Worked, host};
+use srm_rig_nodes::{Plain, Replay, Station, plain_sinks};
 use std::alloc::Global;
 use std::process::Abort;
 use std::sync::Wait;
 use std::thread::Threads;
 
-/// A wire over which nothing comes, and which takes all. It needs no memory and tells nothing.
-#[derive(Drop)]
-struct Silent;
-
-impl Wire for Silent {
-    ghost failure_count = { λ _. 0 };
-
-    ghost told = { λ _. None };
-
-    fn send(&mut self, _to: Member, _datagram: &[u8]) -> Result<(), WireFault> {
-        Ok(())
-    }
-
-    fn receive(&mut self, _buffer: &mut [u8]) -> Result<Option<usize>, WireFault> {
-        Ok(None)
-    }
-
-    fn pause(&mut self, _micros: u64) {}
-
-    fn failures(&self) -> u64 {
-        0
-    }
-}
-
-/// A sink that takes all.
-#[derive(Clone, Copy)]
-struct Open;
-
-impl PageSink for Open {
-    fn message(&mut self, _slot: u8, _message: &PageMsg) -> bool {
-        true
-    }
-}
-
-/// A sink for each slot.
-fn sinks(rt: &impl Abort, alloc: Global) -> Vec<Open>
+/// A sink for each slot, which takes all.
+fn sinks(rt: &impl Abort, alloc: Global) -> Vec<Plain>
     ensures { vec_len result ≡ PAGES }
 {
-    if let Ok(sinks) = Vec::from_array(alloc, [Open; 8]) {
+    if let Ok(sinks) = plain_sinks(alloc, false) {
         return sinks;
     }
-    match Vec::from_array(alloc, [Open; 8]) {
+    match plain_sinks(alloc, false) {
         Ok(sinks) => sinks,
         Err(_) => panic!(rt; "memory"),
     }
@@ -61,13 +27,13 @@ fn sinks(rt: &impl Abort, alloc: Global) -> Vec<Open>
 fn host_rig<R: Threads + Wait + Abort + Copy + Send + Drop + 'static>(
     rt: &R,
     alloc: Global,
-    rig: Rig<Silent>,
-    sinks: Vec<Open>,
+    rig: Rig<Replay>,
+    sinks: Vec<Plain>,
 ) -> Option<Hosted>
     requires taps { vec_len rig.taps ≡ PAGES }
     requires sinks { vec_len sinks ≡ PAGES }
 {
-    let Rig { node, taps } = rig;
+    let Station { node, taps, .. } = rig;
     match host(rt, alloc, node, taps, sinks, 1_000) {
         Ok(hosted) => Some(hosted),
         Err(_) => None,
@@ -79,7 +45,9 @@ fn try_host<R: Threads + Wait + Abort + Copy + Send + Drop + 'static>(
     rt: &R,
     alloc: Global,
 ) -> Option<Hosted> {
-    match make(rt, alloc, 0, 1, Silent, b"abc") {
+    // A wire over which nothing comes, and which takes all. It needs no memory.
+    let wire = Replay::new(Vec::new(alloc));
+    match make(rt, alloc, 0, 1, wire, b"abc") {
         Some(rig) => host_rig(rt, alloc, rig, sinks(rt, alloc)),
         None => None,
     }

@@ -1,23 +1,17 @@
 //! What a node leaves: its journal, and what its taps take.
 
-use crate::rig::{Rig, Standing};
+use crate::rig::Rig;
 use srm_agent::{Entry, Input};
 use srm_names::{Drawop, PAGES, PageMsg};
 use srm_node::{Node, Wire};
 use srm_pages::Tap;
+use srm_rig_members::given_in;
+use srm_rig_nodes::{Station, StepClock};
 use srm_timers::Listed;
 use srm_world::Journal;
 use std::collections::VecDeque;
 use std::process::Abort;
 use std::sync::Wait;
-
-/// What a journal gave in a slot by this entry.
-fn given(entry: &Entry, slot: u8) -> Option<&PageMsg> {
-    match entry.input {
-        Input::Gave(given) if given == slot => entry.effects.message.as_ref(),
-        _ => None,
-    }
-}
 
 /// Whether the tap takes this next.
 fn takes<R: Wait>(rt: &R, tap: &mut Tap, wanted: &PageMsg) -> bool {
@@ -31,7 +25,7 @@ fn takes<R: Wait>(rt: &R, tap: &mut Tap, wanted: &PageMsg) -> bool {
 fn check_slot<R: Wait + Abort>(rt: &R, entries: &[Entry], slot: u8, tap: Tap) {
     let mut tap = tap;
     for entry in entries {
-        if let Some(message) = given(entry, slot) {
+        if let Some(message) = given_in(entry, slot) {
             assert!(rt; takes(rt, &mut tap, message));
         }
     }
@@ -70,7 +64,7 @@ fn is_of_first(strokes: &[u8], place: usize, drawop: &Drawop) -> bool {
 fn gave(rt: &impl Abort, entries: &[Entry], strokes: &[u8]) -> usize {
     let mut count = 0_usize;
     for entry in entries {
-        if let Some(PageMsg::Draw(drawop)) = given(entry, 0) {
+        if let Some(PageMsg::Draw(drawop)) = given_in(entry, 0) {
             assert!(rt; is_of_first(strokes, count, drawop));
             count = count.saturating_add(1);
         }
@@ -83,7 +77,7 @@ fn is_close(entry: &Entry) -> bool {
 }
 
 fn is_leaving(entry: &Entry) -> bool {
-    matches!(given(entry, 0), Some(PageMsg::Left(_)))
+    matches!(given_in(entry, 0), Some(PageMsg::Left(_)))
 }
 
 fn is_heard(entry: &Entry) -> bool {
@@ -105,37 +99,13 @@ pub(crate) struct Did {
     pub closed: usize,
 }
 
-fn count_heard(entries: &[Entry]) -> usize {
-    let mut count = 0_usize;
-    for entry in entries {
-        count = count.saturating_add(usize::from(is_heard(entry)));
-    }
-    count
-}
-
-fn count_leavings(entries: &[Entry]) -> usize {
-    let mut count = 0_usize;
-    for entry in entries {
-        count = count.saturating_add(usize::from(is_leaving(entry)));
-    }
-    count
-}
-
-fn count_closes(entries: &[Entry]) -> usize {
-    let mut count = 0_usize;
-    for entry in entries {
-        count = count.saturating_add(usize::from(is_close(entry)));
-    }
-    count
-}
-
 fn done_by(rt: &impl Abort, entries: &[Entry], strokes: &[u8], of_first: &[u8]) -> Did {
     Did {
-        heard: count_heard(entries),
+        heard: entries.iter().filter(|entry| is_heard(entry)).count(),
         drew: drawn(rt, entries, strokes),
         gave: gave(rt, entries, of_first),
-        left: count_leavings(entries),
-        closed: count_closes(entries),
+        left: entries.iter().filter(|entry| is_leaving(entry)).count(),
+        closed: entries.iter().filter(|entry| is_close(entry)).count(),
     }
 }
 
@@ -151,7 +121,7 @@ fn check_slots<R: Wait + Abort>(rt: &R, entries: &[Entry], taps: Vec<Tap>) {
 }
 
 /// Gives the node up for its journal, and lets its feeds go.
-fn journal_of<X: Wire + Drop>(node: Node<Listed, X, Standing>) -> Journal {
+fn journal_of<X: Wire + Drop>(node: Node<Listed, X, StepClock>) -> Journal {
     let (journal, _feeds) = node.finish();
     journal
 }
@@ -163,7 +133,7 @@ pub(crate) fn end<R: Wait + Abort, X: Wire + Drop>(
     strokes: &[u8],
     of_first: &[u8],
 ) -> Did {
-    let Rig { node, taps } = rig;
+    let Station { node, taps, .. } = rig;
     let journal = journal_of(node);
     check_slots(rt, journal.entries(), taps);
     done_by(rt, journal.entries(), strokes, of_first)

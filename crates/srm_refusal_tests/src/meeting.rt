@@ -1,43 +1,32 @@
 //! Two recorders that meet. A call that is refused for memory is made again.
 
-use crate::again::{body, member};
-use srm_agent::{Config, Ticked};
+use crate::again::body;
+use srm_agent::Ticked;
 use srm_names::Page;
+use srm_rig_members::config;
 use srm_timers::Listed;
 use srm_world::Recorder;
 use std::alloc::Global;
 use std::process::Abort;
 
-fn try_recorder(alloc: Global, config: &Config) -> Option<Recorder<Listed>> {
-    match Recorder::new(alloc, *config, Listed::new(Vec::new(alloc)), 0) {
-        Ok(recorder) => Some(recorder),
-        Err(_) => None,
-    }
-}
-
-/// A recorder that did nothing yet.
-pub(crate) fn recorder(rt: &impl Abort, alloc: Global, config: &Config) -> Recorder<Listed> {
-    match try_recorder(alloc, config) {
-        Some(recorder) => recorder,
-        None => try_recorder(alloc, config).expect(rt, "memory"),
+/// A recorder that did nothing yet, of one of two members.
+pub(crate) fn recorder(rt: &impl Abort, alloc: Global, me: u8) -> Recorder<Listed> {
+    let config = config(me, 2).expect(rt, "settings");
+    match srm_rig_members::recorder(alloc, config) {
+        Ok(recorder) => recorder,
+        Err(_) => srm_rig_members::recorder(alloc, config).expect(rt, "memory"),
     }
 }
 
 /// Draws a body of one byte. Whether memory was there.
-fn draws(
-    rt: &impl Abort,
-    alloc: Global,
-    recorder: &mut Recorder<Listed>,
-    page: &Page,
-    now: u32,
-) -> bool {
+fn draws(rt: &impl Abort, alloc: Global, recorder: &mut Recorder<Listed>, now: u32) -> bool {
     let body = body(rt, alloc, b'a');
-    recorder.draw(*page, body, now.into()).is_ok()
+    recorder.draw(Page::first(), body, now.into()).is_ok()
 }
 
-fn draw(rt: &impl Abort, alloc: Global, recorder: &mut Recorder<Listed>, page: &Page, now: u32) {
-    if !draws(rt, alloc, recorder, page, now) {
-        assert!(rt; draws(rt, alloc, recorder, page, now));
+fn draw(rt: &impl Abort, alloc: Global, recorder: &mut Recorder<Listed>, now: u32) {
+    if !draws(rt, alloc, recorder, now) {
+        assert!(rt; draws(rt, alloc, recorder, now));
     }
 }
 
@@ -83,12 +72,8 @@ pub(crate) fn meet(
     first: &mut Recorder<Listed>,
     second: &mut Recorder<Listed>,
 ) {
-    let page = Page {
-        creator: member(rt, 0),
-        number: 0,
-    };
-    draw(rt, alloc, first, &page, 1);
-    draw(rt, alloc, first, &page, 2);
+    draw(rt, alloc, first, 1);
+    draw(rt, alloc, first, 2);
     pass(rt, first, second, 4);
     leave(rt, first, 5);
     pass(rt, first, second, 6);

@@ -1,7 +1,7 @@
 //! Two nodes over a network in memory, turned by hand, of which turns are made again that are refused.
 
 use crate::lists::{Did, end};
-use crate::rig::{Rig, last, make, new_wires};
+use crate::rig::{Rig, make, new_wires};
 use srm_node::{MemWire, NodeFault, Wire};
 use std::alloc::Global;
 use std::process::Abort;
@@ -42,9 +42,7 @@ fn over<R: Wait + Abort + Copy + Drop>(
 }
 
 fn try_pair<R: Wait + Abort + Copy + Drop>(rt: &R, alloc: Global) -> Option<Pair<R>> {
-    let mut wires = new_wires(rt, alloc);
-    let second = last(rt, &mut wires);
-    let first = last(rt, &mut wires);
+    let (first, second) = new_wires(rt, alloc);
     over(rt, alloc, first, second)
 }
 

@@ -1,20 +1,13 @@
 //! Journals of two recorders, put together.
 
-use crate::again::{config, member, text};
+use crate::again::text;
 use crate::meeting::{meet, recorder};
 use srm_audit::{Got, Mismatch, reconcile};
-use srm_names::{Items, PageMsg};
+use srm_names::{Items, Member, PageMsg};
+use srm_rig_members::{given, sizes};
 use srm_world::{Journal, Trace};
 use std::alloc::Global;
 use std::process::Abort;
-
-/// Room for eight messages.
-fn message_room(rt: &impl Abort, alloc: Global) -> Vec<PageMsg> {
-    match Vec::with_capacity(alloc, 8) {
-        Ok(room) => room,
-        Err(_) => Vec::with_capacity(alloc, 8).expect(rt, "memory"),
-    }
-}
 
 /// Room for two lists.
 fn list_room(rt: &impl Abort, alloc: Global) -> Vec<Got> {
@@ -32,30 +25,19 @@ fn journal_room(rt: &impl Abort, alloc: Global) -> Vec<Journal> {
     }
 }
 
-fn copy_of(rt: &impl Abort, message: &PageMsg) -> PageMsg {
-    match message.copy() {
-        Ok(copy) => copy,
-        Err(_) => message.copy().expect(rt, "memory"),
+fn messages(rt: &impl Abort, alloc: Global, journal: &Journal) -> Vec<PageMsg> {
+    match given(alloc, journal) {
+        Ok(list) => list,
+        Err(_) => given(alloc, journal).expect(rt, "memory"),
     }
-}
-
-fn push_copy(rt: &impl Abort, list: &mut Vec<PageMsg>, message: &PageMsg) {
-    let copy = copy_of(rt, message);
-    list.push(copy).expect(rt, "room");
 }
 
 /// What the first slot was given, by the journal.
-fn given(rt: &impl Abort, alloc: Global, journal: &Journal) -> Got {
-    let mut list = message_room(rt, alloc);
-    for entry in journal.entries() {
-        if let Some(message) = &entry.effects.message {
-            push_copy(rt, &mut list, message);
-        }
-    }
+fn got(rt: &impl Abort, alloc: Global, journal: &Journal) -> Got {
     Got {
         member: journal.start().config.me(),
         slot: 0,
-        list: Items::new(list),
+        list: Items::new(messages(rt, alloc, journal)),
     }
 }
 
@@ -63,7 +45,7 @@ fn given(rt: &impl Abort, alloc: Global, journal: &Journal) -> Got {
 fn lists(rt: &impl Abort, alloc: Global, journal: &Journal, times: u8) -> Vec<Got> {
     let mut lists = list_room(rt, alloc);
     for _ in 0..times {
-        let list = given(rt, alloc, journal);
+        let list = got(rt, alloc, journal);
         lists.push(list).expect(rt, "room");
     }
     lists
@@ -79,8 +61,7 @@ enum Kind {
 
 /// A journal of member 0, which did nothing.
 fn silent(rt: &impl Abort, alloc: Global) -> Journal {
-    let settings = config(rt, 0, 2);
-    recorder(rt, alloc, &settings).finish()
+    recorder(rt, alloc, 0).finish()
 }
 
 /// The journal of the first member: as it is, of one that did nothing, or none.
@@ -115,10 +96,8 @@ struct Both {
 }
 
 fn met(rt: &impl Abort, alloc: Global) -> Both {
-    let settings = config(rt, 0, 2);
-    let mut first = recorder(rt, alloc, &settings);
-    let settings = config(rt, 1, 2);
-    let mut second = recorder(rt, alloc, &settings);
+    let mut first = recorder(rt, alloc, 0);
+    let mut second = recorder(rt, alloc, 1);
     meet(rt, alloc, &mut first, &mut second);
     Both {
         first: first.finish(),
@@ -153,16 +132,11 @@ fn whole(rt: &impl Abort, alloc: Global) -> Trace {
     answer(rt, alloc, Kind::Whole, 1).ok().expect(rt, "a trace")
 }
 
-fn check_sizes(rt: &impl Abort, trace: &Trace, starts: usize, entries: usize) {
-    assert_eq!(rt; trace.starts().len(), starts);
-    assert_eq!(rt; trace.entries().len(), entries);
-}
-
 /// Five calls of member 0, seven of member 1, and four takes.
 #[test]
 fn journals_reconcile_once_memory_is_there(rt: HostRuntime) {
     let trace = whole(&rt, rt.alloc());
-    check_sizes(&rt, &trace, 2, 16);
+    assert_eq!(rt; sizes(&trace), (2, 16));
 }
 
 fn whole_text(rt: &impl Abort, alloc: Global) -> String {
@@ -185,7 +159,7 @@ fn check_mismatch(rt: &impl Abort, alloc: Global, kind: Kind, times: u8, wanted:
 /// A list that is there twice.
 #[test]
 fn a_list_that_is_there_twice_is_told_once_memory_is_there(rt: HostRuntime) {
-    let member = member(&rt, 1);
+    let member = Member::new(1).expect(&rt, "a member");
     let wanted = Mismatch::Foreign { member, slot: 0 };
     check_mismatch(&rt, rt.alloc(), Kind::Whole, 2, wanted);
 }
@@ -193,7 +167,7 @@ fn a_list_that_is_there_twice_is_told_once_memory_is_there(rt: HostRuntime) {
 /// Entries that hear what nobody sent.
 #[test]
 fn what_nobody_sent_is_told_once_memory_is_there(rt: HostRuntime) {
-    let member = member(&rt, 1);
+    let member = Member::new(1).expect(&rt, "a member");
     let wanted = Mismatch::Unsent { member, entry: 0 };
     check_mismatch(&rt, rt.alloc(), Kind::Silent, 1, wanted);
 }

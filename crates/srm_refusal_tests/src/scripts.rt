@@ -1,5 +1,7 @@
 //! Scripts, and what they print.
 
+use srm_rig::scripts::LEAVING;
+
 /// Three strokes come doubled and out of order.
 pub(crate) const OUT_OF_ORDER: (&str, &str) = (
     "members 2\ndraw 0 1 0.0 a\ndraw 0 2 0.0 b\ndraw 0 3 0.0 c\ntick 0 4\n\
@@ -15,10 +17,7 @@ pub(crate) const OUT_OF_ORDER: (&str, &str) = (
 
 /// One leaves, and another member repairs what it drew.
 pub(crate) const REPAIRED_BY_ANOTHER: (&str, &str) = (
-    "members 3\ntimers\ndraw 0 1 0.0 a\ndraw 0 2 0.0 b\ndraw 0 3 0.0 c\ntick 0 4\nleave 0 20\n\
-        tick 0 21\ndeliver 2 30 0\ndeliver 2 31 1\ndeliver 2 32 2\ndeliver 1 30 0\ndeliver 1 31 2\n\
-        deliver 1 32 3\ngive 1 0\ngive 1 0\ngive 1 0\ntick 1 200030\ntick 1 200031\ndeliver 2 100 4\n\
-        tick 2 100099\ntick 2 100100\ndeliver 1 200100 5\ngive 1 0\ngive 1 0\ngive 1 0\ngive 1 0\n",
+    LEAVING,
     "drew 0 0.0 1\ndrew 0 0.0 2\ndrew 0 0.0 3\nout 0 0 data 28\nout 1 0 data 28\nout 2 0 data 28\n\
         leaving 0\nout 3 0 session 31\ngone 0\nheard 2 taken\nheard 2 taken\nheard 2 taken\nheard 1 taken\n\
         heard 1 taken\narm 1 ask 0 0.0 2 0 200000\nheard 1 taken\ngave 1 0 open 0.0\ngave 1 0 draw 0 1 a\n\

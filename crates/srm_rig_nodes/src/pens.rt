@@ -11,7 +11,7 @@ pub fn ink<R: Wait>(rt: &R, pens: &mut Vec<Pen>, place: usize, number: u16, body
         return false;
     };
     let stroke = Stroke {
-        pen: pen.place(),
+        pen: pen.number(),
         page,
         body,
     };
