@@ -1,6 +1,7 @@
 //! The example of three members, whose output stands beside its script.
 
-use crate::rig::{Ran, free_ports, run};
+use crate::rig::{free_ports, run};
+use srm_rig::Ran;
 use std::alloc::{AllocError, Global};
 use std::net::Net;
 use std::process::Abort;

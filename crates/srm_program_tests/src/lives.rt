@@ -1,8 +1,7 @@
 //! Live members by themselves: what they read and write, and how they are run.
 
-use crate::rig::free_port;
+use crate::rig::{free_port, options_of};
 use srm_live::run_live;
-use srm_options::{NodeOptions, read_node};
 use std::alloc::{AllocError, Global};
 use std::io::{ErrorKind, IsTerminal, Read, Write};
 use std::net::Net;
@@ -170,11 +169,6 @@ impl<R: Clock + Wait + Drop> Read for Hand<R> {
         let mut left: &[u8] = line;
         left.read(buffer)
     }
-}
-
-pub(crate) fn options_of(alloc: Global, line: &str) -> Option<NodeOptions> {
-    let words: Vec<&str> = line.split(' ').collect(alloc).ok()?;
-    read_node(alloc, words.as_slice()).ok()
 }
 
 /// What a live member is given: these words before its address and these behind it, three lines, of which the later ones wait for a text in the output,

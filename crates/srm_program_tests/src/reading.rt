@@ -1,6 +1,6 @@
 //! What a command line of `srm node` is read as.
 
-use srm_options::{NodeOptions, read_node};
+use crate::rig::options_of;
 use std::alloc::Global;
 use std::net::{Ipv4Addr, SocketAddr};
 use std::process::Abort;
@@ -9,13 +9,8 @@ use std::test::Fail;
 /// The numbers of a command line, in the order of its options in the help, and how many addresses it has.
 type Numbers = (u32, u8, u64, u64, u64, u32, u32, usize);
 
-fn read(alloc: Global, line: &str) -> Option<NodeOptions> {
-    let words: Vec<&str> = line.split(' ').collect(alloc).ok()?;
-    read_node(alloc, words.as_slice()).ok()
-}
-
 fn numbers(alloc: Global, line: &str) -> Option<Numbers> {
-    let options = read(alloc, line)?;
+    let options = options_of(alloc, line)?;
     Some((
         options.config.session(),
         options.config.me().number(),
@@ -62,7 +57,7 @@ fn options_come_in_any_order(rt: HostRuntime) {
 
 /// How long the member of a command line waits, in distances: a request at least, and so many more at most, and the same of a repair.
 fn waits(alloc: Global, line: &str) -> Option<[u8; 4]> {
-    let config = read(alloc, line)?.config;
+    let config = options_of(alloc, line)?.config;
     Some([config.c1(), config.c2(), config.d1(), config.d2()])
 }
 
@@ -94,13 +89,13 @@ fn waits_are_read_in_their_order(rt: HostRuntime) {
 #[test]
 fn a_member_is_one_of_as_many_as_have_an_address(rt: HostRuntime) -> Result<(), Fail> {
     let line = "--session 7 --me 1 127.0.0.1:1 127.0.0.1:2 127.0.0.1:3";
-    let options = read(rt.alloc(), line).ok_or("options")?;
+    let options = options_of(rt.alloc(), line).ok_or("options")?;
     assert_eq!(rt; options.config.members(), 3);
     Ok(())
 }
 
 fn is_live(alloc: Global, line: &str) -> Option<bool> {
-    Some(read(alloc, line)?.live)
+    Some(options_of(alloc, line)?.live)
 }
 
 #[test]
@@ -112,7 +107,7 @@ fn a_line_is_live_where_it_says_so(rt: HostRuntime) {
 }
 
 fn turns_of(alloc: Global, line: &str) -> Option<u64> {
-    Some(read(alloc, line)?.turns)
+    Some(options_of(alloc, line)?.turns)
 }
 
 // An idle member turns a hundred times a second, and a million times in three hours.
@@ -132,7 +127,7 @@ fn a_live_member_turns_as_often_as_it_takes(rt: HostRuntime) {
 }
 
 fn address_at(alloc: Global, line: &str, place: usize) -> Option<SocketAddr> {
-    let options = read(alloc, line)?;
+    let options = options_of(alloc, line)?;
     options.addresses.get(place).copied()
 }
 

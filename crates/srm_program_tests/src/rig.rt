@@ -1,11 +1,14 @@
-//! Streams, ports and calls that the tests share.
+//! Streams, ports, stations and calls that the tests share.
 
-ghost use Rattle.std.specs.Prelude.{◌≤◌, IfOk};
+ghost use Rattle.std.specs.Prelude.{◌≡◌, vec_len, IfSome};
+ghost use Rattle.srm_names.specs.declared.limits.TheConstants.{PAGES};
 
 use mio::net::UdpSocket;
-use srm_member::{print_reply, run_node};
-use srm_options::read_node;
-use std::alloc::AllocError;
+use srm_member::{Station, print_reply, run_node};
+use srm_options::{NodeOptions, read_node};
+use srm_rig::Ran;
+use srm_udp::UdpWire;
+use std::alloc::{AllocError, Global};
 use std::io;
 use std::io::{ErrorKind, Read, Write};
 use std::net::{Ipv4Addr, Net, SocketAddr};
@@ -13,69 +16,6 @@ use std::process::Abort;
 use std::sync::Wait;
 use std::thread::Threads;
 use std::time::Clock;
-
-/// What a call of the program answered: its status, and what it wrote on both streams.
-#[derive(Debug, Drop, PartialEq, Eq)]
-pub(crate) struct Ran {
-    pub status: u8,
-    pub out: Vec<u8>,
-    pub err: Vec<u8>,
-}
-
-/// Reads or takes so many bytes, and then fails in this way. What it reads are letters `a`.
-#[derive(Drop)]
-pub(crate) struct Failing {
-    left: usize,
-    kind: ErrorKind,
-}
-
-/// Reads or takes so many bytes, and then is broken.
-pub(crate) fn broken(left: usize) -> Failing {
-    Failing {
-        left,
-        kind: ErrorKind::BrokenPipe,
-    }
-}
-
-/// Reads or takes so many bytes, and then wants memory.
-pub(crate) fn wanting(left: usize) -> Failing {
-    Failing {
-        left,
-        kind: ErrorKind::OutOfMemory,
-    }
-}
-
-impl Failing {
-    /// How many of so many bytes go through.
-    fn pass(&mut self, count: usize) -> io::Result<usize>
-        ensures { IfOk result (λ passed. passed ≤ count) }
-    {
-        if self.left == 0 {
-            return Err(io::Error::from(self.kind));
-        }
-        let passed = count.min(self.left);
-        self.left -= passed;
-        Ok(passed)
-    }
-}
-
-impl Read for Failing {
-    fn read(&mut self, buffer: &mut [u8]) -> io::Result<usize> {
-        let count = self.pass(buffer.len())?;
-        buffer[..count].fill(b'a');
-        Ok(count)
-    }
-}
-
-impl Write for Failing {
-    fn write(&mut self, bytes: &[u8]) -> io::Result<usize> {
-        self.pass(bytes.len())
-    }
-
-    fn flush(&mut self) -> io::Result<()> {
-        Ok(())
-    }
-}
 
 /// A stream that keeps nothing of what it takes, as it says at the end.
 #[derive(Drop)]
@@ -110,6 +50,54 @@ pub(crate) fn free_ports(net: &impl Net) -> io::Result<[u16; 3]> {
     let (_second, at_second) = bound(net)?;
     let (_third, at_third) = bound(net)?;
     Ok([at_first.port(), at_second.port(), at_third.port()])
+}
+
+/// What a command line is read as whose words stand one space apart.
+pub(crate) fn options_of(alloc: Global, line: &str) -> Option<NodeOptions> {
+    let words: Vec<&str> = line.split(' ').collect(alloc).ok()?;
+    read_node(alloc, words.as_slice()).ok()
+}
+
+/// The wire of a member with these options over its socket.
+fn wire_of(
+    net: &impl Net,
+    alloc: Global,
+    options: &NodeOptions,
+    socket: UdpSocket,
+) -> Option<UdpWire>
+    ensures { IfSome result (λ wire. wire.failures ≡ 0) }
+{
+    let addresses = options.addresses.as_slice().to_vec(alloc).ok()?;
+    UdpWire::over(net, alloc, socket, addresses).ok()
+}
+
+/// The station of a member over its wire. None where it is refused.
+fn station_over<R: Clock + Copy + Drop>(
+    rt: &R,
+    alloc: Global,
+    options: &NodeOptions,
+    wire: UdpWire,
+) -> Option<Station<R>>
+    requires { wire.failures ≡ 0 }
+    ensures { IfSome result (λ station. vec_len station.taps ≡ PAGES) }
+{
+    match Station::over(rt, alloc, options, wire) {
+        Ok(station) => Some(station),
+        Err(_) => None,
+    }
+}
+
+/// The station of a member with these options over a socket that is bound. None where it is refused.
+pub(crate) fn station_of<R: Net + Clock + Copy + Drop>(
+    rt: &R,
+    alloc: Global,
+    options: &NodeOptions,
+    socket: UdpSocket,
+) -> Option<Station<R>>
+    ensures { IfSome result (λ station. vec_len station.taps ≡ PAGES) }
+{
+    let wire = wire_of(rt, alloc, options, socket)?;
+    station_over(rt, alloc, options, wire)
 }
 
 /// Runs `srm node` with these words, one space apart, over these streams. Its status, and what it wrote on standard error.

@@ -1,9 +1,10 @@
 //! The line for what goes on, on a terminal.
 
 use crate::lives::*;
-use crate::rig::bound;
+use crate::rig::{bound, options_of};
 use mio::net::UdpSocket;
 use srm_live::run_live;
+use srm_rig::datagrams::{Kind, requests, word};
 use std::alloc::Global;
 use std::io;
 use std::io::{ErrorKind, Read};
@@ -55,20 +56,11 @@ fn a_line_on_a_terminal_stands_where_nothing_else_does(rt: HostRuntime) -> Resul
 }
 
 /// Data in a session of a source on page 0.0: this number, drawn at 0, with the body `hi`.
-fn data(session: u8, source: u8, number: u8) -> [u8; 29] {
-    [
-        0x53, 0x52, 0x01, 0x01, 0, 0, 0, session, source, // head
-        source, 0, 0, 0, 0, 0, 0, number, // name
-        0, 0, 0, 0, 0, 0, 0, 0, 0, 2, 0x68, 0x69,
-    ]
+fn data(session: u8, source: u8, number: u32) -> [u8; 29] {
+    let mut bytes = word(Kind::Data, source, source, 0, number);
+    bytes[7] = session;
+    bytes
 }
-
-/// Member 0 asks for numbers 1 and 2 of member 1 on page 0.0.
-const ASKS: [u8; 21] = [
-    0x53, 0x52, 0x02, 0x02, 0, 0, 0, 7, 0, // head
-    1, 0, 0, 0, 0, 0, 0, 1, // name
-    0, 0, 0, 1,
-];
 
 /// Member 0 of three, which is the input of member 1 too. It types two lines. Once it has them it asks for them again and sends its second drawop, beside noise and what is ignored;
 /// and its first once that was asked for and the terminal shows that it is missing. The input ends once the terminal shows all that came of it, or fails after 10,000 looks.
@@ -87,14 +79,14 @@ struct Peer<R: Wait + Drop> {
 }
 
 impl<R: Wait + Drop> Peer<R> {
-    /// Sends the second drawop and the requests, two that are noise, no datagram and one of another session, and three that are ignored: the second drawop with another body,
+    /// Sends the second drawop and a request for numbers 1 and 2 of member 1, two that are noise, no datagram and one of another session, and three that are ignored: the second drawop with another body,
     /// and data of member 1 itself and of nobody.
     fn send_all(&self) -> io::Result<()> {
         let mut second = data(7, 0, 2);
         self.socket.send_to(&second, self.to)?;
         second[28] = b'o';
         self.socket.send_to(&second, self.to)?;
-        self.socket.send_to(&ASKS, self.to)?;
+        self.socket.send_to(&requests(0, 1, 1, 1), self.to)?;
         self.socket.send_to(b"noise", self.to)?;
         self.send_strange()
     }

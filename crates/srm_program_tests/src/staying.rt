@@ -1,13 +1,9 @@
 //! How long a member stays, looked at by its turns: what leaves at its first turn, and what doesn't, hangs on no machine's speed.
 
-ghost use Rattle.std.specs.Prelude.{◌≡◌};
-
-use crate::rig::bound;
+use crate::rig::{bound, options_of, station_of};
 use mio::net::UdpSocket;
 use srm_codec::Datagram;
 use srm_member::Station;
-use srm_options::{NodeOptions, read_node};
-use srm_udp::UdpWire;
 use srm_world::Journal;
 use std::alloc::Global;
 use std::net::Net;
@@ -41,21 +37,6 @@ fn turn_once<R: Clock + Wait + Copy + Drop>(rt: &R, station: Station<R>) -> Opti
     turned.ok().map(|()| journal)
 }
 
-/// Makes the station of a member over its wire and turns it once.
-fn journal_over<R: Clock + Wait + Copy + Drop>(
-    rt: &R,
-    alloc: Global,
-    options: &NodeOptions,
-    wire: UdpWire,
-) -> Option<Journal>
-    requires { wire.failures ≡ 0 }
-{
-    let Ok(station) = Station::over(rt, alloc, options, wire) else {
-        return None;
-    };
-    turn_once(rt, station)
-}
-
 /// The journal of the member with this command line and socket after one turn.
 fn journal_of<R: Net + Clock + Wait + Copy + Drop>(
     rt: &R,
@@ -63,11 +44,8 @@ fn journal_of<R: Net + Clock + Wait + Copy + Drop>(
     line: &str,
     socket: UdpSocket,
 ) -> Option<Journal> {
-    let words: Vec<&str> = line.split(' ').collect(alloc).ok()?;
-    let options = read_node(alloc, words.as_slice()).ok()?;
-    let addresses = options.addresses.as_slice().to_vec(alloc).ok()?;
-    let wire = UdpWire::over(rt, alloc, socket, addresses).ok()?;
-    journal_over(rt, alloc, &options, wire)
+    let options = options_of(alloc, line)?;
+    turn_once(rt, station_of(rt, alloc, &options, socket)?)
 }
 
 // The longest stay has 281 million seconds: no test waits for its end.

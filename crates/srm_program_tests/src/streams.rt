@@ -1,6 +1,7 @@
 //! Streams that fail, and what comes before them.
 
 use crate::rig::*;
+use srm_rig::{broken, wanting};
 use std::io::{Read, Write};
 use std::net::Net;
 use std::process::Abort;

@@ -4,13 +4,11 @@ ghost use Rattle.std.specs.Prelude.{◌≡◌, vec_len};
 ghost use Rattle.srm_names.specs.declared.limits.TheConstants.{PAGES};
 
 use crate::judging::assert_three;
-use crate::rig::bound;
+use crate::rig::{bound, options_of, station_of};
 use bytes::Bytes;
 use mio::net::UdpSocket;
 use srm_member::{Station, deal};
 use srm_node::Hosted;
-use srm_options::{NodeOptions, read_node};
-use srm_udp::UdpWire;
 use std::alloc::{AllocError, Global};
 use std::net::{Net, SocketAddr};
 use std::sync::Wait;
@@ -82,29 +80,6 @@ where
     Ok(thread::spawn(&rt, move || run_member(&rt, alloc, entrant))?)
 }
 
-/// Starts the member with these options over its wire. None where it is refused.
-fn start_over<R>(
-    rt: &R,
-    alloc: Global,
-    options: &NodeOptions,
-    wire: UdpWire,
-    dealt: Vec<Vec<Bytes>>,
-) -> Option<JoinHandle<Option<Hosted>>>
-where
-    R: Clock + Threads + Wait + Copy + Send + Drop + 'static,
-    requires { wire.failures ≡ 0 }
-{
-    let Ok(station) = Station::over(rt, alloc, options, wire) else {
-        return None;
-    };
-    let entrant = Entrant {
-        station,
-        dealt,
-        turns: options.turns,
-    };
-    start_thread(*rt, alloc, entrant).ok()
-}
-
 /// Starts the member with this command line and input, over a socket that is bound. None where one of these is refused.
 fn start<R>(
     rt: &R,
@@ -116,12 +91,14 @@ fn start<R>(
 where
     R: Net + Clock + Threads + Wait + Copy + Send + Drop + 'static,
 {
-    let words: Vec<&str> = line.split(' ').collect(alloc).ok()?;
-    let options = read_node(alloc, words.as_slice()).ok()?;
-    let addresses = options.addresses.as_slice().to_vec(alloc).ok()?;
+    let options = options_of(alloc, line)?;
     let dealt = deal(alloc, input).ok()?;
-    let wire = UdpWire::over(rt, alloc, socket, addresses).ok()?;
-    start_over(rt, alloc, &options, wire, dealt)
+    let entrant = Entrant {
+        station: station_of(rt, alloc, &options, socket)?,
+        dealt,
+        turns: options.turns,
+    };
+    start_thread(*rt, alloc, entrant).ok()
 }
 
 /// Starts three members that have these sockets and send to these addresses.

@@ -1,24 +1,14 @@
 //! How long a member waits before it asks, as its command line says. Nobody's distance is known, so each counts as 100,000 microseconds.
 
-ghost use Rattle.std.specs.Prelude.{◌≡◌};
-
-use crate::rig::bound;
+use crate::rig::{bound, options_of, station_of};
 use srm_member::Station;
-use srm_options::{NodeOptions, read_node};
-use srm_udp::UdpWire;
+use srm_rig::datagrams::{Kind, word};
 use srm_world::Journal;
 use std::alloc::Global;
 use std::net::Net;
 use std::sync::Wait;
 use std::test::Fail;
 use std::time::Clock;
-
-/// Data of member 1 on page 0.0: number 2, drawn at 0, with the body `hi`. Who hears it misses number 1.
-const SECOND: [u8; 29] = [
-    0x53, 0x52, 0x01, 0x01, 0, 0, 0, 7, 1, // head
-    1, 0, 0, 0, 0, 0, 0, 2, // name
-    0, 0, 0, 0, 0, 0, 0, 0, 0, 2, 0x68, 0x69,
-];
 
 /// The first wait of a journal, in microseconds.
 fn first_wait(journal: &Journal) -> Option<u64> {
@@ -30,18 +20,8 @@ fn first_wait(journal: &Journal) -> Option<u64> {
     None
 }
 
-/// The first wait of a member with these options over its wire, in one turn.
-fn wait_over<R: Clock + Wait + Copy + Drop>(
-    rt: &R,
-    alloc: Global,
-    options: &NodeOptions,
-    wire: UdpWire,
-) -> Option<u64>
-    requires { wire.failures ≡ 0 }
-{
-    let Ok(station) = Station::over(rt, alloc, options, wire) else {
-        return None;
-    };
+/// The first wait of a member, in one turn.
+fn wait_of<R: Clock + Wait + Copy + Drop>(rt: &R, station: Station<R>) -> Option<u64> {
     let Station {
         mut node,
         taps,
@@ -63,13 +43,12 @@ fn wait_with<R: Net + Clock + Wait + Copy + Drop>(
 ) -> Result<u64, Fail> {
     let (socket, own) = bound(rt)?;
     let (peer, other) = bound(rt)?;
-    peer.send_to(&SECOND, own)?;
+    // Who hears the second drawop of member 1 misses its first.
+    peer.send_to(&word(Kind::Data, 1, 1, 0, 2), own)?;
     let line = format!(in alloc; "--session 7 --me 0 {words} {own} {other}")?;
-    let words: Vec<&str> = line.split(' ').collect(alloc)?;
-    let options = read_node(alloc, words.as_slice()).map_err(|_| "options")?;
-    let addresses = options.addresses.as_slice().to_vec(alloc)?;
-    let wire = UdpWire::over(rt, alloc, socket, addresses)?;
-    Ok(wait_over(rt, alloc, &options, wire).ok_or("a wait")?)
+    let options = options_of(alloc, line.as_str()).ok_or("options")?;
+    let station = station_of(rt, alloc, &options, socket).ok_or("a station")?;
+    Ok(wait_of(rt, station).ok_or("a wait")?)
 }
 
 // The first word that number 1 starts is 15,492,934,433,077,865,799, as the tests of timers have it: 21,834 over a multiple of 200,001.
