@@ -3,8 +3,9 @@
 use crate::clock::Clock;
 use crate::teller::{Teller, of_name};
 use bytes::Bytes;
-use srm_agent::{Agent, Config};
-use srm_names::{Member, PAGES, Page};
+use srm_agent::Agent;
+use srm_names::{PAGES, Page};
+use srm_rig_members::config_at;
 use srm_timers::Pcg;
 use std::alloc::Global;
 
@@ -34,13 +35,12 @@ pub struct Caller {
 impl Caller {
     /// The agent of a member of so many, with a rate in bytes a second and a depth in bytes.
     pub fn new(alloc: Global, me: u8, members: u8, rate: u32, depth: u32) -> Option<Caller> {
-        let config = Config::new(Member::new(me)?, members, 7, rate, depth, 2, 2, 1, 1)?;
-        let creator = Member::new(0)?;
+        let config = config_at(me, members, rate, depth)?;
         Some(Caller {
             alloc,
             agent: Agent::new(alloc, config, Pcg::new(1), 0).ok()?,
             clock: Clock::new(),
-            first: Page { creator, number: 0 },
+            first: Page::first(),
         })
     }
 

@@ -6,13 +6,11 @@ ghost use Rattle.srm_names.specs.declared.limits.TheConstants.{LATEST_MOMENT};
 use crate::clock::Clock;
 use crate::lists::Lists;
 use bytes::Bytes;
-use srm_agent::Config;
 use srm_audit::reconcile;
-use srm_names::{Member, Page};
+use srm_rig_members::{config_at, count_entries, finish_all};
 use srm_timers::{Pcg, Words};
-use srm_world::{Journal, Recorder};
+use srm_world::Recorder;
 use std::alloc::Global;
-use std::collections::VecDeque;
 
 /// Microseconds from one turn to the next.
 const STEP: u32 = 50_000;
@@ -86,14 +84,10 @@ impl Session {
     fn draw(&mut self, place: usize, page: u16, now: u64) -> Option<()>
         requires { now ≤ LATEST_MOMENT }
     {
-        let page = Page {
-            creator: Member::new(0)?,
-            number: page,
-        };
         let body = Bytes::copy_from_slice(self.alloc, &[7; 64]).ok()?;
         self.recorders
             .get_mut(place)?
-            .draw(page, body, now)
+            .draw(srm_rig::page(0, page)?, body, now)
             .ok()
             .map(|_| ())
     }
@@ -151,9 +145,9 @@ impl Session {
             lists,
             ..
         } = self;
-        let journals = finish_all(alloc, recorders)?;
+        let journals = finish_all(alloc, recorders).ok()?;
         if !reconciles {
-            return entries_of(&journals).checked_add(lists.count());
+            return count_entries(&journals).checked_add(lists.count());
         }
         let trace = reconcile(alloc, journals, lists.into_gots(alloc)?).ok()?;
         Some(trace.entries().len())
@@ -171,33 +165,6 @@ fn copies(word: u64) -> u8 {
 
 /// A member of so many in session 7, at a great rate.
 fn fresh(alloc: Global, me: u8, members: u8) -> Option<Recorder<Pcg>> {
-    let config = Config::new(
-        Member::new(me)?,
-        members,
-        7,
-        1_000_000,
-        1_000_000,
-        2,
-        2,
-        1,
-        1,
-    )?;
+    let config = config_at(me, members, 1_000_000, 1_000_000)?;
     Recorder::new(alloc, config, Pcg::new(u64::from(me)), 0).ok()
-}
-
-fn finish_all(alloc: Global, recorders: Vec<Recorder<Pcg>>) -> Option<Vec<Journal>> {
-    let mut left = VecDeque::from(recorders);
-    let mut journals = Vec::new(alloc);
-    for _ in 0..left.len() {
-        journals.push(left.pop_front()?.finish()).ok()?;
-    }
-    Some(journals)
-}
-
-fn entries_of(journals: &[Journal]) -> usize {
-    let mut count = 0_usize;
-    for journal in journals {
-        count = count.saturating_add(journal.entries().len());
-    }
-    count
 }

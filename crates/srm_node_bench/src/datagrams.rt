@@ -1,5 +1,6 @@
 //! What is heard.
 
+use srm_rig::datagrams::{Kind, up_to_body};
 use std::alloc::{AllocError, Global};
 
 /// How many bytes each body has.
@@ -7,12 +8,9 @@ const BODY: u8 = 64;
 
 /// Data of member 1 in session 7, on the first page, stamped 0.
 fn data(alloc: Global, number: u32) -> Result<Vec<u8>, AllocError> {
-    let [a, b, c, d] = number.to_be_bytes();
-    let head = [
-        0x53, 0x52, 1, 1, 0, 0, 0, 7, 1, 1, 0, 0, 0, a, b, c, d, 0, 0, 0, 0, 0, 0, 0, 0, 0, BODY,
-    ];
-    let mut bytes = Vec::from_array(alloc, head)?;
-    bytes.resize(head.len() + usize::from(BODY), 7)?;
+    let front = up_to_body(Kind::Data, 1, 1, 0, number, 0, BODY);
+    let mut bytes = Vec::from_array(alloc, front)?;
+    bytes.resize(front.len() + usize::from(BODY), 7)?;
     Ok(bytes)
 }
 

@@ -5,7 +5,7 @@
 
 mod datagrams;
 mod member;
-mod replay;
+mod still;
 mod timing;
 
 use crate::member::{entries_of, new_node};
