@@ -1,44 +1,17 @@
 -- The slots of a run as the pages of a table: what entries name is added to it.
-use Rattle.std.proofs.Common.{◌≡◌, Bool, true, false, not, ◌&&◌, List, [], ◌∷◌, ◌++◌, length, refl, ap, sym, ◌∙◌, append_assoc}
-use Rattle.std.specs.Prelude.{filter, nat_lt, if◌then◌else◌}
+use Rattle.std.proofs.Common.{◌≡◌, Bool, true, false, not, List, [], ◌∷◌, ◌++◌, length, refl, ap, ◌∙◌}
+use Rattle.std.specs.Prelude.{nat_lt}
 use Rattle.std.specs.List.{flat_map}
-use Rattle.std.proofs.lemmas.Bool.{false≢true, and_parts, or_parts}
-use Rattle.std.proofs.lemmas.List.{append-nil}
 use Rattle.srm_names.specs.declared.limits.TheConstants.{PAGES}
 use Rattle.srm_names.specs.declared.page.Page.{Page}
 use Rattle.srm_names.specs.Histories.{firsts}
 use Rattle.srm_names.specs.Names.{first_page, same_page}
-use Rattle.srm_names.proofs.Snoc.{firsts-snoc}
-use Rattle.srm_store.specs.PageTables.{is_in, with_page, with_pages, each_once}
-use Rattle.srm_store.proofs.Pages.{same_page-flip, each_once-firsts, is_in-firsts}
+use Rattle.srm_store.specs.PageTables.{with_page, with_pages}
+use Rattle.srm_store.proofs.Pages.{each_once-firsts, firsts_each_once, firsts_all}
 use Rattle.srm_entries.specs.declared.entry.Entry.{Entry}
 use Rattle.srm_entries.specs.Entries.{done, slots, pages_in}
 use Rattle.srm_entries.specs.Verdicts.{lacks_slots_for}
 use Rattle.srm_entries.proofs.Adding.{flat_map-snoc}
-
-none_without : (p : Page) (pages : List Page) → is_in pages p ≡ false → filter (λ y. not (same_page p y)) pages ≡ pages
-none_without p [] out = refl
-none_without p (q ∷ pages) out =
-    let parts = or_parts (same_page q p) (is_in pages p) out in
-    rw (same_page-flip p q ∙ parts.0) (ap (λ ps. q ∷ ps) (none_without p pages parts.1))
-
--- pages that stand once each are the first of each
-pub firsts_each_once : (pages : List Page) → each_once pages ≡ true → firsts same_page pages ≡ pages
-firsts_each_once [] once = refl
-firsts_each_once (p ∷ pages) once =
-    let parts = and_parts (not (is_in pages p)) (each_once pages) once in
-    ap (λ ps. p ∷ filter (λ y. not (same_page p y)) ps) (firsts_each_once pages parts.1) ∙ ap (λ ps. p ∷ ps) (none_without p pages (outside (is_in pages p) parts.0))
-  where
-    outside : (b : Bool) → not b ≡ true → b ≡ false
-    outside false e = refl
-    outside true e = absurd (false≢true e)
-
-firsts_more : (pages : List Page) (p : Page) → firsts same_page (pages ++ p ∷ []) ≡ with_page (firsts same_page pages) p
-firsts_more pages p = firsts-snoc same_page pages p ∙ ap (λ (b : Bool). if b then firsts same_page pages else firsts same_page pages ++ p ∷ []) (sym (is_in-firsts pages p))
-
-firsts_all : (pages ps : List Page) → firsts same_page (pages ++ ps) ≡ with_pages (firsts same_page pages) ps
-firsts_all pages [] = ap (firsts same_page) (append-nil pages)
-firsts_all pages (p ∷ ps) = ap (firsts same_page) (sym (append_assoc pages (p ∷ []) ps)) ∙ firsts_all (pages ++ p ∷ []) ps ∙ ap (λ qs. with_pages qs ps) (firsts_more pages p)
 
 -- the pages that one more entry names
 pub slots-all : (past : List Entry) (e : Entry) → slots (past ++ e ∷ []) ≡ with_pages (slots past) (pages_in (done e))

@@ -1,14 +1,13 @@
 -- One more call, in what the definitions say and in what a store has.
-use Rattle.std.proofs.Common.{◌≡◌, ◌≢◌, ℕ, ◌+◌, ◌<◌, ◌≤◌, ◌⊎◌, List, [], ◌∷◌, ◌++◌, Option, Some, None, Bool, true, false, ◌&&◌, max, length, refl, sym, ap, ◌∙◌, subst, arith, inl, inr}
-use Rattle.std.specs.Prelude.{◌==◌, ◌||◌, nat_lt, map, cond, if◌then◌else◌}
+use Rattle.std.proofs.Common.{◌≡◌, ◌≢◌, ℕ, ◌<◌, ◌⊎◌, List, [], ◌∷◌, ◌++◌, Option, Some, None, Bool, true, false, ◌&&◌, max, length, refl, sym, ap, ◌∙◌, subst, arith, inl, inr}
+use Rattle.std.specs.Prelude.{◌==◌, ◌||◌, map, cond, if◌then◌else◌}
 use Rattle.std.specs.List.{list_any, flat_map}
 use Rattle.std.specs.Option.{option_or}
 use Rattle.std.proofs.lemmas.Bool.{false≢true, eq-eqb, ne_eqb, cases_eq}
-use Rattle.std.proofs.lemmas.Bool.Decides.{nat_tests}
-use Rattle.std.proofs.lemmas.List.{map-append, length-append}
+use Rattle.std.proofs.lemmas.List.{map-append}
 use Rattle.std.proofs.lemmas.List.Folds.{find-append, list_any-append}
 use Rattle.std.proofs.lemmas.List.Concat.{flat_map-append}
-use Rattle.srm_names.specs.declared.limits.TheConstants.{PAGES, MEMBERS}
+use Rattle.srm_names.specs.declared.limits.TheConstants.{MEMBERS}
 use Rattle.srm_names.specs.declared.page.Page.{Page}
 use Rattle.srm_names.specs.declared.stream.Stream.{Stream}
 use Rattle.srm_names.specs.declared.drawop.Drawop.{Drawop}
@@ -17,18 +16,18 @@ use Rattle.srm_names.specs.Histories.{or_else, greatest, firsts}
 use Rattle.srm_names.specs.Names.{first_page, same_page, same_stream, same_name}
 use Rattle.srm_names.proofs.Lists.{greatest-append}
 use Rattle.srm_names.proofs.Same.{same_stream-is, same_stream-itself, same_name-is}
-use Rattle.srm_names.proofs.Snoc.{firsts-snoc, first_of-snoc, or_else-none}
-use Rattle.srm_store.specs.Held.{has_name, held_at, number_in, known, page_of_drawop, page_of_name, pages_named, lacks_room}
+use Rattle.srm_names.proofs.Snoc.{first_of-snoc, or_else-none}
+use Rattle.srm_store.specs.Held.{has_name, held_at, number_in, known, page_of_drawop, page_of_name, pages_named}
 use Rattle.srm_store.specs.Finals.{Settling, rows_for, rows_of, rows_kept, FinalsContent, SameFinals, Settles}
 use Rattle.srm_store.specs.Places.{place_at}
 use Rattle.srm_store.specs.StreamPlaces.{StreamContent}
-use Rattle.srm_store.specs.PageTables.{is_in, slot_of, each_once}
+use Rattle.srm_store.specs.PageTables.{is_in, each_once}
 use Rattle.srm_store.specs.Tables.{TableContent, places_of_stream, drawop_in_table, IsNewTable, SameTable, TableGains, TableLearns}
 use Rattle.srm_store.specs.Stores.{StoreContent}
 use Rattle.srm_store.specs.Rooms.{RoomContent}
 use Rattle.srm_store.specs.Fits.{Fits, StillFits}
 use Rattle.srm_store.proofs.Placing.{place_at-blank}
-use Rattle.srm_store.proofs.Slots.{is_in-with_page, slot_of-in, slot_of-absent}
+use Rattle.srm_store.proofs.Slots.{is_in-with_page}
 use Rattle.srm_store.proofs.Pages.{length-included, each_once-firsts, is_in-firsts, once_with}
 
 -- a name among drawops
@@ -136,36 +135,12 @@ pages_shown inserted evidence n p =
     ∙ ap (λ b. same_page first_page p || b) (any_back (λ q. same_page q p) (map page_of_drawop inserted) (map page_of_name evidence) n.stream.page)
     ∙ or_assoc (same_page first_page p) (is_in (map page_of_drawop inserted ++ map page_of_name evidence) p) (same_page n.stream.page p)
 
--- a page has no slot left exactly where it would be one too many
-module _ {inserted : List Drawop} {evidence : List FullName} {settled : List Settling} {s : StoreContent} (h : Fits inserted evidence settled s) (few : length s.table.pages ≤ PAGES) (p : Page) where
-  count : length (firsts same_page (pages_named inserted evidence)) ≡ length s.table.pages
-  count =
-      let up = length-included s.table.pages (firsts same_page (pages_named inserted evidence)) h.once (λ q there. is_in-firsts (pages_named inserted evidence) q ∙ sym (h.pages q) ∙ there) in
-      let down = length-included (firsts same_page (pages_named inserted evidence)) s.table.pages (each_once-firsts (pages_named inserted evidence)) (λ q there. h.pages q ∙ sym (is_in-firsts (pages_named inserted evidence) q) ∙ there) in
-      omega arith
-
-  counted : (b : Bool) → is_in s.table.pages p ≡ b → lacks_room inserted evidence p ≡ nat_lt PAGES (if b then length s.table.pages else length s.table.pages + 1)
-  counted b e =
-      ap (λ ps. nat_lt PAGES (length ps)) (firsts-snoc same_page (pages_named inserted evidence) p ∙ ap (λ (x : Bool). if x then firsts same_page (pages_named inserted evidence) else firsts same_page (pages_named inserted evidence) ++ p ∷ []) (sym (h.pages p) ∙ e))
-      ∙ go b
-    where
-      go : (b : Bool) → nat_lt PAGES (length (if b then firsts same_page (pages_named inserted evidence) else firsts same_page (pages_named inserted evidence) ++ p ∷ [])) ≡ nat_lt PAGES (if b then length s.table.pages else length s.table.pages + 1)
-      go true = ap (nat_lt PAGES) count
-      go false = let e : length (firsts same_page (pages_named inserted evidence) ++ p ∷ []) ≡ length s.table.pages + 1 = omega (arith, length-append (firsts same_page (pages_named inserted evidence)) (p ∷ []), count) in ap (nat_lt PAGES) e
-
-  pub full_lacks_room : slot_of s.table.pages p ≡ PAGES → lacks_room inserted evidence p ≡ true
-  full_lacks_room full = go (is_in s.table.pages p) refl
-    where
-      go : (b : Bool) → is_in s.table.pages p ≡ b → lacks_room inserted evidence p ≡ true
-      go true e = absurd (omega (arith, slot_of-in s.table.pages p e))
-      go false e = counted false e ∙ (let past : PAGES < length s.table.pages + 1 = omega (arith, slot_of-absent s.table.pages p e) in grind (arith, nat_tests))
-
-  pub lacks_room_full : lacks_room inserted evidence p ≡ true → slot_of s.table.pages p ≡ PAGES
-  lacks_room_full over = go (is_in s.table.pages p) refl
-    where
-      go : (b : Bool) → is_in s.table.pages p ≡ b → slot_of s.table.pages p ≡ PAGES
-      go true e = let past : nat_lt PAGES (length s.table.pages) ≡ true = sym (counted true e) ∙ over in absurd (grind (arith, nat_tests))
-      go false e = let past : nat_lt PAGES (length s.table.pages + 1) ≡ true = sym (counted false e) ∙ over in let at = slot_of-absent s.table.pages p e in grind (arith, nat_tests)
+-- as many pages were named as the table has
+pub count_named : {inserted : List Drawop} {evidence : List FullName} {settled : List Settling} {s : StoreContent} → Fits inserted evidence settled s → length (firsts same_page (pages_named inserted evidence)) ≡ length s.table.pages
+count_named {inserted} {evidence} {s = s} h =
+    let up = length-included s.table.pages (firsts same_page (pages_named inserted evidence)) h.once (λ q there. is_in-firsts (pages_named inserted evidence) q ∙ sym (h.pages q) ∙ there) in
+    let down = length-included (firsts same_page (pages_named inserted evidence)) s.table.pages (each_once-firsts (pages_named inserted evidence)) (λ q there. h.pages q ∙ sym (is_in-firsts (pages_named inserted evidence) q) ∙ there) in
+    omega arith
 
 -- the calls
 pub fits_new : (t : TableContent) (f : FinalsContent) (s : StoreContent) → s.table ≡ t → s.finals ≡ f → IsNewTable t → ((m : ℕ) → rows_kept f m ≡ None) → Fits [] [] [] s

@@ -1,15 +1,15 @@
 -- Pages in a list, each once.
-use Rattle.std.proofs.Common.{◌≡◌, ℕ, suc, ◌<◌, ◌≤◌, List, [], ◌∷◌, ◌++◌, Bool, true, false, not, length, refl, sym, ap, ◌∙◌, arith}
-use Rattle.std.specs.Prelude.{filter, nat_lt, if◌then◌else◌, ◌||◌}
-use Rattle.std.proofs.lemmas.Bool.{false≢true, and_parts, and_from}
-use Rattle.std.proofs.lemmas.Bool.Decides.{nat_tests}
+use Rattle.std.proofs.Common.{◌≡◌, suc, ◌<◌, ◌≤◌, List, [], ◌∷◌, ◌++◌, Bool, true, false, not, length, append_assoc, refl, sym, ap, ◌∙◌, arith}
+use Rattle.std.specs.Prelude.{filter, if◌then◌else◌, ◌||◌}
+use Rattle.std.proofs.lemmas.List.{append-nil}
+use Rattle.std.proofs.lemmas.Bool.{false≢true, and_parts, and_from, or_parts, ltb-false}
 use Rattle.srm_names.specs.declared.limits.TheConstants.{PAGES}
 use Rattle.srm_names.specs.declared.page.Page.{Page}
 use Rattle.srm_names.specs.Histories.{firsts}
 use Rattle.srm_names.specs.Names.{same_page}
 use Rattle.srm_names.proofs.Same.{same_page-is, same_page-itself}
-use Rattle.srm_names.proofs.Snoc.{list_any-snoc}
-use Rattle.srm_store.specs.PageTables.{IsPageTable, is_in, with_page, table_lacks_room, each_once}
+use Rattle.srm_names.proofs.Snoc.{list_any-snoc, firsts-snoc}
+use Rattle.srm_store.specs.PageTables.{IsPageTable, is_in, with_page, with_pages, table_lacks_room, each_once}
 
 pub same_page-flip : (p q : Page) → same_page p q ≡ same_page q p
 same_page-flip p q = go (same_page p q) refl (same_page q p) refl
@@ -126,9 +126,27 @@ once_with pages p once = go (is_in pages p) refl
     go true e = once
     go false e = once_pushed pages p once e
 
+none_without : (p : Page) (pages : List Page) → is_in pages p ≡ false → filter (λ y. not (same_page p y)) pages ≡ pages
+none_without p [] out = refl
+none_without p (q ∷ pages) out =
+    let parts = or_parts (same_page q p) (is_in pages p) out in
+    rw (same_page-flip p q ∙ parts.0) (ap (λ ps. q ∷ ps) (none_without p pages parts.1))
+
+-- pages that stand once each are the first of each
+pub firsts_each_once : (pages : List Page) → each_once pages ≡ true → firsts same_page pages ≡ pages
+firsts_each_once [] once = refl
+firsts_each_once (p ∷ pages) once =
+    let parts = and_parts (not (is_in pages p)) (each_once pages) once in
+    ap (λ ps. p ∷ filter (λ y. not (same_page p y)) ps) (firsts_each_once pages parts.1) ∙ ap (λ ps. p ∷ ps) (none_without p pages (not_true (is_in pages p) parts.0))
+
+-- one more page among pages, and several
+firsts_more : (pages : List Page) (p : Page) → firsts same_page (pages ++ p ∷ []) ≡ with_page (firsts same_page pages) p
+firsts_more pages p = firsts-snoc same_page pages p ∙ ap (λ (b : Bool). if b then firsts same_page pages else firsts same_page pages ++ p ∷ []) (sym (is_in-firsts pages p))
+
+pub firsts_all : (pages ps : List Page) → firsts same_page (pages ++ ps) ≡ with_pages (firsts same_page pages) ps
+firsts_all pages [] = ap (firsts same_page) (append-nil pages)
+firsts_all pages (p ∷ ps) = ap (firsts same_page) (sym (append_assoc pages (p ∷ []) ps)) ∙ firsts_all (pages ++ p ∷ []) ps ∙ ap (λ qs. with_pages qs ps) (firsts_more pages p)
+
 -- a table with one more page
 pub table_more : (pages : List Page) (p : Page) → IsPageTable pages → table_lacks_room pages p ≡ false → IsPageTable (with_page pages p)
-table_more pages p table room = record { few = within (length (with_page pages p)) room; once = once_with pages p table.once }
-  where
-    within : (n : ℕ) → nat_lt PAGES n ≡ false → n ≤ PAGES
-    within n e = grind (arith, nat_tests)
+table_more pages p table room = record { few = ltb-false PAGES (length (with_page pages p)) room; once = once_with pages p table.once }

@@ -1,23 +1,22 @@
 -- Slots for several pages.
-use Rattle.std.proofs.Common.{◌≡◌, ℕ, ◌+◌, ◌<◌, ◌≤◌, List, [], ◌∷◌, ◌++◌, Bool, true, false, length, get_or, set, take, drop, drop-cons, add-one, map, append_assoc, refl, sym, ap, ◌∙◌, arith}
+use Rattle.std.proofs.Common.{◌≡◌, ℕ, ◌+◌, ◌<◌, ◌≤◌, List, [], ◌∷◌, ◌++◌, Bool, true, false, not, length, get_or, set, take, drop, drop-cons, add-one, map, append_assoc, refl, sym, ap, ◌∙◌, arith}
 use Rattle.std.specs.Prelude.{if◌then◌else◌, ◌||◌, nat_lt}
-use Rattle.std.proofs.lemmas.Bool.{false≢true}
-use Rattle.std.proofs.lemmas.Bool.Decides.{nat_tests}
+use Rattle.std.proofs.lemmas.Bool.{false≢true, lt-ltb, le-ltb, ltb-true, ltb-false}
 use Rattle.std.proofs.lemmas.List.{length-append, length-take-le, take_more_set, drop_all}
 use Rattle.srm_names.specs.declared.limits.TheConstants.{PAGES}
 use Rattle.srm_names.specs.declared.page.Page.{Page}
 use Rattle.srm_names.specs.declared.drawop.Drawop.{Drawop}
 use Rattle.srm_names.specs.FullName.{FullName}
-use Rattle.srm_names.specs.Histories.{firsts}
 use Rattle.srm_names.specs.Names.{same_page, same_name, among}
 use Rattle.srm_names.proofs.Same.{same_page-is, same_page-itself, same_name-is}
-use Rattle.srm_store.specs.Held.{pages_named, page_of_name, outgrow}
+use Rattle.srm_store.specs.Held.{pages_named, page_of_name, outgrow, lacks_room}
 use Rattle.srm_store.specs.Finals.{Settling}
-use Rattle.srm_store.specs.PageTables.{is_in, slot_of, with_page, with_pages, with_pages_of, table_lacks_room, table_lacks_room_for, each_once}
+use Rattle.srm_store.specs.PageTables.{is_in, slot_of, with_page, with_pages, with_pages_of, table_lacks_room, table_lacks_room_for}
 use Rattle.srm_store.specs.Stores.{StoreContent, KeepsSlots}
 use Rattle.srm_store.specs.Fits.{Fits}
-use Rattle.srm_store.proofs.Slots.{is_in-with_page, with_page-longer, slot_of-in, slot_of-absent}
-use Rattle.srm_store.proofs.Pages.{length-included, each_once-firsts, is_in-firsts, once_with}
+use Rattle.srm_store.proofs.Slots.{is_in-with_page, with_page-longer, slot_of-le, slot_of-in, slot_of-absent, room_by_slot}
+use Rattle.srm_store.proofs.Pages.{is_in-firsts, firsts_all}
+use Rattle.srm_store.proofs.Fitting.{count_named}
 use Rattle.std.proofs.lemmas.List.Folds.{list_any-append}
 
 -- two tables with the same pages, each as many
@@ -116,38 +115,25 @@ keeps_slots old new p e = record { each = λ ps there had. record { few = omega 
 pub keeps_slots_same : (old new : StoreContent) (p : Page) → new.table.pages ≡ old.table.pages → KeepsSlots p old new
 keeps_slots_same old new p e = record { each = λ ps there had. record { few = omega (arith, ap (λ xs. length (with_pages xs ps)) e, had.few) } }
 
-or_assoc : (a b c : Bool) → ((a || b) || c) ≡ (a || (b || c))
-or_assoc true b c = refl
-or_assoc false b c = refl
+module _ {inserted : List Drawop} {evidence : List FullName} {settled : List Settling} {s : StoreContent} (h : Fits inserted evidence settled s) where
+  -- there would be too many pages exactly where the table with them has too many
+  pub outgrows : (ps : List Page) → outgrow inserted evidence ps ≡ nat_lt PAGES (length (with_pages s.table.pages ps))
+  outgrows ps = ap (nat_lt PAGES) (ap length (firsts_all (pages_named inserted evidence) ps) ∙ as_many _ s.table.pages ps (record { each = λ q. is_in-firsts (pages_named inserted evidence) q ∙ sym (h.pages q); count = count_named h }))
 
-or_none : (a : Bool) → a ≡ a || false
-or_none true = refl
-or_none false = refl
+  -- a page has no slot left exactly where it would be one too many
+  module _ (few : length s.table.pages ≤ PAGES) (p : Page) where
+    room : nat_lt (slot_of s.table.pages p) PAGES ≡ not (lacks_room inserted evidence p)
+    room = room_by_slot s.table.pages p (slot_of s.table.pages p) PAGES refl refl few ∙ ap not (sym (outgrows (p ∷ [])))
 
-is_in-with_pages : (pages ps : List Page) (q : Page) → is_in (with_pages pages ps) q ≡ is_in pages q || is_in ps q
-is_in-with_pages pages [] q = or_none (is_in pages q)
-is_in-with_pages pages (p ∷ ps) q =
-    is_in-with_pages (with_page pages p) ps q ∙ ap (λ b. b || is_in ps q) (is_in-with_page pages p q) ∙ or_assoc (is_in pages q) (same_page p q) (is_in ps q)
+    pub full_lacks_room : slot_of s.table.pages p ≡ PAGES → lacks_room inserted evidence p ≡ true
+    full_lacks_room full = go (lacks_room inserted evidence p) room
+      where
+        go : (b : Bool) → nat_lt (slot_of s.table.pages p) PAGES ≡ not b → b ≡ true
+        go true e = refl
+        go false e = absurd (omega (arith, ltb-true (slot_of s.table.pages p) PAGES e, full))
 
-once_with_pages : (pages ps : List Page) → each_once pages ≡ true → each_once (with_pages pages ps) ≡ true
-once_with_pages pages [] once = once
-once_with_pages pages (p ∷ ps) once = once_with_pages (with_page pages p) ps (once_with pages p once)
-
--- there would be too many pages exactly where the table with them has too many
-pub outgrows : {inserted : List Drawop} {evidence : List FullName} {settled : List Settling} {s : StoreContent} → Fits inserted evidence settled s → (ps : List Page) → outgrow inserted evidence ps ≡ nat_lt PAGES (length (with_pages s.table.pages ps))
-outgrows {inserted} {evidence} {settled} {s} h ps = ap (nat_lt PAGES) count
-  where
-    all : List Page
-    all = pages_named inserted evidence ++ ps
-
-    same : (q : Page) → is_in (with_pages s.table.pages ps) q ≡ is_in (firsts same_page all) q
-    same q = is_in-with_pages s.table.pages ps q ∙ ap (λ b. b || is_in ps q) (h.pages q) ∙ sym (list_any-append (λ r. same_page r q) (pages_named inserted evidence) ps) ∙ sym (is_in-firsts all q)
-
-    count : length (firsts same_page all) ≡ length (with_pages s.table.pages ps)
-    count =
-        let up = length-included (with_pages s.table.pages ps) (firsts same_page all) (once_with_pages s.table.pages ps h.once) (λ q there. sym (same q) ∙ there) in
-        let down = length-included (firsts same_page all) (with_pages s.table.pages ps) (each_once-firsts all) (λ q there. same q ∙ there) in
-        omega arith
+    pub lacks_room_full : lacks_room inserted evidence p ≡ true → slot_of s.table.pages p ≡ PAGES
+    lacks_room_full over = omega (arith, ltb-false (slot_of s.table.pages p) PAGES (room ∙ ap not over), slot_of-le s.table.pages p, few)
 
 -- the page of a name among names is among their pages
 pub page_among : (names : List FullName) (n : FullName) → among names n ≡ true → is_in (map page_of_name names) n.stream.page ≡ true
@@ -173,21 +159,18 @@ one_seated pages names i name page e at lt =
     ∙ ap (λ ns. with_pages pages (map page_of_name ns)) (next_left names i name at lt)
 
 with_pages-few : (pages : List Page) (names : List FullName) → table_lacks_room_for pages names ≡ false → length (with_pages_of pages names) ≤ PAGES
-with_pages-few pages names room = grind (arith, nat_tests)
+with_pages-few pages names room = ltb-false PAGES (length (with_pages_of pages names)) room
 
 -- the page of the next name finds room where those of all names do
 pub one_has_room : (pages start : List Page) (names : List FullName) (i : ℕ) (name : FullName) (page : Page) → page ≡ name.stream.page → name ≡ get_or names i name → i < length names
     → with_pages pages (map page_of_name (drop i names)) ≡ with_pages_of start names → table_lacks_room_for start names ≡ false → table_lacks_room pages page ≡ false
-one_has_room pages start names i name page e at lt whole room = within (length (with_page pages page)) (omega (arith, longer, k, with_pages-few start names room))
+one_has_room pages start names i name page e at lt whole room = le-ltb PAGES (length (with_page pages page)) (omega (arith, longer, k, with_pages-few start names room))
   where
     longer : length (with_page pages page) ≤ length (with_pages (with_page pages page) (map page_of_name (drop (i + 1) names)))
     longer = with_pages-longer (with_page pages page) (map page_of_name (drop (i + 1) names))
 
     k : length (with_pages (with_page pages page) (map page_of_name (drop (i + 1) names))) ≡ length (with_pages_of start names)
     k = ap length (one_seated pages names i name page e at lt ∙ whole)
-
-    within : (n : ℕ) → n ≤ PAGES → nat_lt PAGES n ≡ false
-    within n le = grind (arith, nat_tests)
 
 pub all_seated : (pages all : List Page) (names : List FullName) (i : ℕ) → length names ≤ i → with_pages pages (map page_of_name (drop i names)) ≡ all → pages ≡ all
 all_seated pages all names i past whole = ap (λ ns. with_pages pages (map page_of_name ns)) (sym (drop_all i names past)) ∙ whole
@@ -213,7 +196,7 @@ module _ (pages added : List Page) (names : List FullName) (i count : ℕ) (name
         one_more = sym (append_assoc pages (take count added) (page ∷ []) ∙ ap (λ ps. pages ++ ps) (sym (take_more_set added count page within)))
 
   pub count_full : is_in pages page || is_in (take count added) page ≡ false → length pages + count ≡ PAGES → count ≤ length added → table_lacks_room_for pages names ≡ true
-  count_full new full within = past (length (with_pages_of pages names)) (omega (arith, longer, k, one_more, full, front))
+  count_full new full within = lt-ltb PAGES (length (with_pages_of pages names)) (omega (arith, longer, k, one_more, full, front))
     where
       longer : length (so_far ++ page ∷ []) ≤ length (with_pages (so_far ++ page ∷ []) (map page_of_name (drop (i + 1) names)))
       longer = with_pages-longer (so_far ++ page ∷ []) (map page_of_name (drop (i + 1) names))
@@ -227,14 +210,8 @@ module _ (pages added : List Page) (names : List FullName) (i count : ℕ) (name
       front : length so_far ≡ length pages + count
       front = length-append pages (take count added) ∙ ap (λ n. length pages + n) (length-take-le count added within)
 
-      past : (n : ℕ) → PAGES < n → nat_lt PAGES n ≡ true
-      past n le = grind (arith, nat_tests)
-
 pub counted_all : (pages added : List Page) (names : List FullName) (i count : ℕ) → length names ≤ i → with_pages (pages ++ take count added) (map page_of_name (drop i names)) ≡ with_pages_of pages names
     → length pages + count ≤ PAGES → count ≤ length added → table_lacks_room_for pages names ≡ false
 counted_all pages added names i count past whole few within =
     let all : length (pages ++ take count added) ≡ length (with_pages_of pages names) = ap length (all_seated (pages ++ take count added) (with_pages_of pages names) names i past whole) in
-    below (length (with_pages_of pages names)) (omega (arith, all, length-append pages (take count added), length-take-le count added within, few))
-  where
-    below : (n : ℕ) → n ≤ PAGES → nat_lt PAGES n ≡ false
-    below n le = grind (arith, nat_tests)
+    le-ltb PAGES (length (with_pages_of pages names)) (omega (arith, all, length-append pages (take count added), length-take-le count added within, few))

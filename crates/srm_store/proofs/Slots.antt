@@ -2,7 +2,7 @@
 use Rattle.std.proofs.Common.{◌≡◌, ◌≢◌, ℕ, suc, ◌+◌, ◌<◌, ◌≤◌, List, [], ◌∷◌, ◌++◌, Bool, true, false, not, length, refl, sym, ap, ◌∙◌, arith}
 use Rattle.std.specs.Prelude.{if◌then◌else◌, ◌||◌, nat_lt}
 use Rattle.std.proofs.lemmas.Bool.Decides.{nat_tests}
-use Rattle.std.proofs.lemmas.Bool.{false≢true}
+use Rattle.std.proofs.lemmas.Bool.{false≢true, lt-ltb, le-ltb}
 use Rattle.std.proofs.lemmas.List.{length-append}
 use Rattle.srm_names.specs.declared.limits.TheConstants.{PAGES}
 use Rattle.srm_names.specs.declared.page.Page.{Page}
@@ -148,23 +148,17 @@ module _ (pages : List Page) (p : Page) where
       go false e = omega (arith, length-append pages (p ∷ []), slot_of-absent pages p e)
 
   pub room_below : slot_of pages p < PAGES → length pages ≤ PAGES → table_lacks_room pages p ≡ false
-  room_below below few = within (length (with_page pages p)) (with_page-few few below)
-    where
-      within : (n : ℕ) → n ≤ PAGES → nat_lt PAGES n ≡ false
-      within n le = grind (arith, nat_tests)
+  room_below below few = le-ltb PAGES (length (with_page pages p)) (with_page-few few below)
 
   -- it finds room where its slot is one of the table
   pub room_by_slot : (slot most : ℕ) → slot ≡ slot_of pages p → most ≡ PAGES → length pages ≤ PAGES → nat_lt slot most ≡ not (table_lacks_room pages p)
   room_by_slot slot most at full few = go (is_in pages p) refl
     where
-      within : (n k : ℕ) → n < PAGES → k ≤ PAGES → nat_lt n PAGES ≡ not (nat_lt PAGES k)
-      within n k below le = grind (arith, nat_tests)
-
       tested : (n : ℕ) → nat_lt n PAGES ≡ not (nat_lt PAGES (n + 1))
       tested n = grind (arith, nat_tests)
 
       go : (b : Bool) → is_in pages p ≡ b → nat_lt slot most ≡ not (table_lacks_room pages p)
-      go true e = ap (nat_lt slot) full ∙ within slot (length pages) (omega (arith, at, slot_of-in pages p e, few)) few ∙ ap (λ ps. not (nat_lt PAGES (length ps))) (sym (named_pages true e))
+      go true e = ap (nat_lt slot) full ∙ lt-ltb slot PAGES (omega (arith, at, slot_of-in pages p e, few)) ∙ ap not (sym (le-ltb PAGES (length pages) few)) ∙ ap (λ ps. not (nat_lt PAGES (length ps))) (sym (named_pages true e))
       go false e =
           let counts : length (pages ++ p ∷ []) ≡ slot + 1 = omega (arith, length-append pages (p ∷ []), at, slot_of-absent pages p e) in
           ap (nat_lt slot) full ∙ tested slot ∙ ap (λ k. not (nat_lt PAGES k)) (sym counts) ∙ ap (λ ps. not (nat_lt PAGES (length ps))) (sym (named_pages false e))

@@ -7,10 +7,10 @@ use Rattle.srm_store.specs.Held.{lacks_room}
 use Rattle.srm_store.specs.declared.fault.StoreFault.TheVariants.{Memory}
 use Rattle.srm_store.proofs.Faults.{err_is, same_fault, no_page_limit}
 use Rattle.srm_store.specs.PageTables.{slot_of, with_pages}
-use Rattle.srm_store.proofs.Fitting.{fits_learns, full_lacks_room, lacks_room_full}
+use Rattle.srm_store.proofs.Fitting.{fits_learns}
 use Rattle.srm_store.proofs.Reading.{newly_is}
 use Rattle.srm_store.proofs.Rooming.{ready_learns}
-use Rattle.srm_store.proofs.Seating.{slot_left, keeps_slots}
+use Rattle.srm_store.proofs.Seating.{full_lacks_room, lacks_room_full, slot_left, keeps_slots}
 use Rattle.srm_store.proofs.store.Store.evidence.Goals as goal
 
 pub returns-in_err-slot_for-clause-limit : goal.returns-in_err-slot_for-clause-limit

@@ -2,13 +2,13 @@ use Rattle.std.proofs.Common.{refl, sym, subst, ap, arith, length, Result, Ok, E
 use Rattle.std.proofs.lemmas.Result.{on_ok_weaker, on_err_weaker}
 use Rattle.srm_store.specs.Fits.{Fits}
 use Rattle.srm_store.specs.Inside.{store_of}
-use Rattle.srm_store.proofs.Fitting.{fits_gains, fits_same, same_finals, full_lacks_room, lacks_room_full}
+use Rattle.srm_store.proofs.Fitting.{fits_gains, fits_same, same_finals}
 use Rattle.srm_store.specs.declared.fault.StoreFault.{StoreFault}
 use Rattle.srm_store.specs.declared.insert.Insert.{Insert}
 use Rattle.srm_store.specs.PageTables.{with_pages}
 use Rattle.srm_store.specs.Tables.{TableGains, SameTable}
 use Rattle.srm_store.specs.Stores.{StoreContent, KeepsSlots}
-use Rattle.srm_store.proofs.Seating.{slot_left, keeps_slots, keeps_slots_same}
+use Rattle.srm_store.proofs.Seating.{full_lacks_room, lacks_room_full, slot_left, keeps_slots, keeps_slots_same}
 use Rattle.srm_store.proofs.store.Store.insert.Goals as goal
 
 pub returns-clause-fits : goal.returns-clause-fits
