@@ -13,7 +13,7 @@ use Rattle.srm_bucket.specs.declared.class.Class.TheVariants.{Shown, New, Other}
 use Rattle.srm_bucket.specs.Fits.{Stays as BucketStays}
 use Rattle.srm_bucket.specs.Waiting.{Waiting, SameQueues, queue, count_of}
 use Rattle.srm_agent.specs.declared.agent.due.Due.{Due}
-use Rattle.srm_agent.specs.declared.agent.due.DueMessage.{DueMessage}
+use Rattle.srm_agent.specs.declared.agent.due.DueSessionMessage.{DueSessionMessage}
 use Rattle.srm_outbox.specs.declared.due_items.DueItem.{DueItem}
 use Rattle.srm_entries.specs.declared.entry.Entry.{Entry}
 use Rattle.srm_entries.specs.declared.entry.Input.TheVariants.{Ticked}
@@ -35,7 +35,7 @@ use Rattle.srm_agent_state.specs.TimerCalls.{TicksWith, TimersAdd, TimersStay}
 use Rattle.srm_outbox.specs.DueItems.{AreDueItems}
 use Rattle.srm_outbox.specs.Outbox.{WentContent}
 use Rattle.srm_agent.specs.Noting.{Stays}
-use Rattle.srm_agent.specs.Ticking.{TicksAs, tick_entry, IsSessionMessageAt, IsReportIf, IsDue, HandsOut, SendsAll, data_waits, last_message, state_after, due_then}
+use Rattle.srm_agent.specs.Ticking.{TicksAs, tick_entry, IsSessionMessageAt, IsReportIf, IsDue, HandsOut, SendsAll, data_waits, session_message_at_end, state_after, due_then}
 use Rattle.srm_entries.proofs.Ending.{ending_of, ending_is, EndsIn, NoSessions, charged_is, due_by}
 use Rattle.srm_agent.proofs.Fitting.{refit, roomy}
 use Rattle.srm_agent.proofs.Sent.{bucket_ticks}
@@ -49,10 +49,10 @@ pub count_same : {T : Type 0} (old new : Waiting T) → SameQueues old new → c
 count_same old new same = rw (same Shown, same New, same Other) refl
 
 -- the message that ends a tick: for its answer, and for its entry
-abbrev pub out_of : DueMessage → Out
+abbrev pub out_of : DueSessionMessage → Out
 out_of r = r.outgoing.out
 
-abbrev pub noted_of : DueMessage → Datagram
+abbrev pub noted_of : DueSessionMessage → Datagram
 noted_of r = r.outgoing.noted
 
 -- want of memory: there is room in the bucket, the timers stay, and no word was used
@@ -64,7 +64,7 @@ tick_stays a b d room bucket rest timers words = record {
 }
 
 -- all steps of a tick, from the agent as it was to the one after it
-pub record Acts {W : Type 0} (next_word : W → ℕ × W) (a b d f z : Content W) (moment : ℕ) (due : Due) (arms : List Arm) (went : WentContent) (last : Option DueMessage) (outs : List Datagram) : Type 0 where
+pub record Acts {W : Type 0} (next_word : W → ℕ × W) (a b d f z : Content W) (moment : ℕ) (due : Due) (arms : List Arm) (went : WentContent) (last : Option DueSessionMessage) (outs : List Datagram) : Type 0 where
   pub here : is_gone a.state ≡ false
   pub later : a.last ≤ moment
   pub due_is : IsDue a moment due
@@ -75,7 +75,7 @@ pub record Acts {W : Type 0} (next_word : W → ℕ × W) (a b d f z : Content W
   pub waited : AreOwn d.config.me d.config.session d.bucket.waiting
   pub sent : SendsAll moment due.due_items.items d.bucket f.bucket went
   pub sent_rest : f ≡ record d { bucket = f.bucket }
-  pub last_is : last ≡ last_message (data_waits f.bucket) due.farewell due.report
+  pub last_is : last ≡ session_message_at_end (data_waits f.bucket) due.farewell due.report
   pub ended : z ≡ record f { state = state_after (data_waits f.bucket) due.farewell f.state; last = moment; due = due_then last f.due }
   pub outs_are : outs ≡ went.noted ++ option_to_list (option_map noted_of last)
 
@@ -92,37 +92,37 @@ went_charged me session (o ∷ items) own = (ap is_session own.0.spelled.noted �
 
 -- what ends a tick
 
-each_last : (P : DueMessage → Type 0) (waits : Bool) (farewell report : Option DueMessage) → IfSome farewell P → IfSome report P → IfSome (last_message waits farewell report) P
+each_last : (P : DueSessionMessage → Type 0) (waits : Bool) (farewell report : Option DueSessionMessage) → IfSome farewell P → IfSome report P → IfSome (session_message_at_end waits farewell report) P
 each_last P true farewell report p q = q
 each_last P false None report p q = q
 each_last P false (Some r) report p q = p
 
-if_some : {W : Type 0} (a : Content W) (moment : ℕ) (farewell : Bool) (P : DueMessage → Type 0) → ((r : DueMessage) → IsSessionMessageAt a moment farewell r → P r) → (wanted : Bool) (o : Option DueMessage) → IsReportIf wanted a moment farewell o → IfSome o P
+if_some : {W : Type 0} (a : Content W) (moment : ℕ) (farewell : Bool) (P : DueSessionMessage → Type 0) → ((r : DueSessionMessage) → IsSessionMessageAt a moment farewell r → P r) → (wanted : Bool) (o : Option DueSessionMessage) → IsReportIf wanted a moment farewell o → IfSome o P
 if_some a moment farewell P each wanted None h = tt
 if_some a moment farewell P each wanted (Some r) h = each r h.1
 
-report_sent : {W : Type 0} (a : Content W) (moment : ℕ) (farewell : Bool) (r : DueMessage) → IsSessionMessageAt a moment farewell r → IsSent a.config.me r.outgoing.noted
+report_sent : {W : Type 0} (a : Content W) (moment : ℕ) (farewell : Bool) (r : DueSessionMessage) → IsSessionMessageAt a moment farewell r → IsSent a.config.me r.outgoing.noted
 report_sent a moment farewell r h = subst (IsSent a.config.me) (sym h.report.outgoing.noted) (record { sender = h.report.report.sender; spellable = h.report.report.spellable })
 
-report_next : {W : Type 0} (c : Config) (made : ℕ) (past : List Entry) (a : Content W) (moment : ℕ) (farewell : Bool) (r : DueMessage) → Fits c made past a → IsSessionMessageAt a moment farewell r
+report_next : {W : Type 0} (c : Config) (made : ℕ) (past : List Entry) (a : Content W) (moment : ℕ) (farewell : Bool) (r : DueSessionMessage) → Fits c made past a → IsSessionMessageAt a moment farewell r
     → r.next ≡ moment + session_interval c past r.outgoing.noted
 report_next c made past a moment farewell r fits h = h.next c made past fits ∙ ap (λ g. moment + session_interval c past g) (sym h.report.outgoing.noted)
 
-report_is : {W : Type 0} (c : Config) (made : ℕ) (past : List Entry) (a : Content W) (moment : ℕ) (farewell : Bool) (r : DueMessage) → Fits c made past a → IsSessionMessageAt a moment farewell r → IsSessionMessage c past moment farewell r.outgoing.noted
+report_is : {W : Type 0} (c : Config) (made : ℕ) (past : List Entry) (a : Content W) (moment : ℕ) (farewell : Bool) (r : DueSessionMessage) → Fits c made past a → IsSessionMessageAt a moment farewell r → IsSessionMessage c past moment farewell r.outgoing.noted
 report_is c made past a moment farewell r fits h = subst (IsSessionMessage c past moment farewell) (sym h.report.outgoing.noted) (h.report.report.right c made past fits)
 
-report_leaves : {W : Type 0} (a : Content W) (moment : ℕ) (farewell : Bool) (r : DueMessage) → IsSessionMessageAt a moment farewell r → is_farewell r.outgoing.noted ≡ farewell
+report_leaves : {W : Type 0} (a : Content W) (moment : ℕ) (farewell : Bool) (r : DueSessionMessage) → IsSessionMessageAt a moment farewell r → is_farewell r.outgoing.noted ≡ farewell
 report_leaves a moment farewell r h = ap is_farewell h.report.outgoing.noted ∙ h.report.report.farewell
 
-report_ends : {W : Type 0} (c : Config) (made : ℕ) (past : List Entry) (a : Content W) (moment : ℕ) → Fits c made past a → (is_due : Bool) (report : Option DueMessage) → IsReportIf is_due a moment false report
+report_ends : {W : Type 0} (c : Config) (made : ℕ) (past : List Entry) (a : Content W) (moment : ℕ) → Fits c made past a → (is_due : Bool) (report : Option DueSessionMessage) → IsReportIf is_due a moment false report
     → EndsIn c past moment (if is_due then Some false else None) (option_map noted_of report)
 report_ends c made past a moment fits false None h = tt
 report_ends c made past a moment fits true None h = absurd (cc)
 report_ends c made past a moment fits false (Some r) h = absurd (let k : false ≡ true = h.0 in cc)
 report_ends c made past a moment fits true (Some r) h = report_is c made past a moment false r fits h.1
 
-ends_in : {W : Type 0} (c : Config) (made : ℕ) (past : List Entry) (a : Content W) (moment : ℕ) → Fits c made past a → (old : AgentState) (waits is_due : Bool) (farewell report : Option DueMessage) → is_gone old ≡ false
-    → IsReportIf (is_leaving old) a moment true farewell → IsReportIf is_due a moment false report → EndsIn c past moment (ending_of old waits is_due) (option_map noted_of (last_message waits farewell report))
+ends_in : {W : Type 0} (c : Config) (made : ℕ) (past : List Entry) (a : Content W) (moment : ℕ) → Fits c made past a → (old : AgentState) (waits is_due : Bool) (farewell report : Option DueSessionMessage) → is_gone old ≡ false
+    → IsReportIf (is_leaving old) a moment true farewell → IsReportIf is_due a moment false report → EndsIn c past moment (ending_of old waits is_due) (option_map noted_of (session_message_at_end waits farewell report))
 ends_in c made past a moment fits Gone waits is_due farewell report here f r = absurd (cc)
 ends_in c made past a moment fits Active true is_due farewell report here f r = report_ends c made past a moment fits is_due report r
 ends_in c made past a moment fits Active false is_due None report here f r = report_ends c made past a moment fits is_due report r
@@ -131,7 +131,7 @@ ends_in c made past a moment fits Leaving true is_due farewell report here f r =
 ends_in c made past a moment fits Leaving false is_due None report here f r = absurd (let k : true ≡ false = f in cc)
 ends_in c made past a moment fits Leaving false is_due (Some x) report here f r = report_is c made past a moment true x fits f.1
 
-due_is_by : (c : Config) (past : List Entry) (moment old : ℕ) (last : Option DueMessage) → IfSome last (λ r. r.next ≡ moment + session_interval c past r.outgoing.noted)
+due_is_by : (c : Config) (past : List Entry) (moment old : ℕ) (last : Option DueSessionMessage) → IfSome last (λ r. r.next ≡ moment + session_interval c past r.outgoing.noted)
     → due_then last old ≡ due_by c past moment old (option_map noted_of last)
 due_is_by c past moment old None h = refl
 due_is_by c past moment old (Some r) h = h
@@ -153,14 +153,14 @@ stays_here Active h = refl
 stays_here Leaving h = refl
 stays_here Gone h = refl
 
-report_state : {W : Type 0} (a : Content W) (moment : ℕ) (old : AgentState) → is_gone old ≡ false → (is_due : Bool) (report : Option DueMessage) → IsReportIf is_due a moment false report
+report_state : {W : Type 0} (a : Content W) (moment : ℕ) (old : AgentState) → is_gone old ≡ false → (is_due : Bool) (report : Option DueSessionMessage) → IsReportIf is_due a moment false report
     → old ≡ expected_state old (list_any is_farewell (option_to_list (option_map noted_of report))) (Some Ticked)
 report_state a moment old here is_due None h = stays_here old here
 report_state a moment old here is_due (Some r) h = stays_here old here ∙ ap (λ b. expected_state old (b || false) (Some Ticked)) (sym (report_leaves a moment false r h.1))
 
-state_is : {W : Type 0} (a : Content W) (moment : ℕ) (old : AgentState) (waits is_due : Bool) (farewell report : Option DueMessage) → is_gone old ≡ false
+state_is : {W : Type 0} (a : Content W) (moment : ℕ) (old : AgentState) (waits is_due : Bool) (farewell report : Option DueSessionMessage) → is_gone old ≡ false
     → IsReportIf (is_leaving old) a moment true farewell → IsReportIf is_due a moment false report
-    → state_after waits farewell old ≡ expected_state old (list_any is_farewell (option_to_list (option_map noted_of (last_message waits farewell report)))) (Some Ticked)
+    → state_after waits farewell old ≡ expected_state old (list_any is_farewell (option_to_list (option_map noted_of (session_message_at_end waits farewell report)))) (Some Ticked)
 state_is a moment old true is_due None report here f r = report_state a moment old here is_due report r
 state_is a moment old true is_due (Some x) report here f r = report_state a moment old here is_due report r
 state_is a moment old false is_due None report here f r = report_state a moment old here is_due report r
@@ -168,7 +168,7 @@ state_is a moment old false is_due (Some x) report here f r = ap (λ b. expected
 
 -- the run with the entry
 
-acts_fits : {W : Type 0} (next_word : W → ℕ × W) (a b d f z : Content W) (moment : ℕ) (due : Due) (arms : List Arm) (went : WentContent) (last : Option DueMessage) (outs : List Datagram) (c : Config) (made : ℕ) (past : List Entry)
+acts_fits : {W : Type 0} (next_word : W → ℕ × W) (a b d f z : Content W) (moment : ℕ) (due : Due) (arms : List Arm) (went : WentContent) (last : Option DueSessionMessage) (outs : List Datagram) (c : Config) (made : ℕ) (past : List Entry)
     → Acts next_word a b d f z moment due arms went last outs → Fits c made past a → Fits c made (past ++ tick_entry c.me moment due.handed_out.asks due.handed_out.fixes arms outs z.state ∷ []) z
 acts_fits next_word a b d f z moment due arms went last outs c made past s h =
     tick_fits c made moment past due.handed_out.asks due.handed_out.fixes arms outs z.state wanted went.noted o a z h keeps right refl (ap (λ x. x.last) s.ended)
@@ -241,7 +241,7 @@ acts_fits next_word a b d f z moment due arms went last outs c made past s h =
         (if_some a moment true (λ r. IsSent c.me r.outgoing.noted) (λ r k. subst (λ m. IsSent m r.outgoing.noted) (ap (λ k. k.me) h.config) (report_sent a moment true r k)) (is_leaving a.state) due.farewell s.due_is.farewell)
         (if_some a moment false (λ r. IsSent c.me r.outgoing.noted) (λ r k. subst (λ m. IsSent m r.outgoing.noted) (ap (λ k. k.me) h.config) (report_sent a moment false r k)) is_due due.report s.due_is.report)))
       where
-        listed : (l : Option DueMessage) → IfSome l (λ r. IsSent c.me r.outgoing.noted) → AllByRecursion (IsSent c.me) (option_to_list (option_map noted_of l))
+        listed : (l : Option DueSessionMessage) → IfSome l (λ r. IsSent c.me r.outgoing.noted) → AllByRecursion (IsSent c.me) (option_to_list (option_map noted_of l))
         listed None k = tt
         listed (Some r) k = (k, tt)
 
@@ -294,16 +294,16 @@ sent_spelled : (me session : ℕ) (items : List Outgoing) → AllByRecursion (Is
 sent_spelled me session [] own = tt
 sent_spelled me session (o ∷ items) own = (own.0.spelled.out, sent_spelled me session items own.1)
 
-last_out : (session : ℕ) (last : Option DueMessage) → IfSome last (λ r. IsOutgoing session r.outgoing) → map (λ (x : Out). x.datagram) (option_to_list (option_map out_of last)) ≡ option_to_list (option_map noted_of last)
+last_out : (session : ℕ) (last : Option DueSessionMessage) → IfSome last (λ r. IsOutgoing session r.outgoing) → map (λ (x : Out). x.datagram) (option_to_list (option_map out_of last)) ≡ option_to_list (option_map noted_of last)
 last_out session None h = refl
 last_out session (Some r) h = ap (λ g. g ∷ []) (sym h.noted)
 
-last_spelled : (session : ℕ) (last : Option DueMessage) → IfSome last (λ r. IsOutgoing session r.outgoing) → AllByRecursion (IsOut session) (option_to_list (option_map out_of last))
+last_spelled : (session : ℕ) (last : Option DueSessionMessage) → IfSome last (λ r. IsOutgoing session r.outgoing) → AllByRecursion (IsOut session) (option_to_list (option_map out_of last))
 last_spelled session None h = tt
 last_spelled session (Some r) h = (h.out, tt)
 
 -- what is answered is spelled, and its datagrams are those that are noted
-pub acts_outs : {W : Type 0} (next_word : W → ℕ × W) (a b d f z : Content W) (moment : ℕ) (due : Due) (arms : List Arm) (went : WentContent) (last : Option DueMessage) (outs : List Datagram) (answered : List Out)
+pub acts_outs : {W : Type 0} (next_word : W → ℕ × W) (a b d f z : Content W) (moment : ℕ) (due : Due) (arms : List Arm) (went : WentContent) (last : Option DueSessionMessage) (outs : List Datagram) (answered : List Out)
     → Acts next_word a b d f z moment due arms went last outs → answered ≡ went.outs ++ option_to_list (option_map out_of last) → (outs ≡ datagrams_of answered) × AllByRecursion (IsOut a.config.session) answered
 acts_outs next_word a b d f z moment due arms went last outs answered s is = (
   sym (ap datagrams_of is ∙ map-append (λ (x : Out). x.datagram) went.outs (option_to_list (option_map out_of last))
@@ -328,7 +328,7 @@ acts_outs next_word a b d f z moment due arms went last outs answered s is = (
         (if_some a moment false (λ r. IsOutgoing a.config.session r.outgoing) (λ r k. k.report.outgoing) (nat_le a.due moment) due.report s.due_is.report))
 
 -- the entry of what is answered
-pub acts_ticks : {W : Type 0} (next_word : W → ℕ × W) (a b d f z : Content W) (moment : ℕ) (due : Due) (arms : List Arm) (went : WentContent) (last : Option DueMessage) (outs : List Datagram) (answered : List Out)
+pub acts_ticks : {W : Type 0} (next_word : W → ℕ × W) (a b d f z : Content W) (moment : ℕ) (due : Due) (arms : List Arm) (went : WentContent) (last : Option DueSessionMessage) (outs : List Datagram) (answered : List Out)
     → Acts next_word a b d f z moment due arms went last outs → answered ≡ went.outs ++ option_to_list (option_map out_of last)
     → TicksAs next_word moment moment a z (record { asks = due.handed_out.asks; fixes = due.handed_out.fixes; arms = arms; outs = answered; state = z.state })
 acts_ticks next_word a b d f z moment due arms went last outs answered s is = record {

@@ -47,7 +47,7 @@ use Rattle.srm_entries.specs.Entries.{done, accepted, held, evidence_by, evidenc
 use Rattle.srm_entries.specs.Distances.{distance_calls, calls_in}
 use Rattle.srm_entries.specs.Timers.{last_ask, fix_running, held_off, asker, basis_of, fix_basis_of, ask_basis_of, ask_exponent, ArmsRight, TimersRight, only_if}
 use Rattle.srm_entries.specs.Verdicts.{first_cause, verdict_of, lacks_slots_for, drawn_in, settlings, settling_of}
-use Rattle.srm_entries.specs.Sessions.{session_due, interval_after}
+use Rattle.srm_entries.specs.Sessions.{session_due, session_due_after}
 use Rattle.srm_entries.specs.Bucket.{Going, GoesAsCharged, bucket_calls, classed}
 use Rattle.srm_entries.specs.Runs.{EntryRight}
 use Rattle.srm_store.specs.PageTables.{with_page}
@@ -253,7 +253,7 @@ module _ (me moment : ℕ) (page : Page) (body : List ℕ) (stamp : ℕ) (after 
           ∙ ap (λ k. let x : Classed Datagram = record { class = New; item = record { value = Data d; length = k } } in x) charged
 
   same_session_due : (c : Config) (made : ℕ) → session_due c made (past ++ e ∷ []) ≡ session_due c made past
-  same_session_due c made = ap (λ o. unwrap_or o (made + 1000000)) (ap (last_of (interval_after c)) (steps-snoc past e) ∙ last_of-snoc (interval_after c) (steps past) (record { before = past; this = e }))
+  same_session_due c made = ap (λ o. unwrap_or o (made + 1000000)) (ap (last_of (session_due_after c)) (steps-snoc past e) ∙ last_of-snoc (session_due_after c) (steps past) (record { before = past; this = e }))
 
   -- what was drawn is what is known
   own_kept : (page2 : Page) → drawn_in past (stream_on me page2) ≡ known past (stream_on me page2) → drawn_in (past ++ e ∷ []) (stream_on me page2) ≡ known (past ++ e ∷ []) (stream_on me page2)

@@ -34,7 +34,7 @@ use Rattle.srm_agent_state.specs.TimerCalls.{HearsWith, TimersAdd, WaitsAreChose
 use Rattle.srm_agent_state.specs.TimersKept.{HaveSettings}
 use Rattle.srm_store.specs.PageTables.{with_pages_of}
 use Rattle.srm_entries.specs.Verdicts.{verdict_of, settlings, settling_of, drawn_in, exceeds, is_beyond, final}
-use Rattle.srm_entries.specs.Sessions.{session_due, interval_after}
+use Rattle.srm_entries.specs.Sessions.{session_due, session_due_after}
 use Rattle.srm_entries.specs.Bucket.{Going, GoesAsCharged, bucket_calls}
 use Rattle.srm_entries.specs.Runs.{EntryRight}
 use Rattle.srm_agent.specs.Contents.{Content}
@@ -136,7 +136,7 @@ bucket_stays c past moment g arms s b h = record {
 same_due : (c : Config) (made : ℕ) (past : List Entry) (moment : ℕ) (g : Datagram) (arms : List Arm) (s : AgentState) → session_due c made (past ++ heard_entry c.me moment g arms s ∷ []) ≡ session_due c made past
 same_due c made past moment g arms s =
     ap (λ o. unwrap_or o (made + 1000000))
-    (ap (last_of (interval_after c)) (steps-snoc past (heard_entry c.me moment g arms s)) ∙ last_of-snoc (interval_after c) (steps past) (record { before = past; this = heard_entry c.me moment g arms s }))
+    (ap (last_of (session_due_after c)) (steps-snoc past (heard_entry c.me moment g arms s)) ∙ last_of-snoc (session_due_after c) (steps past) (record { before = past; this = heard_entry c.me moment g arms s }))
 
 -- of this member's own streams no more is known than it drew
 own_within : (me : ℕ) (past : List Entry) (s : Stream) (k : ℕ) → s.source ≡ me → drawn_in past s ≡ k → (ns : List FullName) → list_any (is_beyond me past) ns ≡ false → greatest (flat_map (number_in s) ns) ≤ k

@@ -22,7 +22,7 @@ use Rattle.srm_entries.specs.Entries.{accepted, ticked, state, is_gone, held, he
 use Rattle.srm_entries.specs.Distances.{distance_calls, calls_in, calls_of}
 use Rattle.srm_entries.specs.Timers.{arm_in, last_ask, fix_running, held_off, asker, asker_in, repaired, repairs_in, ask_exponent, ask_basis_of, fix_basis_of, basis_of, ArmsRight, TimersRight, only_if}
 use Rattle.srm_entries.specs.Verdicts.{settlings, settling_of}
-use Rattle.srm_entries.specs.Sessions.{session_due, interval_after, session_message_due, EndsWith, SessionRight}
+use Rattle.srm_entries.specs.Sessions.{session_due, session_due_after, session_message_due, EndsWith, SessionRight}
 use Rattle.srm_entries.specs.Bucket.{Going, GoesAsCharged, entries_of, bucket_calls, calls_by}
 use Rattle.srm_agent_state.specs.TimersKept.{TimersContent, TimersFit}
 use Rattle.srm_agent_state.proofs.Midway.{if_none}
@@ -139,14 +139,14 @@ bucket_stays c past e b q i h = record {
 
 -- the session message
 
-no_pause : (c : Config) (past : List Entry) (e : Entry) → e.effects.outs ≡ [] → interval_after c (record { before = past; this = e }) ≡ None
+no_pause : (c : Config) (past : List Entry) (e : Entry) → e.effects.outs ≡ [] → session_due_after c (record { before = past; this = e }) ≡ None
 no_pause c past e none = rw none refl
 
 pub same_due : (c : Config) (made : ℕ) (past : List Entry) (e : Entry) → e.effects.outs ≡ [] → session_due c made (past ++ e ∷ []) ≡ session_due c made past
 same_due c made past e none =
     ap (λ o. unwrap_or o (made + 1000000))
-    (ap (last_of (interval_after c)) (steps-snoc past e) ∙ last_of-snoc (interval_after c) (steps past) (record { before = past; this = e })
-    ∙ ap (λ o. or_else o (last_of (interval_after c) (steps past))) (no_pause c past e none))
+    (ap (last_of (session_due_after c)) (steps-snoc past e) ∙ last_of-snoc (session_due_after c) (steps past) (record { before = past; this = e })
+    ∙ ap (λ o. or_else o (last_of (session_due_after c) (steps past))) (no_pause c past e none))
 
 -- the entry is one that those before it allow
 

@@ -10,7 +10,7 @@ use Rattle.srm_bucket.specs.declared.class.Class.TheVariants.{New}
 use Rattle.srm_bucket.specs.Content.{Content as BucketContent}
 use Rattle.srm_bucket.specs.Waiting.{queue}
 use Rattle.srm_agent.specs.declared.agent.due.Due.{Due}
-use Rattle.srm_agent.specs.declared.agent.due.DueMessage.{DueMessage}
+use Rattle.srm_agent.specs.declared.agent.due.DueSessionMessage.{DueSessionMessage}
 use Rattle.srm_agent.specs.declared.agent.due.HandedOut.{HandedOut}
 use Rattle.srm_outbox.specs.declared.due_items.DueItem.{DueItem}
 use Rattle.srm_entries.specs.declared.entry.Entry.{Entry}
@@ -65,12 +65,12 @@ pub record IsIdle (ticked : answers.Ticked) : Type 0 where
   pub outs : ticked.outs ≡ []
 
 -- a session message or a farewell of an agent at a moment, and when the next one is due after it
-pub record IsSessionMessageAt {W : Type 0} (a : Content W) (moment : ℕ) (farewell : Bool) (r : DueMessage) : Type 0 where
+pub record IsSessionMessageAt {W : Type 0} (a : Content W) (moment : ℕ) (farewell : Bool) (r : DueSessionMessage) : Type 0 where
   pub report : IsSessionMessageSpelled a moment farewell r.outgoing
   pub next : (c : Config) (made : ℕ) (past : List Entry) → Fits c made past a → r.next ≡ moment + session_interval c past r.outgoing.out.datagram
 
 -- there is one exactly where it is wanted
-abbrev pub IsReportIf : {W : Type 0} → Bool → Content W → ℕ → Bool → Option DueMessage → Type 0
+abbrev pub IsReportIf : {W : Type 0} → Bool → Content W → ℕ → Bool → Option DueSessionMessage → Type 0
 IsReportIf wanted a moment farewell None = wanted ≡ false
 IsReportIf wanted a moment farewell (Some r) = (wanted ≡ true) × IsSessionMessageAt a moment farewell r
 
@@ -111,16 +111,16 @@ abbrev pub data_waits : BucketContent Outgoing → Bool
 data_waits b = not (length (queue b.waiting New) == 0)
 
 -- the message that a tick ends with: the farewell of a member that is leaving, once no data of its own waits, else the session message
-abbrev pub last_message : (waits : Bool) → (farewell report : Option DueMessage) → Option DueMessage
-last_message true farewell report = report
-last_message false None report = report
-last_message false (Some farewell) report = Some farewell
+abbrev pub session_message_at_end : (waits : Bool) → (farewell report : Option DueSessionMessage) → Option DueSessionMessage
+session_message_at_end true farewell report = report
+session_message_at_end false None report = report
+session_message_at_end false (Some farewell) report = Some farewell
 
 -- the state after it
-abbrev pub state_after : (waits : Bool) → (farewell : Option DueMessage) → AgentState → AgentState
+abbrev pub state_after : (waits : Bool) → (farewell : Option DueSessionMessage) → AgentState → AgentState
 state_after waits farewell old = if is_some farewell && not waits then Gone else old
 
 -- when the next session message is due after it
-abbrev pub due_then : Option DueMessage → ℕ → ℕ
+abbrev pub due_then : Option DueSessionMessage → ℕ → ℕ
 due_then None old = old
 due_then (Some r) old = r.next

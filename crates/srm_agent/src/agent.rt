@@ -2,7 +2,7 @@
 
 ghost use Rattle.std.specs.Prelude.{◌≡◌, ◌≤◌, ℕ, max, List, [], IfOk, Ok, Err, None};
 ghost use Rattle.srm_names.specs.declared.limits.TheConstants.{LATEST_MOMENT};
-ghost use Rattle.srm_entries.specs.Configs.{Config as Settings};
+ghost use Rattle.srm_entries.specs.Configs.{Config as AConfig};
 ghost use Rattle.srm_entries.specs.declared.entry.Entry.{Entry as AnEntry};
 ghost use Rattle.srm_entries.specs.Entries.{is_gone, state};
 ghost use Rattle.srm_agent.specs.Fits.{Fits, AreNewProgress};
@@ -137,12 +137,12 @@ impl<W: Words + Drop> Agent<W> {
     /// Does nothing. Whatever entries the agent fits are a run of its member, so the laws of runs hold of them: what was given
     /// ([`gives`](crate::gives)), the response ([`responds`](crate::responds)), and the rate ([`keeps_rate`](crate::keeps_rate)).
     pub fn fits_runs_alone(&self)
-        ensures { (c : Settings) (made : ℕ) (past : List AnEntry) → Fits c made past self.now → IsMemberRun c made past }
+        ensures { (c : AConfig) (made : ℕ) (past : List AnEntry) → Fits c made past self.now → IsMemberRun c made past }
     {}
 
     /// Whether the member takes part, leaves or is gone. It takes no memory and changes nothing.
     pub fn state(&self) -> AgentState
-        ensures { (c : Settings) (made : ℕ) (past : List AnEntry) → Fits c made past self.now → result ≡ state past }
+        ensures { (c : AConfig) (made : ℕ) (past : List AnEntry) → Fits c made past self.now → result ≡ state past }
     {
         self.state
     }

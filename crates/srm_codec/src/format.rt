@@ -39,5 +39,8 @@ pub const DRAWOP_BYTES: usize = 18;
 /// Bytes of a session message between its head and its rows and echoes: sent, flags, shown page and the two counts.
 pub const SESSION_MESSAGE_BYTES: usize = 14;
 
+/// Rows, or echoes, of a session message, at most, since a byte has their count.
+pub const LONGEST_LIST: u8 = u8::MAX;
+
 /// Bytes of an echo.
 pub const ECHO_BYTES: usize = 17;

@@ -30,7 +30,8 @@ pub use decoding::decode;
 pub use encoding::{encode, length};
 pub use fault::DecodeFault;
 pub use format::{
-    DRAWOP_BYTES, ECHO_BYTES, HEAD_BYTES, MASK_BITS, NAME_BYTES, SESSION_MESSAGE_BYTES,
+    DRAWOP_BYTES, ECHO_BYTES, HEAD_BYTES, LONGEST_LIST, MASK_BITS, NAME_BYTES,
+    SESSION_MESSAGE_BYTES,
 };
 pub use laws::{judging_undoes_spelling, spellings_are_unique};
 pub use mentions::{names_in, only_name};

@@ -7,6 +7,7 @@ ghost use Rattle.srm_names.specs.Names.{ascending, echo_below};
 ghost use Rattle.srm_codec.specs.Spelling.{IsSpellable, asked_by, AreRows, AreEchoes, is_page, is_name, is_drawop, is_echo, row_below};
 
 use crate::datagram::Datagram;
+use crate::format::LONGEST_LIST;
 use crate::mask::is_within;
 use srm_names::{DRAWOPS, Drawop, Echo, LATEST_MOMENT, LONGEST_BODY, MEMBERS, Member, Name, Page};
 
@@ -86,7 +87,7 @@ fn is_echo(echo: Echo) -> bool
 fn are_rows(farewell: bool, sender: Member, rows: &[Name]) -> bool
     ensures { IsTrue result ↔ AreRows farewell sender rows.now }
 {
-    rows.len() <= usize::from(u8::MAX)
+    rows.len() <= usize::from(LONGEST_LIST)
         && are_names(rows)
         && are_from(farewell, sender, rows)
         && rows_rise(rows)
@@ -113,7 +114,7 @@ fn rows_rise(rows: &[Name]) -> bool
 fn are_echoes(echoes: &[Echo]) -> bool
     ensures { IsTrue result ↔ AreEchoes echoes.now }
 {
-    echoes.len() <= usize::from(u8::MAX) && are_each_echoes(echoes) && echoes_rise(echoes)
+    echoes.len() <= usize::from(LONGEST_LIST) && are_each_echoes(echoes) && echoes_rise(echoes)
 }
 
 fn are_each_echoes(echoes: &[Echo]) -> bool

@@ -13,7 +13,7 @@ use Rattle.srm_entries.specs.declared.state.AgentState.{AgentState}
 use Rattle.srm_entries.specs.Configs.{Config}
 use Rattle.srm_entries.specs.Entries.{ticked, state, is_gone, is_leaving}
 use Rattle.srm_codec.specs.Spelling.{is_session}
-use Rattle.srm_entries.specs.Sessions.{charged, session_interval, interval_after, session_due, all_data_sent, IsSessionMessage, session_message_due, EndsWith, SessionRight}
+use Rattle.srm_entries.specs.Sessions.{charged, session_interval, session_due_after, session_due, all_data_sent, IsSessionMessage, session_message_due, EndsWith, SessionRight}
 
 -- by the member's state, whether data that it drew waits, and whether a session message is due: nothing, or whether a farewell
 abbrev pub ending_of : AgentState → Bool → Bool → Option Bool
@@ -93,10 +93,10 @@ pub due_after : (c : Config) (made : ℕ) (before : List Entry) (e : Entry) (wan
     → session_due c made (before ++ e ∷ []) ≡ due_by c before e.moment (session_due c made before) o
 due_after c made before e wanted went o none outs ends =
     ap (λ p. unwrap_or p (made + 1000000))
-    (ap (last_of (interval_after c)) (steps-snoc before e) ∙ last_of-snoc (interval_after c) (steps before) (record { before = before; this = e })
-    ∙ ap (λ p. or_else (option_map (λ g. e.moment + session_interval c before g) p) (last_of (interval_after c) (steps before))) (ap (find is_session) outs ∙ find_past went o none ∙ found c before e.moment wanted o ends))
+    (ap (last_of (session_due_after c)) (steps-snoc before e) ∙ last_of-snoc (session_due_after c) (steps before) (record { before = before; this = e })
+    ∙ ap (λ p. or_else (option_map (λ g. e.moment + session_interval c before g) p) (last_of (session_due_after c) (steps before))) (ap (find is_session) outs ∙ find_past went o none ∙ found c before e.moment wanted o ends))
     ∙ by_case o
   where
-    by_case : (o : Option Datagram) → unwrap_or (or_else (option_map (λ g. e.moment + session_interval c before g) o) (last_of (interval_after c) (steps before))) (made + 1000000) ≡ due_by c before e.moment (session_due c made before) o
+    by_case : (o : Option Datagram) → unwrap_or (or_else (option_map (λ g. e.moment + session_interval c before g) o) (last_of (session_due_after c) (steps before))) (made + 1000000) ≡ due_by c before e.moment (session_due c made before) o
     by_case None = refl
     by_case (Some g) = refl

@@ -84,7 +84,7 @@ shown_now = refl
 in_the_next_slot : slots (shows_another ∷ draws 0 3 (drawop_of 1 3 []) ∷ drawn_on_page (page 2 0) 0 ∷ []) ≡ first_page ∷ page 1 3 ∷ page 2 0 ∷ []
 in_the_next_slot = refl
 
--- the class of an answer is by the page shown when it is handed in
+-- the class of a request is by the page shown when it is handed in
 other_class : map (λ p. (due_item p (Request 0 (named first_stream 1) 0)).class) (page 1 3 ∷ []) ≡ Other ∷ []
 other_class = refl
 

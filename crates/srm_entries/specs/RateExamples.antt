@@ -57,7 +57,7 @@ not_sooner = lit< tt
 tokens_left : map (λ now. level 8000 4204 now (ticks_of (entries_of (drawn ++ four_go ∷ [])))) (10 ∷ 131384 ∷ 131385 ∷ []) ≡ 0 ∷ 1050992000 ∷ 1051000000 ∷ []
 tokens_left = refl
 
--- the classes: new data waits behind an answer for the page shown, and an answer for another page behind both
+-- the classes: new data waits behind a repair for the page shown, and a repair for another page behind both
 abbrev elsewhere : Page
 elsewhere = record { creator = 1; number = 3 }
 

@@ -56,8 +56,8 @@ pub record IsMemberRun (c : Config) (made : ℕ) (es : List Entry) : Type 0 wher
   pub each : AllByRecursion (EntryRight c made) (steps es)
   pub bucket : BucketRight c es
 
--- What a member answers in time: each missing name has a timer; a request for a held name that isn't held off starts one;
--- by a tick at or after the longest wait, the timer was answered.
+-- That a member asks and repairs in time: each missing name has a timer; a request for a held name that isn't held off
+-- starts one; by a tick at or after the longest wait, the timer has ended.
 pub record RespondsInTime (c : Config) (es : List Entry) : Type 0 where
   pub asking : (n : FullName) → is_missing es n ≡ true → is_some (last_ask es n) ≡ true
   pub fixing : (before after : List Entry) (e : Entry) (n : FullName) → es ≡ before ++ e ∷ after

@@ -28,12 +28,12 @@ members_remaining c es = count_by (λ m. not (is_some (told es m))) (count_up 0 
 abbrev pub session_interval : Config → List Entry → Datagram → ℕ
 session_interval c before g = max SHORTEST_INTERVAL (SESSION_SHARE * members_remaining c before * length_of g * SECOND / c.rate)
 
-abbrev pub interval_after : Config → Step Entry → Option ℕ
-interval_after c s = option_map (λ g. s.this.moment + session_interval c s.before g) (find is_session s.this.effects.outs)
+abbrev pub session_due_after : Config → Step Entry → Option ℕ
+session_due_after c s = option_map (λ g. s.this.moment + session_interval c s.before g) (find is_session s.this.effects.outs)
 
 -- when the next session message is due
 abbrev pub session_due : Config → ℕ → List Entry → ℕ
-session_due c made es = unwrap_or (last_of (interval_after c) (steps es)) (made + SHORTEST_INTERVAL)
+session_due c made es = unwrap_or (last_of (session_due_after c) (steps es)) (made + SHORTEST_INTERVAL)
 
 -- each drawop that was drawn has been sent
 abbrev pub all_data_sent : List Entry → Bool

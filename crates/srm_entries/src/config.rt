@@ -41,7 +41,7 @@ impl Model for Config {
 impl Config {
     /// The settings of member `me` in a roster of the members below `members`, 1 to 32: the session's number, the rate of
     /// what it sends in bytes a second, 1 to 100,000,000, the depth of its bucket in bytes, 1,051 to 1,000,000, and the
-    /// four factors of its timers, 0 to 16 each. A request waits from `c1` to `c1 + c2` distances, a repair from `d1` to
+    /// four timer settings, 0 to 16 each. A request waits from `c1` to `c1 + c2` distances, a repair from `d1` to
     /// `d1 + d2`.
     ///
     /// None where one of them is out of its range, or `me` isn't in the roster.

@@ -6,9 +6,9 @@ ghost use Rattle.srm_entries.specs.Entries.{is_gone};
 /// Whether a member takes part. It never goes back.
 #[derive(Clone, Copy, Debug, PartialEq, Eq)]
 pub enum AgentState {
-    /// It draws, asks and answers.
+    /// It draws, asks and repairs.
     Active,
-    /// It draws nothing new, but asks, answers and sends what waits.
+    /// It draws nothing new, but asks, repairs and sends what waits.
     Leaving,
     /// It sent its farewell. It hears and sends nothing.
     Gone,

@@ -105,10 +105,10 @@ draws_end l typed old new is sent = record {
 
 sent_more : (a b : List (List ℕ)) (old mid new : PenView) → PenSent a old mid → PenSent b mid new → PenSent (a ++ b) old new
 sent_more a b old mid new one two =
-    let joined : (old.sent ++ map (stroke_of old.place) a) ++ map (stroke_of old.place) b ≡ old.sent ++ map (stroke_of old.place) (a ++ b) =
-    append_assoc old.sent (map (stroke_of old.place) a) (map (stroke_of old.place) b) ∙ ap (λ more. old.sent ++ more) (sym (map-append (stroke_of old.place) a b)) in
-    let over_old : record mid { sent = mid.sent ++ map (stroke_of mid.place) b } ≡ record old { sent = (old.sent ++ map (stroke_of old.place) a) ++ map (stroke_of old.place) b } =
-    ap (λ (p : PenView). record p { sent = p.sent ++ map (stroke_of p.place) b }) one in
+    let joined : (old.sent ++ map (stroke_of old.number) a) ++ map (stroke_of old.number) b ≡ old.sent ++ map (stroke_of old.number) (a ++ b) =
+    append_assoc old.sent (map (stroke_of old.number) a) (map (stroke_of old.number) b) ∙ ap (λ more. old.sent ++ more) (sym (map-append (stroke_of old.number) a b)) in
+    let over_old : record mid { sent = mid.sent ++ map (stroke_of mid.number) b } ≡ record old { sent = (old.sent ++ map (stroke_of old.number) a) ++ map (stroke_of old.number) b } =
+    ap (λ (p : PenView). record p { sent = p.sent ++ map (stroke_of p.number) b }) one in
     two ∙ over_old ∙ ap (λ sent. record old { sent = sent }) joined
 
 draws_on : (a b front : List ℕ) (old : PenView) (begun : List ℕ) (mid : PenView) (left : List ℕ) (new : PenView) → DrawsTyped a front old begun mid → DrawsTyped b begun mid left new → DrawsTyped (a ++ b) front old left new

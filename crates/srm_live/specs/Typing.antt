@@ -41,7 +41,7 @@ bodies_in (TooLong number) = []
 
 -- the pen sent these bodies more
 abbrev pub PenSent : List (List ℕ) → PenView → PenView → Type 0
-PenSent bodies old new = new ≡ record old { sent = old.sent ++ map (stroke_of old.place) bodies }
+PenSent bodies old new = new ≡ record old { sent = old.sent ++ map (stroke_of old.number) bodies }
 
 -- no byte of these is a line end
 abbrev pub HasNoEnd : List ℕ → Type 0

@@ -75,7 +75,7 @@ impl<O: Write, E: Write> Desk<O, E> {
             self.write(rt, line);
             return;
         }
-        // Both may be one terminal: no status is shown until the line stands there.
+        // Both may be one terminal: no activity is shown until the line stands there.
         let mut err = self.err.lock(rt);
         err.wipe();
         self.write(rt, line);
@@ -89,9 +89,9 @@ impl<O: Write, E: Write> Desk<O, E> {
     }
 
     /// Shows what goes on, where standard error is a terminal.
-    pub fn show_line<R: Wait>(&self, rt: &R, status: &str) {
+    pub fn show_line<R: Wait>(&self, rt: &R, activity: &str) {
         if self.has_terminal {
-            self.err.lock(rt).show_line(status);
+            self.err.lock(rt).show_line(activity);
         }
     }
 
@@ -133,7 +133,7 @@ impl<O: Write, E: Write> Desk<O, E> {
         }
     }
 
-    /// Whether standard error is a terminal, on which a status is shown.
+    /// Whether standard error is a terminal, on which its activity is shown.
     pub fn has_terminal(&self) -> bool {
         self.has_terminal
     }

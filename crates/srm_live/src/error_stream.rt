@@ -1,4 +1,4 @@
-//! Standard error of a live member: what is told, and on a terminal the status line, which is written over in place.
+//! Standard error of a live member: what is told, and on a terminal the line of its activity, which is written over in place.
 
 ghost use Rattle.std.specs.Prelude.{◌≡◌, ◌≤◌};
 ghost use Rattle.srm_member.specs.Statuses.{status_of_member};
@@ -13,32 +13,32 @@ const WIPE: &str = "\r\x1b[K";
 #[derive(Drop)]
 pub struct ErrorStream<E> {
     stream: E,
-    // Whether the status stands in the terminal's last line.
-    has_status: bool,
+    // Whether the activity stands in the terminal's last line.
+    has_activity: bool,
 }
 
 impl<E: Write> ErrorStream<E> {
-    /// A stream with no status.
+    /// A stream on which no activity stands.
     pub fn new(stream: E) -> ErrorStream<E> {
         ErrorStream {
             stream,
-            has_status: false,
+            has_activity: false,
         }
     }
 
-    /// Takes the status off its line, so that another line can stand there.
+    /// Takes the activity off its line, so that another line can stand there.
     pub fn wipe(&mut self) {
-        if self.has_status {
+        if self.has_activity {
             self.write(WIPE);
-            self.has_status = false;
+            self.has_activity = false;
         }
     }
 
-    /// Shows a status in place of the one before.
-    pub fn show_line(&mut self, status: &str) {
+    /// Shows an activity in place of the one before.
+    pub fn show_line(&mut self, activity: &str) {
         self.write(WIPE);
-        self.write(status);
-        self.has_status = true;
+        self.write(activity);
+        self.has_activity = true;
     }
 
     /// Prints a fault on a line of its own, and answers its status.

@@ -45,7 +45,10 @@ where
     E: Write + Send + Drop + 'static,
 {
     let own = *rt;
-    match thread::spawn(rt, move || tell_status(&own, alloc, &tally, others, &desk)) {
+    match thread::spawn(
+        rt,
+        move || tell_activity(&own, alloc, &tally, others, &desk),
+    ) {
         Ok(telling) => Some(telling),
         Err(_) => None,
     }
@@ -53,7 +56,7 @@ where
 
 // Shows each second what goes on, in a session of so many others, until the node has ended. A line for which memory is refused
 // is left out.
-fn tell_status<R: Clock + Wait, O: Write, E: Write>(
+fn tell_activity<R: Clock + Wait, O: Write, E: Write>(
     rt: &R,
     alloc: Global,
     tally: &Tally,

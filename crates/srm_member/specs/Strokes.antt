@@ -12,7 +12,7 @@ stroke_of pen body = record { pen = pen; page = first_page; body = body }
 pub record PenSentAllBut (bodies left : List (List ℕ)) (old new : PenView) : Type 0 where
   pub sent : List (List ℕ)
   pub split : bodies ≡ sent ++ left
-  pub is : new ≡ record old { sent = old.sent ++ map (stroke_of old.place) sent }
+  pub is : new ≡ record old { sent = old.sent ++ map (stroke_of old.number) sent }
 
 -- the pen sent a prefix of these bodies
 abbrev pub PenSentPrefix : List (List ℕ) → PenView → PenView → Type 0

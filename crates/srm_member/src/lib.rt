@@ -1,7 +1,7 @@
 //! A member of a session over UDP, as `srm node` runs it.
 //!
 //! ```
-//! let status = match read_node(alloc, words) { // the words behind `srm node`
+//! let status = match read_node(alloc, arguments) { // the arguments behind `srm node`
 //!     Ok(options) => run_node(&rt, options, &mut stdin, &mut stdout, &mut stderr),
 //!     Err(reply) => print_reply(&reply, &mut stdout, &mut stderr),
 //! };

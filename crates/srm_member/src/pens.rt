@@ -112,7 +112,7 @@ pub fn send_stroke<R: time::Clock + Wait>(
     body: Bytes,
     ended: &AtomicBool,
 ) -> bool
-    ensures sent { OnTrue result (pen.new ≡ record pen.old { sent = pen.old.sent ++ stroke_of pen.old.place body ∷ [] }) }
+    ensures sent { OnTrue result (pen.new ≡ record pen.old { sent = pen.old.sent ++ stroke_of pen.old.number body ∷ [] }) }
     ensures ended { OnFalse result (pen.new ≡ pen.old) }
 {
     let mut stroke = Stroke {

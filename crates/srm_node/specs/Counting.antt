@@ -1,11 +1,12 @@
 -- What came to nothing, counted.
-use Rattle.std.specs.Prelude.{ℕ, min, ◌-◌, ◌^◌, ◌==◌, Bool, true, false, ◌&&◌, List, [], ◌∷◌, count_by}
+use Rattle.std.specs.Prelude.{ℕ, min, ◌==◌, Bool, true, false, ◌&&◌, List, [], ◌∷◌, count_by}
 use Rattle.srm_entries.specs.declared.entry.Entry.{Entry}
 use Rattle.srm_entries.specs.declared.entry.Input.{Input}
 use Rattle.srm_entries.specs.declared.entry.Input.TheVariants.{Drew, Noise}
 use Rattle.srm_entries.specs.declared.entry.Verdict.{Verdict}
 use Rattle.srm_entries.specs.declared.entry.Verdict.TheVariants.{Ignored, Refused}
 use Rattle.srm_entries.specs.Causes.{cause_number}
+use Rattle.srm_wire.specs.Wires.{greatest_count}
 use Rattle.srm_node.specs.declared.counting.Counts.{Counts}
 
 abbrev pub is_noise : Input → Bool
@@ -36,9 +37,9 @@ was_ignored number e = ignored_by number e.verdict
 abbrev pub was_dropped : Entry → Bool
 was_dropped e = is_drawn e.input && is_refused e.verdict
 
--- how many entries are such, up to the greatest number of 64 bits
+-- how many entries are such, up to the greatest count
 abbrev pub count_up_to : (Entry → Bool) → List Entry → ℕ
-count_up_to p es = min (count_by p es) (2 ^ 64 - 1)
+count_up_to p es = min (count_by p es) greatest_count
 
 abbrev pub count_ignored_for : List Entry → ℕ → ℕ
 count_ignored_for es number = count_up_to (was_ignored number) es

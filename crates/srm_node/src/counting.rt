@@ -1,6 +1,7 @@
 //! What came to nothing, counted.
 
-ghost use Rattle.std.specs.Prelude.{◌≡◌, ◌+◌, ◌-◌, ◌^◌, min, if◌then◌else◌};
+ghost use Rattle.std.specs.Prelude.{◌≡◌, if◌then◌else◌};
+ghost use Rattle.srm_wire.specs.Wires.{one_more};
 ghost use Rattle.srm_node.specs.Counting.{came_as_noise, was_dropped, was_ignored, count_up_to, counts_of};
 
 use srm_agent::{Entry, Input, Verdict};
@@ -69,7 +70,7 @@ fn all_ignored(entries: &[Entry], number: u8) -> u64
 }
 
 fn counted(count: u64, more: bool) -> u64
-    ensures { result ≡ (if more then min (count + 1) (2 ^ 64 - 1) else count) }
+    ensures { result ≡ (if more then one_more count else count) }
 {
     if more { count.saturating_add(1) } else { count }
 }

@@ -17,7 +17,7 @@ use crate::fault::{NodeFault, OutOfMemory};
 use crate::giving::give_all;
 use crate::limits::{DATAGRAMS_A_TURN, STROKES_A_TURN};
 use crate::listening::listen;
-use crate::pausing::time_to_wait;
+use crate::pausing::time_to_pause;
 use crate::sending::send_all;
 use crate::spare::{Spare, make_spare};
 use crate::ticking::{leave, tick};
@@ -303,7 +303,7 @@ impl<W: Words + Drop, X: Wire + Drop, C: Clock + Drop, P: Past<Entry> + Drop> No
     {
         let now = self.clock.now().min(LATEST_MOMENT);
         let due = lesser(self.recorder.next_due(), self.hand_due());
-        let micros = time_to_wait(self.heard, self.drawn, due, now);
+        let micros = time_to_pause(self.heard, self.drawn, due, now);
         self.wire.pause(micros);
     }
 

@@ -11,7 +11,7 @@ const SHORTEST: u64 = 1_000;
 
 /// How long to pause at a moment after a turn that heard and drew so many, in microseconds: until something is due, at most 10,000. Not at
 /// all after a full turn, since more may be there; and at least 1,000 after one that neither heard nor drew anything.
-pub fn time_to_wait(heard: u8, drawn: u8, due: Option<u64>, now: u64) -> u64 {
+pub fn time_to_pause(heard: u8, drawn: u8, due: Option<u64>, now: u64) -> u64 {
     if heard == DATAGRAMS_A_TURN || drawn == STROKES_A_TURN {
         return 0;
     }

@@ -1,7 +1,7 @@
 //! The command lines of `srm`.
 //!
 //! ```
-//! match read_node(alloc, words) { // the words behind `srm node`
+//! match read_node(alloc, arguments) { // the arguments behind `srm node`
 //!     Ok(options) => run(options),
 //!     Err(reply) => tell(reply),
 //! }

@@ -43,5 +43,5 @@ ends_at asked fs ts vs slot f t all small at at' =
     (ends.0.0, ends.2)
 
 -- the first pen, taken out of all
-pub pen_at : (well : TableId) (pens : List PenView) (p : PenView) → AreNewPens well pens → 0 < length pens → p ≡ slice_index_or pens 0 p → (p.place ≡ 0) × (p.well ≡ well)
-pen_at well pens p new some at = let is = new 0 p (at_place pens 0 p some at) in (ap (λ (q : PenView). q.place) is, ap (λ (q : PenView). q.well) is)
+pub pen_at : (well : TableId) (pens : List PenView) (p : PenView) → AreNewPens well pens → 0 < length pens → p ≡ slice_index_or pens 0 p → (p.number ≡ 0) × (p.well ≡ well)
+pen_at well pens p new some at = let is = new 0 p (at_place pens 0 p some at) in (ap (λ (q : PenView). q.number) is, ap (λ (q : PenView). q.well) is)

@@ -6,7 +6,7 @@ use Rattle.atomic_table.proofs.Lists.{at_set}
 use Rattle.crossbeam_queue.specs.Fifo.{Pushes, Pops, Forks, Merges, Learns}
 use Rattle.srm_pages.specs.declared.stroke.Stroke.{Stroke}
 use Rattle.srm_pages.specs.declared.ink.InkView.{InkView}
-use Rattle.srm_pages.specs.Ink.{ink_view, reader, new_pen, one_more, with_pen, joined_pass, reader_of, pen_of, strokes_of, KnowsPart, FitsInk, IsWellState, PenSends, ReaderReceives}
+use Rattle.srm_pages.specs.Ink.{ink_view, reader, new_pen, with_one_pen_more, with_pen, joined_pass, reader_of, pen_of, strokes_of, KnowsPart, FitsInk, IsWellState, PenSends, ReaderReceives}
 use Rattle.srm_pages.proofs.Views.{All, all_set, all_one, snoc_cases}
 
 pick_append : (b : Bool) (x : Stroke) (l r m : List Stroke) → r ≡ l ++ m → cond b (x ∷ r) r ≡ cond b (x ∷ l) l ++ m
@@ -80,11 +80,11 @@ reads id v may x items views h at =
       refl,
     )
 
-pub next_pen : (id : ℕ) (v : InkView) → v.reads ≡ true → Forks IsWellState id v (one_more v) (new_pen v.made)
+pub next_pen : (id : ℕ) (v : InkView) → v.reads ≡ true → Forks IsWellState id v (with_one_pen_more v) (new_pen v.made)
 next_pen id v may items views h at =
     let my = h.fits id v at in
     let me = my.reader may in
-    let left = one_more v in
+    let left = with_one_pen_more v in
     let right = new_pen v.made in
     let count = length (set views id left) in
     let seat : ℕ → ℕ = λ k. cond (eqb k h.made) count (h.seat k) in

@@ -24,11 +24,11 @@ total f (suc n) = total f n + f n
 
 -- how many drawops the registers of a slot show, of all members together
 unfoldable pub drawops_posted : List ℕ → ℕ → ℕ
-drawops_posted words slot = total (λ member. slice_index words (number_register slot member)) MEMBERS
+drawops_posted registers slot = total (λ member. slice_index registers (number_register slot member)) MEMBERS
 
 -- the registers of a slot show no more drawops than its count has messages behind the first, which opened the page; so the count is raised first
 abbrev pub CountsPosted : List ℕ → ℕ → Type 0
-CountsPosted words slot = drawops_posted words slot ≤ slice_index words (count_register slot) - 1
+CountsPosted registers slot = drawops_posted registers slot ≤ slice_index registers (count_register slot) - 1
 
 -- every register as it is at first
 unfoldable pub zeros : List ℕ
@@ -46,22 +46,22 @@ abbrev pub with_seen : BoardView → ℕ → ℕ → BoardView
 with_seen v i n = board_view v.taps v.slot v.deals v.next (slice_set v.seen i n)
 
 -- What a seat has seen of a register is at most the register. The registers of a slot are what the seat of its tap has. One seat deals, the first
-pub record FitsBoard (seat : ℕ → ℕ) (dealt : ℕ) (words : List ℕ) (id : ℕ) (v : BoardView) : Type 0 where
+pub record FitsBoard (seat : ℕ → ℕ) (dealt : ℕ) (registers : List ℕ) (id : ℕ) (v : BoardView) : Type 0 where
   pub sized : length v.seen ≡ BOARD_REGISTERS
-  pub bound : (i : ℕ) → slice_index v.seen i ≤ slice_index words i
+  pub bound : (i : ℕ) → slice_index v.seen i ≤ slice_index registers i
   pub tap : v.taps ≡ true → (seat v.slot ≡ id) × (v.slot < dealt)
-  pub exact : v.taps ≡ true → (i : ℕ) → i / REGISTERS_A_SLOT ≡ v.slot → slice_index v.seen i ≡ slice_index words i
+  pub exact : v.taps ≡ true → (i : ℕ) → i / REGISTERS_A_SLOT ≡ v.slot → slice_index v.seen i ≡ slice_index registers i
   pub dealer : v.deals ≡ true → (id ≡ 0) × (v.next ≡ dealt)
 
 -- The numbers of drawops fit a u32, a slot shows no more than it counts behind the first, and the registers of slots that have no tap yet are 0
-pub record IsBoardState (words : List ℕ) (views : List BoardView) : Type 0 where
+pub record IsBoardState (registers : List ℕ) (views : List BoardView) : Type 0 where
   pub seat : ℕ → ℕ
   pub dealt : ℕ
-  pub sized : length words ≡ BOARD_REGISTERS
-  pub narrow : (i : ℕ) → i % REGISTERS_A_SLOT ≢ 0 → slice_index words i < 2 ^ 32
-  pub order : (slot : ℕ) → CountsPosted words slot
-  pub blank : (i : ℕ) → dealt ≤ i / REGISTERS_A_SLOT → slice_index words i ≡ 0
-  pub fits : (id : ℕ) (v : BoardView) → get_elem? views id ≡ some v → FitsBoard seat dealt words id v
+  pub sized : length registers ≡ BOARD_REGISTERS
+  pub narrow : (i : ℕ) → i % REGISTERS_A_SLOT ≢ 0 → slice_index registers i < 2 ^ 32
+  pub order : (slot : ℕ) → CountsPosted registers slot
+  pub blank : (i : ℕ) → dealt ≤ i / REGISTERS_A_SLOT → slice_index registers i ≡ 0
+  pub fits : (id : ℕ) (v : BoardView) → get_elem? views id ≡ some v → FitsBoard seat dealt registers id v
 
 abbrev pub BoardState : State ℕ BoardView → Type 0
 BoardState s = IsBoardState s.words s.views

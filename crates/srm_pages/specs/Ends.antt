@@ -84,12 +84,12 @@ pub record WellView : Type 0 where
 abbrev pub new_well : TableId → WellView
 new_well well = record { received = []; nones = 0; well = well; capacity = WELL_STROKES }
 
--- the pen's place among all, what it sent, and into which well
+-- the pen's number among all, what it sent, and into which well
 pub record PenView : Type 0 where
-  pub place : ℕ
+  pub number : ℕ
   pub sent : List Stroke
   pub well : TableId
 
--- the k-th pen is of place k, writes into this well, and sent nothing
+-- the k-th pen is of number k, writes into this well, and sent nothing
 abbrev pub AreNewPens : TableId → List PenView → Type 0
-AreNewPens well pens = (k : ℕ) (p : PenView) → slice_get pens k ≡ Some p → p ≡ record { place = k; sent = []; well = well }
+AreNewPens well pens = (k : ℕ) (p : PenView) → slice_get pens k ≡ Some p → p ≡ record { number = k; sent = []; well = well }

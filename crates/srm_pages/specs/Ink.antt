@@ -12,10 +12,10 @@ abbrev pub reader : InkView
 reader = ink_view true [] 0 false 0 []
 
 abbrev pub new_pen : ℕ → InkView
-new_pen place = ink_view false [] 0 true place []
+new_pen number = ink_view false [] 0 true number []
 
-abbrev pub one_more : InkView → InkView
-one_more v = ink_view v.reads v.received (v.made + 1) v.writes v.pen v.sent
+abbrev pub with_one_pen_more : InkView → InkView
+with_one_pen_more v = ink_view v.reads v.received (v.made + 1) v.writes v.pen v.sent
 
 -- a reader with a pen beside it, what is left of that pen's own pass, and the two parted again
 abbrev pub with_pen : InkView → InkView → InkView

@@ -6,7 +6,7 @@ use crossbeam_queue::{Pass, RuledArrayQueue};
 use std::collections::LinkedList;
 use std::sync::atomic::AtomicU64;
 
-/// What a pass knows: the reader what it received and how many pens were made, a pen its place and what it sent. No value of it is
+/// What a pass knows: the reader what it received and how many pens were made, a pen its number and what it sent. No value of it is
 /// made.
 pub struct InkView {
     pub reads: bool,
@@ -32,9 +32,9 @@ impl Protocol<Stroke, InkView> for WellRule {
 pub struct NextPen;
 
 impl Split<InkView> for NextPen {
-    ghost use Rattle.srm_pages.specs.Ink.{one_more, new_pen};
+    ghost use Rattle.srm_pages.specs.Ink.{with_one_pen_more, new_pen};
 
-    ghost left = { one_more };
+    ghost left = { with_one_pen_more };
 
     ghost right = { λ v. new_pen v.made };
 }

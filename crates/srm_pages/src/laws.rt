@@ -26,9 +26,9 @@ pub fn lane_keeps_its_rule()
 /// A slot's registers are what its tap's seat has, and what any other has seen of them is at most that. The drawops posted there, of all
 /// members together, are no more than the messages counted there behind the first, which opened the page: the count is raised first.
 pub fn board_keeps_its_rule()
-    ensures seen { (words : List ℕ) (views : List BoardView) → IsBoardState words views
+    ensures seen { (registers : List ℕ) (views : List BoardView) → IsBoardState registers views
         → (i j : ℕ) (t v : BoardView) → get_elem? views i ≡ some t → t.taps ≡ true → get_elem? views j ≡ some v
-        → (w : ℕ) → w / REGISTERS_A_SLOT ≡ t.slot → (slice_index t.seen w ≡ slice_index words w) × (slice_index v.seen w ≤ slice_index t.seen w) }
+        → (w : ℕ) → w / REGISTERS_A_SLOT ≡ t.slot → (slice_index t.seen w ≡ slice_index registers w) × (slice_index v.seen w ≤ slice_index t.seen w) }
     ensures order { (board : State ℕ BoardView) → ⟦<BoardRule as TableRule<u8, BoardView, ()>>⟧.holds tt board → (slot : ℕ) → CountsPosted board.words slot }
 {}
 

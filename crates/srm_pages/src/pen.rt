@@ -11,12 +11,12 @@ use std::marker::Model;
 use std::sync::atomic::Ordering;
 use std::sync::{Arc, Wait};
 
-/// A pen, with the token that has what it sent. Contracts see its place and that list.
+/// A pen, with the token that has what it sent. Contracts see its number and that list.
 #[derive(Drop)]
 pub struct Pen {
     pub(crate) ink: Arc<Ink, Global>,
     pub(crate) pass: InkPass,
-    pub(crate) place: u8,
+    pub(crate) number: u8,
 }
 
 impl Model for Pen {
@@ -28,16 +28,16 @@ impl Model for Pen {
     ghost use Rattle.std.specs.Arc.{arc_value};
     ghost use Rattle.crossbeam_queue.specs.Passes.{view as knows, IsPassOf};
 
-    ghost view = { λ p. record { place = p.place; sent = (knows p.pass).sent; well = p.pass.table_id } };
+    ghost view = { λ p. record { number = p.number; sent = (knows p.pass).sent; well = p.pass.table_id } };
 
-    ghost invariant = { λ p. IsPassOf (arc_value p.ink).queue p.pass × ((knows p.pass).writes ≡ true) × ((knows p.pass).pen ≡ p.place) };
+    ghost invariant = { λ p. IsPassOf (arc_value p.ink).queue p.pass × ((knows p.pass).writes ≡ true) × ((knows p.pass).pen ≡ p.number) };
 }
 
 /// A pen that is done. Contracts see it as the pen, with what it sent. No bytes are kept of that.
 #[derive(Drop)]
 pub struct Inked {
     pub(crate) pass: InkPass,
-    pub(crate) place: u8,
+    pub(crate) number: u8,
 }
 
 impl Model for Inked {
@@ -48,22 +48,22 @@ impl Model for Inked {
     ghost use Rattle.std.specs.Prelude.{◌≡◌, [], true};
     ghost use Rattle.crossbeam_queue.specs.Passes.{view as knows};
 
-    ghost view = { λ i. record { place = i.place; sent = (knows i.pass).sent; well = i.pass.table_id } };
+    ghost view = { λ i. record { number = i.number; sent = (knows i.pass).sent; well = i.pass.table_id } };
 
-    ghost invariant = { λ i. (i.pass.me.1 ≡ []) × ((knows i.pass).writes ≡ true) × ((knows i.pass).pen ≡ i.place) };
+    ghost invariant = { λ i. (i.pass.me.1 ≡ []) × ((knows i.pass).writes ≡ true) × ((knows i.pass).pen ≡ i.number) };
 }
 
 impl Pen {
-    /// Its place among all pens, from 0.
+    /// Its number among all pens, from 0.
     pub fn number(&self) -> u8
-        ensures { result ≡ self.now.place }
+        ensures { result ≡ self.now.number }
     {
-        self.place
+        self.number
     }
 
-    /// Sends a stroke, whose `pen` is this pen's place. It comes back if the well was full, and then nothing changed.
+    /// Sends a stroke, whose `pen` is this pen's number. It comes back if the well was full, and then nothing changed.
     pub fn stroke<R: Wait>(&mut self, rt: &R, stroke: Stroke) -> Result<(), Stroke>
-        requires { stroke.pen ≡ self.old.place }
+        requires { stroke.pen ≡ self.old.number }
         ensures ok { OnOk result (self.new ≡ record self.old { sent = self.old.sent ++ stroke ∷ [] }) }
         ensures err { IfErr result (λ back. (back ≡ stroke) × (self.new ≡ self.old)) }
     {
@@ -74,9 +74,9 @@ impl Pen {
     pub fn done(self) -> Inked
         ensures { result ≡ self }
     {
-        let Pen { ink, pass, place } = self;
+        let Pen { ink, pass, number } = self;
         ink.open.fetch_sub(1, Ordering::SeqCst);
-        Inked { pass, place }
+        Inked { pass, number }
     }
 }
 

@@ -3,7 +3,7 @@
 use bytes::Bytes;
 use srm_names::Page;
 
-/// What a local pen drew: the pen's place among all, the page, and the bytes.
+/// What a local pen drew: the pen's number among all, the page, and the bytes.
 #[derive(Debug, Drop, PartialEq, Eq)]
 pub struct Stroke {
     pub pen: u8,

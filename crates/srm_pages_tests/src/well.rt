@@ -33,7 +33,7 @@ fn stroke_of(pen: u8, number: u16) -> Option<Stroke>
 
 /// Sends a stroke, again each time that it comes back.
 fn send_one<R: Wait>(rt: &R, pen: &mut Pen, mut stroke: Stroke)
-    requires { stroke.pen ≡ pen.old.place }
+    requires { stroke.pen ≡ pen.old.number }
 {
     for _ in rt.forever() {
         match pen.stroke(rt, stroke) {
@@ -164,15 +164,15 @@ fn a_stroke_of_each_pen_comes_with_and_without_a_body(rt: HostRuntime) -> Result
 /// The pen of place 0.
 fn first_pen(pens: &mut Vec<Pen>, well: &ends::Well) -> Pen
     requires { (0 < vec_len pens.old) × AreNewPens well.now.well pens.old.items }
-    ensures { (result.place ≡ 0) × (result.well ≡ well.now.well) }
+    ensures { (result.number ≡ 0) × (result.well ≡ well.now.well) }
 {
     pens.remove(0)
 }
 
 /// Whether a stroke of the first pen goes in.
 fn goes_in<R: Wait>(rt: &R, pen: &mut Pen) -> Option<bool>
-    requires { pen.old.place ≡ 0 }
-    ensures { (pen.new.place ≡ 0) × (pen.new.well ≡ pen.old.well) }
+    requires { pen.old.number ≡ 0 }
+    ensures { (pen.new.number ≡ 0) × (pen.new.well ≡ pen.old.well) }
 {
     let stroke = stroke_of(0, 0)?;
     Some(pen.stroke(rt, stroke).is_ok())

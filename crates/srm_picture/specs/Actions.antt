@@ -12,7 +12,7 @@ use Rattle.srm_entries.specs.Effects.{becomes_gone}
 use Rattle.srm_picture.specs.declared.action.LocalActionKind.{LocalActionKind}
 use Rattle.srm_picture.specs.declared.action.LocalActionKind.TheVariants.{Drew, Gave, Took, Other, Gone}
 use Rattle.srm_picture.specs.declared.action.LocalAction.{LocalAction}
-use Rattle.srm_picture.specs.Rows.{by_entry, point_of}
+use Rattle.srm_picture.specs.ByEntry.{by_entry, point_of}
 
 -- a message of a slot, which may be no drawop
 abbrev pub message_kind : LocalActionKind → Option PageMsg → Option LocalActionKind

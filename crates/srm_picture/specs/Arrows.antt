@@ -16,7 +16,7 @@ use Rattle.srm_picture.specs.declared.arrow.ArrowEnd.{ArrowEnd}
 use Rattle.srm_picture.specs.declared.arrow.ArrowEnd.TheVariants.{Accepted, Ignored, Lost}
 use Rattle.srm_picture.specs.declared.arrow.Arrow.{Arrow}
 use Rattle.srm_picture.specs.declared.point.Point.{Point}
-use Rattle.srm_picture.specs.Rows.{by_entry, point_of}
+use Rattle.srm_picture.specs.ByEntry.{by_entry, point_of}
 
 abbrev pub launch : Point → ℕ × Datagram → Launch
 launch place p = record { from = place; nth = p.0; kind = kind_of p.1 }

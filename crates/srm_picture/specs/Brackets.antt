@@ -18,7 +18,7 @@ use Rattle.srm_picture.specs.declared.bracket.TimerEnd.TheVariants.{RanOut, Back
 use Rattle.srm_picture.specs.declared.bracket.BracketEnd.{BracketEnd}
 use Rattle.srm_picture.specs.declared.bracket.Bracket.{Bracket}
 use Rattle.srm_picture.specs.declared.point.Point.{Point}
-use Rattle.srm_picture.specs.Rows.{by_entry, point_of}
+use Rattle.srm_picture.specs.ByEntry.{by_entry, point_of}
 
 -- the names that the entry hands out as requests, or as repairs
 abbrev pub handed_out : ArmKind → Entry → List FullName
@@ -53,7 +53,7 @@ abbrev pub ending_in : Bool → Arm → Entry → Option TimerEnd
 ending_in itself a e = if itself then ends_itself e else ends_later a e
 
 abbrev pub ended_at : ℕ → TimerEnd → BracketEnd
-ended_at row ending = record { entry = row; ending = ending }
+ended_at index ending = record { entry = index; ending = ending }
 
 abbrev pub ended_in : Point → Arm → ℕ × Entry → Option BracketEnd
 ended_in place a r =

@@ -3,5 +3,5 @@ pub mod Brackets
 pub mod Escaping
 pub mod Examples
 pub mod Pictures
-pub mod Rows
+pub mod ByEntry
 pub mod Actions

@@ -37,21 +37,25 @@ pub(crate) fn actions(alloc: Global, entries: &[Entry]) -> Result<Vec<LocalActio
     ensures { IfOk result (λ actions. actions.items ≡ actions_in entries.now) }
 {
     let mut actions = Vec::new(alloc);
-    for (row, entry) in entries.iter().enumerate() {
-        push_action(&mut actions, row, entry)?;
+    for (index, entry) in entries.iter().enumerate() {
+        push_action(&mut actions, index, entry)?;
     }
     Ok(actions)
 }
 
 /// Adds what an entry has for its lifeline, if there is something.
-fn push_action(actions: &mut Vec<LocalAction>, row: usize, entry: &Entry) -> Result<(), AllocError>
-    ensures { OnOk result (actions.new.items ≡ actions.old.items ++ actions_at (row, entry.now)) }
+fn push_action(
+    actions: &mut Vec<LocalAction>,
+    index: usize,
+    entry: &Entry,
+) -> Result<(), AllocError>
+    ensures { OnOk result (actions.new.items ≡ actions.old.items ++ actions_at (index, entry.now)) }
 {
     match kind_in(entry) {
         None => Ok(()),
         Some(kind) => Ok(actions.push(LocalAction {
             at: Point {
-                entry: row,
+                entry: index,
                 member: entry.member,
             },
             nth: entry.effects.outs.as_slice().len(),

@@ -15,9 +15,9 @@ pub(crate) fn launches(alloc: Global, entries: &[Entry]) -> Result<Vec<Launch>, 
     ensures { IfOk result (λ launches. launches.items ≡ launches_in entries.now) }
 {
     let mut launches = Vec::new(alloc);
-    for (row, entry) in entries.iter().enumerate() {
+    for (index, entry) in entries.iter().enumerate() {
         let from = Point {
-            entry: row,
+            entry: index,
             member: entry.member,
         };
         launches.append(&mut launched(alloc, &from, entry.effects.outs.as_slice())?)?;

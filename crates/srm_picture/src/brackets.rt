@@ -16,9 +16,9 @@ pub(crate) fn brackets(alloc: Global, entries: &[Entry]) -> Result<Vec<Bracket>,
     ensures { IfOk result (λ brackets. brackets.items ≡ brackets_in entries.now) }
 {
     let mut brackets = Vec::new(alloc);
-    for (row, entry) in entries.iter().enumerate() {
+    for (index, entry) in entries.iter().enumerate() {
         let from = Point {
-            entry: row,
+            entry: index,
             member: entry.member,
         };
         brackets.append(&mut brackets_from(alloc, entries, &from, entry.effects.arms.as_slice())?)?;
@@ -58,23 +58,26 @@ fn bracket_of(entries: &[Entry], from: &Point, nth: usize, arm: &Arm) -> Bracket
 fn end_of(entries: &[Entry], from: &Point, arm: &Arm) -> Option<BracketEnd>
     ensures { result ≡ end_in entries.now from.now arm.now }
 {
-    for (row, entry) in entries.iter().enumerate() {
-        if let Some(ended) = ended_in(row, entry, from, arm) {
+    for (index, entry) in entries.iter().enumerate() {
+        if let Some(ended) = ended_in(index, entry, from, arm) {
             return Some(ended);
         }
     }
     None
 }
 
-/// That the entry in this row ends a timer, if it does.
-fn ended_in(row: usize, entry: &Entry, from: &Point, arm: &Arm) -> Option<BracketEnd>
-    ensures { result ≡ how_ended_in from.now arm.now (row, entry.now) }
+/// That the entry of this index ends a timer, if it does.
+fn ended_in(index: usize, entry: &Entry, from: &Point, arm: &Arm) -> Option<BracketEnd>
+    ensures { result ≡ how_ended_in from.now arm.now (index, entry.now) }
 {
-    if row < from.entry || entry.member != from.member {
+    if index < from.entry || entry.member != from.member {
         return None;
     }
-    let ending = ending_in(entry, arm, row == from.entry)?;
-    Some(BracketEnd { entry: row, ending })
+    let ending = ending_in(entry, arm, index == from.entry)?;
+    Some(BracketEnd {
+        entry: index,
+        ending,
+    })
 }
 
 /// How an entry ends a timer, if it does. The one that sets it ends it only as the member goes.

@@ -5,8 +5,8 @@ mod labels;
 mod legend;
 mod shapes;
 
+use crate::layout::Layout;
 use crate::picture::Picture;
-use crate::plan::Plan;
 use crate::subject::Subject;
 use std::alloc::Global;
 use std::io;
@@ -19,13 +19,13 @@ pub fn write_svg<W: Write>(
     subject: &Subject<'_>,
     picture: &Picture,
 ) -> io::Result<()> {
-    let plan = Plan::of(alloc, subject, picture)?;
-    frame::write_head(out, subject, &plan)?;
-    frame::write_moments(out, subject, &plan)?;
-    frame::write_lifelines(out, subject, picture, &plan)?;
-    shapes::write_brackets(alloc, out, subject, picture, &plan)?;
-    shapes::write_arrows(alloc, out, subject, picture, &plan)?;
-    labels::write_datagrams(out, subject, picture, &plan)?;
-    labels::write_notches(alloc, out, subject, picture, &plan)?;
-    legend::write_legend(out, &plan)
+    let layout = Layout::of(alloc, subject, picture)?;
+    frame::write_head(out, subject, &layout)?;
+    frame::write_moments(out, subject, &layout)?;
+    frame::write_lifelines(out, subject, picture, &layout)?;
+    shapes::write_brackets(alloc, out, subject, picture, &layout)?;
+    shapes::write_arrows(alloc, out, subject, picture, &layout)?;
+    labels::write_datagrams(out, subject, picture, &layout)?;
+    labels::write_notches(alloc, out, subject, picture, &layout)?;
+    legend::write_legend(out, &layout)
 }

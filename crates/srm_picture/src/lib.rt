@@ -18,8 +18,8 @@ mod bracket;
 mod brackets;
 mod drawing;
 mod escaping;
+mod layout;
 mod picture;
-mod plan;
 mod point;
 mod subject;
 

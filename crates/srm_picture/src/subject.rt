@@ -15,8 +15,8 @@ pub struct Subject<'a> {
 
 impl Subject<'_> {
     /// The lines of an entry.
-    pub fn lines_of(&self, row: usize) -> &[u8] {
-        match self.lines.get(row) {
+    pub fn lines_of(&self, index: usize) -> &[u8] {
+        match self.lines.get(index) {
             Some(lines) => lines.as_slice(),
             None => &[],
         }

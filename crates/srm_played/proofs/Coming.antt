@@ -20,9 +20,9 @@ use Rattle.srm_world.specs.Traces.{of_member}
 use Rattle.srm_world.specs.Events.{required_input, input_heard, input_of, in_slot, member_of}
 use Rattle.srm_picture.specs.declared.arrow.Arrival.{Arrival}
 use Rattle.srm_picture.specs.declared.point.Point.{Point}
-use Rattle.srm_picture.specs.Rows.{by_entry, point_of}
+use Rattle.srm_picture.specs.ByEntry.{by_entry, point_of}
 use Rattle.srm_picture.specs.Arrows.{IsComing, IsArrival, AreArrivals, something_comes, coming_in}
-use Rattle.srm_picture.proofs.Rows.{enumerate_from-append}
+use Rattle.srm_picture.proofs.ByEntry.{enumerate_from-append}
 use Rattle.srm_played.specs.Plays.{came, arrival_in, delivered_number}
 
 length-steps_after : {X : Type 0} (before xs : List X) → length (steps_after before xs) ≡ length xs
@@ -123,11 +123,11 @@ brings es (Take member slot) number input n e = absurd (cc)
 
 -- one entry more
 
-come_one : (row : ℕ) (e : Entry) → something_comes e.input ≡ true → coming_in (row, e) ≡ point_of (row, e) ∷ []
-come_one row e some = ap (λ b. cond b (point_of (row, e) ∷ []) []) some
+come_one : (index : ℕ) (e : Entry) → something_comes e.input ≡ true → coming_in (index, e) ≡ point_of (index, e) ∷ []
+come_one index e some = ap (λ b. cond b (point_of (index, e) ∷ []) []) some
 
-come_none : (row : ℕ) (e : Entry) → something_comes e.input ≡ false → coming_in (row, e) ≡ []
-come_none row e none = ap (λ b. cond b (point_of (row, e) ∷ []) []) none
+come_none : (index : ℕ) (e : Entry) → something_comes e.input ≡ false → coming_in (index, e) ≡ []
+come_none index e none = ap (λ b. cond b (point_of (index, e) ∷ []) []) none
 
 right_one : (es : List Entry) (e : Entry) (hs : List Arrival) (number : ℕ) → Brings es number e.input → AreArrivals es hs → AreArrivals (es ++ e ∷ []) (hs ++ arrival_in (length es, e) number ∷ [])
 right_one es e hs number b all = record {

@@ -8,7 +8,7 @@ use Rattle.srm_world.specs.declared.event.Event.TheVariants.{Deliver}
 use Rattle.srm_world.specs.Traces.{Trace}
 use Rattle.srm_world.specs.Events.{FollowsOne}
 use Rattle.srm_picture.specs.declared.arrow.Arrival.{Arrival}
-use Rattle.srm_picture.specs.Rows.{point_of}
+use Rattle.srm_picture.specs.ByEntry.{point_of}
 use Rattle.srm_picture.specs.Arrows.{is_done}
 
 -- what happened, and which datagrams came in which entries

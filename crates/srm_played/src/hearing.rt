@@ -22,12 +22,12 @@ pub(crate) fn advance(
     ensures arrivals { OnErr result (arrivals.new.items ≡ arrivals.old.items) }
 {
     let number = number_of(&event);
-    let row = world.trace().entries().len();
+    let index = world.trace().entries().len();
     arrivals.reserve(1)?;
     if !world.apply(event)? {
         return Ok(false);
     }
-    note(arrivals, number, row, &world.trace().entries()[row]);
+    note(arrivals, number, index, &world.trace().entries()[index]);
     Ok(true)
 }
 
@@ -42,9 +42,9 @@ fn number_of(event: &Event) -> Option<usize>
 }
 
 /// Notes that the datagram with this number came in an entry, where there is a number. There is room for it.
-fn note(arrivals: &mut Vec<Arrival>, number: Option<usize>, row: usize, entry: &Entry)
+fn note(arrivals: &mut Vec<Arrival>, number: Option<usize>, index: usize, entry: &Entry)
     requires { vec_len arrivals.old < vec_capacity arrivals.old }
-    ensures { arrivals.new.items ≡ arrivals.old.items ++ came number (row, entry.now) }
+    ensures { arrivals.new.items ≡ arrivals.old.items ++ came number (index, entry.now) }
 {
     let Some(number) = number else {
         return;
@@ -52,7 +52,7 @@ fn note(arrivals: &mut Vec<Arrival>, number: Option<usize>, row: usize, entry: &
     let _ = arrivals.push(Arrival {
         number,
         at: Point {
-            entry: row,
+            entry: index,
             member: entry.member,
         },
         accepted: matches!(entry.verdict, Verdict::Done),

@@ -134,7 +134,7 @@ fn another_member_repairs_what_one_that_left_drew(rt: HostRuntime) {
 
 /// A refused event uses no word, or the waits would be others.
 #[test]
-fn words_are_drawn_once(rt: HostRuntime) {
+fn words_are_used_once(rt: HostRuntime) {
     let (script, wanted) = BY_WORDS;
     check(&rt, rt.alloc(), script, wanted);
 }

@@ -14,11 +14,11 @@
 mod fault;
 mod input;
 mod play;
-mod report;
+mod printer;
 mod script;
 
 pub use fault::{ScriptFault, print_fault};
 pub use input::read_input;
 pub use play::{print_newest, run_event, run_script};
-pub use report::{EntryPrinter, PrintedGone, PrintedTake};
+pub use printer::{EntryPrinter, PrintedGone, PrintedTake};
 pub use script::{Script, read_script};

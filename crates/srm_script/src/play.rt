@@ -5,7 +5,7 @@ ghost use Rattle.srm_world.specs.Events.{IsTimely};
 
 use crate::fault::ScriptFault;
 use crate::input::read_input;
-use crate::report::EntryPrinter;
+use crate::printer::EntryPrinter;
 use crate::script::{Script, read_script};
 use srm_timers::Listed;
 use srm_world::{Event, World};

@@ -179,7 +179,7 @@ impl<D: Deadlines> Fixes<D> {
         ensures room { FixPlace self.old name → IsOk result }
     {
         self.make_place(name)?;
-        self.repair(name, dist, now);
+        self.note_repair(name, dist, now);
         Ok(())
     }
 
@@ -246,7 +246,7 @@ impl<D: Deadlines> Fixes<D> {
     }
 
     /// A repair of a name that has room was heard, as in [`heard_repair`](Fixes::heard_repair). Takes no memory.
-    pub fn repair(&mut self, name: Name, dist: &[u64], now: u64)
+    pub fn note_repair(&mut self, name: Name, dist: &[u64], now: u64)
         requires place { FixPlace self.old name }
         requires distances { AreDistances dist.now }
         requires now { now ≤ LATEST_MOMENT }

@@ -2,7 +2,7 @@
 
 use srm_names::LONGEST_DISTANCE;
 
-/// The largest of the four timer settings of a session. A setting says how many distances an end of an interval lies away.
+/// The largest of the four timer settings of a session. A setting says how many distances an end of a range lies away.
 pub const GREATEST_TIMER_SETTING: u8 = 16;
 
 /// The greatest exponent: a wait is doubled at most so often.

@@ -38,13 +38,17 @@ abbrev pub is_failed : List (Option (List ℕ)) → Bool
 is_failed [] = true
 is_failed (_ ∷ _) = false
 
--- one failure more, up to the greatest count there is
+-- the greatest count there is, that of 64 bits
+abbrev pub greatest_count : ℕ
+greatest_count = 2 ^ 64 - 1
+
+-- one more, up to the greatest count
 abbrev pub one_more : ℕ → ℕ
-one_more count = min (count + 1) (2 ^ 64 - 1)
+one_more count = min (count + 1) greatest_count
 
 -- the count rose, or stands at the greatest there is
 abbrev pub RoseOrFull : ℕ → ℕ → Type 0
-RoseOrFull old new = (old < new) ⊎ (2 ^ 64 - 1 ≤ new)
+RoseOrFull old new = (old < new) ⊎ (greatest_count ≤ new)
 
 -- nothing lowers the count; it rose, or stands at the greatest, where a call failed
 abbrev pub CountsIf : Bool → ℕ → ℕ → Type 0
@@ -87,4 +91,4 @@ SendsEach {W} Sends failed (sent ∷ more) old new = (between : W) × (lost : Bo
 
 -- the failures of a wire and some more, up to the greatest there is
 abbrev pub counted_with : ℕ → ℕ → ℕ
-counted_with below own = min (below + own) (2 ^ 64 - 1)
+counted_with below own = min (below + own) greatest_count

@@ -159,26 +159,26 @@ once_or_twice false = refl
 pub at_rest : AtRest trace.entries 0 1 first_page
 at_rest = record {
   one = record {
-    report = report_of_1;
+    session_message = report_of_1;
     before = draws_one ∷ sends ∷ hears ∷ hears_report ∷ [];
     sending = answers;
     after = hears_back ∷ [];
     split = refl;
     of_k = refl;
     sent = (0, lit< tt, refl);
-    is_report = (refl, refl, refl);
+    is_session_message = (refl, refl, refl);
     came = (0, lit< tt, refl);
     same = λ source. refl;
   };
   other = record {
-    report = report_of_0;
+    session_message = report_of_0;
     before = draws_one ∷ [];
     sending = sends;
     after = hears ∷ hears_report ∷ answers ∷ hears_back ∷ [];
     split = refl;
     of_k = refl;
     sent = (1, lit< tt, refl);
-    is_report = (refl, refl, refl);
+    is_session_message = (refl, refl, refl);
     came = (1, lit< tt, refl);
     same = λ source. once_or_twice (same_stream (stream_on source first_page) first_stream);
   };

@@ -21,7 +21,7 @@ use Rattle.srm_entries.proofs.Drawing.{drawn_once}
 use Rattle.srm_entries.proofs.Reporting.{Reports, report_sent, known_after_tick, hearer_knows}
 use Rattle.srm_world.specs.declared.start.Start.{Start}
 use Rattle.srm_world.specs.Traces.{of_member, IsRunOf, IsHonest}
-use Rattle.srm_world.specs.Claims.{IsReportOn, HeardLast, AtRest, RestLaw}
+use Rattle.srm_world.specs.Claims.{IsSessionMessageOn, HeardLast, AtRest, RestLaw}
 use Rattle.srm_world.proofs.Members.{MemberRun, of_member-append, of_member-own, run_of_entry}
 use Rattle.srm_world.proofs.Honesty.{held_was_drawn}
 use Rattle.srm_world.proofs.Holding.{held_under, held_known, held_to_known}
@@ -39,7 +39,7 @@ heard_later m es before after e h q has =
     (Has-back h (of_member m before) (of_member m (e ∷ []) ++ of_member m after) (Has-back h (of_member m (e ∷ [])) (of_member m after) has))
 
 reported : (starts : List Start) (es : List Entry) (m k source : ℕ) (page : Page) (before after : List Entry) (e : Entry) (g : Datagram) → MemberRun k es → es ≡ before ++ e ∷ after → e.member ≡ k
-    → Has g e.effects.outs → IsReportOn k page g → Has (Some g) (map accepted (of_member m after))
+    → Has g e.effects.outs → IsSessionMessageOn k page g → Has (Some g) (map accepted (of_member m after))
     → known (of_member k (before ++ e ∷ [])) (stream_on source page) ≤ known (of_member m es) (stream_on source page)
 reported starts es m k source page before after e (Data d) r q of out is came = absurd is
 reported starts es m k source page before after e (Request sender name mask) r q of out is came = absurd is
@@ -66,8 +66,8 @@ knows_as_much starts es m k page run h source =
     let here : Has h.sending es = subst (λ xs. Has h.sending xs) (sym h.split) (Has-back h.sending h.before (h.sending ∷ h.after) (inl refl)) in
     let r : MemberRun k es = subst (λ w. MemberRun w es) h.of_k (run_of_entry starts es h.sending run here) in
     subst (λ n. n ≤ known (of_member m es) (stream_on source page)) (h.same source)
-    (reported starts es m k source page h.before h.after h.sending h.report r h.split h.of_k
-    (Has-contained h.report h.sending.effects.outs h.sent) h.is_report (Has-contained (Some h.report) (map accepted (of_member m h.after)) h.came))
+    (reported starts es m k source page h.before h.after h.sending h.session_message r h.split h.of_k
+    (Has-contained h.session_message h.sending.effects.outs h.sent) h.is_session_message (Has-contained (Some h.session_message) (map accepted (of_member m h.after)) h.came))
 
 -- what two members hold under one name is the same
 

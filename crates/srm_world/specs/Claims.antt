@@ -31,21 +31,21 @@ abbrev pub TakesLaw : Type 0
 TakesLaw = (t : Trace) → IsRun t → IsHonest t.entries → TakesAreDrawn t.entries
 
 -- a session message of the member that isn't a farewell, for this page
-abbrev pub IsReportOn : ℕ → Page → Datagram → Type 0
-IsReportOn m page (Session sender sent farewell shown rows echoes) = (sender ≡ m) × (farewell ≡ false) × (shown ≡ page)
-IsReportOn m page _ = ⊥
+abbrev pub IsSessionMessageOn : ℕ → Page → Datagram → Type 0
+IsSessionMessageOn m page (Session sender sent farewell shown rows echoes) = (sender ≡ m) × (farewell ≡ false) × (shown ≡ page)
+IsSessionMessageOn m page _ = ⊥
 
--- m heard a report of k on the page, since whose sending k has come to know of nothing more there
+-- m heard a session message of k on the page, since whose sending k has come to know of nothing more there
 pub record HeardLast (es : List Entry) (m k : ℕ) (page : Page) : Type 0 where
-  pub report : Datagram
+  pub session_message : Datagram
   pub before : List Entry
   pub sending : Entry
   pub after : List Entry
   pub split : es ≡ before ++ sending ∷ after
   pub of_k : sending.member ≡ k
-  pub sent : Contains sending.effects.outs report
-  pub is_report : IsReportOn k page report
-  pub came : Contains (map accepted (of_member m after)) (Some report)
+  pub sent : Contains sending.effects.outs session_message
+  pub is_session_message : IsSessionMessageOn k page session_message
+  pub came : Contains (map accepted (of_member m after)) (Some session_message)
   pub same : (source : ℕ) → known (of_member k (before ++ sending ∷ [])) (stream_on source page) ≡ known (of_member k es) (stream_on source page)
 
 abbrev pub NoneMissingOn : List Entry → Page → Type 0

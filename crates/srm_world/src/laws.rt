@@ -14,8 +14,8 @@ pub fn rests()
     ensures { RestLaw }
 {}
 
-/// Every honest run of all members has all laws: of these two, and that each member answers in time, gives what is released to it and keeps
-/// its rate. So whoever shows that entries are an honest run, whatever made them, has the laws of them.
+/// Every honest run of all members has all laws: of these two, and that each member asks and repairs in time, gives what is released to it
+/// and keeps its rate. So whoever shows that entries are an honest run, whatever made them, has the laws of them.
 pub fn honest_runs_are_lawful()
     ensures { LawfulLaw }
 {}

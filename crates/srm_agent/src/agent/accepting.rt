@@ -1,4 +1,4 @@
-//! Taking data and repairs.
+//! Accepting data and repairs.
 
 ghost use Rattle.std.specs.Prelude.{◌≡◌, [], ◌∷◌, Ok, IfOk, OnErr, true};
 ghost use Rattle.srm_names.specs.Names.{ascending, name_below};
@@ -15,7 +15,7 @@ use srm_timers::Words;
 use std::alloc::AllocError;
 
 impl<W: Words + Drop> Agent<W> {
-    /// Takes a drawop: data, or a repair by this member.
+    /// Accepts a drawop: data, or a repair by this member.
     pub(super) fn accept_drawop(
         &mut self,
         drawop: Drawop,

@@ -1,4 +1,4 @@
-//! Taking requests.
+//! Accepting requests.
 
 ghost use Rattle.std.specs.Prelude.{◌≡◌, Ok, IfOk, OnErr, true};
 ghost use Rattle.srm_names.specs.Names.{ascending, name_below};
@@ -17,7 +17,7 @@ use srm_timers::Words;
 use std::alloc::AllocError;
 
 impl<W: Words + Drop> Agent<W> {
-    /// Takes a request for these names.
+    /// Accepts a request for these names.
     pub(super) fn accept_request(
         &mut self,
         sender: Member,

@@ -1,4 +1,4 @@
-//! Taking session messages.
+//! Accepting session messages.
 
 ghost use Rattle.std.specs.Prelude.{◌≡◌, Ok, IfOk, OnErr, true};
 ghost use Rattle.srm_names.specs.Names.{ascending, name_below};
@@ -19,7 +19,7 @@ use srm_timers::Words;
 use std::alloc::AllocError;
 
 impl<W: Words + Drop> Agent<W> {
-    /// Takes a session message with these names.
+    /// Accepts a session message with these names.
     pub(super) fn accept_session(
         &mut self,
         datagram: Datagram,

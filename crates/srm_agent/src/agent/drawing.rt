@@ -9,7 +9,7 @@ ghost use Rattle.srm_bucket.specs.Calls.{Handed};
 ghost use Rattle.srm_bucket.specs.Fits.{Adds};
 ghost use Rattle.srm_bucket.specs.Waiting.{Gains};
 ghost use Rattle.srm_entries.specs.declared.entry.Entry.{Entry as AnEntry};
-ghost use Rattle.srm_entries.specs.Configs.{Config as Settings};
+ghost use Rattle.srm_entries.specs.Configs.{Config as AConfig};
 ghost use Rattle.srm_names.specs.Names.{stream_on};
 ghost use Rattle.srm_entries.specs.Verdicts.{first_cause};
 ghost use Rattle.srm_entries.specs.Entries.{known};
@@ -115,7 +115,7 @@ impl<W: Words + Drop> Agent<W> {
 
     /// The name of this member's next drawop on a page, and `None` where the stream is full. All that it drew there is known.
     fn next_name(&self, page: &Page) -> Option<Name>
-        ensures value { (c : Settings) (made : ℕ) (past : List AnEntry) → Fits c made past self.now → result ≡ name_after (stream_on c.me page.now) (known past (stream_on c.me page.now)) }
+        ensures value { (c : AConfig) (made : ℕ) (past : List AnEntry) → Fits c made past self.now → result ≡ name_after (stream_on c.me page.now) (known past (stream_on c.me page.now)) }
         ensures own { IfSome result (λ name. name.stream.source ≡ self.now.config.me) }
     {
         let stream = Stream {

@@ -22,9 +22,9 @@ pub(super) struct Due {
     /// The requests and the repairs for them.
     pub due_items: VecDeque<DueItem>,
     /// What a member that is leaving ends with, once no data of its own waits.
-    pub farewell: Option<DueMessage>,
+    pub farewell: Option<DueSessionMessage>,
     /// The session message, where one is due.
-    pub report: Option<DueMessage>,
+    pub report: Option<DueSessionMessage>,
 }
 
 /// What a tick hands out.
@@ -50,7 +50,7 @@ impl HandedOut {
 
 /// A session message or a farewell.
 #[derive(Drop)]
-pub(super) struct DueMessage {
+pub(super) struct DueSessionMessage {
     pub outgoing: Outgoing,
     /// When the next one is due after it, in microseconds.
     pub next: u64,
@@ -98,7 +98,7 @@ impl<W: Words + Drop> Agent<W> {
         is_wanted: bool,
         farewell: bool,
         moment: u64,
-    ) -> Result<Option<DueMessage>, AllocError>
+    ) -> Result<Option<DueSessionMessage>, AllocError>
         requires { moment ≤ LATEST_MOMENT }
         ensures { IfOk result (IsReportIf is_wanted self.now moment farewell) }
     {
@@ -110,13 +110,13 @@ impl<W: Words + Drop> Agent<W> {
     }
 
     /// The session message or the farewell of a moment. Only want of memory refuses it.
-    fn report_at(&self, farewell: bool, moment: u64) -> Result<DueMessage, AllocError>
+    fn report_at(&self, farewell: bool, moment: u64) -> Result<DueSessionMessage, AllocError>
         requires { moment ≤ LATEST_MOMENT }
         ensures { IfOk result (IsSessionMessageAt self.now moment farewell) }
     {
         let outgoing = self.report(farewell, moment)?;
         let next = moment + self.session_interval(&outgoing.out.datagram);
-        Ok(DueMessage { outgoing, next })
+        Ok(DueSessionMessage { outgoing, next })
     }
 
     /// The requests for names, and then the repairs of those of the others that are held: spelled, each with the class that it has

@@ -189,8 +189,8 @@ impl<W: Words + Drop> Agent<W> {
         }
     }
 
-    /// Takes a datagram with these names, once the store has room for them. Their pages have slots there, since they have them in
-    /// the page table.
+    /// Accepts a datagram with these names, once the store has room for them. Their pages have slots there, since they have them
+    /// in the page table.
     fn accept(
         &mut self,
         datagram: Datagram,
@@ -217,7 +217,7 @@ impl<W: Words + Drop> Agent<W> {
         }
     }
 
-    /// Takes a datagram with these names, for which the store has room.
+    /// Accepts a datagram with these names, for which the store has room.
     #[tactic(auto, using(crate::proofs::Taken::may_carry))]
     fn accept_ready(
         &mut self,

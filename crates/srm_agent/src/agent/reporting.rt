@@ -6,7 +6,7 @@ ghost use Rattle.srm_names.specs.declared.limits.TheConstants.{LATEST_MOMENT, ME
 ghost use Rattle.srm_names.specs.Names.{named, stream_on};
 ghost use Rattle.srm_codec.specs.declared.datagram.Datagram.TheVariants.{Session};
 ghost use Rattle.srm_codec.specs.Spelling.{IsSpellable, is_page};
-ghost use Rattle.srm_entries.specs.Configs.{Config as Settings};
+ghost use Rattle.srm_entries.specs.Configs.{Config as AConfig};
 ghost use Rattle.srm_agent.specs.declared.agent.reporting.TheConstants.{LONGEST_INTERVAL, LONGEST_SESSION_MESSAGE};
 ghost use Rattle.srm_entries.specs.declared.entry.Entry.{Entry as AnEntry};
 ghost use Rattle.srm_agent.specs.Fits.{Fits};
@@ -15,17 +15,19 @@ ghost use Rattle.srm_entries.specs.Sessions.{members_remaining, session_interval
 
 use super::Agent;
 use srm_agent_state::{member, page_in_range, stream_in_range};
-use srm_codec::{Datagram, ECHO_BYTES, HEAD_BYTES, NAME_BYTES, SESSION_MESSAGE_BYTES, length};
+use srm_codec::{
+    Datagram, ECHO_BYTES, HEAD_BYTES, LONGEST_LIST, NAME_BYTES, SESSION_MESSAGE_BYTES, length,
+};
 use srm_entries::{SECOND, SESSION_SHARE, SHORTEST_INTERVAL};
 use srm_names::{Echo, Items, MEMBERS, Member, Name, Page, Stream};
 use srm_outbox::Outgoing;
 use srm_timers::Words;
 use std::alloc::{AllocError, Global};
 
-/// No datagram has more bytes: 255 rows and 255 echoes.
+/// No datagram has more bytes: as many rows and echoes as it may have.
 const LONGEST_SESSION_MESSAGE: usize = HEAD_BYTES
     + SESSION_MESSAGE_BYTES
-    + 255 * (NAME_BYTES + ECHO_BYTES);
+    + LONGEST_LIST as usize * (NAME_BYTES + ECHO_BYTES);
 
 /// No interval is longer, in microseconds: that of 32 members at one byte a second.
 pub const LONGEST_INTERVAL: u64 = SESSION_SHARE
@@ -146,7 +148,7 @@ impl<W: Words + Drop> Agent<W> {
     /// How long after a session message the next one is due, in microseconds.
     pub(super) fn session_interval(&self, report: &Datagram) -> u64
         requires { IsSpellable report.now }
-        ensures value { (c : Settings) (made : ℕ) (past : List AnEntry) → Fits c made past self.now → result ≡ session_interval c past report.now }
+        ensures value { (c : AConfig) (made : ℕ) (past : List AnEntry) → Fits c made past self.now → result ≡ session_interval c past report.now }
         ensures longest { result ≤ LONGEST_INTERVAL }
     {
         interval_after(self.members_remaining(), length(report), self.config.rate())
@@ -154,7 +156,7 @@ impl<W: Words + Drop> Agent<W> {
 
     /// How many members of the roster aren't known to have left, this one among them.
     fn members_remaining(&self) -> u8
-        ensures value { (c : Settings) (made : ℕ) (past : List AnEntry) → Fits c made past self.now → result ≡ members_remaining c past }
+        ensures value { (c : AConfig) (made : ℕ) (past : List AnEntry) → Fits c made past self.now → result ≡ members_remaining c past }
         ensures few { result ≤ MEMBERS }
     {
         let mut count = 0;

@@ -7,10 +7,10 @@ ghost use Rattle.srm_bucket.specs.Fits.{Stays as BucketStays};
 ghost use Rattle.srm_bucket.specs.Waiting.{HasLength, SameQueues, count_of};
 ghost use Rattle.srm_outbox.specs.Outs.{IsOwn, AreOwn};
 ghost use Rattle.srm_outbox.specs.Outbox.{NothingWent};
-ghost use Rattle.srm_agent.specs.Ticking.{SendsAll, data_waits, last_message, state_after, due_then};
+ghost use Rattle.srm_agent.specs.Ticking.{SendsAll, data_waits, session_message_at_end, state_after, due_then};
 
 use super::Agent;
-use super::due::DueMessage;
+use super::due::DueSessionMessage;
 use srm_bucket::{Bucket, Class};
 use srm_entries::AgentState;
 use srm_outbox::{DueItem, Outgoing, Went, hand_in, let_go};
@@ -54,19 +54,19 @@ impl<W: Words + Drop> Agent<W> {
     /// Ends a tick: a member that is leaving is gone once no data of its own waits. Answers what goes at last, under no rate.
     pub(super) fn end(
         &mut self,
-        farewell: Option<DueMessage>,
-        report: Option<DueMessage>,
+        farewell: Option<DueSessionMessage>,
+        report: Option<DueSessionMessage>,
         moment: u64,
-    ) -> Option<DueMessage>
+    ) -> Option<DueSessionMessage>
         requires { moment ≤ LATEST_MOMENT }
-        ensures value { result ≡ last_message (data_waits self.old.bucket) farewell report }
+        ensures value { result ≡ session_message_at_end (data_waits self.old.bucket) farewell report }
         ensures new { self.new ≡ record self.old { state = state_after (data_waits self.old.bucket) farewell self.old.state; last = moment; due = due_then result self.old.due } }
     {
         let waits = self.bucket.waiting(Class::New) > 0;
         if farewell.is_some() && !waits {
             self.state = AgentState::Gone;
         }
-        let last = last_message(waits, farewell, report);
+        let last = session_message_at_end(waits, farewell, report);
         if let Some(report) = &last {
             self.due = report.next;
         }
@@ -76,7 +76,7 @@ impl<W: Words + Drop> Agent<W> {
 }
 
 /// What went, with what a tick ends with. It takes no memory.
-pub(super) fn with_last(mut went: Went, last: Option<DueMessage>) -> Went
+pub(super) fn with_last(mut went: Went, last: Option<DueSessionMessage>) -> Went
     requires { 0 < went.room }
     ensures outs { result.outs ≡ went.outs ++ option_to_list (option_map (λ r. r.outgoing.out) last) }
     ensures noted { result.noted ≡ went.noted ++ option_to_list (option_map (λ r. r.outgoing.noted) last) }
@@ -88,12 +88,12 @@ pub(super) fn with_last(mut went: Went, last: Option<DueMessage>) -> Went
 }
 
 /// What a tick ends with, by whether data of the member's own waits.
-fn last_message(
+fn session_message_at_end(
     waits: bool,
-    farewell: Option<DueMessage>,
-    report: Option<DueMessage>,
-) -> Option<DueMessage>
-    ensures { result ≡ last_message waits farewell report }
+    farewell: Option<DueSessionMessage>,
+    report: Option<DueSessionMessage>,
+) -> Option<DueSessionMessage>
+    ensures { result ≡ session_message_at_end waits farewell report }
 {
     if waits { report } else { farewell.or(report) }
 }

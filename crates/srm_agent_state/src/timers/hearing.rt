@@ -114,7 +114,7 @@ impl Timers {
         ensures settings { KeepSettings self.old self.new }
     {
         if repaired {
-            self.fixes.repair(name, dist, now);
+            self.fixes.note_repair(name, dist, now);
         }
     }
 }

@@ -57,13 +57,13 @@ impl Well {
         requires { inked.well ≡ self.old.well }
         ensures same { self.new ≡ self.old }
         ensures pen { result ≡ inked }
-        ensures part { (held : List Stroke) × SentIs result.place result.sent self.new.received held }
+        ensures part { (held : List Stroke) × SentIs result.number result.sent self.new.received held }
     {
-        let Inked { pass, place } = inked;
+        let Inked { pass, number } = inked;
         self.ink.queue.absorb::<Beside>(&mut self.pass, pass);
         learn_part(&self.ink.queue, &mut self.pass);
         let pass = self.ink.queue.another::<Beside>(&mut self.pass);
-        Inked { pass, place }
+        Inked { pass, number }
     }
 
     /// Whether all pens said that they are done. A plain count, on which no contract rests.

@@ -14,7 +14,7 @@ use std::alloc::{AllocError, Global};
 use std::sync::Arc;
 use std::sync::atomic::AtomicU64;
 
-/// Makes the well, which holds 64 strokes, and its pens, the k-th of place k, with nothing sent or received. Only want of memory refuses it.
+/// Makes the well, which holds 64 strokes, and its pens, the k-th of number k, with nothing sent or received. Only want of memory refuses it.
 #[tactic(auto, using(crate::proofs::InkSteps::begins))]
 pub fn well(alloc: Global) -> Result<(ends::Well, Vec<Pen>), AllocError>
     ensures well { IfOk result (λ r. r.0 ≡ new_well r.0.well) }
@@ -51,12 +51,12 @@ fn all_pens(
     ensures pens { IfOk result (λ v. (vec_len v ≡ PENS) × AreNewPens (arc_value ink.now).queue.table.shared.table_id v.items) }
 {
     let mut pens = Vec::new(alloc);
-    for place in 0..PENS {
+    for number in 0..PENS {
         let pass = ink.queue.another::<NextPen>(reader);
         pens.push(Pen {
             ink: Arc::try_clone(ink)?,
             pass,
-            place,
+            number,
         })?;
     }
     Ok(pens)

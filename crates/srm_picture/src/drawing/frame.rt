@@ -2,8 +2,8 @@
 
 use crate::action::LocalActionKind;
 use crate::drawing::legend::STYLE;
+use crate::layout::{Layout, MOMENTS};
 use crate::picture::Picture;
-use crate::plan::{MOMENTS, Plan};
 use crate::subject::Subject;
 use srm_entries::SECOND;
 use srm_names::Member;
@@ -14,10 +14,10 @@ use std::io::Write;
 pub(super) fn write_head<W: Write>(
     out: &mut W,
     subject: &Subject<'_>,
-    plan: &Plan,
+    layout: &Layout,
 ) -> io::Result<()> {
-    let width = plan.width();
-    let height = plan.height();
+    let width = layout.width();
+    let height = layout.height();
     let members = subject.members;
     let events = subject.entries.len();
     writeln!(
@@ -43,17 +43,17 @@ pub(super) fn write_head<W: Write>(
 pub(super) fn write_moments<W: Write>(
     out: &mut W,
     subject: &Subject<'_>,
-    plan: &Plan,
+    layout: &Layout,
 ) -> io::Result<()> {
-    let right = plan.width().saturating_sub(16);
+    let right = layout.width().saturating_sub(16);
     writeln!(
         out,
         "<text class=\"moment\" x=\"{}\" y=\"62\">seconds</text>",
         MOMENTS - 12
     )?;
     let mut last = None;
-    for (row, entry) in subject.entries.iter().enumerate() {
-        let y = plan.y(row, 0);
+    for (index, entry) in subject.entries.iter().enumerate() {
+        let y = layout.y(index, 0);
         writeln!(
             out,
             "<path class=\"guide\" d=\"M{} {y}H{right}\"/>",
@@ -84,10 +84,10 @@ pub(super) fn write_lifelines<W: Write>(
     out: &mut W,
     subject: &Subject<'_>,
     picture: &Picture,
-    plan: &Plan,
+    layout: &Layout,
 ) -> io::Result<()> {
     for member in (0..subject.members).filter_map(Member::new) {
-        write_lifeline(out, picture, plan, member)?;
+        write_lifeline(out, picture, layout, member)?;
     }
     Ok(())
 }
@@ -95,12 +95,12 @@ pub(super) fn write_lifelines<W: Write>(
 fn write_lifeline<W: Write>(
     out: &mut W,
     picture: &Picture,
-    plan: &Plan,
+    layout: &Layout,
     member: Member,
 ) -> io::Result<()> {
-    let x = plan.x(member);
-    let bottom = plan.bottom();
-    let end = gone_at(picture, plan, member).unwrap_or(bottom);
+    let x = layout.x(member);
+    let bottom = layout.bottom();
+    let end = gone_at(picture, layout, member).unwrap_or(bottom);
     let number = member.number();
     writeln!(out, "<path class=\"life\" d=\"M{x} 70V{end}\"/>")?;
     writeln!(out, "<path class=\"after\" d=\"M{x} {end}V{bottom}\"/>")?;
@@ -116,8 +116,8 @@ fn write_lifeline<W: Write>(
 }
 
 /// Where a member goes, if it does.
-fn gone_at(picture: &Picture, plan: &Plan, member: Member) -> Option<u64> {
+fn gone_at(picture: &Picture, layout: &Layout, member: Member) -> Option<u64> {
     let gone = picture.actions.iter().find(|action| action.kind == LocalActionKind::Gone
         && action.at.member == member)?;
-    Some(plan.y(gone.at.entry, gone.nth))
+    Some(layout.y(gone.at.entry, gone.nth))
 }

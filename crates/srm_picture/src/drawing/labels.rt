@@ -2,8 +2,8 @@
 
 use crate::action::{LocalAction, LocalActionKind};
 use crate::escaping::escaped;
+use crate::layout::Layout;
 use crate::picture::Picture;
-use crate::plan::Plan;
 use crate::subject::Subject;
 use srm_codec::Datagram;
 use std::alloc::Global;
@@ -52,7 +52,7 @@ pub(super) fn write_datagrams<W: Write>(
     out: &mut W,
     subject: &Subject<'_>,
     picture: &Picture,
-    plan: &Plan,
+    layout: &Layout,
 ) -> io::Result<()> {
     let mut last = None;
     for arrow in &picture.arrows {
@@ -64,8 +64,8 @@ pub(super) fn write_datagrams<W: Write>(
         let entry = subject.entries.get(from.entry);
         let datagram = entry.and_then(|entry| entry.effects.outs.as_slice().get(arrow.launch.nth));
         if let Some(datagram) = datagram {
-            let x = plan.x(from.member).saturating_add(9);
-            let y = plan.y(from.entry, arrow.launch.nth).saturating_sub(5);
+            let x = layout.x(from.member).saturating_add(9);
+            let y = layout.y(from.entry, arrow.launch.nth).saturating_sub(5);
             let class = arrow.launch.kind.printed();
             let shown = ShownDatagram(datagram);
             writeln!(
@@ -83,15 +83,15 @@ pub(super) fn write_notches<W: Write>(
     out: &mut W,
     subject: &Subject<'_>,
     picture: &Picture,
-    plan: &Plan,
+    layout: &Layout,
 ) -> io::Result<()> {
     for action in &picture.actions {
         let line = line_of_action(subject, action);
-        write!(out, "<g class=\"tick\"><title>")?;
+        write!(out, "<g class=\"notch\"><title>")?;
         write_text(alloc, out, line)?;
         writeln!(out, "</title>")?;
-        write_notch(out, plan, action)?;
-        write_label(alloc, out, plan, action, line)?;
+        write_notch(out, layout, action)?;
+        write_label(alloc, out, layout, action, line)?;
         writeln!(out, "</g>")?;
     }
     Ok(())
@@ -108,9 +108,9 @@ fn line_of_action<'a>(subject: &'a Subject<'_>, action: &LocalAction) -> &'a [u8
     line_of(subject.lines_of(action.at.entry), word, 0)
 }
 
-fn write_notch<W: Write>(out: &mut W, plan: &Plan, action: &LocalAction) -> io::Result<()> {
-    let x = plan.x(action.at.member);
-    let y = plan.y(action.at.entry, action.nth);
+fn write_notch<W: Write>(out: &mut W, layout: &Layout, action: &LocalAction) -> io::Result<()> {
+    let x = layout.x(action.at.member);
+    let y = layout.y(action.at.entry, action.nth);
     match action.kind {
         LocalActionKind::Drew => writeln!(
             out,
@@ -136,7 +136,7 @@ fn write_notch<W: Write>(out: &mut W, plan: &Plan, action: &LocalAction) -> io::
 fn write_label<W: Write>(
     alloc: Global,
     out: &mut W,
-    plan: &Plan,
+    layout: &Layout,
     action: &LocalAction,
     line: &[u8],
 ) -> io::Result<()> {
@@ -147,8 +147,8 @@ fn write_label<W: Write>(
         | LocalActionKind::Took
         | LocalActionKind::Gone => "label",
     };
-    let x = plan.x(action.at.member).saturating_add(17);
-    let y = plan.y(action.at.entry, action.nth).saturating_add(4);
+    let x = layout.x(action.at.member).saturating_add(17);
+    let y = layout.y(action.at.entry, action.nth).saturating_add(4);
     write!(out, "<text class=\"{class}\" x=\"{x}\" y=\"{y}\">")?;
     let shown = line.get(..LABEL).unwrap_or(line);
     write_text(alloc, out, shown)?;

@@ -1,6 +1,6 @@
 //! The looks of all shapes, and what they stand for.
 
-use crate::plan::Plan;
+use crate::layout::Layout;
 use std::io;
 use std::io::Write;
 
@@ -72,8 +72,8 @@ const LEGEND: &[u8] = b"<path class=\"guide\" d=\"M0 -22H660\"/>
 </svg>
 ";
 
-pub(super) fn write_legend<W: Write>(out: &mut W, plan: &Plan) -> io::Result<()> {
-    let y = plan.bottom().saturating_add(42);
+pub(super) fn write_legend<W: Write>(out: &mut W, layout: &Layout) -> io::Result<()> {
+    let y = layout.bottom().saturating_add(42);
     writeln!(out, "<g transform=\"translate(20 {y})\">")?;
     out.write_all(LEGEND)
 }

@@ -3,8 +3,8 @@
 use crate::arrow::{Arrow, ArrowEnd, Launch};
 use crate::bracket::{Bracket, TimerEnd};
 use crate::drawing::labels::{line_of, write_text};
+use crate::layout::{LINE, Layout};
 use crate::picture::Picture;
-use crate::plan::{LINE, Plan};
 use crate::point::Point;
 use crate::subject::Subject;
 use srm_names::Member;
@@ -23,16 +23,16 @@ pub(super) fn write_brackets<W: Write>(
     out: &mut W,
     subject: &Subject<'_>,
     picture: &Picture,
-    plan: &Plan,
+    layout: &Layout,
 ) -> io::Result<()> {
     for (index, bracket) in picture.brackets.iter().enumerate() {
-        let x = plan.bracket_x(index, bracket.from.member);
+        let x = layout.bracket_x(index, bracket.from.member);
         let class = bracket.kind.printed();
         write!(out, "<g class=\"bracket {class}\"><title>")?;
         let line = line_of(subject.lines_of(bracket.from.entry), b"arm ", bracket.nth);
         write_text(alloc, out, line)?;
         writeln!(out, ", {}</title>", ending_of(bracket))?;
-        write_bracket(out, plan, bracket, x)?;
+        write_bracket(out, layout, bracket, x)?;
         writeln!(out, "</g>")?;
     }
     Ok(())
@@ -50,17 +50,22 @@ fn ending_of(bracket: &Bracket) -> &'static str {
     }
 }
 
-fn write_bracket<W: Write>(out: &mut W, plan: &Plan, bracket: &Bracket, x: u64) -> io::Result<()> {
-    let from = plan.y(bracket.from.entry, 0).saturating_add(3);
+fn write_bracket<W: Write>(
+    out: &mut W,
+    layout: &Layout,
+    bracket: &Bracket,
+    x: u64,
+) -> io::Result<()> {
+    let from = layout.y(bracket.from.entry, 0).saturating_add(3);
     let Some(end) = bracket.end else {
         return writeln!(
             out,
             "<path d=\"M{} {from}H{x}V{}\"/>",
             x.saturating_add(6),
-            plan.bottom()
+            layout.bottom()
         );
     };
-    let until = plan
+    let until = layout
         .y(end.entry, 0)
         .saturating_sub(3)
         .max(from.saturating_add(6));
@@ -98,7 +103,7 @@ pub(super) fn write_arrows<W: Write>(
     out: &mut W,
     subject: &Subject<'_>,
     picture: &Picture,
-    plan: &Plan,
+    layout: &Layout,
 ) -> io::Result<()> {
     for arrow in &picture.arrows {
         write!(
@@ -108,7 +113,7 @@ pub(super) fn write_arrows<W: Write>(
         )?;
         write_title(alloc, out, subject, arrow)?;
         writeln!(out, "</title>")?;
-        write_arrow(out, plan, arrow)?;
+        write_arrow(out, layout, arrow)?;
         writeln!(out, "</g>")?;
     }
     Ok(())
@@ -140,44 +145,44 @@ fn write_title<W: Write>(
     }
 }
 
-fn write_arrow<W: Write>(out: &mut W, plan: &Plan, arrow: &Arrow) -> io::Result<()> {
+fn write_arrow<W: Write>(out: &mut W, layout: &Layout, arrow: &Arrow) -> io::Result<()> {
     match &arrow.end {
         ArrowEnd::Accepted(at) => {
             write!(out, "<path class=\"way taken\" d=\"")?;
-            write_way(out, plan, arrow, at)?;
+            write_way(out, layout, arrow, at)?;
             writeln!(out, "\"/>")
         }
         ArrowEnd::Ignored(at) => {
             write!(out, "<path class=\"way\" d=\"")?;
-            write_way(out, plan, arrow, at)?;
+            write_way(out, layout, arrow, at)?;
             writeln!(out, "\"/>")?;
-            write_cross(out, plan.x(at.member), plan.y(at.entry, 0))
+            write_cross(out, layout.x(at.member), layout.y(at.entry, 0))
         }
-        ArrowEnd::Lost => write_lost(out, plan, &arrow.launch),
+        ArrowEnd::Lost => write_lost(out, layout, &arrow.launch),
     }
 }
 
 /// A way that ends between the lifelines.
-fn write_lost<W: Write>(out: &mut W, plan: &Plan, launch: &Launch) -> io::Result<()> {
-    let x = plan.x(launch.from.member);
-    let y = plan.y(launch.from.entry, launch.nth);
-    let end = lost_x(plan, launch.from.member, x);
+fn write_lost<W: Write>(out: &mut W, layout: &Layout, launch: &Launch) -> io::Result<()> {
+    let x = layout.x(launch.from.member);
+    let y = layout.y(launch.from.entry, launch.nth);
+    let end = lost_x(layout, launch.from.member, x);
     let bottom = y.saturating_add(FALL);
     writeln!(out, "<path class=\"way\" d=\"M{x} {y}L{end} {bottom}\"/>")?;
     write_cross(out, end, bottom)
 }
 
 /// From the sending to the hearing: a straight line, or a bow where both are at one member.
-fn write_way<W: Write>(out: &mut W, plan: &Plan, arrow: &Arrow, at: &Point) -> io::Result<()> {
+fn write_way<W: Write>(out: &mut W, layout: &Layout, arrow: &Arrow, at: &Point) -> io::Result<()> {
     let from = &arrow.launch.from;
-    let x = plan.x(from.member);
-    let y = plan.y(from.entry, arrow.launch.nth);
-    let end = plan.y(at.entry, 0);
+    let x = layout.x(from.member);
+    let y = layout.y(from.entry, arrow.launch.nth);
+    let end = layout.y(at.entry, 0);
     if at.member == from.member {
         let bow = x.saturating_add(LINE).saturating_add(LINE);
         write!(out, "M{x} {y}C{bow} {y} {bow} {end} {x} {end}")
     } else {
-        write!(out, "M{x} {y}L{} {end}", plan.x(at.member))
+        write!(out, "M{x} {y}L{} {end}", layout.x(at.member))
     }
 }
 
@@ -191,8 +196,8 @@ fn write_cross<W: Write>(out: &mut W, x: u64, y: u64) -> io::Result<()> {
 }
 
 /// Where an arrow ends that never comes: right of its member, or left of the last one.
-fn lost_x(plan: &Plan, member: Member, x: u64) -> u64 {
-    if plan.is_last(member) {
+fn lost_x(layout: &Layout, member: Member, x: u64) -> u64 {
+    if layout.is_last(member) {
         x.saturating_sub(STUB)
     } else {
         x.saturating_add(STUB)

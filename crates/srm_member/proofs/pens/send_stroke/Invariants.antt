@@ -5,5 +5,5 @@ use Rattle.srm_member.proofs.pens.send_stroke.Given as goal
 abbrev pub invariant-loop : goal.invariant-loop
 invariant-loop g l = record {
   pen : l.pen ≡ l.initial.pen;
-  stroke : l.stroke ≡ stroke_of l.initial.pen.place l.fn.body;
+  stroke : l.stroke ≡ stroke_of l.initial.pen.number l.fn.body;
 }

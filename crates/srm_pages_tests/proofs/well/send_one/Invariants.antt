@@ -2,4 +2,4 @@ use Rattle.std.proofs.Common.{◌≡◌}
 use Rattle.srm_pages_tests.proofs.well.send_one.Given as goal
 
 abbrev pub invariant-loop : goal.invariant-loop
-invariant-loop g l = l.stroke.pen ≡ l.pen.place
+invariant-loop g l = l.stroke.pen ≡ l.pen.number

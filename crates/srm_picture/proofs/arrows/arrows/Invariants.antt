@@ -1,5 +1,5 @@
 use Rattle.std.proofs.Common.{◌≡◌, take}
-use Rattle.srm_picture.specs.Rows.{by_entry}
+use Rattle.srm_picture.specs.ByEntry.{by_entry}
 use Rattle.srm_picture.specs.Arrows.{arrows_of}
 use Rattle.srm_picture.proofs.arrows.arrows.Given as goal
 

@@ -1,6 +1,6 @@
 use Rattle.std.proofs.Common.{rules}
 use Rattle.srm_picture.specs.Arrows.{launch}
-use Rattle.srm_picture.proofs.Rows.{each_more}
+use Rattle.srm_picture.proofs.ByEntry.{each_more}
 use Rattle.srm_picture.proofs.arrows.launched.Goals as goal
 
 pub loop-nth-preserved : goal.loop-nth-preserved

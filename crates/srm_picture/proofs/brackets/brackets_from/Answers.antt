@@ -1,6 +1,6 @@
 use Rattle.std.proofs.Common.{rules}
 use Rattle.srm_picture.specs.Brackets.{bracket}
-use Rattle.srm_picture.proofs.Rows.{each_more}
+use Rattle.srm_picture.proofs.ByEntry.{each_more}
 use Rattle.srm_picture.proofs.brackets.brackets_from.Goals as goal
 
 pub loop-nth-preserved : goal.loop-nth-preserved

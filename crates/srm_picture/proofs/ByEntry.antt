@@ -6,7 +6,7 @@ use Rattle.std.proofs.lemmas.List.{take_more, length-take-le, map-append, take-a
 use Rattle.srm_names.specs.Histories.{first_of, or_else}
 use Rattle.srm_names.proofs.Snoc.{first_of-snoc}
 use Rattle.srm_entries.proofs.Adding.{flat_map-snoc}
-use Rattle.srm_picture.specs.Rows.{by_entry}
+use Rattle.srm_picture.specs.ByEntry.{by_entry}
 
 pub enumerate_from-append : {X : Type 0} (n : ℕ) (xs ys : List X) → enumerate_from n (xs ++ ys) ≡ enumerate_from n xs ++ enumerate_from (n + length xs) ys
 enumerate_from-append n [] ys = ap (λ k. enumerate_from k ys) (omega arith)
@@ -20,8 +20,8 @@ placed xs i x l at =
     place : length (take i xs) ≡ i → 0 + length (take i xs) ≡ i
     place e = omega (arith, e)
 
-pub row_more : {X Y : Type 0} (f : ℕ × X → List Y) (xs : List X) (i : ℕ) (x : X) (ys more : List Y) → i < length xs → x ≡ get_or xs i x → ys ≡ by_entry f (take i xs) → more ≡ f (i, x) → ys ++ more ≡ by_entry f (take (i + 1) xs)
-row_more f xs i x ys more l at so_far is =
+pub entry_more : {X Y : Type 0} (f : ℕ × X → List Y) (xs : List X) (i : ℕ) (x : X) (ys more : List Y) → i < length xs → x ≡ get_or xs i x → ys ≡ by_entry f (take i xs) → more ≡ f (i, x) → ys ++ more ≡ by_entry f (take (i + 1) xs)
+entry_more f xs i x ys more l at so_far is =
     ap (λ zs. zs ++ more) so_far ∙ ap (λ zs. by_entry f (take i xs) ++ zs) is ∙ sym (ap (flat_map f) (placed xs i x l at) ∙ flat_map-snoc f (enumerate_from 0 (take i xs)) (i, x))
 
 pub each_more : {X Y : Type 0} (f : ℕ × X → Y) (xs : List X) (i : ℕ) (x : X) (ys : List Y) (y : Y) → i < length xs → x ≡ get_or xs i x → ys ≡ map f (enumerate_from 0 (take i xs)) → y ≡ f (i, x) → ys ++ y ∷ [] ≡ map f (enumerate_from 0 (take (i + 1) xs))

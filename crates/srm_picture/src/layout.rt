@@ -35,7 +35,7 @@ const COLUMNS: usize = 8;
 
 /// Where the lines of each entry stand, and which column each bracket has.
 #[derive(Drop)]
-pub(crate) struct Plan {
+pub(crate) struct Layout {
     members: u64,
     /// The first line of each entry, and behind them the line after the last.
     lines: Vec<u64>,
@@ -45,11 +45,15 @@ pub(crate) struct Plan {
     used: u64,
 }
 
-impl Plan {
-    pub fn of(alloc: Global, subject: &Subject<'_>, picture: &Picture) -> Result<Plan, AllocError> {
+impl Layout {
+    pub fn of(
+        alloc: Global,
+        subject: &Subject<'_>,
+        picture: &Picture,
+    ) -> Result<Layout, AllocError> {
         let columns = columns_of(alloc, picture.brackets.as_slice())?;
         let used = columns.iter().map(|column| column.saturating_add(1)).max();
-        Ok(Plan {
+        Ok(Layout {
             members: u64::from(subject.members),
             lines: lines_of(alloc, subject.entries)?,
             columns,
@@ -75,8 +79,8 @@ impl Plan {
     }
 
     /// Pixels from the top to the nth line of an entry.
-    pub fn y(&self, row: usize, nth: usize) -> u64 {
-        let line = self.lines.get(row).copied().unwrap_or(0);
+    pub fn y(&self, index: usize, nth: usize) -> u64 {
+        let line = self.lines.get(index).copied().unwrap_or(0);
         y_of(line.saturating_add(nth as u64))
     }
 
@@ -157,7 +161,7 @@ fn columns_of(alloc: Global, brackets: &[Bracket]) -> Result<Vec<u64>, AllocErro
     Ok(columns)
 }
 
-/// The first column of a member that is free from a row on, or the last; it is then busy up to another row.
+/// The first column of a member that is free from an entry on, or the last; it is then busy up to another entry.
 fn column_of(busy: &mut [usize], member: Member, from: usize, until: usize) -> u64 {
     let first = member.index() * COLUMNS;
     let column = free_column(busy, first, from);
@@ -167,7 +171,7 @@ fn column_of(busy: &mut [usize], member: Member, from: usize, until: usize) -> u
     column as u64
 }
 
-/// The first column that is free from a row on, or the last.
+/// The first column that is free from an entry on, or the last.
 fn free_column(busy: &[usize], first: usize, from: usize) -> usize
     requires { first ≤ MEMBERS * COLUMNS }
     ensures { result < COLUMNS }
