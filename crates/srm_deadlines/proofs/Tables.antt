@@ -1,8 +1,7 @@
 -- What a table by name has, read as places.
-use Rattle.std.proofs.Common.{◌≡◌, ℕ, ◌+◌, ◌<◌, Bool, true, false, ◌||◌, cond, add-zero, List, [], ◌∷◌, length, take, get_or, Option, Some, None, refl, sym, ap, subst, ◌∙◌, inl, inr}
+use Rattle.std.proofs.Common.{◌≡◌, ℕ, ◌+◌, ◌<◌, Bool, true, false, ◌||◌, cond, add-zero, List, [], ◌∷◌, length, take, get_or, Option, Some, None, refl, sym, ap, subst, ◌∙◌}
 use Rattle.std.specs.Prelude.{find, is_some, IfSome, if◌then◌else◌, Result, Ok, Err, OnOk, OnErr, IfOk}
 use Rattle.std.proofs.Math.Bool.{or-false}
-use Rattle.std.proofs.lemmas.Bool.{or_right, or_cases}
 use Rattle.std.proofs.lemmas.List.Folds.{list_any_more}
 use Rattle.std.proofs.lemmas.List.{length-map}
 use Rattle.std.specs.Map.{keys_of, lookup}
@@ -11,7 +10,7 @@ use Rattle.srm_names.specs.Names.{same_name, among}
 use Rattle.srm_names.proofs.Same.{same_name-is, same_name-itself}
 use Rattle.srm_names.proofs.Lists.{any_found}
 use Rattle.srm_deadlines.specs.declared.by_name.NamedValue.{NamedValue}
-use Rattle.srm_deadlines.specs.Places.{value_in, value_at, place_names, is_at, has_place, KeepsPlaces, GivesPlaces, KeepsValues, Sets, ClearsAll, HasPlaces}
+use Rattle.srm_deadlines.specs.Places.{value_in, value_at, place_names, is_at, has_place, KeepsPlaces, GivesPlaces, KeepsValues, Sets, ClearsAll}
 use Rattle.srm_deadlines.specs.PlacesOf.{place_of, places_of}
 use Rattle.srm_deadlines.proofs.Same.{same_flip}
 
@@ -145,31 +144,8 @@ module _ {V : Type 0} where
       go n true e h = ap (λ b. b || false) (ap (has_place xs) (same_name-is n name e) ∙ has)
       go n false e h = ap (λ b. has_place xs n || (b || false)) (sym e) ∙ h
 
-  pub gives_none : (names : List FullName) (xs ys : List (NamedValue V)) → ys ≡ xs → GivesPlaces names xs ys
-  gives_none names xs ys same = record { only = λ n h. ap (λ b. b || among names n) (ap (λ zs. has_place zs n) (sym same) ∙ h) }
-
   pub given_on : (xs ys zs : List (NamedValue V)) → GivesPlaces [] xs ys → GivesPlaces [] ys zs → GivesPlaces [] xs zs
   given_on xs ys zs p q = record { only = λ n h. p.only n (sym (or-false (has_place ys n)) ∙ q.only n h) }
-
-  -- the loop over names that are given places
-  pub given_more : (names : List FullName) (name : FullName) (xs ys zs : List (NamedValue V)) → among names name ≡ true → GivesPlaces names xs ys → GivesPlaces (name ∷ []) ys zs → GivesPlaces names xs zs
-  given_more names name xs ys zs at p q = record {
-    only = λ n h. elim (or_cases (has_place ys n) (same_name n name || false) (q.only n h)) [
-      | inl old ↦ p.only n old
-      | inr new ↦ or_right (has_place xs n) (among names n) (ap (among names) (same_name-is n name (sym (or-false (same_name n name)) ∙ new)) ∙ at)
-    ];
-  }
-
-  pub more_places : (names : List FullName) (i : ℕ) (d : FullName) (xs ys : List (NamedValue V)) → i < length names → HasPlaces (take i names) xs → KeepsPlaces xs ys → has_place ys (get_or names i d) ≡ true → HasPlaces (take (i + 1) names) ys
-  more_places names i d xs ys lt h hold here = record {
-    each = λ n at. elim (or_cases (among (take i names) n) (same_name n (get_or names i d)) (sym (list_any_more (same_name n) names i d lt) ∙ at)) [
-      | inl old ↦ hold.each n (h.each n old)
-      | inr new ↦ ap (has_place ys) (same_name-is n (get_or names i d) new) ∙ here
-    ];
-  }
-
-  pub keeps_on : (xs ys zs : List (NamedValue V)) → KeepsValues xs ys → KeepsValues ys zs → KeepsValues xs zs
-  keeps_on xs ys zs p q = record { each = λ n. q.each n ∙ p.each n }
 
   pub holds_on : (xs ys zs : List (NamedValue V)) → KeepsPlaces xs ys → KeepsPlaces ys zs → KeepsPlaces xs zs
   holds_on xs ys zs p q = record { each = λ n h. q.each n (p.each n h) }
