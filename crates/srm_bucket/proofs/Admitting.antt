@@ -1,6 +1,7 @@
 -- What a bucket admits, from what it keeps.
-use Rattle.std.proofs.Common.{◌≡◌, ℕ, ◌+◌, ◌-◌, ◌*◌, ◌≤◌, ◌<◌, ◌==◌, ◌||◌, List, length, Option, Some, None, Bool, true, false, refl, sym, ap, subst, ◌∙◌, arith}
+use Rattle.std.proofs.Common.{◌≡◌, ℕ, ◌+◌, ◌-◌, ◌*◌, ◌≤◌, ◌<◌, ◌==◌, ◌||◌, List, length, Option, Some, None, Bool, true, false, refl, sym, ap, subst, ◌∙◌, arith, mul-le-mul_left}
 use Rattle.std.specs.Prelude.{nat_le, IfSome}
+use Rattle.std.proofs.lemmas.Bool.{le-leb, lt-leb}
 use Rattle.std.proofs.lemmas.Bool.Decides.{nat_tests}
 use Rattle.std.proofs.lemmas.Option.{same_Some}
 use Rattle.srm_bucket.specs.declared.class.Class.{Class}
@@ -46,18 +47,12 @@ admits_clear b class bytes now clear = answers b class bytes now true (ap (λ (x
 only_paid : {T : Type 0} (ahead : List (Item T)) (bytes tokens : ℕ) → (length ahead == 0) ≡ false → is_paid ahead bytes tokens ≡ nat_le (cost_of_all ahead + cost_of bytes) tokens
 only_paid ahead bytes tokens some = ap (λ (x : Bool). x || nat_le (cost_of_all ahead + cost_of bytes) tokens) some
 
-covers_all : (cost tokens : ℕ) → cost ≤ tokens → nat_le cost tokens ≡ true
-covers_all cost tokens l = grind (arith, nat_tests)
-
-covers_less : (cost tokens : ℕ) → tokens < cost → nat_le cost tokens ≡ false
-covers_less cost tokens l = grind (arith, nat_tests)
-
 same_test : (a b c d : ℕ) → (a ≤ b → c ≤ d) → (b < a → d < c) → nat_le a b ≡ nat_le c d
 same_test a b c d low high = go (nat_le a b) refl
   where
     go : (x : Bool) → nat_le a b ≡ x → nat_le a b ≡ nat_le c d
-    go true e = let l : a ≤ b = grind (arith, nat_tests) in e ∙ sym (covers_all c d (low l))
-    go false e = let l : b < a = grind (arith, nat_tests) in e ∙ sym (covers_less c d (high l))
+    go true e = let l : a ≤ b = grind (arith, nat_tests) in e ∙ sym (le-leb c d (low l))
+    go false e = let l : b < a = grind (arith, nat_tests) in e ∙ sym (lt-leb c d (high l))
 
 -- what a rest says of the costs
 record HasRest {T : Type 0} (tokens : ℕ) (items : List (Item T)) (rest : ℕ) : Type 0 where
@@ -91,7 +86,7 @@ pub admits_short : {T : Type 0} (b : Content T) (class : Class) (bytes now : ℕ
 admits_short b class bytes now some e =
     let l : (refilled now b.tokens).level < cost_of_all (ahead_in class b) = has_no_rest (refilled now b.tokens).level (ahead_in class b) e in
     answers b class bytes now false
-    (sym (only_paid (ahead_in class b) bytes (refilled now b.tokens).level some ∙ covers_less (cost_of_all (ahead_in class b) + cost_of bytes) (refilled now b.tokens).level (omega (arith, l))))
+    (sym (only_paid (ahead_in class b) bytes (refilled now b.tokens).level some ∙ lt-leb (cost_of_all (ahead_in class b) + cost_of bytes) (refilled now b.tokens).level (omega (arith, l))))
 
 -- the first moment
 abbrev KeptFrom : {T : Type 0} → Content T → Class → ℕ → Option ℕ → Type 0
@@ -109,12 +104,12 @@ from b class bytes first low kept = record {
 
 pub from_clear : {T : Type 0} (b : Content T) (class : Class) (bytes : ℕ) → (length (ahead_of class (queue b.waiting)) == 0) ≡ true → AdmitsFrom class bytes b (Some b.tokens.last)
 from_clear b class bytes clear = from b class bytes (Some b.tokens.last) (omega arith)
-    (λ now l. ap (λ (x : Bool). x || nat_le (cost_of_all (ahead_in class b) + cost_of bytes) (refilled now b.tokens).level) clear ∙ sym (covers_all b.tokens.last now l))
+    (λ now l. ap (λ (x : Bool). x || nat_le (cost_of_all (ahead_in class b) + cost_of bytes) (refilled now b.tokens).level) clear ∙ sym (le-leb b.tokens.last now l))
 
 -- no level is higher than the full one
 never : {T : Type 0} (b : Content T) (class : Class) (bytes : ℕ) → (length (ahead_of class (queue b.waiting)) == 0) ≡ false → cost_of b.tokens.depth < cost_of_all (ahead_in class b) + cost_of bytes → AdmitsFrom class bytes b None
 never b class bytes some high = from b class bytes None tt
-    (λ now l. only_paid (ahead_in class b) bytes (refilled now b.tokens).level some ∙ covers_less (cost_of_all (ahead_in class b) + cost_of bytes) (refilled now b.tokens).level (omega (arith, high)))
+    (λ now l. only_paid (ahead_in class b) bytes (refilled now b.tokens).level some ∙ lt-leb (cost_of_all (ahead_in class b) + cost_of bytes) (refilled now b.tokens).level (omega (arith, high)))
 
 pub from_never : {T : Type 0} (b : Content T) (class : Class) (bytes : ℕ) → (length (ahead_of class (queue b.waiting)) == 0) ≡ false
     → rest_after (cost_of b.tokens.depth) (ahead_of class (queue b.waiting)) ≡ None → AdmitsFrom class bytes b None
@@ -127,11 +122,8 @@ from_too_much b class bytes full rest price some is costs e l =
     never b class bytes some (omega (arith, l, h.covers, h.is, is, costs))
 
 -- what a level reaches it keeps, while nothing goes
-times_more : (rate a b : ℕ) → a ≤ b → rate * a ≤ rate * b
-times_more rate a b l = grind arith
-
 level-keeps : (t : Tokens) (a b : ℕ) → a ≤ b → (refilled a t).level ≤ (refilled b t).level
-level-keeps t a b l = let more : t.rate * (a - t.last) ≤ t.rate * (b - t.last) = times_more t.rate (a - t.last) (b - t.last) (omega (arith, l)) in omega (arith, more)
+level-keeps t a b l = let more : t.rate * (a - t.last) ≤ t.rate * (b - t.last) = mul-le-mul_left t.rate (omega (arith, l)) in omega (arith, more)
 
 pub from_first : {T : Type 0} (b : Content T) (class : Class) (bytes full rest price moment : ℕ) → (length (ahead_of class (queue b.waiting)) == 0) ≡ false → full ≡ cost_of b.tokens.depth → price ≡ cost_of bytes
     → rest_after full (ahead_of class (queue b.waiting)) ≡ Some rest → price ≤ rest → IsFirstLevel b.tokens (full - (rest - price)) moment → AdmitsFrom class bytes b (Some moment)

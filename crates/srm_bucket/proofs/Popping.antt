@@ -1,6 +1,6 @@
 -- A bucket's calls, from what the calls within them ensure.
-use Rattle.std.proofs.Common.{◌≡◌, ℕ, ◌+◌, ◌≤◌, ◌<◌, Option, Some, None, Result, Ok, Err, true, false, refl, sym, ap, subst, ◌∙◌, arith}
-use Rattle.std.specs.Prelude.{nat_le, IfSome, OnSome, OnOk, OnErr, option_map}
+use Rattle.std.proofs.Common.{◌≡◌, ℕ, ◌+◌, ◌≤◌, ◌<◌, Option, Some, None, true, false, refl, sym, ap, subst, ◌∙◌, arith}
+use Rattle.std.specs.Prelude.{nat_le, IfSome, OnSome, option_map}
 use Rattle.std.specs.List.{All}
 use Rattle.std.proofs.lemmas.Bool.Decides.{nat_tests}
 use Rattle.srm_bucket.specs.declared.class.Class.{Class}
@@ -16,14 +16,6 @@ use Rattle.srm_bucket.specs.Content.{Content}
 use Rattle.srm_bucket.specs.Fits.{Pops, IsNextDeparture}
 use Rattle.srm_bucket.proofs.Highest.{next-length, count-lost}
 use Rattle.srm_bucket.proofs.Going.{covers, covers_not, pops_right, waits_for, waits_for_nothing}
-
-pub ok_then : {A E P Q : Type 0} (r : Result A E) → (P → Q) → OnOk r P → OnOk r Q
-ok_then (Ok x) f p = f p
-ok_then (Err e) f p = tt
-
-pub err_then : {A E P Q : Type 0} (r : Result A E) → (P → Q) → OnErr r P → OnErr r Q
-err_then (Ok x) f p = tt
-err_then (Err e) f p = f p
 
 -- the length of the item that goes next
 abbrev pub next_bytes : {T : Type 0} → Waiting T → Option ℕ
