@@ -3,7 +3,7 @@ use Rattle.std.proofs.Common.{◌≡◌, ℕ, suc, ◌+◌, ◌<◌, ◌≤◌, 
 use Rattle.std.specs.Prelude.{filter, find, is_some, Option, Some, None, if◌then◌else◌, Result, Ok, Err, OnErr, is_ok}
 use Rattle.std.specs.List.{insert, remove}
 use Rattle.std.specs.List.Sorted.{IsPermutation}
-use Rattle.std.proofs.lemmas.List.{take-append-drop, append-nil, at_drop_more}
+use Rattle.std.proofs.lemmas.List.{take-append-drop, append-nil, at_drop_more, nil_from_length}
 use Rattle.std.proofs.lemmas.List.Elements.{filter-append}
 use Rattle.std.proofs.lemmas.List.Filters.{length-filter_both}
 use Rattle.std.proofs.lemmas.List.Sorted.{Contains-permutation, sum_by-IsPermutation}
@@ -124,10 +124,6 @@ single x (z ∷ []) l (inl e) = ap (λ y. y ∷ []) (sym e)
 single x (z ∷ []) l (inr h) = absurd h
 single x (z ∷ w ∷ zs) l h = absurd (omega arith)
 
-empty : {X : Type 0} (xs : List X) → length xs ≡ 0 → xs ≡ []
-empty [] l = refl
-empty (z ∷ zs) l = absurd (omega arith)
-
 pub same_count : {X : Type 0} (p : X → Bool) (xs ys : List X) → IsPermutation xs ys → length (filter p ys) ≡ length (filter p xs)
 same_count p xs ys moved = length-filter p ys ∙ sum_by-IsPermutation (λ x. cond (p x) 1 0) xs ys moved ∙ sym (length-filter p xs)
 
@@ -141,7 +137,7 @@ pub same_in_order : {X : Type 0} (p : X → Bool) (xs ys : List X) → IsPermuta
 same_in_order {X = X} p xs ys moved short = go (filter p xs) refl short
   where
     go : (zs : List X) → filter p xs ≡ zs → length zs ≤ 1 → filter p ys ≡ zs
-    go [] e l = empty (filter p ys) (same_count p xs ys moved ∙ ap length e)
+    go [] e l = nil_from_length (filter p ys) (same_count p xs ys moved ∙ ap length e)
     go (z ∷ []) e l = one_in_order p xs ys z moved e
     go (z ∷ w ∷ zs) e l = absurd (omega arith)
 

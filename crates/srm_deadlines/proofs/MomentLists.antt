@@ -2,7 +2,7 @@
 use Rattle.std.proofs.Common.{◌≡◌, ℕ, zero, suc, ◌+◌, ◌*◌, ◌/◌, ◌<◌, ◌≤◌, Bool, true, false, List, [], ◌∷◌, length, get_or, refl, sym, ap, subst, ◌∙◌, eq-eqb, inl, inr, ◌⊎◌, arith}
 use Rattle.std.specs.Prelude.{Option, Some, None, if◌then◌else◌, is_some, nat_eq, not, min, slice_set}
 use Rattle.std.specs.Option.{option_eq}
-use Rattle.std.proofs.lemmas.Bool.{cases_lt, leb-false, lt-leb, eqb-true, eqb-false}
+use Rattle.std.proofs.lemmas.Bool.{both_ways, cases_lt, leb-false, lt-leb, eqb-true, eqb-false}
 use Rattle.std.proofs.lemmas.List.{length-set, get_or-set_same, get_or-set_other}
 use Rattle.std.proofs.lemmas.Nat.{div-add-mod', mod_below}
 use Rattle.std.proofs.lemmas.Option.{none-some}
@@ -68,9 +68,6 @@ pub come_some : (now : ℕ) (o : Option ℕ) → has_come now o ≡ true → (t 
 come_some now None e = absurd (let k : false ≡ true = e in cc)
 come_some now (Some t) e = (t, refl)
 
-pub not_both : (b : Bool) → b ≡ true → b ≡ false → ⊥
-not_both b p q = let k : true ≡ false = sym p ∙ q in cc
-
 -- ---- a list that is looked through
 
 pub none_yet : (moments : List (Option ℕ)) (low : ℕ) → IsLeastIn moments low low None
@@ -109,7 +106,7 @@ set_leasts above above' moments moments' index new least h set same is_least put
             let low : 16 * (index / 16) ≤ index = parts.0 in
             let high : index < 16 * (index / 16) + 16 = parts.1 in
             let same : j ≡ index / 16 = omega arith in
-            absurd (not_both (nat_eq j (index / 16)) (eq-eqb j (index / 16) same) e)
+            absurd (both_ways (nat_eq j (index / 16)) e (eq-eqb j (index / 16) same))
 
     go : (j : ℕ) (b : Bool) → nat_eq j (index / 16) ≡ b → IsLeastIn moments' (16 * j) (16 * j + 16) (if b then least else item_at above j)
     go j true e = subst (λ q. IsLeastIn moments' (16 * q) (16 * q + 16) least) (sym (eqb-true j (index / 16) e)) is_least
@@ -186,7 +183,7 @@ first_later now above moments from high j end here over found h whole none f som
         let (i, low, below, at) = (h.each j).is_one t is in
         let come : has_come now (item_at moments i) ≡ true = ap (has_come now) (at ∙ sym is) ∙ has in
         let inside : i < length moments = stands_within moments i t at in
-        not_both (has_come now (item_at moments i)) come (last.none e i low (elim ends [ inl f ↦ omega arith | inr f ↦ omega arith ]))
+        both_ways (has_come now (item_at moments i)) (last.none e i low (elim ends [ inl f ↦ omega arith | inr f ↦ omega arith ])) come
 
 -- a block whose least has come stands within the list
 pub block_within : (now : ℕ) (above moments : List (Option ℕ)) (j : ℕ) → AreLeasts above moments → has_come now (item_at above j) ≡ true → 16 * j < length moments
@@ -240,7 +237,7 @@ other_moment : (a b : Option ℕ) → option_eq nat_eq a b ≡ false → a ≡ b
 other_moment None None e same = absurd (let k : true ≡ false = e in cc)
 other_moment None (Some y) e same = absurd (none-some y same)
 other_moment (Some x) None e same = absurd (none-some x (sym same))
-other_moment (Some x) (Some y) e same = not_both (nat_eq x y) (eq-eqb x y (let k : x ≡ y = cc in k)) e
+other_moment (Some x) (Some y) e same = both_ways (nat_eq x y) e (eq-eqb x y (let k : x ≡ y = cc in k))
 
 -- the least of a block in which another than the least is replaced
 least_beside : (moments moments' : List (Option ℕ)) (low high index : ℕ) (old new least : Option ℕ) → low ≤ index → index < high → item_at moments index ≡ old → (old ≡ least → ⊥)
