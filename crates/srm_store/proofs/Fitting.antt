@@ -3,6 +3,7 @@ use Rattle.std.proofs.Common.{◌≡◌, ◌≢◌, ℕ, ◌<◌, ◌⊎◌, Lis
 use Rattle.std.specs.Prelude.{◌==◌, ◌||◌, map, cond, if◌then◌else◌}
 use Rattle.std.specs.List.{list_any, flat_map}
 use Rattle.std.specs.Option.{option_or}
+use Rattle.std.proofs.Math.Bool.{or_assoc}
 use Rattle.std.proofs.lemmas.Bool.{false≢true, eq-eqb, ne_eqb, cases_eq}
 use Rattle.std.proofs.lemmas.List.{map-append}
 use Rattle.std.proofs.lemmas.List.Folds.{find-append, list_any-append}
@@ -119,21 +120,17 @@ any_back p xs ys y = rw (list_any-append p xs (ys ++ y ∷ []), list_any-append 
     go false false true = refl
     go false false false = refl
 
-or_assoc : (a b c : Bool) → (a || (b || c)) ≡ ((a || b) || c)
-or_assoc true b c = refl
-or_assoc false b c = refl
-
 pages_inserted : (inserted : List Drawop) (evidence : List FullName) (d : Drawop) (p : Page) → is_in (pages_named (inserted ++ d ∷ []) evidence) p ≡ is_in (pages_named inserted evidence) p || same_page d.name.stream.page p
 pages_inserted inserted evidence d p =
     ap (λ ps. same_page first_page p || is_in (ps ++ map page_of_name evidence) p) (map-append page_of_drawop inserted (d ∷ []))
     ∙ ap (λ b. same_page first_page p || b) (any_front (λ q. same_page q p) (map page_of_drawop inserted) (map page_of_name evidence) d.name.stream.page)
-    ∙ or_assoc (same_page first_page p) (is_in (map page_of_drawop inserted ++ map page_of_name evidence) p) (same_page d.name.stream.page p)
+    ∙ sym (or_assoc (same_page first_page p) (is_in (map page_of_drawop inserted ++ map page_of_name evidence) p) (same_page d.name.stream.page p))
 
 pages_shown : (inserted : List Drawop) (evidence : List FullName) (n : FullName) (p : Page) → is_in (pages_named inserted (evidence ++ n ∷ [])) p ≡ is_in (pages_named inserted evidence) p || same_page n.stream.page p
 pages_shown inserted evidence n p =
     ap (λ ps. same_page first_page p || is_in (map page_of_drawop inserted ++ ps) p) (map-append page_of_name evidence (n ∷ []))
     ∙ ap (λ b. same_page first_page p || b) (any_back (λ q. same_page q p) (map page_of_drawop inserted) (map page_of_name evidence) n.stream.page)
-    ∙ or_assoc (same_page first_page p) (is_in (map page_of_drawop inserted ++ map page_of_name evidence) p) (same_page n.stream.page p)
+    ∙ sym (or_assoc (same_page first_page p) (is_in (map page_of_drawop inserted ++ map page_of_name evidence) p) (same_page n.stream.page p))
 
 -- as many pages were named as the table has
 pub count_named : {inserted : List Drawop} {evidence : List FullName} {settled : List Settling} {s : StoreContent} → Fits inserted evidence settled s → length (firsts same_page (pages_named inserted evidence)) ≡ length s.table.pages

@@ -2,7 +2,7 @@
 use Rattle.std.proofs.Common.{◌≡◌, suc, ◌<◌, ◌≤◌, List, [], ◌∷◌, ◌++◌, Bool, true, false, not, length, append_assoc, refl, sym, ap, ◌∙◌, arith}
 use Rattle.std.specs.Prelude.{filter, if◌then◌else◌, ◌||◌}
 use Rattle.std.proofs.lemmas.List.{append-nil}
-use Rattle.std.proofs.lemmas.Bool.{false≢true, and_parts, and_from, or_parts, ltb-false}
+use Rattle.std.proofs.lemmas.Bool.{false≢true, not-true, and_parts, and_from, or_parts, ltb-false}
 use Rattle.srm_names.specs.declared.limits.TheConstants.{PAGES}
 use Rattle.srm_names.specs.declared.page.Page.{Page}
 use Rattle.srm_names.specs.Histories.{firsts}
@@ -54,10 +54,6 @@ shorter_by_it p (q ∷ pages) h = go (same_page q p) (same_page-flip p q) h (sho
     go true e h before = rw e (omega (arith, shorter p pages))
     go false e h before = rw e (omega (arith, before h))
 
-not_true : (b : Bool) → not b ≡ true → b ≡ false
-not_true false e = refl
-not_true true e = absurd (false≢true e)
-
 other_of : (x q : Page) (pages : List Page) → is_in pages x ≡ false → is_in pages q ≡ true → same_page x q ≡ false
 other_of x q pages out in_it = go (same_page x q) refl
   where
@@ -70,7 +66,7 @@ pub length-included : (pages others : List Page) → each_once pages ≡ true �
 length-included [] others once within = omega arith
 length-included (x ∷ pages) others once within =
     let parts = and_parts (not (is_in pages x)) (each_once pages) once in
-    let out = not_true (is_in pages x) parts.0 in
+    let out = not-true (is_in pages x) parts.0 in
     let there : is_in others x ≡ true = within x (rw (same_page-itself x) refl) in
     let fewer = length-included pages (filter (λ y. not (same_page x y)) others) parts.1
     (λ p h. still_without x p others (other_of x p pages out h) ∙ within p (back x p pages h)) in
@@ -112,7 +108,7 @@ once_pushed [] p once out = refl
 once_pushed (q ∷ pages) p once out =
     let parts = and_parts (not (is_in pages q)) (each_once pages) once in
     let o = outside (same_page q p) out in
-    let still : is_in (pages ++ p ∷ []) q ≡ false = list_any-snoc (λ r. same_page r q) pages p ∙ rw (not_true (is_in pages q) parts.0, same_page-flip p q, o.0) refl in
+    let still : is_in (pages ++ p ∷ []) q ≡ false = list_any-snoc (λ r. same_page r q) pages p ∙ rw (not-true (is_in pages q) parts.0, same_page-flip p q, o.0) refl in
     and_from _ _ (ap not still) (once_pushed pages p parts.1 o.1)
   where
     outside : (b : Bool) → (b || is_in pages p) ≡ false → (b ≡ false) × (is_in pages p ≡ false)
@@ -137,7 +133,7 @@ pub firsts_each_once : (pages : List Page) → each_once pages ≡ true → firs
 firsts_each_once [] once = refl
 firsts_each_once (p ∷ pages) once =
     let parts = and_parts (not (is_in pages p)) (each_once pages) once in
-    ap (λ ps. p ∷ filter (λ y. not (same_page p y)) ps) (firsts_each_once pages parts.1) ∙ ap (λ ps. p ∷ ps) (none_without p pages (not_true (is_in pages p) parts.0))
+    ap (λ ps. p ∷ filter (λ y. not (same_page p y)) ps) (firsts_each_once pages parts.1) ∙ ap (λ ps. p ∷ ps) (none_without p pages (not-true (is_in pages p) parts.0))
 
 -- one more page among pages, and several
 firsts_more : (pages : List Page) (p : Page) → firsts same_page (pages ++ p ∷ []) ≡ with_page (firsts same_page pages) p
