@@ -90,9 +90,6 @@ held_below (d ∷ inserted) u n h = go (same_name d.name (named u n)) refl h (he
 pub released_is : (inserted : List Drawop) (u : Stream) (places : List (List (Option Drawop))) (k : ℕ) → ((n : ℕ) → place_at places n ≡ held_at inserted (named u n)) → FilledTo places k → k ≡ length (released inserted u)
 released_is inserted u places k same front = omega (arith, at)
   where
-    f : ℕ → Option Drawop
-    f n = held_at inserted (named u n)
-
     top : ℕ
     top = greatest_in (map (λ (d : Drawop). d.name) inserted) u
 
