@@ -3,7 +3,7 @@ use Rattle.std.proofs.Common.{◌≡◌, ℕ, zero, suc, ◌^◌, ◌<◌, ◌�
 use Rattle.std.specs.Prelude.{◌==◌, nat_lt, nat_le, not, ◌&&◌}
 use Rattle.std.specs.List.{list_all}
 use Rattle.std.specs.Int.{Width, w8, w16, w32, w64, byte_len, from_be_bytes, to_be_bytes}
-use Rattle.std.proofs.lemmas.Bool.{ltb-false, le-ltb, and_parts, and_from}
+use Rattle.std.proofs.lemmas.Bool.{ltb-false, le-ltb, not-true, and_parts, and_from}
 use Rattle.std.proofs.lemmas.Bool.Decides.{nat_tests}
 use Rattle.std.proofs.lemmas.List.{take_at, drop_at, take-append-drop, length-append, length-take}
 use Rattle.std.proofs.lemmas.Nat.{be_bytes_2, be_bytes_4, be_bytes_8, from_be_bytes-to_be_bytes_2, from_be_bytes-to_be_bytes_4, from_be_bytes-to_be_bytes_8}
@@ -289,7 +289,3 @@ mask_reads name =
     tested w32 (2 ^ 32) (to_be_bytes w32) (λ mask. not (mask == 0) && list_all (λ n. nat_le n.number DRAWOPS) (asked_by name mask)) Number (IsMask name) wide32
     (λ mask lt good. (let k = and_parts (not (mask == 0)) (list_all (λ n. nat_le n.number DRAWOPS) (asked_by name mask)) good in record { some = not-true (mask == 0) k.0; narrow = lt; within = k.1 }))
     (λ mask h. (h.narrow, and_from (not (mask == 0)) (list_all (λ n. nat_le n.number DRAWOPS) (asked_by name mask)) (ap not h.some) h.within))
-  where
-    not-true : (b : Bool) → not b ≡ true → b ≡ false
-    not-true true e = absurd cc
-    not-true false e = refl
