@@ -1,5 +1,5 @@
 -- One more call, in what the definitions say and in what a store has.
-use Rattle.std.proofs.Common.{◌≡◌, ◌≢◌, ℕ, ◌<◌, ◌⊎◌, List, [], ◌∷◌, ◌++◌, Option, Some, None, Bool, true, false, ◌&&◌, max, length, refl, sym, ap, ◌∙◌, subst, arith, inl, inr}
+use Rattle.std.proofs.Common.{◌≡◌, ◌≢◌, ℕ, ◌<◌, ◌⊎◌, List, [], ◌∷◌, ◌++◌, Option, Some, None, Bool, true, false, ◌&&◌, max, length, refl, sym, ap, ◌∙◌, subst, append_assoc, arith, inl, inr}
 use Rattle.std.specs.Prelude.{◌==◌, ◌||◌, map, cond, if◌then◌else◌}
 use Rattle.std.specs.List.{list_any, flat_map}
 use Rattle.std.specs.Option.{option_or}
@@ -17,7 +17,7 @@ use Rattle.srm_names.specs.Histories.{or_else, greatest, firsts}
 use Rattle.srm_names.specs.Names.{first_page, same_page, same_stream, same_name}
 use Rattle.srm_names.proofs.Lists.{greatest-append}
 use Rattle.srm_names.proofs.Same.{same_stream-is, same_stream-itself, same_name-is}
-use Rattle.srm_names.proofs.Snoc.{first_of-snoc, or_else-none}
+use Rattle.srm_names.proofs.Snoc.{first_of-snoc, list_any-snoc, or_else-none}
 use Rattle.srm_store.specs.Held.{has_name, held_at, number_in, known, page_of_drawop, page_of_name, pages_named}
 use Rattle.srm_store.specs.Finals.{Settling, rows_for, rows_of, rows_kept, FinalsContent, SameFinals, Settles}
 use Rattle.srm_store.specs.Places.{place_at}
@@ -101,24 +101,20 @@ known_more evidence a s = ap greatest (flat_map-append (number_in s) evidence (a
     go false = omega arith
 
 -- the pages that were named
+pub or_swap : (a b d : Bool) → ((a || b) || d) ≡ ((a || d) || b)
+or_swap true b d = refl
+or_swap false true true = refl
+or_swap false true false = refl
+or_swap false false true = refl
+or_swap false false false = refl
+
 any_front : {X : Type 0} (p : X → Bool) (xs ys : List X) (y : X) → list_any p ((xs ++ y ∷ []) ++ ys) ≡ list_any p (xs ++ ys) || p y
-any_front p xs ys y = rw (list_any-append p (xs ++ y ∷ []) ys, list_any-append p xs (y ∷ []), list_any-append p xs ys) (go (list_any p xs) (p y) (list_any p ys))
-  where
-    go : (a b c : Bool) → ((a || (b || false)) || c) ≡ ((a || c) || b)
-    go true b c = refl
-    go false true true = refl
-    go false true false = refl
-    go false false true = refl
-    go false false false = refl
+any_front p xs ys y =
+    list_any-append p (xs ++ y ∷ []) ys ∙ ap (λ b. b || list_any p ys) (list_any-snoc p xs y)
+    ∙ or_swap (list_any p xs) (p y) (list_any p ys) ∙ ap (λ b. b || p y) (sym (list_any-append p xs ys))
 
 any_back : {X : Type 0} (p : X → Bool) (xs ys : List X) (y : X) → list_any p (xs ++ (ys ++ y ∷ [])) ≡ list_any p (xs ++ ys) || p y
-any_back p xs ys y = rw (list_any-append p xs (ys ++ y ∷ []), list_any-append p ys (y ∷ []), list_any-append p xs ys) (go (list_any p xs) (list_any p ys) (p y))
-  where
-    go : (a b c : Bool) → (a || (b || (c || false))) ≡ ((a || b) || c)
-    go true b c = refl
-    go false true c = refl
-    go false false true = refl
-    go false false false = refl
+any_back p xs ys y = ap (list_any p) (sym (append_assoc xs ys (y ∷ []))) ∙ list_any-snoc p (xs ++ ys) y
 
 pages_inserted : (inserted : List Drawop) (evidence : List FullName) (d : Drawop) (p : Page) → is_in (pages_named (inserted ++ d ∷ []) evidence) p ≡ is_in (pages_named inserted evidence) p || same_page d.name.stream.page p
 pages_inserted inserted evidence d p =

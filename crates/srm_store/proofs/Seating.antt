@@ -16,7 +16,7 @@ use Rattle.srm_store.specs.Stores.{StoreContent, KeepsSlots}
 use Rattle.srm_store.specs.Fits.{Fits}
 use Rattle.srm_store.proofs.Slots.{is_in-with_page, with_page-longer, slot_of-le, slot_of-in, slot_of-absent, room_by_slot}
 use Rattle.srm_store.proofs.Pages.{is_in-firsts, firsts_all}
-use Rattle.srm_store.proofs.Fitting.{count_named}
+use Rattle.srm_store.proofs.Fitting.{count_named, or_swap}
 use Rattle.std.proofs.lemmas.List.Folds.{list_any-append}
 
 -- two tables with the same pages, each as many
@@ -42,13 +42,6 @@ as_many a b [] h = h.count
 as_many a b (p ∷ ps) h = as_many (with_page a p) (with_page b p) ps (same_with a b p h)
 
 -- naming one page and then another is naming them the other way round
-or_swap : (a b d : Bool) → ((a || b) || d) ≡ ((a || d) || b)
-or_swap true b d = refl
-or_swap false true true = refl
-or_swap false true false = refl
-or_swap false false true = refl
-or_swap false false false = refl
-
 swapped : (pages : List Page) (p q : Page) → SamePages (with_page (with_page pages p) q) (with_page (with_page pages q) p)
 swapped pages p q = record {
   each = λ r.
