@@ -3,7 +3,7 @@ use Rattle.std.proofs.Common.{◌≡◌, ℕ, ◌+◌, ◌<◌, ◌≤◌, Bool,
 use Rattle.std.specs.Prelude.{◌==◌, Option, Some, None, option_map, if◌then◌else◌}
 use Rattle.std.specs.List.{AllByRecursion}
 use Rattle.std.proofs.lemmas.List.{append-nil, map-append}
-use Rattle.srm_names.proofs.Lists.{AllByRecursion-append}
+use Rattle.srm_names.proofs.Lists.{AllByRecursion-parts, AllByRecursion-append}
 use Rattle.srm_bucket.specs.declared.class.Class.{Class}
 use Rattle.srm_bucket.specs.declared.class.Class.TheVariants.{Shown, New, Other}
 use Rattle.srm_bucket.specs.declared.item.Item.{Item}
@@ -18,14 +18,6 @@ use Rattle.srm_outbox.specs.declared.out.Outgoing.{Outgoing}
 use Rattle.srm_outbox.specs.Outs.{IsOwn, AreOwn}
 use Rattle.srm_outbox.specs.DueItems.{classed_of}
 use Rattle.srm_outbox.specs.Outbox.{Passes, WentContent, NothingWent, HandsIn, LetsGo}
-
-pub all-front : {X : Type 0} (P : X → Type 0) (xs ys : List X) → AllByRecursion P (xs ++ ys) → AllByRecursion P xs
-all-front P [] ys p = tt
-all-front P (x ∷ xs) ys p = (p.0, all-front P xs ys p.1)
-
-pub all-back : {X : Type 0} (P : X → Type 0) (xs ys : List X) → AllByRecursion P (xs ++ ys) → AllByRecursion P ys
-all-back P [] ys p = p
-all-back P (x ∷ xs) ys p = all-back P xs ys p.1
 
 -- a queue from which nothing came is empty
 pub drained : {X : Type 0} (xs ys : List X) → xs ≡ ys → ys ≡ drop 1 xs → xs ≡ []
@@ -65,7 +57,8 @@ hands_more done a old now new h adds gains = record {
   fits = λ rate depth calls f.
       subst (λ cs. Fits rate depth cs new) (append_assoc calls (map Handed (map classed_of done)) (Handed (classed_of a) ∷ []) ∙ ap (λ cs. calls ++ cs) (sym (ap (map Handed) (map-append classed_of done (a ∷ [])) ∙ map-append Handed (map classed_of done) (classed_of a ∷ []))))
       (adds.fits rate depth (calls ++ map Handed (map classed_of done)) (h.fits rate depth calls f));
-  own = λ me session own all. own_behind me session (classed_of a) now.waiting new.waiting (h.own me session own (all-front (λ x. IsOwn me session x.item.value) done (a ∷ []) all)) gains (all-back (λ x. IsOwn me session x.item.value) done (a ∷ []) all).0;
+  own = λ me session own all. (let k = AllByRecursion-parts (λ (x : DueItem). IsOwn me session x.item.value) done (a ∷ []) all in
+      own_behind me session (classed_of a) now.waiting new.waiting (h.own me session own k.0) gains k.1.0);
   count = let one : count_of new.waiting ≡ count_of now.waiting + 1 = count-of-class a.class a.item now.waiting new.waiting gains in
       omega (arith, h.count, length-append done (a ∷ []));
 }
@@ -165,7 +158,7 @@ taken P old new item t all = go (next_in old) refl
         subst P same (subst (AllByRecursion P) split (all c.class)).0
 
 remaining : (P : Item Outgoing → Type 0) (old new : Waiting Outgoing) (item : Item Outgoing) → TakesNext old (Some item) new → ((class : Class) → AllByRecursion P (queue old class)) → (class : Class) → AllByRecursion P (queue new class)
-remaining P old new item t all class = all-back P (in_class class (next_in old)) (queue new class) (subst (AllByRecursion P) (t.1 class) (all class))
+remaining P old new item t all class = (AllByRecursion-parts P (in_class class (next_in old)) (queue new class) (subst (AllByRecursion P) (t.1 class) (all class))).1
 
 pub going_goes_on : (now : ℕ) (old b new : BucketContent Outgoing) (went more : WentContent) (item : Item Outgoing) → WentSoFar now old b went → Pops now b (Some item) new → TakesNext b.waiting (Some item) new.waiting
     → count_of new.waiting + 1 ≡ count_of b.waiting → more.outs ≡ went.outs ++ item.value.out ∷ [] → more.noted ≡ went.noted ++ item.value.noted ∷ [] → went.room ≤ more.room + 1 → WentSoFar now old new more

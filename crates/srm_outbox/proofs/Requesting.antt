@@ -12,6 +12,7 @@ use Rattle.srm_names.specs.declared.limits.TheConstants.{MEMBERS, DRAWOPS}
 use Rattle.srm_names.specs.declared.stream.Stream.{Stream}
 use Rattle.srm_names.specs.FullName.{FullName}
 use Rattle.srm_names.specs.Names.{same_stream, stream_below, name_below, ascending}
+use Rattle.srm_names.proofs.Lists.{AllByRecursion-snoc}
 use Rattle.srm_names.proofs.Orders.{name_order}
 use Rattle.srm_names.proofs.Same.{same_stream-is, same_stream-itself}
 use Rattle.srm_names.proofs.Rising.{ascending_drop}
@@ -183,15 +184,11 @@ pub packs_more : (me : ℕ) (asks ns : List FullName) (n : FullName) (last : Opt
 packs_more me asks ns n last requests r e is spelled p = record {
   packs = append_assoc requests (r ∷ []) (packed_after me (Some n) ns)
       ∙ ap (λ gs. requests ++ gs) (ap (λ g. g ∷ packed_after me (Some n) ns) is ∙ sym (at (is_covered_by last n) e)) ∙ p.packs;
-  each = one_more requests p.each;
+  each = AllByRecursion-snoc (MayHandIn me) requests r p.each (record { sender = ap sender_of is; charged = ap is_session is; spellable = spelled });
 }
   where
     at : (b : Bool) → b ≡ false → (if b then packed_after me last ns else Request me n (mask_of n ns) ∷ packed_after me (Some n) ns) ≡ Request me n (mask_of n ns) ∷ packed_after me (Some n) ns
     at b e = ap (λ (x : Bool). if x then packed_after me last ns else Request me n (mask_of n ns) ∷ packed_after me (Some n) ns) e
-
-    one_more : (gs : List Datagram) → AllByRecursion (MayHandIn me) gs → AllByRecursion (MayHandIn me) (gs ++ r ∷ [])
-    one_more [] all = (record { sender = ap sender_of is; charged = ap is_session is; spellable = spelled }, tt)
-    one_more (g ∷ gs) all = (all.0, one_more gs all.1)
 
 pub packs_all : (me : ℕ) (asks : List FullName) (last : Option FullName) (requests : List Datagram) → PackedSoFar me asks [] last requests → requests ≡ packed me asks
 packs_all me asks last requests p = sym (append-nil requests) ∙ p.packs
