@@ -7,6 +7,7 @@ use Rattle.std.proofs.lemmas.Bool.{eqb-true, and_parts, and_from}
 use Rattle.srm_names.specs.declared.echo.Echo.{Echo}
 use Rattle.srm_names.specs.FullName.{FullName}
 use Rattle.srm_names.specs.Names.{ascending, echo_below}
+use Rattle.srm_names.proofs.Lists.{all_by}
 use Rattle.srm_codec.specs.Spelling.{AreRows, AreEchoes, is_name, is_echo, row_below, name_bytes, echo_bytes}
 use Rattle.srm_codec.specs.Judging.{◌>>=◌, Read, number_at, is_wanted, is_above, name_at, is_later_echo, echo_at, items_at, list_at}
 use Rattle.srm_codec.proofs.Readers.{IsBytes, bind_ok, ok_is, Takes, Takes-then, Reads, renamed}
@@ -121,10 +122,6 @@ passes-ascending {X} above below first next (x ∷ xs) = ap (λ b. b && passes a
     behind x [] = refl
     behind x (y ∷ ys) = ap (λ b. b && passes above (Some y) ys) (next x y) ∙ ap (λ b. below x y && b) (behind y ys)
 
-pub each_too : {X : Type 0} (P Q : X → Type 0) → ((x : X) → P x → Q x) → (xs : List X) → AllByRecursion P xs → AllByRecursion Q xs
-each_too P Q there [] all = tt
-each_too P Q there (x ∷ xs) (here, after) = (there x here, each_too P Q there xs after)
-
 -- ---- rows and echoes
 
 -- in a farewell the source of each row is the sender
@@ -168,5 +165,5 @@ echoes_reads =
       each = each_of IsNextEcho is_echo (λ last x n. n.fits) None echoes h.1;
       rising = sym (same echoes) ∙ passes_of IsNextEcho echo_above (λ last x n. n.above) None echoes h.1;
     })
-    (λ echoes h. (h.few, all_from IsNextEcho is_echo (λ _. Unit {0}) echo_above (λ last x q _ above. record { fits = q; above = above }) None echoes h.each (each_too is_echo (λ _. Unit {0}) (λ _ _. tt) echoes h.each) (same echoes ∙ h.rising)))
+    (λ echoes h. (h.few, all_from IsNextEcho is_echo (λ _. Unit {0}) echo_above (λ last x q _ above. record { fits = q; above = above }) None echoes h.each (all_by is_echo (λ _. Unit {0}) echoes (λ _ _. tt) h.each) (same echoes ∙ h.rising)))
     (list_reads echo_at echo_bytes IsNextEcho echo_reads)
