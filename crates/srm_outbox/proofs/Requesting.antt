@@ -158,12 +158,11 @@ request_spelled me mask first member name short within =
 
 -- the names in order, from one on
 
-pub rising_from : (i : ℕ) (n : FullName) (names : List FullName) → i < length names → n ≡ get_or names i n → ascending name_below names ≡ true → ascending name_below (n ∷ drop (i + 1) names) ≡ true
-rising_from i n names lt at asc =
-    subst (λ ns. ascending name_below ns ≡ true) (drop_more names i n lt ∙ ap (λ m. m ∷ drop (i + 1) names) (sym at)) (ascending_drop name_below i names asc)
-
 pub left_at : (i : ℕ) (n : FullName) (names : List FullName) → i < length names → n ≡ get_or names i n → drop i names ≡ n ∷ drop (i + 1) names
 left_at i n names lt at = drop_more names i n lt ∙ ap (λ m. m ∷ drop (i + 1) names) (sym at)
+
+pub rising_from : (i : ℕ) (n : FullName) (names : List FullName) → i < length names → n ≡ get_or names i n → ascending name_below names ≡ true → ascending name_below (n ∷ drop (i + 1) names) ≡ true
+rising_from i n names lt at asc = subst (λ ns. ascending name_below ns ≡ true) (left_at i n names lt at) (ascending_drop name_below i names asc)
 
 -- A loop has made these requests, the last of which begins at this name, and has these asks left.
 pub record PackedSoFar (me : ℕ) (asks left : List FullName) (last : Option FullName) (requests : List Datagram) : Type 0 where
