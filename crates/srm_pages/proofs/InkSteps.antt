@@ -1,7 +1,8 @@
 -- Each step keeps the rule of the well.
-use Rattle.std.proofs.Common.{◌≡◌, ◌≢◌, ℕ, ◌+◌, ◌<◌, Bool, true, false, true≢false, cond, eqb, eq-eqb, ne_eqb, List, [], ◌∷◌, ◌++◌, length, set, sym, refl, ap, ◌∙◌, subst, ⊎_elim, append_assoc, append-nil, arith}
+use Rattle.std.proofs.Common.{◌≡◌, ◌≢◌, ℕ, ◌+◌, ◌<◌, true, false, true≢false, cond, eqb, eq-eqb, ne_eqb, List, [], ◌∷◌, ◌++◌, length, set, sym, refl, ap, ◌∙◌, subst, ⊎_elim, append_assoc, append-nil, arith}
 use mathlib.Core.Option.{some}
 use lib.ListN.{get_elem?}
+use Rattle.std.proofs.lemmas.List.Elements.{filter-append}
 use Rattle.atomic_table.proofs.Lists.{at_set}
 use Rattle.crossbeam_queue.specs.Fifo.{Pushes, Pops, Forks, Merges, Learns}
 use Rattle.srm_pages.specs.declared.stroke.Stroke.{Stroke}
@@ -9,13 +10,8 @@ use Rattle.srm_pages.specs.declared.ink.InkView.{InkView}
 use Rattle.srm_pages.specs.Ink.{ink_view, reader, new_pen, with_one_pen_more, with_pen, joined_pass, reader_of, pen_of, strokes_of, KnowsPart, FitsInk, IsWellState, PenSends, ReaderReceives}
 use Rattle.srm_pages.proofs.Views.{All, all_set, all_one, snoc_cases}
 
-pick_append : (b : Bool) (x : Stroke) (l r m : List Stroke) → r ≡ l ++ m → cond b (x ∷ r) r ≡ cond b (x ∷ l) l ++ m
-pick_append true x l r m e = ap (λ k. x ∷ k) e
-pick_append false x l r m e = e
-
 pub part_of_both : (p : ℕ) (l m : List Stroke) → strokes_of p (l ++ m) ≡ strokes_of p l ++ strokes_of p m
-part_of_both p [] m = refl
-part_of_both p (x ∷ l) m = pick_append (eqb p x.pen) x (strokes_of p l) (strokes_of p (l ++ m)) (strokes_of p m) (part_of_both p l m)
+part_of_both p l m = filter-append (λ (x : Stroke). eqb p x.pen) l m
 
 mine_more : (p : ℕ) (l items : List Stroke) (x : Stroke) → p ≡ x.pen → strokes_of p (l ++ (items ++ x ∷ [])) ≡ strokes_of p (l ++ items) ++ x ∷ []
 mine_more p l items x e =

@@ -1,5 +1,5 @@
 -- The rule of the well.
-use Rattle.std.specs.Prelude.{◌≡◌, ℕ, ◌+◌, ◌<◌, ◌≤◌, ◌==◌, Bool, true, false, List, [], ◌∷◌, ◌++◌, if◌then◌else◌}
+use Rattle.std.specs.Prelude.{◌≡◌, ℕ, ◌+◌, ◌<◌, ◌≤◌, ◌==◌, Bool, true, false, List, [], ◌∷◌, ◌++◌, filter}
 use mathlib.Core.Option.{some}
 use lib.ListN.{get_elem?}
 use Rattle.srm_pages.specs.declared.stroke.Stroke.{Stroke}
@@ -32,8 +32,7 @@ pen_of v = ink_view false [] 0 v.writes v.pen v.sent
 
 -- the strokes of one pen, in order
 abbrev pub strokes_of : ℕ → List Stroke → List Stroke
-strokes_of p [] = []
-strokes_of p (x ∷ xs) = if p == x.pen then x ∷ strokes_of p xs else strokes_of p xs
+strokes_of p xs = filter (λ (x : Stroke). p == x.pen) xs
 
 -- what a pen sent is its part of what was received, and then its part of what the well holds
 abbrev pub SentIs : ℕ → List Stroke → List Stroke → List Stroke → Type 0
