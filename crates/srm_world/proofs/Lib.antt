@@ -9,7 +9,6 @@ pub mod Lawful
 pub mod Laning
 pub mod Wording
 pub mod Going
-pub mod Silent
 pub mod Stepping
 pub mod Beginning
 pub mod Journaling

@@ -24,6 +24,7 @@ use Rattle.srm_agent.specs.Noting.{moment_that_counts}
 use Rattle.srm_entries.proofs.Adding.{flat_map-snoc}
 use Rattle.srm_agent.proofs.Fitting.{fits_run}
 use Rattle.srm_entries.proofs.Running.{steps_more}
+use Rattle.srm_entries.proofs.Silence.{unticked_sends_nothing}
 use Rattle.srm_world.specs.declared.event.Event.{Event}
 use Rattle.srm_world.specs.declared.event.Event.TheVariants.{Deliver}
 use Rattle.srm_world.specs.declared.start.Start.{Start}
@@ -37,7 +38,6 @@ use Rattle.srm_world.proofs.Members.{of_member-append, of_member-own}
 use Rattle.srm_world.proofs.Laning.{get_set_same, get_set_other, get_map}
 use Rattle.srm_world.proofs.Wording.{plays_nothing, plays_one, sources_stay, plays_still, plays_on}
 use Rattle.srm_world.proofs.Going.{newest_right}
-use Rattle.srm_world.proofs.Silent.{unticked_sends_nothing}
 use Rattle.srm_world.proofs.Lawful.{lawful}
 
 pub of_member-other : (m : ℕ) (xs : List Entry) (e : Entry) → e.member ≢ m → of_member m (xs ++ e ∷ []) ≡ of_member m xs
