@@ -1,5 +1,5 @@
 -- A tick of a member that isn't gone, from what is due to its entry.
-use Rattle.std.proofs.Common.{◌≡◌, ℕ, ◌+◌, ◌==◌, ◌<◌, ◌≤◌, max, Bool, true, false, ◌||◌, List, [], ◌∷◌, ◌++◌, map, length, refl, ap, sym, ◌∙◌, subst, arith}
+use Rattle.std.proofs.Common.{◌≡◌, ℕ, ◌+◌, ◌==◌, ◌<◌, ◌≤◌, Bool, true, false, ◌||◌, List, [], ◌∷◌, ◌++◌, map, length, refl, ap, sym, ◌∙◌, subst, arith}
 use Rattle.std.specs.Prelude.{Option, Some, None, option_map, option_to_list, nat_le, IfSome, if◌then◌else◌}
 use Rattle.std.specs.List.{list_any, AllByRecursion}
 use Rattle.std.proofs.Math.Bool.{not-not}
@@ -37,6 +37,7 @@ use Rattle.srm_outbox.specs.Outbox.{WentContent}
 use Rattle.srm_agent.specs.Noting.{Stays}
 use Rattle.srm_agent.specs.Ticking.{TicksAs, tick_entry, IsSessionMessageAt, IsReportIf, IsDue, HandsOut, SendsAll, data_waits, session_message_at_end, state_after, due_then}
 use Rattle.srm_entries.proofs.Ending.{ending_of, ending_is, EndsIn, NoSessions, charged_is, due_by}
+use Rattle.srm_agent.proofs.Entering.{at_moment}
 use Rattle.srm_agent.proofs.Fitting.{refit, roomy}
 use Rattle.srm_agent.proofs.Sent.{bucket_ticks}
 use Rattle.srm_agent.proofs.Ticks.{IsSent, TickKeeps, TickRight, tick_fits}
@@ -334,7 +335,7 @@ pub acts_ticks : {W : Type 0} (next_word : W → ℕ × W) (a b d f z : Content 
 acts_ticks next_word a b d f z moment due arms went last outs answered s is = record {
   enters = record {
     input_is = refl;
-    moment_is = at_last a.last moment s.later;
+    moment_is = at_moment a.last moment s.later;
     fits = λ c made past h. subst (λ x. Fits c made (past ++ x ∷ []) z)
         (ap (λ gs. tick_entry c.me moment due.handed_out.asks due.handed_out.fixes arms gs z.state) same.0 ∙ ap (λ k. tick_entry k.me moment due.handed_out.asks due.handed_out.fixes arms (datagrams_of answered) z.state) (sym h.config))
         (acts_fits next_word a b d f z moment due arms went last outs c made past s h);
@@ -344,9 +345,6 @@ acts_ticks next_word a b d f z moment due arms went last outs answered s is = re
   spelled = same.1;
 }
   where
-    at_last : (last moment : ℕ) → last ≤ moment → moment ≡ max moment last
-    at_last last moment late = omega (arith, late)
-
     same : (outs ≡ datagrams_of answered) × AllByRecursion (IsOut a.config.session) answered
     same = acts_outs next_word a b d f z moment due arms went last outs answered s is
 

@@ -1,24 +1,24 @@
 -- The entry of a draw, and what it leaves.
 use Rattle.std.proofs.Common.{◌≡◌, ◌≢◌, ℕ, ◌+◌, ◌≤◌, max, Bool, true, false, not, ◌&&◌, ◌||◌, List, [], ◌∷◌, ◌++◌, map, length, refl, ap, sym, ◌∙◌, subst, inl, inr, arith}
-use Rattle.std.specs.Prelude.{◌⊎◌, ◌==◌, nat_lt, nat_le, filter, Option, Some, None, if◌then◌else◌, option_map, is_some, unwrap_or, Ok, Err, IfSome}
+use Rattle.std.specs.Prelude.{◌⊎◌, ◌==◌, nat_lt, nat_le, filter, Option, Some, None, if◌then◌else◌, option_map, is_some, Ok, Err, IfSome}
 use Rattle.std.specs.List.{flat_map, AllByRecursion}
 use Rattle.std.proofs.Math.Nat.{max-zero}
 use Rattle.std.proofs.Math.Bool.{or-false, or-true}
 use Rattle.std.proofs.lemmas.Bool.{false≢true, cases_eq, eq-eqb, ne_eqb}
 use Rattle.std.proofs.lemmas.Bool.Decides.{nat_tests}
 use Rattle.std.proofs.lemmas.Option.{none-some, same_Some}
-use Rattle.std.proofs.lemmas.List.{append-nil, map-append, length-append}
-use Rattle.std.proofs.lemmas.List.Elements.{filter-append, filter_map-append}
+use Rattle.std.proofs.lemmas.List.{map-append, length-append}
+use Rattle.std.proofs.lemmas.List.Elements.{filter-append}
 use Rattle.srm_names.specs.declared.limits.TheConstants.{PAGES, DRAWOPS, LONGEST_BODY}
 use Rattle.srm_names.specs.declared.page.Page.{Page}
 use Rattle.srm_names.specs.declared.stream.Stream.{Stream}
 use Rattle.srm_names.specs.declared.drawop.Drawop.{Drawop}
 use Rattle.srm_names.specs.FullName.{FullName}
-use Rattle.srm_names.specs.Histories.{steps, greatest, firsts, first_of, last_of}
+use Rattle.srm_names.specs.Histories.{steps, greatest, firsts, first_of}
 use Rattle.srm_names.specs.Names.{first_page, same_page, same_stream, named, stream_on}
 use Rattle.srm_names.proofs.Same.{same_page-is, same_page-itself, same_stream-is, same_stream-itself}
 use Rattle.srm_names.proofs.Lists.{Has, Has-append, Has-front, Has-back, Has-map, map-Has, AllByRecursion-snoc}
-use Rattle.srm_names.proofs.Snoc.{along, steps-snoc, last_of-snoc, first_of-snoc, or_else-none}
+use Rattle.srm_names.proofs.Snoc.{along, first_of-snoc, or_else-none}
 use Rattle.srm_codec.specs.declared.datagram.Datagram.{Datagram}
 use Rattle.srm_codec.specs.declared.datagram.Datagram.TheVariants.{Data}
 use Rattle.srm_codec.specs.Spelling.{is_drawop, length_of, sender_of, is_session}
@@ -43,11 +43,9 @@ use Rattle.srm_entries.specs.declared.entry.Verdict.{Verdict}
 use Rattle.srm_entries.specs.declared.entry.Verdict.TheVariants.{Done, Refused}
 use Rattle.srm_outbox.specs.declared.out.Outgoing.{Outgoing}
 use Rattle.srm_entries.specs.Configs.{Config}
-use Rattle.srm_entries.specs.Entries.{done, accepted, held, evidence_by, evidence_in, drawn, is_held, is_missing, known, slots, pages_in, state, is_gone, is_leaving, last_moment}
-use Rattle.srm_entries.specs.Distances.{distance_calls, calls_in}
+use Rattle.srm_entries.specs.Entries.{done, held, evidence_by, evidence_in, drawn, is_held, is_missing, known, slots, pages_in, state, is_gone, is_leaving, last_moment}
 use Rattle.srm_entries.specs.Timers.{last_ask, fix_running, held_off, asker, basis_of, fix_basis_of, ask_basis_of, ask_exponent, ArmsRight, TimersRight, only_if}
-use Rattle.srm_entries.specs.Verdicts.{first_cause, verdict_of, lacks_slots_for, drawn_in, settlings, settling_of}
-use Rattle.srm_entries.specs.Sessions.{session_due, session_due_after}
+use Rattle.srm_entries.specs.Verdicts.{first_cause, verdict_of, lacks_slots_for, drawn_in, settlings}
 use Rattle.srm_entries.specs.Bucket.{Going, GoesAsCharged, bucket_calls, classed}
 use Rattle.srm_entries.specs.Runs.{EntryRight}
 use Rattle.srm_store.specs.PageTables.{with_page}
@@ -62,11 +60,13 @@ use Rattle.srm_agent.specs.Drawing.{refusals, name_after, drawn_entry, IsDraftOf
 use Rattle.srm_agent_state.specs.Growth.{HoldsToo}
 use Rattle.srm_entries.proofs.Adding.{known-snoc, is_missing-snoc, flat_map-snoc, last_ask-snoc, fix_running-snoc, held_off-snoc}
 use Rattle.srm_entries.proofs.Showing.{kind, shown_drawing, shown_hearing, shown_quiet, shown-snoc, held-snoc, drawn-snoc, state-snoc, held_is_shown, refused_is_not_done}
+use Rattle.srm_entries.proofs.Quiet.{same_settlings, same_distances}
 use Rattle.srm_entries.proofs.Running.{steps_more, last_moment-snoc, shown-page-snoc}
 use Rattle.srm_agent_state.proofs.Midway.{if_none}
 use Rattle.srm_agent.proofs.Slotted.{slots_lack, slots-one}
 use Rattle.srm_entries.proofs.Arming.{ask_at}
 use Rattle.srm_entries.proofs.Marking.{bucket_calls-snoc, entries-snoc}
+use Rattle.srm_agent.proofs.Quiet.{same_due}
 use Rattle.srm_agent.proofs.Still.{same_progress}
 use Rattle.srm_agent.proofs.Fitting.{refit, roomy}
 use Rattle.srm_agent.proofs.Entering.{later, moves_on, refused_enters}
@@ -252,9 +252,6 @@ module _ (me moment : ℕ) (page : Page) (body : List ℕ) (stamp : ℕ) (after 
       same = ap (λ v. let x : Classed Datagram = record { class = New; item = record { value = v; length = item.length } } in x) is
           ∙ ap (λ k. let x : Classed Datagram = record { class = New; item = record { value = Data d; length = k } } in x) charged
 
-  same_session_due : (c : Config) (made : ℕ) → session_due c made (past ++ e ∷ []) ≡ session_due c made past
-  same_session_due c made = ap (λ o. unwrap_or o (made + 1000000)) (ap (last_of (session_due_after c)) (steps-snoc past e) ∙ last_of-snoc (session_due_after c) (steps past) (record { before = past; this = e }))
-
   -- what was drawn is what is known
   own_kept : (page2 : Page) → drawn_in past (stream_on me page2) ≡ known past (stream_on me page2) → drawn_in (past ++ e ∷ []) (stream_on me page2) ≡ known (past ++ e ∷ []) (stream_on me page2)
   own_kept page2 h = more ∙ go (same_stream (stream_on me page2) own) refl ∙ sym (known-snoc past e (stream_on me page2))
@@ -270,12 +267,6 @@ module _ (me moment : ℕ) (page : Page) (body : List ℕ) (stamp : ℕ) (after 
       go : (b : Bool) → same_stream s own ≡ b → drawn_in past s + length (if same_stream s own then d ∷ [] else []) ≡ max (known past s) (greatest ((if same_stream s own then (known past own + 1) ∷ [] else []) ++ []))
       go true q = let same : known past own ≡ known past s = ap (known past) (sym (same_stream-is s own q)) in rw q (omega (arith, same, h))
       go false q = rw q (omega (arith, h))
-
-  settlings_kept : settlings (past ++ e ∷ []) ≡ settlings past
-  settlings_kept = filter_map-append (λ (x : Entry). settling_of (accepted x)) past (e ∷ []) ∙ append-nil (settlings past)
-
-  distances_kept : (n : ℕ) → distance_calls n (past ++ e ∷ []) ≡ distance_calls n past
-  distances_kept n = flat_map-snoc (calls_in n) past e ∙ append-nil (distance_calls n past)
 
 -- the agent that fits a run fits it with the draw
 module _ {W : Type 0} (c : Config) (made : ℕ) (past : List Entry) (a n : Content W) (moment : ℕ) (page : Page) (body : List ℕ) (h : Fits c made past a) where
@@ -313,11 +304,11 @@ module _ {W : Type 0} (c : Config) (made : ℕ) (past : List Entry) (a n : Conte
     showing = ap (λ (x : Content W). x.showing) is ∙ h.showing ∙ sym (shown-page-snoc past entry);
     pages = ap (λ (x : Content W). x.pages) is ∙ ap (λ ps. with_page ps page) h.pages ∙ sym (slots-one past entry page refl);
     progress = subst (EachProgressFits (past ++ entry ∷ [])) (sym (ap (λ (x : Content W). x.progress) is)) (same_progress past entry a.progress (λ j. refl) h.progress);
-    store = rw (held-snoc past entry, shown-snoc past entry, settlings_kept c.me moment page body moment a.state past) (keeps.each _ _ _ h.store);
-    distances = rw (ap (λ (x : Content W). x.distances) is, distances_kept c.me moment page body moment a.state past c.me) h.distances;
+    store = rw (held-snoc past entry, shown-snoc past entry, same_settlings past entry refl) (keeps.each _ _ _ h.store);
+    distances = rw (ap (λ (x : Content W). x.distances) is, same_distances c.me past entry refl) h.distances;
     timers = subst (TimersFit c (past ++ entry ∷ [])) (sym (ap (λ (x : Content W). x.timers) is)) (timers_kept c.me moment page body moment a.state past c a.timers h.timers);
     bucket = bucket_gains c.me moment page body moment a.state past c a.bucket n.bucket item sent charged adds h.bucket;
-    due = ap (λ (x : Content W). x.due) is ∙ h.due ∙ sym (same_session_due c.me moment page body moment a.state past c made);
+    due = ap (λ (x : Content W). x.due) is ∙ h.due ∙ sym (same_due c made past entry refl);
     own = λ page2. own_kept c.me moment page body moment a.state past page2 (h.own page2);
     spelled = subst (AllByRecursion is_drawop) (sym (held-snoc past entry)) (AllByRecursion-snoc is_drawop (held past) made_drawop h.spelled spellable);
   }

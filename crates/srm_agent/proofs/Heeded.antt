@@ -1,17 +1,16 @@
 -- An agent after an entry in which a datagram was heard and accepted.
 use Rattle.std.proofs.Common.{◌≡◌, ℕ, ◌≤◌, ◌==◌, max, Bool, true, false, ◌&&◌, List, [], ◌∷◌, ◌++◌, length, ◌+◌, refl, ap, sym, ◌∙◌, subst, arith}
-use Rattle.std.specs.Prelude.{Some, filter, nat_lt, if◌then◌else◌, unwrap_or}
+use Rattle.std.specs.Prelude.{Some, filter, nat_lt, if◌then◌else◌}
 use Rattle.std.specs.List.{flat_map, list_any, AllByRecursion, cons_option}
-use Rattle.std.proofs.lemmas.List.{append-nil, map-append}
+use Rattle.std.proofs.lemmas.List.{append-nil}
 use Rattle.std.proofs.lemmas.List.Elements.{filter_map-append}
 use Rattle.std.proofs.lemmas.Bool.{or_parts, ltb-false, eq-eqb}
 use Rattle.srm_names.specs.declared.page.Page.{Page}
 use Rattle.srm_names.specs.declared.stream.Stream.{Stream}
 use Rattle.srm_names.specs.declared.drawop.Drawop.{Drawop}
 use Rattle.srm_names.specs.FullName.{FullName}
-use Rattle.srm_names.specs.Histories.{steps, last_of, greatest}
+use Rattle.srm_names.specs.Histories.{greatest}
 use Rattle.srm_names.specs.Names.{same_stream, stream_on}
-use Rattle.srm_names.proofs.Snoc.{steps-snoc, last_of-snoc}
 use Rattle.srm_names.proofs.Same.{same_stream-is}
 use Rattle.srm_names.proofs.Lists.{AllByRecursion-append}
 use Rattle.srm_codec.specs.declared.datagram.Datagram.{Datagram}
@@ -25,29 +24,24 @@ use Rattle.srm_entries.specs.declared.entry.Entry.{Entry}
 use Rattle.srm_entries.specs.declared.entry.Input.TheVariants.{Heard}
 use Rattle.srm_entries.specs.declared.entry.Verdict.TheVariants.{Done}
 use Rattle.srm_entries.specs.declared.state.AgentState.{AgentState}
-use Rattle.srm_outbox.specs.declared.out.Outgoing.{Outgoing}
 use Rattle.srm_entries.specs.Configs.{Config}
 use Rattle.srm_entries.specs.Entries.{accepted, is_gone, state, last_moment, held, evidence_in, known, drawn, drawops_in}
 use Rattle.srm_entries.specs.Distances.{distance_calls, calls_in, calls_of}
-use Rattle.srm_entries.specs.Timers.{TimersRight}
 use Rattle.srm_agent_state.specs.TimerCalls.{HearsWith, TimersAdd, WaitsAreChosen}
 use Rattle.srm_agent_state.specs.TimersKept.{HaveSettings}
 use Rattle.srm_store.specs.PageTables.{with_pages_of}
 use Rattle.srm_entries.specs.Verdicts.{verdict_of, settlings, settling_of, drawn_in, exceeds, is_beyond, final}
-use Rattle.srm_entries.specs.Sessions.{session_due, session_due_after}
-use Rattle.srm_entries.specs.Bucket.{Going, GoesAsCharged, bucket_calls}
 use Rattle.srm_entries.specs.Runs.{EntryRight}
 use Rattle.srm_agent.specs.Contents.{Content}
-use Rattle.srm_agent.specs.Fits.{Fits, BucketFits}
+use Rattle.srm_agent.specs.Fits.{Fits}
 use Rattle.srm_agent.specs.Heeding.{heard_entry}
 use Rattle.srm_agent.specs.Noting.{Enters, IsAllowed}
-use Rattle.srm_bucket.specs.Content.{Content as BucketContent}
 use Rattle.srm_entries.proofs.Adding.{flat_map-snoc, known-snoc}
-use Rattle.srm_entries.proofs.Cutting.{bucket_calls-append}
 use Rattle.srm_entries.proofs.Showing.{state-snoc, held-snoc, shown-snoc, drawn-snoc, hearing_fine}
 use Rattle.srm_entries.proofs.Running.{steps_more, last_moment-snoc, shown-page-snoc}
 use Rattle.srm_agent.proofs.Slotted.{slots-all}
-use Rattle.srm_agent.proofs.Entering.{of_member}
+use Rattle.srm_agent.proofs.Entering.{of_member, at_moment}
+use Rattle.srm_agent.proofs.Quiet.{bucket_stays, same_due, no_timers}
 use Rattle.srm_agent.proofs.Still.{same_progress}
 
 -- all but the last moment, the words, the pages, the store, the distances and the timers is as it was
@@ -98,9 +92,6 @@ heeds_by c made past a b moment g arms h late here spellable allowed add keeps c
 
 -- the entry is one that those before it allow
 
-no_timers : (past : List Entry) (me moment : ℕ) (g : Datagram) (arms : List Arm) (s : AgentState) → TimersRight past (heard_entry me moment g arms s)
-no_timers past me moment g arms s = record { asks = record { in_order = refl; exact = λ n. refl }; fixes = record { in_order = refl; exact = λ n. refl } }
-
 pub heard_right : {W : Type 0} (c : Config) (made : ℕ) (past : List Entry) (a b : Content W) (moment : ℕ) (g : Datagram) (arms : List Arm)
     → Heeds c made past a b moment g (heard_entry c.me moment g arms a.state) → EntryRight c made (record { before = past; this = heard_entry c.me moment g arms a.state })
 heard_right c made past a b moment g arms h = record {
@@ -109,7 +100,7 @@ heard_right c made past a b moment g arms h = record {
   verdict = (h.here, h.accepted);
   drawn = refl;
   arms = h.timers.arms;
-  timers = no_timers past c.me moment g arms a.state;
+  timers = no_timers past (heard_entry c.me moment g arms a.state) refl refl (record { rests = refl; outs = refl });
   senders = tt;
   spelled = tt;
   read = h.spellable;
@@ -117,26 +108,6 @@ heard_right c made past a b moment g arms h = record {
   message = refl;
   state = h.fits.state;
 }
-
--- the bucket: nothing is handed in, and nothing goes
-bucket_stays : (c : Config) (past : List Entry) (moment : ℕ) (g : Datagram) (arms : List Arm) (s : AgentState) (b : BucketContent Outgoing)
-    → BucketFits c past b → BucketFits c (past ++ heard_entry c.me moment g arms s ∷ []) b
-bucket_stays c past moment g arms s b h = record {
-  goings = h.goings ++ going ∷ [];
-  entries = map-append (λ (x : Going). x.entry) h.goings (going ∷ []) ∙ ap (λ es. es ++ going.entry ∷ []) h.entries;
-  goes = steps_more GoesAsCharged h.goings going h.goes (record { same = refl; at_ticks = refl });
-  calls = h.calls;
-  read = h.read ∙ sym (append-nil (bucket_calls c.me h.goings)) ∙ sym (bucket_calls-append c.me h.goings (going ∷ []));
-  fits = h.fits;
-}
-  where
-    going : Going
-    going = record { entry = heard_entry c.me moment g arms s; goes = [] }
-
-same_due : (c : Config) (made : ℕ) (past : List Entry) (moment : ℕ) (g : Datagram) (arms : List Arm) (s : AgentState) → session_due c made (past ++ heard_entry c.me moment g arms s ∷ []) ≡ session_due c made past
-same_due c made past moment g arms s =
-    ap (λ o. unwrap_or o (made + 1000000))
-    (ap (last_of (session_due_after c)) (steps-snoc past (heard_entry c.me moment g arms s)) ∙ last_of-snoc (session_due_after c) (steps past) (record { before = past; this = heard_entry c.me moment g arms s }))
 
 -- of this member's own streams no more is known than it drew
 own_within : (me : ℕ) (past : List Entry) (s : Stream) (k : ℕ) → s.source ≡ me → drawn_in past s ≡ k → (ns : List FullName) → list_any (is_beyond me past) ns ≡ false → greatest (flat_map (number_in s) ns) ≤ k
@@ -192,8 +163,8 @@ heard_fits c made past a b moment g arms h =
       store = rw (held-snoc past e, shown-snoc past e, filter_map-append (λ (x : Entry). settling_of (accepted x)) past (e ∷ [])) h.store;
       distances = rw (flat_map-snoc (calls_in c.me) past e) h.distances;
       timers = h.timers.fits;
-      bucket = rw h.goes.bucket (bucket_stays c past moment g arms a.state a.bucket h.fits.bucket);
-      due = h.goes.due ∙ h.fits.due ∙ sym (same_due c made past moment g arms a.state);
+      bucket = rw h.goes.bucket (bucket_stays c past e a.bucket refl refl refl (record { rests = refl; outs = refl }) h.fits.bucket);
+      due = h.goes.due ∙ h.fits.due ∙ sym (same_due c made past e refl);
       own = same_own c made past a b moment g arms h;
       spelled = rw (held-snoc past e) (AllByRecursion-append is_drawop (held past) (drawops_in (Some g)) h.fits.spelled (drawops_spelled g h.spellable));
     }
@@ -206,10 +177,7 @@ pub heard_enters : {W : Type 0} (next_word : W → ℕ × W) (a b : Content W) (
     → e ≡ heard_entry a.config.me moment g arms a.state → ((c : Config) (made : ℕ) (past : List Entry) → Fits c made past a → Heeds c made past a b moment g (heard_entry c.me moment g arms a.state)) → Enters next_word (Some moment) (Heard g) a b e
 heard_enters next_word a b moment g arms e late settings drawn e_is heeds = record {
   input_is = ap (λ (x : Entry). x.input) e_is;
-  moment_is = ap (λ (x : Entry). x.moment) e_is ∙ at_least a.last moment late;
+  moment_is = ap (λ (x : Entry). x.moment) e_is ∙ at_moment a.last moment late;
   words = rw e_is (drawn.each a.config settings);
   fits = λ c made past h. of_member c made past a b e (λ me. heard_entry me moment g arms a.state) h e_is (heard_fits c made past a b moment g arms (heeds c made past h));
 }
-  where
-    at_least : (last moment : ℕ) → last ≤ moment → moment ≡ max moment last
-    at_least last moment l = omega (arith, l)

@@ -1,13 +1,11 @@
 -- An entry that hears, draws, sets and hands out nothing: what it leaves as it was. And one that sends nothing either.
 use Rattle.std.proofs.Common.{◌≡◌, ℕ, ◌+◌, Bool, true, false, not, ◌&&◌, ◌||◌, List, [], ◌∷◌, ◌++◌, refl, ap, sym, ◌∙◌, subst}
-use Rattle.std.specs.Prelude.{Option, None, option_map, option_to_list, is_some, if◌then◌else◌, unwrap_or}
-use Rattle.std.specs.List.{AllByRecursion, cons_option}
+use Rattle.std.specs.Prelude.{Option, None, option_map, is_some, if◌then◌else◌, unwrap_or}
 use Rattle.std.proofs.Math.Bool.{or-false}
 use Rattle.std.proofs.lemmas.Bool.{and_left}
 use Rattle.std.proofs.lemmas.List.{append-nil, map-append}
-use Rattle.std.proofs.lemmas.List.Elements.{filter_map-append}
 use Rattle.srm_names.specs.FullName.{FullName}
-use Rattle.srm_names.specs.Histories.{Step, steps, or_else, last_of, first_of}
+use Rattle.srm_names.specs.Histories.{steps, or_else, last_of, first_of}
 use Rattle.srm_names.specs.Names.{among}
 use Rattle.srm_names.proofs.Snoc.{steps-snoc, last_of-snoc, first_of-snoc, or_else-none}
 use Rattle.srm_timers.specs.declared.arm.Arm.{Arm}
@@ -18,17 +16,17 @@ use Rattle.srm_bucket.specs.Content.{Content as BucketContent}
 use Rattle.srm_entries.specs.declared.entry.Entry.{Entry}
 use Rattle.srm_outbox.specs.declared.out.Outgoing.{Outgoing}
 use Rattle.srm_entries.specs.Configs.{Config}
-use Rattle.srm_entries.specs.Entries.{accepted, ticked, state, is_gone, held, held_by, drawops_in, evidence_in, drawn, is_missing, is_held}
-use Rattle.srm_entries.specs.Distances.{distance_calls, calls_in, calls_of}
+use Rattle.srm_entries.specs.Entries.{accepted, ticked, state, is_gone, is_missing, is_held}
 use Rattle.srm_entries.specs.Timers.{arm_in, last_ask, fix_running, held_off, asker, asker_in, repaired, repairs_in, ask_exponent, ask_basis_of, fix_basis_of, basis_of, ArmsRight, TimersRight, only_if}
-use Rattle.srm_entries.specs.Verdicts.{settlings, settling_of}
 use Rattle.srm_entries.specs.Sessions.{session_due, session_due_after, session_message_due, EndsWith, SessionRight}
 use Rattle.srm_entries.specs.Bucket.{Going, GoesAsCharged, entries_of, bucket_calls, calls_by}
 use Rattle.srm_agent_state.specs.TimersKept.{TimersContent, TimersFit}
 use Rattle.srm_agent_state.proofs.Midway.{if_none}
 use Rattle.srm_agent.specs.Fits.{BucketFits}
-use Rattle.srm_entries.proofs.Adding.{flat_map-snoc, last_ask-snoc, fix_running-snoc, held_off-snoc}
-use Rattle.srm_entries.proofs.Showing.{held-snoc, shown-snoc, shown_quiet, drawn-snoc}
+use Rattle.srm_entries.proofs.Adding.{last_ask-snoc, fix_running-snoc, held_off-snoc}
+use Rattle.srm_entries.proofs.Showing.{IsQuiet}
+use Rattle.srm_entries.proofs.Quiet.{same_missing}
+use Rattle.srm_entries.proofs.Running.{steps_more}
 use Rattle.srm_entries.proofs.Arming.{ask_at}
 use Rattle.srm_entries.proofs.Cutting.{bucket_calls-append}
 
@@ -44,28 +42,8 @@ pub record IsIdle (past : List Entry) (e : Entry) : Type 0 where
   pub rests : (ticked e && not (is_gone (state past))) ≡ false
   pub outs : e.effects.outs ≡ []
 
-held_by_none : (e : Entry) → Quiet e → held_by e ≡ []
-held_by_none e q = ap (λ o. option_to_list o ++ drawops_in (accepted e)) q.drawn ∙ ap drawops_in q.unheard
-
-pub same_held : (past : List Entry) (e : Entry) → Quiet e → held (past ++ e ∷ []) ≡ held past
-same_held past e q = held-snoc past e ∙ ap (λ ds. held past ++ ds) (held_by_none e q) ∙ append-nil (held past)
-
-pub same_shown : (past : List Entry) (e : Entry) → Quiet e → evidence_in (past ++ e ∷ []) ≡ evidence_in past
-same_shown past e q = shown-snoc past e ∙ ap (λ ns. evidence_in past ++ ns) (shown_quiet e (q.unheard, q.drawn)) ∙ append-nil (evidence_in past)
-
-pub same_drawn : (past : List Entry) (e : Entry) → Quiet e → drawn (past ++ e ∷ []) ≡ drawn past
-same_drawn past e q = drawn-snoc past e ∙ ap (λ o. drawn past ++ option_to_list o) q.drawn ∙ append-nil (drawn past)
-
-pub same_settlings : (past : List Entry) (e : Entry) → Quiet e → settlings (past ++ e ∷ []) ≡ settlings past
-same_settlings past e q =
-    filter_map-append (λ (x : Entry). settling_of (accepted x)) past (e ∷ []) ∙ ap (λ o. settlings past ++ cons_option (settling_of o) []) q.unheard ∙ append-nil (settlings past)
-
-pub same_distances : (me : ℕ) (past : List Entry) (e : Entry) → Quiet e → distance_calls me (past ++ e ∷ []) ≡ distance_calls me past
-same_distances me past e q =
-    flat_map-snoc (calls_in me) past e ∙ ap (λ o. distance_calls me past ++ calls_of me e.moment o) q.unheard ∙ append-nil (distance_calls me past)
-
-pub same_missing : (past : List Entry) (e : Entry) (n : FullName) → Quiet e → is_missing (past ++ e ∷ []) n ≡ is_missing past n
-same_missing past e n q = rw (same_held past e q, same_shown past e q) refl
+pub is_quiet : (e : Entry) → Quiet e → IsQuiet e
+is_quiet e q = (q.unheard, q.drawn)
 
 -- timers
 
@@ -97,7 +75,7 @@ pub timers_stay : (c : Config) (past : List Entry) (e : Entry) (t : TimersConten
 timers_stay c past e t q h = record {
   ask_calls = h.ask_calls;
   asks = h.asks;
-  ask_timers = λ n. h.ask_timers n ∙ sym (ap (λ b. only_if b (last_ask (past ++ e ∷ []) n)) (same_missing past e n q) ∙ ap (only_if (is_missing past n)) (same_last_ask past e n q));
+  ask_timers = λ n. h.ask_timers n ∙ sym (ap (λ b. only_if b (last_ask (past ++ e ∷ []) n)) (same_missing past e n (is_quiet e q)) ∙ ap (only_if (is_missing past n)) (same_last_ask past e n q));
   fix_calls = h.fix_calls;
   fixes = h.fixes;
   fix_timers = λ n. h.fix_timers n ∙ sym (same_fix past e n q);
@@ -110,30 +88,23 @@ timers_stay c past e t q h = record {
 abbrev still : Entry → Going
 still e = record { entry = e; goes = [] }
 
-no_calls : (me : ℕ) (gs : List Going) (e : Entry) → Quiet e → IsIdle (entries_of gs) e → calls_by me (record { before = gs; this = still e }) ≡ []
-no_calls me gs e q i = rw (q.drawn, q.asks, q.fixes, i.rests) refl
+no_calls : (me : ℕ) (gs : List Going) (e : Entry) → e.effects.drawn ≡ None → e.effects.asks ≡ [] → e.effects.fixes ≡ [] → IsIdle (entries_of gs) e → calls_by me (record { before = gs; this = still e }) ≡ []
+no_calls me gs e undrawn unasked unfixed i = rw (undrawn, unasked, unfixed, i.rests) refl
 
-same_calls : (me : ℕ) (gs : List Going) (e : Entry) → Quiet e → IsIdle (entries_of gs) e → bucket_calls me (gs ++ still e ∷ []) ≡ bucket_calls me gs
-same_calls me gs e q i =
-    bucket_calls-append me gs (still e ∷ []) ∙ ap (λ cs. bucket_calls me gs ++ (cs ++ [])) (no_calls me gs e q i) ∙ append-nil (bucket_calls me gs)
-
-goes_more : (gs : List Going) (x : Going) → AllByRecursion GoesAsCharged (steps gs) → GoesAsCharged (record { before = gs; this = x }) → AllByRecursion GoesAsCharged (steps (gs ++ x ∷ []))
-goes_more gs x all right = subst (λ w. AllByRecursion GoesAsCharged w) (sym (steps-snoc gs x)) (more GoesAsCharged (steps gs) _ all right)
-  where
-    more : (R : Step Going → Type 0) (xs : List (Step Going)) (y : Step Going) → AllByRecursion R xs → R y → AllByRecursion R (xs ++ y ∷ [])
-    more R [] y all r = (r, tt)
-    more R (x ∷ xs) y all r = (all.0, more R xs y all.1 r)
+same_calls : (me : ℕ) (gs : List Going) (e : Entry) → e.effects.drawn ≡ None → e.effects.asks ≡ [] → e.effects.fixes ≡ [] → IsIdle (entries_of gs) e → bucket_calls me (gs ++ still e ∷ []) ≡ bucket_calls me gs
+same_calls me gs e undrawn unasked unfixed i =
+    bucket_calls-append me gs (still e ∷ []) ∙ ap (λ cs. bucket_calls me gs ++ (cs ++ [])) (no_calls me gs e undrawn unasked unfixed i) ∙ append-nil (bucket_calls me gs)
 
 quiet_goes : (gs : List Going) (e : Entry) → IsIdle (entries_of gs) e → GoesAsCharged (record { before = gs; this = still e })
 quiet_goes gs e i = record { same = rw i.outs refl; at_ticks = rw i.rests refl }
 
-pub bucket_stays : (c : Config) (past : List Entry) (e : Entry) (b : BucketContent Outgoing) → Quiet e → IsIdle past e → BucketFits c past b → BucketFits c (past ++ e ∷ []) b
-bucket_stays c past e b q i h = record {
+pub bucket_stays : (c : Config) (past : List Entry) (e : Entry) (b : BucketContent Outgoing) → e.effects.drawn ≡ None → e.effects.asks ≡ [] → e.effects.fixes ≡ [] → IsIdle past e → BucketFits c past b → BucketFits c (past ++ e ∷ []) b
+bucket_stays c past e b undrawn unasked unfixed i h = record {
   goings = h.goings ++ still e ∷ [];
   entries = map-append (λ (g : Going). g.entry) h.goings (still e ∷ []) ∙ ap (λ es. es ++ e ∷ []) h.entries;
-  goes = goes_more h.goings (still e) h.goes (quiet_goes h.goings e (subst (λ es. IsIdle es e) (sym h.entries) i));
+  goes = steps_more GoesAsCharged h.goings (still e) h.goes (quiet_goes h.goings e (subst (λ es. IsIdle es e) (sym h.entries) i));
   calls = h.calls;
-  read = h.read ∙ sym (same_calls c.me h.goings e q (subst (λ es. IsIdle es e) (sym h.entries) i));
+  read = h.read ∙ sym (same_calls c.me h.goings e undrawn unasked unfixed (subst (λ es. IsIdle es e) (sym h.entries) i));
   fits = h.fits;
 }
 
@@ -158,7 +129,7 @@ no_setting me past e n q = go (is_held past n) refl
 
     exponent : (b : Bool) → is_missing past n ≡ b → ask_exponent past e n ≡ None
     exponent true m = rw (m, not_asked n e q, q.asks) refl
-    exponent false m = rw (m, same_missing past e n q, m) refl
+    exponent false m = rw (m, same_missing past e n (is_quiet e q), m) refl
 
     go : (b : Bool) → is_held past n ≡ b → basis_of me past e n ≡ None
     go true h = ap (λ (b : Bool). if b then fix_basis_of me past e n else ask_basis_of me past e n) h ∙ fix
@@ -182,10 +153,10 @@ never_both true true x y i = refl
 never_both true false x y i = absurd (cc)
 never_both false g x y i = refl
 
-pub no_timers : (past : List Entry) (e : Entry) → Quiet e → IsIdle past e → TimersRight past e
-no_timers past e q i = record {
-  asks = record { in_order = rw q.asks refl; exact = λ n. rw q.asks (sym (never_both (ticked e) (is_gone (state past)) (is_missing past n) (ran_out e.moment (last_ask past n)) i.rests)) };
-  fixes = record { in_order = rw q.fixes refl; exact = λ n. rw q.fixes (sym (never (ticked e) (is_gone (state past)) (ran_out e.moment (fix_running past n)) i.rests)) };
+pub no_timers : (past : List Entry) (e : Entry) → e.effects.asks ≡ [] → e.effects.fixes ≡ [] → IsIdle past e → TimersRight past e
+no_timers past e unasked unfixed i = record {
+  asks = record { in_order = rw unasked refl; exact = λ n. rw unasked (sym (never_both (ticked e) (is_gone (state past)) (is_missing past n) (ran_out e.moment (last_ask past n)) i.rests)) };
+  fixes = record { in_order = rw unfixed refl; exact = λ n. rw unfixed (sym (never (ticked e) (is_gone (state past)) (ran_out e.moment (fix_running past n)) i.rests)) };
 }
 
 no_ending : (t g : Bool) (rest : Option Bool) → (t && not g) ≡ false → (if not t || g then None else rest) ≡ None

@@ -16,10 +16,9 @@ use Rattle.srm_distance.specs.Calls.{Call}
 use Rattle.srm_timers.specs.declared.arm.Arm.{Arm}
 use Rattle.srm_entries.specs.declared.entry.Entry.{Entry}
 use Rattle.srm_entries.specs.declared.entry.Input.TheVariants.{Heard}
-use Rattle.srm_entries.specs.declared.state.AgentState.{AgentState}
 use Rattle.srm_entries.specs.Configs.{Config}
 use Rattle.srm_entries.specs.Entries.{is_gone, known, held, evidence_in}
-use Rattle.srm_entries.specs.Distances.{distance_calls, calls_in}
+use Rattle.srm_entries.specs.Distances.{distance_calls}
 use Rattle.srm_entries.specs.Verdicts.{settlings}
 use Rattle.srm_agent.specs.Growth.{AreNewlyMissingUpTo}
 use Rattle.srm_names.specs.Between.{is_between}
@@ -32,7 +31,7 @@ use Rattle.srm_agent.specs.Contents.{Content}
 use Rattle.srm_agent.specs.Fits.{Fits}
 use Rattle.srm_agent.specs.Heeding.{heard_entry}
 use Rattle.srm_agent.specs.Noting.{Enters, IsAllowed}
-use Rattle.srm_entries.proofs.Adding.{flat_map-snoc}
+use Rattle.srm_entries.proofs.Quiet.{same_distances}
 use Rattle.srm_agent.proofs.Evident.{fresh_request}
 use Rattle.srm_agent.proofs.Heeded.{Goes, Heeds, heard_with, heeds_by, heard_enters}
 
@@ -42,9 +41,6 @@ up_to_is s k l known_of greatest names e f h = rw (sym e, sym f) h
 
 pub fresh_in : {W : Type 0} {a : Content W} {s t : Stream} {names newly_missing : List FullName} → s ≡ t → AreNewlyMissingUpTo s names a newly_missing → AreNewlyMissingUpTo t names a newly_missing
 fresh_in {a = a} {names = names} {newly_missing = newly_missing} e h = subst (λ s. AreNewlyMissingUpTo s names a newly_missing) e h
-
-no_calls : (me : ℕ) (past : List Entry) (moment sender : ℕ) (name : FullName) (mask : ℕ) (arms : List Arm) (s : AgentState) → distance_calls me (past ++ heard_entry me moment (Request sender name mask) arms s ∷ []) ≡ distance_calls me past
-no_calls me past moment sender name mask arms s = flat_map-snoc (calls_in me) past (heard_entry me moment (Request sender name mask) arms s) ∙ append-nil (distance_calls me past)
 
 pub request_enters : {W : Type 0} (next_word : W → ℕ × W) (a b : Content W) (moment sender : ℕ) (name : FullName) (mask : ℕ) (names newly_missing : List FullName) (dist : List ℕ) (arms : List Arm) (roomy : StoreContent) (e : Entry)
     → names ≡ asked_by name mask → is_gone a.state ≡ false → IsSpellable (Request sender name mask) → a.last ≤ moment → IsAllowed (Heard (Request sender name mask)) a → AreNewlyMissingUpTo name.stream names a newly_missing → IsTableOf a.distances dist
@@ -56,7 +52,7 @@ request_enters next_word a b moment sender name mask names newly_missing dist ar
   where
     after : (c : Config) (made : ℕ) (past : List Entry) → Fits c made past a → AreDistancesAfter c (past ++ heard_entry c.me moment (Request sender name mask) arms a.state ∷ []) dist
     after c made past h = record {
-      each = λ m l. table.each c.me (distance_calls c.me past) h.distances m l ∙ ap (λ (cs : List Call). defined.distance cs c.me m) (sym (no_calls c.me past moment sender name mask arms a.state));
+      each = λ m l. table.each c.me (distance_calls c.me past) h.distances m l ∙ ap (λ (cs : List Call). defined.distance cs c.me m) (sym (same_distances c.me past (heard_entry c.me moment (Request sender name mask) arms a.state) refl));
     }
 
     heeds : (c : Config) (made : ℕ) (past : List Entry) → Fits c made past a → Heeds c made past a b moment (Request sender name mask) (heard_entry c.me moment (Request sender name mask) arms a.state)

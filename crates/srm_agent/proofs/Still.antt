@@ -11,6 +11,7 @@ use Rattle.srm_entries.specs.declared.entry.Input.{Input}
 use Rattle.srm_entries.specs.declared.entry.Verdict.{Verdict}
 use Rattle.srm_entries.specs.Configs.{Config}
 use Rattle.srm_entries.specs.Entries.{done_input, heard_in, page_shown, is_tick, takes_moment, last_moment, moments_counted, state, is_gone, slots}
+use Rattle.srm_entries.specs.Distances.{calls_of}
 use Rattle.srm_entries.specs.Verdicts.{VerdictRight}
 use Rattle.srm_entries.specs.Giving.{given, given_in, MessageRight}
 use Rattle.srm_entries.specs.Runs.{EntryRight, MomentRight, expected_drawop, expected_state}
@@ -19,9 +20,10 @@ use Rattle.srm_agent.specs.Contents.{Content}
 use Rattle.srm_agent.specs.Fits.{Fits, EachProgressFits}
 use Rattle.srm_entries.specs.Still.{entry_without_effects}
 use Rattle.srm_entries.proofs.Feeding.{given-snoc}
-use Rattle.srm_entries.proofs.Showing.{state-snoc}
+use Rattle.srm_entries.proofs.Showing.{IsQuiet, state-snoc}
+use Rattle.srm_entries.proofs.Quiet.{same_held, same_shown, same_drawn, same_settlings, same_distances}
 use Rattle.srm_entries.proofs.Running.{steps_more, last_moment-snoc, shown-page-snoc}
-use Rattle.srm_agent.proofs.Quiet.{Quiet, same_held, same_shown, same_drawn, same_settlings, same_distances, timers_stay, bucket_stays, same_due, no_arms, no_timers, no_session}
+use Rattle.srm_agent.proofs.Quiet.{Quiet, is_quiet, timers_stay, bucket_stays, same_due, no_arms, no_timers, no_session}
 
 -- what an entry without effects may be, after these entries
 pub record MayFollow (c : Config) (made : ℕ) (past : List Entry) (moment : ℕ) (input : Input) (verdict : Verdict) (message : Option PageMsg) (after : AgentState) : Type 0 where
@@ -60,7 +62,7 @@ still_right c made past moment input verdict message after m =
       verdict = m.verdict_right;
       drawn = sym m.undrawn;
       arms = no_arms c past _ q;
-      timers = no_timers past _ q (record { rests = m.idle; outs = refl });
+      timers = no_timers past (entry_without_effects c.me moment input verdict message after) refl refl (record { rests = m.idle; outs = refl });
       senders = tt;
       spelled = tt;
       read = rw m.unheard tt;
@@ -87,6 +89,8 @@ pub still_fits : {W : Type 0} (c : Config) (made : ℕ) (past : List Entry) (a b
     → Fits c made (past ++ entry_without_effects c.me moment input verdict message after ∷ []) b
 still_fits c made past a b moment input verdict message after h m same is_state is_last is_showing is_pages progress =
     let q = quiet c made past moment input verdict message after m in
+    let e : Entry = entry_without_effects c.me moment input verdict message after in
+    let hears : IsQuiet e = is_quiet e q in
     record {
       run = steps_more (EntryRight c made) past _ h.run (still_right c made past moment input verdict message after m);
       config = same.config ∙ h.config;
@@ -95,13 +99,13 @@ still_fits c made past a b moment input verdict message after h m same is_state 
       showing = is_showing ∙ ap (unwrap_or (page_shown (done_input verdict input))) h.showing ∙ sym (shown-page-snoc past _);
       pages = is_pages;
       progress = progress;
-      store = rw (same.store, same_held past _ q, same_shown past _ q, same_settlings past _ q) h.store;
-      distances = rw (same.distances, same_distances c.me past _ q) h.distances;
+      store = rw (same.store, same_held past e hears, same_shown past e hears, same_settlings past e hears.0) h.store;
+      distances = rw (same.distances, same_distances c.me past e (ap (calls_of c.me moment) hears.0)) h.distances;
       timers = rw same.timers (timers_stay c past _ a.timers q h.timers);
-      bucket = rw same.bucket (bucket_stays c past _ a.bucket q (record { rests = m.idle; outs = refl }) h.bucket);
+      bucket = rw same.bucket (bucket_stays c past e a.bucket refl refl refl (record { rests = m.idle; outs = refl }) h.bucket);
       due = same.due ∙ h.due ∙ sym (same_due c made past _ refl);
-      own = λ page. rw (same_drawn past _ q, same_shown past _ q) (h.own page);
-      spelled = rw (same_held past _ q) h.spelled;
+      own = λ page. rw (same_drawn past e hears, same_shown past e hears) (h.own page);
+      spelled = rw (same_held past e hears) h.spelled;
     }
 
 -- where no message is given the progress stays

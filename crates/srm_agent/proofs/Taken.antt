@@ -22,7 +22,7 @@ use Rattle.srm_entries.specs.declared.entry.Input.TheVariants.{Heard}
 use Rattle.srm_entries.specs.declared.state.AgentState.{AgentState}
 use Rattle.srm_entries.specs.Configs.{Config}
 use Rattle.srm_entries.specs.Entries.{is_gone, held, evidence_in, drawops_in}
-use Rattle.srm_entries.specs.Distances.{distance_calls, calls_in, calls_of}
+use Rattle.srm_entries.specs.Distances.{distance_calls, calls_of}
 use Rattle.srm_entries.specs.Verdicts.{settlings}
 use Rattle.srm_names.specs.Between.{is_between}
 use Rattle.srm_agent_state.specs.Growth.{HoldsToo}
@@ -34,7 +34,7 @@ use Rattle.srm_agent.specs.Contents.{Content}
 use Rattle.srm_agent.specs.Fits.{Fits}
 use Rattle.srm_agent.specs.Heeding.{AreNewlyMissingBelow, MayAccept, carrying, heard_entry}
 use Rattle.srm_agent.specs.Noting.{Enters, IsAllowed, Stays}
-use Rattle.srm_entries.proofs.Adding.{flat_map-snoc}
+use Rattle.srm_entries.proofs.Quiet.{same_distances}
 use Rattle.srm_agent.proofs.Fitting.{refit}
 use Rattle.srm_agent.proofs.Fresh.{Brings, fresh_drawop}
 use Rattle.srm_agent.proofs.Heeded.{Goes, Heeds, heard_with, heeds_by, heard_enters}
@@ -84,10 +84,6 @@ carrying_is (Some sender) d repaired e = rw e refl
 pub may_carry : {W : Type 0} (repairer : Option ℕ) (d : Drawop) (names : List FullName) (moment : ℕ) (a : Content W) → MayAccept (carrying repairer d) names moment a → MayAccept (carrying repairer d) (d.name ∷ []) moment a
 may_carry repairer d names moment a may = subst (λ ns. MayAccept (carrying repairer d) ns moment a) (may.named ∙ (carrying_brings repairer d).names) may
 
-no_calls : (me : ℕ) (past : List Entry) (moment : ℕ) (d : Drawop) (g : Datagram) (arms : List Arm) (s : AgentState) → BringsOne d g → distance_calls me (past ++ heard_entry me moment g arms s ∷ []) ≡ distance_calls me past
-no_calls me past moment d g arms s one =
-    flat_map-snoc (calls_in me) past (heard_entry me moment g arms s) ∙ ap (λ cs. distance_calls me past ++ cs) (one.uncalled me moment) ∙ append-nil (distance_calls me past)
-
 pub drawop_enters : {W : Type 0} (next_word : W → ℕ × W) (a b : Content W) (moment : ℕ) (g : Datagram) (is : Datagram → Type 0) (d : Drawop) (newly_missing : List FullName) (dist : List ℕ) (arms : List Arm) (roomy : StoreContent) (e : Entry)
     → BringsOne d g → is g → is_gone a.state ≡ false → IsSpellable g → a.last ≤ moment → IsAllowed (Heard g) a → AreNewlyMissingBelow d.name a newly_missing → IsTableOf a.distances dist
     → TimersHear is newly_missing dist moment arms a.timers b.timers → StillFits a.store roomy → HoldsToo d roomy b.store → b.pages ≡ with_pages_of a.pages (d.name ∷ []) → b.distances ≡ a.distances → Goes a b moment
@@ -98,7 +94,7 @@ drawop_enters next_word a b moment g is d newly_missing dist arms roomy e one it
   where
     after : (c : Config) (made : ℕ) (past : List Entry) → Fits c made past a → AreDistancesAfter c (past ++ heard_entry c.me moment g arms a.state ∷ []) dist
     after c made past h = record {
-      each = λ m l. table.each c.me (distance_calls c.me past) h.distances m l ∙ ap (λ (cs : List Call). defined.distance cs c.me m) (sym (no_calls c.me past moment d g arms a.state one));
+      each = λ m l. table.each c.me (distance_calls c.me past) h.distances m l ∙ ap (λ (cs : List Call). defined.distance cs c.me m) (sym (same_distances c.me past (heard_entry c.me moment g arms a.state) (one.uncalled c.me moment)));
     }
 
     heeds : (c : Config) (made : ℕ) (past : List Entry) → Fits c made past a → Heeds c made past a b moment g (heard_entry c.me moment g arms a.state)

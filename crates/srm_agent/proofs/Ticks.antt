@@ -2,8 +2,6 @@
 use Rattle.std.proofs.Common.{◌≡◌, ℕ, ◌≤◌, Bool, List, [], ◌∷◌, ◌++◌, refl, ap, sym, ◌∙◌, subst}
 use Rattle.std.specs.Prelude.{Option, Some, option_to_list}
 use Rattle.std.specs.List.{list_any, AllByRecursion}
-use Rattle.std.proofs.lemmas.List.{append-nil}
-use Rattle.std.proofs.lemmas.List.Elements.{filter_map-append}
 use Rattle.srm_names.specs.FullName.{FullName}
 use Rattle.srm_names.proofs.Lists.{AllByRecursion-append}
 use Rattle.srm_codec.specs.declared.datagram.Datagram.{Datagram}
@@ -13,40 +11,20 @@ use Rattle.srm_entries.specs.declared.entry.Entry.{Entry}
 use Rattle.srm_entries.specs.declared.entry.Input.TheVariants.{Ticked}
 use Rattle.srm_entries.specs.declared.state.AgentState.{AgentState}
 use Rattle.srm_entries.specs.Configs.{Config}
-use Rattle.srm_entries.specs.Entries.{state, last_moment, held, evidence_in, drawn, accepted}
-use Rattle.srm_entries.specs.Distances.{distance_calls, calls_in}
+use Rattle.srm_entries.specs.Entries.{state, last_moment}
 use Rattle.srm_entries.specs.Timers.{ArmsRight, TimersRight}
-use Rattle.srm_entries.specs.Verdicts.{settlings, settling_of}
 use Rattle.srm_entries.specs.Sessions.{session_message_due}
 use Rattle.srm_entries.specs.Runs.{EntryRight, expected_state}
 use Rattle.srm_agent.specs.Ticking.{tick_entry}
 use Rattle.srm_agent.specs.Contents.{Content}
 use Rattle.srm_agent.specs.Fits.{Fits, BucketFits}
 use Rattle.srm_agent_state.specs.TimersKept.{TimersFit}
-use Rattle.srm_entries.proofs.Adding.{flat_map-snoc}
 use Rattle.srm_entries.proofs.Ending.{EndsIn, NoSessions, session_right, due_by, due_after}
 use Rattle.srm_entries.proofs.Running.{steps_more, shown-page-snoc, slots-same}
-use Rattle.srm_entries.proofs.Showing.{held-snoc, shown-snoc, drawn-snoc, state-snoc}
+use Rattle.srm_entries.proofs.Showing.{IsQuiet, state-snoc}
+use Rattle.srm_entries.proofs.Quiet.{same_held, same_shown, same_drawn, same_settlings, same_distances}
 use Rattle.srm_entries.proofs.Spending.{tick_is_last}
 use Rattle.srm_agent.proofs.Still.{same_progress}
-
--- a tick hears and draws nothing, so what is held, known and told stays
-
-pub tick_held : (me moment : ℕ) (asks fixes : List FullName) (arms : List Arm) (outs : List Datagram) (after : AgentState) (past : List Entry) → held (past ++ tick_entry me moment asks fixes arms outs after ∷ []) ≡ held past
-tick_held me moment asks fixes arms outs after past = held-snoc past _ ∙ append-nil (held past)
-
-pub tick_shown : (me moment : ℕ) (asks fixes : List FullName) (arms : List Arm) (outs : List Datagram) (after : AgentState) (past : List Entry) → evidence_in (past ++ tick_entry me moment asks fixes arms outs after ∷ []) ≡ evidence_in past
-tick_shown me moment asks fixes arms outs after past = shown-snoc past _ ∙ append-nil (evidence_in past)
-
-pub tick_drawn : (me moment : ℕ) (asks fixes : List FullName) (arms : List Arm) (outs : List Datagram) (after : AgentState) (past : List Entry) → drawn (past ++ tick_entry me moment asks fixes arms outs after ∷ []) ≡ drawn past
-tick_drawn me moment asks fixes arms outs after past = drawn-snoc past _ ∙ append-nil (drawn past)
-
-pub tick_settlings : (me moment : ℕ) (asks fixes : List FullName) (arms : List Arm) (outs : List Datagram) (after : AgentState) (past : List Entry) → settlings (past ++ tick_entry me moment asks fixes arms outs after ∷ []) ≡ settlings past
-tick_settlings me moment asks fixes arms outs after past =
-    filter_map-append (λ (x : Entry). settling_of (accepted x)) past (tick_entry me moment asks fixes arms outs after ∷ []) ∙ append-nil (settlings past)
-
-pub tick_distances : (me moment : ℕ) (asks fixes : List FullName) (arms : List Arm) (outs : List Datagram) (after : AgentState) (past : List Entry) → distance_calls me (past ++ tick_entry me moment asks fixes arms outs after ∷ []) ≡ distance_calls me past
-tick_distances me moment asks fixes arms outs after past = flat_map-snoc (calls_in me) past _ ∙ append-nil (distance_calls me past)
 
 -- what a member sends: its own, spellable, and under the rate no session message
 pub record IsSent (me : ℕ) (g : Datagram) : Type 0 where
@@ -108,6 +86,8 @@ pub tick_fits : {W : Type 0} (c : Config) (made moment : ℕ) (past : List Entry
     → b.due ≡ due_by c past moment a.due o → Fits c made (past ++ tick_entry c.me moment asks fixes arms outs after ∷ []) b
 tick_fits c made moment past asks fixes arms outs after wanted went o a b h keeps t is_state is_last timers bucket is_due =
     let right = tick_right c made moment past asks fixes arms outs after wanted went o t in
+    let e : Entry = tick_entry c.me moment asks fixes arms outs after in
+    let hears : IsQuiet e = (refl, refl) in
     record {
       run = steps_more (EntryRight c made) past _ h.run right;
       config = keeps.config ∙ h.config;
@@ -116,11 +96,11 @@ tick_fits c made moment past asks fixes arms outs after wanted went o a b h keep
       showing = keeps.showing ∙ h.showing ∙ sym (shown-page-snoc past _);
       pages = keeps.pages ∙ h.pages ∙ sym (slots-same past _ refl);
       progress = rw keeps.progress (same_progress past _ a.progress (λ j. refl) h.progress);
-      store = rw (keeps.store, tick_held c.me moment asks fixes arms outs after past, tick_shown c.me moment asks fixes arms outs after past, tick_settlings c.me moment asks fixes arms outs after past) h.store;
-      distances = rw (keeps.distances, tick_distances c.me moment asks fixes arms outs after past) h.distances;
+      store = rw (keeps.store, same_held past e hears, same_shown past e hears, same_settlings past e refl) h.store;
+      distances = rw (keeps.distances, same_distances c.me past e refl) h.distances;
       timers = timers;
       bucket = bucket;
       due = is_due ∙ ap (λ n. due_by c past moment n o) h.due ∙ sym (due_after c made past _ wanted went o t.charged t.outs t.ends);
-      own = λ page. rw (tick_drawn c.me moment asks fixes arms outs after past, tick_shown c.me moment asks fixes arms outs after past) (h.own page);
-      spelled = rw (tick_held c.me moment asks fixes arms outs after past) h.spelled;
+      own = λ page. rw (same_drawn past e hears, same_shown past e hears) (h.own page);
+      spelled = rw (same_held past e hears) h.spelled;
     }

@@ -1,34 +1,27 @@
 -- A tick of the timers is one of the agent that keeps them: the distances at it are those before it.
-use Rattle.std.proofs.Common.{◌≡◌, ℕ, List, [], ◌∷◌, ◌++◌, ap, sym, ◌∙◌, subst}
-use Rattle.std.specs.Prelude.{None}
+use Rattle.std.proofs.Common.{ℕ, List, [], ◌∷◌, ◌++◌, ap, sym, subst}
 use Rattle.std.specs.List.{AllByRecursion}
-use Rattle.std.proofs.lemmas.List.{append-nil}
 use Rattle.srm_names.specs.FullName.{FullName}
 use Rattle.srm_timers.specs.declared.arm.Arm.{Arm}
 use Rattle.srm_distance.specs.Fits as distances
 use Rattle.srm_bucket.specs.Waiting.{Waiting, SameQueues}
 use Rattle.srm_agent.specs.declared.agent.due.HandedOut.{HandedOut}
-use Rattle.srm_entries.specs.declared.entry.Entry.{Entry}
 use Rattle.srm_outbox.specs.declared.out.Outgoing.{Outgoing}
 use Rattle.srm_agent.specs.Contents.{Content}
-use Rattle.srm_entries.specs.Entries.{accepted}
-use Rattle.srm_entries.specs.Distances.{distance_calls, calls_in, calls_of}
+use Rattle.srm_entries.specs.Distances.{distance_calls, calls_of}
 use Rattle.srm_outbox.specs.Outs.{IsOwn, AreOwn}
 use Rattle.srm_agent_state.specs.TimersKept.{TimersContent, HaveSettings}
 use Rattle.srm_distance.specs.Fits.{IsTableOf}
 use Rattle.srm_agent_state.specs.TimerCalls.{AreDistancesAfter, TimersTick, WaitsAreChosen}
 use Rattle.srm_agent.specs.Ticking.{TicksTimers, HandsOut}
-use Rattle.srm_entries.proofs.Adding.{flat_map-snoc}
-
-same_calls : (me : ℕ) (past : List Entry) (e : Entry) → accepted e ≡ None → distance_calls me (past ++ e ∷ []) ≡ distance_calls me past
-same_calls me past e unheard = flat_map-snoc (calls_in me) past e ∙ ap (λ o. distance_calls me past ++ calls_of me e.moment o) unheard ∙ append-nil (distance_calls me past)
+use Rattle.srm_entries.proofs.Quiet.{same_distances}
 
 pub ticks_timers : {W : Type 0} (a : Content W) (asks fixes : List FullName) (dist : List ℕ) (moment : ℕ) (arms : List Arm) (new : TimersContent)
     → IsTableOf a.distances dist → TimersTick asks fixes dist moment arms a.timers new → TicksTimers a asks fixes moment arms new
 ticks_timers a asks fixes dist moment arms new table ticks = record {
   each = λ c made past e h t here to_ask to_fix.
       let after : AreDistancesAfter c (past ++ e ∷ []) dist = record {
-        each = λ m lt. table.each c.me (distance_calls c.me (past ++ e ∷ [])) (subst (λ cs. distances.Fits c.me cs a.distances) (sym (same_calls c.me past e t.heard)) h.distances) m lt;
+        each = λ m lt. table.each c.me (distance_calls c.me (past ++ e ∷ [])) (subst (λ cs. distances.Fits c.me cs a.distances) (sym (same_distances c.me past e (ap (calls_of c.me e.moment) t.heard))) h.distances) m lt;
       } in
       ticks.each c past e t h.timers here to_ask to_fix after;
 }

@@ -1,17 +1,13 @@
 -- What a tick does to the timers: what is due is asked for again, and repaired.
-use Rattle.std.proofs.Common.{◌≡◌, ℕ, ◌<◌, max, Bool, true, false, not, ◌&&◌, ◌||◌, List, [], ◌∷◌, ◌++◌, map, refl, ap, sym, ◌∙◌, subst, arith}
-use Rattle.std.specs.Prelude.{nat_lt, nat_le, if◌then◌else◌, Option, Some, None, is_some, option_map, option_to_list}
-use Rattle.std.specs.List.{list_any, flat_map, AllByRecursion}
-use Rattle.std.proofs.lemmas.List.{append-nil}
+use Rattle.std.proofs.Common.{◌≡◌, ℕ, ◌<◌, Bool, true, false, not, ◌&&◌, ◌||◌, List, [], ◌∷◌, ◌++◌, refl, ap, sym, ◌∙◌, subst}
+use Rattle.std.specs.Prelude.{nat_lt, if◌then◌else◌, Option, Some, None, is_some, option_map}
+use Rattle.std.specs.List.{AllByRecursion}
 use Rattle.srm_names.specs.declared.limits.TheConstants.{MEMBERS}
-use Rattle.srm_names.specs.declared.stream.Stream.{Stream}
-use Rattle.srm_names.specs.declared.drawop.Drawop.{Drawop}
 use Rattle.srm_names.specs.FullName.{FullName}
-use Rattle.srm_names.specs.Histories.{or_else, greatest, first_of}
+use Rattle.srm_names.specs.Histories.{or_else, first_of}
 use Rattle.srm_names.specs.Names.{same_name, name_below, ascending, among}
 use Rattle.srm_names.proofs.Same.{same_name-is}
 use Rattle.srm_names.proofs.Snoc.{or_else-none}
-use Rattle.srm_store.specs.Held.{number_in, has_name}
 use Rattle.srm_timers.specs.declared.arm.Arm.{Arm}
 use Rattle.srm_timers.specs.declared.arm.Armed.{Armed}
 use Rattle.srm_timers.specs.declared.arm.ArmKind.TheVariants.{Ask}
@@ -25,43 +21,16 @@ use Rattle.srm_timers.specs.Distances.{distance_to}
 use Rattle.srm_timers.proofs.AskSteps.{ask_timer-sets}
 use Rattle.srm_timers.proofs.FixSteps.{asked_first-repairs, fix_timer-repairs, calls_hold_off-repairs}
 use Rattle.srm_entries.specs.declared.entry.Entry.{Entry}
-use Rattle.srm_entries.specs.Entries.{accepted, state, is_gone, evidence_by, drawops_in, names_heard, is_held, is_missing, known}
+use Rattle.srm_entries.specs.Entries.{state, is_gone, is_held, is_missing}
 use Rattle.srm_entries.specs.Distances.{distance}
 use Rattle.srm_entries.specs.Timers.{asker, asker_in, repaired, repairs_in, ask_exponent, ask_basis_of, fix_basis_of, basis_of, last_ask, fix_running, held_off, TimersRight, ask_running, only_if}
 use Rattle.srm_agent_state.specs.TimersKept.{TimersContent}
 use Rattle.srm_agent_state.specs.TimerCalls.{TicksWith, TimersTick, AreToAsk, AreToFix, WaitsAreChosen}
-use Rattle.srm_entries.proofs.Adding.{shows, gains, is_missing-snoc}
 use Rattle.srm_entries.proofs.Arming.{find-holds, find-passed, ask_at}
+use Rattle.srm_entries.proofs.Quiet.{same_missing}
 use Rattle.srm_entries.proofs.Setting.{is_ask, of_kind, ask_if, asks_of, fixes_of, is_armed, chosen_asks, chosen_waits}
 use Rattle.srm_agent_state.proofs.Midway.{if_none, midway_fits}
 use Rattle.srm_agent_state.proofs.Missing.{held_not_missing, settings_fit, holds_until}
-
--- the entry of a tick shows and gains nothing
-
-unheard_gains : (e : Entry) (n : FullName) → accepted e ≡ None → e.effects.drawn ≡ None → gains e n ≡ false
-unheard_gains e n h d =
-    ap (list_any (has_name n)) (append-nil (option_to_list e.effects.drawn ++ drawops_in (accepted e)))
-    ∙ ap (λ o. list_any (has_name n) (option_to_list o ++ drawops_in (accepted e))) d ∙ ap (λ o. list_any (has_name n) (drawops_in o)) h
-
-unheard_shows : (e : Entry) (s : Stream) → accepted e ≡ None → e.effects.drawn ≡ None → shows e s ≡ 0
-unheard_shows e s h d =
-    ap (λ ns. greatest (flat_map (number_in s) ns)) (append-nil (evidence_by e))
-    ∙ ap (λ o. greatest (flat_map (number_in s) (map (λ (x : Drawop). x.name) (option_to_list o) ++ names_heard (accepted e)))) d
-    ∙ ap (λ o. greatest (flat_map (number_in s) (names_heard o))) h
-
-unheard_missing : (past : List Entry) (e : Entry) (n : FullName) → accepted e ≡ None → e.effects.drawn ≡ None → is_missing (past ++ e ∷ []) n ≡ is_missing past n
-unheard_missing past e n h d =
-    is_missing-snoc past e n
-    ∙ ap (λ b. nat_le 1 n.number && nat_le n.number (max (known past n.stream) (shows e n.stream)) && not (is_held past n || b)) (unheard_gains e n h d)
-    ∙ ap (λ k. nat_le 1 n.number && nat_le n.number (max (known past n.stream) k) && not (is_held past n || false)) (unheard_shows e n.stream h d)
-    ∙ go (known past n.stream) (is_held past n)
-  where
-    go : (k : ℕ) (held : Bool) → (nat_le 1 n.number && nat_le n.number (max k 0) && not (held || false)) ≡ (nat_le 1 n.number && nat_le n.number k && not held)
-    go k held = let e : max k 0 ≡ k = omega arith in rw e (same held)
-      where
-        same : (held : Bool) → (nat_le 1 n.number && nat_le n.number k && not (held || false)) ≡ (nat_le 1 n.number && nat_le n.number k && not held)
-        same true = refl
-        same false = refl
 
 -- the setting of a name that is due is one of a request
 due_is_ask : (now distance : ℕ) (o : Option Armed) → (if ran_out now o then option_map (again_basis distance) o else None) ≡ ask_if (ran_out now o) (again_exponent o) distance
@@ -142,7 +111,7 @@ tick_ticks next_word from to asked fixed names dist now arms old mid new ask_sta
       let held = fix_stays.each c.d1 c.d2 h.fix_calls h.fixes in
       let are = again.each c.c1 c.c2 h.ask_calls h.asks in
       let fixed_are = due.each c.d1 c.d2 h.fix_calls h.fixes in
-      let same : (n : FullName) → is_missing (past ++ e ∷ []) n ≡ is_missing past n = λ n. unheard_missing past e n t.heard t.drawn in
+      let same : (n : FullName) → is_missing (past ++ e ∷ []) n ≡ is_missing past n = λ n. same_missing past e n (t.heard, t.drawn) in
       let none : (n : FullName) → asker n e ≡ None = λ n. ap (asker_in n) t.heard in
       let due_at : (n : FullName) → Option WaitBasis = λ n. if ran_out now (ask_running past n) then option_map (again_basis (distance_to dist n.stream.source)) (ask_running past n) else None in
       let exact : (n : FullName) → option_map wait_basis (arm_of n arms) ≡ due_at n

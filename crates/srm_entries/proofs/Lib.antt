@@ -3,6 +3,7 @@ pub mod Running
 pub mod Releasing
 pub mod Sending
 pub mod Showing
+pub mod Quiet
 pub mod Drawing
 pub mod Telling
 pub mod Parting
