@@ -8,7 +8,7 @@ use Rattle.srm_names.specs.Histories.{Step, steps, steps_after, IsPrefix}
 use Rattle.srm_names.proofs.Snoc.{along}
 use Rattle.srm_names.proofs.Lists.{Has, Has-append, Has-front, Has-map, map-Has, Has-flat_map, flat_map-Has, Has-steps, Has-step_split, Has-split, Has-back, find-Has, at_parts, steps-append}
 use Rattle.srm_codec.specs.declared.datagram.Datagram.{Datagram}
-use Rattle.srm_codec.specs.declared.datagram.Datagram.TheVariants.{Data, Request, Repair}
+use Rattle.srm_codec.specs.declared.datagram.Datagram.TheVariants.{Data, Request, Repair, Session}
 use Rattle.srm_bucket.specs.declared.class.Class.{Class}
 use Rattle.srm_bucket.specs.declared.class.Class.TheVariants.{Shown, New, Other}
 use Rattle.srm_bucket.specs.declared.item.Item.{Item}
@@ -29,14 +29,22 @@ use Rattle.std.proofs.lemmas.Bool.{OnTrue_at}
 use Rattle.std.proofs.lemmas.Grind.{flat_map-append}
 use Rattle.srm_entries.proofs.Adding.{flat_map-snoc}
 
-no_data_in : (me : ℕ) (d : Drawop) (n : FullName) (ns : List FullName) (xs ys : List Datagram) (b : Bool) → (Has (Data d) xs → ⊥) → (Has (Data d) ys → ⊥) → Has (Data d) (cond b xs (Request me n (mask_of n ns) ∷ ys)) → ⊥
-no_data_in me d n ns xs ys true p q h = p h
-no_data_in me d n ns xs ys false p q (inl e) = cc
-no_data_in me d n ns xs ys false p q (inr h) = q h
+-- what asks are packed into are requests
+abbrev IsRequest : Datagram → Type 0
+IsRequest (Data d) = ⊥
+IsRequest (Request s n m) = Unit {0}
+IsRequest (Repair s d) = ⊥
+IsRequest (Session a b f p r x) = ⊥
 
-no_data_packed : (me : ℕ) (d : Drawop) (last : Option FullName) (asks : List FullName) → Has (Data d) (packed_after me last asks) → ⊥
-no_data_packed me d last [] h = h
-no_data_packed me d last (n ∷ ns) h = no_data_in me d n ns (packed_after me last ns) (packed_after me (Some n) ns) (is_covered_by last n) (no_data_packed me d last ns) (no_data_packed me d (Some n) ns) h
+only_requests_in : (me : ℕ) (g : Datagram) (n : FullName) (ns : List FullName) (xs ys : List Datagram) (b : Bool) → (Has g xs → IsRequest g) → (Has g ys → IsRequest g) → Has g (cond b xs (Request me n (mask_of n ns) ∷ ys)) → IsRequest g
+only_requests_in me g n ns xs ys true p q h = p h
+only_requests_in me g n ns xs ys false p q (inl e) = subst IsRequest (sym e) tt
+only_requests_in me g n ns xs ys false p q (inr h) = q h
+
+only_requests_packed : (me : ℕ) (g : Datagram) (last : Option FullName) (asks : List FullName) → Has g (packed_after me last asks) → IsRequest g
+only_requests_packed me g last [] h = absurd h
+only_requests_packed me g last (n ∷ ns) h =
+    only_requests_in me g n ns (packed_after me last ns) (packed_after me (Some n) ns) (is_covered_by last n) (only_requests_packed me g last ns) (only_requests_packed me g (Some n) ns) h
 
 no_data_repair : (me : ℕ) (d : Drawop) (others : List Datagram) (o : Option Drawop) → (Has (Data d) others → ⊥) → Has (Data d) (cons_option (option_map (Repair me) o) others) → ⊥
 no_data_repair me d others None p h = p h
@@ -63,7 +71,7 @@ from_step me d s i h e = elim (Has-append i (data_item s.this.effects.drawn) (ma
     none (g, k, q) =
         let same : g ≡ Data d = sym (ap (λ (j : Classed Datagram). j.item.value) q) ∙ e in
         elim (Has-append (Data d) (packed me s.this.effects.asks) (filter_map (repair_for me s.before) s.this.effects.fixes) (subst (λ w. Has w (requests_and_repairs me s)) same k)) [
-          | inl l ↦ no_data_packed me d None s.this.effects.asks l
+          | inl l ↦ only_requests_packed me (Data d) None s.this.effects.asks l
           | inr r ↦ no_data_repairs me s.before d s.this.effects.fixes r
         ]
 
@@ -163,22 +171,20 @@ went_is_charged gs all =
     ∙ rw (p, right.same) (sym (ap (flat_map charged) (map-append (λ (g : Going). g.entry) before (x ∷ [])) ∙ flat_map-snoc charged (entries_of before) x.entry)))
     [] gs refl all
 
+-- what was sent was handed in
+sent_was_handed : (c : Config) (gs : List Going) (g : Datagram) → AllByRecursion GoesAsCharged (steps gs) → BucketLaw c.rate c.depth (bucket_calls c.me gs) → Has g (flat_map charged (entries_of gs))
+    → (j : Classed Datagram) × Has j (handed_so_far c.me (entries_of gs)) × (j.item.value ≡ g)
+sent_was_handed c gs g all law h =
+    let went : Has g (datagrams_of (departed_so_far gs)) = subst (λ w. Has g w) (sym (went_is_charged gs all)) h in
+    let (i, k, q) = Has-map (λ (x : Classed Datagram). x.item.value) g (departed_so_far gs) went in
+    let (j, m, r) = item_handed c gs i all law k in
+    (j, m, r ∙ sym q)
+
 -- data that was sent was drawn
 pub data_sent_was_drawn : (c : Config) (es : List Entry) (d : Drawop) → BucketRight c es → Has (Data d) (flat_map charged es) → Has d (drawn es)
 data_sent_was_drawn c es d (gs, e, all, law) h =
-    let went : Has (Data d) (datagrams_of (departed_so_far gs)) = subst (λ w. Has (Data d) w) (ap (flat_map charged) (sym e) ∙ sym (went_is_charged gs all)) h in
-    let (i, k, q) = Has-map (λ (i : Classed Datagram). i.item.value) (Data d) (departed_so_far gs) went in
-    let (j, m, r) = item_handed c gs i all law k in
-    subst (λ w. Has d (drawn w)) e (handed_data c.me d (entries_of gs) j m (r ∙ sym q))
-
-no_repair_in : (me s : ℕ) (d : Drawop) (n : FullName) (ns : List FullName) (xs ys : List Datagram) (b : Bool) → (Has (Repair s d) xs → ⊥) → (Has (Repair s d) ys → ⊥) → Has (Repair s d) (cond b xs (Request me n (mask_of n ns) ∷ ys)) → ⊥
-no_repair_in me s d n ns xs ys true p q h = p h
-no_repair_in me s d n ns xs ys false p q (inl e) = cc
-no_repair_in me s d n ns xs ys false p q (inr h) = q h
-
-no_repair_packed : (me s : ℕ) (d : Drawop) (last : Option FullName) (asks : List FullName) → Has (Repair s d) (packed_after me last asks) → ⊥
-no_repair_packed me s d last [] h = h
-no_repair_packed me s d last (n ∷ ns) h = no_repair_in me s d n ns (packed_after me last ns) (packed_after me (Some n) ns) (is_covered_by last n) (no_repair_packed me s d last ns) (no_repair_packed me s d (Some n) ns) h
+    let (j, m, r) = sent_was_handed c gs (Data d) all law (subst (λ w. Has (Data d) (flat_map charged w)) (sym e) h) in
+    subst (λ w. Has d (drawn w)) e (handed_data c.me d (entries_of gs) j m r)
 
 -- a repair is of a drawop that is held
 repair_held : (me s : ℕ) (before : List Entry) (d : Drawop) (n : FullName) (others : List Datagram) (o : Option Drawop) → held_at before n ≡ o → (Has (Repair s d) others → Has d (held before)) → Has (Repair s d) (cons_option (option_map (Repair me) o) others) → Has d (held before)
@@ -207,7 +213,7 @@ repair_from_step me s d t i h e = elim (Has-append i (data_item t.this.effects.d
     of_these (g, k, q) =
         let same : g ≡ Repair s d = sym (ap (λ (j : Classed Datagram). j.item.value) q) ∙ e in
         elim (Has-append (Repair s d) (packed me t.this.effects.asks) (filter_map (repair_for me t.before) t.this.effects.fixes) (subst (λ w. Has w (requests_and_repairs me t)) same k)) [
-          | inl l ↦ absurd (no_repair_packed me s d None t.this.effects.asks l)
+          | inl l ↦ absurd (only_requests_packed me (Repair s d) None t.this.effects.asks l)
           | inr r ↦ repairs_held me s t.before d t.this.effects.fixes r
         ]
 
@@ -220,7 +226,5 @@ handed_repair me s d es i h e =
 -- a repair that was sent is of a drawop that its sender held
 pub repair_sent_was_held : (c : Config) (es : List Entry) (s : ℕ) (d : Drawop) → BucketRight c es → Has (Repair s d) (flat_map charged es) → Has d (held es)
 repair_sent_was_held c es s d (gs, e, all, law) h =
-    let went : Has (Repair s d) (datagrams_of (departed_so_far gs)) = subst (λ w. Has (Repair s d) w) (ap (flat_map charged) (sym e) ∙ sym (went_is_charged gs all)) h in
-    let (i, k, q) = Has-map (λ (i : Classed Datagram). i.item.value) (Repair s d) (departed_so_far gs) went in
-    let (j, m, r) = item_handed c gs i all law k in
-    subst (λ w. Has d (held w)) e (handed_repair c.me s d (entries_of gs) j m (r ∙ sym q))
+    let (j, m, r) = sent_was_handed c gs (Repair s d) all law (subst (λ w. Has (Repair s d) (flat_map charged w)) (sym e) h) in
+    subst (λ w. Has d (held w)) e (handed_repair c.me s d (entries_of gs) j m r)
