@@ -3,7 +3,7 @@ use Rattle.std.proofs.Common.{◌≡◌, ℕ, ◌+◌, ◌*◌, ◌<◌, max, Bo
 use Rattle.std.specs.Prelude.{nat_lt, nat_le, if◌then◌else◌, Option, Some, None, is_some, option_map, option_to_list, unwrap_or}
 use Rattle.std.specs.List.{list_any, flat_map, AllByRecursion}
 use Rattle.std.proofs.lemmas.List.{append-nil}
-use Rattle.std.proofs.Math.Bool.{or-false}
+use Rattle.std.proofs.Math.Bool.{or-false, or-true}
 use Rattle.std.proofs.lemmas.Bool.Decides.{nat_tests}
 use Rattle.srm_names.specs.declared.limits.TheConstants.{MEMBERS}
 use Rattle.srm_names.specs.declared.stream.Stream.{Stream}
@@ -37,7 +37,7 @@ use Rattle.srm_entries.specs.Distances.{distance}
 use Rattle.srm_entries.specs.Timers.{asker, asker_in, first_asker, repaired, repairs_in, ask_exponent, ask_basis_of, fix_basis_of, basis_of, fix_running, held_off, ArmsRight, ask_running}
 use Rattle.srm_agent_state.specs.TimersKept.{TimersContent, HaveSettings, TimersFit}
 use Rattle.srm_agent_state.specs.TimerCalls.{AreNewlyMissing, HearsWith, KeepSettings, AreDistancesAfter, TimersHear, WaitsAreChosen, FixEnds, IsDataOf, IsDrawopOf, IsRepairOf, IsSession}
-use Rattle.srm_entries.proofs.Adding.{shows, gains, is_missing-snoc}
+use Rattle.srm_entries.proofs.Adding.{shows, gains, is_held-snoc, is_missing-snoc}
 use Rattle.srm_entries.proofs.Arming.{ask_at}
 use Rattle.srm_entries.proofs.Setting.{of_kind, asks_of, fixes_of, is_armed, chosen_waits}
 use Rattle.srm_agent_state.proofs.Midway.{Does, if_none, midway_fits, armed_as, waits_before}
@@ -57,27 +57,6 @@ shows_heard e g s h d =
 
 -- missing before, held before, gained by it, missing after it: of one name
 
-pub gained_then : (past : List Entry) (e : Entry) (n : FullName) → gains e n ≡ true → is_missing (past ++ e ∷ []) n ≡ false
-gained_then past e n g = is_missing-snoc past e n ∙ go (is_held past n) (gains e n) (nat_le 1 n.number) (nat_le n.number (max (known past n.stream) (shows e n.stream))) g
-  where
-    go : (h k a b : Bool) → k ≡ true → (a && b && not (h || k)) ≡ false
-    go h false a b e = absurd (cc)
-    go true true true true e = refl
-    go true true true false e = refl
-    go true true false b e = refl
-    go false true true true e = refl
-    go false true true false e = refl
-    go false true false b e = refl
-
-pub held_then : (past : List Entry) (e : Entry) (n : FullName) → is_held past n ≡ true → is_missing (past ++ e ∷ []) n ≡ false
-held_then past e n h = is_missing-snoc past e n ∙ go (is_held past n) (gains e n) (nat_le 1 n.number) (nat_le n.number (max (known past n.stream) (shows e n.stream))) h
-  where
-    go : (h k a b : Bool) → h ≡ true → (a && b && not (h || k)) ≡ false
-    go false k a b e = absurd (cc)
-    go true k true true e = refl
-    go true k true false e = refl
-    go true k false b e = refl
-
 pub held_not_missing : (past : List Entry) (n : FullName) → is_held past n ≡ true → is_missing past n ≡ false
 held_not_missing past n h = go (is_held past n) (nat_le 1 n.number) (nat_le n.number (known past n.stream)) h
   where
@@ -86,6 +65,13 @@ held_not_missing past n h = go (is_held past n) (nat_le 1 n.number) (nat_le n.nu
     go true true true e = refl
     go true true false e = refl
     go true false b e = refl
+
+-- what an entry gains, and what was held before it, is held after it
+pub gained_then : (past : List Entry) (e : Entry) (n : FullName) → gains e n ≡ true → is_missing (past ++ e ∷ []) n ≡ false
+gained_then past e n g = held_not_missing (past ++ e ∷ []) n (is_held-snoc past e n ∙ ap (λ b. is_held past n || b) g ∙ or-true (is_held past n))
+
+pub held_then : (past : List Entry) (e : Entry) (n : FullName) → is_held past n ≡ true → is_missing (past ++ e ∷ []) n ≡ false
+held_then past e n h = held_not_missing (past ++ e ∷ []) n (is_held-snoc past e n ∙ ap (λ b. b || gains e n) h)
 
 pub stays_missing : (past : List Entry) (e : Entry) (n : FullName) → gains e n ≡ false → is_missing past n ≡ true → is_missing (past ++ e ∷ []) n ≡ true
 stays_missing past e n g m = is_missing-snoc past e n ∙ go (is_held past n) (gains e n) n.number (known past n.stream) (shows e n.stream) g m
