@@ -3,7 +3,7 @@ use Rattle.std.proofs.Common.{◌≡◌, ℕ, ◌≤◌, Bool, List, [], ◌∷�
 use Rattle.std.specs.Prelude.{Option, Some, option_to_list}
 use Rattle.std.specs.List.{list_any, AllByRecursion}
 use Rattle.srm_names.specs.FullName.{FullName}
-use Rattle.srm_names.proofs.Lists.{AllByRecursion-append}
+use Rattle.srm_names.proofs.Lists.{AllByRecursion-append, all_by}
 use Rattle.srm_codec.specs.declared.datagram.Datagram.{Datagram}
 use Rattle.srm_codec.specs.Spelling.{sender_of, IsSpellable, is_farewell}
 use Rattle.srm_timers.specs.declared.arm.Arm.{Arm}
@@ -31,14 +31,6 @@ pub record IsSent (me : ℕ) (g : Datagram) : Type 0 where
   pub sender : sender_of g ≡ me
   pub spellable : IsSpellable g
 
-senders : (me : ℕ) (gs : List Datagram) → AllByRecursion (IsSent me) gs → AllByRecursion (λ g. sender_of g ≡ me) gs
-senders me [] all = tt
-senders me (g ∷ gs) all = (all.0.sender, senders me gs all.1)
-
-spellable : (me : ℕ) (gs : List Datagram) → AllByRecursion (IsSent me) gs → AllByRecursion IsSpellable gs
-spellable me [] all = tt
-spellable me (g ∷ gs) all = (all.0.spellable, spellable me gs all.1)
-
 -- what a tick at a moment does, after these entries
 pub record TickRight (c : Config) (made : ℕ) (past : List Entry) (e : Entry) (wanted : Option Bool) (went : List Datagram) (o : Option Datagram) : Type 0 where
   pub moment : last_moment made past ≤ e.moment
@@ -63,8 +55,8 @@ tick_right c made moment past asks fixes arms outs after wanted went o t =
       drawn = refl;
       arms = t.arms;
       timers = t.timers;
-      senders = senders c.me outs all;
-      spelled = spellable c.me outs all;
+      senders = all_by (IsSent c.me) (λ g. sender_of g ≡ c.me) outs (λ g sent. sent.sender) all;
+      spelled = all_by (IsSent c.me) IsSpellable outs (λ g sent. sent.spellable) all;
       read = tt;
       session = session_right c made past (tick_entry c.me moment asks fixes arms outs after) wanted went o t.ending t.charged t.outs t.ends;
       message = refl;

@@ -1,11 +1,11 @@
 -- What a tick does to the timers: what is due is asked for again, and repaired.
 use Rattle.std.proofs.Common.{◌≡◌, ℕ, ◌<◌, Bool, true, false, not, ◌&&◌, ◌||◌, List, [], ◌∷◌, ◌++◌, refl, ap, sym, ◌∙◌, subst}
 use Rattle.std.specs.Prelude.{nat_lt, if◌then◌else◌, Option, Some, None, is_some, option_map}
-use Rattle.std.specs.List.{AllByRecursion}
 use Rattle.srm_names.specs.declared.limits.TheConstants.{MEMBERS}
 use Rattle.srm_names.specs.FullName.{FullName}
 use Rattle.srm_names.specs.Histories.{or_else, first_of}
 use Rattle.srm_names.specs.Names.{same_name, name_below, ascending, among}
+use Rattle.srm_names.proofs.Lists.{all_by}
 use Rattle.srm_names.proofs.Same.{same_name-is}
 use Rattle.srm_names.proofs.Snoc.{or_else-none}
 use Rattle.srm_timers.specs.declared.arm.Arm.{Arm}
@@ -96,11 +96,7 @@ ticks_right now past e arms asked fixed t active toask tofix = record {
 -- arms that are requests wait by the words
 pub due_drawn : {W : Type 0} (next_word : W → ℕ × W) (t : TimersContent) (from to : W) (arms : List Arm) → AreAsks arms
     → AreChosen next_word (timers.low_of t.asks.c1) (timers.high_of t.asks.c1 t.asks.c2) from arms to → WaitsAreChosen next_word t from arms to
-due_drawn next_word t from to arms all drawn = record { each = λ c s. chosen_asks next_word c t.asks.c1 t.asks.c2 from to arms s.c1 s.c2 (kinds arms all.each) drawn }
-  where
-    kinds : (as_ : List Arm) → AllByRecursion IsAsk as_ → AllByRecursion is_ask as_
-    kinds [] each = tt
-    kinds (a ∷ as_) each = (each.0.kind, kinds as_ each.1)
+due_drawn next_word t from to arms all drawn = record { each = λ c s. chosen_asks next_word c t.asks.c1 t.asks.c2 from to arms s.c1 s.c2 (all_by IsAsk is_ask arms (λ a ask. ask.kind) all.each) drawn }
 
 pub tick_ticks : {W : Type 0} (next_word : W → ℕ × W) (from to : W) (asked fixed names : List FullName) (dist : List ℕ) (now : ℕ) (arms : List Arm) (old mid new : TimersContent)
     → AskStays old.asks mid.asks → FixStays old.fixes mid.fixes → AskAdds (sets now arms) mid.asks new.asks → ArmsSetAgain now dist old.asks arms → AreOfMembers arms → WaitsAreChosen next_word old from arms to

@@ -9,16 +9,12 @@ use Rattle.srm_names.specs.Names.{first_page, same_page}
 use Rattle.srm_names.proofs.Snoc.{steps-snoc, last_of-snoc}
 use Rattle.srm_entries.specs.declared.entry.Entry.{Entry}
 use Rattle.srm_entries.specs.Entries.{done, pages_in, slots, page_shown, shown, moments_counted, last_moment}
-use Rattle.srm_names.proofs.Lists.{greatest-append}
+use Rattle.srm_names.proofs.Lists.{AllByRecursion-snoc, greatest-append}
 use Rattle.srm_entries.proofs.Adding.{flat_map-snoc}
 
 -- what holds at each step, and at one more
 pub steps_more : {X : Type 0} (R : Step X → Type 0) (xs : List X) (x : X) → AllByRecursion R (steps xs) → R (record { before = xs; this = x }) → AllByRecursion R (steps (xs ++ x ∷ []))
-steps_more R xs x all right = subst (λ w. AllByRecursion R w) (sym (steps-snoc xs x)) (more (steps xs) all)
-  where
-    more : (ys : List (Step _)) → AllByRecursion R ys → AllByRecursion R (ys ++ record { before = xs; this = x } ∷ [])
-    more [] all = (right, tt)
-    more (y ∷ ys) all = (all.0, more ys all.1)
+steps_more R xs x all right = subst (λ w. AllByRecursion R w) (sym (steps-snoc xs x)) (AllByRecursion-snoc R (steps xs) (record { before = xs; this = x }) all right)
 
 pub last_moment-snoc : (made : ℕ) (past : List Entry) (e : Entry) → last_moment made (past ++ e ∷ []) ≡ max (last_moment made past) (greatest (moments_counted e.verdict e))
 last_moment-snoc made past e =
