@@ -5,7 +5,7 @@ use Rattle.srm_names.specs.declared.limits.TheConstants.{MEMBERS}
 use Rattle.srm_names.specs.FullName.{FullName}
 use Rattle.srm_names.specs.Histories.{or_else, first_of}
 use Rattle.srm_names.specs.Names.{same_name, name_below, ascending, among}
-use Rattle.srm_names.proofs.Lists.{all_by}
+use Rattle.srm_names.proofs.Lists.{All-Has, all_by, find-Has}
 use Rattle.srm_names.proofs.Same.{same_name-is}
 use Rattle.srm_names.proofs.Snoc.{or_else-none}
 use Rattle.srm_timers.specs.declared.arm.Arm.{Arm}
@@ -26,7 +26,7 @@ use Rattle.srm_entries.specs.Distances.{distance}
 use Rattle.srm_entries.specs.Timers.{asker, asker_in, repaired, repairs_in, ask_exponent, ask_basis_of, fix_basis_of, basis_of, last_ask, fix_running, held_off, TimersRight, ask_running, only_if}
 use Rattle.srm_agent_state.specs.TimersKept.{TimersContent}
 use Rattle.srm_agent_state.specs.TimerCalls.{TicksWith, TimersTick, AreToAsk, AreToFix, WaitsAreChosen}
-use Rattle.srm_entries.proofs.Arming.{find-holds, find-passed, ask_at}
+use Rattle.srm_entries.proofs.Arming.{ask_at}
 use Rattle.srm_entries.proofs.Quiet.{same_missing}
 use Rattle.srm_entries.proofs.Setting.{is_ask, of_kind, ask_if, asks_of, fixes_of, is_armed, chosen_asks, chosen_waits}
 use Rattle.srm_agent_state.proofs.Midway.{if_none, midway_fits}
@@ -72,8 +72,8 @@ again_by now false true a (Some x) near armed q e s = rw e (go (ran_out now (Som
 of_member : (arms : List Arm) (n : FullName) (o : Option Arm) → arm_of n arms ≡ o → AreOfMembers arms → is_some o ≡ true → n.stream.source < MEMBERS
 of_member arms n None e all some = absurd (cc)
 of_member arms n (Some a) e all some =
-    subst (λ (m : FullName). m.stream.source < MEMBERS) (sym (same_name-is n a.name (find-passed (λ (x : Arm). same_name n x.name) arms a e)))
-    (find-holds (λ (x : Arm). x.name.stream.source < MEMBERS) (λ (x : Arm). same_name n x.name) arms a all.each e)
+    subst (λ (m : FullName). m.stream.source < MEMBERS) (sym (same_name-is n a.name (find-Has (λ (x : Arm). same_name n x.name) arms a e).1))
+    (All-Has (λ (x : Arm). x.name.stream.source < MEMBERS) a arms all.each (find-Has (λ (x : Arm). same_name n x.name) arms a e).0)
 
 is_some_map : {X Y : Type 0} (f : X → Y) (o : Option X) → is_some (option_map f o) ≡ is_some o
 is_some_map f None = refl

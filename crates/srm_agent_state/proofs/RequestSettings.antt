@@ -1,13 +1,12 @@
 -- The settings that a request asks for.
-use Rattle.std.proofs.Common.{◌≡◌, ℕ, ◌≤◌, Bool, true, false, not, ◌&&◌, ◌||◌, List, [], ◌∷◌, ◌++◌, refl, ap, sym, ◌∙◌, subst, arith, inl, inr}
+use Rattle.std.proofs.Common.{◌≡◌, ℕ, ◌≤◌, Bool, true, false, not, ◌&&◌, ◌||◌, List, [], ◌∷◌, ◌++◌, refl, ap, sym, ◌∙◌, subst, arith}
 use Rattle.std.specs.Prelude.{nat_le, if◌then◌else◌, Option, Some, None, is_some, option_map}
-use Rattle.std.specs.List.{list_any}
 use Rattle.std.proofs.lemmas.Bool.Decides.{nat_tests}
 use Rattle.srm_names.specs.FullName.{FullName}
 use Rattle.srm_names.specs.Histories.{or_else}
 use Rattle.srm_names.specs.Names.{among}
 use Rattle.srm_names.proofs.Same.{same_name-is}
-use Rattle.srm_names.proofs.Lists.{Has}
+use Rattle.srm_names.proofs.Lists.{any_Has}
 use Rattle.srm_names.proofs.Snoc.{or_else-none}
 use Rattle.srm_store.specs.Held as stores
 use Rattle.srm_timers.specs.declared.arm.Arm.{Arm}
@@ -119,17 +118,9 @@ request_setting c past e from asked newly_missing dist now n ask_is nothing at f
 
 -- what is held or missing is known
 
-any_has : {X : Type 0} (p : X → Bool) (xs : List X) → list_any p xs ≡ true → (x : X) × Has x xs × (p x ≡ true)
-any_has p [] e = absurd (cc)
-any_has {X = X} p (x ∷ xs) e = go (p x) refl e (any_has p xs)
-  where
-    go : (b : Bool) → p x ≡ b → (b || list_any p xs) ≡ true → (list_any p xs ≡ true → (y : X) × Has y xs × (p y ≡ true)) → (y : X) × Has y (x ∷ xs) × (p y ≡ true)
-    go true k a more = (x, inl refl, k)
-    go false k a more = let (y, h, q) = more a in (y, inr h, q)
-
 pub held_known : (past : List Entry) (n : FullName) → is_held past n ≡ true → n.number ≤ known past n.stream
 held_known past n h =
-    let (d, there, named_so) = any_has (stores.has_name n) (held past) h in
+    let (d, there, named_so) = any_Has (stores.has_name n) (held past) h in
     subst (λ m. m.number ≤ known past m.stream) (same_name-is d.name n named_so) (known_has past d.name (held_is_shown past d there))
 
 missing_known : (past : List Entry) (n : FullName) → is_missing past n ≡ true → n.number ≤ known past n.stream

@@ -1,9 +1,10 @@
 -- What the law of arms says of the arm that an entry holds for one name.
 use Rattle.std.proofs.Common.{◌≡◌, ℕ, ◌≤◌, Bool, true, false, ◌&&◌, ◌||◌, List, [], ◌∷◌, map, refl, ap, sym, ◌∙◌, subst}
 use Rattle.std.specs.Prelude.{find, Option, Some, None, is_some, option_map, cond}
-use Rattle.std.specs.List.{list_any, AllByRecursion}
+use Rattle.std.specs.List.{list_any}
 use Rattle.srm_names.specs.FullName.{FullName}
 use Rattle.srm_names.specs.Names.{same_name, name_below, ascending}
+use Rattle.srm_names.proofs.Lists.{All-Has, find-Has}
 use Rattle.srm_names.proofs.Same.{same_name-is}
 use Rattle.srm_names.proofs.Orders.{and_left, stands_once}
 use Rattle.srm_names.proofs.Rising.{ascending_tail}
@@ -39,23 +40,6 @@ coarser_at x y false false rest more f e = f e
 pub find-coarser : {X : Type 0} (p q : X → Bool) (xs : List X) (x : X) → find (λ y. q y && p y) xs ≡ Some x → is_some (find p xs) ≡ true
 find-coarser p q [] x e = absurd (cc)
 find-coarser p q (y ∷ ys) x e = coarser_at x y (p y) (q y) (find p ys) (find (λ y. q y && p y) ys) (λ f. find-coarser p q ys x f) e
-
-passed_at : {X : Type 0} (p : X → Bool) (x y : X) (b : Bool) → p y ≡ b → (rest : Option X) → (rest ≡ Some x → p x ≡ true) → cond b (Some y) rest ≡ Some x → p x ≡ true
-passed_at p x y true u rest f e = let h : y ≡ x = cc in ap p (sym h) ∙ u
-passed_at p x y false u rest f e = f e
-
-pub find-passed : {X : Type 0} (p : X → Bool) (xs : List X) (x : X) → find p xs ≡ Some x → p x ≡ true
-find-passed p [] x e = absurd (cc)
-find-passed p (y ∷ ys) x e = passed_at p x y (p y) refl (find p ys) (find-passed p ys x) e
-
-holds_at : {X : Type 0} (P : X → Type 0) (x y : X) (b : Bool) (rest : Option X) → P y → (rest ≡ Some x → P x) → cond b (Some y) rest ≡ Some x → P x
-holds_at P x y true rest h f e = let k : y ≡ x = cc in subst P k h
-holds_at P x y false rest h f e = f e
-
--- what holds of each element holds of the one that is found
-pub find-holds : {X : Type 0} (P : X → Type 0) (p : X → Bool) (xs : List X) (x : X) → AllByRecursion P xs → find p xs ≡ Some x → P x
-find-holds P p [] x all e = absurd (cc)
-find-holds P p (y ∷ ys) x all e = holds_at P x y (p y) (find p ys) all.0 (find-holds P p ys x all.1) e
 
 -- arms
 
@@ -130,7 +114,7 @@ unset_by kind n c before e r h = go (arm_in kind n e) refl
 pub waits_at_most : (kind : ArmKind) (n : FullName) (c : Config) (before : List Entry) (e : Entry) (a : Armed) → ArmsRight c before e
     → arm_in kind n e ≡ Some a → a.arm.wait ≤ high_of c a.arm
 waits_at_most kind n c before e a r h =
-    (find-holds (λ (x : Arm). (low_of c x ≤ x.wait) × (x.wait ≤ high_of c x)) (kind_and_name kind n) e.effects.arms a.arm r.waits (arm_found kind n e a h).0).1
+    (All-Has (λ (x : Arm). (low_of c x ≤ x.wait) × (x.wait ≤ high_of c x)) a.arm e.effects.arms r.waits (find-Has (kind_and_name kind n) e.effects.arms a.arm (arm_found kind n e a h).0).0).1
 
 -- in order of name, the first arm of the name is the only one
 alone_at : (n : FullName) (q : Arm → Bool) (x y : Arm) (ys : List Arm) (b t : Bool) → same_name n y.name ≡ b → q y ≡ t
@@ -168,5 +152,5 @@ kind_set kind n c before e a s r h k =
     let one = only_arm n (λ (x : Arm). same_kind kind x.kind) e.effects.arms a.arm r.are.in_order found in
     let is : Some (wait_basis a.arm) ≡ Some s = sym (ap (option_map wait_basis) one) ∙ r.are.exact n ∙ k in
     let same : wait_basis a.arm ≡ s = cc in
-    let test : same_kind kind a.arm.kind ≡ true = and_left (same_kind kind a.arm.kind) (same_name n a.arm.name) (find-passed (kind_and_name kind n) e.effects.arms a.arm found) in
+    let test : same_kind kind a.arm.kind ≡ true = and_left (same_kind kind a.arm.kind) (same_name n a.arm.name) (find-Has (kind_and_name kind n) e.effects.arms a.arm found).1 in
     ap (λ (t : WaitBasis). t.kind) (sym same) ∙ sym (same_kind_tells kind a.arm.kind test)

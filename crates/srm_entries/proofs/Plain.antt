@@ -164,6 +164,14 @@ right c made before m now input drawn outs message after here next ask fix p1 p2
   state = p8;
 }
 
+-- what holds of each name of the one stream and of every other name holds of all
+pub of_all : (P : FullName → Type 0) → ((k : ℕ) → P (named first_stream k)) → ((n : FullName) → same_stream n.stream first_stream ≡ false → P n) → (n : FullName) → P n
+of_all P here there n = go (same_stream n.stream first_stream) refl
+  where
+    go : (b : Bool) → same_stream n.stream first_stream ≡ b → P n
+    go true e = subst (λ (s : Stream). P (named s n.number)) (sym (same_stream-is n.stream first_stream e)) (here n.number)
+    go false e = there n e
+
 -- Nothing is missing where nothing is known, or where the one drawop is held and nothing further is known.
 
 pub unknown_unmissed : (es : List Entry) (n : FullName) → known es n.stream ≡ 0 → is_missing es n ≡ false
@@ -177,11 +185,7 @@ one_held a = grind (arith, nat_tests)
 
 pub none_missing_in : (es : List Entry) → ((a : ℕ) → is_missing es (named first_stream a) ≡ false) → ((n : FullName) → same_stream n.stream first_stream ≡ false → known es n.stream ≡ 0)
     → (n : FullName) → is_missing es n ≡ false
-none_missing_in es here there n = go (same_stream n.stream first_stream) refl
-  where
-    go : (b : Bool) → same_stream n.stream first_stream ≡ b → is_missing es n ≡ false
-    go true e = subst (λ (s : Stream). is_missing es (named s n.number) ≡ false) (sym (same_stream-is n.stream first_stream e)) (here n.number)
-    go false e = unknown_unmissed es n (there n e)
+none_missing_in es here there n = of_all (λ m. is_missing es m ≡ false) here (λ m e. unknown_unmissed es m (there m e)) n
 
 pub missing_none : (n : FullName) → is_missing [] n ≡ false
 missing_none n = unknown_unmissed [] n refl
@@ -197,11 +201,3 @@ twice_known n e = ap (λ b. greatest (one_of b ++ (one_of b ++ []))) e
 
 pub missing_drawn : (n : FullName) → is_missing (draws_one ∷ []) n ≡ false
 missing_drawn n = none_missing_in (draws_one ∷ []) one_held one_known n
-
--- what holds of each name of the one stream and of every other name holds of all
-pub of_all : (P : FullName → Type 0) → ((k : ℕ) → P (named first_stream k)) → ((n : FullName) → same_stream n.stream first_stream ≡ false → P n) → (n : FullName) → P n
-of_all P here there n = go (same_stream n.stream first_stream) refl
-  where
-    go : (b : Bool) → same_stream n.stream first_stream ≡ b → P n
-    go true e = subst (λ (s : Stream). P (named s n.number)) (sym (same_stream-is n.stream first_stream e)) (here n.number)
-    go false e = there n e
