@@ -29,10 +29,6 @@ arm_named n (a ∷ arms) = go (same_name n a.name) (arm_named n arms)
     go true more = refl
     go false more = more
 
-pub none_of : {X : Type 0} (o : Option X) → is_some o ≡ false → o ≡ None
-none_of None e = refl
-none_of (Some x) e = absurd (cc)
-
 pub joined : (now : ℕ) (k : ArmKind) (a b : Option Arm) (rest : Option Armed) → (is_some b ≡ true → a ≡ None)
     → or_else (option_map (armed_at now) (of_kind k b)) (or_else (option_map (armed_at now) (of_kind k a)) rest) ≡ or_else (option_map (armed_at now) (of_kind k (or_else a b))) rest
 joined now k None None rest e = refl

@@ -25,6 +25,7 @@ use Rattle.srm_timers.specs.AskCalls.{AskCall, AskContent, AskFits, AskAdds, ask
 use Rattle.srm_timers.specs.AskCalls as asks
 use Rattle.srm_timers.specs.FixCalls.{FixCall, Asked, FixAdds, fix_timer, asked_first, calls_hold_off, is_free, sets_fix}
 use Rattle.srm_timers.specs.FixCalls as fixes
+use Rattle.srm_store.proofs.Placing.{is_none}
 use Rattle.srm_timers.proofs.AskSteps.{ask_timer-sets}
 use Rattle.srm_timers.proofs.FixSteps.{asked_first-snoc, asked_first-append, no_asker-sets, fix_timer-asked, fix_timer-sets, calls_hold_off-asked, calls_hold_off-append, none_off-sets}
 use Rattle.srm_entries.specs.Configs.{Config}
@@ -38,7 +39,7 @@ use Rattle.srm_entries.proofs.Setting.{of_kind}
 use Rattle.srm_agent_state.proofs.Midway.{Midway}
 use Rattle.srm_agent_state.proofs.Missing.{no_name}
 use Rattle.srm_agent_state.proofs.RisingNames.{front_below, last_is_new}
-use Rattle.srm_agent_state.proofs.JoinedArms.{arm_of-append, arm_named, none_of, joined}
+use Rattle.srm_agent_state.proofs.JoinedArms.{arm_of-append, arm_named, joined}
 
 -- The arm that a request makes for a name that it asks for, by what the entries before say.
 abbrev pub wanted : Config → List Entry → ℕ → List ℕ → ℕ → FullName → Option WaitBasis
@@ -163,7 +164,7 @@ asker_joins false false from None = refl
 -- what stands in the timers for a name that wasn't answered yet
 unarmed : {c : Config} {past : List Entry} {from : ℕ} {dist : List ℕ} {now : ℕ} {done : List FullName} {arms : List Arm} {t : TimersContent} (n : FullName)
     → AnsweredIn c past from dist now done arms t → among done n ≡ false → arm_of n arms ≡ None
-unarmed {done = done} {arms = arms} n a new = none_of (arm_of n arms) (arm_named n arms ∙ go (among (arm_names arms) n) refl)
+unarmed {done = done} {arms = arms} n a new = is_none (arm_of n arms) (arm_named n arms ∙ go (among (arm_names arms) n) refl)
   where
     go : (b : Bool) → among (arm_names arms) n ≡ b → b ≡ false
     go true e = sym (a.inside n e) ∙ new

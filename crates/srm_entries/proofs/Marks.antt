@@ -4,7 +4,7 @@ use Rattle.std.specs.Prelude.{Option, Some, None, if◌then◌else◌}
 use Rattle.std.specs.List.{flat_map, AllByRecursion}
 use Rattle.std.proofs.lemmas.Bool.{OnTrue_at}
 use Rattle.std.proofs.lemmas.Option.{same_Some}
-use Rattle.std.proofs.lemmas.List.{append-nil}
+use Rattle.std.proofs.lemmas.List.{append-nil, drop_at}
 use Rattle.srm_names.specs.Histories.{steps, steps_after}
 use Rattle.srm_codec.specs.declared.datagram.Datagram.{Datagram}
 use Rattle.srm_bucket.specs.declared.class.Class.{Class}
@@ -19,10 +19,6 @@ use Rattle.srm_entries.specs.Bucket.{Going, GoesAsCharged, handed_in_by, entries
 use Rattle.srm_entries.proofs.Adding.{flat_map-snoc}
 use Rattle.srm_entries.proofs.Charging.{law_at}
 use Rattle.srm_entries.proofs.Cutting.{bucket_calls-append}
-
-drop_front : {X : Type 0} (xs ys : List X) → drop (length xs) (xs ++ ys) ≡ ys
-drop_front [] ys = refl
-drop_front (x ∷ xs) ys = drop_front xs ys
 
 -- what is left of each class, and the first of the highest
 shown_first : (f : Class → List (Item Datagram)) (x : Item Datagram) (xs : List (Item Datagram)) → f Shown ≡ x ∷ xs → first_of_highest f ≡ Some (record { class = Shown; item = x })
@@ -46,12 +42,12 @@ module _ (rate depth now : ℕ) (before : List (Call Datagram)) (i : Classed Dat
       let went : departed k (before ++ Popped now (Some i) ∷ []) ≡ departed k before ++ i.item ∷ [] = flat_map-snoc (departed_in k) before (Popped now (Some i)) ∙ ap (λ xs. departed k before ++ xs) (in_its_own i k e) in
       let came : handed k (before ++ Popped now (Some i) ∷ []) ≡ handed k before = flat_map-snoc (handed_in k) before (Popped now (Some i)) ∙ append-nil (handed k before) in
       let all : handed k before ≡ departed k before ++ (i.item ∷ rest) = sym came ∙ sym whole ∙ ap (λ xs. xs ++ rest) went ∙ append_assoc (departed k before) (i.item ∷ []) rest in
-      (rest, ap (drop (length (departed k before))) all ∙ drop_front (departed k before) (i.item ∷ rest))
+      (rest, ap (drop (length (departed k before))) all ∙ drop_at (departed k before) (i.item ∷ rest) (length (departed k before)) refl)
 
   none_higher : (k : Class) → rank k < rank i.class → queued before k ≡ []
   none_higher k higher =
       let same = right.highest_first k higher in
-      ap (drop (length (departed k before))) (sym same ∙ sym (append-nil (departed k before))) ∙ drop_front (departed k before) []
+      ap (drop (length (departed k before))) (sym same ∙ sym (append-nil (departed k before))) ∙ drop_at (departed k before) [] (length (departed k before)) refl
 
   pub pop_is_next : next_queued before ≡ Some i
   pop_is_next = go i.class refl

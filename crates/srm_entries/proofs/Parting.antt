@@ -3,7 +3,7 @@ use Rattle.std.proofs.Common.{◌≡◌, ℕ, ◌≤◌, Bool, true, false, not,
 use Rattle.std.specs.Prelude.{Option, Some, None, if◌then◌else◌, option_to_list, option_map, filter, nat_lt, nat_le, find}
 use Rattle.std.specs.List.{list_any, AllByRecursion}
 use Rattle.std.proofs.lemmas.Option.{none-some, same_Some}
-use Rattle.std.proofs.lemmas.Bool.{both_ways, ltb-false}
+use Rattle.std.proofs.lemmas.Bool.{both_ways, not-true, ltb-false}
 use Rattle.std.proofs.lemmas.List.{append-nil}
 use Rattle.srm_names.specs.declared.page.Page.{Page}
 use Rattle.srm_names.specs.declared.stream.Stream.{Stream}
@@ -31,19 +31,11 @@ use Rattle.srm_entries.proofs.Drawing.{draws_right}
 
 -- a session message that went was the one that ends its entry
 pub ends : (c : Config) (before : List Entry) (e : Entry) (g : Datagram) (o : Option Bool) → EndsWith c before e o → Has g e.effects.outs → is_session g ≡ true → (f : Bool) × (o ≡ Some f) × IsSessionMessage c before e.moment f g
-ends c before e g None q h s = let k = Has-passes (λ (x : Datagram). not (is_session x)) g e.effects.outs (subst (λ w. Has g w) q h) in absurd (both_ways (is_session g) (flip (is_session g) k.1) s)
-  where
-    flip : (b : Bool) → not b ≡ true → b ≡ false
-    flip true e = grind arith
-    flip false e = refl
+ends c before e g None q h s = let k = Has-passes (λ (x : Datagram). not (is_session x)) g e.effects.outs (subst (λ w. Has g w) q h) in absurd (both_ways (is_session g) (not-true (is_session g) k.1) s)
 ends c before e g (Some f) (last, q, r) h s = elim (Has-append g (charged e) (last ∷ []) (subst (λ w. Has g w) q h)) [
-  | inl l ↦ (let k = Has-passes (λ (x : Datagram). not (is_session x)) g e.effects.outs l in absurd (both_ways (is_session g) (flip (is_session g) k.1) s))
+  | inl l ↦ (let k = Has-passes (λ (x : Datagram). not (is_session x)) g e.effects.outs l in absurd (both_ways (is_session g) (not-true (is_session g) k.1) s))
   | inr k ↦ elim k [ inl w ↦ (f, refl, subst (λ x. IsSessionMessage c before e.moment f x) (sym w) r) | inr w ↦ absurd w ]
 ]
-  where
-    flip : (b : Bool) → not b ≡ true → b ≡ false
-    flip true e = grind arith
-    flip false e = refl
 
 -- the entry in which a session message went
 pub record Sending (c : Config) (made : ℕ) (es : List Entry) (g : Datagram) : Type 0 where
