@@ -15,12 +15,12 @@ use Rattle.srm_entries.specs.Sessions.{SessionRight, EndsWith, session_message_d
 use Rattle.srm_entries.specs.Bucket.{Going, GoesAsCharged, entries_of, datagrams_of, bucket_calls}
 use Rattle.srm_entries.specs.Runs.{EntryRight, IsMemberRun}
 use Rattle.srm_entries.proofs.Parting.{tick_draws_nothing}
-use Rattle.srm_entries.proofs.Rating.{rate_law}
+use Rattle.srm_entries.proofs.Rating.{not_nil, rate_law}
 use Rattle.srm_names.specs.Histories.{steps}
 use Rattle.std.specs.List.{AllByRecursion}
 use Rattle.srm_entries.specs.Promises.{MayDoNothing, IsNextDue}
 use Rattle.srm_agent.proofs.NextDueRests.{gone_rests, idle_rests}
-use Rattle.srm_agent.proofs.NextDueStirs.{not_empty, nothing_went}
+use Rattle.srm_agent.proofs.NextDueStirs.{nothing_went}
 use Rattle.srm_entries.specs.Sample.{first_stream, idle, config}
 use Rattle.srm_entries.proofs.Plain.{plain, idle_right, right, missing_none, unknown_unmissed}
 
@@ -61,7 +61,7 @@ ends_with_one e i m =
 then_a_report : MayDoNothing (config 0) 0 [] 1000000 → ⊥
 then_a_report (e, input, moment, nothing, run) =
     let (g, is, report) = subst (λ o. EndsWith (config 0) [] e o) (ends_with_one e input moment) run.each.0.session in
-    not_empty (charged e) g (sym nothing.outs ∙ is)
+    not_nil (charged e) [] g (sym nothing.outs ∙ is)
 
 due_after_a_second : IsNextDue (config 0) 0 [] (Some 1000000)
 due_after_a_second = (refl, lit≤ tt, (λ now l u. (idle_before now u, idle_rests (config 0) 0 [] now (idle_before now u))), then_a_report)

@@ -19,6 +19,7 @@ use Rattle.srm_entries.specs.Bucket.{Going, GoesAsCharged, handed_in_by, entries
 use Rattle.srm_entries.proofs.Adding.{flat_map-snoc}
 use Rattle.srm_entries.proofs.Charging.{law_at}
 use Rattle.srm_entries.proofs.Cutting.{bucket_calls-append}
+use Rattle.srm_entries.proofs.Marking.{popping}
 
 -- what is left of each class, and the first of the highest
 shown_first : (f : Class → List (Item Datagram)) (x : Item Datagram) (xs : List (Item Datagram)) → f Shown ≡ x ∷ xs → first_of_highest f ≡ Some (record { class = Shown; item = x })
@@ -65,18 +66,18 @@ module _ (rate depth now : ℕ) (before : List (Call Datagram)) (i : Classed Dat
 
 -- as many pops after the same calls let the same go
 same_goes : (rate depth now : ℕ) (before : List (Call Datagram)) (xs ys : List (Classed Datagram)) (more others : List (Call Datagram)) → length xs ≡ length ys
-    → BucketLaw rate depth (before ++ (map (λ i. Popped now (Some i)) xs ++ more)) → BucketLaw rate depth (before ++ (map (λ i. Popped now (Some i)) ys ++ others)) → xs ≡ ys
+    → BucketLaw rate depth (before ++ (popping now xs ++ more)) → BucketLaw rate depth (before ++ (popping now ys ++ others)) → xs ≡ ys
 same_goes rate depth now before [] [] more others e law other = refl
 same_goes rate depth now before [] (y ∷ ys) more others e law other = absurd (omega (arith, e))
 same_goes rate depth now before (x ∷ xs) [] more others e law other = absurd (omega (arith, e))
 same_goes rate depth now before (x ∷ xs) (y ∷ ys) more others e law other =
     let first : x ≡ y = same_Some x y (
-    sym (pop_is_next rate depth now before x (law_at rate depth before (map (λ i. Popped now (Some i)) xs ++ more) (Popped now (Some x)) law))
-    ∙ pop_is_next rate depth now before y (law_at rate depth before (map (λ i. Popped now (Some i)) ys ++ others) (Popped now (Some y)) other)
+    sym (pop_is_next rate depth now before x (law_at rate depth before (popping now xs ++ more) (Popped now (Some x)) law))
+    ∙ pop_is_next rate depth now before y (law_at rate depth before (popping now ys ++ others) (Popped now (Some y)) other)
     ) in
     let rest = same_goes rate depth now (before ++ Popped now (Some x) ∷ []) xs ys more others (omega (arith, e))
-    (subst (BucketLaw rate depth) (sym (append_assoc before (Popped now (Some x) ∷ []) (map (λ i. Popped now (Some i)) xs ++ more))) law)
-    (subst (λ z. BucketLaw rate depth ((before ++ Popped now (Some z) ∷ []) ++ (map (λ i. Popped now (Some i)) ys ++ others))) (sym first) (subst (BucketLaw rate depth) (sym (append_assoc before (Popped now (Some y) ∷ []) (map (λ i. Popped now (Some i)) ys ++ others))) other)) in
+    (subst (BucketLaw rate depth) (sym (append_assoc before (Popped now (Some x) ∷ []) (popping now xs ++ more))) law)
+    (subst (λ z. BucketLaw rate depth ((before ++ Popped now (Some z) ∷ []) ++ (popping now ys ++ others))) (sym first) (subst (BucketLaw rate depth) (sym (append_assoc before (Popped now (Some y) ∷ []) (popping now ys ++ others))) other)) in
     ap (λ z. z ∷ xs) first ∙ ap (λ zs. y ∷ zs) rest
 
 length-datagrams : (xs : List (Classed Datagram)) → length (datagrams_of xs) ≡ length xs
@@ -90,12 +91,12 @@ module _ (c : Config) (before : List Going) (e : Entry) (xs ys : List (Classed D
     (other : BucketLaw c.rate c.depth (bucket_calls c.me before ++ (calls_by c.me (record { before = before; this = record { entry = e; goes = ys } }) ++ others))) where
   in_tick : (zs : List (Classed Datagram)) (rest : List (Call Datagram)) (b : Bool) → lets_go (record { before = before; this = record { entry = e; goes = zs } }) ≡ b → b ≡ true
       → bucket_calls c.me before ++ (calls_by c.me (record { before = before; this = record { entry = e; goes = zs } }) ++ rest)
-      ≡ (bucket_calls c.me before ++ map Handed (handed_in_by c.me (record { before = entries_of before; this = e }))) ++ (map (λ i. Popped e.moment (Some i)) zs ++ (Popped e.moment None ∷ rest))
+      ≡ (bucket_calls c.me before ++ map Handed (handed_in_by c.me (record { before = entries_of before; this = e }))) ++ (popping e.moment zs ++ (Popped e.moment None ∷ rest))
   in_tick zs rest b q t =
       ap (λ (x : Bool). bucket_calls c.me before ++ ((map Handed (handed_in_by c.me (record { before = entries_of before; this = e })) ++ (if x then pops e.moment zs else [])) ++ rest)) (q ∙ t)
       ∙ ap (λ cs. bucket_calls c.me before ++ cs) (append_assoc (map Handed (handed_in_by c.me (record { before = entries_of before; this = e }))) (pops e.moment zs) rest
-      ∙ ap (λ cs. map Handed (handed_in_by c.me (record { before = entries_of before; this = e })) ++ cs) (append_assoc (map (λ i. Popped e.moment (Some i)) zs) (Popped e.moment None ∷ []) rest))
-      ∙ sym (append_assoc (bucket_calls c.me before) (map Handed (handed_in_by c.me (record { before = entries_of before; this = e }))) (map (λ i. Popped e.moment (Some i)) zs ++ (Popped e.moment None ∷ rest)))
+      ∙ ap (λ cs. map Handed (handed_in_by c.me (record { before = entries_of before; this = e })) ++ cs) (append_assoc (popping e.moment zs) (Popped e.moment None ∷ []) rest))
+      ∙ sym (append_assoc (bucket_calls c.me before) (map Handed (handed_in_by c.me (record { before = entries_of before; this = e }))) (popping e.moment zs ++ (Popped e.moment None ∷ rest)))
 
   same_marks_here : xs ≡ ys
   same_marks_here = go (lets_go (record { before = before; this = record { entry = e; goes = xs } })) refl

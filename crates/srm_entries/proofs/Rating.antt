@@ -1,5 +1,5 @@
 -- The bucket law holds over the entries of every run of a member.
-use Rattle.std.proofs.Common.{◌≡◌, ℕ, ◌≤◌, ◌<◌, max, Bool, true, false, not, ◌&&◌, List, [], ◌∷◌, ◌++◌, length, map, refl, ap, sym, ◌∙◌, subst, arith, append_assoc}
+use Rattle.std.proofs.Common.{◌≡◌, ℕ, ◌≤◌, ◌<◌, max, Bool, true, false, not, List, [], ◌∷◌, ◌++◌, length, map, refl, ap, sym, ◌∙◌, subst, arith, append_assoc}
 use Rattle.std.specs.Prelude.{Some, None, IfSome, drop, if◌then◌else◌}
 use Rattle.std.specs.Bool.{OnTrue}
 use Rattle.std.specs.List.{AllByRecursion}
@@ -8,6 +8,7 @@ use Rattle.std.proofs.lemmas.List.{map-append}
 use Rattle.std.proofs.lemmas.Grind.{flat_map-append}
 use Rattle.srm_names.specs.Histories.{steps}
 use Rattle.srm_names.proofs.Lists.{at_parts}
+use Rattle.srm_names.proofs.Orders.{and_left}
 use Rattle.srm_codec.specs.declared.datagram.Datagram.{Datagram}
 use Rattle.srm_bucket.specs.declared.class.Class.{Class}
 use Rattle.srm_bucket.specs.Calls.{Classed, Call, Handed, Popped}
@@ -68,19 +69,15 @@ calls_at me before x first rest i q e =
     ∙ append_assoc (popping x.entry.moment first) (popping x.entry.moment (i ∷ rest)) (Popped x.entry.moment None ∷ []))
     ∙ regroup (bucket_calls me before) (map Handed (hands me before x)) (popping x.entry.moment first) (Popped x.entry.moment (Some i) ∷ (popping x.entry.moment rest ++ Popped x.entry.moment None ∷ []))
 
-not_nil : (xs ys : List (Classed Datagram)) (i : Classed Datagram) → [] ≡ xs ++ i ∷ ys → ⊥
+pub not_nil : {X : Type 0} (xs ys : List X) (i : X) → [] ≡ xs ++ i ∷ ys → ⊥
 not_nil [] ys i e = absurd (cc)
 not_nil (x ∷ xs) ys i e = absurd (cc)
-
-ticks_if : (a b : Bool) → a && b ≡ true → a ≡ true
-ticks_if true b e = refl
-ticks_if false b e = absurd (grind arith)
 
 -- the level that the bucket goes by at the end of a tick is that of the entries
 level_is : (c : Config) (made : ℕ) (before : List Going) (x : Going) → Marked c made (before ++ x ∷ []) → lets_go (record { before = before; this = x }) ≡ true
     → level_at c.rate c.depth (bucket_calls c.me (before ++ x ∷ [])) (last_of_calls (bucket_calls c.me (before ++ x ∷ []))) ≡ level c.rate c.depth x.entry.moment (ticks_of (entries_of (before ++ x ∷ [])))
 level_is c made before x m q =
-    let t : ticked x.entry ≡ true = ticks_if (ticked x.entry) _ q in
+    let t : ticked x.entry ≡ true = and_left (ticked x.entry) _ q in
     let right = last_right c made before x m in
     let early = (charged_of c made before (marked_front c made before (x ∷ []) m)).last in
     let so_far : last_moment made (entries_of before) ≤ x.entry.moment = not_before c made (entries_of before) x.entry right t in
