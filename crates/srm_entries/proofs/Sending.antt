@@ -87,7 +87,7 @@ went_first rate depth calls law =
     along (λ s. CallRight rate depth s.before (s.before ++ s.this ∷ []) s.this) (λ cs. (class : Class) → IsPrefix (departed class cs) (bucket.handed class cs))
     (λ before call p right. right.in_order) [] calls (λ class. ([], refl)) law
 
-same_rank : (c : Class) → (rank c == rank c) ≡ true
+pub same_rank : (c : Class) → (rank c == rank c) ≡ true
 same_rank Shown = refl
 same_rank New = refl
 same_rank Other = refl

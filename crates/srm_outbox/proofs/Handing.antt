@@ -13,6 +13,7 @@ use Rattle.srm_bucket.specs.Content.{Content as BucketContent}
 use Rattle.srm_bucket.specs.Fits.{Fits, Adds, Pops}
 use Rattle.srm_bucket.specs.Law.{may_go}
 use Rattle.srm_bucket.specs.Waiting.{Waiting, HasLength, Gains, TakesNext, queue, next_in, count_of}
+use Rattle.srm_entries.proofs.Sending.{same_rank}
 use Rattle.srm_outbox.specs.declared.due_items.DueItem.{DueItem}
 use Rattle.srm_outbox.specs.declared.out.Outgoing.{Outgoing}
 use Rattle.srm_outbox.specs.Outs.{IsOwn, AreOwn}
@@ -140,11 +141,6 @@ pops_one rate depth now calls items b new item g pops =
 
 class_of_next : (class : Class) (c : Classed Outgoing) → rank c.class == rank class ≡ true → in_class class (Some c) ≡ c.item ∷ []
 class_of_next class c e = rw e refl
-
-same_rank : (c : Class) → (rank c == rank c) ≡ true
-same_rank Shown = refl
-same_rank New = refl
-same_rank Other = refl
 
 -- what is taken is among what waited
 taken : (P : Item Outgoing → Type 0) (old new : Waiting Outgoing) (item : Item Outgoing) → TakesNext old (Some item) new → ((class : Class) → AllByRecursion P (queue old class)) → P item
