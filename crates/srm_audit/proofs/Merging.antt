@@ -3,7 +3,7 @@ use Rattle.std.proofs.Common.{◌≡◌, ◌≢◌, ℕ, zero, suc, ◌+◌, ◌
 use Rattle.std.specs.Prelude.{◌⊎◌, Option, Some, None, slice_get, slice_set, IfSome, MatchBool, Contains}
 use Rattle.std.specs.List.{AllByRecursion}
 use Rattle.std.proofs.lemmas.Bool.{cases_eq}
-use Rattle.std.proofs.lemmas.Option.{same_Some, slice_get-get_or, slice_get_within, none-some}
+use Rattle.std.proofs.lemmas.Option.{same_Some, slice_get_read, slice_get_within, none-some}
 use Rattle.srm_names.specs.Histories.{Step}
 use Rattle.srm_names.proofs.Lists.{AllByRecursion-parts, AllByRecursion-snoc}
 use Rattle.srm_codec.specs.declared.datagram.Datagram.{Datagram}
@@ -18,9 +18,6 @@ use Rattle.srm_audit.specs.Audits.{entries_at}
 use Rattle.srm_audit.specs.Spellings.{Knows, Learns}
 use Rattle.srm_audit.specs.Queues.{HearsSent, MayGo, PopsReady}
 use Rattle.srm_audit.specs.Merging.{Content, entries_remaining, Merges, KeepsJournals, Advances, IsStalled, Moves, TriesMember, Tries}
-
-pub at_queue : {X : Type 0} (xs : List X) (k : ℕ) (x : X) → k < length xs → x ≡ get_or xs k x → slice_get xs k ≡ Some x
-at_queue xs k x l is = slice_get-get_or xs k x l ∙ ap Some (sym is)
 
 -- what one call finds
 
@@ -39,7 +36,7 @@ parts m new e f g =
 pub waits_here : (m new : Content) (k : ℕ) (queue rest : List Entry) → k < length m.queues → queue ≡ get_or m.queues k queue → rest ≡ queue → new.queues ≡ slice_set m.queues k rest → new.entries ≡ m.entries → new.spellings ≡ m.spellings → MayGo m.spellings queue false
     → (new ≡ m) × IsStalled m k
 waits_here m new k queue rest l is same queues entries spellings waits =
-    let at : slice_get m.queues k ≡ Some queue = at_queue m.queues k queue l is in (
+    let at : slice_get m.queues k ≡ Some queue = slice_get_read m.queues (length m.queues) k queue refl l is in (
       parts m new (queues ∙ ap (slice_set m.queues k) same ∙ set_same m.queues k queue at) entries spellings,
       record { queue = queue; at = at; next = waits },
     )
@@ -55,7 +52,7 @@ pub advances : (m new : Content) (k : ℕ) (queue rest : List Entry) (e : Entry)
 advances m new k queue rest e l is split hears queues entries outs outs_are learns = record {
   entry = e;
   rest = rest;
-  next = at_queue m.queues k queue l is ∙ ap Some split;
+  next = slice_get_read m.queues (length m.queues) k queue refl l is ∙ ap Some split;
   queues = queues;
   entries = entries;
   hears = hears;

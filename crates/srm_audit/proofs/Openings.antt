@@ -1,11 +1,11 @@
 -- Journals taken apart, and put into one order.
 use Rattle.std.proofs.Common.{◌≡◌, ℕ, zero, suc, ◌+◌, ◌≤◌, ◌<◌, List, [], ◌∷◌, ◌++◌, length, map, take, drop, refl, ap, sym, ◌∙◌, subst, inl, inr, arith, append_assoc}
-use Rattle.std.specs.Prelude.{Result, Ok, Err, IfErr, Option, Some, None, slice_get, IfSome, IsSome}
+use Rattle.std.specs.Prelude.{Result, Ok, Err, IfErr, Option, Some, None, option_map, unwrap_or, slice_get, IfSome, IsSome}
 use Rattle.std.specs.List.{AllByRecursion}
 use Rattle.std.specs.Result.{IsErrAnd}
 use Rattle.std.proofs.lemmas.Bool.{cases_lt}
 use Rattle.std.proofs.lemmas.List.{append-nil, length-map, take-append-drop}
-use Rattle.std.proofs.lemmas.Option.{same_Some, slice_get_within, none-some}
+use Rattle.std.proofs.lemmas.Option.{same_Some, slice_get-map, slice_get_past, slice_get_within, none-some}
 use Rattle.srm_names.specs.Histories.{steps_after}
 use Rattle.srm_names.proofs.Lists.{by_place, at_place, rest_first}
 use Rattle.srm_codec.specs.declared.datagram.Datagram.{Datagram}
@@ -67,9 +67,7 @@ opened_readable all old rest j entries starts queues h split are = subst AreRead
 -- where they stand in order, nothing was put into the order yet
 
 queue_at : (q : List Journal) (k : ℕ) (rest : List Entry) → slice_get (map (λ (j : Journal). j.entries) q) k ≡ Some rest → rest ≡ entries_at q k
-queue_at [] k rest at = absurd (none-some rest at)
-queue_at (j ∷ q) zero rest at = sym (same_Some j.entries rest at)
-queue_at (j ∷ q) (suc k) rest at = queue_at q k rest at
+queue_at q k rest at = sym (ap (λ (o : Option (List Entry)). unwrap_or o []) (sym (slice_get-map (λ (j : Journal). j.entries) q k) ∙ at))
 
 own_at : (q js : List Journal) (k i : ℕ) → ((n : ℕ) (j : Journal) → slice_get js n ≡ Some j → j.start.config.me ≡ i + n) → AllByRecursion IsLawfulJournal js → AllByRecursion (λ (e : Entry). e.member ≡ i + k) (entries_at js k)
 own_at q [] k i me all = tt
@@ -90,9 +88,7 @@ merges q m roster known o = record {
 -- the end of the order
 
 none_there : (q : List Journal) (k : ℕ) → length q ≤ k → entries_at q k ≡ []
-none_there [] k l = refl
-none_there (j ∷ q) zero l = absurd (omega arith)
-none_there (j ∷ q) (suc k) l = none_there q k (omega arith)
+none_there q k l = ap (λ (o : Option Journal). unwrap_or (option_map (λ (j : Journal). j.entries) o) []) (slice_get_past q k l)
 
 prefixes : (q : List Journal) (m : Content) → Merges q m → ArePrefixes q m.entries
 prefixes q m h = record {

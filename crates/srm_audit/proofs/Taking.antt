@@ -7,7 +7,7 @@ use Rattle.std.proofs.lemmas.List.{append-nil, map-append, take_more}
 use Rattle.std.proofs.lemmas.Option.{same_Some, none-some, unwrap_or-slice_get}
 use Rattle.srm_names.specs.declared.page_msg.PageMsg.{PageMsg}
 use Rattle.srm_names.specs.Histories.{Step, steps_after, greatest}
-use Rattle.srm_names.proofs.Lists.{AllByRecursion-snoc, by_place, from_places, at_place}
+use Rattle.srm_names.proofs.Lists.{AllByRecursion-snoc, by_place, from_places, at_place, rest_first}
 use Rattle.srm_bucket.specs.Law.{BucketLaw}
 use Rattle.srm_entries.specs.Configs.{Config}
 use Rattle.srm_entries.specs.declared.entry.Entry.{Entry}
@@ -34,7 +34,7 @@ use Rattle.srm_world.proofs.Stepping.{of_member-other}
 use Rattle.srm_audit.specs.declared.got.Got.{Got}
 use Rattle.srm_audit.specs.declared.ending.Ending.{Ending}
 use Rattle.srm_audit.specs.Audits.{IsFound, AreFound, entries_at, starts_of, is_of, listed, outline, takes_of}
-use Rattle.srm_audit.proofs.Finding.{after_front, entries_here}
+use Rattle.srm_audit.proofs.Finding.{entries_here}
 use Rattle.srm_audit.proofs.Ordering.{me_at, journal_at, count_starts}
 use Rattle.srm_audit.specs.Merging.{Completes}
 use Rattle.srm_audit.specs.Refusals.{IsReconciled}
@@ -181,7 +181,7 @@ takes_one q gots got d m rest j ending es here me is found split h = record {
     next =
         ap (λ xs. slice_get (given j.entries got.slot) (length xs)) so_far
         ∙ ap (λ xs. slice_get xs (length d)) (ap (λ xs. given xs got.slot) (sym (entries_here q got.member j here)) ∙ sym found.prefix.1 ∙ ap (λ xs. xs ++ found.prefix.0) split ∙ append_assoc d (m ∷ rest) found.prefix.0)
-        ∙ after_front d m (rest ++ found.prefix.0)
+        ∙ rest_first d (m ∷ (rest ++ found.prefix.0))
 
     more : Ends j.start.config j.start.made j.entries (of_member got.member es ++ take_entry got.member ending got.slot m ∷ [])
     more = subst (λ n. Ends j.start.config j.start.made j.entries (of_member got.member es ++ take_entry n ending got.slot m ∷ [])) me

@@ -1,5 +1,5 @@
 -- What is known of the datagrams that were sent, by their bytes.
-use Rattle.std.proofs.Common.{◌≡◌, ℕ, zero, suc, ◌+◌, ◌≤◌, ◌<◌, Bool, true, false, ◌||◌, List, [], ◌∷◌, ◌++◌, length, take, get_or, refl, ap, sym, ◌∙◌, subst, inl, inr, arith, append_assoc, lit<}
+use Rattle.std.proofs.Common.{◌≡◌, ℕ, ◌+◌, ◌≤◌, ◌<◌, Bool, true, false, ◌||◌, List, [], ◌∷◌, ◌++◌, length, take, get_or, refl, ap, sym, ◌∙◌, subst, inl, inr, append_assoc, lit<}
 use Rattle.std.specs.Prelude.{◌⊎◌, map, not, MatchBool, Contains}
 use Rattle.std.specs.List.{list_any, AllByRecursion}
 use Rattle.std.specs.Str.{bytes_eq}
@@ -8,7 +8,8 @@ use Rattle.std.specs.List.Sorted.{IsPermutation}
 use Rattle.std.proofs.lemmas.Bool.{or_right}
 use Rattle.std.proofs.lemmas.List.Sorted.{list_any-IsPermutation}
 use Rattle.std.proofs.lemmas.List.{append-nil, take_more, take_all}
-use Rattle.srm_names.proofs.Lists.{Has, Has-append, Has-front, Has-back, Has-contained, Has-Contains}
+use Rattle.std.proofs.lemmas.Option.{slice_get_read}
+use Rattle.srm_names.proofs.Lists.{Has, Has-append, Has-front, Has-back, Has-contained, Has-Contains, by_place}
 use Rattle.srm_codec.specs.declared.datagram.Datagram.{Datagram}
 use Rattle.srm_codec.specs.Spelling.{IsSpellable}
 use Rattle.srm_codec.proofs.JudgingLaws as judging
@@ -92,6 +93,4 @@ pub learns_all : (gs : List Datagram) (i : ℕ) (old new : List (List ℕ)) → 
 learns_all gs i old new l h = subst (λ hs. Learns hs old new) (take_all i gs l) h
 
 pub at_index : {X : Type 0} (P : X → Type 0) (xs : List X) (i : ℕ) (x : X) → i < length xs → x ≡ get_or xs i x → AllByRecursion P xs → P x
-at_index P [] i x l is all = absurd (omega arith)
-at_index P (y ∷ ys) zero x l is all = subst P (sym is) all.0
-at_index P (y ∷ ys) (suc i) x l is all = at_index P ys i x (omega arith) is all.1
+at_index P xs i x l is all = by_place P xs i x all (slice_get_read xs (length xs) i x refl l is)
