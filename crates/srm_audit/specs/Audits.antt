@@ -1,18 +1,18 @@
 -- What journals and what was taken are to one trace of all members.
-use Rattle.std.specs.Prelude.{◌≡◌, ℕ, ◌==◌, ◌<◌, ◌≤◌, Bool, false, ◌&&◌, if◌then◌else◌, List, ◌∷◌, [], ◌++◌, length, map, slice_get, Option, Some, None, option_map, unwrap_or, IfSome, IsSome, Contains}
+use Rattle.std.specs.Prelude.{◌≡◌, ℕ, ◌==◌, ◌<◌, ◌≤◌, Bool, false, ◌&&◌, if◌then◌else◌, List, ◌∷◌, [], ◌++◌, length, map, slice_get, Option, Some, None, option_map, unwrap_or, IfSome, IsSome}
 use Rattle.std.specs.List.{flat_map, list_any, AllByRecursion}
 use Rattle.std.specs.List.Sorted.{IsPermutation}
 use Rattle.srm_names.specs.declared.limits.TheConstants.{PAGES}
 use Rattle.srm_names.specs.declared.page_msg.PageMsg.{PageMsg}
 use Rattle.srm_names.specs.Histories.{IsPrefix, Step, steps}
-use Rattle.srm_codec.specs.declared.datagram.Datagram.{Datagram}
 use Rattle.srm_entries.specs.declared.entry.Entry.{Entry}
 use Rattle.srm_entries.specs.declared.entry.Input.{Input}
 use Rattle.srm_entries.specs.declared.entry.Input.TheVariants.{Took}
-use Rattle.srm_entries.specs.Entries.{accepted, sent}
+use Rattle.srm_entries.specs.Entries.{sent}
 use Rattle.srm_entries.specs.Giving.{given}
 use Rattle.srm_world.specs.declared.start.Start.{Start}
 use Rattle.srm_world.specs.Traces.{Trace, Journal, of_member, taken_by, IsHonest, IsRoster}
+use Rattle.srm_audit.specs.Spellings.{HearsOther}
 use Rattle.srm_audit.specs.declared.got.Got.{Got}
 use Rattle.srm_audit.specs.declared.mismatch.Mismatch.{Mismatch}
 use Rattle.srm_audit.specs.declared.mismatch.Mismatch.TheVariants.{Unsent, Foreign, Memory, Roster}
@@ -39,7 +39,7 @@ next_entry_of q es m = slice_get (entries_at q m) (length (of_member m es))
 
 -- the entry hears a datagram that wasn't sent in these
 abbrev pub HearsUnsent : List Entry → Entry → Type 0
-HearsUnsent es e = (g : Datagram) × (accepted e ≡ Some g) × ¬ (Contains (sent es) g)
+HearsUnsent es e = HearsOther (sent es) e
 
 -- Prefixes of the journals, in an honest order, that lead no further: what comes next in each, if anything does, hears a datagram
 -- that they didn't send.
