@@ -11,7 +11,7 @@ use Rattle.std.proofs.lemmas.List.Folds.{list_any-append}
 use Rattle.srm_names.specs.declared.limits.TheConstants.{PAGES}
 use Rattle.srm_names.specs.declared.page_msg.PageMsg.{PageMsg}
 use Rattle.srm_names.specs.PageFeeds.{is_page_feed}
-use Rattle.srm_names.proofs.Lists.{AllByRecursion-append}
+use Rattle.srm_names.proofs.Lists.{AllByRecursion-append, all_by}
 use Rattle.srm_pages.specs.Ends.{FeedView, credit_of}
 use Rattle.srm_entries.specs.declared.entry.Entry.{Entry}
 use Rattle.srm_entries.specs.declared.entry.Input.TheVariants.{Gave}
@@ -228,16 +228,12 @@ up_none j fs lawful carries = record {
   served = λ slot f below at_f. absurd (omega arith);
 }
 
-gave_is_give : (slot : ℕ) (es : List Entry) → GavesAll slot es → AllByRecursion (λ (e : Entry). is_give e.input ≡ true) es
-gave_is_give slot [] h = tt
-gave_is_give slot (e ∷ es) h = (ap is_give h.0, gave_is_give slot es h.1)
-
 -- one slot was given more
 pub up_stops : (n : ℕ) (ended : Bool) (a b c : Journal) (fs gs hs : List FeedView) (g h : FeedView) → GivesUpTo n a b fs gs → slice_get gs n ≡ Some g → Gives n ended b c g h → hs ≡ slice_set gs n h → GivesUpTo n a c fs hs
 up_stops n ended a b c fs gs hs g h x at_g y is = record {
   entries = x.entries ++ y.entries;
   grown = grown_on a b c x.entries y.entries x.grown y.grown;
-  inputs = AllByRecursion-append (λ (e : Entry). is_give e.input ≡ true) x.entries y.entries x.inputs (gave_is_give n y.entries y.inputs);
+  inputs = AllByRecursion-append (λ (e : Entry). is_give e.input ≡ true) x.entries y.entries x.inputs (all_by (λ (e : Entry). e.input ≡ Gave n) (λ (e : Entry). is_give e.input ≡ true) y.entries (λ e is_gave. ap is_give is_gave) y.inputs);
   lawful = y.lawful;
   carries = λ j f at_f. carried_at j f (subst (λ xs. slice_get xs j ≡ Some f) is at_f) (cases_eq j n);
   slots = ap length is ∙ length-set gs n h ∙ x.slots;

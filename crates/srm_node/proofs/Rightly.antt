@@ -1,9 +1,6 @@
 -- The last entry of a journal is right.
-use Rattle.std.proofs.Common.{◌≡◌, ℕ, Bool, true, false, List, [], ◌∷◌, ◌++◌, sym, ◌∙◌, subst}
-use Rattle.std.specs.List.{AllByRecursion}
+use Rattle.std.proofs.Common.{◌≡◌, ℕ, Bool, true, false, List, [], ◌∷◌, sym, ◌∙◌, subst}
 use Rattle.srm_names.specs.declared.page.Page.{Page}
-use Rattle.srm_names.specs.Histories.{steps}
-use Rattle.srm_names.proofs.Snoc.{steps-snoc}
 use Rattle.srm_entries.specs.declared.entry.Entry.{Entry}
 use Rattle.srm_entries.specs.declared.entry.Input.TheVariants.{Drew, Gave, Ticked, AskedLeave}
 use Rattle.srm_entries.specs.declared.entry.Verdict.TheVariants.{Done, Refused}
@@ -13,16 +10,10 @@ use Rattle.srm_entries.specs.Runs.{EntryRight}
 use Rattle.srm_world.specs.Traces.{Journal}
 use Rattle.srm_world.specs.Claims.{IsLawfulJournal}
 use Rattle.srm_world.specs.Recording.{with_entry}
-
-at_last : {X : Type 0} (R : X → Type 0) (xs : List X) (y : X) → AllByRecursion R (xs ++ y ∷ []) → R y
-at_last R [] y h = h.0
-at_last R (x ∷ xs) y h = at_last R xs y h.1
+use Rattle.srm_world.proofs.Going.{newest_right}
 
 last_right : (j k : Journal) (e : Entry) → k ≡ with_entry j e → IsLawfulJournal k → EntryRight j.start.config j.start.made (record { before = j.entries; this = e })
-last_right j k e grown lawful =
-    let all : AllByRecursion (EntryRight j.start.config j.start.made) (steps (j.entries ++ e ∷ [])) = (subst IsLawfulJournal grown lawful).run.each in
-    at_last (EntryRight j.start.config j.start.made) (steps j.entries) (record { before = j.entries; this = e })
-    (subst (AllByRecursion (EntryRight j.start.config j.start.made)) (steps-snoc j.entries e) all)
+last_right j k e grown lawful = newest_right j.start.config j.start.made j.entries e (subst IsLawfulJournal grown lawful).run.each
 
 -- a give is always done
 pub give_done : (j k : Journal) (e : Entry) (slot : ℕ) → k ≡ with_entry j e → IsLawfulJournal k → e.input ≡ Gave slot → e.verdict ≡ Done

@@ -6,7 +6,7 @@ use Rattle.std.proofs.lemmas.Option.{same_Some}
 use Rattle.std.proofs.lemmas.List.{map-append, append-nil}
 use Rattle.srm_names.specs.Histories.{steps, steps_after}
 use Rattle.srm_names.proofs.Snoc.{steps-snoc}
-use Rattle.srm_names.proofs.Lists.{slice_get-front, AllByRecursion-append, at_end}
+use Rattle.srm_names.proofs.Lists.{slice_get-front, AllByRecursion-append, all_by, at_end}
 use Rattle.srm_codec.specs.declared.datagram.Datagram.{Datagram}
 use Rattle.srm_entries.specs.declared.entry.Entry.{Entry}
 use Rattle.srm_entries.specs.declared.entry.Input.{Input}
@@ -46,8 +46,7 @@ still es e h is = record {
 }
 
 all_still : (es : List Entry) (e : Entry) (hs : List Arrival) → AllByRecursion (IsArrival es) hs → AllByRecursion (IsArrival (es ++ e ∷ [])) hs
-all_still es e [] all = tt
-all_still es e (h ∷ hs) all = (still es e h all.0, all_still es e hs all.1)
+all_still es e hs all = all_by (IsArrival es) (IsArrival (es ++ e ∷ [])) hs (λ h is. still es e h is) all
 
 comings-snoc : (es : List Entry) (e : Entry) → by_entry coming_in (es ++ e ∷ []) ≡ by_entry coming_in es ++ coming_in (length es, e)
 comings-snoc es e =

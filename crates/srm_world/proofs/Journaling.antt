@@ -4,6 +4,7 @@ use Rattle.std.specs.Prelude.{Option, Some, Result, Ok, Err, cond}
 use Rattle.std.specs.List.{AllByRecursion}
 use Rattle.srm_names.specs.declared.page.Page.{Page}
 use Rattle.srm_names.specs.FullName.{FullName}
+use Rattle.srm_names.proofs.Lists.{AllByRecursion-snoc}
 use Rattle.srm_codec.specs.declared.datagram.Datagram.{Datagram}
 use Rattle.srm_codec.specs.declared.fault.DecodeFault.{DecodeFault}
 use Rattle.srm_codec.specs.Judging.{judge}
@@ -53,15 +54,11 @@ records_heard next_word now bytes j new a b e answer kept enters reads answers g
 
 -- what is kept, with one entry more
 
-all_snoc : (es : List Entry) (e : Entry) → AllByRecursion IsUntaken es → IsUntaken e → AllByRecursion IsUntaken (es ++ e ∷ [])
-all_snoc [] e h k = (k, tt)
-all_snoc (x ∷ es) e h k = (h.0, all_snoc es e h.1 k)
-
 pub still_kept : {W : Type 0} (next_word : W → ℕ × W) (now : Option ℕ) (input : Input) (j : Journal) (a b : Content W) (e : Entry) (es : List Entry) → IsKept j a → Enters next_word now input a b e → is_take input ≡ false → es ≡ j.entries ++ e ∷ []
     → IsKept (record { start = j.start; entries = es }) b
 still_kept next_word now input j a b e es kept enters none is = record {
   fits = subst (λ xs. Fits j.start.config j.start.made xs b) (sym is) (enters.fits j.start.config j.start.made j.entries kept.fits);
-  untaken = subst (AllByRecursion IsUntaken) (sym is) (all_snoc j.entries e kept.untaken (ap is_take enters.input_is ∙ none));
+  untaken = subst (AllByRecursion IsUntaken) (sym is) (AllByRecursion-snoc IsUntaken j.entries e kept.untaken (ap is_take enters.input_is ∙ none));
 }
 
 pub kept_drawn : {W : Type 0} (next_word : W → ℕ × W) (now : ℕ) (page : Page) (body : List ℕ) (j : Journal) (a b : Content W) (e : Entry) (es : List Entry) → IsKept j a → Enters next_word (Some now) (Drew page body) a b e → es ≡ j.entries ++ e ∷ []
