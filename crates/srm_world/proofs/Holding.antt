@@ -1,28 +1,21 @@
 -- What is held under a name, and how far the held drawops of a stream go.
-use Rattle.std.proofs.Common.{◌≡◌, ℕ, zero, suc, ◌≤◌, max, Bool, true, false, ◌&&◌, ◌||◌, List, [], ◌∷◌, ◌++◌, map, refl, ap, sym, ◌∙◌, subst, arith, inl, inr}
+use Rattle.std.proofs.Common.{◌≡◌, ℕ, zero, suc, ◌≤◌, max, Bool, true, false, ◌&&◌, List, [], ◌∷◌, ◌++◌, map, refl, ap, sym, ◌∙◌, subst, arith, inl, inr}
 use Rattle.std.specs.Prelude.{Some, nat_le, find, cond}
-use Rattle.std.specs.List.{flat_map, list_any}
+use Rattle.std.specs.List.{flat_map}
 use Rattle.std.proofs.lemmas.Bool.Decides.{nat_tests}
 use Rattle.srm_names.specs.declared.stream.Stream.{Stream}
 use Rattle.srm_names.specs.declared.drawop.Drawop.{Drawop}
 use Rattle.srm_names.specs.FullName.{FullName}
 use Rattle.srm_names.specs.Histories.{greatest}
 use Rattle.srm_names.specs.Names.{named, same_stream}
-use Rattle.srm_names.proofs.Lists.{Has, Has-map, map-Has, find-Has}
+use Rattle.srm_names.proofs.Lists.{Has, Has-map, map-Has, find-Has, any_found}
 use Rattle.srm_names.proofs.Same.{same_name-is, same_stream-is}
 use Rattle.srm_store.specs.Held.{has_name, number_in, greatest_in}
 use Rattle.srm_entries.specs.declared.entry.Entry.{Entry}
 use Rattle.srm_entries.specs.Entries.{held, held_at, is_held, is_missing, known}
+use Rattle.srm_entries.proofs.Arming.{some_of}
 use Rattle.srm_entries.proofs.Responding.{exists, unheld_missing}
 use Rattle.srm_entries.proofs.Showing.{greatest_in_has, held_is_shown, known_has}
-
-found_any : {X : Type 0} (p : X → Bool) (xs : List X) → list_any p xs ≡ true → (x : X) × (find p xs ≡ Some x)
-found_any p [] e = absurd (cc)
-found_any {X = X} p (y ∷ ys) e = go (p y) e (found_any p ys)
-  where
-    go : (b : Bool) → (b || list_any p ys) ≡ true → (list_any p ys ≡ true → (x : X) × (find p ys ≡ Some x)) → (x : X) × (cond b (Some y) (find p ys) ≡ Some x)
-    go true q later = (y, refl)
-    go false q later = later q
 
 -- what is held under a name
 pub record HeldUnder (es : List Entry) (n : FullName) (d : Drawop) : Type 0 where
@@ -32,7 +25,7 @@ pub record HeldUnder (es : List Entry) (n : FullName) (d : Drawop) : Type 0 wher
 
 pub held_under : (es : List Entry) (n : FullName) → is_held es n ≡ true → (d : Drawop) × HeldUnder es n d
 held_under es n h =
-    let (d, q) = found_any (has_name n) (held es) h in
+    let (d, q) = some_of (find (has_name n) (held es)) (sym (any_found (has_name n) (held es)) ∙ h) in
     let found = find-Has (has_name n) (held es) d q in
     (d, record { at = q; has = found.0; name = same_name-is d.name n found.1 })
 
