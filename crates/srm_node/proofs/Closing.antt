@@ -3,13 +3,12 @@ use Rattle.std.proofs.Common.{◌≡◌, ℕ, suc, ◌<◌, ◌||◌, Bool, fals
 use Rattle.std.specs.Prelude.{map, option_map, replicate, slice_get, Some, slice_set}
 use Rattle.std.specs.List.{list_any}
 use Rattle.std.proofs.lemmas.List.{length-map, map-set}
-use Rattle.std.proofs.lemmas.Option.{same_Some, slice_get_read}
+use Rattle.std.proofs.lemmas.Option.{same_Some, slice_get-map, slice_get_read}
 use Rattle.srm_names.specs.declared.limits.TheConstants.{PAGES}
 use Rattle.srm_names.specs.declared.page_msg.PageMsg.{PageMsg}
 use Rattle.srm_names.specs.PageFeeds.{is_close}
 use Rattle.srm_names.proofs.Snoc.{list_any-snoc}
 use Rattle.srm_pages.specs.Ends.{FeedView}
-use Rattle.srm_world.proofs.Laning.{get_map}
 use Rattle.srm_node.specs.Nodes.{AreNewFeeds, has_closed}
 
 -- nothing was put
@@ -29,7 +28,7 @@ pub closed_at : (i n : ℕ) (fs : List FeedView) (bs : List Bool) (b : Bool) (f 
 closed_at i n fs bs b f same below is at_b at_f =
     same_Some b (has_closed f)
     (sym (slice_get_read bs (length bs) n b refl (omega (arith, below, as_many fs bs is)) (at_b ∙ ap (λ k. get_or bs k b) same))
-    ∙ ap (λ xs. slice_get xs n) is ∙ get_map has_closed fs n ∙ ap (option_map has_closed) (slice_get_read fs (length fs) n f refl below (at_f ∙ ap (λ k. get_or fs k f) same)))
+    ∙ ap (λ xs. slice_get xs n) is ∙ slice_get-map has_closed fs n ∙ ap (option_map has_closed) (slice_get_read fs (length fs) n f refl below (at_f ∙ ap (λ k. get_or fs k f) same)))
 
 -- the feed at a place changed
 pub closed_set : (i : ℕ) (fs : List FeedView) (bs : List Bool) (b : Bool) (f : FeedView) → bs ≡ map has_closed fs → b ≡ has_closed f → slice_set bs i b ≡ map has_closed (slice_set fs i f)

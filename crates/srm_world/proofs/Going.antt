@@ -1,8 +1,9 @@
 -- A member of a world goes on with the entry of a call.
 use Rattle.std.proofs.Common.{◌≡◌, ℕ, ◌^◌, ◌≤◌, ◌<◌, max, Bool, true, false, List, [], ◌∷◌, ◌++◌, length, refl, ap, sym, ◌∙◌, subst, arith, append_assoc}
-use Rattle.std.specs.Prelude.{Option, Some, None, Result, Ok, Err, IfOk, OnErr, MatchBool, ◌==◌, cond, slice_get, option_to_list}
+use Rattle.std.specs.Prelude.{Option, Some, None, Result, Ok, Err, IfOk, MatchBool, ◌==◌, cond, slice_get, option_to_list}
 use Rattle.std.specs.List.{cons_option, AllByRecursion}
 use Rattle.std.proofs.lemmas.List.{append-nil}
+use Rattle.std.proofs.lemmas.Result.{IfOk-at_ok}
 use Rattle.srm_names.specs.declared.page_msg.PageMsg.{PageMsg}
 use Rattle.srm_names.specs.Histories.{steps, greatest}
 use Rattle.srm_names.proofs.Lists.{at_parts, rest_first}
@@ -164,9 +165,6 @@ done_answers is (Ignored cause) r h e = absurd (cc)
 done_answers is Done (Ok x) h e = (x, refl, h)
 done_answers is Done (Err fault) h e = absurd h
 
-if_answered : {A : Type 0} (P : A → Type 0) (r : Result A AgentFault) (x : A) → IfOk r P → r ≡ Ok x → P x
-if_answered P r x h e = subst (λ w. IfOk w P) e h
-
 pub sends_outs : {W : Type 0} (next_word : W → ℕ × W) (now : Option ℕ) (p : Content W) (b : agents.Content W) (e : Entry) (answer : Result Ticked AgentFault) (outs : List Out) → Enters next_word now inputs.Ticked p.agent b e
     → AnswersAs (IsTicked p.agent.config.session e) e.verdict answer → IfOk answer (λ (t : Ticked). outs ≡ t.outs) → SendsOuts p e outs
 sends_outs next_word now p b e answer outs enters answers are = record {
@@ -174,7 +172,7 @@ sends_outs next_word now p b e answer outs enters answers are = record {
       let right : EntryRight c made (record { before = past; this = e }) = newest_right c made past e (enters.fits c made past h.agent).run in
       let verdict : e.verdict ≡ Done = of_tick c past e.input e.verdict enters.input_is right.verdict in
       let (ticked, is, t) = done_answers (IsTicked p.agent.config.session e) e.verdict answer answers verdict in
-      let same : outs ≡ ticked.outs = if_answered (λ (x : Ticked). outs ≡ x.outs) answer ticked are is in
+      let same : outs ≡ ticked.outs = IfOk-at_ok (λ (x : Ticked). outs ≡ x.outs) is are in
       record {
         same = ap datagrams_of same ∙ t.outs.same;
         spelled = subst (λ (s : Config). AllByRecursion (IsOut s.session) outs) h.agent.config (subst (AllByRecursion (IsOut p.agent.config.session)) (sym same) t.outs.spelled);
@@ -219,7 +217,7 @@ gives_on next_word slot p q roomy e answer message enters answers are room gains
       let right : EntryRight c made (record { before = past; this = e }) = newest_right c made past e (enters.fits c made past h.agent).run in
       let verdict : e.verdict ≡ Done = of_give c past e.input e.verdict enters.input_is right.verdict in
       let (m, is, m_is) = done_answers (λ (m : Option PageMsg). m ≡ e.effects.message) e.verdict answer answers verdict in
-      let same : message ≡ e.effects.message = if_answered (λ (x : Option PageMsg). message ≡ x) answer m are is ∙ m_is in
+      let same : message ≡ e.effects.message = IfOk-at_ok (λ (x : Option PageMsg). message ≡ x) is are ∙ m_is in
       adds c made past None p q e h (enters.fits c made past h.agent) config enters.moment_is last after
       (given_lanes past e slot p.lanes roomy q.lanes enters.input_is room (subst (λ (x : Option PageMsg). Gains slot (option_to_list x) roomy q.lanes) same gains) h.lanes);
 }
@@ -280,10 +278,6 @@ stays_with slot p q same room config last after = record {
 
 pub agent_stays : {W : Type 0} (a : agents.Content W) → noting.Stays a a
 agent_stays a = record { fits = λ c made past h. h; words = refl }
-
-pub any_err : {T E P : Type 0} (r : Result T E) → P → OnErr r P
-any_err (Ok x) p = tt
-any_err (Err e) p = p
 
 -- a new member
 pub begins : {W : Type 0} (c : Config) (made : ℕ) (p : Content W) → agents_fit.Fits c made [] p.agent → p.config ≡ c → p.last ≡ made → p.state ≡ Active → AreEmpty p.lanes → Fits c made [] p

@@ -1,6 +1,6 @@
 -- The lanes of a member after one of them was written.
 use Rattle.std.proofs.Common.{◌≡◌, ◌≢◌, ℕ, zero, suc, ◌<◌, List, [], ◌∷◌, ◌++◌, length, get_or, refl, ap, sym, ◌∙◌, subst, arith, inl, inr, eq-eqb}
-use Rattle.std.specs.Prelude.{◌⊎◌, Result, Ok, Err, OnOk, Option, Some, slice_get, slice_set, option_to_list, option_map, map, drop, cond}
+use Rattle.std.specs.Prelude.{◌⊎◌, Result, Ok, Err, OnOk, Option, Some, slice_get, slice_set, option_to_list, drop, cond}
 use Rattle.std.proofs.lemmas.Bool.{cases_eq, ne_eqb}
 use Rattle.std.proofs.lemmas.List.{append-nil}
 use Rattle.std.proofs.lemmas.Option.{same_Some, slice_get-get_or}
@@ -20,11 +20,6 @@ get_set_other (x ∷ xs) zero zero y ne = absurd (ne refl)
 get_set_other (x ∷ xs) zero (suc k) y ne = refl
 get_set_other (x ∷ xs) (suc i) zero y ne = refl
 get_set_other (x ∷ xs) (suc i) (suc k) y ne = get_set_other xs i k y (λ e. ne (ap suc e))
-
-pub get_map : {X Y : Type 0} (f : X → Y) (xs : List X) (k : ℕ) → slice_get (map f xs) k ≡ option_map f (slice_get xs k)
-get_map f [] k = refl
-get_map f (x ∷ xs) zero = refl
-get_map f (x ∷ xs) (suc k) = get_map f xs k
 
 -- one lane is written, and gains these messages
 pub gains_at : (lanes : List LaneContent) (slot : ℕ) (w l : LaneContent) (more : List PageMsg) → slice_get lanes slot ≡ Some w → l.waiting ≡ w.waiting ++ more → Gains slot more lanes (slice_set lanes slot l)

@@ -2,7 +2,7 @@
 use Rattle.std.proofs.Common.{◌≡◌, ◌≢◌, ℕ, zero, suc, ◌+◌, ◌≤◌, ◌<◌, get_or, Bool, true, false, List, [], ◌∷◌, ◌++◌, length, take, refl, ap, sym, ◌∙◌, subst, inl, inr, arith}
 use Rattle.std.specs.Prelude.{◌⊎◌, Option, Some, None, option_map, unwrap_or, cond, slice_get, slice_set, map, nat_lt, IfSome, IsSome, Contains, ◌↔◌, IsTrue}
 use Rattle.std.specs.List.{AllByRecursion, enumerate_from}
-use Rattle.std.proofs.lemmas.Option.{same_Some, slice_get-get_or, slice_get_within, get_or_from_slice_get}
+use Rattle.std.proofs.lemmas.Option.{same_Some, slice_get-map, slice_get-get_or, slice_get_within, get_or_from_slice_get}
 use Rattle.std.proofs.lemmas.Bool.Decides.{nat_tests}
 use Rattle.std.proofs.lemmas.Bool.{cases_eq, lt-ltb, ne_eqb}
 use Rattle.std.proofs.lemmas.List.{length-set, append-nil, map-append, take_more}
@@ -35,7 +35,7 @@ use Rattle.srm_world.specs.WaitWords.{WorldView, AreByOwnWords, PlaysByWords}
 use Rattle.srm_world.specs.Participants.{Content, Fits, Adds, GoesOn, Stays, HearsBytes, SendsOuts}
 use Rattle.srm_world.specs.Worlds.{words_of, AllFit, AreSent, AreWorld, EntersTrace, EntersAll, Skips, KeepsParticipants, Appends, after_entry}
 use Rattle.srm_world.proofs.Members.{of_member-append, of_member-own}
-use Rattle.srm_world.proofs.Laning.{get_set_same, get_set_other, get_map}
+use Rattle.srm_world.proofs.Laning.{get_set_same, get_set_other}
 use Rattle.srm_world.proofs.Wording.{plays_nothing, plays_one, sources_stay, plays_still, plays_on}
 use Rattle.srm_world.proofs.Going.{newest_right}
 use Rattle.srm_world.proofs.Lawful.{lawful}
@@ -189,7 +189,7 @@ ticks_at next_word ps sents more outs event i d q now e lt named at goes sends a
 }
 
 datagram_at : (starts : List Start) (sents : List Out) (es : List Entry) (index : ℕ) (o : Option Out) → AreSent starts sents es → slice_get sents index ≡ o → slice_get (sent es) index ≡ option_map (λ (x : Out). x.datagram) o
-datagram_at starts sents es index o s at = ap (λ gs. slice_get gs index) (sym s.same) ∙ get_map (λ (x : Out). x.datagram) sents index ∙ ap (option_map (λ (x : Out). x.datagram)) at
+datagram_at starts sents es index o s at = ap (λ gs. slice_get gs index) (sym s.same) ∙ slice_get-map (λ (x : Out). x.datagram) sents index ∙ ap (option_map (λ (x : Out). x.datagram)) at
 
 contained : (gs : List Datagram) (index : ℕ) (g : Datagram) → slice_get gs index ≡ Some g → Contains gs g
 contained gs index g at = (index, slice_get_within gs index g at, get_or_from_slice_get gs index g g at)

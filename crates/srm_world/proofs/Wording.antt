@@ -4,7 +4,7 @@ use Rattle.std.specs.Prelude.{◌⊎◌, Some, option_map, slice_get, slice_set,
 use Rattle.std.proofs.lemmas.Bool.{cases_eq, ne_eqb}
 use Rattle.std.proofs.lemmas.Grind.{flat_map-append}
 use Rattle.std.proofs.lemmas.List.{append-nil, length-set, length-map}
-use Rattle.std.proofs.lemmas.Option.{same_Some, slice_get-get_or, slice_get_within}
+use Rattle.std.proofs.lemmas.Option.{same_Some, slice_get-map, slice_get-get_or, slice_get_within}
 use Rattle.srm_names.proofs.Lists.{at_place}
 use Rattle.srm_timers.specs.Arms.{AreChosen}
 use Rattle.srm_timers.proofs.Arming.{chosen-append}
@@ -21,7 +21,7 @@ use Rattle.srm_world.specs.Traces.{Trace, Journal, of_member}
 use Rattle.srm_world.specs.Participants.{Content}
 use Rattle.srm_world.specs.WaitWords.{RecorderView, WorldView, AreByWords, AreByOwnWords, RecordsByWords, PlaysByWords, arms_in}
 use Rattle.srm_world.specs.Worlds.{AreWorld, words_of}
-use Rattle.srm_world.proofs.Laning.{get_set_same, get_set_other, get_map}
+use Rattle.srm_world.proofs.Laning.{get_set_same, get_set_other}
 use Rattle.srm_world.proofs.Members.{of_member-append}
 
 -- one source
@@ -76,15 +76,15 @@ plays_one {W = W} next_word starts ps i d q e a lt at mine drawn = record {
     which : (m : ℕ) (b : Start) (u v : W) → slice_get starts m ≡ Some b → slice_get (words_of ps) m ≡ Some u → slice_get (words_of (slice_set ps i q)) m ≡ Some v → ((m ≡ i) ⊎ (m ≢ i)) → AreByWords next_word b.config u (of_member m (e ∷ [])) v
     which m b u v at_b at_u at_v (inl same) =
         let start : a ≡ b = same_Some a b (sym at ∙ ap (slice_get starts) (sym same) ∙ at_b) in
-        let from : source (get_or ps i d) ≡ u = same_Some (source (get_or ps i d)) u (sym (get_map source ps m ∙ ap (option_map source) (ap (slice_get ps) same ∙ old)) ∙ at_u) in
-        let to : source q ≡ v = same_Some (source q) v (sym (get_map source (slice_set ps i q) m ∙ ap (option_map source) (ap (slice_get (slice_set ps i q)) same ∙ get_set_same ps i (get_or ps i d) q old)) ∙ at_v) in
+        let from : source (get_or ps i d) ≡ u = same_Some (source (get_or ps i d)) u (sym (slice_get-map source ps m ∙ ap (option_map source) (ap (slice_get ps) same ∙ old)) ∙ at_u) in
+        let to : source q ≡ v = same_Some (source q) v (sym (slice_get-map source (slice_set ps i q) m ∙ ap (option_map source) (ap (slice_get (slice_set ps i q)) same ∙ get_set_same ps i (get_or ps i d) q old)) ∙ at_v) in
         let own : of_member m (e ∷ []) ≡ e ∷ [] = ap (λ x. cond x (e ∷ []) []) (eq-eqb e.member m (mine ∙ sym same)) in
         subst (λ es. AreByWords next_word b.config u es v) (sym own) (subst (λ w. AreByWords next_word b.config w (e ∷ []) v) from (subst (λ w. AreByWords next_word b.config (source (get_or ps i d)) (e ∷ []) w) to
         (subst (λ (s : Start). AreByWords next_word s.config (source (get_or ps i d)) (e ∷ []) (source q)) start (by_one next_word a.config (source (get_or ps i d)) (source q) e drawn))))
     which m b u v at_b at_u at_v (inr differ) =
         let none : of_member m (e ∷ []) ≡ [] = ap (λ x. cond x (e ∷ []) []) (ne_eqb e.member m (λ is. differ (sym is ∙ mine))) in
         subst (λ es. AreByWords next_word b.config u es v) (sym none)
-        (same_Some v u (sym at_v ∙ get_map source (slice_set ps i q) m ∙ ap (option_map source) (get_set_other ps i m q differ) ∙ sym (get_map source ps m) ∙ at_u))
+        (same_Some v u (sym at_v ∙ slice_get-map source (slice_set ps i q) m ∙ ap (option_map source) (get_set_other ps i m q differ) ∙ sym (slice_get-map source ps m) ∙ at_u))
 
 -- each member has a source
 pub sources_counted : {W : Type 0} (ps : List (Content W)) (sents : List Out) (t : Trace) → AreWorld ps sents t → length (words_of ps) ≡ length t.starts

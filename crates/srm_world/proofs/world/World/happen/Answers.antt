@@ -1,9 +1,9 @@
 use Rattle.std.proofs.Common.{refl, ap, ◌∙◌}
 use Rattle.std.proofs.lemmas.List.{with_items_is}
+use Rattle.srm_agent.proofs.Taken.{at_err}
 use Rattle.srm_world.specs.Sent.{all_of}
 use Rattle.srm_world.specs.Worlds.{AreWorld, words_of}
 use Rattle.srm_world.proofs.Stepping.{world_is, world_same, appended_world, appended_follows, appended_asked, appended_starts, appended_words}
-use Rattle.srm_world.proofs.Going.{any_err}
 use Rattle.srm_world.proofs.Wording.{plays_still, plays_kept, same_played}
 use Rattle.srm_world.proofs.world.World.happen.Goals as goal
 
@@ -50,7 +50,7 @@ pub returns-in_err-make_room-clause-words : goal.returns-in_err-make_room-clause
 returns-in_err-make_room-clause-words g c = rw (← c.self.view_is) (plays_still g.W.Words.next_word _)
 
 pub returns-in_err-applied-clause-err : goal.returns-in_err-applied-clause-err
-returns-in_err-applied-clause-err g c = any_err _ (same_played _ _ _ _ c.in_err-applied.ensures.same
+returns-in_err-applied-clause-err g c = at_err _ (same_played _ _ _ _ c.in_err-applied.ensures.same
     (ap words_of (with_items_is c.self.inside.participants c.enter.new.participants (c.enter.auto.participants ∙ c.deref_mut.ensures.len)) ∙ c.in_err-applied.ensures.err.words ∙ ap words_of c.deref_mut.ensures.value) ∙ c.self.view_is)
 
 pub returns-in_err-applied-clause-words : goal.returns-in_err-applied-clause-words
