@@ -1,5 +1,5 @@
 -- Giving one message after another, and one slot after another.
-use Rattle.std.proofs.Common.{◌≡◌, ◌≢◌, ℕ, ◌+◌, ◌<◌, ◌==◌, ◌||◌, ◌&&◌, Bool, true, false, List, [], ◌∷◌, ◌++◌, length, get_or, refl, ap, sym, ◌∙◌, subst, inl, inr, arith, append_assoc, eq-eqb}
+use Rattle.std.proofs.Common.{◌≡◌, ◌≢◌, ℕ, ◌+◌, ◌<◌, ◌==◌, ◌||◌, ◌&&◌, Bool, true, false, List, [], ◌∷◌, ◌++◌, length, get_or, refl, ap, sym, ◌∙◌, subst, inl, inr, arith, eq-eqb}
 use Rattle.std.specs.Prelude.{◌⊎◌, Option, Some, None, Result, Ok, Err, MatchBool, slice_get, slice_set, cond, is_none}
 use Rattle.std.specs.Bool.{OnTrue}
 use Rattle.std.specs.List.{AllByRecursion, list_any, cons_option}
@@ -22,14 +22,12 @@ use Rattle.srm_entries.specs.Giving.{given, given_in}
 use Rattle.srm_agent.specs.Noting.{AnswersAs}
 use Rattle.srm_world.specs.Traces.{Journal}
 use Rattle.srm_world.specs.Claims.{IsLawfulJournal}
-use Rattle.srm_world.specs.Recording.{Records, with_entry, with_entries}
+use Rattle.srm_world.specs.Recording.{Records, with_entry}
+use Rattle.srm_world.proofs.HearsAll.{grows_nothing, grown_on}
 use Rattle.srm_world.proofs.Laning.{get_set_same, get_set_other}
 use Rattle.srm_node.specs.Carrying.{Carries, CarriesEach}
 use Rattle.srm_node.specs.Parts.{Gives, GivesUpTo, GaveSome, SameFeed, is_served, gave_nothing, gives_in, is_give}
 use Rattle.srm_node.proofs.Rightly.{give_done}
-
-abbrev at : Journal → List Entry → Journal
-at j es = record { start = j.start; entries = es }
 
 abbrev Given : Entry → Option PageMsg → Type 0
 Given e message = message ≡ e.effects.message
@@ -49,22 +47,19 @@ given_elsewhere [] slot j ne all = refl
 given_elsewhere (e ∷ es) slot j ne all =
     ap (λ i. cons_option (given_in j i e.effects.message) (given es j)) all.0 ∙ ap (λ b. cons_option (cond b e.effects.message None) (given es j)) (ne_eqb j slot ne) ∙ given_elsewhere es slot j ne all.1
 
+never_both : {f : AgentFault} (a : Result (Option PageMsg) AgentFault) (message : Option PageMsg) → a ≡ Err f → a ≡ Ok message → ⊥
+never_both a message p q = cc
+
 -- the entry of a give
 is_given : (j k : Journal) (slot : ℕ) (answer : Result (Option PageMsg) AgentFault) → Records None (Gave slot) Given j k answer → (message : Option PageMsg) → answer ≡ Ok message
     → (e : Entry) × (k ≡ with_entry j e) × (e.input ≡ Gave slot) × (message ≡ e.effects.message)
-is_given j k slot answer (inr (is, same)) message ok = absurd (differ answer is ok)
-  where
-    differ : (a : Result (Option PageMsg) AgentFault) {f : AgentFault} → a ≡ Err f → a ≡ Ok message → ⊥
-    differ a p q = cc
+is_given j k slot answer (inr (is, same)) message ok = absurd (never_both answer message is ok)
 is_given j k slot answer (inl (e, grows, input, answers)) message ok = (e, grows.grown, input, which e.verdict answers)
   where
     which : (v : Verdict) → AnswersAs (Given e) v answer → message ≡ e.effects.message
     which Done h = subst (AnswersAs (Given e) Done) ok h
     which (Ignored cause) h = absurd h
-    which (Refused fault) h = absurd (differ answer h ok)
-      where
-        differ : (a : Result (Option PageMsg) AgentFault) {f : AgentFault} → a ≡ Err f → a ≡ Ok message → ⊥
-        differ a p q = cc
+    which (Refused fault) h = absurd (never_both answer message h ok)
 
 -- where memory ran out there is none
 is_refused : (j k : Journal) (slot : ℕ) (fault : AgentFault) → IsLawfulJournal k → Records None (Gave slot) Given j k (Err fault) → k ≡ j
@@ -73,7 +68,7 @@ is_refused j k slot fault lawful (inl (e, grows, input, answers)) =
     absurd (let a : AnswersAs (Given e) Done (Err fault) = subst (λ v. AnswersAs (Given e) v (Err fault)) (give_done j k e slot grows.grown lawful input) answers in a)
 
 gives_same : (slot : ℕ) (j : Journal) (f g : FeedView) → IsLawfulJournal j → Carries (given j.entries slot) g → SameFeed f g → Gives slot false j j f g
-gives_same slot j f g lawful carries same = record { entries = []; grown = ap (at j) (sym (append-nil j.entries)); inputs = tt; lawful = lawful; carries = carries; same = same; served = tt }
+gives_same slot j f g lawful carries same = record { entries = []; grown = grows_nothing j; inputs = tt; lawful = lawful; carries = carries; same = same; served = tt }
 
 pub gives_none : (slot : ℕ) (j : Journal) (f : FeedView) → IsLawfulJournal j → Carries (given j.entries slot) f → Gives slot false j j f f
 gives_none slot j f lawful carries = gives_same slot j f f lawful carries refl
@@ -85,7 +80,7 @@ gives_refused slot j k f fault lawful r carries =
 carried : (gave : List PageMsg) (f : FeedView) → f.disconnected ≡ false → Carries gave f → gave ≡ f.put
 carried gave f stands h = subst (λ b. MatchBool b ((back : PageMsg) × (gave ≡ f.put ++ back ∷ [])) (gave ≡ f.put)) stands h
 
-carries_standing : (gave : List PageMsg) (f : FeedView) → f.disconnected ≡ false → gave ≡ f.put → Carries gave f
+pub carries_standing : (gave : List PageMsg) (f : FeedView) → f.disconnected ≡ false → gave ≡ f.put → Carries gave f
 carries_standing gave f stands h = subst (λ b. MatchBool b ((back : PageMsg) × (gave ≡ f.put ++ back ∷ [])) (gave ≡ f.put)) (sym stands) h
 
 carries_lost : (gave : List PageMsg) (f : FeedView) (back : PageMsg) → f.disconnected ≡ true → gave ≡ f.put ++ back ∷ [] → Carries gave f
@@ -180,11 +175,8 @@ served_front slot es fs f h = ap (λ b. (credit_of f == 0) || b || f.disconnecte
     four : (a b c d : Bool) → (a || b || d) ≡ true → (a || (b || c) || d) ≡ true
     four a b c d h = grind arith
 
-same_on : (f g h : FeedView) → SameFeed f g → SameFeed g h → SameFeed f h
+pub same_on : (f g h : FeedView) → SameFeed f g → SameFeed g h → SameFeed f h
 same_on f g h same more = more ∙ ap (λ (x : FeedView). record x { put = h.put; seen = h.seen; disconnected = h.disconnected }) same
-
-grown_on : (a b c : Journal) (es fs : List Entry) → b ≡ with_entries a es → c ≡ with_entries b fs → c ≡ with_entries a (es ++ fs)
-grown_on a b c es fs h k = k ∙ ap (λ j. with_entries j fs) h ∙ ap (at a) (append_assoc a.entries es fs)
 
 -- some messages, and then more
 pub gives_on : (slot : ℕ) (ended : Bool) (a b c : Journal) (f g h : FeedView) → Gives slot false a b f g → Gives slot ended b c g h → Gives slot ended a c f h
@@ -219,7 +211,7 @@ gives_looked slot a b f g h x looked = record {
 pub up_none : (j : Journal) (fs : List FeedView) → IsLawfulJournal j → CarriesEach j fs → GivesUpTo 0 j j fs fs
 up_none j fs lawful carries = record {
   entries = [];
-  grown = ap (at j) (sym (append-nil j.entries));
+  grown = grows_nothing j;
   inputs = tt;
   lawful = lawful;
   carries = carries;

@@ -1,5 +1,5 @@
 -- Hearing one datagram after another.
-use Rattle.std.proofs.Common.{◌≡◌, ℕ, ◌+◌, ◌<◌, true, false, List, [], ◌∷◌, ◌++◌, refl, ap, sym, ◌∙◌, subst, inl, inr, append_assoc}
+use Rattle.std.proofs.Common.{◌≡◌, ℕ, ◌+◌, ◌<◌, true, false, List, [], ◌∷◌, ◌++◌, refl, ap, sym, ◌∙◌, subst, inl, inr}
 use Rattle.std.specs.Prelude.{Option, Some, None, map, Ok, Err}
 use Rattle.std.proofs.lemmas.List.{append-nil, map-append, length-append}
 use Rattle.srm_entries.specs.declared.entry.Entry.{Entry}
@@ -7,17 +7,14 @@ use Rattle.srm_entries.specs.declared.fault.AgentFault.{AgentFault}
 use Rattle.srm_agent.specs.declared.heard.Heard.{Heard}
 use Rattle.srm_world.specs.Traces.{Journal}
 use Rattle.srm_world.specs.Recording.{RecordsHeard, with_entry, IsHearing}
-use Rattle.srm_world.proofs.HearsAll.{hears-snoc}
+use Rattle.srm_world.proofs.HearsAll.{grows_nothing, grown_on, hears-snoc}
 use Rattle.srm_node.specs.declared.limits.TheConstants.{DATAGRAMS_A_TURN}
 use Rattle.srm_wire.specs.Wires.{Told, TellsMore}
 use Rattle.srm_node.specs.Parts.{Listens, Listened, ListenedCut}
 use Rattle.srm_wire.proofs.Telling.{tells_nothing, tells_on}
 
-abbrev at : Journal → List Entry → Journal
-at j es = record { start = j.start; entries = es }
-
 pub listens_none : (now : ℕ) (j : Journal) (t : Option Told) → Listens now 0 [] j j t t
-listens_none now j t = record { came = []; entries = []; counted = refl; grown = ap (at j) (sym (append-nil j.entries)); each = tt; told = tells_nothing t }
+listens_none now j t = record { came = []; entries = []; counted = refl; grown = grows_nothing j; each = tt; told = tells_nothing t }
 
 -- more was told
 pub listens_told : (now n : ℕ) (ended : List (Option (List ℕ))) (a b : Journal) (s t u : Option Told) → Listens now n [] a b s t → TellsMore ended [] t u → Listens now n ended a b s u
@@ -38,7 +35,7 @@ heard_more now n bytes a b c s t u e h grown hearing told =
       came = h.came ++ bytes ∷ [];
       entries = h.entries ++ e ∷ [];
       counted = length-append h.came (bytes ∷ []) ∙ ap (λ k. k + 1) h.counted;
-      grown = grown ∙ ap (λ j. with_entry j e) h.grown ∙ ap (at a) (append_assoc a.entries h.entries (e ∷ []));
+      grown = grown_on a b c h.entries (e ∷ []) h.grown grown;
       each = hears-snoc now a h.came h.entries bytes e h.each (subst (λ j. IsHearing now j bytes e) h.grown hearing);
       told = subst (λ all. TellsMore all [] s u) (ap (λ all. all ++ Some bytes ∷ []) (append-nil came) ∙ sym (map-append (λ x. Some x) h.came (bytes ∷ [])) ∙ sym (append-nil (map (λ x. Some x) (h.came ++ bytes ∷ []))))
           (tells_on (came ++ []) (Some bytes ∷ []) [] [] s t u h.told told);

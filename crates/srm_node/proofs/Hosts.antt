@@ -16,6 +16,7 @@ use Rattle.srm_node.specs.Parts.{SameFeed, SameFeeds}
 use Rattle.srm_node.specs.Nodes.{NodeView, NodeKeepsLists}
 use Rattle.srm_node.specs.Turns.{Turned, RunsOf, RunsToEnd}
 use Rattle.srm_node.specs.Hosting.{tap_of_worker, StartsSome, StopsBy, WorkedEach, Joins, Hosts, HostFails, AreEndsOfLanes}
+use Rattle.srm_node.proofs.Gives.{same_on}
 
 each-snoc : {L : Type 0} (entries : L → List PageMsg) (ts : List TapView) (ws : List (Worked L)) (t : TapView) (w : Worked L) → WorkedEach entries ts ws → WorkedFrom entries t w → WorkedEach entries (ts ++ t ∷ []) (ws ++ w ∷ [])
 each-snoc entries [] [] t w h k = (k, tt)
@@ -44,9 +45,6 @@ room_less left rest w len new room more is h grew = omega (arith, one_less left 
 pub record SameLanes (a b : NodeView) : Type 0 where
   pub slots : length b.feeds ≡ length a.feeds
   pub same : SameFeeds a.feeds b.feeds
-
-same_on : (f g h : FeedView) → SameFeed f g → SameFeed g h → SameFeed f h
-same_on f g h same more = more ∙ ap (λ (x : FeedView). record x { put = h.put; seen = h.seen; disconnected = h.disconnected }) same
 
 same_feeds : (fs gs : List FeedView) → gs ≡ fs → SameFeeds fs gs
 same_feeds fs gs is slot f g at_f at_g = subst (λ (x : FeedView). SameFeed f x) (same_Some f g (sym at_f ∙ sym (ap (λ xs. slice_get xs slot) is) ∙ at_g)) refl

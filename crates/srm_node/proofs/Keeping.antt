@@ -1,6 +1,6 @@
 -- A node's lists hang together after each part of a turn.
 use Rattle.std.proofs.Common.{◌≡◌, ℕ, Bool, true, false, List, [], ◌∷◌, ◌++◌, refl, ap, sym, ◌∙◌, subst, append_assoc, arith}
-use Rattle.std.specs.Prelude.{Option, Some, None, Result, Ok, Err, MatchResult, MatchBool, map, option_to_list, if◌then◌else◌}
+use Rattle.std.specs.Prelude.{Option, Some, None, Result, Ok, Err, MatchResult, map, option_to_list, if◌then◌else◌}
 use Rattle.std.specs.List.{AllByRecursion, cons_option}
 use Rattle.std.proofs.lemmas.List.{append-nil, map-append}
 use Rattle.std.proofs.lemmas.List.Elements.{filter_map-append}
@@ -38,11 +38,8 @@ use Rattle.srm_node.specs.Nodes.{NodeView, IsNode, AreNewFeeds, has_closed}
 use Rattle.srm_node.specs.declared.listening.Listening.{Listening}
 use Rattle.srm_node.specs.declared.drawing.Drawn.{Drawn}
 use Rattle.srm_node.proofs.Releasing.{puts_released}
-use Rattle.srm_node.proofs.Gives.{given-append}
+use Rattle.srm_node.proofs.Gives.{given-append, carries_standing}
 use Rattle.srm_node.proofs.Draws.{inputs_drawn}
-
-abbrev at : Journal → List Entry → Journal
-at j es = record { start = j.start; entries = es }
 
 -- the entries neither draw nor give
 abbrev Quiet : Input → Type 0
@@ -260,7 +257,7 @@ keeps_new j feeds received none new empty = record {
     lawful = lawful_journal j (record { run = subst (IsMemberRun j.start.config j.start.made) (sym none) (new_run j.start.config j.start.made); untaken = subst (AllByRecursion IsUntaken) (sym none) tt })
 
     carried : (slot : ℕ) (f : FeedView) → ((f.put ≡ []) × (f.disconnected ≡ false)) → Carries (given j.entries slot) f
-    carried slot f h = subst (λ b. MatchBool b ((back : PageMsg) × (given j.entries slot ≡ f.put ++ back ∷ [])) (given j.entries slot ≡ f.put)) (sym h.1) (ap (λ es. given es slot) none ∙ sym h.0)
+    carried slot f h = carries_standing (given j.entries slot) f h.1 (ap (λ es. given es slot) none ∙ sym h.0)
 
     carries : CarriesEach j feeds
     carries = λ slot f at_f. carried slot f (new.each slot f at_f)

@@ -1,5 +1,5 @@
 -- A tick, and a leaving that is due.
-use Rattle.std.proofs.Common.{◌≡◌, ℕ, List, refl, ap, ◌∙◌, subst, inl, inr}
+use Rattle.std.proofs.Common.{◌≡◌, ℕ, refl, ap, ◌∙◌, subst, inl, inr}
 use Rattle.std.specs.Prelude.{Some, Result, Err}
 use Rattle.srm_entries.specs.declared.entry.Entry.{Entry}
 use Rattle.srm_entries.specs.declared.entry.Input.TheVariants.{Ticked, AskedLeave}
@@ -12,9 +12,6 @@ use Rattle.srm_world.specs.Traces.{Journal}
 use Rattle.srm_world.specs.Claims.{IsLawfulJournal}
 use Rattle.srm_world.specs.Recording.{Records}
 use Rattle.srm_node.proofs.Rightly.{tick_done, leave_not_memory}
-
-abbrev at : Journal → List Entry → Journal
-at j es = record { start = j.start; entries = es }
 
 pub ticks_not : (now : ℕ) (j k : Journal) (fault : AgentFault) → IsLawfulJournal k → Records (Some now) Ticked (IsTicked j.start.config.session) j k (Err fault) → k ≡ j
 ticks_not now j k fault lawful (inr (is, same)) = same

@@ -11,13 +11,11 @@ use Rattle.srm_world.specs.Traces.{Journal}
 use Rattle.srm_world.specs.WaitWords.{RecorderView}
 use Rattle.srm_entries.specs.Configs.{Config}
 use Rattle.srm_world.specs.Recording.{with_entry, with_entries, IsAt, HearsEach}
+use Rattle.srm_world.proofs.HearsAll.{at, grown_on}
 use Rattle.srm_node.specs.Parts.{DrawsEach, is_give}
 use Rattle.srm_node.specs.Nodes.{NodeView, NodeState}
 use Rattle.srm_node.specs.Turns.{HearsNow, DrawsNow, LeavesNow, TicksNow, GivesNow, HearsCut, DrawsCut, GivesCut, Paused}
 use Rattle.srm_node.specs.Moments.{IsTold, AreMadeAt, GrowsAt, GrowsAtTold}
-
-abbrev at : Journal → List Entry → Journal
-at j es = record { start = j.start; entries = es }
 
 -- ONE JOURNAL BEHIND ANOTHER
 
@@ -28,7 +26,7 @@ made_on Is j (e ∷ es) fs h k = (h.0, made_on Is (with_entry j e) es fs h.1 (su
 pub grows_on : (Is : ℕ → Type 0) (a b c : Journal) → GrowsAt Is a b → GrowsAt Is b c → GrowsAt Is a c
 grows_on Is a b c h k = record {
   entries = h.entries ++ k.entries;
-  grown = k.grown ∙ ap (λ j. with_entries j k.entries) h.grown ∙ ap (at a) (append_assoc a.entries h.entries k.entries);
+  grown = grown_on a b c h.entries k.entries h.grown k.grown;
   made = made_on Is a h.entries k.entries h.made (subst (λ j. AreMadeAt Is j k.entries) h.grown k.made);
 }
 

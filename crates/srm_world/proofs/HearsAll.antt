@@ -10,8 +10,14 @@ use Rattle.srm_world.specs.WaitWords.{RecorderView, AreByWords, RecordsByWords}
 use Rattle.srm_world.specs.Recording.{RecordsHeard, IsHearing, HearsEach, HearsAll, with_entry, with_entries}
 use Rattle.srm_world.proofs.Wording.{by_more}
 
-abbrev at : Journal → List Entry → Journal
+abbrev pub at : Journal → List Entry → Journal
 at j es = record { start = j.start; entries = es }
+
+pub grows_nothing : (j : Journal) → j ≡ with_entries j []
+grows_nothing j = ap (at j) (sym (append-nil j.entries))
+
+pub grown_on : (a b c : Journal) (es fs : List Entry) → b ≡ with_entries a es → c ≡ with_entries b fs → c ≡ with_entries a (es ++ fs)
+grown_on a b c es fs h k = k ∙ ap (λ j. with_entries j fs) h ∙ ap (at a) (append_assoc a.entries es fs)
 
 -- one more, at the end
 pub hears-snoc : (now : ℕ) (j : Journal) (bs : List (List ℕ)) (es : List Entry) (b : List ℕ) (e : Entry) → HearsEach now j bs es → IsHearing now (with_entries j es) b e → HearsEach now j (bs ++ b ∷ []) (es ++ e ∷ [])
@@ -21,12 +27,12 @@ hears-snoc now j (x ∷ bs) [] b e h k = absurd h
 hears-snoc now j (x ∷ bs) (y ∷ es) b e h k = (h.0, hears-snoc now (with_entry j y) bs es b e h.1 (subst (λ xs. IsHearing now (at j xs) b e) (sym (append_assoc j.entries (y ∷ []) es)) k))
 
 pub hears_none : (now : ℕ) (j : Journal) → HearsAll now [] j j
-hears_none now j = record { entries = []; grown = ap (at j) (sym (append-nil j.entries)); each = tt }
+hears_none now j = record { entries = []; grown = grows_nothing j; each = tt }
 
 hears_one_more : (now : ℕ) (bs : List (List ℕ)) (bytes : List ℕ) (a b c : Journal) (e : Entry) → HearsAll now bs a b → c ≡ with_entry b e → IsHearing now b bytes e → HearsAll now (bs ++ bytes ∷ []) a c
 hears_one_more now bs bytes a b c e h grown hearing = record {
   entries = h.entries ++ e ∷ [];
-  grown = grown ∙ ap (λ j. with_entry j e) h.grown ∙ ap (at a) (append_assoc a.entries h.entries (e ∷ []));
+  grown = grown_on a b c h.entries (e ∷ []) h.grown grown;
   each = hears-snoc now a bs h.entries bytes e h.each (subst (λ j. IsHearing now j bytes e) h.grown hearing);
 }
 
