@@ -54,7 +54,7 @@ set_there [] i x y e = absurd (none-some y e)
 set_there (z ∷ zs) zero x y e = same_Some x y e
 set_there (z ∷ zs) (suc i) x y e = set_there zs i x y e
 
-set_elsewhere : {X : Type 0} (xs : List X) (i : ℕ) (x : X) (j : ℕ) → (j ≡ i → ⊥) → slice_get (slice_set xs i x) j ≡ slice_get xs j
+pub set_elsewhere : {X : Type 0} (xs : List X) (i : ℕ) (x : X) (j : ℕ) → (j ≡ i → ⊥) → slice_get (slice_set xs i x) j ≡ slice_get xs j
 set_elsewhere [] i x j other = refl
 set_elsewhere (z ∷ zs) zero x zero other = absurd (other refl)
 set_elsewhere (z ∷ zs) zero x (suc j) other = refl
