@@ -4,9 +4,9 @@ ghost use Rattle.std.specs.Prelude.{IfOk};
 ghost use Rattle.std.specs.List.{AllByRecursion};
 ghost use Rattle.srm_codec.specs.Spelling.{IsSpellable};
 
-use srm_agent::{AgentFault, AgentState, Cause, Effects, Entry, Input, Verdict};
+use srm_agent::{AgentFault, AgentState, Cause, Entry, Input, Verdict};
 use srm_codec::DecodeFault;
-use srm_names::{Items, Member};
+use srm_names::Member;
 use srm_script::EntryPrinter;
 use std::alloc::Global;
 use std::test::Fail;
@@ -15,21 +15,16 @@ use std::test::Fail;
 fn entry(alloc: Global, verdict: Verdict) -> Result<Entry, Fail>
     ensures { IfOk result (λ entry. AllByRecursion IsSpellable entry.effects.outs) }
 {
-    Ok(Entry {
-        member: Member::new(31).ok_or("a member")?,
-        moment: 0,
-        input: Input::Noise,
+    let member = Member::new(31).ok_or("a member")?;
+    Ok(Entry::without_effects(
+        alloc,
+        member,
+        0,
+        Input::Noise,
         verdict,
-        effects: Effects {
-            drawn: None,
-            arms: Items::new(Vec::new(alloc)),
-            asks: Items::new(Vec::new(alloc)),
-            fixes: Items::new(Vec::new(alloc)),
-            outs: Items::new(Vec::new(alloc)),
-            message: None,
-            state: AgentState::Active,
-        },
-    })
+        None,
+        AgentState::Active,
+    ))
 }
 
 #[test]
