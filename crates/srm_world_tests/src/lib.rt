@@ -15,11 +15,11 @@ mod hearing_all;
 #[cfg(test)]
 mod lines;
 #[cfg(test)]
+mod printer;
+#[cfg(test)]
 mod reading;
 #[cfg(test)]
 mod recording;
-#[cfg(test)]
-mod report;
 #[cfg(test)]
 mod rows;
 #[cfg(test)]
