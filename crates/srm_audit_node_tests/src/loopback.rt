@@ -1,8 +1,7 @@
 //! Three nodes in threads, over loopback. All sockets are bound before any of them runs.
 
 use crate::checks::{check_fronts, check_reconciles};
-use crate::member::{config, make_station};
-use crate::served::{Kept, keep_hosted, run_in_threads};
+use crate::served::{Kept, host_member, keep_hosted};
 use mio::net::UdpSocket;
 use srm_node::Hosted;
 use srm_udp::{SystemClock, UdpWire};
@@ -42,27 +41,6 @@ fn clock<R: Clock + Abort + Copy + Drop>(rt: R) -> SystemClock<R> {
     }
 }
 
-/// A member of three with four strokes, which leaves after two seconds, run to its end.
-fn host_member<R: Clock + Threads + Wait + Abort + Copy + Send + Drop + 'static>(
-    rt: &R,
-    alloc: Global,
-    me: u8,
-    wire: UdpWire,
-) -> Hosted {
-    let settings = config(rt, me, 3);
-    let station = make_station(
-        rt,
-        alloc,
-        settings,
-        me.into(),
-        wire,
-        clock(*rt),
-        b"abcd",
-        2_000_000,
-    );
-    run_in_threads(rt, alloc, station, 1_000_000)
-}
-
 fn start<R: Clock + Threads + Wait + Abort + Copy + Send + Drop + 'static>(
     rt: &R,
     alloc: Global,
@@ -70,7 +48,10 @@ fn start<R: Clock + Threads + Wait + Abort + Copy + Send + Drop + 'static>(
     wire: UdpWire,
 ) -> JoinHandle<Hosted> {
     let own = *rt;
-    match thread::spawn(rt, move || host_member(&own, alloc, me, wire)) {
+    match thread::spawn(
+        rt,
+        move || host_member(&own, alloc, me, wire, clock(own), 1_000_000),
+    ) {
         Ok(thread) => thread,
         Err(_) => panic!(rt; "no thread"),
     }

@@ -3,6 +3,7 @@
 ghost use Rattle.std.specs.Prelude.{◌≡◌, vec_len};
 ghost use Rattle.srm_names.specs.declared.limits.TheConstants.{PAGES};
 
+use crate::member::{config, make_station};
 use srm_audit::Got;
 use srm_names::{Items, Member, PAGES};
 use srm_node::{Clock, Hosted, NodeFault, Wire, Worked, host, work};
@@ -89,7 +90,7 @@ pub(crate) fn keep<R: Wait + Abort, X: Wire + Drop, C: Clock + Drop>(
 }
 
 /// Runs a node and its workers in threads, for so many turns.
-pub(crate) fn run_in_threads<
+fn run_in_threads<
     R: Threads + Wait + Abort + Copy + Send + 'static,
     X: Wire + Drop,
     C: Clock + Drop,
@@ -102,6 +103,26 @@ pub(crate) fn run_in_threads<
         Ok(hosted) => hosted,
         Err(_) => panic!(rt; "memory"),
     }
+}
+
+/// A member of three with four strokes, which leaves after two seconds, run to its end, in so many turns at most.
+pub(crate) fn host_member<
+    R: Threads + Wait + Abort + Copy + Send + 'static,
+    X: Wire + Drop,
+    C: Clock + Drop,
+>(rt: &R, alloc: Global, me: u8, wire: X, clock: C, turns: u64) -> Hosted {
+    let settings = config(rt, me, 3);
+    let station = make_station(
+        rt,
+        alloc,
+        settings,
+        me.into(),
+        wire,
+        clock,
+        b"abcd",
+        2_000_000,
+    );
+    run_in_threads(rt, alloc, station, turns)
 }
 
 fn check_end(rt: &impl Abort, end: Result<(), NodeFault>) {

@@ -1,8 +1,7 @@
 //! Three nodes in threads, over a network in memory that drops and doubles.
 
 use crate::checks::{check_fronts, check_reconciles};
-use crate::member::{config, make_station};
-use crate::served::{Kept, keep_hosted, run_in_threads};
+use crate::served::{Kept, host_member, keep_hosted};
 use srm_node::{Hosted, MemWire, hub};
 use srm_rig_nodes::{StepClock, lossy_fates};
 use std::alloc::Global;
@@ -11,28 +10,6 @@ use std::sync::Wait;
 use std::thread;
 use std::thread::{JoinHandle, Threads};
 
-/// A member of three with four strokes, which leaves after two seconds, run to its end.
-fn host_member<R: Threads + Wait + Abort + Copy + Send + Drop + 'static>(
-    rt: &R,
-    alloc: Global,
-    me: u8,
-    wire: MemWire<R>,
-) -> Hosted {
-    let settings = config(rt, me, 3);
-    let clock = StepClock::new(5, 1_000);
-    let station = make_station(
-        rt,
-        alloc,
-        settings,
-        me.into(),
-        wire,
-        clock,
-        b"abcd",
-        2_000_000,
-    );
-    run_in_threads(rt, alloc, station, 100_000)
-}
-
 fn start<R: Threads + Wait + Abort + Copy + Send + Drop + 'static>(
     rt: &R,
     alloc: Global,
@@ -40,7 +17,10 @@ fn start<R: Threads + Wait + Abort + Copy + Send + Drop + 'static>(
     wire: MemWire<R>,
 ) -> JoinHandle<Hosted> {
     let own = *rt;
-    match thread::spawn(rt, move || host_member(&own, alloc, me, wire)) {
+    match thread::spawn(
+        rt,
+        move || host_member(&own, alloc, me, wire, StepClock::new(5, 1_000), 100_000),
+    ) {
         Ok(thread) => thread,
         Err(_) => panic!(rt; "no thread"),
     }
