@@ -9,16 +9,8 @@ use srm_world::{Journal, Trace};
 use std::alloc::Global;
 use std::process::Abort;
 
-/// Room for two lists.
-fn list_room(rt: &impl Abort, alloc: Global) -> Vec<Got> {
-    match Vec::with_capacity(alloc, 2) {
-        Ok(room) => room,
-        Err(_) => Vec::with_capacity(alloc, 2).expect(rt, "memory"),
-    }
-}
-
-/// Room for two journals.
-fn journal_room(rt: &impl Abort, alloc: Global) -> Vec<Journal> {
+/// Room for two lists, or two journals.
+fn room_for_two<T: Drop>(rt: &impl Abort, alloc: Global) -> Vec<T> {
     match Vec::with_capacity(alloc, 2) {
         Ok(room) => room,
         Err(_) => Vec::with_capacity(alloc, 2).expect(rt, "memory"),
@@ -43,7 +35,7 @@ fn got(rt: &impl Abort, alloc: Global, journal: &Journal) -> Got {
 
 /// The same, so often.
 fn lists(rt: &impl Abort, alloc: Global, journal: &Journal, times: u8) -> Vec<Got> {
-    let mut lists = list_room(rt, alloc);
+    let mut lists = room_for_two(rt, alloc);
     for _ in 0..times {
         let list = got(rt, alloc, journal);
         lists.push(list).expect(rt, "room");
@@ -80,7 +72,7 @@ fn journals(
     first: Option<Journal>,
     second: Journal,
 ) -> Vec<Journal> {
-    let mut journals = journal_room(rt, alloc);
+    let mut journals = room_for_two(rt, alloc);
     journals.push(second).expect(rt, "room");
     if let Some(first) = first {
         journals.push(first).expect(rt, "room");
