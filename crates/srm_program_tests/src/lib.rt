@@ -4,6 +4,8 @@
 #![tactic(auto)]
 
 #[cfg(test)]
+mod activity_line;
+#[cfg(test)]
 mod backlog;
 #[cfg(test)]
 mod ends;
@@ -31,8 +33,6 @@ mod relay;
 mod rig;
 #[cfg(test)]
 mod rows;
-#[cfg(test)]
-mod status_line;
 #[cfg(test)]
 mod staying;
 #[cfg(test)]
