@@ -10,8 +10,8 @@ use Rattle.srm_names.specs.declared.drawop.Drawop.{Drawop}
 use Rattle.srm_names.specs.FullName.{FullName}
 use Rattle.srm_names.specs.Names.{same_page, same_stream}
 use Rattle.srm_names.proofs.Same.{same_page-is}
-use Rattle.srm_store.specs.Places.{has_place}
-use Rattle.srm_store.specs.StreamPlaces.{StreamContent, blank_stream, SameStreamPlaces, StreamStillHas, StreamGains}
+use Rattle.srm_store.specs.Places.{has_place, StillHas}
+use Rattle.srm_store.specs.StreamPlaces.{StreamContent, blank_stream, SameStreamPlaces, StreamGains}
 use Rattle.srm_store.specs.PageTables.{is_in, slot_of, with_page}
 use Rattle.srm_store.specs.Tables.{TableContent, stream_in, places_of_stream, slots_end, TableGains, TableLearns, HasPlaceFor, StillHasPlaces}
 use Rattle.srm_store.proofs.Slots.{slot_of-absent, with_page-slot, with_page-has, with_page-longer, with_page-few, others_slot, others_apart, others_absent, slots_shrink}
@@ -47,7 +47,7 @@ module _ (streams : List StreamContent) (slot source : ℕ) (r : StreamContent) 
   set_source b other = get_or-set_other streams (slot * 32 + source) (slot * 32 + b) r blank_stream (λ e. other (omega arith))
 
   -- places stay
-  pub set_still : StreamStillHas (stream_in streams slot source) r → (a b n : ℕ) → has_place (stream_in streams a b).places n ≡ true → has_place (stream_in after a b).places n ≡ true
+  pub set_still : StillHas (stream_in streams slot source).places r.places → (a b n : ℕ) → has_place (stream_in streams a b).places n ≡ true → has_place (stream_in after a b).places n ≡ true
   set_still h a b n there = go (cases_eq (a * 32 + b) (slot * 32 + source))
     where
       go : ((a * 32 + b ≡ slot * 32 + source) ⊎ (a * 32 + b ≢ slot * 32 + source)) → has_place (stream_in after a b).places n ≡ true
@@ -97,7 +97,7 @@ module _ (t : TableContent) (p : Page) (source : ℕ) (r : StreamContent) (few :
           let now = others_absent t.pages p s.page e f in
           same_row_on _ _ _ (same_row_back _ _ (blank (slot_of t.pages s.page) s.source (omega (arith, was)) there)) (changed_blank (slot_of changed.pages s.page) s.source (omega (arith, now)) there)
 
-  pub changed_still : StreamStillHas (stream_in t.streams slot source) r → StillHasPlaces t changed
+  pub changed_still : StillHas (stream_in t.streams slot source).places r.places → StillHasPlaces t changed
   changed_still h = record {
     each = λ n had. let fewer = slots_shrink t.pages p n.stream.page few in record {
       each = λ a low high. set_still t.streams slot source r inside h a n.stream.source n.number (had.each a (omega (arith, fewer.0, low)) (omega (arith, fewer.1, high)));
@@ -157,8 +157,8 @@ module _ {t old : TableContent} {s : Stream} {slot k : ℕ} {read r : StreamCont
     in_pages : new.pages ≡ with_page old.pages s.page
     in_pages = seated ∙ ap (λ (x : TableContent). with_page x.pages s.page) w.is
 
-    pub in_still : StreamStillHas read r → StillHasPlaces old new
-    in_still h = subst (λ x. StillHasPlaces x new) w.is (subst (StillHasPlaces t) (sym new_is) (changed_still t s.page s.source r more_few w.size w.blank w.known (subst (λ x. StreamStillHas x r) read_is h)))
+    pub in_still : StillHas read.places r.places → StillHasPlaces old new
+    in_still h = subst (λ x. StillHasPlaces x new) w.is (subst (StillHasPlaces t) (sym new_is) (changed_still t s.page s.source r more_few w.size w.blank w.known (subst (λ x. StillHas x.places r.places) read_is h)))
 
     pub in_learns : (n : FullName) → s ≡ n.stream → r ≡ record read { known = max read.known n.number } → TableLearns n old new
     in_learns n e wrote = record {
@@ -176,7 +176,7 @@ module _ {t old : TableContent} {s : Stream} {slot k : ℕ} {read r : StreamCont
       others = subst (λ (v : Stream). (u : Stream) → u.source < MEMBERS → same_stream u v ≡ false → SameStreamPlaces (places_of_stream old u) (places_of_stream new u)) e in_others;
     }
 
-pub knows_still : (read r : StreamContent) (k : ℕ) → r ≡ record read { known = k } → StreamStillHas read r
+pub knows_still : (read r : StreamContent) (k : ℕ) → r ≡ record read { known = k } → StillHas read.places r.places
 knows_still read r k e = record { each = λ n there. ap (λ (x : StreamContent). has_place x.places n) e ∙ there }
 
 pub places_made : (t old : TableContent) (n : FullName) (s : Stream) (first end source number : ℕ)

@@ -1,9 +1,9 @@
 -- What is held and known of a stream, and how calls change it.
-use Rattle.std.specs.Prelude.{◌≡◌, ℕ, true, ◌==◌, not, is_some, List, [], filter, if◌then◌else◌, Option, Some}
+use Rattle.std.specs.Prelude.{◌≡◌, ℕ, ◌==◌, not, is_some, List, [], filter, if◌then◌else◌, Option, Some}
 use Rattle.srm_names.specs.declared.drawop.Drawop.{Drawop}
 use Rattle.srm_names.specs.FullName.{FullName}
 use Rattle.srm_names.specs.Histories.{or_else}
-use Rattle.srm_store.specs.Places.{place_at, has_place}
+use Rattle.srm_store.specs.Places.{place_at}
 
 pub record StreamContent : Type 0 where
   pub places : List (List (Option Drawop))
@@ -16,10 +16,6 @@ blank_stream = record { places = []; known = 0 }
 pub record SameStreamPlaces (old new : StreamContent) : Type 0 where
   pub each : (number : ℕ) → place_at new.places number ≡ place_at old.places number
   pub known : new.known ≡ old.known
-
--- each place is still there
-pub record StreamStillHas (old new : StreamContent) : Type 0 where
-  pub each : (number : ℕ) → has_place old.places number ≡ true → has_place new.places number ≡ true
 
 -- the stream holds the drawop, unless one of its number was held
 pub record StreamGains (d : Drawop) (old new : StreamContent) : Type 0 where

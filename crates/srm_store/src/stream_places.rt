@@ -3,9 +3,9 @@
 ghost use Rattle.std.specs.Prelude.{◌≡◌, ◌≤◌, ◌+◌, ◌++◌, true, is_some, max, OnOk, IfOk, OnErr, IsOk, Some, None, if◌then◌else◌, vec_len, vec_capacity};
 ghost use Rattle.std.specs.Option.{option_copied};
 ghost use Rattle.srm_names.specs.Names.{named};
-ghost use Rattle.srm_store.specs.Places.{place_at, has_place, FilledTo};
+ghost use Rattle.srm_store.specs.Places.{place_at, has_place, FilledTo, StillHas};
 ghost use Rattle.srm_store.specs.Held.{insert_answer, names_after};
-ghost use Rattle.srm_store.specs.StreamPlaces.{blank_stream, unheld_in_stream, SameStreamPlaces, StreamStillHas, StreamGains};
+ghost use Rattle.srm_store.specs.StreamPlaces.{blank_stream, unheld_in_stream, SameStreamPlaces, StreamGains};
 
 use crate::insert::{Insert, same_drawop};
 use crate::places::Places;
@@ -76,7 +76,7 @@ impl StreamPlaces {
     /// Makes the place of a number, so that a drawop can be put there without memory.
     pub fn make_place(&mut self, number: u32) -> Result<(), AllocError>
         ensures same { SameStreamPlaces self.old self.new }
-        ensures still { StreamStillHas self.old self.new }
+        ensures still { StillHas self.old.places self.new.places }
         ensures ok { OnOk result (has_place self.new.places number ≡ true) }
         ensures again { has_place self.old.places number ≡ true → IsOk result }
     {
@@ -88,7 +88,7 @@ impl StreamPlaces {
         ensures answer { IfOk result (λ answer. answer ≡ insert_answer drawop (place_at self.old.places drawop.name.number)) }
         ensures ok { OnOk result (StreamGains drawop self.old self.new) }
         ensures err { OnErr result (SameStreamPlaces self.old self.new) }
-        ensures still { StreamStillHas self.old self.new }
+        ensures still { StillHas self.old.places self.new.places }
         ensures again { has_place self.old.places drawop.name.number ≡ true → IsOk result }
     {
         let number = drawop.name.number();
