@@ -19,12 +19,13 @@ use Rattle.srm_names.proofs.Same.{same_stream-is, Has-firsts}
 use Rattle.srm_names.proofs.Orders.{and_left, and_right, stream_below_trans}
 use Rattle.srm_codec.specs.Spelling.{is_name, is_page, row_below, AreRows}
 use Rattle.srm_store.specs.Held.{number_in}
+use Rattle.srm_store.specs.Finals.{number_in_rows}
 use Rattle.srm_entries.specs.declared.entry.Entry.{Entry}
 use Rattle.srm_entries.specs.Configs.{Config}
 use Rattle.srm_agent.specs.Contents.{Content}
 use Rattle.srm_entries.specs.Entries.{done, pages_in, known, shown, slots, evidence_in}
 use Rattle.srm_entries.specs.Runs.{EntryRight}
-use Rattle.srm_entries.specs.Sessions.{if_positive, number_in_rows}
+use Rattle.srm_entries.specs.Sessions.{if_positive}
 use Rattle.srm_agent.specs.Reports.{row_for, IsRow, AreRowsInOrder, AreRowsOf, streams_on, AreShown, AreOwnStreams, AreReported}
 use Rattle.srm_entries.proofs.Telling.{ToldRight, told_step, told_start}
 

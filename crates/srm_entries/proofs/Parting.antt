@@ -1,9 +1,9 @@
 -- What a session message says that was sent, and a farewell: its sender draws nothing after it.
-use Rattle.std.proofs.Common.{◌≡◌, ℕ, ◌≤◌, Bool, true, false, not, ◌&&◌, ◌||◌, List, [], ◌∷◌, ◌++◌, length, refl, ap, sym, ◌∙◌, subst, inl, inr, arith, eq-eqb, append_assoc}
-use Rattle.std.specs.Prelude.{Option, Some, None, if◌then◌else◌, option_to_list, option_map, filter, nat_lt, nat_le, find}
+use Rattle.std.proofs.Common.{◌≡◌, ℕ, zero, suc, ◌≤◌, Bool, true, false, not, ◌&&◌, ◌||◌, List, [], ◌∷◌, ◌++◌, length, refl, ap, sym, ◌∙◌, subst, inl, inr, arith, eq-eqb, append_assoc}
+use Rattle.std.specs.Prelude.{Option, Some, None, unwrap_or, if◌then◌else◌, option_to_list, filter, nat_le}
 use Rattle.std.specs.List.{list_any, AllByRecursion}
-use Rattle.std.proofs.lemmas.Option.{none-some, same_Some}
-use Rattle.std.proofs.lemmas.Bool.{both_ways, not-true, ltb-false}
+use Rattle.std.proofs.lemmas.Option.{none-some}
+use Rattle.std.proofs.lemmas.Bool.{both_ways, not-true}
 use Rattle.std.proofs.lemmas.List.{append-nil}
 use Rattle.srm_names.specs.declared.page.Page.{Page}
 use Rattle.srm_names.specs.declared.stream.Stream.{Stream}
@@ -11,7 +11,7 @@ use Rattle.srm_names.specs.declared.drawop.Drawop.{Drawop}
 use Rattle.srm_names.specs.declared.echo.Echo.{Echo}
 use Rattle.srm_names.specs.FullName.{FullName}
 use Rattle.srm_names.specs.Histories.{steps, steps_after}
-use Rattle.srm_names.specs.Names.{same_stream, same_page, stream_on}
+use Rattle.srm_names.specs.Names.{same_page, stream_on}
 use Rattle.srm_names.proofs.Lists.{Has, Has-append, Has-flat_map, Has-split, Has-passes, at_parts, list_any-Has}
 use Rattle.srm_names.proofs.Snoc.{along}
 use Rattle.srm_codec.specs.declared.datagram.Datagram.{Datagram}
@@ -22,9 +22,9 @@ use Rattle.srm_entries.specs.declared.state.AgentState.TheVariants.{Gone}
 use Rattle.srm_entries.specs.declared.entry.Input.{Input}
 use Rattle.srm_entries.specs.declared.entry.Input.TheVariants.{Drew, Heard, Noise, Ticked, Showed, AskedLeave, Gave, Took}
 use Rattle.srm_entries.specs.Entries.{done, ticked, is_tick, state, is_gone, is_leaving, sent, drawn, drawn_on, known}
-use Rattle.srm_store.specs.Finals.{row_number, number_or_zero}
+use Rattle.srm_store.specs.Finals.{row_number, number_in_rows}
 use Rattle.srm_codec.specs.Spelling.{is_session, is_farewell}
-use Rattle.srm_entries.specs.Sessions.{charged, all_data_sent, session_due, session_message_due, EndsWith, IsSessionMessage, number_in_rows, if_positive}
+use Rattle.srm_entries.specs.Sessions.{charged, all_data_sent, session_due, session_message_due, EndsWith, IsSessionMessage, if_positive}
 use Rattle.srm_entries.specs.Runs.{EntryRight, expected_state}
 use Rattle.srm_entries.proofs.Showing.{IsDrawing, kind, drawing_not_gone, leaving_not_gone, state-snoc, drawn-snoc, done_is}
 use Rattle.srm_entries.proofs.Drawing.{draws_right}
@@ -99,13 +99,8 @@ gone_draws_nothing c made xs ys gone all =
         )
 
 positive_row : (n : ℕ) (rows : List FullName) (s : Stream) → number_in_rows rows s ≡ if_positive n → row_number rows s ≡ n
-positive_row n rows s e = found (find (λ (row : FullName). same_stream s row.stream) rows) (nat_lt 0 n) refl e
-  where
-    found : (o : Option FullName) (b : Bool) → nat_lt 0 n ≡ b → option_map (λ (m : FullName). m.number) o ≡ (if b then Some n else None) → number_or_zero o ≡ n
-    found None true q k = absurd (none-some n k)
-    found None false q k = let l : n ≤ 0 = ltb-false 0 n q in omega arith
-    found (Some m) true q k = same_Some m.number n k
-    found (Some m) false q k = absurd (none-some m.number (sym k))
+positive_row zero rows s e = ap (λ o. unwrap_or o 0) e
+positive_row (suc n) rows s e = ap (λ o. unwrap_or o 0) e
 
 -- a farewell says how much its sender drew, and ever will have drawn
 pub farewell_sent : (c : Config) (made : ℕ) (es : List Entry) (sender at : ℕ) (shown : Page) (rows : List FullName) (echoes : List Echo) → AllByRecursion (EntryRight c made) (steps es)

@@ -13,11 +13,12 @@ use Rattle.srm_names.specs.Names.{same_page, same_stream, stream_on}
 use Rattle.srm_names.proofs.Lists.{Has, Has-back, find-Has}
 use Rattle.srm_names.proofs.Same.{same_page-itself}
 use Rattle.srm_codec.specs.declared.datagram.Datagram.TheVariants.{Session}
+use Rattle.srm_store.specs.Finals.{number_in_rows}
 use Rattle.srm_entries.specs.Configs.{Config}
 use Rattle.srm_entries.specs.declared.entry.Entry.{Entry}
 use Rattle.srm_store.specs.Held.{number_in}
 use Rattle.srm_entries.specs.Entries.{accepted, ticked, shown, known, evidence_by, names_heard}
-use Rattle.srm_entries.specs.Sessions.{number_in_rows, if_positive, SessionMessageRight, session_message_due}
+use Rattle.srm_entries.specs.Sessions.{if_positive, SessionMessageRight, session_message_due}
 use Rattle.srm_entries.specs.Runs.{EntryRight}
 use Rattle.srm_entries.proofs.Adding.{known-snoc}
 use Rattle.srm_entries.proofs.Showing.{shown_quiet}

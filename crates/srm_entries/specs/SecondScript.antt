@@ -11,6 +11,7 @@ use Rattle.srm_codec.specs.declared.datagram.Datagram.TheVariants.{Data, Request
 use Rattle.srm_codec.specs.Spelling.{bits_set, length_of, is_farewell}
 use Rattle.srm_bucket.specs.declared.class.Class.TheVariants.{Shown, New}
 use Rattle.srm_timers.specs.Arms.{WaitBasis, wait_basis, arm_of}
+use Rattle.srm_store.specs.Finals.{number_in_rows}
 use Rattle.srm_entries.specs.Configs.{Config}
 use Rattle.srm_entries.specs.declared.entry.Entry.{Entry}
 use Rattle.srm_entries.specs.declared.state.AgentState.TheVariants.{Active, Leaving, Gone}
@@ -20,7 +21,7 @@ use Rattle.srm_entries.specs.declared.entry.Verdict.TheVariants.{Done, Refused}
 use Rattle.srm_entries.specs.Entries.{done, state, is_missing, released}
 use Rattle.srm_entries.specs.Timers.{basis_of, ask_due, fix_due, held_off, first_asker}
 use Rattle.srm_entries.specs.Verdicts.{verdict_of, final}
-use Rattle.srm_entries.specs.Sessions.{session_message_due, expected_row, number_in_rows, echoes_owed, members_remaining}
+use Rattle.srm_entries.specs.Sessions.{session_message_due, expected_row, echoes_owed, members_remaining}
 use Rattle.srm_entries.specs.Bucket.{classed}
 use Rattle.srm_entries.specs.Giving.{given, GiveRight, may_leave}
 use Rattle.srm_entries.specs.Runs.{expected_drawop, expected_state}

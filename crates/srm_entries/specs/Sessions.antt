@@ -4,11 +4,12 @@ use Rattle.srm_names.specs.declared.stream.Stream.{Stream}
 use Rattle.srm_names.specs.declared.echo.Echo.{Echo}
 use Rattle.srm_names.specs.FullName.{FullName}
 use Rattle.srm_names.specs.Histories.{Step, steps, last_of, count_up}
-use Rattle.srm_names.specs.Names.{same_page, same_stream, ascending}
+use Rattle.srm_names.specs.Names.{same_page, ascending}
 use Rattle.srm_codec.specs.declared.datagram.Datagram.{Datagram}
 use Rattle.srm_codec.specs.declared.datagram.Datagram.TheVariants.{Session}
 use Rattle.srm_codec.specs.Spelling.{length_of, row_below, is_session, is_data}
 use Rattle.srm_distance.specs.Echoes as echoes
+use Rattle.srm_store.specs.Finals.{number_in_rows}
 use Rattle.srm_entries.specs.declared.limits.TheConstants.{SECOND, SESSION_SHARE, SHORTEST_INTERVAL}
 use Rattle.srm_entries.specs.Configs.{Config}
 use Rattle.srm_entries.specs.declared.entry.Entry.{Entry}
@@ -50,9 +51,6 @@ if_positive n = if nat_lt 0 n then Some n else None
 abbrev pub expected_row : Config → List Entry → Bool → Stream → Option ℕ
 expected_row c es farewell s =
     if (if farewell then s.source == c.me else same_page s.page (shown es) && nat_lt s.source c.members) then if_positive (known es s) else None
-
-abbrev pub number_in_rows : List FullName → Stream → Option ℕ
-number_in_rows rows s = option_map (λ n. n.number) (find (λ n. same_stream s n.stream) rows)
 
 -- the contents of a session message that is sent after these entries
 pub record SessionMessageRight (c : Config) (es : List Entry) (now : ℕ) (farewell : Bool) (rows : List FullName) : Type 0 where

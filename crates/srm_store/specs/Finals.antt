@@ -1,5 +1,5 @@
 -- How far the streams of a source go, by the rows with which it was settled.
-use Rattle.std.specs.Prelude.{◌≡◌, ℕ, ◌==◌, List, find, slice_index_or, if◌then◌else◌, Option, Some, None}
+use Rattle.std.specs.Prelude.{◌≡◌, ℕ, ◌==◌, List, find, slice_index_or, if◌then◌else◌, Option, Some, None, option_map, unwrap_or}
 use Rattle.srm_names.specs.declared.stream.Stream.{Stream}
 use Rattle.srm_names.specs.FullName.{FullName}
 use Rattle.srm_names.specs.Histories.{or_else, first_of}
@@ -17,13 +17,13 @@ rows_for member s = if s.member == member then Some s.rows else None
 abbrev pub rows_of : List Settling → ℕ → Option (List FullName)
 rows_of settled member = first_of (rows_for member) settled
 
-abbrev pub number_or_zero : Option FullName → ℕ
-number_or_zero None = 0
-number_or_zero (Some n) = n.number
+-- the number that the rows have for a stream, where they have one
+abbrev pub number_in_rows : List FullName → Stream → Option ℕ
+number_in_rows rows s = option_map (λ row. row.number) (find (λ row. same_stream s row.stream) rows)
 
--- the number that the rows have for a stream, and 0 where they have none
+-- and 0 where they have none
 abbrev pub row_number : List FullName → Stream → ℕ
-row_number rows s = number_or_zero (find (λ row. same_stream s row.stream) rows)
+row_number rows s = unwrap_or (number_in_rows rows s) 0
 
 abbrev pub final_in : Option (List FullName) → Stream → Option ℕ
 final_in None s = None

@@ -12,12 +12,13 @@ use Rattle.srm_codec.specs.declared.datagram.Datagram.TheVariants.{Data, Session
 use Rattle.srm_codec.specs.Spelling.{IsSpellable}
 use Rattle.srm_bucket.specs.declared.class.Class.TheVariants.{New}
 use Rattle.srm_bucket.specs.Law.{BucketLaw}
+use Rattle.srm_store.specs.Finals.{number_in_rows}
 use Rattle.srm_entries.specs.Configs.{Config}
 use Rattle.srm_entries.specs.declared.entry.Entry.{Entry}
 use Rattle.srm_entries.specs.declared.state.AgentState.TheVariants.{Active}
 use Rattle.srm_entries.specs.declared.entry.Input.TheVariants.{Drew, Heard, Ticked}
 use Rattle.srm_entries.specs.Entries.{shown, known, is_missing, released}
-use Rattle.srm_entries.specs.Sessions.{expected_row, number_in_rows, if_positive, SessionMessageRight}
+use Rattle.srm_entries.specs.Sessions.{expected_row, if_positive, SessionMessageRight}
 use Rattle.srm_entries.specs.Bucket.{Going, bucket_calls}
 use Rattle.srm_entries.specs.Runs.{EntryRight, IsMemberRun}
 use Rattle.srm_world.specs.Traces.{Trace, of_member, IsHonest, IsRun}

@@ -16,6 +16,7 @@ use Rattle.srm_codec.specs.Spelling.{IsSpellable}
 use Rattle.srm_bucket.specs.declared.class.Class.TheVariants.{New}
 use Rattle.srm_bucket.specs.Calls.{Popped}
 use Rattle.srm_bucket.specs.Law.{BucketLaw, GoesRight as CallRight}
+use Rattle.srm_store.specs.Finals.{number_in_rows}
 use Rattle.srm_entries.specs.declared.entry.Entry.{Entry}
 use Rattle.srm_entries.specs.declared.state.AgentState.TheVariants.{Active, Leaving, Gone}
 use Rattle.srm_entries.specs.declared.entry.Input.{Input}
@@ -23,7 +24,7 @@ use Rattle.srm_entries.specs.declared.entry.Input.TheVariants.{Drew, Heard, Tick
 use Rattle.srm_entries.specs.Entries.{heard_in, is_missing, state}
 use Rattle.srm_entries.specs.Timers.{asker, fix_running}
 use Rattle.srm_entries.specs.Verdicts.{VerdictRight}
-use Rattle.srm_entries.specs.Sessions.{SessionRight, SessionMessageRight, number_in_rows, expected_row, if_positive}
+use Rattle.srm_entries.specs.Sessions.{SessionRight, SessionMessageRight, expected_row, if_positive}
 use Rattle.srm_entries.specs.Bucket.{Going, GoesAsCharged, bucket_calls}
 use Rattle.srm_entries.specs.Giving.{MessageRight}
 use Rattle.srm_entries.specs.Runs.{EntryRight, IsMemberRun, MomentRight, expected_drawop, expected_state}
