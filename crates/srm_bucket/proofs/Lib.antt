@@ -3,6 +3,7 @@ pub mod Parting
 pub mod Steps
 pub mod Highest
 pub mod Going
+pub mod Departing
 pub mod Popping
 mod Forbids
 pub mod Mapping

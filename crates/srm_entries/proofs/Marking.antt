@@ -16,6 +16,7 @@ use Rattle.srm_bucket.specs.declared.item.Item.{Item}
 use Rattle.srm_bucket.specs.Calls.{Classed, Call, Handed, Popped}
 use Rattle.srm_bucket.specs.Classes.{handed_in, departed_in, handed, departed}
 use Rattle.srm_bucket.specs.Law.{BucketLaw}
+use Rattle.srm_bucket.proofs.Departing.{popping}
 use Rattle.srm_entries.specs.Configs.{Config}
 use Rattle.srm_entries.specs.declared.entry.Entry.{Entry}
 use Rattle.srm_entries.specs.Entries.{shown}
@@ -50,10 +51,6 @@ gone_handed class (i ∷ items) = gone_handed class items
 handed_handed : (class : Class) (items : List (Classed Datagram)) → flat_map (handed_in class) (map Handed items) ≡ of_class class items
 handed_handed class [] = refl
 handed_handed class (i ∷ items) = ap (λ xs. one_of_class class i ++ xs) (handed_handed class items)
-
--- pops in which these go
-abbrev pub popping : ℕ → List (Classed Datagram) → List (Call Datagram)
-popping now goes = map (λ i. Popped now (Some i)) goes
 
 gone_popping : (class : Class) (now : ℕ) (goes : List (Classed Datagram)) → flat_map (departed_in class) (popping now goes) ≡ of_class class goes
 gone_popping class now [] = refl

@@ -13,13 +13,13 @@ use Rattle.srm_bucket.specs.declared.item.Item.{Item}
 use Rattle.srm_bucket.specs.Calls.{Classed, Call, Handed, Popped}
 use Rattle.srm_bucket.specs.Classes.{rank, in_class, handed_in, departed_in, handed, departed, queued, first_of_highest, next_queued}
 use Rattle.srm_bucket.specs.Law.{BucketLaw, GoesRight as CallRight}
+use Rattle.srm_bucket.proofs.Departing.{popping, in_its_own}
 use Rattle.srm_entries.specs.Configs.{Config}
 use Rattle.srm_entries.specs.declared.entry.Entry.{Entry}
 use Rattle.srm_entries.specs.Bucket.{Going, GoesAsCharged, handed_in_by, entries_of, datagrams_of, lets_go, pops, calls_by, bucket_calls}
 use Rattle.srm_entries.proofs.Adding.{flat_map-snoc}
 use Rattle.srm_entries.proofs.Charging.{law_at}
 use Rattle.srm_entries.proofs.Cutting.{bucket_calls-append}
-use Rattle.srm_entries.proofs.Marking.{popping}
 
 -- what is left of each class, and the first of the highest
 shown_first : (f : Class → List (Item Datagram)) (x : Item Datagram) (xs : List (Item Datagram)) → f Shown ≡ x ∷ xs → first_of_highest f ≡ Some (record { class = Shown; item = x })
@@ -31,16 +31,11 @@ new_first f x xs a e = rw (a, e) refl
 other_first : (f : Class → List (Item Datagram)) (x : Item Datagram) (xs : List (Item Datagram)) → f Shown ≡ [] → f New ≡ [] → f Other ≡ x ∷ xs → first_of_highest f ≡ Some (record { class = Other; item = x })
 other_first f x xs a b e = rw (a, b, e) refl
 
-in_its_own : (i : Classed Datagram) (k : Class) → i.class ≡ k → in_class k (Some i) ≡ i.item ∷ []
-in_its_own i Shown e = rw e refl
-in_its_own i New e = rw e refl
-in_its_own i Other e = rw e refl
-
 module _ (rate depth now : ℕ) (before : List (Call Datagram)) (i : Classed Datagram) (right : CallRight rate depth before (before ++ Popped now (Some i) ∷ []) (Popped now (Some i))) where
   left_here : (k : Class) → i.class ≡ k → (rest : List (Item Datagram)) × (queued before k ≡ i.item ∷ rest)
   left_here k e =
       let (rest, whole) = right.in_order k in
-      let went : departed k (before ++ Popped now (Some i) ∷ []) ≡ departed k before ++ i.item ∷ [] = flat_map-snoc (departed_in k) before (Popped now (Some i)) ∙ ap (λ xs. departed k before ++ xs) (in_its_own i k e) in
+      let went : departed k (before ++ Popped now (Some i) ∷ []) ≡ departed k before ++ i.item ∷ [] = flat_map-snoc (departed_in k) before (Popped now (Some i)) ∙ ap (λ xs. departed k before ++ xs) (subst (λ c. in_class c (Some i) ≡ i.item ∷ []) e (in_its_own i)) in
       let came : handed k (before ++ Popped now (Some i) ∷ []) ≡ handed k before = flat_map-snoc (handed_in k) before (Popped now (Some i)) ∙ append-nil (handed k before) in
       let all : handed k before ≡ departed k before ++ (i.item ∷ rest) = sym came ∙ sym whole ∙ ap (λ xs. xs ++ rest) went ∙ append_assoc (departed k before) (i.item ∷ []) rest in
       (rest, ap (drop (length (departed k before))) all ∙ drop_at (departed k before) (i.item ∷ rest) (length (departed k before)) refl)

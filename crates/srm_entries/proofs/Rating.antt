@@ -15,6 +15,7 @@ use Rattle.srm_bucket.specs.Calls.{Classed, Call, Handed, Popped}
 use Rattle.srm_bucket.specs.Classes.{rank, handed, queued, next_queued, first_of_highest}
 use Rattle.srm_bucket.specs.Ticks.{Tick, last_moment as last_of_calls, ticks, cost, charge, allowance, level, IsWithin}
 use Rattle.srm_bucket.specs.Law.{BucketLaw, level_at}
+use Rattle.srm_bucket.proofs.Departing.{popping}
 use Rattle.srm_bucket.proofs.Highest.{next-same}
 use Rattle.srm_entries.specs.Configs.{Config}
 use Rattle.srm_entries.specs.declared.entry.Entry.{Entry}
@@ -26,7 +27,7 @@ use Rattle.srm_entries.specs.Runs.{EntryRight, IsMemberRun}
 use Rattle.srm_entries.proofs.Cutting.{run_part}
 use Rattle.srm_entries.proofs.Sending.{went_first}
 use Rattle.srm_entries.proofs.Charging.{handed_last, law_at, pops_last}
-use Rattle.srm_entries.proofs.Marking.{bucket_calls-snoc, entries-snoc, hands, popping, gone_is, handed_is, calls_until, gone_until, handed_until, went_length}
+use Rattle.srm_entries.proofs.Marking.{bucket_calls-snoc, entries-snoc, hands, gone_is, handed_is, calls_until, gone_until, handed_until, went_length}
 use Rattle.srm_entries.proofs.Spending.{Charged, charged_along, charged_start, law_to, not_before, tick_is_last}
 
 -- a run of a member, marked with what went

@@ -10,12 +10,12 @@ use Rattle.srm_names.proofs.Lists.{Has, Has-append, Has-front, Has-map, map-Has,
 use Rattle.srm_codec.specs.declared.datagram.Datagram.{Datagram}
 use Rattle.srm_codec.specs.declared.datagram.Datagram.TheVariants.{Data, Request, Repair, Session}
 use Rattle.srm_bucket.specs.declared.class.Class.{Class}
-use Rattle.srm_bucket.specs.declared.class.Class.TheVariants.{Shown, New, Other}
 use Rattle.srm_bucket.specs.declared.item.Item.{Item}
 use Rattle.srm_bucket.specs.Calls.{Classed, Call, Handed, Popped}
 use Rattle.srm_bucket.specs.Classes.{rank, in_class, handed_in, departed_in, departed}
 use Rattle.srm_bucket.specs.Classes as bucket
 use Rattle.srm_bucket.specs.Law.{BucketLaw, GoesRight as CallRight}
+use Rattle.srm_bucket.proofs.Departing.{in_its_own}
 use Rattle.srm_entries.specs.Configs.{Config}
 use Rattle.srm_entries.specs.declared.entry.Entry.{Entry}
 use Rattle.srm_store.specs.Held.{has_name}
@@ -87,13 +87,8 @@ went_first rate depth calls law =
     along (λ s. CallRight rate depth s.before (s.before ++ s.this ∷ []) s.this) (λ cs. (class : Class) → IsPrefix (departed class cs) (bucket.handed class cs))
     (λ before call p right. right.in_order) [] calls (λ class. ([], refl)) law
 
-pub same_rank : (c : Class) → (rank c == rank c) ≡ true
-same_rank Shown = refl
-same_rank New = refl
-same_rank Other = refl
-
 pub in_its_class : (i : Classed Datagram) → Has i.item (in_class i.class (Some i))
-in_its_class i = rw (same_rank i.class) (inl refl)
+in_its_class i = subst (Has i.item) (sym (in_its_own i)) (inl refl)
 
 class_of_one : (class : Class) (x : Item Datagram) (i : Classed Datagram) → Has x (in_class class (Some i)) → x ≡ i.item
 class_of_one class x i h = go (rank i.class == rank class) h

@@ -13,7 +13,7 @@ use Rattle.srm_bucket.specs.Content.{Content as BucketContent}
 use Rattle.srm_bucket.specs.Fits.{Fits, Adds, Pops}
 use Rattle.srm_bucket.specs.Law.{may_go}
 use Rattle.srm_bucket.specs.Waiting.{Waiting, HasLength, Gains, TakesNext, queue, next_in, count_of}
-use Rattle.srm_entries.proofs.Sending.{same_rank}
+use Rattle.srm_bucket.proofs.Departing.{popping, in_its_own}
 use Rattle.srm_outbox.specs.declared.due_items.DueItem.{DueItem}
 use Rattle.srm_outbox.specs.declared.out.Outgoing.{Outgoing}
 use Rattle.srm_outbox.specs.Outs.{IsOwn, AreOwn}
@@ -96,14 +96,10 @@ handing_ends due_items left old now e h = subst (λ as_. HandsIn as_ old now) (s
 
 -- letting go
 
--- the pops so far, in which these went
-abbrev pub popping_of : ℕ → List (Classed Outgoing) → List (Call Outgoing)
-popping_of now goes = map (λ i. Popped now (Some i)) goes
-
 pub record Going (rate depth now : ℕ) (calls : List (Call Outgoing)) (items : List Outgoing) (b : BucketContent Outgoing) : Type 0 where
   pub goes : List (Classed Outgoing)
   pub items_are : map (λ i. i.item.value) goes ≡ items
-  pub fits : Fits rate depth (calls ++ popping_of now goes) b
+  pub fits : Fits rate depth (calls ++ popping now goes) b
 
 pub record WentSoFar (now : ℕ) (old b : BucketContent Outgoing) (went : WentContent) : Type 0 where
   pub items : List Outgoing
@@ -131,16 +127,13 @@ popped_is item (Some c) e = (c, refl, cc)
 
 pops_one : (rate depth now : ℕ) (calls : List (Call Outgoing)) (items : List Outgoing) (b new : BucketContent Outgoing) (item : Item Outgoing) → Going rate depth now calls items b → Pops now b (Some item) new → Going rate depth now calls (items ++ item.value ∷ []) new
 pops_one rate depth now calls items b new item g pops =
-    let (c, is, same) = popped_is item (may_go rate depth (calls ++ popping_of now g.goes) now) (pops.value rate depth (calls ++ popping_of now g.goes) g.fits) in
+    let (c, is, same) = popped_is item (may_go rate depth (calls ++ popping now g.goes) now) (pops.value rate depth (calls ++ popping now g.goes) g.fits) in
     record {
       goes = g.goes ++ c ∷ [];
       items_are = map-append (λ (i : Classed Outgoing). i.item.value) g.goes (c ∷ []) ∙ ap (λ xs. xs ++ c.item.value ∷ []) g.items_are ∙ ap (λ (i : Item Outgoing). items ++ i.value ∷ []) same;
-      fits = subst (λ cs. Fits rate depth cs new) (append_assoc calls (popping_of now g.goes) (Popped now (Some c) ∷ []) ∙ ap (λ cs. calls ++ cs) (sym (map-append (λ (i : Classed Outgoing). Popped now (Some i)) g.goes (c ∷ []))))
-          (subst (λ o. Fits rate depth ((calls ++ popping_of now g.goes) ++ Popped now o ∷ []) new) is (pops.fits rate depth (calls ++ popping_of now g.goes) g.fits));
+      fits = subst (λ cs. Fits rate depth cs new) (append_assoc calls (popping now g.goes) (Popped now (Some c) ∷ []) ∙ ap (λ cs. calls ++ cs) (sym (map-append (λ (i : Classed Outgoing). Popped now (Some i)) g.goes (c ∷ []))))
+          (subst (λ o. Fits rate depth ((calls ++ popping now g.goes) ++ Popped now o ∷ []) new) is (pops.fits rate depth (calls ++ popping now g.goes) g.fits));
     }
-
-class_of_next : (class : Class) (c : Classed Outgoing) → rank c.class == rank class ≡ true → in_class class (Some c) ≡ c.item ∷ []
-class_of_next class c e = rw e refl
 
 -- what is taken is among what waited
 taken : (P : Item Outgoing → Type 0) (old new : Waiting Outgoing) (item : Item Outgoing) → TakesNext old (Some item) new → ((class : Class) → AllByRecursion P (queue old class)) → P item
@@ -150,7 +143,7 @@ taken P old new item t all = go (next_in old) refl
     go None e = let k : None ≡ Some item = ap (option_map (λ (c : Classed Outgoing). c.item)) (sym e) ∙ t.0 in absurd (cc)
     go (Some c) e =
         let same : c.item ≡ item = (let k : Some c.item ≡ Some item = ap (option_map (λ (x : Classed Outgoing). x.item)) (sym e) ∙ t.0 in cc) in
-        let split : queue old c.class ≡ c.item ∷ queue new c.class = t.1 c.class ∙ ap (λ x. in_class c.class x ++ queue new c.class) e ∙ ap (λ xs. xs ++ queue new c.class) (class_of_next c.class c (same_rank c.class)) in
+        let split : queue old c.class ≡ c.item ∷ queue new c.class = t.1 c.class ∙ ap (λ x. in_class c.class x ++ queue new c.class) e ∙ ap (λ xs. xs ++ queue new c.class) (in_its_own c) in
         subst P same (subst (AllByRecursion P) split (all c.class)).0
 
 remaining : (P : Item Outgoing → Type 0) (old new : Waiting Outgoing) (item : Item Outgoing) → TakesNext old (Some item) new → ((class : Class) → AllByRecursion P (queue old class)) → (class : Class) → AllByRecursion P (queue new class)
@@ -181,12 +174,12 @@ going_ends now old b new went h pops takes = record {
   outs = h.outs;
   noted = h.noted;
   fits = λ rate depth calls f. (let g = h.fits rate depth calls f in
-      let is = nothing_popped (may_go rate depth (calls ++ popping_of now g.goes) now) (pops.value rate depth (calls ++ popping_of now g.goes) g.fits) in
+      let is = nothing_popped (may_go rate depth (calls ++ popping now g.goes) now) (pops.value rate depth (calls ++ popping now g.goes) g.fits) in
       record {
         goes = g.goes;
         items_are = g.items_are;
-        fits = subst (λ cs. Fits rate depth cs new) (append_assoc calls (popping_of now g.goes) (Popped now None ∷ []))
-            (subst (λ o. Fits rate depth ((calls ++ popping_of now g.goes) ++ Popped now o ∷ []) new) is (pops.fits rate depth (calls ++ popping_of now g.goes) g.fits));
+        fits = subst (λ cs. Fits rate depth cs new) (append_assoc calls (popping now g.goes) (Popped now None ∷ []))
+            (subst (λ o. Fits rate depth ((calls ++ popping now g.goes) ++ Popped now o ∷ []) new) is (pops.fits rate depth (calls ++ popping now g.goes) g.fits));
       });
   own = h.own;
   left = λ me session own. record { each = λ class. subst (AllByRecursion (λ i. IsOwn me session i.value)) (sym (takes class)) ((h.left me session own).each class) };
