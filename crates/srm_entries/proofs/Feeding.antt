@@ -1,5 +1,5 @@
 -- What is given in a slot is a page feed, and its part by source a front of what is released; what was taken is a front of it.
-use Rattle.std.proofs.Common.{◌≡◌, ℕ, ◌==◌, ◌+◌, ◌≤◌, Bool, true, false, not, ◌&&◌, ◌||◌, List, [], ◌∷◌, ◌++◌, length, refl, ap, sym, ◌∙◌, subst, inl, inr, arith, eq-eqb}
+use Rattle.std.proofs.Common.{◌≡◌, ℕ, ◌==◌, ◌+◌, ◌≤◌, Bool, true, false, not, ◌||◌, List, [], ◌∷◌, ◌++◌, length, refl, ap, sym, ◌∙◌, subst, inl, inr, arith}
 use Rattle.std.specs.Prelude.{◌⊎◌, map, Option, Some, None, is_some, if◌then◌else◌, slice_get}
 use Rattle.std.specs.List.{flat_map, cons_option, list_any, AllByRecursion}
 use Rattle.std.proofs.lemmas.Option.{none-some, same_Some}
@@ -16,6 +16,7 @@ use Rattle.srm_names.specs.Histories.{steps, or_else, firsts, IsPrefix}
 use Rattle.srm_names.specs.Names.{named, same_page, first_page, stream_on}
 use Rattle.srm_names.specs.PageFeeds.{continues, is_page_feed, drawops_of, drawop_from, leaves, is_open_at, opened, page_opened, is_close}
 use Rattle.srm_names.proofs.Snoc.{along, first_of-snoc, or_else-none, list_any-snoc, is_page_feed-snoc}
+use Rattle.srm_names.proofs.Feeds.{feed_draws, feed_leaves}
 use Rattle.srm_names.proofs.Lists.{Has, front_of_front, front_more, front_next, slice_get-front, firsts-front, until_none-at, find-Has}
 use Rattle.srm_names.proofs.Same.{same_name-is, same_page-itself}
 use Rattle.srm_entries.specs.Configs.{Config}
@@ -143,19 +144,12 @@ next_of c es page g d told_right right e next = record {
     which true q = absurd (never q)
     which false q = q
 
-all_four : (a b c d : Bool) → a ≡ true → b ≡ false → c ≡ false → d ≡ true → (a && not b && not c && d) ≡ true
-all_four a b c d p q r s = rw (p, q, r, s) refl
-
-all_three : (a b c : Bool) → a ≡ true → b ≡ false → c ≡ false → (a && not b && not c) ≡ true
-all_three a b c p q r = rw (p, q, r) refl
-
 fed_draw : (es : List Entry) (page : Page) (g : List PageMsg) (d : Drawop) → list_any is_close g ≡ false → next_drawop es page g d.name.stream.source ≡ Some d → Next es page g d
     → FedRight es (Some page) g → FedRight es (Some page) (g ++ Draw d ∷ [])
 fed_draw es page g d closed next is right = record {
-  fed = is_page_feed-snoc g (Draw d) right.fed
-      (all_four (is_open_at (opened g) d.name.stream.page) (list_any is_close g) (list_any (leaves d.name.stream.source) g) (d.name.number == length (drawops_of d.name.stream.source g) + 1)
+  fed = feed_draws g d right.fed
       (ap (λ o. is_open_at o d.name.stream.page) is.at_page ∙ ap (λ (n : FullName). same_page page n.stream.page) is.name ∙ same_page-itself page) closed is.not_left
-      (eq-eqb d.name.number (length (drawops_of d.name.stream.source g) + 1) (ap (λ (n : FullName). n.number) is.name)));
+      (ap (λ (n : FullName). n.number) is.name);
   there = λ p q. right.there p (same ∙ q);
   part = λ source p q. part source (source == d.name.stream.source) refl p (same ∙ q);
   left = λ source p q l. left source (source == d.name.stream.source) refl p (same ∙ q) (sym (leaves_same source g (Draw d) refl) ∙ l);
@@ -188,7 +182,7 @@ final_of_left n (Some m) e = ap Some (sym (eqb-true n m e))
 fed_left : (es : List Entry) (page : Page) (g : List PageMsg) (s : ℕ) → is_some (opened g) ≡ true → list_any is_close g ≡ false → may_leave es page g s ≡ true
     → FedRight es (Some page) g → FedRight es (Some page) (g ++ Left s ∷ [])
 fed_left es page g s e closed may right = record {
-  fed = is_page_feed-snoc g (Left s) right.fed (all_three (is_some (opened g)) (list_any is_close g) (list_any (leaves s) g) e closed (not-true (list_any (leaves s) g) parts.1));
+  fed = feed_leaves g s right.fed e closed (not-true (list_any (leaves s) g) parts.1);
   there = λ p q. right.there p (same ∙ q);
   part = λ source p q. subst (λ w. IsPrefix w (released es (stream_on source p))) (sym (drawops_same source g (Left s) refl)) (right.part source p (same ∙ q));
   left = λ source p q l. left source p (same ∙ q) (or_cases (list_any (leaves source) g) (source == s) (sym (list_any-snoc (leaves source) g (Left s)) ∙ l)) ∙ ap (λ w. Some (length w)) (sym (drawops_same source g (Left s) refl));

@@ -1,5 +1,5 @@
 -- One more drawop of a drawing.
-use Rattle.std.proofs.Common.{◌≡◌, ℕ, ◌+◌, ◌||◌, ◌&&◌, Bool, true, false, not, List, [], ◌∷◌, ◌++◌, length, Some, refl, sym, ap, ◌∙◌, subst, eq-eqb, arith}
+use Rattle.std.proofs.Common.{◌≡◌, ℕ, ◌+◌, ◌||◌, true, false, not, List, [], ◌∷◌, ◌++◌, length, Some, refl, sym, ap, ◌∙◌, subst}
 use Rattle.std.specs.Prelude.{is_some}
 use Rattle.std.specs.List.{list_any}
 use Rattle.srm_names.specs.declared.drawop.Drawop.{Drawop}
@@ -7,7 +7,8 @@ use Rattle.srm_names.specs.declared.page.Page.{Page}
 use Rattle.srm_names.specs.declared.page_msg.PageMsg.{PageMsg}
 use Rattle.srm_names.specs.declared.page_msg.PageMsg.TheVariants.{Open, Draw, Left, Close}
 use Rattle.srm_names.specs.Histories.{or_else}
-use Rattle.srm_names.specs.PageFeeds.{is_page_feed, continues, page_opened, is_open_at, leaves, is_close, drawops_of}
+use Rattle.srm_names.specs.PageFeeds.{is_page_feed, page_opened, is_open_at, leaves, is_close, drawops_of}
+use Rattle.srm_names.proofs.Feeds.{feed_draws, feed_leaves}
 use Rattle.srm_names.proofs.Same.{same_page-itself}
 use Rattle.srm_names.proofs.Snoc.{first_of-snoc, list_any-snoc, is_page_feed-snoc}
 use Rattle.srm_pages_tests.specs.Drawing.{IsDrawing}
@@ -16,19 +17,13 @@ use Rattle.srm_pages.proofs.Feeds.{one_more_drawn}
 pub opens : (p : Page) (l : List PageMsg) → l ≡ [] → is_page_feed (l ++ Open p ∷ []) ≡ true
 opens p l e = subst (λ (k : List PageMsg). is_page_feed (k ++ Open p ∷ []) ≡ true) (sym e) refl
 
-all_four : (a b c d : Bool) → a ≡ true → b ≡ false → c ≡ false → d ≡ true → (a && not b && not c && d) ≡ true
-all_four a b c d e f g h = grind arith
-
-is_drawn : (p : Page) (m n : ℕ) (l : List PageMsg) (d : Drawop) → IsDrawing p m n l → d.name.stream.page ≡ p → d.name.stream.source ≡ m → d.name.number ≡ n + 1 → continues l (Draw d) ≡ true
-is_drawn p m n l d is page source number =
-    all_four _ _ _ _
+pub drawing_feed : (p : Page) (m n : ℕ) (l : List PageMsg) (d : Drawop) → IsDrawing p m n l → d.name.stream.page ≡ p → d.name.stream.source ≡ m → d.name.number ≡ n + 1 → is_page_feed (l ++ Draw d ∷ []) ≡ true
+drawing_feed p m n l d is page source number =
+    feed_draws l d is.feed
     (ap (λ o. is_open_at o d.name.stream.page) (is.page_is ∙ ap Some (sym page)) ∙ same_page-itself d.name.stream.page)
     is.is_open
     (ap (λ s. list_any (leaves s) l) source ∙ is.stays)
-    (eq-eqb d.name.number _ (number ∙ ap (λ k. k + 1) (sym is.count ∙ ap (λ s. length (drawops_of s l)) (sym source))))
-
-pub drawing_feed : (p : Page) (m n : ℕ) (l : List PageMsg) (d : Drawop) → IsDrawing p m n l → d.name.stream.page ≡ p → d.name.stream.source ≡ m → d.name.number ≡ n + 1 → is_page_feed (l ++ Draw d ∷ []) ≡ true
-drawing_feed p m n l d is page source number = is_page_feed-snoc l (Draw d) is.feed (is_drawn p m n l d is page source number)
+    (number ∙ ap (λ k. k + 1) (sym is.count ∙ ap (λ s. length (drawops_of s l)) (sym source)))
 
 pub drawing_more : (p : Page) (m n : ℕ) (l : List PageMsg) (d : Drawop) → IsDrawing p m n l → d.name.stream.page ≡ p → d.name.stream.source ≡ m → d.name.number ≡ n + 1 → IsDrawing p m (n + 1) (l ++ Draw d ∷ [])
 drawing_more p m n l d is page source number = record {
@@ -43,12 +38,9 @@ drawing_more p m n l d is page source number = record {
 pub drawing_closes : (p : Page) (m n : ℕ) (l : List PageMsg) → IsDrawing p m n l → is_page_feed (l ++ Close ∷ []) ≡ true
 drawing_closes p m n l is = is_page_feed-snoc l Close is.feed (ap not is.is_open)
 
-all_three : (a b c : Bool) → a ≡ true → b ≡ false → c ≡ false → (a && not b && not c) ≡ true
-all_three a b c d e f = grind arith
-
 -- and its member may leave it before
 pub drawing_leaves : (p : Page) (m n : ℕ) (l : List PageMsg) → IsDrawing p m n l → is_page_feed (l ++ Left m ∷ []) ≡ true
-drawing_leaves p m n l is = is_page_feed-snoc l (Left m) is.feed (all_three _ _ _ (ap is_some is.page_is) is.is_open is.stays)
+drawing_leaves p m n l is = feed_leaves l m is.feed (ap is_some is.page_is) is.is_open is.stays
 
 pub left_closes : (p : Page) (m n : ℕ) (l k : List PageMsg) → IsDrawing p m n l → k ≡ l ++ Left m ∷ [] → is_page_feed (k ++ Close ∷ []) ≡ true
 left_closes p m n l k is e = subst (λ (x : List PageMsg). is_page_feed (x ++ Close ∷ []) ≡ true) (sym e)
