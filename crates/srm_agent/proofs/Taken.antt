@@ -1,6 +1,6 @@
 -- The entry in which data or a repair was heard and accepted.
 use Rattle.std.proofs.Common.{◌≡◌, ℕ, ◌≤◌, Bool, true, false, ◌||◌, List, [], ◌∷◌, ◌++◌, refl, ap, sym, ◌∙◌, subst, arith}
-use Rattle.std.specs.Prelude.{Option, Some, None, is_some, if◌then◌else◌, Result, Ok, Err, OnErr}
+use Rattle.std.specs.Prelude.{Option, Some, None, is_some, if◌then◌else◌}
 use Rattle.std.proofs.Math.Bool.{or-false}
 use Rattle.std.proofs.lemmas.List.{append-nil}
 use Rattle.srm_names.specs.declared.stream.Stream.{Stream}
@@ -118,7 +118,3 @@ stays a s t w kept timers words = record {
   fits = λ c made past h. refit c made past a s t a.bucket w h (kept.each (held past) (evidence_in past) (settlings past) h.store) (timers.each c past h.timers) h.bucket;
   words = words;
 }
-
-pub at_err : {A E : Type 0} {P : Type 0} (r : Result A E) → P → OnErr r P
-at_err (Ok x) p = tt
-at_err (Err e) p = p

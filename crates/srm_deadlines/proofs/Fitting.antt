@@ -1,6 +1,6 @@
 -- What is due fits into a list that has room for all of it.
 use Rattle.std.proofs.Common.{◌≡◌, ℕ, ◌<◌, ◌≤◌, Bool, true, false, cond, ◌&&◌, ◌||◌, List, [], ◌∷◌, map, length, take, drop, refl, sym, ap, subst, ◌∙◌, arith}
-use Rattle.std.specs.Prelude.{filter, find, None, Result, Ok, Err, OnErr}
+use Rattle.std.specs.Prelude.{filter, find, None}
 use Rattle.std.specs.List.{list_any}
 use Rattle.std.specs.List.Sorted.{IsPartitionPoint}
 use Rattle.std.proofs.lemmas.List.{length-map, take-append-drop}
@@ -107,7 +107,3 @@ due_no_more now places due all exactly among_all =
     let k : length (map as_timed due) ≤ length all = no_more (map as_timed due) all (once_timed due exactly.in_order)
     (λ n at. among_all.each n (sym (exactly.exact n) ∙ ap (λ ns. among ns n) (sym (named due)) ∙ at)) in
     omega (arith, length-map due as_timed)
-
-pub on_err : {X Y : Type 0} (r : Result X Y) (P : Type 0) → P → OnErr r P
-on_err (Ok x) P p = tt
-on_err (Err y) P p = p

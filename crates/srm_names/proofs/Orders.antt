@@ -1,8 +1,8 @@
 -- In a list in order of name each name stands once.
-use Rattle.std.proofs.Common.{◌≡◌, ℕ, ◌<◌, ◌==◌, eq-eqb, Bool, true, false, ◌&&◌, ◌||◌, List, [], ◌∷◌, refl, ap, sym, ◌∙◌, subst, arith, inl, inr}
+use Rattle.std.proofs.Common.{◌≡◌, ℕ, ◌==◌, eq-eqb, Bool, true, false, ◌&&◌, ◌||◌, List, [], ◌∷◌, refl, ap, sym, ◌∙◌, subst, arith, inl, inr}
 use Rattle.std.specs.Prelude.{nat_lt, ◌⊎◌}
 use Rattle.std.specs.List.{list_any}
-use Rattle.std.proofs.lemmas.Bool.{and_from, cases_lt, cases_eq, false_from_ne_true}
+use Rattle.std.proofs.lemmas.Bool.{and_from, cases_lt, cases_eq, false_from_ne_true, lt-ltb}
 use Rattle.std.proofs.lemmas.Bool.Decides.{nat_tests}
 use Rattle.srm_names.specs.declared.page.Page.{Page}
 use Rattle.srm_names.specs.declared.stream.Stream.{Stream}
@@ -75,16 +75,13 @@ below_later m n (x ∷ ns) h k = go (same_name n x) refl (below_later x n ns (an
 pub stands_once : (n : FullName) (ns : List FullName) → ascending name_below (n ∷ ns) ≡ true → list_any (same_name n) ns ≡ true → ⊥
 stands_once n ns h k = not_below_itself n (below_later n n ns h k)
 
-below_test : (a b : ℕ) → a < b → nat_lt a b ≡ true
-below_test a b h = grind (arith, nat_tests)
-
 -- of two numbers one is below the other, or they are equal
 three_ways : (a b : ℕ) → (nat_lt a b ≡ true) ⊎ ((a ≡ b) ⊎ (nat_lt b a ≡ true))
 three_ways a b = elim (cases_lt a b) [
-  | inl less ↦ inl (below_test a b less)
+  | inl less ↦ inl (lt-ltb a b less)
   | inr more ↦ elim (cases_eq a b) [
     | inl same ↦ inr (inl same)
-    | inr differ ↦ inr (inr (below_test b a (omega arith)))
+    | inr differ ↦ inr (inr (lt-ltb b a (omega arith)))
   ]
 ]
 

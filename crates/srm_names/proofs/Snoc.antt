@@ -1,12 +1,13 @@
 -- What one more element at the end does to the words on histories.
-use Rattle.std.proofs.Math.Bool.{or-false, or_assoc, and_assoc}
-use Rattle.std.proofs.Common.{◌≡◌, ℕ, max, Bool, true, false, not, ◌&&◌, ◌||◌, List, [], ◌∷◌, ◌++◌, refl, ap, sym, ◌∙◌, subst, arith, append_assoc, zero, suc, ◌+◌, add-one}
+use Rattle.std.proofs.Math.Bool.{or-false, or_assoc}
+use Rattle.std.proofs.Common.{◌≡◌, ℕ, max, Bool, true, false, not, ◌||◌, List, [], ◌∷◌, ◌++◌, refl, ap, sym, ◌∙◌, subst, arith, append_assoc, zero, suc, ◌+◌, add-one}
 use Rattle.std.specs.Prelude.{nat_lt, filter, if◌then◌else◌, Option, Some, None}
 use Rattle.std.specs.List.{list_any, list_all, AllByRecursion}
 use Rattle.srm_names.specs.declared.page_msg.PageMsg.{PageMsg}
 use Rattle.srm_names.specs.PageFeeds.{continues, is_page_feed}
 use Rattle.std.proofs.lemmas.List.{append-nil}
 use Rattle.std.proofs.lemmas.List.Elements.{filter-append}
+use Rattle.std.proofs.lemmas.List.Folds.{list_all-append}
 use Rattle.std.proofs.lemmas.Bool.Decides.{nat_tests}
 use Rattle.srm_names.specs.Histories.{Step, steps_after, steps, or_else, first_of, last_of, since, greatest, better_first, first_best, firsts, count_up}
 
@@ -101,10 +102,6 @@ pub along : {X : Type 0} (R : Step X → Type 0) (P : List X → Type 0)
     → (before xs : List X) → P before → AllByRecursion R (steps_after before xs) → P (before ++ xs)
 along R P step before [] p all = subst P (sym (append-nil before)) p
 along R P step before (x ∷ xs) p all = subst P (append_assoc before (x ∷ []) xs) (along R P step (before ++ x ∷ []) xs (step before x p all.0) all.1)
-
-pub list_all-append : {X : Type 0} (p : X → Bool) (xs ys : List X) → list_all p (xs ++ ys) ≡ list_all p xs && list_all p ys
-list_all-append p [] ys = refl
-list_all-append p (x ∷ xs) ys = ap (λ b. p x && b) (list_all-append p xs ys) ∙ sym (and_assoc (p x) (list_all p xs) (list_all p ys))
 
 -- a page feed goes on by a message that continues it
 pub is_page_feed-snoc : (before : List PageMsg) (m : PageMsg) → is_page_feed before ≡ true → continues before m ≡ true → is_page_feed (before ++ m ∷ []) ≡ true

@@ -4,7 +4,7 @@ use Rattle.std.specs.Prelude.{◌⊎◌, Option, Some, cond, filter, nat_lt, nat
 use Rattle.std.specs.List.{AllByRecursion}
 use Rattle.std.proofs.lemmas.Bool.{and_parts, and_from, false_from_ne_true, lt-ltb, ltb-true, le-leb, leb-true}
 use Rattle.std.proofs.lemmas.Bool.Decides.{nat_tests}
-use Rattle.std.proofs.lemmas.List.{append-nil, drop_more}
+use Rattle.std.proofs.lemmas.List.{append-nil}
 use Rattle.std.proofs.lemmas.List.Sums.{sum_by-cons}
 use Rattle.std.proofs.Math.Nat.{two-pow-succ, mod-eq_of_lt}
 use Rattle.std.proofs.Math.Pow.{pow_mono, pow-lt}
@@ -12,7 +12,7 @@ use Rattle.srm_names.specs.declared.limits.TheConstants.{MEMBERS, DRAWOPS}
 use Rattle.srm_names.specs.declared.stream.Stream.{Stream}
 use Rattle.srm_names.specs.FullName.{FullName}
 use Rattle.srm_names.specs.Names.{same_stream, stream_below, name_below, ascending}
-use Rattle.srm_names.proofs.Lists.{AllByRecursion-snoc}
+use Rattle.srm_names.proofs.Lists.{AllByRecursion-snoc, left_at}
 use Rattle.srm_names.proofs.Orders.{name_order}
 use Rattle.srm_names.proofs.Same.{same_stream-is, same_stream-itself}
 use Rattle.srm_names.proofs.Rising.{ascending_drop}
@@ -157,9 +157,6 @@ request_spelled me mask first member name short within =
     (member, short, (asked_answer first mask true name (sym (named_within first mask DRAWOPS limit short ∙ lt-ltb mask (2 ^ (DRAWOPS - first.number)) within))).0 refl)
 
 -- the names in order, from one on
-
-pub left_at : (i : ℕ) (n : FullName) (names : List FullName) → i < length names → n ≡ get_or names i n → drop i names ≡ n ∷ drop (i + 1) names
-left_at i n names lt at = drop_more names i n lt ∙ ap (λ m. m ∷ drop (i + 1) names) (sym at)
 
 pub rising_from : (i : ℕ) (n : FullName) (names : List FullName) → i < length names → n ≡ get_or names i n → ascending name_below names ≡ true → ascending name_below (n ∷ drop (i + 1) names) ≡ true
 rising_from i n names lt at asc = subst (λ ns. ascending name_below ns ≡ true) (left_at i n names lt at) (ascending_drop name_below i names asc)

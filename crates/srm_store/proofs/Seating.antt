@@ -1,5 +1,5 @@
 -- Slots for several pages.
-use Rattle.std.proofs.Common.{◌≡◌, ℕ, ◌+◌, ◌<◌, ◌≤◌, List, [], ◌∷◌, ◌++◌, Bool, true, false, not, length, get_or, set, take, drop, drop-cons, add-one, map, append_assoc, refl, sym, ap, ◌∙◌, arith}
+use Rattle.std.proofs.Common.{◌≡◌, ℕ, ◌+◌, ◌<◌, ◌≤◌, List, [], ◌∷◌, ◌++◌, Bool, true, false, not, length, get_or, set, take, drop, map, append_assoc, refl, sym, ap, ◌∙◌, arith}
 use Rattle.std.specs.Prelude.{if◌then◌else◌, ◌||◌, nat_lt}
 use Rattle.std.proofs.lemmas.Bool.{false≢true, lt-ltb, le-ltb, ltb-true, ltb-false}
 use Rattle.std.proofs.lemmas.List.{length-append, length-take-le, take_more_set, drop_all}
@@ -8,6 +8,7 @@ use Rattle.srm_names.specs.declared.page.Page.{Page}
 use Rattle.srm_names.specs.declared.drawop.Drawop.{Drawop}
 use Rattle.srm_names.specs.FullName.{FullName}
 use Rattle.srm_names.specs.Names.{same_page, same_name, among}
+use Rattle.srm_names.proofs.Lists.{left_at}
 use Rattle.srm_names.proofs.Same.{same_page-is, same_page-itself, same_name-is}
 use Rattle.srm_store.specs.Held.{pages_named, page_of_name, outgrow, lacks_room}
 use Rattle.srm_store.specs.Finals.{Settling}
@@ -142,14 +143,11 @@ page_among (m ∷ names) n h = go (same_name n m) refl h (page_among names n)
         or_true false = refl
 
 -- seating the names in turn
-next_left : (names : List FullName) (i : ℕ) (name : FullName) → name ≡ get_or names i name → i < length names → name ∷ drop (i + 1) names ≡ drop i names
-next_left names i name at lt = ap (λ n. n ∷ drop (i + 1) names) at ∙ ap (λ k. get_or names i name ∷ drop k names) (add-one i) ∙ sym (drop-cons names i name lt)
-
 pub one_seated : (pages : List Page) (names : List FullName) (i : ℕ) (name : FullName) (page : Page) → page ≡ name.stream.page → name ≡ get_or names i name → i < length names
     → with_pages (with_page pages page) (map page_of_name (drop (i + 1) names)) ≡ with_pages pages (map page_of_name (drop i names))
 one_seated pages names i name page e at lt =
     ap (λ q. with_pages (with_page pages q) (map page_of_name (drop (i + 1) names))) e
-    ∙ ap (λ ns. with_pages pages (map page_of_name ns)) (next_left names i name at lt)
+    ∙ ap (λ ns. with_pages pages (map page_of_name ns)) (sym (left_at i name names lt at))
 
 with_pages-few : (pages : List Page) (names : List FullName) → table_lacks_room_for pages names ≡ false → length (with_pages_of pages names) ≤ PAGES
 with_pages-few pages names room = ltb-false PAGES (length (with_pages_of pages names)) room

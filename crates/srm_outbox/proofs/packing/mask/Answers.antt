@@ -1,6 +1,7 @@
 use Rattle.std.proofs.Common.{◌≡◌, ◌+◌, ◌-◌, ◌^◌, ◌<◌, drop, sym, subst, ◌∙◌, refl, true, arith}
 use Rattle.srm_entries.specs.Packing.{is_covered}
-use Rattle.srm_outbox.proofs.Requesting.{MaskSoFar, mask_goes_on, mask_stops, mask_within, mask_short, left_at, one_shifted}
+use Rattle.srm_names.proofs.Lists.{left_at}
+use Rattle.srm_outbox.proofs.Requesting.{MaskSoFar, mask_goes_on, mask_stops, mask_within, mask_short, one_shifted}
 use Rattle.srm_outbox.proofs.packing.mask.Goals as goal
 
 pub returns-then-not-is_covered-clause-value : goal.returns-then-not-is_covered-clause-value

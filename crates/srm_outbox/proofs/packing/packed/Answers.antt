@@ -3,7 +3,8 @@ use Rattle.std.specs.Result.{is_ok}
 use Rattle.std.proofs.lemmas.List.{take_rest, drop_all}
 use Rattle.srm_codec.specs.declared.datagram.Datagram.TheVariants.{Request}
 use Rattle.srm_entries.specs.Packing.{mask_of}
-use Rattle.srm_outbox.proofs.Requesting.{PackedSoFar, packs_covered, packs_more, packs_all, rising_from, left_at}
+use Rattle.srm_names.proofs.Lists.{left_at}
+use Rattle.srm_outbox.proofs.Requesting.{PackedSoFar, packs_covered, packs_more, packs_all, rising_from}
 use Rattle.srm_outbox.proofs.packing.packed.Goals as goal
 use Rattle.srm_outbox.proofs.packing.packed.Goals.{then-not-is_covered_by+in_ok-push_back, else-not-is_covered_by}
 

@@ -1,6 +1,7 @@
 use Rattle.std.proofs.Common.{refl}
 use Rattle.srm_agent_state.specs.TimerCalls.{IsDrawopOf}
-use Rattle.srm_agent.proofs.Taken.{drawop_enters, carrying_brings, carrying_is, stays, at_err}
+use Rattle.srm_names.proofs.Results.{at_err}
+use Rattle.srm_agent.proofs.Taken.{drawop_enters, carrying_brings, carrying_is, stays}
 use Rattle.srm_store.proofs.Fitting.{still_fits}
 use Rattle.srm_agent.specs.Contents.{content_of}
 use Rattle.srm_agent.specs.Heeding.{carrying}

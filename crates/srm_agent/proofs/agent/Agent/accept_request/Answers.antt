@@ -1,6 +1,7 @@
 use Rattle.std.proofs.Common.{refl}
 use Rattle.srm_agent.proofs.Requested.{fresh_in, request_enters}
-use Rattle.srm_agent.proofs.Taken.{stays, at_err}
+use Rattle.srm_names.proofs.Results.{at_err}
+use Rattle.srm_agent.proofs.Taken.{stays}
 use Rattle.srm_store.proofs.Fitting.{still_fits}
 use Rattle.srm_agent.specs.Contents.{content_of}
 use Rattle.srm_agent.proofs.Answered.{taken_entry}

@@ -1,7 +1,8 @@
 use Rattle.std.proofs.Common.{refl}
 use Rattle.srm_agent_state.proofs.Midway.{waits_before}
 use Rattle.srm_agent.proofs.Informed.{hears_roomy, session_enters, rows_rise}
-use Rattle.srm_agent.proofs.Taken.{stays, at_err}
+use Rattle.srm_names.proofs.Results.{at_err}
+use Rattle.srm_agent.proofs.Taken.{stays}
 use Rattle.srm_store.proofs.Fitting.{still_fits}
 use Rattle.srm_agent.specs.Contents.{content_of}
 use Rattle.srm_agent.proofs.Answered.{taken_entry}

@@ -3,7 +3,7 @@ use Rattle.srm_entries.specs.declared.state.AgentState.{AgentState}
 use Rattle.srm_agent.specs.Contents.{Content}
 use Rattle.srm_agent.specs.Ticking.{TicksAs}
 use Rattle.srm_agent.proofs.Acting.{Acts, tick_stays, acts_ticks, acts_outs, room_to_send, own_to_send}
-use Rattle.srm_agent.proofs.Taken.{at_err}
+use Rattle.srm_names.proofs.Results.{at_err}
 use Rattle.srm_agent.proofs.agent.Agent.act.Goals as goal
 
 pub returns-in_err-arms-clause-err : goal.returns-in_err-arms-clause-err

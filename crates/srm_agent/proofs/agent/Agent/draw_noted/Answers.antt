@@ -3,7 +3,7 @@ use Rattle.srm_entries.specs.Verdicts.{first_cause}
 use Rattle.srm_names.specs.declared.drawop.Drawop.{Drawop}
 use Rattle.srm_codec.specs.Spelling.{is_drawop}
 use Rattle.srm_agent.specs.Drawing.{verdict_of_refusal, refusals, drawn_entry, IsDraftOf}
-use Rattle.srm_agent.proofs.Taken.{at_err}
+use Rattle.srm_names.proofs.Results.{at_err}
 use Rattle.srm_agent.proofs.Drawn.{draw_refused, draw_full, draw_unslotted, roomy_stays, own_draft, draw_done, draw_allowed}
 use Rattle.srm_agent.proofs.agent.Agent.draw_noted.Goals as goal
 

@@ -1,5 +1,5 @@
 use Rattle.std.proofs.Common.{refl}
-use Rattle.srm_agent.proofs.Taken.{at_err}
+use Rattle.srm_names.proofs.Results.{at_err}
 use Rattle.srm_world.proofs.Going.{gives_on, stays_with, agent_stays}
 use Rattle.srm_world.proofs.participant.Participant.give.Goals as goal
 

@@ -1,6 +1,6 @@
 use Rattle.std.proofs.Common.{refl, ap, ◌∙◌}
 use Rattle.std.proofs.lemmas.List.{with_items_is}
-use Rattle.srm_agent.proofs.Taken.{at_err}
+use Rattle.srm_names.proofs.Results.{at_err}
 use Rattle.srm_world.specs.Sent.{all_of}
 use Rattle.srm_world.specs.Worlds.{AreWorld, words_of}
 use Rattle.srm_world.proofs.Stepping.{world_is, world_same, appended_world, appended_follows, appended_asked, appended_starts, appended_words}

@@ -1,5 +1,5 @@
 use Rattle.std.proofs.Common.{ℕ, ◌<◌, length, sym, subst, take}
-use Rattle.srm_agent.proofs.Taken.{at_err}
+use Rattle.srm_names.proofs.Results.{at_err}
 use Rattle.srm_world.specs.Events.{Follows}
 use Rattle.srm_world.proofs.Stepping.{runs_on, stepped}
 use Rattle.srm_world.proofs.world.World.run.Goals as goal

@@ -1,5 +1,5 @@
 use Rattle.std.proofs.Common.{ap, ◌∙◌, ◌∷◌, ◌++◌, []}
-use Rattle.srm_agent.proofs.Taken.{at_err}
+use Rattle.srm_names.proofs.Results.{at_err}
 use Rattle.srm_world.specs.Sent.{all_of}
 use Rattle.srm_world.specs.Worlds.{after_entry}
 use Rattle.srm_world.proofs.Stepping.{keeps_all}

@@ -1,6 +1,6 @@
 use Rattle.std.proofs.Common.{refl, ap, ◌∙◌, Some, None, sym, subst, get_or}
 use Rattle.srm_entries.specs.declared.entry.Input.TheVariants.{Drew, Showed, AskedLeave, Gave, Took}
-use Rattle.srm_agent.proofs.Taken.{at_err}
+use Rattle.srm_names.proofs.Results.{at_err}
 use Rattle.srm_world.specs.Events.{moment_in, input_of}
 use Rattle.srm_world.specs.Sent.{all_of}
 use Rattle.srm_world.specs.Participants.{HearsBytes}
