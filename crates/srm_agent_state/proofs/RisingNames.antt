@@ -1,4 +1,4 @@
--- Names in order: fronts and joins of lists that rise, and how many they are.
+-- Names in order: prefixes and joins of lists that rise, and how many they are.
 use Rattle.std.proofs.Common.{◌≡◌, ◌≤◌, Bool, true, false, ◌||◌, List, [], ◌∷◌, ◌++◌, length, refl, sym, ◌∙◌, subst, arith}
 use Rattle.std.specs.List.{AllByRecursion}
 use Rattle.srm_names.specs.FullName.{FullName}

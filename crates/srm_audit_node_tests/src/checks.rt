@@ -2,7 +2,7 @@
 
 use crate::served::Kept;
 use srm_audit::{Got, Mismatch, reconcile};
-use srm_rig::counts_of_fronts;
+use srm_rig::counts_of_prefixes;
 use srm_rig_members::sizes;
 use std::alloc::Global;
 use std::process::Abort;
@@ -35,10 +35,10 @@ pub(crate) fn check_refused(rt: &impl Abort, alloc: Global, kept: Kept, mismatch
     assert_eq!(rt; reconcile(alloc, journals, lists).err(), Some(mismatch));
 }
 
-/// What was taken of each source is a front of what it drew, and on the first page has so many drawops of each of these at least.
-pub(crate) fn check_fronts(rt: &impl Abort, lists: &[Got], members: usize, least: u32) {
+/// What was taken of each source is a prefix of what it drew, and on the first page has so many drawops of each of these at least.
+pub(crate) fn check_prefixes(rt: &impl Abort, lists: &[Got], members: usize, least: u32) {
     for got in lists {
-        let counts = counts_of_fronts(got.list.as_slice()).expect(rt, "fronts");
+        let counts = counts_of_prefixes(got.list.as_slice()).expect(rt, "prefixes");
         if got.slot == 0 {
             assert!(rt; counts.iter().take(members).all(|count| *count >= least));
         }

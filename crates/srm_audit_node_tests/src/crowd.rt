@@ -1,6 +1,6 @@
 //! Thirty-two nodes over a network in memory, of whose copies three in ten are lost and three in ten come twice.
 
-use crate::checks::{check_fronts, check_reconciles};
+use crate::checks::{check_prefixes, check_reconciles};
 use crate::member::{config, make_station};
 use crate::served::{Kept, keep};
 use srm_names::MEMBERS;
@@ -118,7 +118,7 @@ fn crowd<R: Wait + Abort + Copy + Drop>(rt: R, alloc: Global, seed: u64) -> Kept
 // Each member takes at least its page and its own four drawops.
 fn check_crowd<R: Wait + Abort + Copy + Drop>(rt: R, alloc: Global, seed: u64) {
     let kept = crowd(rt, alloc, seed);
-    check_fronts(&rt, kept.lists.as_slice(), 0, 0);
+    check_prefixes(&rt, kept.lists.as_slice(), 0, 0);
     check_reconciles(&rt, alloc, kept, 32, 160);
 }
 

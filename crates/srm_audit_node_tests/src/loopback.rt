@@ -1,6 +1,6 @@
 //! Three nodes in threads, over loopback. All sockets are bound before any of them runs.
 
-use crate::checks::{check_fronts, check_reconciles};
+use crate::checks::{check_prefixes, check_reconciles};
 use crate::served::{Kept, host_member, keep_hosted};
 use mio::net::UdpSocket;
 use srm_node::Hosted;
@@ -92,7 +92,7 @@ fn three_members<R: Clock + Threads + Wait + Abort + Copy + Send + Drop + 'stati
 fn three_nodes_over_loopback_reconcile(rt: HostRuntime) -> Result<(), Fail> {
     let wires = three_wires(&rt, rt.alloc())?;
     let kept = three_members(&rt, rt.alloc(), wires);
-    check_fronts(&rt, kept.lists.as_slice(), 3, 1);
+    check_prefixes(&rt, kept.lists.as_slice(), 3, 1);
     check_reconciles(&rt, rt.alloc(), kept, 3, 45);
     Ok(())
 }

@@ -1,6 +1,6 @@
 //! Three nodes in threads, over a network in memory that drops and doubles.
 
-use crate::checks::{check_fronts, check_reconciles};
+use crate::checks::{check_prefixes, check_reconciles};
 use crate::served::{Kept, host_member, keep_hosted};
 use srm_node::{Hosted, MemWire, hub};
 use srm_rig_nodes::{StepClock, lossy_fates};
@@ -47,6 +47,6 @@ fn three_members<R: Threads + Wait + Abort + Copy + Send + Drop + 'static>(
 #[test]
 fn three_nodes_whose_datagrams_are_dropped_and_doubled_reconcile(rt: HostRuntime) {
     let kept = three_members(rt, rt.alloc());
-    check_fronts(&rt, kept.lists.as_slice(), 0, 0);
+    check_prefixes(&rt, kept.lists.as_slice(), 0, 0);
     check_reconciles(&rt, rt.alloc(), kept, 3, 39);
 }

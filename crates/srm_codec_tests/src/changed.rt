@@ -222,7 +222,7 @@ fn check_fields(
     Ok(())
 }
 
-/// Each front of it is short.
+/// Each prefix of it is short.
 fn check_cuts(alloc: Global, rt: &impl Abort, bytes: &[u8]) {
     for end in 0..bytes.len() {
         let front = bytes.get(..end).unwrap_or(&[]);

@@ -1,4 +1,4 @@
--- What is given in a slot is a page feed, and its part by source a front of what is released; what was taken is a front of it.
+-- What is given in a slot is a page feed, and its part by source a prefix of what is released; what was taken is a prefix of it.
 use Rattle.std.proofs.Common.{◌≡◌, ℕ, ◌==◌, ◌+◌, ◌≤◌, Bool, true, false, not, ◌||◌, List, [], ◌∷◌, ◌++◌, length, refl, ap, sym, ◌∙◌, subst, inl, inr, arith}
 use Rattle.std.specs.Prelude.{◌⊎◌, map, Option, Some, None, is_some, if◌then◌else◌, slice_get}
 use Rattle.std.specs.List.{flat_map, cons_option, list_any, AllByRecursion}
@@ -288,7 +288,7 @@ feeds_start c = record {
 pub feeds_right : (c : Config) (made : ℕ) (es : List Entry) → AllByRecursion (EntryRight c made) (steps es) → FeedsRight c es
 feeds_right c made es all = along (EntryRight c made) (FeedsRight c) (λ before e p right. feeds_step c made before e p right) [] es (feeds_start c) all
 
--- in a slot of this page the part of a source is a front of what is released of it
+-- in a slot of this page the part of a source is a prefix of what is released of it
 pub slot_part : (es : List Entry) (page : Page) (g : List PageMsg) (source : ℕ) → FedRight es (Some page) g → IsPrefix (drawops_of source g) (released es (stream_on source page))
 slot_part es page g source right = which (opened g) refl
   where

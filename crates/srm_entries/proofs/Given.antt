@@ -1,5 +1,5 @@
--- Of one member alone, whatever it heard: what it gives in a slot is a page feed, whose part by source is a front of
--- what is released; what was taken is a front of that.
+-- Of one member alone, whatever it heard: what it gives in a slot is a page feed, whose part by source is a prefix of
+-- what is released; what was taken is a prefix of that.
 use Rattle.std.proofs.Common.{◌≡◌, ℕ, true, List, subst}
 use Rattle.std.specs.Prelude.{Some, slice_get}
 use Rattle.srm_names.specs.declared.page.Page.{Page}

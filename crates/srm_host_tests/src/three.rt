@@ -7,7 +7,7 @@ use crate::hosted::host_station;
 use crate::sinks::plain_sinks;
 use crate::station::{SteppedStation, ink_all, make_station, wires};
 use srm_node::{Hosted, MemWire};
-use srm_rig::counts_of_fronts;
+use srm_rig::counts_of_prefixes;
 use srm_rig_nodes::lossy_fates;
 use std::alloc::Global;
 use std::process::Abort;
@@ -41,12 +41,12 @@ fn host_member<R: Threads + Wait + Abort + Copy + Send + Drop + 'static>(
     host_station(rt, alloc, station, sinks, 100_000)
 }
 
-/// It ended well, and the drawops of each source are a front of what it drew.
+/// It ended well, and the drawops of each source are a prefix of what it drew.
 fn assert_served(rt: &impl Abort, hosted: &Hosted) {
     assert_eq!(rt; hosted.end, Ok(()));
     assert_eq!(rt; hosted.worked.len(), 8);
     for worked in &hosted.worked {
-        assert!(rt; counts_of_fronts(worked.list.as_slice()).is_some());
+        assert!(rt; counts_of_prefixes(worked.list.as_slice()).is_some());
     }
 }
 

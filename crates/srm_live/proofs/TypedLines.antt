@@ -15,7 +15,7 @@ use Rattle.srm_live.specs.Typing.{short_lines, strokes_in, LineView, with_byte, 
 
 -- THE LINES OF A FRONT AND WHAT IS BEHIND IT
 
--- these lines, with a front before the first
+-- these lines, with a prefix before the first
 abbrev before_lines : List ℕ → List (List ℕ) → List (List ℕ)
 before_lines front [] = front ∷ []
 before_lines front (l ∷ ls) = (front ++ l) ∷ ls
@@ -28,7 +28,7 @@ one_before : (c : ℕ) (ls : List (List ℕ)) → before_first c ls ≡ before_l
 one_before c [] = refl
 one_before c (l ∷ ls) = refl
 
--- a front that has no line end stands before the first line behind it
+-- a prefix that has no line end stands before the first line behind it
 lines_behind : (c : ℕ) (cs more : List ℕ) → HasNoEnd (c ∷ cs) → lines_of ((c ∷ cs) ++ more) ≡ before_lines (c ∷ cs) (lines_of more)
 lines_behind c [] more h = other c (lines_of more) h.0 ∙ one_before c (lines_of more)
 lines_behind c (d ∷ ds) more h = other c (lines_of ((d ∷ ds) ++ more)) h.0 ∙ ap (before_first c) (lines_behind d ds more h.1) ∙ before_first_lines c d ds (lines_of more)
@@ -48,7 +48,7 @@ behind_before c (l ∷ ls) = refl
 long_line : (l : List ℕ) (ls : List (List ℕ)) → nat_lt LONGEST_BODY (length l) ≡ true → short_lines (l ∷ ls) ≡ short_lines ls
 long_line l ls long = rw long refl
 
--- a front that is too long is drawn with nothing behind it
+-- a prefix that is too long is drawn with nothing behind it
 long_front : (front : List ℕ) (ls : List (List ℕ)) → nat_lt LONGEST_BODY (length front) ≡ true → short_lines (before_lines front ls) ≡ short_lines (behind_first ls)
 long_front front [] long = long_line front [] long
 long_front front (l ∷ ls) long = long_line (front ++ l) ls (lt-ltb LONGEST_BODY (length (front ++ l)) (omega (arith, ltb-true LONGEST_BODY (length front) long, length-append front l)))

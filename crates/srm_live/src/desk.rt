@@ -1,6 +1,7 @@
 //! What the threads of a live member share: where it prints, and what befell it.
 
 ghost use Rattle.std.specs.Prelude.{◌≡◌, ◌≤◌};
+ghost use Rattle.srm_script.specs.declared.status.TheConstants.{RAN_OUT};
 ghost use Rattle.srm_member.specs.Statuses.{status_of_member};
 
 use crate::error_stream::ErrorStream;
@@ -103,7 +104,7 @@ impl<O: Write, E: Write> Desk<O, E> {
     /// Prints a fault, and answers its status.
     pub fn print_fault<R: Wait>(&self, rt: &R, fault: &MemberFault) -> u8
         ensures status { result ≡ status_of_member fault.now }
-        ensures greatest { result ≤ 4 }
+        ensures greatest { result ≤ RAN_OUT }
     {
         let mut err = self.err.lock(rt);
         err.print(fault)

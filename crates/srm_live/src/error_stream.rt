@@ -1,6 +1,7 @@
 //! Standard error of a live member: what is told, and on a terminal the line of its activity, which is written over in place.
 
 ghost use Rattle.std.specs.Prelude.{◌≡◌, ◌≤◌};
+ghost use Rattle.srm_script.specs.declared.status.TheConstants.{RAN_OUT};
 ghost use Rattle.srm_member.specs.Statuses.{status_of_member};
 
 use srm_member::MemberFault;
@@ -44,7 +45,7 @@ impl<E: Write> ErrorStream<E> {
     /// Prints a fault on a line of its own, and answers its status.
     pub fn print(&mut self, fault: &MemberFault) -> u8
         ensures status { result ≡ status_of_member fault.now }
-        ensures greatest { result ≤ 4 }
+        ensures greatest { result ≤ RAN_OUT }
     {
         self.wipe();
         fault.print(&mut self.stream)

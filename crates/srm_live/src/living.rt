@@ -2,6 +2,7 @@
 
 ghost use Rattle.std.specs.Prelude.{◌≡◌, ◌≤◌, vec_len, IfOk};
 ghost use Rattle.srm_names.specs.declared.limits.TheConstants.{PAGES};
+ghost use Rattle.srm_script.specs.declared.status.TheConstants.{RAN_OUT};
 ghost use Rattle.srm_member.specs.Statuses.{IsExitStatus};
 
 use crate::counted_wire::CountedWire;
@@ -40,7 +41,7 @@ where
     O: Write + Send + Drop + 'static,
     E: Write + IsTerminal + Send + Drop + 'static,
     ensures ends { IsExitStatus result }
-    ensures greatest { result ≤ 4 }
+    ensures greatest { result ≤ RAN_OUT }
 {
     let alloc = rt.alloc();
     match Arc::new(alloc, Desk::new(options.config.me(), out, err)) {
@@ -63,7 +64,7 @@ where
     O: Write + Send + Drop + 'static,
     E: Write + Send + Drop + 'static,
     ensures ends { IsExitStatus result }
-    ensures greatest { result ≤ 4 }
+    ensures greatest { result ≤ RAN_OUT }
 {
     let run = match printing_sinks(rt, alloc, desk) {
         Ok(sinks) => run_printing(rt, alloc, options, reader, sinks, desk),
@@ -78,7 +79,7 @@ where
 // Tells why the member isn't run, or not to its end.
 fn print<R: Wait, O: Write, E: Write>(rt: &R, desk: &Desk<O, E>, fault: &MemberFault) -> u8
     ensures ends { IsExitStatus result }
-    ensures greatest { result ≤ 4 }
+    ensures greatest { result ≤ RAN_OUT }
 {
     desk.print_fault(rt, fault)
 }

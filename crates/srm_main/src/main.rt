@@ -2,10 +2,10 @@
 #![tactic(auto)]
 
 use srm_live::{PolledInput, run_live};
-use srm_member::{WRONG_USAGE, print_reply, run_node};
+use srm_member::{print_reply, run_node};
 use srm_options::{read_node, read_picture, read_world};
 use srm_played::run_picture;
-use srm_script::{ScriptFault, run_script};
+use srm_script::{ScriptFault, WRONG_USAGE, run_script};
 use std::alloc::{AllocError, Global};
 use std::io::{ErrorKind, Write, writer};
 use std::os::fd::RawFd;

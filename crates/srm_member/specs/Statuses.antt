@@ -4,6 +4,7 @@ use Rattle.std.specs.declared.io.ErrorKind.{ErrorKind}
 use Rattle.std.specs.declared.io.ErrorKind.TheVariants as kind
 use Rattle.srm_script.specs.declared.fault.ScriptFault.{ScriptFault}
 use Rattle.srm_script.specs.declared.fault.ScriptFault.TheVariants.{Memory as OutOfMemory}
+use Rattle.srm_script.specs.declared.status.TheConstants.{FAILED, WRONG_USAGE, WIRE_FAILED, RAN_OUT}
 use Rattle.srm_script.specs.Statuses.{status_of}
 use Rattle.srm_node.specs.declared.fault.NodeFault.{NodeFault}
 use Rattle.srm_node.specs.declared.fault.NodeFault.TheVariants.{Wire, Memory, Turns}
@@ -46,15 +47,15 @@ fault_of_binding _ = fault.Wire
 -- the status that the program ends with
 abbrev pub status_of_member : MemberFault → ℕ
 status_of_member (fault.Script f) = status_of f
-status_of_member fault.Wire = 3
-status_of_member fault.Turns = 4
+status_of_member fault.Wire = WIRE_FAILED
+status_of_member fault.Turns = RAN_OUT
 
 -- a whole run has status 0, and any other that of its fault
 abbrev pub IsExitStatus : ℕ → Type 0
 IsExitStatus status = (status ≡ 0) ⊎ ((f : MemberFault) × (status ≡ status_of_member f))
 
--- What was asked for is shown, unless the output fails; a wrong line is status 2, want of memory 4.
+-- What was asked for is shown, unless the output fails; a wrong line and want of memory have statuses of their own.
 abbrev pub StatusOf : Reply → ℕ → Type 0
-StatusOf (reply.Help text) status = (status ≡ 0) ⊎ (status ≡ 1) ⊎ (status ≡ 4)
-StatusOf (reply.Wrong text) status = status ≡ 2
-StatusOf reply.Memory status = status ≡ 4
+StatusOf (reply.Help text) status = (status ≡ 0) ⊎ (status ≡ FAILED) ⊎ (status ≡ RAN_OUT)
+StatusOf (reply.Wrong text) status = status ≡ WRONG_USAGE
+StatusOf reply.Memory status = status ≡ RAN_OUT

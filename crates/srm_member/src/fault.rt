@@ -4,12 +4,13 @@ ghost use Rattle.std.specs.Prelude.{◌≡◌, ◌≤◌};
 ghost use Rattle.std.specs.List.{list_any};
 ghost use Rattle.std.specs.IoError.{error_kind};
 ghost use Rattle.srm_script.specs.declared.fault.ScriptFault.TheVariants.{Memory};
+ghost use Rattle.srm_script.specs.declared.status.TheConstants.{RAN_OUT};
 ghost use Rattle.srm_member.specs.declared.fault.MemberFault.TheVariants.{Script};
 ghost use Rattle.srm_member.specs.Statuses.{fault_of, fault_of_live, fault_of_binding, lacks_memory, status_of_member};
 
 use srm_names::PageMsg;
 use srm_node::{NodeFault, WorkEnd, Worked};
-use srm_script::{ScriptFault, print_fault};
+use srm_script::{RAN_OUT, ScriptFault, WIRE_FAILED, print_fault};
 use srm_world::Past;
 use std::alloc::AllocError;
 use std::io;
@@ -68,12 +69,12 @@ impl MemberFault {
     /// Prints the fault on standard error, and answers the status that the program ends with.
     pub fn print<E: Write>(&self, err: &mut E) -> u8
         ensures status { result ≡ status_of_member self.now }
-        ensures greatest { result ≤ 4 }
+        ensures greatest { result ≤ RAN_OUT }
     {
         match self {
             MemberFault::Script(fault) => fault.print(err),
-            MemberFault::Wire => print_fault(self, err, 3),
-            MemberFault::Turns => print_fault(self, err, 4),
+            MemberFault::Wire => print_fault(self, err, WIRE_FAILED),
+            MemberFault::Turns => print_fault(self, err, RAN_OUT),
         }
     }
 

@@ -27,6 +27,6 @@ mod station;
 pub use dealing::deal;
 pub use fault::MemberFault;
 pub use pens::send_stroke;
-pub use replying::{WRONG_USAGE, print_reply};
+pub use replying::print_reply;
 pub use running::run_node;
 pub use station::{Station, host_if};

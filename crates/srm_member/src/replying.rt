@@ -3,11 +3,8 @@
 ghost use Rattle.srm_member.specs.Statuses.{StatusOf};
 
 use srm_options::Reply;
-use srm_script::ScriptFault;
+use srm_script::{ScriptFault, WRONG_USAGE};
 use std::io::Write;
-
-/// The status of a wrong command line.
-pub const WRONG_USAGE: u8 = 2;
 
 /// Prints what a command line gets in place of being done: what it asks for to `out`, what is wrong in it to `err`. Answers the program's
 /// status.

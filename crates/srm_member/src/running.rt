@@ -1,6 +1,7 @@
 //! A member from its options to its end.
 
 ghost use Rattle.std.specs.Prelude.{◌≤◌};
+ghost use Rattle.srm_script.specs.declared.status.TheConstants.{RAN_OUT};
 ghost use Rattle.srm_member.specs.Statuses.{IsExitStatus};
 
 use crate::dealing::deal;
@@ -32,7 +33,7 @@ pub fn run_node<R, I: Read, O: Write, E: Write>(
 where
     R: Net + time::Clock + Threads + Wait + AllocGlobal + Copy + Send + Drop + 'static,
     ensures ends { IsExitStatus result }
-    ensures greatest { result ≤ 4 }
+    ensures greatest { result ≤ RAN_OUT }
 {
     let alloc = rt.alloc();
     match run(rt, alloc, options, reader, out) {

@@ -24,7 +24,7 @@ feed_parts xs ys fed = and_parts _ _ (sym (list_all-append goes_on (steps xs) (s
 pub last_continues : (l : List PageMsg) (x : PageMsg) → is_page_feed (l ++ x ∷ []) ≡ true → continues l x ≡ true
 last_continues l x fed = (and_parts (continues l x) true (feed_parts l (x ∷ []) fed).1).0
 
--- a front of a page feed is one
+-- a prefix of a page feed is one
 pub is_page_feed-front : (xs ys : List PageMsg) → IsPrefix xs ys → is_page_feed ys ≡ true → is_page_feed xs ≡ true
 is_page_feed-front xs ys (rest, e) fed = (feed_parts xs rest (ap is_page_feed e ∙ fed)).0
 

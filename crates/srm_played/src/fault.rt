@@ -6,7 +6,7 @@ ghost use Rattle.srm_played.specs.declared.fault.PictureFault.TheVariants.{Scrip
 ghost use Rattle.srm_played.specs.Statuses.{status_of};
 
 use crate::limits::MOST_EVENTS;
-use srm_script::{ScriptFault, print_fault};
+use srm_script::{FAILED, ScriptFault, print_fault};
 use std::alloc::AllocError;
 use std::io::Write;
 use thiserror::Error;
@@ -29,7 +29,7 @@ impl PictureFault {
     {
         match self {
             PictureFault::Script(fault) => fault.print(err),
-            PictureFault::TooManyEvents => print_fault(self, err, 1),
+            PictureFault::TooManyEvents => print_fault(self, err, FAILED),
         }
     }
 }

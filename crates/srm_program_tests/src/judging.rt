@@ -38,7 +38,7 @@ fn has_left(list: &[PageMsg], source: u8) -> bool {
     list.iter().any(|message| matches!(message, PageMsg::Left(member) if member.number() == source))
 }
 
-/// What a member took of a source is a front of what the source drew, has its first drawop, and is the whole where its leaving was taken.
+/// What a member took of a source is a prefix of what the source drew, has its first drawop, and is the whole where its leaving was taken.
 fn assert_front<R: Abort + AllocGlobal>(
     rt: &R,
     viewer: &Hosted,

@@ -23,7 +23,7 @@ where
     Ok(())
 }
 
-// At once, behind a front of a line, and where the line would be too long.
+// At once, behind a prefix of a line, and where the line would be too long.
 #[test]
 fn an_input_that_fails_comes_before_binding(rt: HostRuntime) -> Result<(), Fail> {
     for left in [0, 5, 2_000] {

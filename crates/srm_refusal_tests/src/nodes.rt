@@ -120,7 +120,7 @@ fn check_second_unless(rt: &impl Abort, refused: bool, did: Did) {
     }
 }
 
-/// What stands right after a refused turn: what was drawn is a front of the strokes, and the taps take what the journal gave, and no more.
+/// What stands right after a refused turn: what was drawn is a prefix of the strokes, and the taps take what the journal gave, and no more.
 #[test]
 fn a_refused_turn_leaves_what_stood(rt: HostRuntime) {
     let Pair {

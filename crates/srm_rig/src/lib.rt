@@ -7,15 +7,15 @@
 mod bodies;
 pub mod datagrams;
 mod failing;
-mod fronts;
 mod names;
+mod prefixes;
 mod ran;
 pub mod scripts;
 mod seen;
 
 pub use bodies::{body, repeated};
 pub use failing::{Failing, broken, wanting};
-pub use fronts::counts_of_fronts;
 pub use names::{name, page};
+pub use prefixes::counts_of_prefixes;
 pub use ran::Ran;
 pub use seen::{Seen, look_at};

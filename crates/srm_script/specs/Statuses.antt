@@ -2,7 +2,8 @@
 use Rattle.std.specs.Prelude.{ℕ}
 use Rattle.srm_script.specs.declared.fault.ScriptFault.{ScriptFault}
 use Rattle.srm_script.specs.declared.fault.ScriptFault.TheVariants.{Memory}
+use Rattle.srm_script.specs.declared.status.TheConstants.{FAILED, RAN_OUT}
 
 abbrev pub status_of : ScriptFault → ℕ
-status_of Memory = 4
-status_of _ = 1
+status_of Memory = RAN_OUT
+status_of _ = FAILED

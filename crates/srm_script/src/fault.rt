@@ -4,6 +4,7 @@ ghost use Rattle.std.specs.Prelude.{◌≡◌};
 ghost use Rattle.srm_script.specs.declared.fault.ScriptFault.TheVariants.{Memory};
 ghost use Rattle.srm_script.specs.Statuses.{status_of};
 
+use crate::status::{FAILED, RAN_OUT};
 use srm_world::WorldFault;
 use std::alloc::AllocError;
 use std::io::Write;
@@ -45,8 +46,8 @@ impl ScriptFault {
             ScriptFault::StandardInput
             | ScriptFault::TooLong
             | ScriptFault::BadLine(_)
-            | ScriptFault::Output => 1,
-            ScriptFault::Memory => 4,
+            | ScriptFault::Output => FAILED,
+            ScriptFault::Memory => RAN_OUT,
         }
     }
 

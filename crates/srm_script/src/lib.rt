@@ -16,9 +16,11 @@ mod input;
 mod play;
 mod printer;
 mod script;
+mod status;
 
 pub use fault::{ScriptFault, print_fault};
 pub use input::read_input;
 pub use play::{print_newest, run_event, run_script};
 pub use printer::{EntryPrinter, PrintedGone, PrintedTake};
 pub use script::{Script, read_script};
+pub use status::{FAILED, RAN_OUT, WIRE_FAILED, WRONG_USAGE};

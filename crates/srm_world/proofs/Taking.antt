@@ -37,7 +37,7 @@ drawn_place starts es run source page k d name h = which (run_or_none starts es 
         (drawn_at r.config r.made (of_member source es) d k r.run.each own (ap (λ (n : FullName). n.number) name ∙ omega arith))
     which (inr none) = absurd (subst (λ w. Has d (drawn w)) none own)
 
--- what is released of a source is a front of what it drew
+-- what is released of a source is a prefix of what it drew
 pub released_was_drawn : (starts : List Start) (es : List Entry) → IsRunOf starts es → IsHonest es → (m source : ℕ) (page : Page) → IsPrefix (released (of_member m es) (stream_on source page)) (drawn_by es source page)
 released_was_drawn starts es run honest m source page =
     until_none-front (λ k. held_at (of_member m es) (named (stream_on source page) k)) 1 (greatest_in (map (λ (d : Drawop). d.name) (held (of_member m es))) (stream_on source page)) (drawn_by es source page) (λ k d h. at k d h)

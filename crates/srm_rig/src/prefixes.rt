@@ -17,8 +17,8 @@ fn is_next(counts: &mut [u32; 32], drawop: &Drawop) -> bool {
     drawop.name.number() == *count && is_body(&drawop.body, *count)
 }
 
-/// How many drawops of each source a list has, where those of each are a front of what it drew.
-pub fn counts_of_fronts(list: &[PageMsg]) -> Option<[u32; 32]> {
+/// How many drawops of each source a list has, where those of each are a prefix of what it drew.
+pub fn counts_of_prefixes(list: &[PageMsg]) -> Option<[u32; 32]> {
     let mut counts = [0; 32];
     for message in list {
         if let PageMsg::Draw(drawop) = message
