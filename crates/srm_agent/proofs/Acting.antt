@@ -35,7 +35,7 @@ use Rattle.srm_agent_state.specs.TimerCalls.{TicksWith, TimersAdd, TimersStay}
 use Rattle.srm_outbox.specs.DueItems.{AreDueItems}
 use Rattle.srm_outbox.specs.Outbox.{WentContent}
 use Rattle.srm_agent.specs.Noting.{Stays}
-use Rattle.srm_agent.specs.Ticking.{TicksAs, tick_entry, IsSessionMessageAt, IsReportIf, IsDue, HandsOut, SendsAll, data_waits, session_message_at_end, state_after, due_then}
+use Rattle.srm_agent.specs.Ticking.{TicksAs, tick_entry, IsSessionMessageAt, IsSessionMessageIf, IsDue, HandsOut, SendsAll, data_waits, session_message_at_end, state_after, due_then}
 use Rattle.srm_entries.proofs.Ending.{ending_of, ending_is, EndsIn, NoSessions, charged_is, due_by}
 use Rattle.srm_agent.proofs.Entering.{at_moment}
 use Rattle.srm_agent.proofs.Fitting.{refit, roomy}
@@ -76,7 +76,7 @@ pub record Acts {W : Type 0} (next_word : W → ℕ × W) (a b d f z : Content W
   pub waited : AreOwn d.config.me d.config.session d.bucket.waiting
   pub sent : SendsAll moment due.due_items.items d.bucket f.bucket went
   pub sent_rest : f ≡ record d { bucket = f.bucket }
-  pub last_is : last ≡ session_message_at_end (data_waits f.bucket) due.farewell due.report
+  pub last_is : last ≡ session_message_at_end (data_waits f.bucket) due.farewell due.session_message
   pub ended : z ≡ record f { state = state_after (data_waits f.bucket) due.farewell f.state; last = moment; due = due_then last f.due }
   pub outs_are : outs ≡ went.noted ++ option_to_list (option_map noted_of last)
 
@@ -93,44 +93,44 @@ went_charged me session (o ∷ items) own = (ap is_session own.0.spelled.noted �
 
 -- what ends a tick
 
-each_last : (P : DueSessionMessage → Type 0) (waits : Bool) (farewell report : Option DueSessionMessage) → IfSome farewell P → IfSome report P → IfSome (session_message_at_end waits farewell report) P
-each_last P true farewell report p q = q
-each_last P false None report p q = q
-each_last P false (Some r) report p q = p
+each_last : (P : DueSessionMessage → Type 0) (waits : Bool) (farewell message : Option DueSessionMessage) → IfSome farewell P → IfSome message P → IfSome (session_message_at_end waits farewell message) P
+each_last P true farewell message p q = q
+each_last P false None message p q = q
+each_last P false (Some r) message p q = p
 
-if_some : {W : Type 0} (a : Content W) (moment : ℕ) (farewell : Bool) (P : DueSessionMessage → Type 0) → ((r : DueSessionMessage) → IsSessionMessageAt a moment farewell r → P r) → (wanted : Bool) (o : Option DueSessionMessage) → IsReportIf wanted a moment farewell o → IfSome o P
+if_some : {W : Type 0} (a : Content W) (moment : ℕ) (farewell : Bool) (P : DueSessionMessage → Type 0) → ((r : DueSessionMessage) → IsSessionMessageAt a moment farewell r → P r) → (wanted : Bool) (o : Option DueSessionMessage) → IsSessionMessageIf wanted a moment farewell o → IfSome o P
 if_some a moment farewell P each wanted None h = tt
 if_some a moment farewell P each wanted (Some r) h = each r h.1
 
-report_sent : {W : Type 0} (a : Content W) (moment : ℕ) (farewell : Bool) (r : DueSessionMessage) → IsSessionMessageAt a moment farewell r → IsSent a.config.me r.outgoing.noted
-report_sent a moment farewell r h = subst (IsSent a.config.me) (sym h.report.outgoing.noted) (record { sender = h.report.report.sender; spellable = h.report.report.spellable })
+message_sent : {W : Type 0} (a : Content W) (moment : ℕ) (farewell : Bool) (r : DueSessionMessage) → IsSessionMessageAt a moment farewell r → IsSent a.config.me r.outgoing.noted
+message_sent a moment farewell r h = subst (IsSent a.config.me) (sym h.message.outgoing.noted) (record { sender = h.message.message.sender; spellable = h.message.message.spellable })
 
-report_next : {W : Type 0} (c : Config) (made : ℕ) (past : List Entry) (a : Content W) (moment : ℕ) (farewell : Bool) (r : DueSessionMessage) → Fits c made past a → IsSessionMessageAt a moment farewell r
+message_next : {W : Type 0} (c : Config) (made : ℕ) (past : List Entry) (a : Content W) (moment : ℕ) (farewell : Bool) (r : DueSessionMessage) → Fits c made past a → IsSessionMessageAt a moment farewell r
     → r.next ≡ moment + session_interval c past r.outgoing.noted
-report_next c made past a moment farewell r fits h = h.next c made past fits ∙ ap (λ g. moment + session_interval c past g) (sym h.report.outgoing.noted)
+message_next c made past a moment farewell r fits h = h.next c made past fits ∙ ap (λ g. moment + session_interval c past g) (sym h.message.outgoing.noted)
 
-report_is : {W : Type 0} (c : Config) (made : ℕ) (past : List Entry) (a : Content W) (moment : ℕ) (farewell : Bool) (r : DueSessionMessage) → Fits c made past a → IsSessionMessageAt a moment farewell r → IsSessionMessage c past moment farewell r.outgoing.noted
-report_is c made past a moment farewell r fits h = subst (IsSessionMessage c past moment farewell) (sym h.report.outgoing.noted) (h.report.report.right c made past fits)
+message_is : {W : Type 0} (c : Config) (made : ℕ) (past : List Entry) (a : Content W) (moment : ℕ) (farewell : Bool) (r : DueSessionMessage) → Fits c made past a → IsSessionMessageAt a moment farewell r → IsSessionMessage c past moment farewell r.outgoing.noted
+message_is c made past a moment farewell r fits h = subst (IsSessionMessage c past moment farewell) (sym h.message.outgoing.noted) (h.message.message.right c made past fits)
 
-report_leaves : {W : Type 0} (a : Content W) (moment : ℕ) (farewell : Bool) (r : DueSessionMessage) → IsSessionMessageAt a moment farewell r → is_farewell r.outgoing.noted ≡ farewell
-report_leaves a moment farewell r h = ap is_farewell h.report.outgoing.noted ∙ h.report.report.farewell
+message_leaves : {W : Type 0} (a : Content W) (moment : ℕ) (farewell : Bool) (r : DueSessionMessage) → IsSessionMessageAt a moment farewell r → is_farewell r.outgoing.noted ≡ farewell
+message_leaves a moment farewell r h = ap is_farewell h.message.outgoing.noted ∙ h.message.message.farewell
 
-report_ends : {W : Type 0} (c : Config) (made : ℕ) (past : List Entry) (a : Content W) (moment : ℕ) → Fits c made past a → (is_due : Bool) (report : Option DueSessionMessage) → IsReportIf is_due a moment false report
-    → EndsIn c past moment (if is_due then Some false else None) (option_map noted_of report)
-report_ends c made past a moment fits false None h = tt
-report_ends c made past a moment fits true None h = absurd (cc)
-report_ends c made past a moment fits false (Some r) h = absurd (let k : false ≡ true = h.0 in cc)
-report_ends c made past a moment fits true (Some r) h = report_is c made past a moment false r fits h.1
+message_ends : {W : Type 0} (c : Config) (made : ℕ) (past : List Entry) (a : Content W) (moment : ℕ) → Fits c made past a → (is_due : Bool) (message : Option DueSessionMessage) → IsSessionMessageIf is_due a moment false message
+    → EndsIn c past moment (if is_due then Some false else None) (option_map noted_of message)
+message_ends c made past a moment fits false None h = tt
+message_ends c made past a moment fits true None h = absurd (cc)
+message_ends c made past a moment fits false (Some r) h = absurd (let k : false ≡ true = h.0 in cc)
+message_ends c made past a moment fits true (Some r) h = message_is c made past a moment false r fits h.1
 
-ends_in : {W : Type 0} (c : Config) (made : ℕ) (past : List Entry) (a : Content W) (moment : ℕ) → Fits c made past a → (old : AgentState) (waits is_due : Bool) (farewell report : Option DueSessionMessage) → is_gone old ≡ false
-    → IsReportIf (is_leaving old) a moment true farewell → IsReportIf is_due a moment false report → EndsIn c past moment (ending_of old waits is_due) (option_map noted_of (session_message_at_end waits farewell report))
-ends_in c made past a moment fits Gone waits is_due farewell report here f r = absurd (cc)
-ends_in c made past a moment fits Active true is_due farewell report here f r = report_ends c made past a moment fits is_due report r
-ends_in c made past a moment fits Active false is_due None report here f r = report_ends c made past a moment fits is_due report r
-ends_in c made past a moment fits Active false is_due (Some x) report here f r = absurd (let k : false ≡ true = f.0 in cc)
-ends_in c made past a moment fits Leaving true is_due farewell report here f r = report_ends c made past a moment fits is_due report r
-ends_in c made past a moment fits Leaving false is_due None report here f r = absurd (let k : true ≡ false = f in cc)
-ends_in c made past a moment fits Leaving false is_due (Some x) report here f r = report_is c made past a moment true x fits f.1
+ends_in : {W : Type 0} (c : Config) (made : ℕ) (past : List Entry) (a : Content W) (moment : ℕ) → Fits c made past a → (old : AgentState) (waits is_due : Bool) (farewell message : Option DueSessionMessage) → is_gone old ≡ false
+    → IsSessionMessageIf (is_leaving old) a moment true farewell → IsSessionMessageIf is_due a moment false message → EndsIn c past moment (ending_of old waits is_due) (option_map noted_of (session_message_at_end waits farewell message))
+ends_in c made past a moment fits Gone waits is_due farewell message here f r = absurd (cc)
+ends_in c made past a moment fits Active true is_due farewell message here f r = message_ends c made past a moment fits is_due message r
+ends_in c made past a moment fits Active false is_due None message here f r = message_ends c made past a moment fits is_due message r
+ends_in c made past a moment fits Active false is_due (Some x) message here f r = absurd (let k : false ≡ true = f.0 in cc)
+ends_in c made past a moment fits Leaving true is_due farewell message here f r = message_ends c made past a moment fits is_due message r
+ends_in c made past a moment fits Leaving false is_due None message here f r = absurd (let k : true ≡ false = f in cc)
+ends_in c made past a moment fits Leaving false is_due (Some x) message here f r = message_is c made past a moment true x fits f.1
 
 due_is_by : (c : Config) (past : List Entry) (moment old : ℕ) (last : Option DueSessionMessage) → IfSome last (λ r. r.next ≡ moment + session_interval c past r.outgoing.noted)
     → due_then last old ≡ due_by c past moment old (option_map noted_of last)
@@ -154,18 +154,18 @@ stays_here Active h = refl
 stays_here Leaving h = refl
 stays_here Gone h = refl
 
-report_state : {W : Type 0} (a : Content W) (moment : ℕ) (old : AgentState) → is_gone old ≡ false → (is_due : Bool) (report : Option DueSessionMessage) → IsReportIf is_due a moment false report
-    → old ≡ expected_state old (list_any is_farewell (option_to_list (option_map noted_of report))) (Some Ticked)
-report_state a moment old here is_due None h = stays_here old here
-report_state a moment old here is_due (Some r) h = stays_here old here ∙ ap (λ b. expected_state old (b || false) (Some Ticked)) (sym (report_leaves a moment false r h.1))
+message_state : {W : Type 0} (a : Content W) (moment : ℕ) (old : AgentState) → is_gone old ≡ false → (is_due : Bool) (message : Option DueSessionMessage) → IsSessionMessageIf is_due a moment false message
+    → old ≡ expected_state old (list_any is_farewell (option_to_list (option_map noted_of message))) (Some Ticked)
+message_state a moment old here is_due None h = stays_here old here
+message_state a moment old here is_due (Some r) h = stays_here old here ∙ ap (λ b. expected_state old (b || false) (Some Ticked)) (sym (message_leaves a moment false r h.1))
 
-state_is : {W : Type 0} (a : Content W) (moment : ℕ) (old : AgentState) (waits is_due : Bool) (farewell report : Option DueSessionMessage) → is_gone old ≡ false
-    → IsReportIf (is_leaving old) a moment true farewell → IsReportIf is_due a moment false report
-    → state_after waits farewell old ≡ expected_state old (list_any is_farewell (option_to_list (option_map noted_of (session_message_at_end waits farewell report)))) (Some Ticked)
-state_is a moment old true is_due None report here f r = report_state a moment old here is_due report r
-state_is a moment old true is_due (Some x) report here f r = report_state a moment old here is_due report r
-state_is a moment old false is_due None report here f r = report_state a moment old here is_due report r
-state_is a moment old false is_due (Some x) report here f r = ap (λ b. expected_state old (b || false) (Some Ticked)) (sym (report_leaves a moment true x f.1))
+state_is : {W : Type 0} (a : Content W) (moment : ℕ) (old : AgentState) (waits is_due : Bool) (farewell message : Option DueSessionMessage) → is_gone old ≡ false
+    → IsSessionMessageIf (is_leaving old) a moment true farewell → IsSessionMessageIf is_due a moment false message
+    → state_after waits farewell old ≡ expected_state old (list_any is_farewell (option_to_list (option_map noted_of (session_message_at_end waits farewell message)))) (Some Ticked)
+state_is a moment old true is_due None message here f r = message_state a moment old here is_due message r
+state_is a moment old true is_due (Some x) message here f r = message_state a moment old here is_due message r
+state_is a moment old false is_due None message here f r = message_state a moment old here is_due message r
+state_is a moment old false is_due (Some x) message here f r = ap (λ b. expected_state old (b || false) (Some Ticked)) (sym (message_leaves a moment true x f.1))
 
 -- the run with the entry
 
@@ -235,12 +235,12 @@ acts_fits next_word a b d f z moment due arms went last outs c made past s h =
     none = subst NoSessions (sym s.sent.lets.noted) (went_charged d.config.me d.config.session s.sent.lets.items own)
 
     ends : EndsIn c past moment wanted o
-    ends = subst (λ l. EndsIn c past moment wanted (option_map noted_of l)) (sym s.last_is) (ends_in c made past a moment h a.state waits is_due due.farewell due.report s.here s.due_is.farewell s.due_is.report)
+    ends = subst (λ l. EndsIn c past moment wanted (option_map noted_of l)) (sym s.last_is) (ends_in c made past a moment h a.state waits is_due due.farewell due.session_message s.here s.due_is.farewell s.due_is.session_message)
 
     last_sent : AllByRecursion (IsSent c.me) (option_to_list o)
-    last_sent = listed last (subst (λ l. IfSome l (λ r. IsSent c.me r.outgoing.noted)) (sym s.last_is) (each_last (λ r. IsSent c.me r.outgoing.noted) waits due.farewell due.report
-        (if_some a moment true (λ r. IsSent c.me r.outgoing.noted) (λ r k. subst (λ m. IsSent m r.outgoing.noted) (ap (λ k. k.me) h.config) (report_sent a moment true r k)) (is_leaving a.state) due.farewell s.due_is.farewell)
-        (if_some a moment false (λ r. IsSent c.me r.outgoing.noted) (λ r k. subst (λ m. IsSent m r.outgoing.noted) (ap (λ k. k.me) h.config) (report_sent a moment false r k)) is_due due.report s.due_is.report)))
+    last_sent = listed last (subst (λ l. IfSome l (λ r. IsSent c.me r.outgoing.noted)) (sym s.last_is) (each_last (λ r. IsSent c.me r.outgoing.noted) waits due.farewell due.session_message
+        (if_some a moment true (λ r. IsSent c.me r.outgoing.noted) (λ r k. subst (λ m. IsSent m r.outgoing.noted) (ap (λ k. k.me) h.config) (message_sent a moment true r k)) (is_leaving a.state) due.farewell s.due_is.farewell)
+        (if_some a moment false (λ r. IsSent c.me r.outgoing.noted) (λ r k. subst (λ m. IsSent m r.outgoing.noted) (ap (λ k. k.me) h.config) (message_sent a moment false r k)) is_due due.session_message s.due_is.session_message)))
       where
         listed : (l : Option DueSessionMessage) → IfSome l (λ r. IsSent c.me r.outgoing.noted) → AllByRecursion (IsSent c.me) (option_to_list (option_map noted_of l))
         listed None k = tt
@@ -249,9 +249,9 @@ acts_fits next_word a b d f z moment due arms went last outs c made past s h =
     due_right : z.due ≡ due_by c past moment a.due o
     due_right = ap (λ x. x.due) s.ended ∙ ap (due_then last) (ap (λ x. x.due) s.sent_rest ∙ ap (λ x. x.due) s.handed_rest ∙ ap (λ x. x.due) s.room)
         ∙ due_is_by c past moment a.due last (subst (λ l. IfSome l (λ r. r.next ≡ moment + session_interval c past r.outgoing.noted)) (sym s.last_is)
-        (each_last (λ r. r.next ≡ moment + session_interval c past r.outgoing.noted) waits due.farewell due.report
-        (if_some a moment true (λ r. r.next ≡ moment + session_interval c past r.outgoing.noted) (λ r k. report_next c made past a moment true r h k) (is_leaving a.state) due.farewell s.due_is.farewell)
-        (if_some a moment false (λ r. r.next ≡ moment + session_interval c past r.outgoing.noted) (λ r k. report_next c made past a moment false r h k) is_due due.report s.due_is.report)))
+        (each_last (λ r. r.next ≡ moment + session_interval c past r.outgoing.noted) waits due.farewell due.session_message
+        (if_some a moment true (λ r. r.next ≡ moment + session_interval c past r.outgoing.noted) (λ r k. message_next c made past a moment true r h k) (is_leaving a.state) due.farewell s.due_is.farewell)
+        (if_some a moment false (λ r. r.next ≡ moment + session_interval c past r.outgoing.noted) (λ r k. message_next c made past a moment false r h k) is_due due.session_message s.due_is.session_message)))
 
     in_bucket : BucketFits c (past ++ e ∷ []) f.bucket
     in_bucket = bucket_ticks c d.config.session past e d.bucket s.sent.after_hand_in f.bucket a.showing s.due_is.due_items.datagrams due.due_items.items went
@@ -266,7 +266,7 @@ acts_fits next_word a b d f z moment due arms went last outs c made past s h =
 
     state_right : z.state ≡ expected_state (state past) (list_any is_farewell outs) (Some Ticked)
     state_right = ap (λ x. x.state) s.ended ∙ ap (state_after waits due.farewell) (ap (λ x. x.state) s.sent_rest ∙ ap (λ x. x.state) s.handed_rest ∙ ap (λ x. x.state) s.room)
-        ∙ state_is a moment a.state waits is_due due.farewell due.report s.here s.due_is.farewell s.due_is.report
+        ∙ state_is a moment a.state waits is_due due.farewell due.session_message s.here s.due_is.farewell s.due_is.session_message
         ∙ ap (λ l. expected_state a.state (list_any is_farewell (option_to_list (option_map noted_of l))) (Some Ticked)) (sym s.last_is)
         ∙ ap (λ b. expected_state a.state b (Some Ticked)) (sym (only_last went.noted o none)) ∙ ap (λ gs. expected_state a.state (list_any is_farewell gs) (Some Ticked)) (sym s.outs_are)
         ∙ ap (λ st. expected_state st (list_any is_farewell outs) (Some Ticked)) h.state
@@ -324,9 +324,9 @@ acts_outs next_word a b d f z moment due arms went last outs answered s is = (
         (subst (λ k. AllByRecursion (λ x. IsOwn k.me k.session x.item.value) due.due_items.items) (sym d_config) s.due_is.due_items.spelled.own))
 
     spelled : IfSome last (λ r. IsOutgoing a.config.session r.outgoing)
-    spelled = subst (λ l. IfSome l (λ r. IsOutgoing a.config.session r.outgoing)) (sym s.last_is) (each_last (λ r. IsOutgoing a.config.session r.outgoing) (data_waits f.bucket) due.farewell due.report
-        (if_some a moment true (λ r. IsOutgoing a.config.session r.outgoing) (λ r k. k.report.outgoing) (is_leaving a.state) due.farewell s.due_is.farewell)
-        (if_some a moment false (λ r. IsOutgoing a.config.session r.outgoing) (λ r k. k.report.outgoing) (nat_le a.due moment) due.report s.due_is.report))
+    spelled = subst (λ l. IfSome l (λ r. IsOutgoing a.config.session r.outgoing)) (sym s.last_is) (each_last (λ r. IsOutgoing a.config.session r.outgoing) (data_waits f.bucket) due.farewell due.session_message
+        (if_some a moment true (λ r. IsOutgoing a.config.session r.outgoing) (λ r k. k.message.outgoing) (is_leaving a.state) due.farewell s.due_is.farewell)
+        (if_some a moment false (λ r. IsOutgoing a.config.session r.outgoing) (λ r k. k.message.outgoing) (nat_le a.due moment) due.session_message s.due_is.session_message))
 
 -- the entry of what is answered
 pub acts_ticks : {W : Type 0} (next_word : W → ℕ × W) (a b d f z : Content W) (moment : ℕ) (due : Due) (arms : List Arm) (went : WentContent) (last : Option DueSessionMessage) (outs : List Datagram) (answered : List Out)

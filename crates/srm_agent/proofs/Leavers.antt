@@ -11,7 +11,7 @@ use Rattle.srm_entries.specs.declared.entry.Entry.{Entry}
 use Rattle.srm_entries.specs.Configs.{Config}
 use Rattle.srm_agent.specs.Contents.{Content}
 use Rattle.srm_agent.specs.Fits.{Fits}
-use Rattle.srm_agent.specs.Reports.{SaysLeft, CountsOnce}
+use Rattle.srm_agent.specs.SessionMessages.{SaysLeft, CountsOnce}
 use Rattle.srm_entries.specs.Verdicts.{told}
 
 -- a stream has an end exactly where its source was told

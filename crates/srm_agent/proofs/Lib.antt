@@ -12,7 +12,7 @@ pub mod Deciding
 pub mod Leavers
 pub mod Rows
 pub mod Sorting
-pub mod ReportSpelled
+pub mod MessageSpelled
 pub mod Sent
 pub mod Unsent
 pub mod Ticks

@@ -17,10 +17,10 @@ use Rattle.srm_entries.specs.Timers.{fix_running, ask_running}
 use Rattle.srm_agent.specs.Fits.{Fits}
 use Rattle.srm_entries.specs.Promises.{MayDoNothing}
 use Rattle.srm_agent_state.specs.TimerCalls.{FirstOfBothRunsOut, TimersNext}
-use Rattle.srm_agent.specs.Waking.{IsEarly, IsLate, IsNextAt, NextDue, Stirs, report_next, sooner_of}
+use Rattle.srm_agent.specs.Waking.{IsEarly, IsLate, IsNextAt, NextDue, Stirs, session_message_next, sooner_of}
 use Rattle.srm_agent.proofs.NextDueIdle.{idle_before}
 use Rattle.srm_agent.proofs.NextDueRests.{gone_rests, idle_rests}
-use Rattle.srm_agent.proofs.NextDueStirs.{did_nothing, asks_then, fixes_then, reports_then, goes_then}
+use Rattle.srm_agent.proofs.NextDueStirs.{did_nothing, asks_then, fixes_then, sends_then, goes_then}
 
 pub never_due : {W : Type 0} (a : Content W) → is_gone a.state ≡ true → NextDue a None
 never_due a gone = record {
@@ -70,15 +70,15 @@ module _ {W : Type 0} (c : Config) (made : ℕ) (past : List Entry) (a : Content
   item_stirs None waits come idle = absurd come
   item_stirs (Some r) waits come idle = goes_then c made past a t r idle.0 h (did_nothing c made past t idle) here waits.goes come
 
-  report_stirs : report_next a ≤ t → MayDoNothing c made past t → ⊥
-  report_stirs come idle = reports_then c made past a t idle.0 h (did_nothing c made past t idle) here come
+  message_stirs : session_message_next a ≤ t → MayDoNothing c made past t → ⊥
+  message_stirs come idle = sends_then c made past a t idle.0 h (did_nothing c made past t idle) here come
 
 come_stirs : {W : Type 0} (c : Config) (made : ℕ) (past : List Entry) (a : Content W) (t : ℕ) → Fits c made past a → is_gone (state past) ≡ false → (next : ℕ) → IsNextAt a next → next ≤ t → MayDoNothing c made past t → ⊥
-come_stirs c made past a t h here next at come idle = elim (one_came t at.timers at.waiting (report_next a) (subst (λ n. n ≤ t) at.is come)) [
+come_stirs c made past a t h here next at come idle = elim (one_came t at.timers at.waiting (session_message_next a) (subst (λ n. n ≤ t) at.is come)) [
   | inl timer ↦ timer_stirs c made past a t h here at.timers (at.runs.each c past h.timers) timer idle
   | inr other ↦ elim other [
     | inl item ↦ item_stirs c made past a t h here at.waiting (at.waits.until c.rate c.depth h.bucket.calls h.bucket.fits) item idle
-    | inr report ↦ report_stirs c made past a t h here report idle
+    | inr message ↦ message_stirs c made past a t h here message idle
   ]
 ]
 
@@ -86,20 +86,20 @@ pub first_due : {W : Type 0} (a : Content W) (next : ℕ) → is_gone a.state �
 first_due a next active at = subst (λ n. NextDue a (Some (max a.last n))) (sym at.is) (record {
   each = λ c made past h.
       let here : is_gone (state past) ≡ false = ap is_gone (sym h.state) ∙ active in
-      let t : ℕ = max a.last (sooner_of (lesser at.timers at.waiting) (report_next a)) in
+      let t : ℕ = max a.last (sooner_of (lesser at.timers at.waiting) (session_message_next a)) in
       let last : a.last ≡ last_moment made past = h.last in (
         here,
         omega (arith, last),
         (λ u l before.
-            let sooner : u < sooner_of (lesser at.timers at.waiting) (report_next a) = omega (arith, last, l, before) in
-            let idle : MayDoNothing c made past u = idle_before c made past a u h here (sooner_of (lesser at.timers at.waiting) (report_next a), record { timers = at.timers; waiting = at.waiting; runs = at.runs; waits = at.waits; is = refl }, sooner) l in
+            let sooner : u < sooner_of (lesser at.timers at.waiting) (session_message_next a) = omega (arith, last, l, before) in
+            let idle : MayDoNothing c made past u = idle_before c made past a u h here (sooner_of (lesser at.timers at.waiting) (session_message_next a), record { timers = at.timers; waiting = at.waiting; runs = at.runs; waits = at.waits; is = refl }, sooner) l in
             (idle, idle_rests c made past u idle)),
-        come_stirs c made past a t h here (sooner_of (lesser at.timers at.waiting) (report_next a)) (record { timers = at.timers; waiting = at.waiting; runs = at.runs; waits = at.waits; is = refl }) (omega arith),
+        come_stirs c made past a t h here (sooner_of (lesser at.timers at.waiting) (session_message_next a)) (record { timers = at.timers; waiting = at.waiting; runs = at.runs; waits = at.waits; is = refl }) (omega arith),
       );
 })
 
 -- the next moment, by the calls that tell its parts
-pub soonest : {W : Type 0} (a : Content W) (timers waiting : Option ℕ) → TimersNext a.timers timers → IsNextDeparture a.bucket waiting → IsNextAt a (sooner_of (lesser timers waiting) (report_next a))
+pub soonest : {W : Type 0} (a : Content W) (timers waiting : Option ℕ) → TimersNext a.timers timers → IsNextDeparture a.bucket waiting → IsNextAt a (sooner_of (lesser timers waiting) (session_message_next a))
 soonest a timers waiting runs waits = record { timers = timers; waiting = waiting; runs = runs; waits = waits; is = refl }
 
 -- and whether it is to come

@@ -58,13 +58,13 @@ ends_with_one e i m =
     ap (λ (input : Input). if not (is_tick input) || false then None else if nat_le 1000000 e.moment then Some false else None) i
     ∙ ap (λ now. if nat_le 1000000 now then Some false else None) m
 
-then_a_report : MayDoNothing (config 0) 0 [] 1000000 → ⊥
-then_a_report (e, input, moment, nothing, run) =
-    let (g, is, report) = subst (λ o. EndsWith (config 0) [] e o) (ends_with_one e input moment) run.each.0.session in
+then_a_message : MayDoNothing (config 0) 0 [] 1000000 → ⊥
+then_a_message (e, input, moment, nothing, run) =
+    let (g, is, message) = subst (λ o. EndsWith (config 0) [] e o) (ends_with_one e input moment) run.each.0.session in
     not_nil (charged e) [] g (sym nothing.outs ∙ is)
 
 due_after_a_second : IsNextDue (config 0) 0 [] (Some 1000000)
-due_after_a_second = (refl, lit≤ tt, (λ now l u. (idle_before now u, idle_rests (config 0) 0 [] now (idle_before now u))), then_a_report)
+due_after_a_second = (refl, lit≤ tt, (λ now l u. (idle_before now u, idle_rests (config 0) 0 [] now (idle_before now u))), then_a_message)
 
 -- a member that has drawn: its data is due at once
 

@@ -41,7 +41,7 @@ use Rattle.srm_outbox.specs.declared.out.Outgoing.{Outgoing}
 use Rattle.srm_agent_state.proofs.Midway.{before_first, before_second}
 use Rattle.srm_agent.specs.Ticking.{tick_entry}
 use Rattle.srm_outbox.specs.Outbox.{Passes}
-use Rattle.srm_agent.specs.Waking.{IsEarly, report_next, sooner_of}
+use Rattle.srm_agent.specs.Waking.{IsEarly, session_message_next, sooner_of}
 use Rattle.srm_entries.proofs.Adding.{flat_map-snoc}
 use Rattle.srm_entries.proofs.Ending.{ending_of, ending_is}
 use Rattle.srm_entries.proofs.Marking.{bucket_calls-snoc, entries-snoc, went_length}
@@ -181,16 +181,16 @@ before_other u (Some t) r l = omega (arith, l)
 pub record IsToCome {W : Type 0} (a : Content W) (u : ℕ) (at : IsEarly a u) : Type 0 where
   pub timer : IsBefore u at.1.timers
   pub item : IsBefore u at.1.waiting
-  pub report : u < report_next a
+  pub session_message : u < session_message_next a
 
 pub to_come : {W : Type 0} (a : Content W) (u : ℕ) (at : IsEarly a u) → IsToCome a u at
 to_come a u (next, n, before) =
-    let sooner : u < sooner_of (lesser n.timers n.waiting) (report_next a) = subst (λ m. u < m) n.is before in
-    let both : IsBefore u (lesser n.timers n.waiting) = before_one u (lesser n.timers n.waiting) (report_next a) sooner in
+    let sooner : u < sooner_of (lesser n.timers n.waiting) (session_message_next a) = subst (λ m. u < m) n.is before in
+    let both : IsBefore u (lesser n.timers n.waiting) = before_one u (lesser n.timers n.waiting) (session_message_next a) sooner in
     record {
       timer = before_first u n.timers n.waiting both;
       item = before_second u n.timers n.waiting both;
-      report = before_other u (lesser n.timers n.waiting) (report_next a) sooner;
+      session_message = before_other u (lesser n.timers n.waiting) (session_message_next a) sooner;
     }
 
 -- at a moment before all that is due
@@ -206,7 +206,7 @@ module _ {W : Type 0} (c : Config) (made : ℕ) (past : List Entry) (a : Content
         each = tt;
         charged = tt;
         last = tt;
-        ending = ends_by c made past a (idle_at c past u) h refl refl refl ∙ ends_not a.state (length (queue a.bucket.waiting New) == 0) a.last a.due u (subst (λ n. n ≤ u) (sym h.last) l) come.report;
+        ending = ends_by c made past a (idle_at c past u) h refl refl refl ∙ ends_not a.state (length (queue a.bucket.waiting New) == 0) a.last a.due u (subst (λ n. n ≤ u) (sym h.last) l) come.session_message;
         ends = tt;
         state = same (state past);
       }

@@ -123,7 +123,7 @@ goes_none c past now e m here t at none asks fixes nothing =
 
 ends_not : (c : Config) (made : ℕ) (past : List Entry) (i : Entry) (o : Option Bool) → session_message_due c made past i ≡ o → EndsWith c past i o → i.effects.outs ≡ [] → o ≡ None
 ends_not c made past i None e ends none = refl
-ends_not c made past i (Some f) e (g, is, report) none = absurd (not_nil (charged i) [] g (sym none ∙ is))
+ends_not c made past i (Some f) e (g, is, message) none = absurd (not_nil (charged i) [] g (sym none ∙ is))
 
 -- two ticks at a moment in which nothing is charged end alike
 ends_alike : (c : Config) (made : ℕ) (past : List Entry) (now : ℕ) (e : Entry) → ticked e ≡ true → e.moment ≡ now → e.effects.drawn ≡ None → charged e ≡ []

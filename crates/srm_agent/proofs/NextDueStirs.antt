@@ -33,7 +33,7 @@ use Rattle.srm_entries.specs.Runs.{EntryRight, IsMemberRun}
 use Rattle.srm_agent.specs.Fits.{Fits}
 use Rattle.srm_outbox.specs.Outs.{datagram_of}
 use Rattle.srm_entries.specs.Promises.{MayDoNothing}
-use Rattle.srm_agent.specs.Waking.{report_next}
+use Rattle.srm_agent.specs.Waking.{session_message_next}
 use Rattle.srm_entries.proofs.Charging.{law_at}
 use Rattle.srm_entries.proofs.Ending.{ending_of}
 use Rattle.srm_entries.proofs.Marking.{bucket_calls-snoc}
@@ -93,11 +93,11 @@ ends_with_some Active b last due now here l = let come : nat_le due now ≡ true
 ends_with_some Leaving true last due now here l = (true, refl)
 ends_with_some Leaving false last due now here l = let come : nat_le due now ≡ true = grind (arith, nat_tests) in (false, ap (λ (x : Bool). if x then Some false else None) come)
 
-pub reports_then : {W : Type 0} (c : Config) (made : ℕ) (past : List Entry) (a : Content W) (now : ℕ) (e : Entry) → Fits c made past a → DidNothing c made past now e → is_gone (state past) ≡ false → report_next a ≤ now → ⊥
-reports_then c made past a now e h d here l =
+pub sends_then : {W : Type 0} (c : Config) (made : ℕ) (past : List Entry) (a : Content W) (now : ℕ) (e : Entry) → Fits c made past a → DidNothing c made past now e → is_gone (state past) ≡ false → session_message_next a ≤ now → ⊥
+sends_then c made past a now e h d here l =
     let (f, some) = ends_with_some a.state (length (queue a.bucket.waiting New) == 0) a.last a.due now (ap is_gone h.state ∙ here) l in
     let ends : session_message_due c made past e ≡ Some f = ends_by c made past a e h d.comes.ticks (ap (filter (λ g. not (is_session g))) d.outs) d.comes.drawn ∙ ap (λ m. ending_of a.state (not (length (queue a.bucket.waiting New) == 0)) (nat_le a.due m)) d.comes.moment ∙ some in
-    let (g, is, report) = subst (λ o. EndsWith c past e o) ends d.comes.right.session in
+    let (g, is, message) = subst (λ o. EndsWith c past e o) ends d.comes.right.session in
     not_nil (charged e) [] g (sym d.outs ∙ is)
 
 -- the bucket

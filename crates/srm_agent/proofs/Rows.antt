@@ -26,7 +26,7 @@ use Rattle.srm_agent.specs.Contents.{Content}
 use Rattle.srm_entries.specs.Entries.{done, pages_in, known, shown, slots, evidence_in}
 use Rattle.srm_entries.specs.Runs.{EntryRight}
 use Rattle.srm_entries.specs.Sessions.{if_positive}
-use Rattle.srm_agent.specs.Reports.{row_for, IsRow, AreRowsInOrder, AreRowsOf, streams_on, AreShown, AreOwnStreams, AreReported}
+use Rattle.srm_agent.specs.SessionMessages.{row_for, IsRow, AreRowsInOrder, AreRowsOf, streams_on, AreShown, AreOwnStreams, AreDueRows}
 use Rattle.srm_entries.proofs.Telling.{ToldRight, told_step, told_start}
 
 -- ---- one row
@@ -190,7 +190,7 @@ any_source : (me : ℕ) (ss : List Stream) → AllByRecursion (λ (s : Stream). 
 any_source me [] = tt
 any_source me (s ∷ ss) = ((λ e. absurd (cc)), any_source me ss)
 
-pub rows_of_page : {W : Type 0} (a : Content W) (streams : List Stream) (rows : List FullName) → AreShown a streams → AreRowsOf a streams rows → AreReported a false rows
+pub rows_of_page : {W : Type 0} (a : Content W) (streams : List Stream) (rows : List FullName) → AreShown a streams → AreRowsOf a streams rows → AreDueRows a false rows
 rows_of_page a streams rows page are = record {
   right = λ c made past now fits. record {
     in_order = rising streams rows up are.spelled;
@@ -246,7 +246,7 @@ unknown c made past s all none = none_numbered s (evidence_in past) (λ n h. by 
         let not_there : same_page s.page n.stream.page ≡ false = none_passes (same_page s.page) (slots past) n.stream.page none there in
         absurd (let k : true ≡ false = sym (and_right (s.source == n.stream.source) (same_page s.page n.stream.page) e) ∙ not_there in cc)
 
-pub rows_of_own : {W : Type 0} (a : Content W) (streams : List Stream) (rows : List FullName) → AreOwnStreams a streams → AreRowsOf a streams rows → AreReported a true rows
+pub rows_of_own : {W : Type 0} (a : Content W) (streams : List Stream) (rows : List FullName) → AreOwnStreams a streams → AreRowsOf a streams rows → AreDueRows a true rows
 rows_of_own a streams rows own are = record {
   right = λ c made past now fits. record {
     in_order = rising streams rows up are.spelled;

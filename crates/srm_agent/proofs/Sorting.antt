@@ -14,7 +14,7 @@ use Rattle.srm_deadlines.proofs.Dues.{fewer, rise_by}
 use Rattle.srm_deadlines.proofs.Orders.{page_lt_is}
 use Rattle.srm_store.specs.PageTables.{IsPageTable}
 use Rattle.srm_store.proofs.Pages.{firsts_each_once}
-use Rattle.srm_agent.specs.Reports.{AreInOrder}
+use Rattle.srm_agent.specs.SessionMessages.{AreInOrder}
 
 -- each page stands once
 abbrev EachOnce : List Page → Type 0

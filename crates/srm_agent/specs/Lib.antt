@@ -5,7 +5,7 @@ pub mod Contents
 pub mod Fits
 pub mod Heeding
 pub mod Noting
-pub mod Reports
+pub mod SessionMessages
 pub mod DueItems
 pub mod Waking
 pub mod Admitting

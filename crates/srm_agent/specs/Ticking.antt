@@ -30,7 +30,7 @@ use Rattle.srm_agent.specs.Fits.{Fits}
 use Rattle.srm_agent_state.specs.TimersKept.{TimersContent}
 use Rattle.srm_agent_state.specs.TimerCalls.{AreDueAsks, AreDueFixes, AsksRanOut, FixesRanOut, AreToAsk, AreToFix, TicksWith, TimersAdd}
 use Rattle.srm_agent.specs.Noting.{Enters}
-use Rattle.srm_agent.specs.Reports.{IsSessionMessageSpelled}
+use Rattle.srm_agent.specs.SessionMessages.{IsSessionMessageSpelled}
 use Rattle.srm_agent.specs.DueItems.{DueItems}
 use Rattle.srm_outbox.specs.Outbox.{WentContent, HandsIn, LetsGo}
 
@@ -66,13 +66,13 @@ pub record IsIdle (ticked : answers.Ticked) : Type 0 where
 
 -- a session message or a farewell of an agent at a moment, and when the next one is due after it
 pub record IsSessionMessageAt {W : Type 0} (a : Content W) (moment : ℕ) (farewell : Bool) (r : DueSessionMessage) : Type 0 where
-  pub report : IsSessionMessageSpelled a moment farewell r.outgoing
+  pub message : IsSessionMessageSpelled a moment farewell r.outgoing
   pub next : (c : Config) (made : ℕ) (past : List Entry) → Fits c made past a → r.next ≡ moment + session_interval c past r.outgoing.out.datagram
 
 -- there is one exactly where it is wanted
-abbrev pub IsReportIf : {W : Type 0} → Bool → Content W → ℕ → Bool → Option DueSessionMessage → Type 0
-IsReportIf wanted a moment farewell None = wanted ≡ false
-IsReportIf wanted a moment farewell (Some r) = (wanted ≡ true) × IsSessionMessageAt a moment farewell r
+abbrev pub IsSessionMessageIf : {W : Type 0} → Bool → Content W → ℕ → Bool → Option DueSessionMessage → Type 0
+IsSessionMessageIf wanted a moment farewell None = wanted ≡ false
+IsSessionMessageIf wanted a moment farewell (Some r) = (wanted ≡ true) × IsSessionMessageAt a moment farewell r
 
 -- the names whose timers ran out, over whatever run the agent fits
 pub record IsToHandOut {W : Type 0} (a : Content W) (moment : ℕ) (h : HandedOut) : Type 0 where
@@ -87,8 +87,8 @@ pub record IsToHandOut {W : Type 0} (a : Content W) (moment : ℕ) (h : HandedOu
 pub record IsDue {W : Type 0} (a : Content W) (moment : ℕ) (d : Due) : Type 0 where
   pub handed_out : IsToHandOut a moment d.handed_out
   pub due_items : DueItems a d.handed_out.asks d.handed_out.fixes d.due_items.items
-  pub farewell : IsReportIf (is_leaving a.state) a moment true d.farewell
-  pub report : IsReportIf (nat_le a.due moment) a moment false d.report
+  pub farewell : IsSessionMessageIf (is_leaving a.state) a moment true d.farewell
+  pub session_message : IsSessionMessageIf (nat_le a.due moment) a moment false d.session_message
 
 -- the timers whose moment has come are handed out, and the timers are those after it
 pub record TicksTimers {W : Type 0} (a : Content W) (asks fixes : List FullName) (moment : ℕ) (arms : List Arm) (new : TimersContent) : Type 0 where
@@ -111,10 +111,10 @@ abbrev pub data_waits : BucketContent Outgoing → Bool
 data_waits b = not (length (queue b.waiting New) == 0)
 
 -- the message that a tick ends with: the farewell of a member that is leaving, once no data of its own waits, else the session message
-abbrev pub session_message_at_end : (waits : Bool) → (farewell report : Option DueSessionMessage) → Option DueSessionMessage
-session_message_at_end true farewell report = report
-session_message_at_end false None report = report
-session_message_at_end false (Some farewell) report = Some farewell
+abbrev pub session_message_at_end : (waits : Bool) → (farewell message : Option DueSessionMessage) → Option DueSessionMessage
+session_message_at_end true farewell message = message
+session_message_at_end false None message = message
+session_message_at_end false (Some farewell) message = Some farewell
 
 -- the state after it
 abbrev pub state_after : (waits : Bool) → (farewell : Option DueSessionMessage) → AgentState → AgentState

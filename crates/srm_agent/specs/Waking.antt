@@ -18,8 +18,8 @@ pub record NextDue {W : Type 0} (a : Content W) (moment : Option ℕ) : Type 0 w
   pub each : (c : Config) (made : ℕ) (past : List Entry) → Fits c made past a → IsNextDue c made past moment
 
 -- from when on a tick sends a session message: a farewell at once where the member is leaving and no new data waits
-abbrev pub report_next : {W : Type 0} → Content W → ℕ
-report_next a = if is_leaving a.state && (length (queue a.bucket.waiting New) == 0) then a.last else a.due
+abbrev pub session_message_next : {W : Type 0} → Content W → ℕ
+session_message_next a = if is_leaving a.state && (length (queue a.bucket.waiting New) == 0) then a.last else a.due
 
 -- the sooner of two moments, the first of which may be none
 abbrev pub sooner_of : Option ℕ → ℕ → ℕ
@@ -32,7 +32,7 @@ pub record IsNextAt {W : Type 0} (a : Content W) (next : ℕ) : Type 0 where
   pub waiting : Option ℕ
   pub runs : TimersNext a.timers timers
   pub waits : IsNextDeparture a.bucket waiting
-  pub is : next ≡ sooner_of (lesser timers waiting) (report_next a)
+  pub is : next ≡ sooner_of (lesser timers waiting) (session_message_next a)
 
 -- it is before that
 abbrev pub IsEarly : {W : Type 0} → Content W → ℕ → Type 0

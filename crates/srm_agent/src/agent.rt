@@ -25,7 +25,7 @@ mod leaving;
 mod new_page;
 mod next_due;
 mod noting;
-mod reporting;
+mod session_message;
 mod sending;
 mod showing;
 mod ticking;

@@ -17,7 +17,7 @@ mod distances;
 mod evidence;
 mod keeping;
 mod progress;
-mod reports;
+mod session_messages;
 mod roster;
 mod timers;
 
@@ -25,6 +25,6 @@ pub use distances::distance_table;
 pub use evidence::{greatest_in, learn_all};
 pub use keeping::keep;
 pub use progress::Progress;
-pub use reports::{hear_session_message, learn_datagram};
+pub use session_messages::{hear_session_message, learn_datagram};
 pub use roster::{member, page_in_range, stream_in_range};
 pub use timers::Timers;

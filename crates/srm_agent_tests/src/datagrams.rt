@@ -44,7 +44,7 @@ impl Sent {
             }
             Sent::Requests(sender, mask) => first(&requests(sender, 0, 1, mask)),
             Sent::Report(sender, sent, flag, source, number) => {
-                report(sender, sent, flag, source, number)
+                session(sender, sent, flag, source, number)
             }
             Sent::LastWord(sender) => last_word(sender),
         }
@@ -88,7 +88,7 @@ pub(crate) fn up_to_rows(sender: u8, sent: u64, flag: u8) -> [u8; 21] {
     ]
 }
 
-fn report(sender: u8, sent: u64, flag: u8, source: u8, number: u8) -> ([u8; 31], usize) {
+fn session(sender: u8, sent: u64, flag: u8, source: u8, number: u8) -> ([u8; 31], usize) {
     let (mut bytes, _) = first(&up_to_rows(sender, sent, flag));
     bytes[21] = 1; // a row
     bytes[22] = source;

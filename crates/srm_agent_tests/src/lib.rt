@@ -34,9 +34,9 @@ mod pages;
 #[cfg(test)]
 mod repairing;
 #[cfg(test)]
-mod reporting;
-#[cfg(test)]
 mod requesting;
+#[cfg(test)]
+mod session_messages;
 #[cfg(test)]
 mod settings;
 #[cfg(test)]

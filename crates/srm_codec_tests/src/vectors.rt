@@ -59,7 +59,7 @@ fn drawop(alloc: Global, rt: &impl Abort, body: &[u8]) -> Result<Drawop, Fail> {
     })
 }
 
-fn report(
+fn session(
     alloc: Global,
     rt: &impl Abort,
     farewell: bool,
@@ -142,9 +142,9 @@ fn requests_have_their_bytes(rt: HostRuntime) -> Result<(), Fail> {
 #[test]
 fn session_messages_have_their_bytes(rt: HostRuntime) -> Result<(), Fail> {
     let alloc = rt.alloc();
-    let empty = report(alloc, &rt, false, &[], &[])?;
+    let empty = session(alloc, &rt, false, &[], &[])?;
     check(alloc, &rt, &empty, &EMPTY_SESSION)?;
-    let full = report(alloc, &rt, false, &[name(&rt, 0, 3)], &[echo(&rt, 1)])?;
+    let full = session(alloc, &rt, false, &[name(&rt, 0, 3)], &[echo(&rt, 1)])?;
     check(alloc, &rt, &full, &SESSION)
 }
 
@@ -155,11 +155,11 @@ fn farewells_have_their_bytes(rt: HostRuntime) -> Result<(), Fail> {
     let mut bytes = SESSION;
     bytes[17] = 1;
     bytes[22] = 3;
-    let full = report(alloc, &rt, true, &[name(&rt, 3, 3)], &[echo(&rt, 1)])?;
+    let full = session(alloc, &rt, true, &[name(&rt, 3, 3)], &[echo(&rt, 1)])?;
     check(alloc, &rt, &full, &bytes)?;
     let mut bare = EMPTY_SESSION;
     bare[17] = 1;
-    let empty = report(alloc, &rt, true, &[], &[])?;
+    let empty = session(alloc, &rt, true, &[], &[])?;
     check(alloc, &rt, &empty, &bare)
 }
 
@@ -239,7 +239,7 @@ fn the_largest_session_message_of_one_page(rt: HostRuntime) -> Result<(), Fail> 
     let rows = row_of_each(alloc, &rt)?;
     let echoes = echo_of_each(alloc, &rt)?;
     let of_others = echoes.get(1..).unwrap_or(&[]);
-    let usual = report(alloc, &rt, false, &rows, of_others)?;
+    let usual = session(alloc, &rt, false, &rows, of_others)?;
     takes_bytes(alloc, &rt, &usual, 806)
 }
 
@@ -248,7 +248,7 @@ fn the_largest_session_message(rt: HostRuntime) -> Result<(), Fail> {
     let alloc = rt.alloc();
     let rows = row_of_pages(alloc, &rt, 255)?;
     let echoes = echo_of_each(alloc, &rt)?;
-    let largest = report(alloc, &rt, false, &rows, &echoes)?;
+    let largest = session(alloc, &rt, false, &rows, &echoes)?;
     takes_bytes(alloc, &rt, &largest, 2_607)
 }
 
@@ -486,11 +486,11 @@ fn rows_are_good(
     farewell: bool,
     rows: &[Name],
 ) -> Result<bool, Fail> {
-    Ok(encodable(&report(alloc, rt, farewell, rows, &[])?))
+    Ok(encodable(&session(alloc, rt, farewell, rows, &[])?))
 }
 
 fn echoes_are_good(alloc: Global, rt: &impl Abort, echoes: &[Echo]) -> Result<bool, Fail> {
-    Ok(encodable(&report(alloc, rt, false, &[], echoes)?))
+    Ok(encodable(&session(alloc, rt, false, &[], echoes)?))
 }
 
 #[test]

@@ -15,7 +15,7 @@ use Rattle.srm_distance.specs.declared.heard_message.HeardMessage.{HeardMessage}
 use Rattle.srm_distance.specs.declared.peer.Peer.{Peer}
 use Rattle.srm_distance.specs.Calls.{Call, Heard, Forgot}
 use Rattle.srm_distance.specs.Distance.{returned_at, returned, newest}
-use Rattle.srm_distance.specs.Echoes.{reported, latest, forgets, is_forgotten}
+use Rattle.srm_distance.specs.Echoes.{message_from, latest, forgets, is_forgotten}
 use Rattle.srm_distance.specs.Peers.{peer_of}
 use Rattle.srm_distance.specs.Content.{Content}
 use Rattle.srm_distance.specs.Fits.{Fits, Adds}
@@ -48,26 +48,26 @@ newest_heard calls b sent echo now =
 pub latest_heard : (calls : List Call) (b sent : ℕ) (echo : Option (ℕ × ℕ)) (now : ℕ)
     → latest (calls ++ Heard b sent echo now ∷ []) b ≡ Some (later (λ (r : HeardMessage). r.sent) (latest calls b) (record { sent = sent; came = now }))
 latest_heard calls b sent echo now =
-    first_best-found (λ (r : HeardMessage). r.sent) (reported b) calls (Heard b sent echo now)
+    first_best-found (λ (r : HeardMessage). r.sent) (message_from b) calls (Heard b sent echo now)
     ∙ ap (kept_with (λ (r : HeardMessage). r.sent) (latest calls b)) (own b (Some (record { sent = sent; came = now })))
 
 pub same_peer : (r r' : Option Returned) (s s' : Option HeardMessage) (f f' : Bool) → r ≡ r' → s ≡ s' → f ≡ f'
-    → ◌≡◌ {A = Peer} (record { returned = r; report = s; forgotten = f }) (record { returned = r'; report = s'; forgotten = f' })
+    → ◌≡◌ {A = Peer} (record { returned = r; newest_message = s; forgotten = f }) (record { returned = r'; newest_message = s'; forgotten = f' })
 same_peer r r' s s' f f' p q e = cc
 
-pub peer_of_forgot : (calls : List Call) (b : ℕ) → peer_of (calls ++ Forgot b ∷ []) b ≡ record { returned = newest calls b; report = latest calls b; forgotten = true }
+pub peer_of_forgot : (calls : List Call) (b : ℕ) → peer_of (calls ++ Forgot b ∷ []) b ≡ record { returned = newest calls b; newest_message = latest calls b; forgotten = true }
 peer_of_forgot calls b =
     same_peer _ _ _ _ _ _
     (first_best-found (λ (r : Returned). r.t1) (returned b) calls (Forgot b))
-    (first_best-found (λ (r : HeardMessage). r.sent) (reported b) calls (Forgot b))
+    (first_best-found (λ (r : HeardMessage). r.sent) (message_from b) calls (Forgot b))
     (list_any-snoc (forgets b) calls (Forgot b) ∙ ap (λ x. is_forgotten calls b || x) (eq-eqb b b refl) ∙ or-true (is_forgotten calls b))
 
 -- a call that is about another member
-peer_of-other : (calls : List Call) (c : Call) (b : ℕ) → returned b c ≡ None → reported b c ≡ None → forgets b c ≡ false → peer_of (calls ++ c ∷ []) b ≡ peer_of calls b
+peer_of-other : (calls : List Call) (c : Call) (b : ℕ) → returned b c ≡ None → message_from b c ≡ None → forgets b c ≡ false → peer_of (calls ++ c ∷ []) b ≡ peer_of calls b
 peer_of-other calls c b r s f =
     same_peer _ _ _ _ _ _
     (first_best-found (λ (r : Returned). r.t1) (returned b) calls c ∙ ap (kept_with (λ (r : Returned). r.t1) (newest calls b)) r)
-    (first_best-found (λ (r : HeardMessage). r.sent) (reported b) calls c ∙ ap (kept_with (λ (r : HeardMessage). r.sent) (latest calls b)) s)
+    (first_best-found (λ (r : HeardMessage). r.sent) (message_from b) calls c ∙ ap (kept_with (λ (r : HeardMessage). r.sent) (latest calls b)) s)
     (list_any-snoc (forgets b) calls c ∙ ap (λ x. is_forgotten calls b || x) f ∙ or-false (is_forgotten calls b))
 
 pub heard-other : (a sent : ℕ) (echo : Option (ℕ × ℕ)) (now : ℕ) (calls : List Call) (b : ℕ) → a ≢ b → peer_of (calls ++ Heard a sent echo now ∷ []) b ≡ peer_of calls b
@@ -80,7 +80,7 @@ pub kept_at : (me : ℕ) (calls : List Call) (d : Content) (a : ℕ) (p : Peer) 
 kept_at me calls d a p h lt = get_or_from_slice_get d.peers a (peer_of calls a) p (h.each a lt)
 
 abbrev pub nobody : Peer
-nobody = record { returned = None; report = None; forgotten = false }
+nobody = record { returned = None; newest_message = None; forgotten = false }
 
 -- A call that is about one member writes its place in the table.
 pub adds_at : (call : Call) (d : Content) (a place : ℕ) (peer : Peer) → place ≡ a → place < MEMBERS

@@ -62,7 +62,7 @@ only_to_oneself d m lt h = record {
 }
 
 -- what is made for members of which nothing was heard
-pub kept_new : (me place : ℕ) (p : Peer) → place ≡ me → place < MEMBERS → p ≡ peer_of [] 0 → SentWithin p.report
+pub kept_new : (me place : ℕ) (p : Peer) → place ≡ me → place < MEMBERS → p ≡ peer_of [] 0 → SentWithin p.newest_message
     → IsKept (record { me = me; peers = replicate 32 p; table = slice_set (replicate 32 FIRST_DISTANCE) place 0 })
 kept_new me place p at lt nobody sent = record {
   sent = λ k d below. rw (get_or-replicate 32 k p d below) sent;

@@ -19,7 +19,7 @@ distance_by me member peer = if member == me then 0 else estimate peer.returned
 
 -- each message was sent at a moment that can be spelled, and the table has the distances that are kept
 pub record IsKept (d : Inside) : Type 0 where
-  pub sent : All (λ (p : Peer). SentWithin p.report) d.peers
+  pub sent : All (λ (p : Peer). SentWithin p.newest_message) d.peers
   pub peers : length d.peers ≡ MEMBERS
   pub size : length d.table ≡ MEMBERS
   pub table : (member : ℕ) (p : Peer) → slice_get d.peers member ≡ Some p → slice_index d.table member ≡ distance_by d.me member p

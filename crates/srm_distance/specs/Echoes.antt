@@ -9,13 +9,13 @@ use Rattle.srm_distance.specs.declared.heard_message.HeardMessage.{HeardMessage}
 use Rattle.srm_distance.specs.Calls.{Call, Heard, Forgot}
 
 -- the session message that a call brings from b
-abbrev pub reported : ℕ → Call → Option HeardMessage
-reported b (Heard from sent echo now) = if from == b then Some (record { sent = sent; came = now }) else None
-reported b (Forgot member) = None
+abbrev pub message_from : ℕ → Call → Option HeardMessage
+message_from b (Heard from sent echo now) = if from == b then Some (record { sent = sent; came = now }) else None
+message_from b (Forgot member) = None
 
 -- of the session messages from b the newest, as it was heard first
 abbrev pub latest : List Call → ℕ → Option HeardMessage
-latest calls b = first_best (λ (r : HeardMessage). r.sent) (filter_map (reported b) calls)
+latest calls b = first_best (λ (r : HeardMessage). r.sent) (filter_map (message_from b) calls)
 
 abbrev pub forgets : ℕ → Call → Bool
 forgets b (Heard from sent echo now) = false
@@ -36,7 +36,7 @@ abbrev pub echoes_owed : List Call → ℕ → ℕ → List Echo
 echoes_owed calls me now = filter_map (echo_to calls me now) (count_up 0 MEMBERS)
 
 abbrev pub SentWithin : Option HeardMessage → Type 0
-SentWithin report = IfSome report (λ r. r.sent ≤ LATEST_MOMENT)
+SentWithin newest_message = IfSome newest_message (λ r. r.sent ≤ LATEST_MOMENT)
 
 -- an echo to another member, of a moment and with a delay that a session message can hold
 pub record CanBeSent (me now : ℕ) (echo : Echo) : Type 0 where

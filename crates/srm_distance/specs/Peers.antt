@@ -7,7 +7,7 @@ use Rattle.srm_distance.specs.Distance.{newest}
 use Rattle.srm_distance.specs.Echoes.{latest, is_forgotten, echo_of}
 
 abbrev pub peer_of : List Call → ℕ → Peer
-peer_of calls b = record { returned = newest calls b; report = latest calls b; forgotten = is_forgotten calls b }
+peer_of calls b = record { returned = newest calls b; newest_message = latest calls b; forgotten = is_forgotten calls b }
 
 abbrev pub echo_owed_by : ℕ → ℕ → Peer → Option Echo
-echo_owed_by now b peer = if peer.forgotten then None else option_map (echo_of now b) peer.report
+echo_owed_by now b peer = if peer.forgotten then None else option_map (echo_of now b) peer.newest_message

@@ -84,7 +84,7 @@ impl Distances {
 
     /// This is kept of a member from now on.
     fn keep(&mut self, member: Member, peer: Peer)
-        requires { SentWithin peer.report }
+        requires { SentWithin peer.newest_message }
         ensures new { self.new ≡ record self.old { peers = slice_set self.old.peers member peer } }
         ensures below { member < MEMBERS }
     {

@@ -13,7 +13,7 @@ use srm_names::{Echo, LATEST_MOMENT, Member};
 #[derive(Clone, Copy, Debug)]
 pub(crate) struct Peer {
     returned: Option<Returned>,
-    report: Option<HeardMessage>,
+    newest_message: Option<HeardMessage>,
     forgotten: bool,
 }
 
@@ -25,11 +25,11 @@ impl Peer {
     /// A member of which nothing was heard.
     pub(crate) fn unknown() -> Peer
         ensures fits { (b : ℕ) → result ≡ peer_of [] b }
-        ensures range { SentWithin result.report }
+        ensures range { SentWithin result.newest_message }
     {
         Peer {
             returned: None,
-            report: None,
+            newest_message: None,
             forgotten: false,
         }
     }
@@ -39,11 +39,11 @@ impl Peer {
         requires { sent ≤ LATEST_MOMENT }
         ensures fits { (calls : List Call) (b : ℕ) → self ≡ peer_of calls b
             → result ≡ peer_of (calls ++ Heard b sent echo now ∷ []) b }
-        ensures range { SentWithin self.report → SentWithin result.report }
+        ensures range { SentWithin self.newest_message → SentWithin result.newest_message }
     {
         Peer {
             returned: Returned::newer(self.returned, echo, now),
-            report: HeardMessage::newer(self.report, sent, now),
+            newest_message: HeardMessage::newer(self.newest_message, sent, now),
             forgotten: self.forgotten,
         }
     }
@@ -54,7 +54,7 @@ impl Peer {
         ensures fits { (calls : List Call) (b : ℕ) → self ≡ peer_of calls b
             → result ≡ peer_of (calls ++ Forgot b ∷ []) b }
         ensures distance { result.returned ≡ self.returned }
-        ensures range { SentWithin self.report → SentWithin result.report }
+        ensures range { SentWithin self.newest_message → SentWithin result.newest_message }
     {
         Peer {
             forgotten: true,
@@ -69,7 +69,7 @@ impl Peer {
         if self.forgotten {
             return None;
         }
-        Some(self.report?.echo(member, now))
+        Some(self.newest_message?.echo(member, now))
     }
 
     /// The distance to the member, in microseconds: 1 to 10,000,000.

@@ -41,11 +41,11 @@ EndsIn c before now (Some farewell) (Some g) = IsSessionMessage c before now far
 abbrev pub NoSessions : List Datagram → Type 0
 NoSessions went = AllByRecursion (λ g. is_session g ≡ false) went
 
-pub report_is_session : (c : Config) (before : List Entry) (now : ℕ) (farewell : Bool) (g : Datagram) → IsSessionMessage c before now farewell g → is_session g ≡ true
-report_is_session c before now farewell (Data d) r = absurd r
-report_is_session c before now farewell (Request a n m) r = absurd r
-report_is_session c before now farewell (Repair a d) r = absurd r
-report_is_session c before now farewell (Session sender sent f shown rows echoes) r = refl
+pub message_is_session : (c : Config) (before : List Entry) (now : ℕ) (farewell : Bool) (g : Datagram) → IsSessionMessage c before now farewell g → is_session g ≡ true
+message_is_session c before now farewell (Data d) r = absurd r
+message_is_session c before now farewell (Request a n m) r = absurd r
+message_is_session c before now farewell (Repair a d) r = absurd r
+message_is_session c before now farewell (Session sender sent f shown rows echoes) r = refl
 
 all_kept : (went : List Datagram) → NoSessions went → filter (λ g. not (is_session g)) went ≡ went
 all_kept [] none = refl
@@ -54,7 +54,7 @@ all_kept (g ∷ gs) none = ap (λ b. cond (not b) (g ∷ filter (λ g. not (is_s
 none_left : (c : Config) (before : List Entry) (now : ℕ) (wanted : Option Bool) (o : Option Datagram) → EndsIn c before now wanted o → filter (λ g. not (is_session g)) (option_to_list o) ≡ []
 none_left c before now wanted None ends = refl
 none_left c before now None (Some g) ends = absurd ends
-none_left c before now (Some farewell) (Some g) ends = ap (λ b. cond (not b) (g ∷ []) []) (report_is_session c before now farewell g ends)
+none_left c before now (Some farewell) (Some g) ends = ap (λ b. cond (not b) (g ∷ []) []) (message_is_session c before now farewell g ends)
 
 -- what is charged is what went under the rate
 pub charged_is : (c : Config) (before : List Entry) (e : Entry) (wanted : Option Bool) (went : List Datagram) (o : Option Datagram)
@@ -81,7 +81,7 @@ find_past (g ∷ gs) o none = ap (λ b. if b then Some g else find is_session (g
 found : (c : Config) (before : List Entry) (now : ℕ) (wanted : Option Bool) (o : Option Datagram) → EndsIn c before now wanted o → find is_session (option_to_list o) ≡ o
 found c before now wanted None ends = refl
 found c before now None (Some g) ends = absurd ends
-found c before now (Some farewell) (Some g) ends = ap (λ b. if b then Some g else None) (report_is_session c before now farewell g ends)
+found c before now (Some farewell) (Some g) ends = ap (λ b. if b then Some g else None) (message_is_session c before now farewell g ends)
 
 -- when the next one is due: a pause after this one, or as before where there is none
 abbrev pub due_by : Config → List Entry → ℕ → ℕ → Option Datagram → ℕ

@@ -14,7 +14,7 @@ pub mod Silence
 pub mod Arming
 pub mod Responding
 pub mod Knowing
-pub mod Reporting
+pub mod SessionMessages
 pub mod Plain
 pub mod Charging
 pub mod Marking

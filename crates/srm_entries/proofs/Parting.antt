@@ -49,15 +49,15 @@ pub record Sending (c : Config) (made : ℕ) (es : List Entry) (g : Datagram) : 
   pub out : Has g this.effects.outs
   pub farewell : Bool
   pub due : session_message_due c made before this ≡ Some farewell
-  pub report : IsSessionMessage c before this.moment farewell g
+  pub session_message : IsSessionMessage c before this.moment farewell g
 
 pub session_sent : (c : Config) (made : ℕ) (es : List Entry) (g : Datagram) → AllByRecursion (EntryRight c made) (steps es) → is_session g ≡ true → Has g (sent es) → Sending c made es g
 session_sent c made es g all s h =
     let (e, k, m) = Has-flat_map (λ (x : Entry). x.effects.outs) g es h in
     let (before, after, q) = Has-split e es k in
     let parts = at_parts (EntryRight c made) before (e ∷ after) (subst (λ w. AllByRecursion (EntryRight c made) (steps w)) q all) in
-    let (f, due, report) = ends c before e g (session_message_due c made before e) parts.1.0.session m s in
-    record { before = before; this = e; after = after; split = q; earlier = parts.0; right = parts.1.0; later = parts.1.1; out = m; farewell = f; due = due; report = report }
+    let (f, due, session_message) = ends c before e g (session_message_due c made before e) parts.1.0.session m s in
+    record { before = before; this = e; after = after; split = q; earlier = parts.0; right = parts.1.0; later = parts.1.1; out = m; farewell = f; due = due; session_message = session_message }
 
 ticks_if : (b gone : Bool) (x : Option Bool) (f : Bool) → (if not b || gone then None else x) ≡ Some f → b ≡ true
 ticks_if true gone x f e = refl
@@ -114,7 +114,7 @@ farewell_sent c made es sender at shown rows echoes all h page =
     ap drawn (s.split ∙ sym (append_assoc s.before (s.this ∷ []) s.after)) ∙ gone_draws_nothing c made (s.before ++ s.this ∷ []) s.after gone s.later
     ∙ drawn-snoc s.before s.this ∙ ap (λ o. drawn s.before ++ option_to_list o) none ∙ append-nil (drawn s.before) in
     let row : row_number rows (stream_on c.me page) ≡ known s.before (stream_on c.me page) = positive_row (known s.before (stream_on c.me page)) rows (stream_on c.me page)
-    (s.report.5.exact (stream_on c.me page) ∙ ap (λ b. if b then if_positive (known s.before (stream_on c.me page)) else None) (eq-eqb c.me c.me refl)) in
+    (s.session_message.5.exact (stream_on c.me page) ∙ ap (λ b. if b then if_positive (known s.before (stream_on c.me page)) else None) (eq-eqb c.me c.me refl)) in
     let l : length (drawn_on page s.before) ≤ known s.before (stream_on c.me page) = (draws_right c made s.before s.earlier).shown page in
     let m : length (drawn_on page es) ≡ length (drawn_on page s.before) = ap (λ w. length (filter (λ (d : Drawop). same_page page d.name.stream.page) w)) same in
     omega arith

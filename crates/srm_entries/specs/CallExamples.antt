@@ -132,13 +132,13 @@ rows_name_pages = refl
 abbrev of_sixteen : List Entry
 of_sixteen = map (λ m. hears 0 1 (Session m 1 false first_page (named (stream_on m first_page) 1 ∷ []) []) []) (count_up 1 15)
 
-abbrev report_of_sixteen : Datagram
-report_of_sixteen = Session 0 1000000 false first_page (map (λ m. named (stream_on m first_page) 1) (count_up 0 16)) (echoes_owed (in_roster 0 16 4204) of_sixteen 1000000)
+abbrev message_of_sixteen : Datagram
+message_of_sixteen = Session 0 1000000 false first_page (map (λ m. named (stream_on m first_page) 1) (count_up 0 16)) (echoes_owed (in_roster 0 16 4204) of_sixteen 1000000)
 
-length_of_sixteen : length_of report_of_sixteen ≡ 406
+length_of_sixteen : length_of message_of_sixteen ≡ 406
 length_of_sixteen = refl
 
-interval_of_sixteen : session_due (in_roster 0 16 4204) 0 (of_sixteen ++ ticks 0 1000000 [] [] [] (report_of_sixteen ∷ []) ∷ []) ≡ 1000000 + 16240000
+interval_of_sixteen : session_due (in_roster 0 16 4204) 0 (of_sixteen ++ ticks 0 1000000 [] [] [] (message_of_sixteen ∷ []) ∷ []) ≡ 1000000 + 16240000
 interval_of_sixteen = refl
 
 -- a member that left counts no more, and gets no echo
@@ -151,12 +151,12 @@ fifteen_left = refl
 no_echo_to_it : map (λ e. e.member) (echoes_owed (in_roster 0 16 4204) one_left 5) ≡ 1 ∷ 2 ∷ count_up 4 12
 no_echo_to_it = refl
 
--- rows: of the page shown in a report, of one's own on all pages in a farewell
+-- rows: of the page shown in a session_message, of one's own on all pages in a farewell
 abbrev drew_on_two : List Entry
 drew_on_two = drawn_on_page first_page 0 ∷ drawn_on_page (page 1 3) 0 ∷ hears 0 2 (Data (record { name = named (stream_on 1 first_page) 4; stamp = 0; body = [] })) [] ∷ []
 
-rows_of_a_report : map (expected_row (trio 0) drew_on_two false) (first_stream ∷ stream_on 1 first_page ∷ stream_on 0 (page 1 3) ∷ stream_on 2 first_page ∷ []) ≡ Some 1 ∷ Some 4 ∷ None ∷ None ∷ []
-rows_of_a_report = refl
+rows_of_a_message : map (expected_row (trio 0) drew_on_two false) (first_stream ∷ stream_on 1 first_page ∷ stream_on 0 (page 1 3) ∷ stream_on 2 first_page ∷ []) ≡ Some 1 ∷ Some 4 ∷ None ∷ None ∷ []
+rows_of_a_message = refl
 
 rows_of_a_farewell : map (expected_row (trio 0) drew_on_two true) (first_stream ∷ stream_on 1 first_page ∷ stream_on 0 (page 1 3) ∷ stream_on 2 first_page ∷ []) ≡ Some 1 ∷ None ∷ Some 1 ∷ None ∷ []
 rows_of_a_farewell = refl

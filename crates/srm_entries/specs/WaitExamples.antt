@@ -115,25 +115,25 @@ unfolding bits_set
 request_for_the_third = refl
 
 -- the tick before the ask sends the session message, and the tick of the ask the request
-abbrev report : Datagram
-report = Session 1 1199999 false first_page (named first_stream 2 ∷ []) []
+abbrev session_message : Datagram
+session_message = Session 1 1199999 false first_page (named first_stream 2 ∷ []) []
 
-abbrev reported : List Entry
-reported = gap ∷ ticks 1 1199999 [] [] [] (report ∷ []) ∷ []
+abbrev says_it : List Entry
+says_it = gap ∷ ticks 1 1199999 [] [] [] (session_message ∷ []) ∷ []
 
 abbrev asks_for_it : Entry
 asks_for_it = ticks 1 1200000 (named first_stream 1 ∷ []) [] (ask_arm 1 1 400000 ∷ []) (Request 1 (named first_stream 1) 0 ∷ [])
 
-sends_at_the_end : map length_of (report ∷ Request 1 (named first_stream 1) 0 ∷ []) ≡ 31 ∷ 17 ∷ []
+sends_at_the_end : map length_of (session_message ∷ Request 1 (named first_stream 1) 0 ∷ []) ≡ 31 ∷ 17 ∷ []
 sends_at_the_end = refl
 
-reports_then_asks : at_each (λ s. session_message_due one_of_four 0 s.before s.this) (reported ++ asks_for_it ∷ []) ≡ None ∷ Some false ∷ None ∷ []
-reports_then_asks = refl
+sends_it_then_asks : at_each (λ s. session_message_due one_of_four 0 s.before s.this) (says_it ++ asks_for_it ∷ []) ≡ None ∷ Some false ∷ None ∷ []
+sends_it_then_asks = refl
 
-next_report : session_due one_of_four 0 reported ≡ 2199999
-next_report = refl
+next_message : session_due one_of_four 0 says_it ≡ 2199999
+next_message = refl
 
-request_goes : let_go one_of_four (map idle reported ++ record { entry = asks_for_it; goes = classed Shown (Request 1 (named first_stream 1) 0) ∷ [] } ∷ [])
+request_goes : let_go one_of_four (map idle says_it ++ record { entry = asks_for_it; goes = classed Shown (Request 1 (named first_stream 1) 0) ∷ [] } ∷ [])
     ≡ None ∷ Some (classed Shown (Request 1 (named first_stream 1) 0)) ∷ None ∷ []
 request_goes = refl
 
@@ -147,8 +147,8 @@ four_due = refl
 in_one_request : packed 1 (names_up_to first_stream 4) ≡ Request 1 (named first_stream 1) 7 ∷ []
 in_one_request = refl
 
-report_is_due : session_message_due one_of_four 0 four_missing (ticks 1 1200000 (names_up_to first_stream 4) [] [] []) ≡ Some false
-report_is_due = refl
+message_is_due : session_message_due one_of_four 0 four_missing (ticks 1 1200000 (names_up_to first_stream 4) [] [] []) ≡ Some false
+message_is_due = refl
 
 -- the largest jump: all numbers below it are missing
 abbrev far_off : Entry

@@ -85,8 +85,8 @@ spelled_so = refl
 
 -- THE JOURNAL IS LAWFUL
 
-report_right : SessionMessageRight (config 0) (asks ∷ []) 1 true []
-report_right = record { in_order = refl; exact = λ (s : Stream). neither (s.source == 0) }
+message_right : SessionMessageRight (config 0) (asks ∷ []) 1 true []
+message_right = record { in_order = refl; exact = λ (s : Stream). neither (s.source == 0) }
 
 -- a give that the entries before it allow
 gives_right : (past : List Entry) (slot : ℕ) (message : Option PageMsg) → ((n : FullName) → known past n.stream ≡ 0) → ((n : FullName) → known (past ++ gives slot message ∷ []) n.stream ≡ 0)
@@ -99,7 +99,7 @@ each_right : AllByRecursion (EntryRight (config 0) 0) (steps entries)
 each_right = (
   right (config 0) 0 [] 0 1 AskedLeave None [] None Leaving missing_none (λ n. unknown_unmissed (first 1) n refl) (λ n. refl) (λ n. refl) refl (lit≤ tt) refl refl tt tt tt refl refl refl,
   (
-    right (config 0) 0 (first 1) 0 1 Ticked None (farewell ∷ []) None Gone (λ n. unknown_unmissed (first 1) n refl) (λ n. unknown_unmissed (first 2) n refl) (λ n. refl) (λ n. refl) refl (lit≤ tt) refl refl (refl, tt) (farewell_spelled, tt) tt (farewell, refl, (refl, refl, refl, refl, refl, report_right)) refl refl,
+    right (config 0) 0 (first 1) 0 1 Ticked None (farewell ∷ []) None Gone (λ n. unknown_unmissed (first 1) n refl) (λ n. unknown_unmissed (first 2) n refl) (λ n. refl) (λ n. refl) refl (lit≤ tt) refl refl (refl, tt) (farewell_spelled, tt) tt (farewell, refl, (refl, refl, refl, refl, refl, message_right)) refl refl,
     (
       gives_right (first 2) 0 (Some (Open first_page)) (λ n. refl) (λ n. refl) (λ n. refl) refl (refl, refl) refl,
       (

@@ -11,7 +11,7 @@ use std::sync::Wait;
 
 /// Member 1 draws two strokes and hears the second drawop of member 0, whose first it misses. It asks for that two distances of 100,000
 /// microseconds later, is asked for its own first and hears what it missed, and repairs one distance later. A second after it was made, and no microsecond
-/// sooner, it reports, and then it leaves.
+/// sooner, it sends a session message, and then it leaves.
 const STEPS: [Step; 25] = [
     Step::Ink(b'a'),
     Step::Ink(b'b'),
@@ -40,7 +40,7 @@ const STEPS: [Step; 25] = [
     Step::Takes(7, Seen::Close),
 ];
 
-/// By the fourth byte of each datagram: the two strokes, the request, the repair, the report and the farewell.
+/// By the fourth byte of each datagram: the two strokes, the request, the repair, the session message and the farewell.
 const KINDS: [u8; 6] = [1, 1, 2, 3, 4, 4];
 
 fn bytes_of(alloc: Global, bytes: &[u8]) -> Result<Vec<u8>, AllocError> {

@@ -84,9 +84,9 @@ told_is_true starts es run honest m source rows t page =
         let r = run_of_entry starts es from run there in
         let k = sent_by es from (Session source at true shown rows echoes) there out in
         let s = session_sent r.config r.made (of_member from.member es) (Session source at true shown rows echoes) r.run.each refl k in
-        let same : from.member ≡ source = sym r.me ∙ sym s.report.0 in
+        let same : from.member ≡ source = sym r.me ∙ sym s.session_message.0 in
         let l = farewell_sent r.config r.made (of_member from.member es) source at shown rows echoes r.run.each k page in
-        subst (λ w. length (drawn_by es w page) ≤ row_number rows (stream_on source page)) same (subst (λ w. length (drawn_by es from.member page) ≤ row_number rows (stream_on w page)) (sym s.report.0) l)
+        subst (λ w. length (drawn_by es w page) ≤ row_number rows (stream_on source page)) same (subst (λ w. length (drawn_by es from.member page) ≤ row_number rows (stream_on w page)) (sym s.session_message.0) l)
 
 -- what a member drew in its run it drew as its own
 drawn_own : (m : ℕ) (es : List Entry) (d : Drawop) → MemberRun m es → Has d (drawn (of_member m es)) → Has d (drawn (of_member d.name.stream.source es))

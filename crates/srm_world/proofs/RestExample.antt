@@ -1,4 +1,4 @@
--- An honest run of two members that are at rest, after one drawop and a report of each: the premises of the law of rest can be met.
+-- An honest run of two members that are at rest, after one drawop and a session message of each: the premises of the law of rest can be met.
 use Rattle.std.proofs.Common.{◌≡◌, ℕ, Bool, true, false, ◌&&◌, List, [], ◌∷◌, ◌++◌, map, refl, ap, sym, ◌∙◌, subst, arith, lit<, lit≤}
 use Rattle.std.specs.Prelude.{Some, None, option_map, nat_lt, if◌then◌else◌}
 use Rattle.std.specs.List.{AllByRecursion}
@@ -26,35 +26,35 @@ use Rattle.srm_world.specs.Claims.{AtRest}
 use Rattle.srm_entries.specs.Sample.{first_stream, idle, first_drawop, config}
 use Rattle.srm_entries.proofs.Plain.{plain, idle_right, one_spelled, row_spelled, right, one_held, none_missing_in, missing_none, one_of, one_goes, draws_one, missing_drawn, one_data, one_known, twice_known}
 
-abbrev report_of_0 : Datagram
-report_of_0 = Session 0 1000000 false first_page (named first_stream 1 ∷ []) []
+abbrev message_of_0 : Datagram
+message_of_0 = Session 0 1000000 false first_page (named first_stream 1 ∷ []) []
 
 abbrev sends : Entry
-sends = plain 0 1000000 Ticked None (Data first_drawop ∷ report_of_0 ∷ []) None Active
+sends = plain 0 1000000 Ticked None (Data first_drawop ∷ message_of_0 ∷ []) None Active
 
 abbrev hears : Entry
 hears = plain 1 1000100 (Heard (Data first_drawop)) None [] None Active
 
-abbrev hears_report : Entry
-hears_report = plain 1 1000200 (Heard report_of_0) None [] None Active
+abbrev hears_message : Entry
+hears_message = plain 1 1000200 (Heard message_of_0) None [] None Active
 
-abbrev report_of_1 : Datagram
-report_of_1 = Session 1 1000500 false first_page (named first_stream 1 ∷ []) (record { member = 0; t1 = 1000000; delay = 300 } ∷ [])
+abbrev message_of_1 : Datagram
+message_of_1 = Session 1 1000500 false first_page (named first_stream 1 ∷ []) (record { member = 0; t1 = 1000000; delay = 300 } ∷ [])
 
 abbrev answers : Entry
-answers = plain 1 1000500 Ticked None (report_of_1 ∷ []) None Active
+answers = plain 1 1000500 Ticked None (message_of_1 ∷ []) None Active
 
 abbrev hears_back : Entry
-hears_back = plain 0 1000600 (Heard report_of_1) None [] None Active
+hears_back = plain 0 1000600 (Heard message_of_1) None [] None Active
 
 abbrev entries : List Entry
-entries = draws_one ∷ sends ∷ hears ∷ hears_report ∷ answers ∷ hears_back ∷ []
+entries = draws_one ∷ sends ∷ hears ∷ hears_message ∷ answers ∷ hears_back ∷ []
 
-report_of_0_spelled : IsSpellable report_of_0
-report_of_0_spelled = (lit< tt, lit≤ tt, (lit< tt, lit< tt), record { few = lit< tt; names = (row_spelled, tt); rising = refl; sources = ((λ e. refl), tt) }, record { few = lit< tt; each = tt; rising = refl })
+message_of_0_spelled : IsSpellable message_of_0
+message_of_0_spelled = (lit< tt, lit≤ tt, (lit< tt, lit< tt), record { few = lit< tt; names = (row_spelled, tt); rising = refl; sources = ((λ e. refl), tt) }, record { few = lit< tt; each = tt; rising = refl })
 
-report_of_1_spelled : IsSpellable report_of_1
-report_of_1_spelled = (
+message_of_1_spelled : IsSpellable message_of_1
+message_of_1_spelled = (
   lit< tt,
   lit≤ tt,
   (lit< tt, lit< tt),
@@ -73,13 +73,13 @@ missing_told n = none_missing_in (draws_one ∷ sends ∷ hears_back ∷ []) one
 missing_heard : (n : FullName) → is_missing (hears ∷ []) n ≡ false
 missing_heard n = none_missing_in (hears ∷ []) one_held one_known n
 
-missing_reported : (n : FullName) → is_missing (hears ∷ hears_report ∷ []) n ≡ false
-missing_reported n = none_missing_in (hears ∷ hears_report ∷ []) one_held twice_known n
+missing_told_now : (n : FullName) → is_missing (hears ∷ hears_message ∷ []) n ≡ false
+missing_told_now n = none_missing_in (hears ∷ hears_message ∷ []) one_held twice_known n
 
-missing_answered : (n : FullName) → is_missing (hears ∷ hears_report ∷ answers ∷ []) n ≡ false
-missing_answered n = none_missing_in (hears ∷ hears_report ∷ answers ∷ []) one_held twice_known n
+missing_answered : (n : FullName) → is_missing (hears ∷ hears_message ∷ answers ∷ []) n ≡ false
+missing_answered n = none_missing_in (hears ∷ hears_message ∷ answers ∷ []) one_held twice_known n
 
--- the rows of the reports are those due
+-- the rows of the session messages are those due
 rows_right : (c : Config) (before : List Entry) (now : ℕ) → (number_in_rows (named first_stream 1 ∷ []) first_stream ≡ expected_row c before false first_stream) → ((s : Stream) → same_stream s first_stream ≡ false → known before s ≡ 0)
     → SessionMessageRight c before now false (named first_stream 1 ∷ [])
 rows_right c before now here there = record { in_order = refl; exact = λ s. go s (same_stream s first_stream) refl }
@@ -100,10 +100,10 @@ each_0 : AllByRecursion (EntryRight (config 0) 0) (steps (draws_one ∷ sends �
 each_0 = (
   right (config 0) 0 [] 0 1 (Drew first_page (97 ∷ [])) (Some first_drawop) [] None Active missing_none missing_drawn (λ n. refl) (λ n. refl) refl (lit≤ tt) refl refl tt tt tt refl refl refl,
   (
-    right (config 0) 0 (draws_one ∷ []) 0 1000000 Ticked None (Data first_drawop ∷ report_of_0 ∷ []) None Active missing_drawn missing_sent (λ n. refl) (λ n. refl) refl (lit≤ tt) refl refl
-        (refl, (refl, tt)) (one_spelled, (report_of_0_spelled, tt)) tt
-        (report_of_0, refl, (refl, refl, refl, refl, refl, rows_right (config 0) (draws_one ∷ []) 1000000 refl (λ s e. ap (λ b. greatest (one_of b ++ [])) e))) refl refl,
-    (right (config 0) 0 (draws_one ∷ sends ∷ []) 0 1000600 (Heard report_of_1) None [] None Active missing_sent missing_told (λ n. refl) (λ n. refl) refl (lit≤ tt) (refl, refl) refl tt tt report_of_1_spelled refl refl refl, tt),
+    right (config 0) 0 (draws_one ∷ []) 0 1000000 Ticked None (Data first_drawop ∷ message_of_0 ∷ []) None Active missing_drawn missing_sent (λ n. refl) (λ n. refl) refl (lit≤ tt) refl refl
+        (refl, (refl, tt)) (one_spelled, (message_of_0_spelled, tt)) tt
+        (message_of_0, refl, (refl, refl, refl, refl, refl, rows_right (config 0) (draws_one ∷ []) 1000000 refl (λ s e. ap (λ b. greatest (one_of b ++ [])) e))) refl refl,
+    (right (config 0) 0 (draws_one ∷ sends ∷ []) 0 1000600 (Heard message_of_1) None [] None Active missing_sent missing_told (λ n. refl) (λ n. refl) refl (lit≤ tt) (refl, refl) refl tt tt message_of_1_spelled refl refl refl, tt),
   ),
 )
 
@@ -118,25 +118,25 @@ run_0 = record { each = each_0; bucket = (goings_0, refl, (idle_right refl, (rec
 
 -- the member that heard of it
 
-each_1 : AllByRecursion (EntryRight (config 1) 0) (steps (hears ∷ hears_report ∷ answers ∷ []))
+each_1 : AllByRecursion (EntryRight (config 1) 0) (steps (hears ∷ hears_message ∷ answers ∷ []))
 each_1 = (
   right (config 1) 0 [] 1 1000100 (Heard (Data first_drawop)) None [] None Active missing_none missing_heard (λ n. refl) (λ n. refl) refl (lit≤ tt) (refl, refl) refl tt tt one_spelled refl refl refl,
   (
-    right (config 1) 0 (hears ∷ []) 1 1000200 (Heard report_of_0) None [] None Active missing_heard missing_reported (λ n. refl) (λ n. refl) refl (lit≤ tt) (refl, refl) refl tt tt report_of_0_spelled refl refl refl,
+    right (config 1) 0 (hears ∷ []) 1 1000200 (Heard message_of_0) None [] None Active missing_heard missing_told_now (λ n. refl) (λ n. refl) refl (lit≤ tt) (refl, refl) refl tt tt message_of_0_spelled refl refl refl,
     (
-      right (config 1) 0 (hears ∷ hears_report ∷ []) 1 1000500 Ticked None (report_of_1 ∷ []) None Active missing_reported missing_answered (λ n. refl) (λ n. refl) refl (lit≤ tt) refl refl
-          (refl, tt) (report_of_1_spelled, tt) tt
-          (report_of_1, refl, (refl, refl, refl, refl, refl, rows_right (config 1) (hears ∷ hears_report ∷ []) 1000500 refl (λ s e. ap (λ b. greatest (one_of b ++ (one_of b ++ []))) e))) refl refl,
+      right (config 1) 0 (hears ∷ hears_message ∷ []) 1 1000500 Ticked None (message_of_1 ∷ []) None Active missing_told_now missing_answered (λ n. refl) (λ n. refl) refl (lit≤ tt) refl refl
+          (refl, tt) (message_of_1_spelled, tt) tt
+          (message_of_1, refl, (refl, refl, refl, refl, refl, rows_right (config 1) (hears ∷ hears_message ∷ []) 1000500 refl (λ s e. ap (λ b. greatest (one_of b ++ (one_of b ++ []))) e))) refl refl,
       tt,
     ),
   ),
 )
 
-law_1 : BucketLaw 8000 4204 (bucket_calls 1 (map idle (hears ∷ hears_report ∷ answers ∷ [])))
+law_1 : BucketLaw 8000 4204 (bucket_calls 1 (map idle (hears ∷ hears_message ∷ answers ∷ [])))
 law_1 = (record { in_order = λ class. ([], refl); highest_first = tt; not_too_much = (lit≤ tt, lit≤ tt, tt); all_that_may = tt }, tt)
 
 run_1 : IsMemberRun (config 1) 0 (of_member 1 entries)
-run_1 = record { each = each_1; bucket = (map idle (hears ∷ hears_report ∷ answers ∷ []), refl, (idle_right refl, (idle_right refl, (idle_right refl, tt))), law_1) }
+run_1 = record { each = each_1; bucket = (map idle (hears ∷ hears_message ∷ answers ∷ []), refl, (idle_right refl, (idle_right refl, (idle_right refl, tt))), law_1) }
 
 -- both
 
@@ -160,8 +160,8 @@ once_or_twice false = refl
 pub at_rest : AtRest trace.entries 0 1 first_page
 at_rest = record {
   one = record {
-    session_message = report_of_1;
-    before = draws_one ∷ sends ∷ hears ∷ hears_report ∷ [];
+    session_message = message_of_1;
+    before = draws_one ∷ sends ∷ hears ∷ hears_message ∷ [];
     sending = answers;
     after = hears_back ∷ [];
     split = refl;
@@ -172,10 +172,10 @@ at_rest = record {
     same = λ source. refl;
   };
   other = record {
-    session_message = report_of_0;
+    session_message = message_of_0;
     before = draws_one ∷ [];
     sending = sends;
-    after = hears ∷ hears_report ∷ answers ∷ hears_back ∷ [];
+    after = hears ∷ hears_message ∷ answers ∷ hears_back ∷ [];
     split = refl;
     of_k = refl;
     sent = (1, lit< tt, refl);

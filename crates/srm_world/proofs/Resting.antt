@@ -18,7 +18,7 @@ use Rattle.srm_entries.specs.Entries.{accepted, drawn, held_at, is_held, is_miss
 use Rattle.srm_entries.specs.Runs.{EntryRight}
 use Rattle.srm_entries.proofs.Responding.{run_at}
 use Rattle.srm_entries.proofs.Drawing.{drawn_once}
-use Rattle.srm_entries.proofs.Reporting.{Reports, report_sent, known_after_tick, hearer_knows}
+use Rattle.srm_entries.proofs.SessionMessages.{Says, message_sent, known_after_tick, hearer_knows}
 use Rattle.srm_world.specs.declared.start.Start.{Start}
 use Rattle.srm_world.specs.Traces.{of_member, IsRunOf, IsHonest}
 use Rattle.srm_world.specs.Claims.{IsSessionMessageOn, HeardLast, AtRest, RestLaw}
@@ -26,7 +26,7 @@ use Rattle.srm_world.proofs.Members.{MemberRun, of_member-append, of_member-own,
 use Rattle.srm_world.proofs.Honesty.{held_was_drawn}
 use Rattle.srm_world.proofs.Holding.{held_under, held_known, held_to_known}
 
--- who heard the last report of another knows at least as much on the page
+-- who heard the last session message of another knows at least as much on the page
 
 of_member-split : (k : ℕ) (es before after : List Entry) (e : Entry) → es ≡ before ++ e ∷ after → e.member ≡ k → of_member k es ≡ of_member k before ++ e ∷ of_member k after
 of_member-split k es before after e q m =
@@ -38,13 +38,13 @@ heard_later m es before after e h q has =
     subst (λ xs. Has h xs) (sym (ap (of_member m) q ∙ of_member-append m before (e ∷ after) ∙ ap (λ xs. of_member m before ++ xs) (of_member-append m (e ∷ []) after)))
     (Has-back h (of_member m before) (of_member m (e ∷ []) ++ of_member m after) (Has-back h (of_member m (e ∷ [])) (of_member m after) has))
 
-reported : (starts : List Start) (es : List Entry) (m k source : ℕ) (page : Page) (before after : List Entry) (e : Entry) (g : Datagram) → MemberRun k es → es ≡ before ++ e ∷ after → e.member ≡ k
+said : (starts : List Start) (es : List Entry) (m k source : ℕ) (page : Page) (before after : List Entry) (e : Entry) (g : Datagram) → MemberRun k es → es ≡ before ++ e ∷ after → e.member ≡ k
     → Has g e.effects.outs → IsSessionMessageOn k page g → Has (Some g) (map accepted (of_member m after))
     → known (of_member k (before ++ e ∷ [])) (stream_on source page) ≤ known (of_member m es) (stream_on source page)
-reported starts es m k source page before after e (Data d) r q of out is came = absurd is
-reported starts es m k source page before after e (Request sender name mask) r q of out is came = absurd is
-reported starts es m k source page before after e (Repair sender d) r q of out is came = absurd is
-reported starts es m k source page before after e (Session sender sent farewell shown rows echoes) r q of out is came =
+said starts es m k source page before after e (Data d) r q of out is came = absurd is
+said starts es m k source page before after e (Request sender name mask) r q of out is came = absurd is
+said starts es m k source page before after e (Repair sender d) r q of out is came = absurd is
+said starts es m k source page before after e (Session sender sent farewell shown rows echoes) r q of out is came =
     let same : Session sender sent farewell shown rows echoes ≡ Session sender sent false page rows echoes =
     ap (λ f. Session sender sent f shown rows echoes) is.1 ∙ ap (λ p. Session sender sent false p rows echoes) is.2 in
     let split : of_member k es ≡ of_member k before ++ e ∷ of_member k after = of_member-split k es before after e q of in
@@ -52,8 +52,8 @@ reported starts es m k source page before after e (Session sender sent farewell 
     (run_at r.config r.made (of_member k es) (of_member k before) (of_member k after) e r.run.each split).0 in
     let all : AllByRecursion (EntryRight r.config r.made) (steps (of_member k before)) =
     steps_front (EntryRight r.config r.made) [] (of_member k before) (e ∷ of_member k after) (subst (λ xs. AllByRecursion (EntryRight r.config r.made) (steps xs)) split r.run.each) in
-    let says : Reports r.config (of_member k before) e page rows =
-    report_sent r.config r.made (of_member k before) e sender sent page rows echoes right (subst (λ x. Has x e.effects.outs) same out) in
+    let says : Says r.config (of_member k before) e page rows =
+    message_sent r.config r.made (of_member k before) e sender sent page rows echoes right (subst (λ x. Has x e.effects.outs) same out) in
     let (h, has, hears) = Has-map accepted (Some (Session sender sent farewell shown rows echoes)) (of_member m after) came in
     subst (λ n. n ≤ known (of_member m es) (stream_on source page))
     (sym (ap (λ xs. known xs (stream_on source page)) (of_member-own k before e of) ∙ known_after_tick r.config r.made (of_member k before) e (stream_on source page) right says.at_tick))
@@ -66,7 +66,7 @@ knows_as_much starts es m k page run h source =
     let here : Has h.sending es = subst (λ xs. Has h.sending xs) (sym h.split) (Has-back h.sending h.before (h.sending ∷ h.after) (inl refl)) in
     let r : MemberRun k es = subst (λ w. MemberRun w es) h.of_k (run_of_entry starts es h.sending run here) in
     subst (λ n. n ≤ known (of_member m es) (stream_on source page)) (h.same source)
-    (reported starts es m k source page h.before h.after h.sending h.session_message r h.split h.of_k
+    (said starts es m k source page h.before h.after h.sending h.session_message r h.split h.of_k
     (Has-contained h.session_message h.sending.effects.outs h.sent) h.is_session_message (Has-contained (Some h.session_message) (map accepted (of_member m h.after)) h.came))
 
 -- what two members hold under one name is the same

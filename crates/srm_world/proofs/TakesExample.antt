@@ -76,8 +76,8 @@ row_right s = which (same_stream s first_stream) refl
     which true e = ap (λ (t : Stream). if t.source == 0 then Some 1 else None) (sym (same_stream-is s first_stream e))
     which false e = neither (s.source == 0)
 
-report_right : SessionMessageRight (config 0) (draws_one ∷ sends ∷ asks_leave ∷ []) 21 true (named first_stream 1 ∷ [])
-report_right = record { in_order = refl; exact = row_right }
+message_right : SessionMessageRight (config 0) (draws_one ∷ sends ∷ asks_leave ∷ []) 21 true (named first_stream 1 ∷ [])
+message_right = record { in_order = refl; exact = row_right }
 
 abbrev first_run : List Entry
 first_run = draws_one ∷ sends ∷ asks_leave ∷ parts ∷ []
@@ -91,7 +91,7 @@ first_each = (
       right (config 0) 0 (draws_one ∷ sends ∷ []) 0 20 AskedLeave None [] None Leaving missing_drawn missing_drawn (λ n. refl) (λ n. refl) refl (lit≤ tt) refl refl tt tt tt refl refl refl,
       (
         right (config 0) 0 (draws_one ∷ sends ∷ asks_leave ∷ []) 0 21 Ticked None (farewell ∷ []) None Gone missing_drawn missing_drawn (λ n. refl) (λ n. refl) refl (lit≤ tt) refl refl (refl, tt) (farewell_spelled, tt) tt
-            (farewell, refl, (refl, refl, refl, refl, refl, report_right)) refl refl,
+            (farewell, refl, (refl, refl, refl, refl, refl, message_right)) refl refl,
         tt,
       ),
     ),

@@ -5,7 +5,7 @@ ghost use Rattle.srm_names.specs.declared.limits.TheConstants.{LATEST_MOMENT};
 ghost use Rattle.srm_names.specs.Names.{ascending, name_below};
 ghost use Rattle.srm_agent.specs.DueItems.{DueItems};
 ghost use Rattle.srm_entries.specs.Entries.{is_leaving};
-ghost use Rattle.srm_agent.specs.Ticking.{IsDue, IsSessionMessageAt, IsReportIf, IsToHandOut};
+ghost use Rattle.srm_agent.specs.Ticking.{IsDue, IsSessionMessageAt, IsSessionMessageIf, IsToHandOut};
 
 use super::Agent;
 use srm_entries::AgentState;
@@ -24,7 +24,7 @@ pub(super) struct Due {
     /// What a member that is leaving ends with, once no data of its own waits.
     pub farewell: Option<DueSessionMessage>,
     /// The session message, where one is due.
-    pub report: Option<DueSessionMessage>,
+    pub session_message: Option<DueSessionMessage>,
 }
 
 /// What a tick hands out.
@@ -64,13 +64,13 @@ impl<W: Words + Drop> Agent<W> {
     {
         let handed_out = self.to_hand_out(moment)?;
         let due_items = self.due_items(handed_out.asks.as_slice(), handed_out.fixes.as_slice())?;
-        let farewell = self.report_if(self.is_leaving(), true, moment)?;
-        let report = self.report_if(self.due <= moment, false, moment)?;
+        let farewell = self.session_message_if(self.is_leaving(), true, moment)?;
+        let session_message = self.session_message_if(self.due <= moment, false, moment)?;
         Ok(Due {
             handed_out,
             due_items,
             farewell,
-            report,
+            session_message,
         })
     }
 
@@ -93,28 +93,28 @@ impl<W: Words + Drop> Agent<W> {
     }
 
     /// The session message or the farewell of a moment, where it is wanted. Only want of memory refuses it.
-    fn report_if(
+    fn session_message_if(
         &self,
         is_wanted: bool,
         farewell: bool,
         moment: u64,
     ) -> Result<Option<DueSessionMessage>, AllocError>
         requires { moment ≤ LATEST_MOMENT }
-        ensures { IfOk result (IsReportIf is_wanted self.now moment farewell) }
+        ensures { IfOk result (IsSessionMessageIf is_wanted self.now moment farewell) }
     {
         if is_wanted {
-            Ok(Some(self.report_at(farewell, moment)?))
+            Ok(Some(self.session_message_at(farewell, moment)?))
         } else {
             Ok(None)
         }
     }
 
     /// The session message or the farewell of a moment. Only want of memory refuses it.
-    fn report_at(&self, farewell: bool, moment: u64) -> Result<DueSessionMessage, AllocError>
+    fn session_message_at(&self, farewell: bool, moment: u64) -> Result<DueSessionMessage, AllocError>
         requires { moment ≤ LATEST_MOMENT }
         ensures { IfOk result (IsSessionMessageAt self.now moment farewell) }
     {
-        let outgoing = self.report(farewell, moment)?;
+        let outgoing = self.session_message(farewell, moment)?;
         let next = moment + self.session_interval(&outgoing.out.datagram);
         Ok(DueSessionMessage { outgoing, next })
     }

@@ -8,7 +8,7 @@ ghost use Rattle.srm_bucket.specs.Waiting.{queue};
 ghost use Rattle.srm_deadlines.specs.Least.{lesser};
 ghost use Rattle.srm_entries.specs.Entries.{is_leaving};
 ghost use Rattle.srm_agent_state.specs.TimerCalls.{TimersNext};
-ghost use Rattle.srm_agent.specs.Waking.{IsEarly, IsLate, IsNextAt, NextDue, report_next, sooner_of};
+ghost use Rattle.srm_agent.specs.Waking.{IsEarly, IsLate, IsNextAt, NextDue, session_message_next, sooner_of};
 
 use super::Agent;
 use srm_bucket::Class;
@@ -45,7 +45,7 @@ impl<W: Words + Drop> Agent<W> {
         ensures { IsNextAt self.now result }
     {
         let first = lesser(self.next_timer(), self.next_to_go());
-        sooner(first, self.next_report())
+        sooner(first, self.next_session_message())
     }
 
     /// When the first timer runs out.
@@ -63,8 +63,8 @@ impl<W: Words + Drop> Agent<W> {
     }
 
     /// From when on a tick ends with a session message or a farewell, if nothing is drawn or heard before.
-    fn next_report(&self) -> u64
-        ensures { result ≡ report_next self.now }
+    fn next_session_message(&self) -> u64
+        ensures { result ≡ session_message_next self.now }
     {
         if self.is_parting() {
             return self.last;

@@ -55,20 +55,20 @@ impl<W: Words + Drop> Agent<W> {
     pub(super) fn end(
         &mut self,
         farewell: Option<DueSessionMessage>,
-        report: Option<DueSessionMessage>,
+        message: Option<DueSessionMessage>,
         moment: u64,
     ) -> Option<DueSessionMessage>
         requires { moment ≤ LATEST_MOMENT }
-        ensures value { result ≡ session_message_at_end (data_waits self.old.bucket) farewell report }
+        ensures value { result ≡ session_message_at_end (data_waits self.old.bucket) farewell message }
         ensures new { self.new ≡ record self.old { state = state_after (data_waits self.old.bucket) farewell self.old.state; last = moment; due = due_then result self.old.due } }
     {
         let waits = self.bucket.waiting(Class::New) > 0;
         if farewell.is_some() && !waits {
             self.state = AgentState::Gone;
         }
-        let last = session_message_at_end(waits, farewell, report);
-        if let Some(report) = &last {
-            self.due = report.next;
+        let last = session_message_at_end(waits, farewell, message);
+        if let Some(message) = &last {
+            self.due = message.next;
         }
         self.last = moment;
         last
@@ -81,8 +81,8 @@ pub(super) fn with_last(mut went: Went, last: Option<DueSessionMessage>) -> Went
     ensures outs { result.outs ≡ went.outs ++ option_to_list (option_map (λ r. r.outgoing.out) last) }
     ensures noted { result.noted ≡ went.noted ++ option_to_list (option_map (λ r. r.outgoing.noted) last) }
 {
-    if let Some(report) = last {
-        went.add(report.outgoing);
+    if let Some(message) = last {
+        went.add(message.outgoing);
     }
     went
 }
@@ -91,11 +91,11 @@ pub(super) fn with_last(mut went: Went, last: Option<DueSessionMessage>) -> Went
 fn session_message_at_end(
     waits: bool,
     farewell: Option<DueSessionMessage>,
-    report: Option<DueSessionMessage>,
+    message: Option<DueSessionMessage>,
 ) -> Option<DueSessionMessage>
-    ensures { result ≡ session_message_at_end waits farewell report }
+    ensures { result ≡ session_message_at_end waits farewell message }
 {
-    if waits { report } else { farewell.or(report) }
+    if waits { message } else { farewell.or(message) }
 }
 
 /// How many datagrams go in a tick at most, with so many requests and repairs and the message that ends it; `None` where that is more than is

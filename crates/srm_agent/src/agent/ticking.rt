@@ -134,10 +134,10 @@ impl<W: Words + Drop> Agent<W> {
             handed_out,
             due_items,
             farewell,
-            report,
+            session_message,
         } = due;
         let went = self.send(due_items, went, moment);
-        let last = self.end(farewell, report, moment);
+        let last = self.end(farewell, session_message, moment);
         let (outs, sent) = with_last(went, last).into_items();
         Ok(Acted {
             ticked: Ticked {

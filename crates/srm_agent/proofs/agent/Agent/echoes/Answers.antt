@@ -1,8 +1,8 @@
 use Rattle.std.proofs.Common.{subst}
 use Rattle.std.specs.Prelude.{IfOk}
 use Rattle.srm_agent.specs.Contents.{content_of}
-use Rattle.srm_agent.specs.Reports.{AreOwed}
-use Rattle.srm_agent.proofs.ReportSpelled.{owed_if_ok}
+use Rattle.srm_agent.specs.SessionMessages.{AreOwed}
+use Rattle.srm_agent.proofs.MessageSpelled.{owed_if_ok}
 use Rattle.srm_agent.proofs.agent.Agent.echoes.Goals as goal
 
 pub returns : goal.returns

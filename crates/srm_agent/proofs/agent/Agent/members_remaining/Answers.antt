@@ -1,5 +1,5 @@
 use Rattle.std.proofs.Common.{subst}
-use Rattle.srm_agent.specs.Reports.{CountsOnce}
+use Rattle.srm_agent.specs.SessionMessages.{CountsOnce}
 use Rattle.srm_agent.proofs.Leavers.{counts_more}
 use Rattle.srm_agent.proofs.agent.Agent.members_remaining.Goals as goal
 

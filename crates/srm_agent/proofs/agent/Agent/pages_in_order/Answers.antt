@@ -1,7 +1,7 @@
 use Rattle.std.proofs.Common.{◌≡◌, ap, ◌∙◌, subst}
 use Rattle.std.specs.List.Sorted.{IsPermutation}
 use Rattle.srm_agent.specs.Contents.{Content}
-use Rattle.srm_agent.specs.Reports.{AreInOrder}
+use Rattle.srm_agent.specs.SessionMessages.{AreInOrder}
 use Rattle.srm_agent.proofs.Sorting.{sorted_pages}
 use Rattle.srm_agent.proofs.agent.Agent.pages_in_order.Goals as goal
 

@@ -1,5 +1,5 @@
 use Rattle.std.proofs.Common.{take}
-use Rattle.srm_agent.specs.Reports.{AreRowsOf}
+use Rattle.srm_agent.specs.SessionMessages.{AreRowsOf}
 use Rattle.srm_agent.proofs.agent.Agent.rows_of.Given as goal
 
 abbrev pub invariant-loop-stream : goal.invariant-loop-stream

@@ -1,5 +1,5 @@
 use Rattle.std.proofs.Common.{◌≡◌}
-use Rattle.srm_agent.specs.Reports.{streams_on}
+use Rattle.srm_agent.specs.SessionMessages.{streams_on}
 use Rattle.srm_agent.proofs.agent.Agent.streams_shown.Given as goal
 
 abbrev pub invariant-loop-number : goal.invariant-loop-number

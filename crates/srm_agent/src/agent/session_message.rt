@@ -7,10 +7,10 @@ ghost use Rattle.srm_names.specs.Names.{named, stream_on};
 ghost use Rattle.srm_codec.specs.declared.datagram.Datagram.TheVariants.{Session};
 ghost use Rattle.srm_codec.specs.Spelling.{IsSpellable, is_page};
 ghost use Rattle.srm_entries.specs.Configs.{Config as AConfig};
-ghost use Rattle.srm_agent.specs.declared.agent.reporting.TheConstants.{LONGEST_INTERVAL, LONGEST_SESSION_MESSAGE};
+ghost use Rattle.srm_agent.specs.declared.agent.session_message.TheConstants.{LONGEST_INTERVAL, LONGEST_SESSION_MESSAGE};
 ghost use Rattle.srm_entries.specs.declared.entry.Entry.{Entry as AnEntry};
 ghost use Rattle.srm_agent.specs.Fits.{Fits};
-ghost use Rattle.srm_agent.specs.Reports.{IsSessionMessageOf, IsSessionMessageSpelled, AreReported, AreOwed, AreShown, AreOwnStreams, AreInOrder, AreRowsOf, IsRow, SaysLeft, CountsOnce};
+ghost use Rattle.srm_agent.specs.SessionMessages.{IsSessionMessageOf, IsSessionMessageSpelled, AreDueRows, AreOwed, AreShown, AreOwnStreams, AreInOrder, AreRowsOf, IsRow, SaysLeft, CountsOnce};
 ghost use Rattle.srm_entries.specs.Sessions.{members_remaining, session_interval, if_positive};
 
 use super::Agent;
@@ -38,9 +38,9 @@ pub const LONGEST_INTERVAL: u64 = SESSION_SHARE
 impl<W: Words + Drop> Agent<W> {
     /// The session message, or the farewell, that this member sends at a moment, in microseconds. Only want of memory
     /// refuses it.
-    pub(super) fn report(&self, farewell: bool, moment: u64) -> Result<Outgoing, AllocError>
+    pub(super) fn session_message(&self, farewell: bool, moment: u64) -> Result<Outgoing, AllocError>
         requires { moment ≤ LATEST_MOMENT }
-        ensures { IfOk result (λ report. IsSessionMessageSpelled self.now moment farewell report) }
+        ensures { IfOk result (λ message. IsSessionMessageSpelled self.now moment farewell message) }
     {
         let message = self.message(farewell, moment)?;
         Outgoing::new(self.alloc, self.config.session(), message)
@@ -85,7 +85,7 @@ impl<W: Words + Drop> Agent<W> {
     /// The rows of the page shown, or in a farewell of all that this member drew.
     #[tactic(auto, using(crate::proofs::Rows::rows_of_page, crate::proofs::Rows::rows_of_own))]
     fn rows(&self, farewell: bool) -> Result<Vec<Name>, AllocError>
-        ensures { IfOk result (λ rows. AreReported self.now farewell rows.items) }
+        ensures { IfOk result (λ rows. AreDueRows self.now farewell rows.items) }
     {
         if farewell {
             return self.rows_of(&self.own_streams()?);
@@ -146,12 +146,12 @@ impl<W: Words + Drop> Agent<W> {
     }
 
     /// How long after a session message the next one is due, in microseconds.
-    pub(super) fn session_interval(&self, report: &Datagram) -> u64
-        requires { IsSpellable report.now }
-        ensures value { (c : AConfig) (made : ℕ) (past : List AnEntry) → Fits c made past self.now → result ≡ session_interval c past report.now }
+    pub(super) fn session_interval(&self, message: &Datagram) -> u64
+        requires { IsSpellable message.now }
+        ensures value { (c : AConfig) (made : ℕ) (past : List AnEntry) → Fits c made past self.now → result ≡ session_interval c past message.now }
         ensures longest { result ≤ LONGEST_INTERVAL }
     {
-        interval_after(self.members_remaining(), length(report), self.config.rate())
+        interval_after(self.members_remaining(), length(message), self.config.rate())
     }
 
     /// How many members of the roster aren't known to have left, this one among them.

@@ -16,7 +16,7 @@ use Rattle.srm_distance.specs.Fits.{Fits as DistancesFit}
 use Rattle.srm_entries.specs.Configs.{Config}
 use Rattle.srm_agent.specs.Contents.{Content}
 use Rattle.srm_entries.specs.Distances.{distance_calls}
-use Rattle.srm_agent.specs.Reports.{IsSessionMessageOf, AreReported, AreOwed}
+use Rattle.srm_agent.specs.SessionMessages.{IsSessionMessageOf, AreDueRows, AreOwed}
 
 -- echoes that can be sent at a moment have a spelling
 each_echo : (me now : ℕ) (echoes : List Echo) → now ≤ LATEST_MOMENT → All (CanBeSent me now) echoes → AllByRecursion is_echo echoes
@@ -43,16 +43,16 @@ owed_if_ok a moment items (Ok v) low value range = owed a moment (items v) low v
 owed_if_ok a moment items (Err e) low value range = tt
 
 pub is_spellable : {W : Type 0} (a : Content W) (moment : ℕ) (farewell : Bool) (me : ℕ) (page : Page) (rows : List FullName) (echoes : List Echo)
-    → me ≡ a.config.me → moment ≤ LATEST_MOMENT → me < MEMBERS → is_page page → AreReported a farewell rows → AreOwed a moment echoes → IsSpellable (Session me moment farewell page rows echoes)
-is_spellable a moment farewell me page rows echoes same low below paged reported owed =
-    (below, low, paged, subst (λ m. AreRows farewell m rows) (sym same) reported.spelled, owed.spelled)
+    → me ≡ a.config.me → moment ≤ LATEST_MOMENT → me < MEMBERS → is_page page → AreDueRows a farewell rows → AreOwed a moment echoes → IsSpellable (Session me moment farewell page rows echoes)
+is_spellable a moment farewell me page rows echoes same low below paged due owed =
+    (below, low, paged, subst (λ m. AreRows farewell m rows) (sym same) due.spelled, owed.spelled)
 
 -- a session message of these rows and echoes
-pub report_is : {W : Type 0} (a : Content W) (moment : ℕ) (farewell : Bool) (me : ℕ) (page : Page) (rows : List FullName) (echoes : List Echo)
-    → me ≡ a.config.me → page ≡ a.showing → AreReported a farewell rows → AreOwed a moment echoes → IsSpellable (Session me moment farewell page rows echoes)
+pub message_is : {W : Type 0} (a : Content W) (moment : ℕ) (farewell : Bool) (me : ℕ) (page : Page) (rows : List FullName) (echoes : List Echo)
+    → me ≡ a.config.me → page ≡ a.showing → AreDueRows a farewell rows → AreOwed a moment echoes → IsSpellable (Session me moment farewell page rows echoes)
     → IsSessionMessageOf a moment farewell (Session me moment farewell page rows echoes)
-report_is a moment farewell me page rows echoes same shown reported owed spellable = record {
-  right = λ c made past fits. (same ∙ ap (λ (k : Config). k.me) fits.config, refl, refl, shown ∙ fits.showing, owed.is c made past fits, reported.right c made past moment fits);
+message_is a moment farewell me page rows echoes same shown due owed spellable = record {
+  right = λ c made past fits. (same ∙ ap (λ (k : Config). k.me) fits.config, refl, refl, shown ∙ fits.showing, owed.is c made past fits, due.right c made past moment fits);
   sender = same;
   session = refl;
   farewell = refl;

@@ -1,4 +1,4 @@
--- What an agent reports: a session message, over whatever run it fits.
+-- The session message of an agent, over whatever run it fits.
 use Rattle.std.specs.Prelude.{◌≡◌, ◌≤◌, ℕ, Bool, true, not, List, [], ◌∷◌, ◌⊎◌, length, map, Option, IfSome, is_some, option_map, cond}
 use Rattle.std.specs.List.{filter_map, list_any}
 use Rattle.srm_names.specs.declared.limits.TheConstants.{MEMBERS, PAGES}
@@ -30,7 +30,7 @@ pub record IsSessionMessageOf {W : Type 0} (a : Content W) (moment : ℕ) (wante
 
 -- and with its spelling
 pub record IsSessionMessageSpelled {W : Type 0} (a : Content W) (moment : ℕ) (wanted : Bool) (o : Outgoing) : Type 0 where
-  pub report : IsSessionMessageOf a moment wanted o.out.datagram
+  pub message : IsSessionMessageOf a moment wanted o.out.datagram
   pub outgoing : IsOutgoing a.config.session o
 
 -- whether a member is known to have left, by all that an agent keeps
@@ -85,7 +85,7 @@ pub record AreOwnStreams {W : Type 0} (a : Content W) (streams : List Stream) : 
   pub are : streams ≡ map (stream_on a.config.me) sorted
 
 -- the rows of a session message, or of a farewell
-pub record AreReported {W : Type 0} (a : Content W) (wanted : Bool) (rows : List FullName) : Type 0 where
+pub record AreDueRows {W : Type 0} (a : Content W) (wanted : Bool) (rows : List FullName) : Type 0 where
   pub right : (c : Config) (made : ℕ) (past : List Entry) (now : ℕ) → Fits c made past a → SessionMessageRight c past now wanted rows
   pub spelled : AreRows wanted a.config.me rows
 

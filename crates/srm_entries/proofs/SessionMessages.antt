@@ -1,4 +1,4 @@
--- What a session message that was sent reports, and what whoever hears it then knows.
+-- What a session message that was sent says, and what whoever hears it then knows.
 use Rattle.std.proofs.Common.{◌≡◌, ℕ, ◌≤◌, max, Bool, true, false, ◌&&◌, List, [], ◌∷◌, ◌++◌, map, refl, ap, sym, ◌∙◌, subst, arith}
 use Rattle.std.specs.Prelude.{Option, Some, None, option_to_list, option_map, find, nat_le, nat_lt, if◌then◌else◌}
 use Rattle.std.specs.List.{flat_map, AllByRecursion}
@@ -26,15 +26,15 @@ use Rattle.srm_entries.proofs.Parting.{ends, ending_ticks, tick_draws_nothing}
 use Rattle.srm_entries.proofs.Responding.{tick_hears_nothing}
 use Rattle.srm_entries.proofs.Knowing.{known_at_least, known_inside}
 
--- what a report says
-pub record Reports (c : Config) (before : List Entry) (e : Entry) (page : Page) (rows : List FullName) : Type 0 where
+-- what a session_message says
+pub record Says (c : Config) (before : List Entry) (e : Entry) (page : Page) (rows : List FullName) : Type 0 where
   pub at_tick : ticked e ≡ true
   pub on_page : page ≡ shown before
   pub right : SessionMessageRight c before e.moment false rows
 
-pub report_sent : (c : Config) (made : ℕ) (before : List Entry) (e : Entry) (sender sent : ℕ) (page : Page) (rows : List FullName) (echoes : List Echo)
-    → EntryRight c made (record { before = before; this = e }) → Has (Session sender sent false page rows echoes) e.effects.outs → Reports c before e page rows
-report_sent c made before e sender sent page rows echoes r h =
+pub message_sent : (c : Config) (made : ℕ) (before : List Entry) (e : Entry) (sender sent : ℕ) (page : Page) (rows : List FullName) (echoes : List Echo)
+    → EntryRight c made (record { before = before; this = e }) → Has (Session sender sent false page rows echoes) e.effects.outs → Says c before e page rows
+message_sent c made before e sender sent page rows echoes r h =
     let (f, due, is) = ends c before e (Session sender sent false page rows echoes) (session_message_due c made before e) r.session h refl in
     record { at_tick = ending_ticks c made before e f due; on_page = is.3; right = is.5 }
 
@@ -49,7 +49,7 @@ known_after_tick c made before e s r t =
     none_more : (k : ℕ) → max k 0 ≡ k
     none_more k = omega arith
 
--- whoever hears a report knows at least as much
+-- whoever hears a session_message knows at least as much
 
 row_of_number : (rows : List FullName) (s : Stream) (k : ℕ) → number_in_rows rows s ≡ Some k → (n : FullName) × Has n rows × (same_stream s n.stream ≡ true) × (n.number ≡ k)
 row_of_number rows s k e = go (find (λ (n : FullName). same_stream s n.stream) rows) refl e
@@ -59,10 +59,10 @@ row_of_number rows s k e = go (find (λ (n : FullName). same_stream s n.stream) 
     go None q f = absurd (cc)
     go (Some n) q f = let found = find-Has (λ (n : FullName). same_stream s n.stream) rows n q in (n, found.0, found.1, cc)
 
--- the report names each stream of the page of which its sender knew
-row_reported : (c : Config) (before : List Entry) (e : Entry) (source : ℕ) (page : Page) (rows : List FullName) → Reports c before e page rows
+-- the session_message names each stream of the page of which its sender knew
+row_said : (c : Config) (before : List Entry) (e : Entry) (source : ℕ) (page : Page) (rows : List FullName) → Says c before e page rows
     → nat_lt source c.members ≡ true → 1 ≤ known before (stream_on source page) → number_in_rows rows (stream_on source page) ≡ Some (known before (stream_on source page))
-row_reported c before e source page rows r m k =
+row_said c before e source page rows r m k =
     r.right.exact (stream_on source page)
     ∙ ap (λ (b : Bool). if b && nat_lt source c.members then if_positive (known before (stream_on source page)) else None) (subst (λ p. same_page page p ≡ true) r.on_page (same_page-itself page))
     ∙ ap (λ b. if b then if_positive (known before (stream_on source page)) else None) m
@@ -75,7 +75,7 @@ row_reported c before e source page rows r m k =
         test n l = grind (arith, nat_tests)
 
 pub hearer_knows : (c : Config) (made : ℕ) (before : List Entry) (e : Entry) (source sender sent : ℕ) (page : Page) (rows : List FullName) (echoes : List Echo) (other : List Entry) (h : Entry)
-    → nat_le c.members c.me ≡ false → AllByRecursion (EntryRight c made) (steps before) → Reports c before e page rows
+    → nat_le c.members c.me ≡ false → AllByRecursion (EntryRight c made) (steps before) → Says c before e page rows
     → Has h other → accepted h ≡ Some (Session sender sent false page rows echoes) → known before (stream_on source page) ≤ known other (stream_on source page)
 hearer_knows c made before e source sender sent page rows echoes other h inside all r k q = go (nat_le c.members source) refl
   where
@@ -99,7 +99,7 @@ hearer_knows c made before e source sender sent page rows echoes other h inside 
             small a b e = grind (arith, nat_tests)
         cases true z =
             let (n, has, same, is) = row_of_number rows (stream_on source page) (known before (stream_on source page))
-            (row_reported c before e source page rows r inside_too (some (known before (stream_on source page)) z)) in
+            (row_said c before e source page rows r inside_too (some (known before (stream_on source page)) z)) in
             subst (λ k. k ≤ known other (stream_on source page)) is
             (known_at_least other h n (stream_on source page) k (named n has) same)
           where
