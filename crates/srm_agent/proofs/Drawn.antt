@@ -25,7 +25,7 @@ use Rattle.srm_codec.specs.Spelling.{is_drawop, length_of, sender_of, is_session
 use Rattle.srm_store.specs.Held.{page_of_drawop, page_of_name, pages_named, outgrow}
 use Rattle.srm_store.specs.PageTables.{is_in}
 use Rattle.srm_store.specs.Finals.{Settling}
-use Rattle.srm_store.specs.Fits.{StillFits}
+use Rattle.srm_store.specs.Fits.{StoreStays}
 use Rattle.srm_store.specs.Fits as store
 use Rattle.srm_store.proofs.Pages.{length-included, each_once-firsts, is_in-firsts}
 use Rattle.srm_bucket.specs.declared.class.Class.TheVariants.{New}
@@ -399,12 +399,12 @@ draw_unslotted next_word a b now moment page body name x fine some same full is 
     absurd (false≢true (sym short ∙ ap (λ (n : FullName). outgrow (held past) (evidence_in past) (n.stream.page ∷ [])) (sym named_so) ∙ long))))
 
 -- after room was made, the agent fits what it fitted
-roomy_fits : {W : Type 0} (a b : Content W) → b ≡ record a { store = b.store; bucket = b.bucket } → StillFits a.store b.store → bucket.Stays a.bucket b.bucket
+roomy_fits : {W : Type 0} (a b : Content W) → b ≡ record a { store = b.store; bucket = b.bucket } → StoreStays a.store b.store → bucket.Stays a.bucket b.bucket
     → (c : Config) (made : ℕ) (past : List Entry) → Fits c made past a → Fits c made past b
 roomy_fits a b is still stays c made past h =
     subst (Fits c made past) (sym is) (refit c made past a b.store a.timers b.bucket a.words h (still.each (held past) (evidence_in past) (settlings past) h.store) h.timers (roomy c past a.bucket b.bucket stays h.bucket))
 
-pub roomy_stays : {W : Type 0} (a b : Content W) → b ≡ record a { store = b.store; bucket = b.bucket } → StillFits a.store b.store → bucket.Stays a.bucket b.bucket → Stays a b
+pub roomy_stays : {W : Type 0} (a b : Content W) → b ≡ record a { store = b.store; bucket = b.bucket } → StoreStays a.store b.store → bucket.Stays a.bucket b.bucket → Stays a b
 roomy_stays a b is still stays = record { fits = roomy_fits a b is still stays; words = ap (λ (x : Content _). x.words) is }
 
 -- the draft of a name of this member is its own
@@ -428,7 +428,7 @@ draw_allowed a page body name fine some = record { each = λ c made past h. sym 
 
 pub draw_done : {W : Type 0} (next_word : W → ℕ × W) (a b n : Content W) (now moment : ℕ) (page : Page) (body : List ℕ) (name : FullName) (draft : Draft) (x : Entry)
     → Done ≡ first_cause (refusals a.state a.pages page (length body)) → Names a page (Some name) → moment ≡ max now a.last
-    → b ≡ record a { store = b.store; bucket = b.bucket } → StillFits a.store b.store → bucket.Stays a.bucket b.bucket
+    → b ≡ record a { store = b.store; bucket = b.bucket } → StoreStays a.store b.store → bucket.Stays a.bucket b.bucket
     → IsDraftOf a.config.session (record { name = name; stamp = moment; body = body }) draft → is_drawop (record { name = name; stamp = moment; body = body })
     → n ≡ record b { last = moment; pages = with_page b.pages page; store = n.store; bucket = n.bucket } → HoldsToo draft.held b.store n.store
     → bucket.Adds (Handed (record { class = New; item = draft.going })) b.bucket n.bucket

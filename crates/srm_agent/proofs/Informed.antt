@@ -12,7 +12,7 @@ use Rattle.srm_codec.specs.Spelling.{names_in, row_below, IsSpellable}
 use Rattle.srm_store.specs.Held.{number_in}
 use Rattle.srm_store.specs.Stores.{StoreContent}
 use Rattle.srm_store.specs.Fits as store
-use Rattle.srm_store.specs.Fits.{StillFits}
+use Rattle.srm_store.specs.Fits.{StoreStays}
 use Rattle.srm_distance.specs.Content.{Content as DistancesContent}
 use Rattle.srm_distance.specs.Distance as defined
 use Rattle.srm_distance.specs.Fits as distances
@@ -64,7 +64,7 @@ hears_roomy is newly_missing dist now arms a b d stays hears = record { each = �
 
 pub session_enters : {W : Type 0} (next_word : W → ℕ × W) (a b : Content W) (moment : ℕ) (g : Datagram) (names newly_missing : List FullName) (dist : List ℕ) (arms : List Arm) (roomy : StoreContent) (after : DistancesContent) (e : Entry)
     → IsSession g → names ≡ names_in g → is_gone a.state ≡ false → IsSpellable g → a.last ≤ moment → IsAllowed (Heard g) a → AreNewlyMissingByRows names a newly_missing → HearsToo a.config.me moment g a.distances after → IsTableOf after dist
-    → TimersHear IsSession newly_missing dist moment arms a.timers b.timers → StillFits a.store roomy → LearnsToo g roomy b.store → b.pages ≡ with_pages_of a.pages names → b.distances ≡ after → Goes a b moment
+    → TimersHear IsSession newly_missing dist moment arms a.timers b.timers → StoreStays a.store roomy → LearnsToo g roomy b.store → b.pages ≡ with_pages_of a.pages names → b.distances ≡ after → Goes a b moment
     → HaveSettings a.config a.timers → WaitsAreChosen next_word a.timers a.words arms b.words → e ≡ heard_entry a.config.me moment g arms a.state
     → Enters next_word (Some moment) (Heard g) a b e
 session_enters next_word a b moment g names newly_missing dist arms roomy after e is named here spellable late allowed fresh_of hears_too table hears kept learns pages same goes settings drawn e_is =

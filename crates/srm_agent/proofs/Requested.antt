@@ -10,7 +10,7 @@ use Rattle.srm_codec.specs.Spelling.{asked_by, IsSpellable}
 use Rattle.srm_store.specs.Held.{greatest_in}
 use Rattle.srm_store.specs.Stores.{StoreContent}
 use Rattle.srm_store.specs.Fits as store
-use Rattle.srm_store.specs.Fits.{StillFits}
+use Rattle.srm_store.specs.Fits.{StoreStays}
 use Rattle.srm_distance.specs.Distance as defined
 use Rattle.srm_distance.specs.Calls.{Call}
 use Rattle.srm_timers.specs.declared.arm.Arm.{Arm}
@@ -44,7 +44,7 @@ fresh_in {a = a} {names = names} {newly_missing = newly_missing} e h = subst (λ
 
 pub request_enters : {W : Type 0} (next_word : W → ℕ × W) (a b : Content W) (moment sender : ℕ) (name : FullName) (mask : ℕ) (names newly_missing : List FullName) (dist : List ℕ) (arms : List Arm) (roomy : StoreContent) (e : Entry)
     → names ≡ asked_by name mask → is_gone a.state ≡ false → IsSpellable (Request sender name mask) → a.last ≤ moment → IsAllowed (Heard (Request sender name mask)) a → AreNewlyMissingUpTo name.stream names a newly_missing → IsTableOf a.distances dist
-    → TimersHearRequest roomy sender names newly_missing dist moment arms a.timers b.timers → StillFits a.store roomy → LearnsNames names roomy b.store → b.pages ≡ with_pages_of a.pages names → b.distances ≡ a.distances → Goes a b moment
+    → TimersHearRequest roomy sender names newly_missing dist moment arms a.timers b.timers → StoreStays a.store roomy → LearnsNames names roomy b.store → b.pages ≡ with_pages_of a.pages names → b.distances ≡ a.distances → Goes a b moment
     → HaveSettings a.config a.timers → WaitsAreChosen next_word a.timers a.words arms b.words → e ≡ heard_entry a.config.me moment (Request sender name mask) arms a.state
     → Enters next_word (Some moment) (Heard (Request sender name mask)) a b e
 request_enters next_word a b moment sender name mask names newly_missing dist arms roomy e asked here spellable late allowed up_to table hears kept shows pages same goes settings drawn e_is =

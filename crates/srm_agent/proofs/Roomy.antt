@@ -11,7 +11,7 @@ use Rattle.srm_store.specs.declared.fault.StoreFault.{StoreFault}
 use Rattle.srm_store.specs.declared.fault.StoreFault.TheVariants.{PageLimit}
 use Rattle.srm_store.specs.Stores.{StoreContent}
 use Rattle.srm_store.specs.Fits as store
-use Rattle.srm_store.specs.Fits.{StillFits}
+use Rattle.srm_store.specs.Fits.{StoreStays}
 use Rattle.srm_entries.specs.declared.cause.Cause.TheVariants as causes
 use Rattle.srm_entries.specs.declared.entry.Entry.{Entry}
 use Rattle.srm_entries.specs.declared.entry.Input.{Input}
@@ -36,13 +36,13 @@ use Rattle.srm_agent.proofs.Taken.{stays}
 abbrev pub with_store : {W : Type 0} → Content W → StoreContent → Content W
 with_store a s = record a { store = s }
 
-pub stays_roomy : {W : Type 0} (a : Content W) (s : StoreContent) → StillFits a.store s → Stays a (with_store a s)
+pub stays_roomy : {W : Type 0} (a : Content W) (s : StoreContent) → StoreStays a.store s → Stays a (with_store a s)
 stays_roomy a s kept = stays a s a.timers a.words kept (all_stays a.timers) refl
 
-pub accepted_roomy : {W : Type 0} (g : Datagram) (a : Content W) (s : StoreContent) → StillFits s a.store → IsAllowed (Heard g) a → IsAllowed (Heard g) (with_store a s)
+pub accepted_roomy : {W : Type 0} (g : Datagram) (a : Content W) (s : StoreContent) → StoreStays s a.store → IsAllowed (Heard g) a → IsAllowed (Heard g) (with_store a s)
 accepted_roomy g a s before taken = record { each = λ c made past h. taken.each c made past ((stays_roomy (with_store a s) a.store before).fits c made past h) }
 
-pub may_roomy : {W : Type 0} (g : Datagram) (names : List FullName) (moment : ℕ) (a : Content W) (s : StoreContent) → StillFits s a.store → MayAccept g names moment a → MayAccept g names moment (with_store a s)
+pub may_roomy : {W : Type 0} (g : Datagram) (names : List FullName) (moment : ℕ) (a : Content W) (s : StoreContent) → StoreStays s a.store → MayAccept g names moment a → MayAccept g names moment (with_store a s)
 may_roomy g names moment a s before may = record {
   here = may.here;
   spelled = may.spelled;
@@ -54,7 +54,7 @@ may_roomy g names moment a s before may = record {
 }
 
 -- what is done once there is room is done
-pub enters_roomy : {W : Type 0} (next_word : W → ℕ × W) (a b : Content W) (s : StoreContent) (moment : ℕ) (input : Input) (e : Entry) → StillFits a.store s → Enters next_word (Some moment) input (with_store a s) b e → Enters next_word (Some moment) input a b e
+pub enters_roomy : {W : Type 0} (next_word : W → ℕ × W) (a b : Content W) (s : StoreContent) (moment : ℕ) (input : Input) (e : Entry) → StoreStays a.store s → Enters next_word (Some moment) input (with_store a s) b e → Enters next_word (Some moment) input a b e
 enters_roomy next_word a b s moment input e kept enters = record {
   input_is = enters.input_is;
   moment_is = enters.moment_is;
@@ -62,7 +62,7 @@ enters_roomy next_word a b s moment input e kept enters = record {
   words = enters.words;
 }
 
-pub stays_on_roomy : {W : Type 0} (a b : Content W) (s : StoreContent) → StillFits a.store s → Stays (with_store a s) b → Stays a b
+pub stays_on_roomy : {W : Type 0} (a b : Content W) (s : StoreContent) → StoreStays a.store s → Stays (with_store a s) b → Stays a b
 stays_on_roomy a b s kept on = record { fits = λ c made past h. on.fits c made past ((stays_roomy a s kept).fits c made past h); words = on.words }
 
 pub judged_accepted : {W : Type 0} (g : Datagram) (a : Content W) (e : Entry) → IsAllowed (Heard g) a → e.verdict ≡ Done → IsJudgedBy g a e

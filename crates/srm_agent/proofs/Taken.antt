@@ -12,7 +12,7 @@ use Rattle.srm_codec.specs.declared.datagram.Datagram.{Datagram}
 use Rattle.srm_codec.specs.declared.datagram.Datagram.TheVariants.{Data, Repair}
 use Rattle.srm_codec.specs.Spelling.{names_in, is_farewell, IsSpellable}
 use Rattle.srm_store.specs.Stores.{StoreContent}
-use Rattle.srm_store.specs.Fits.{StillFits}
+use Rattle.srm_store.specs.Fits.{StoreStays}
 use Rattle.srm_distance.specs.Distance as defined
 use Rattle.srm_distance.specs.Calls.{Call}
 use Rattle.srm_timers.specs.declared.arm.Arm.{Arm}
@@ -86,7 +86,7 @@ may_carry repairer d names moment a may = subst (λ ns. MayAccept (carrying repa
 
 pub drawop_enters : {W : Type 0} (next_word : W → ℕ × W) (a b : Content W) (moment : ℕ) (g : Datagram) (is : Datagram → Type 0) (d : Drawop) (newly_missing : List FullName) (dist : List ℕ) (arms : List Arm) (roomy : StoreContent) (e : Entry)
     → BringsOne d g → is g → is_gone a.state ≡ false → IsSpellable g → a.last ≤ moment → IsAllowed (Heard g) a → AreNewlyMissingBelow d.name a newly_missing → IsTableOf a.distances dist
-    → TimersHear is newly_missing dist moment arms a.timers b.timers → StillFits a.store roomy → HoldsToo d roomy b.store → b.pages ≡ with_pages_of a.pages (d.name ∷ []) → b.distances ≡ a.distances → Goes a b moment
+    → TimersHear is newly_missing dist moment arms a.timers b.timers → StoreStays a.store roomy → HoldsToo d roomy b.store → b.pages ≡ with_pages_of a.pages (d.name ∷ []) → b.distances ≡ a.distances → Goes a b moment
     → HaveSettings a.config a.timers → WaitsAreChosen next_word a.timers a.words arms b.words → e ≡ heard_entry a.config.me moment g arms a.state
     → Enters next_word (Some moment) (Heard g) a b e
 drawop_enters next_word a b moment g is d newly_missing dist arms roomy e one it here spellable late allowed below table hears kept holds pages same goes settings drawn e_is =
@@ -113,7 +113,7 @@ below_is n s k known_of number names e f g h = record {
 }
 
 -- want of memory: the store has room, the timers stay, and no word was used
-pub stays : {W : Type 0} (a : Content W) (s : StoreContent) (t : TimersContent) (w : W) → StillFits a.store s → TimersStay a.timers t → w ≡ a.words → Stays a (record a { store = s; timers = t; words = w })
+pub stays : {W : Type 0} (a : Content W) (s : StoreContent) (t : TimersContent) (w : W) → StoreStays a.store s → TimersStay a.timers t → w ≡ a.words → Stays a (record a { store = s; timers = t; words = w })
 stays a s t w kept timers words = record {
   fits = λ c made past h. refit c made past a s t a.bucket w h (kept.each (held past) (evidence_in past) (settlings past) h.store) (timers.each c past h.timers) h.bucket;
   words = words;

@@ -6,6 +6,7 @@ use Rattle.std.specs.Int.{Width, w8, w16, w32, w64, byte_len}
 use Rattle.srm_names.specs.declared.limits.TheConstants.{MEMBERS, DRAWOPS, LONGEST_BODY, LATEST_MOMENT}
 use Rattle.srm_names.specs.declared.echo.Echo.{Echo}
 use Rattle.srm_names.specs.FullName.{FullName}
+use Rattle.srm_codec.specs.declared.format.TheConstants.{MAGIC}
 use Rattle.srm_codec.specs.declared.datagram.Datagram.{Datagram}
 use Rattle.srm_codec.specs.declared.datagram.Datagram.TheVariants.{Request, Session}
 use Rattle.srm_codec.specs.declared.fault.DecodeFault.{DecodeFault}
@@ -153,7 +154,7 @@ contents_have version kind sender bytes = of_kind (kind == 1) (kind == 2) (versi
 has_none : (session : ℕ) (bytes : List ℕ) → HasNone (judge session bytes)
 unfolding judge magic_at version_at kind_at session_at
 has_none session bytes =
-    bind (magic_at bytes) _ (value w16 (λ n. n == 0x5352) Magic bytes (λ e. absurd cc)) (λ magic. bind (version_at magic.1) _ (value w8 (λ n. (n == 1) || (n == 2)) Version magic.1 (λ e. absurd cc)) (λ version.
+    bind (magic_at bytes) _ (value w16 (λ n. n == MAGIC) Magic bytes (λ e. absurd cc)) (λ magic. bind (version_at magic.1) _ (value w8 (λ n. (n == 1) || (n == 2)) Version magic.1 (λ e. absurd cc)) (λ version.
     bind (kind_at version.0 version.1) _ (value w8 (is_kind version.0) Kind version.1 (λ e. absurd cc)) (λ kind. bind (session_at session kind.1) _ (value w32 (λ n. n == session) faults.Session kind.1 (λ e. absurd cc)) (λ number.
     bind (member_at number.1) _ (member number.1) (λ sender. contents_have version.0 kind.0 sender.0 sender.1)))))
 

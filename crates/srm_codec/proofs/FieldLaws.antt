@@ -7,7 +7,7 @@ use Rattle.std.proofs.lemmas.Bool.{ltb-false, le-ltb, not-true, and_parts, and_f
 use Rattle.std.proofs.lemmas.Bool.Decides.{nat_tests}
 use Rattle.std.proofs.lemmas.List.{take_at, drop_at, take-append-drop, length-append, length-take}
 use Rattle.std.proofs.lemmas.Nat.{be_bytes_2, be_bytes_4, be_bytes_8, from_be_bytes-to_be_bytes_2, from_be_bytes-to_be_bytes_4, from_be_bytes-to_be_bytes_8}
-use Rattle.srm_names.specs.declared.limits.TheConstants.{MEMBERS, DRAWOPS, LONGEST_BODY, LATEST_MOMENT}
+use Rattle.srm_names.specs.declared.limits.TheConstants.{MEMBERS, PAGE_NUMBERS, DRAWOPS, LONGEST_BODY, LATEST_MOMENT}
 use Rattle.srm_names.specs.declared.page.Page.{Page}
 use Rattle.srm_names.specs.declared.stream.Stream.{Stream}
 use Rattle.srm_names.specs.declared.drawop.Drawop.{Drawop}
@@ -142,8 +142,8 @@ name_of stream number = record { stream = stream; number = number }
 
 pub page_reads : Reads page_at page_bytes is_page
 unfolding page_at page_bytes
-page_reads = joined member_at one_byte (λ n. n < MEMBERS) (λ _. number_at w16) (λ _. to_be_bytes w16) (λ _ n. n < 2 ^ 16) page_of (λ p. p.creator) (λ p. p.number)
-    (record { whole = λ p. refl; first_of = λ a b. refl; second_of = λ a b. refl }) member_reads (λ _ _. number_reads w16 (2 ^ 16) (to_be_bytes w16) wide16)
+page_reads = joined member_at one_byte (λ n. n < MEMBERS) (λ _. number_at w16) (λ _. to_be_bytes w16) (λ _ n. n < PAGE_NUMBERS) page_of (λ p. p.creator) (λ p. p.number)
+    (record { whole = λ p. refl; first_of = λ a b. refl; second_of = λ a b. refl }) member_reads (λ _ _. number_reads w16 PAGE_NUMBERS (to_be_bytes w16) wide16)
 
 abbrev pub is_source : Option ℕ → ℕ → Type 0
 is_source wanted n = (n < MEMBERS) × (is_wanted wanted n ≡ true)

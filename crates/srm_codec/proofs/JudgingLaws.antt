@@ -7,6 +7,7 @@ use Rattle.std.proofs.lemmas.Bool.Decides.{nat_tests}
 use Rattle.std.proofs.lemmas.Nat.{from_be_bytes-to_be_bytes_4}
 use Rattle.srm_names.specs.declared.limits.TheConstants.{MEMBERS}
 use Rattle.srm_names.specs.FullName.{FullName}
+use Rattle.srm_codec.specs.declared.format.TheConstants.{MAGIC}
 use Rattle.srm_codec.specs.declared.datagram.Datagram.{Datagram}
 use Rattle.srm_codec.specs.declared.datagram.Datagram.TheVariants.{Data, Request, Repair, Session}
 use Rattle.srm_codec.specs.declared.fault.DecodeFault.{DecodeFault}
@@ -23,9 +24,9 @@ use Rattle.srm_codec.proofs.ContentLaws.{Completes, data_taken, data_again, repa
 
 -- ---- the head
 
-magic_reads : Reads magic_at (to_be_bytes w16) (λ n. (n < 2 ^ 16) × ((n == 0x5352) ≡ true))
+magic_reads : Reads magic_at (to_be_bytes w16) (λ n. (n < 2 ^ 16) × ((n == MAGIC) ≡ true))
 unfolding magic_at
-magic_reads = checked (number_at w16) (to_be_bytes w16) (λ n. n < 2 ^ 16) (λ n. n == 0x5352) Magic (number_reads w16 (2 ^ 16) (to_be_bytes w16) wide16)
+magic_reads = checked (number_at w16) (to_be_bytes w16) (λ n. n < 2 ^ 16) (λ n. n == MAGIC) Magic (number_reads w16 (2 ^ 16) (to_be_bytes w16) wide16)
 
 abbrev is_version : ℕ → Bool
 is_version n = (n == 1) || (n == 2)
@@ -71,7 +72,7 @@ behind_version session version = kind_at version.0 version.1 >>= behind_kind ses
 abbrev behind_magic : ℕ → ℕ × List ℕ → Result Datagram DecodeFault
 behind_magic session magic = version_at magic.1 >>= behind_version session
 
-head_parts : (version kind session sender : ℕ) → to_be_bytes w16 0x5352 ++ (one_byte version ++ (one_byte kind ++ (to_be_bytes w32 session ++ one_byte sender))) ≡ head version kind session sender
+head_parts : (version kind session sender : ℕ) → to_be_bytes w16 MAGIC ++ (one_byte version ++ (one_byte kind ++ (to_be_bytes w32 session ++ one_byte sender))) ≡ head version kind session sender
 unfolding head
 head_parts version kind session sender = refl
 
@@ -90,11 +91,11 @@ head_taken session bytes g fits e =
     let x = member_reads.takes d.0.1 f.0.0 f.0.1 w.0.rest_fits f.1 in
     let is : d.0.0 ≡ session = eqb-true _ _ w.1.1 in
     let number : Takes c.0.1 (to_be_bytes w32 session) d.0.1 = subst (λ (n : ℕ). Takes c.0.1 (to_be_bytes w32 n) d.0.1) is w.0 in
-    let magic : Takes bytes (to_be_bytes w16 0x5352) a.0.1 = subst (λ (n : ℕ). Takes bytes (to_be_bytes w16 n) a.0.1) (eqb-true _ _ t.1.1) t.0 in
+    let magic : Takes bytes (to_be_bytes w16 MAGIC) a.0.1 = subst (λ (n : ℕ). Takes bytes (to_be_bytes w16 n) a.0.1) (eqb-true _ _ t.1.1) t.0 in
     let n4 = Takes-then c.0.1 (to_be_bytes w32 session) d.0.1 (one_byte f.0.0) f.0.1 number x.0 in
     let n3 = Takes-then b.0.1 (one_byte c.0.0) c.0.1 (to_be_bytes w32 session ++ one_byte f.0.0) f.0.1 v.0 n4 in
     let n2 = Takes-then a.0.1 (one_byte b.0.0) b.0.1 (one_byte c.0.0 ++ (to_be_bytes w32 session ++ one_byte f.0.0)) f.0.1 u.0 n3 in
-    let n1 = Takes-then bytes (to_be_bytes w16 0x5352) a.0.1 (one_byte b.0.0 ++ (one_byte c.0.0 ++ (to_be_bytes w32 session ++ one_byte f.0.0))) f.0.1 magic n2 in
+    let n1 = Takes-then bytes (to_be_bytes w16 MAGIC) a.0.1 (one_byte b.0.0 ++ (one_byte c.0.0 ++ (to_be_bytes w32 session ++ one_byte f.0.0))) f.0.1 magic n2 in
     record {
       version = b.0.0;
       kind = c.0.0;
@@ -119,7 +120,7 @@ head_again : (version kind session sender : ℕ) (rest : List ℕ) → is_versio
     → judge session (head version kind session sender ++ rest) ≡ contents_of version kind sender rest
 unfolding judge head
 head_again version kind session sender rest v k s m =
-    ap (λ (read : Read ℕ). read >>= behind_magic session) (magic_reads.again 0x5352 (one_byte version ++ (one_byte kind ++ (to_be_bytes w32 session ++ (one_byte sender ++ rest)))) (omega arith, refl))
+    ap (λ (read : Read ℕ). read >>= behind_magic session) (magic_reads.again MAGIC (one_byte version ++ (one_byte kind ++ (to_be_bytes w32 session ++ (one_byte sender ++ rest)))) (omega arith, refl))
     ∙ ap (λ (read : Read ℕ). read >>= behind_version session) (version_reads.again version (one_byte kind ++ (to_be_bytes w32 session ++ (one_byte sender ++ rest))) (small_version version v, v))
     ∙ ap (λ (read : Read ℕ). read >>= behind_kind session version) ((kind_reads version).again kind (to_be_bytes w32 session ++ (one_byte sender ++ rest)) (small_kind version kind k, k))
     ∙ ap (λ (read : Read ℕ). read >>= behind_session version kind) ((session_reads session).again session (one_byte sender ++ rest) (s, eq-eqb session session refl))

@@ -1,11 +1,12 @@
 -- The lists of a session message are read as they are written.
-use Rattle.std.proofs.Common.{◌≡◌, ℕ, zero, suc, ◌^◌, ◌<◌, Bool, true, false, List, [], ◌∷◌, ◌++◌, length, Ok, Option, Some, None, refl, sym, ap, subst, ◌∙◌, append_assoc, arith, eq-eqb}
+use Rattle.std.proofs.Common.{◌≡◌, ℕ, zero, suc, ◌<◌, ◌≤◌, Bool, true, false, List, [], ◌∷◌, ◌++◌, length, Ok, Option, Some, None, refl, sym, ap, subst, ◌∙◌, append_assoc, arith, eq-eqb}
 use Rattle.std.specs.Prelude.{◌&&◌, if◌then◌else◌}
 use Rattle.std.specs.List.{flat_map, AllByRecursion}
 use Rattle.std.specs.Int.{w8}
 use Rattle.std.proofs.lemmas.Bool.{eqb-true, and_parts, and_from}
 use Rattle.srm_names.specs.declared.echo.Echo.{Echo}
 use Rattle.srm_names.specs.FullName.{FullName}
+use Rattle.srm_codec.specs.declared.format.TheConstants.{LONGEST_LIST}
 use Rattle.srm_names.specs.Names.{ascending, echo_below}
 use Rattle.srm_names.proofs.Lists.{all_by}
 use Rattle.srm_codec.specs.Spelling.{AreRows, AreEchoes, is_name, is_echo, row_below, name_bytes, echo_bytes}
@@ -76,21 +77,21 @@ abbrev pub list_bytes : {X : Type 0} → (X → List ℕ) → List X → List �
 list_bytes write xs = length xs ∷ flat_map write xs
 
 pub list_reads : {X : Type 0} (item : Option X → List ℕ → Read X) (write : X → List ℕ) (P : Option X → X → Type 0) → ((last : Option X) → Reads (item last) write (P last))
-    → Reads (list_at item) (list_bytes write) (λ xs. (length xs < 2 ^ 8) × AllFrom P None xs)
+    → Reads (list_at item) (list_bytes write) (λ xs. (length xs ≤ LONGEST_LIST) × AllFrom P None xs)
 unfolding list_at
 list_reads {X} item write P each = record { takes = taking; again = reading }
   where
     counted : Reads (number_at w8) one_byte (λ n. n < 256)
     counted = number_reads w8 256 one_byte wide8
 
-    taking : (bytes : List ℕ) (xs : List X) (rest : List ℕ) → IsBytes bytes → list_at item bytes ≡ Ok (xs, rest) → Takes bytes (list_bytes write xs) rest × ((length xs < 2 ^ 8) × AllFrom P None xs)
+    taking : (bytes : List ℕ) (xs : List X) (rest : List ℕ) → IsBytes bytes → list_at item bytes ≡ Ok (xs, rest) → Takes bytes (list_bytes write xs) rest × ((length xs ≤ LONGEST_LIST) × AllFrom P None xs)
     taking bytes xs rest fits e =
         let a = bind_ok (number_at w8 bytes) (λ count. items_at item count.0 None count.1) (xs, rest) e in
         let t = counted.takes bytes a.0.0 a.0.1 fits a.1 in
         let u = (items_reads item write P each a.0.0 None).takes a.0.1 xs rest t.0.rest_fits a.2 in
         (Takes-then bytes (length xs ∷ []) a.0.1 (flat_map write xs) rest (subst (λ (n : ℕ). Takes bytes (n ∷ []) a.0.1) (sym u.1.0) t.0) u.0, (omega (arith, t.1, u.1.0), u.1.1))
 
-    reading : (xs : List X) (rest : List ℕ) → (length xs < 2 ^ 8) × AllFrom P None xs → list_at item (list_bytes write xs ++ rest) ≡ Ok (xs, rest)
+    reading : (xs : List X) (rest : List ℕ) → (length xs ≤ LONGEST_LIST) × AllFrom P None xs → list_at item (list_bytes write xs ++ rest) ≡ Ok (xs, rest)
     reading xs rest (few, all) =
         ap (λ (read : Read ℕ). read >>= λ count. items_at item count.0 None count.1) (counted.again (length xs) (flat_map write xs ++ rest) (omega arith))
         ∙ (items_reads item write P each (length xs) None).again xs rest (refl, all)
@@ -146,7 +147,7 @@ pub rows_reads : (farewell : Bool) (sender : ℕ) → Reads (list_at (name_at (w
 rows_reads farewell sender =
     let wanted : Option ℕ = wanted_in farewell sender in
     let same = passes-ascending row_above row_below (λ x. refl) (λ x y. refl) in
-    renamed (list_at (name_at wanted)) (list_bytes name_bytes) (λ rows. (length rows < 2 ^ 8) × AllFrom (IsNext wanted) None rows) (AreRows farewell sender)
+    renamed (list_at (name_at wanted)) (list_bytes name_bytes) (λ rows. (length rows ≤ LONGEST_LIST) × AllFrom (IsNext wanted) None rows) (AreRows farewell sender)
     (λ rows h. record {
       few = h.0;
       names = each_of (IsNext wanted) is_name (λ last x n. n.named) None rows h.1;
@@ -159,7 +160,7 @@ rows_reads farewell sender =
 pub echoes_reads : Reads (list_at echo_at) (list_bytes echo_bytes) AreEchoes
 echoes_reads =
     let same = passes-ascending echo_above echo_below (λ x. refl) (λ x y. refl) in
-    renamed (list_at echo_at) (list_bytes echo_bytes) (λ echoes. (length echoes < 2 ^ 8) × AllFrom IsNextEcho None echoes) AreEchoes
+    renamed (list_at echo_at) (list_bytes echo_bytes) (λ echoes. (length echoes ≤ LONGEST_LIST) × AllFrom IsNextEcho None echoes) AreEchoes
     (λ echoes h. record {
       few = h.0;
       each = each_of IsNextEcho is_echo (λ last x n. n.fits) None echoes h.1;

@@ -2,13 +2,13 @@
 use Rattle.std.specs.Prelude.{◌≡◌, ℕ, zero, suc, ◌+◌, ◌*◌, ◌^◌, ◌<◌, ◌≤◌, ◌/◌, ◌%◌, ◌==◌, Bool, true, false, List, [], ◌∷◌, ◌++◌, length, map, slice_index, if◌then◌else◌, Option, Some, None}
 use Rattle.std.specs.List.{flat_map, AllByRecursion}
 use Rattle.std.specs.Int.{w16, w32, w64, to_be_bytes}
-use Rattle.srm_names.specs.declared.limits.TheConstants.{MEMBERS, DRAWOPS, LONGEST_BODY, LATEST_MOMENT}
+use Rattle.srm_names.specs.declared.limits.TheConstants.{MEMBERS, PAGE_NUMBERS, DRAWOPS, LONGEST_BODY, LATEST_MOMENT}
 use Rattle.srm_names.specs.declared.page.Page.{Page}
 use Rattle.srm_names.specs.declared.drawop.Drawop.{Drawop}
 use Rattle.srm_names.specs.declared.echo.Echo.{Echo}
 use Rattle.srm_names.specs.FullName.{FullName}
 use Rattle.srm_names.specs.Names.{named, ascending, stream_below, echo_below}
-use Rattle.srm_codec.specs.declared.format.TheConstants.{PLAIN, PACKED, DATA, REQUEST, REPAIR, SESSION_MESSAGE, HEAD_BYTES, NAME_BYTES, MASK_BYTES, MASK_BITS, DRAWOP_BYTES, SESSION_MESSAGE_BYTES, ECHO_BYTES}
+use Rattle.srm_codec.specs.declared.format.TheConstants.{MAGIC, PLAIN, PACKED, DATA, REQUEST, REPAIR, SESSION_MESSAGE, HEAD_BYTES, NAME_BYTES, MASK_BYTES, MASK_BITS, DRAWOP_BYTES, SESSION_MESSAGE_BYTES, ECHO_BYTES, LONGEST_LIST}
 use Rattle.srm_codec.specs.declared.datagram.Datagram.{Datagram}
 use Rattle.srm_codec.specs.declared.datagram.Datagram.TheVariants.{Data, Request, Repair, Session}
 
@@ -54,7 +54,7 @@ sole_name _ = None
 
 -- what has a spelling
 abbrev pub is_page : Page → Type 0
-is_page p = (p.creator < MEMBERS) × (p.number < 2 ^ 16)
+is_page p = (p.creator < MEMBERS) × (p.number < PAGE_NUMBERS)
 
 abbrev pub is_name : FullName → Type 0
 is_name n = (n.stream.source < MEMBERS) × is_page n.stream.page × (1 ≤ n.number) × (n.number ≤ DRAWOPS)
@@ -70,14 +70,14 @@ row_below a b = stream_below a.stream b.stream
 
 -- rows rise by stream, and in a farewell the source of each is the sender
 pub record AreRows (farewell : Bool) (sender : ℕ) (rows : List FullName) : Type 0 where
-  pub few : length rows < 2 ^ 8
+  pub few : length rows ≤ LONGEST_LIST
   pub names : AllByRecursion is_name rows
   pub rising : ascending row_below rows ≡ true
   pub sources : AllByRecursion (λ row. farewell ≡ true → row.stream.source ≡ sender) rows
 
 -- echoes rise by member
 pub record AreEchoes (echoes : List Echo) : Type 0 where
-  pub few : length echoes < 2 ^ 8
+  pub few : length echoes ≤ LONGEST_LIST
   pub each : AllByRecursion is_echo echoes
   pub rising : ascending echo_below echoes ≡ true
 
@@ -90,7 +90,7 @@ IsSpellable (Session sender sent farewell shown rows echoes) =
 
 -- the fields
 unfoldable pub head : ℕ → ℕ → ℕ → ℕ → List ℕ
-head version kind session sender = 0x53 ∷ 0x52 ∷ version ∷ kind ∷ (to_be_bytes w32 session ++ sender ∷ [])
+head version kind session sender = to_be_bytes w16 MAGIC ++ version ∷ kind ∷ (to_be_bytes w32 session ++ sender ∷ [])
 
 unfoldable pub page_bytes : Page → List ℕ
 page_bytes p = p.creator ∷ to_be_bytes w16 p.number

@@ -5,6 +5,7 @@ ghost use Rattle.std.specs.List.{flat_map};
 ghost use Rattle.std.specs.Int.{w16, w32, w64, to_be_bytes};
 ghost use Rattle.srm_names.specs.declared.limits.TheConstants.{LONGEST_BODY};
 ghost use Rattle.srm_codec.specs.Judging.{judge};
+ghost use Rattle.srm_codec.specs.declared.format.TheConstants.{LONGEST_LIST};
 ghost use Rattle.srm_codec.specs.Spelling.{IsSpellable, Spells, spelling, length_of, drawop_bytes, name_bytes, echo_bytes, request_bytes};
 
 use crate::datagram::Datagram;
@@ -118,7 +119,7 @@ fn put_request(
 
 /// The rows behind their count.
 fn put_rows(out: &mut Vec<u8>, rows: &[Name]) -> Result<(), AllocError>
-    requires { length rows.now < 2 ^ 8 }
+    requires { length rows.now ≤ LONGEST_LIST }
     ensures { OnOk result (out.new.items
         ≡ out.old.items ++ length rows.now ∷ flat_map name_bytes rows.now) }
 {
@@ -131,7 +132,7 @@ fn put_rows(out: &mut Vec<u8>, rows: &[Name]) -> Result<(), AllocError>
 
 /// The echoes behind their count.
 fn put_echoes(out: &mut Vec<u8>, echoes: &[Echo]) -> Result<(), AllocError>
-    requires { length echoes.now < 2 ^ 8 }
+    requires { length echoes.now ≤ LONGEST_LIST }
     ensures { OnOk result (out.new.items
         ≡ out.old.items ++ length echoes.now ∷ flat_map echo_bytes echoes.now) }
 {

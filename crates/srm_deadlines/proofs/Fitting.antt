@@ -13,8 +13,8 @@ use Rattle.srm_deadlines.specs.declared.by_name.NamedValue.{NamedValue}
 use Rattle.srm_deadlines.specs.declared.timed.Timed.{Timed}
 use Rattle.srm_deadlines.specs.Places.{is_timed, is_at, names_of, has_place, value_at}
 use Rattle.srm_names.specs.Moments.{has_come}
-use Rattle.srm_deadlines.specs.Deadlines.{DueAmong, DueFit}
-use Rattle.srm_deadlines.specs.Agenda.{of_name, is_due, PairsFit}
+use Rattle.srm_deadlines.specs.Deadlines.{DueAmong, DueHasRoom}
+use Rattle.srm_deadlines.specs.Agenda.{of_name, is_due, PairsHaveRoom}
 use Rattle.srm_deadlines.proofs.Agendas.{there_is_room, none_among, rising_once, short_of}
 use Rattle.srm_deadlines.proofs.Dues.{front_passes, any_both, among_names, names_counted, fewer}
 use Rattle.srm_deadlines.proofs.Looking.{DueSoFar}
@@ -55,7 +55,7 @@ once_no_more names all once inside =
 
 -- the front of an agenda
 pub front_fits : (now : ℕ) (pairs : List Timed) (count room : ℕ) → ((n : FullName) → length (of_name n pairs) ≤ 1) → count ≤ length pairs
-    → IsPartitionPoint (λ t. is_due now t ≡ true) (λ t. is_due now t ≡ false) pairs count → PairsFit now pairs room → length (take count pairs) ≤ room
+    → IsPartitionPoint (λ t. is_due now t ≡ true) (λ t. is_due now t ≡ false) pairs count → PairsHaveRoom now pairs room → length (take count pairs) ≤ room
 front_fits now pairs count room once le parts fit =
     let front : take count pairs ≡ filter (is_due now) pairs = front_passes (is_due now) pairs count le parts in
     let k : length (filter (is_due now) pairs) ≤ length fit.names = no_more (filter (is_due now) pairs) fit.names
@@ -69,7 +69,7 @@ once_timed names rising n = subst (λ xs. length xs ≤ 1) (sym (rising_once (ma
 
 -- one more name that is due fits among them all
 pub another_fits : (now room : ℕ) (seen places : List (NamedValue ℕ)) (names : List FullName) (name : FullName) → DueSoFar now seen places names → among names name ≡ false
-    → has_come now (value_at places name) ≡ true → DueFit now places room → length names < room
+    → has_come now (value_at places name) ≡ true → DueHasRoom now places room → length names < room
 another_fits now room seen places names name so_far new come fit =
     let k : length (as_timed name ∷ map as_timed names) ≤ length fit.names = no_more (as_timed name ∷ map as_timed names) fit.names (λ n. once n (same_name n name) refl) (λ n at. inside n (same_name n name) refl at) in
     let l = fit.few in

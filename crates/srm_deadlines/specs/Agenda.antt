@@ -50,7 +50,7 @@ abbrev pub is_due : ℕ → Timed → Bool
 is_due now t = has_come now (Some t.moment)
 
 -- what is due there are at most so many names
-pub record PairsFit (now : ℕ) (pairs : List Timed) (room : ℕ) : Type 0 where
+pub record PairsHaveRoom (now : ℕ) (pairs : List Timed) (room : ℕ) : Type 0 where
   pub names : List FullName
   pub due : (n : FullName) → list_any (is_due now) (of_name n pairs) ≡ true → among names n ≡ true
   pub few : length names ≤ room

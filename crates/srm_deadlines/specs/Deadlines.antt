@@ -11,7 +11,7 @@ pub record DueAmong (now : ℕ) (places : List (NamedValue ℕ)) (names : List F
   pub each : (n : FullName) → has_come now (value_at places n) ≡ true → among names n ≡ true
 
 -- what is due are at most so many names
-pub record DueFit (now : ℕ) (places : List (NamedValue ℕ)) (room : ℕ) : Type 0 where
+pub record DueHasRoom (now : ℕ) (places : List (NamedValue ℕ)) (room : ℕ) : Type 0 where
   pub names : List FullName
   pub due : DueAmong now places names
   pub few : length names ≤ room

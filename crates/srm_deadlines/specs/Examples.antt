@@ -9,7 +9,7 @@ use Rattle.srm_deadlines.specs.declared.by_name.NamedValue.{NamedValue}
 use Rattle.srm_deadlines.specs.declared.timed.Timed.{Timed}
 use Rattle.srm_deadlines.specs.Agenda.{timed_order, of_name, timed_for, timed_among, is_due}
 use Rattle.srm_names.specs.Moments.{has_come}
-use Rattle.srm_deadlines.specs.Deadlines.{DueAmong, DueFit}
+use Rattle.srm_deadlines.specs.Deadlines.{DueAmong, DueHasRoom}
 use Rattle.srm_deadlines.specs.Least.{lesser}
 use Rattle.srm_deadlines.specs.MomentLists.{item_at, values_of, due_in, IsUnder, IsLeastIn, IsFirstIn, AreLeasts, Stands}
 use Rattle.srm_deadlines.specs.Places.{value_in, value_at, has_place, moment_among, KeepsPlaces, GivesPlaces, KeepsValues, Sets, SetsAll, ClearsAll, HasPlaces, IsLeast, place_names}
@@ -188,7 +188,7 @@ not_among_none : DueAmong 5 after [] → ⊥
 not_among_none h = absurd (let k : false ≡ true = h.each one refl in cc)
 
 -- a moment earlier nothing is due, and no room is needed
-nothing_due_yet : DueFit 4 after 0
+nothing_due_yet : DueHasRoom 4 after 0
 nothing_due_yet = record { names = []; due = record { each = λ n. go (same_name n one) }; few = omega arith }
   where
     go : (b : Bool) → has_come 4 (value_in (cond b (Some filled) None)) ≡ true → false ≡ true

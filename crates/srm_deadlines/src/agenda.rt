@@ -4,7 +4,7 @@ ghost use Rattle.std.specs.Prelude.{◌≡◌, ℕ, ◌≤◌, ◌<◌, ◌+◌,
 ghost use Rattle.std.specs.List.{list_any};
 ghost use Rattle.srm_names.specs.FullName.{FullName};
 ghost use Rattle.srm_names.specs.Names.{among, ascending, name_below, same_name, AreExactly};
-ghost use Rattle.srm_deadlines.specs.Agenda.{of_name, timed_for, is_due, timed_among, PairsFit};
+ghost use Rattle.srm_deadlines.specs.Agenda.{of_name, timed_for, is_due, timed_among, PairsHaveRoom};
 ghost use Rattle.srm_deadlines.specs.Places.{names_of};
 
 use crate::timed::Timed;
@@ -117,7 +117,7 @@ impl Agenda {
         requires once { (n : FullName) → length (of_name n self.now.pairs) ≤ 1 }
         ensures names { OnOk result (AreExactly (λ n. list_any (is_due now) (of_name n self.now.pairs)) names.new.items) }
         ensures capacity { vec_capacity names.old ≤ vec_capacity names.new }
-        ensures room { PairsFit now self.now.pairs (vec_capacity names.old) → IsOk result }
+        ensures room { PairsHaveRoom now self.now.pairs (vec_capacity names.old) → IsOk result }
     {
         let count = self.pairs.partition_point(|pair| pair.moment <= now);
         put_names(names, &self.pairs[..count])?;

@@ -4,7 +4,7 @@ ghost use Rattle.std.specs.Prelude.{◌≡◌, ℕ, ◌≤◌, List, [], true, v
 ghost use Rattle.srm_names.specs.Names.{AreExactly, ascending, name_below};
 ghost use Rattle.srm_deadlines.specs.declared.by_name.NamedValue.{NamedValue as APlace};
 ghost use Rattle.srm_names.specs.Moments.{has_come};
-ghost use Rattle.srm_deadlines.specs.Deadlines.{DueFit};
+ghost use Rattle.srm_deadlines.specs.Deadlines.{DueHasRoom};
 ghost use Rattle.srm_deadlines.specs.Places.{value_at, has_place, names_of, KeepsPlaces, GivesPlaces, KeepsValues, Sets, SetsAll, ClearsAll, HasPlaces, IsLeast};
 
 use crate::timed::Timed;
@@ -64,7 +64,7 @@ pub trait Deadlines {
     fn due(&self, now: u64, names: &mut Vec<Name>) -> Result<(), AllocError>
         ensures names { OnOk result (AreExactly (λ n. has_come now (value_at (places self.now) n)) names.new.items) }
         ensures capacity { vec_capacity names.old ≤ vec_capacity names.new }
-        ensures room { DueFit now (places self.now) (vec_capacity names.old) → IsOk result };
+        ensures room { DueHasRoom now (places self.now) (vec_capacity names.old) → IsOk result };
 
     /// The least moment, in microseconds. `None` where no name has one.
     fn next(&self) -> Option<u64>

@@ -4,7 +4,7 @@ ghost use Rattle.std.specs.Prelude.{◌≡◌, ℕ, ◌≤◌, ◌||◌, [], Boo
 ghost use Rattle.srm_names.specs.FullName.{FullName};
 ghost use Rattle.srm_names.specs.Names.{among, ascending, name_below, same_name, AreExactly};
 ghost use Rattle.srm_names.specs.Moments.{has_come};
-ghost use Rattle.srm_deadlines.specs.Deadlines.{DueFit};
+ghost use Rattle.srm_deadlines.specs.Deadlines.{DueHasRoom};
 ghost use Rattle.srm_deadlines.specs.Least.{lesser};
 ghost use Rattle.srm_deadlines.specs.Places.{value_at};
 
@@ -44,7 +44,7 @@ impl Scanned {
     fn look_through(&self, now: u64, names: &mut Vec<Name>) -> Result<(), AllocError>
         ensures names { OnOk result (AreExactly (λ n. has_come now (value_at self.now n)) names.new.items) }
         ensures capacity { vec_capacity names.old ≤ vec_capacity names.new }
-        ensures room { DueFit now self.now (vec_capacity names.old) → IsOk result }
+        ensures room { DueHasRoom now self.now (vec_capacity names.old) → IsOk result }
     {
         names.clear();
         for i in 0..self.moments.len() {

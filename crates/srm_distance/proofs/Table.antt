@@ -13,7 +13,7 @@ use Rattle.srm_distance.proofs.Steps.{nobody}
 use Rattle.srm_distance.specs.Distance.{estimate}
 use Rattle.srm_distance.specs.Echoes.{SentWithin}
 use Rattle.srm_distance.specs.Peers.{peer_of}
-use Rattle.srm_distance.specs.Content.{Content, IsKept, distance_by}
+use Rattle.srm_distance.specs.Content.{Content, DistancesAreRight, distance_by}
 use Rattle.srm_distance.specs.Fits.{IsTableOf}
 
 to_oneself : (me : ℕ) (p : Peer) → distance_by me me p ≡ 0
@@ -22,12 +22,12 @@ to_oneself me p = rw (eq-eqb me me refl) refl
 to_another : (me member : ℕ) (p : Peer) → member ≢ me → distance_by me member p ≡ estimate p.returned
 to_another me member p ne = rw (ne_eqb member me ne) refl
 
-at : (me m : ℕ) (peers : List Peer) (table : List ℕ) (d : Peer) → m < MEMBERS → IsKept (record { me = me; peers = peers; table = table })
+at : (me m : ℕ) (peers : List Peer) (table : List ℕ) (d : Peer) → m < MEMBERS → DistancesAreRight (record { me = me; peers = peers; table = table })
     → slice_index table m ≡ distance_by me m (get_or peers m d)
 at me m peers table d lt h = h.table m (get_or peers m d) (slice_get-get_or peers m d (omega (arith, lt, h.peers)))
 
 -- what stands in the table is what the definitions say
-pub is_table : (d : Content) (table : List ℕ) → IsKept (record { me = d.me; peers = d.peers; table = table }) → IsTableOf d table
+pub is_table : (d : Content) (table : List ℕ) → DistancesAreRight (record { me = d.me; peers = d.peers; table = table }) → IsTableOf d table
 is_table d table h = record {
   each = λ me calls fits m below. h.table m (peer_of calls m) (fits.each m below) ∙ ap (λ k. distance_by k m (peer_of calls m)) fits.me_is;
 }
@@ -46,13 +46,13 @@ by_longest me m p = elim (cases_eq m me) [
   | inr other ↦ omega (arith, to_another me m p other, estimate_longest p.returned)
 ]
 
-pub longest : (d : Inside) (m : ℕ) → IsKept d → slice_index d.table m ≤ LONGEST_DISTANCE
+pub longest : (d : Inside) (m : ℕ) → DistancesAreRight d → slice_index d.table m ≤ LONGEST_DISTANCE
 longest d m h = elim (cases_lt m MEMBERS) [
   | inl lt ↦ omega (arith, at d.me m d.peers d.table nobody lt h, by_longest d.me m (get_or d.peers m nobody))
   | inr le ↦ omega (arith, get_or_past d.table m 0 (omega (arith, le, h.size)))
 ]
 
-pub only_to_oneself : (d : Inside) (m : ℕ) → m < MEMBERS → IsKept d → (slice_index d.table m ≡ 0) ↔ (m ≡ d.me)
+pub only_to_oneself : (d : Inside) (m : ℕ) → m < MEMBERS → DistancesAreRight d → (slice_index d.table m ≡ 0) ↔ (m ≡ d.me)
 only_to_oneself d m lt h = record {
   0 = λ zero. elim (cases_eq m d.me) [
     | inl same ↦ same
@@ -63,7 +63,7 @@ only_to_oneself d m lt h = record {
 
 -- what is made for members of which nothing was heard
 pub kept_new : (me place : ℕ) (p : Peer) → place ≡ me → place < MEMBERS → p ≡ peer_of [] 0 → SentWithin p.newest_message
-    → IsKept (record { me = me; peers = replicate 32 p; table = slice_set (replicate 32 FIRST_DISTANCE) place 0 })
+    → DistancesAreRight (record { me = me; peers = replicate 32 p; table = slice_set (replicate 32 FIRST_DISTANCE) place 0 })
 kept_new me place p at lt nobody sent = record {
   sent = λ k d below. rw (get_or-replicate 32 k p d below) sent;
   peers = length-replicate 32 p;

@@ -18,7 +18,7 @@ abbrev pub distance_by : ℕ → ℕ → Peer → ℕ
 distance_by me member peer = if member == me then 0 else estimate peer.returned
 
 -- each message was sent at a moment that can be spelled, and the table has the distances that are kept
-pub record IsKept (d : Inside) : Type 0 where
+pub record DistancesAreRight (d : Inside) : Type 0 where
   pub sent : All (λ (p : Peer). SentWithin p.newest_message) d.peers
   pub peers : length d.peers ≡ MEMBERS
   pub size : length d.table ≡ MEMBERS

@@ -25,13 +25,13 @@ pub struct Distances {
 }
 
 impl Model for Distances {
-    ghost use Rattle.srm_distance.specs.Content.{Content, content_of, IsKept};
+    ghost use Rattle.srm_distance.specs.Content.{Content, content_of, DistancesAreRight};
 
     ghost Value = { Content };
 
     ghost view = { content_of };
 
-    ghost invariant = { IsKept };
+    ghost invariant = { DistancesAreRight };
 }
 
 impl Distances {

@@ -3,6 +3,7 @@ use Rattle.std.specs.Prelude.{ℕ, ◌<◌, ◌≤◌}
 use Rattle.srm_names.specs.declared.limits.TheConstants.{MEMBERS}
 use Rattle.srm_bucket.specs.declared.limits.TheConstants.{LEAST_RATE, GREATEST_RATE, LEAST_DEPTH, GREATEST_DEPTH}
 use Rattle.srm_timers.specs.declared.limits.TheConstants.{GREATEST_TIMER_SETTING}
+use Rattle.srm_entries.specs.declared.limits.TheConstants.{DEFAULT_RATE, DEFAULT_DEPTH}
 use Rattle.srm_entries.specs.declared.settings.Settings.{Settings}
 
 -- The roster is the members below `members`. The rate is in bytes a second, the depth in bytes; a request waits from c1 to
@@ -32,7 +33,7 @@ pub record IsConfig (c : Config) : Type 0 where
 
 -- what most members take: the rate and the depth of small sessions, requests after 2 to 4 distances, repairs after 1 to 2
 abbrev pub default_settings : Settings
-default_settings = record { rate = 8000; depth = 4204; c1 = 2; c2 = 2; d1 = 1; d2 = 1 }
+default_settings = record { rate = DEFAULT_RATE; depth = DEFAULT_DEPTH; c1 = 2; c2 = 2; d1 = 1; d2 = 1 }
 
 -- one member's place in its session, and for all else these settings
 abbrev pub config_with : ℕ → ℕ → ℕ → Settings → Config

@@ -1,6 +1,6 @@
 -- What calls answer besides their entry: the next page and the next moment; and what a member gives.
 use Rattle.std.specs.Prelude.{◌≡◌, ℕ, ◌+◌, ◌^◌, ◌≤◌, ◌<◌, ◌==◌, nat_le, true, false, ◌||◌, List, [], ◌∷◌, ◌++◌, length, map, filter, slice_get, Option, Some, None, if◌then◌else◌}
-use Rattle.srm_names.specs.declared.limits.TheConstants.{PAGES}
+use Rattle.srm_names.specs.declared.limits.TheConstants.{PAGES, PAGE_NUMBERS}
 use Rattle.srm_names.specs.declared.page.Page.{Page}
 use Rattle.srm_names.specs.Histories.{IsPrefix, greatest}
 use Rattle.srm_names.specs.PageFeeds.{drawops_of, is_page_feed}
@@ -19,7 +19,7 @@ next_number me pages = greatest (map (λ (p : Page). p.number + 1) (filter (λ (
 -- the next page of this member's own, while the table has room and a number of 16 bits is left
 abbrev pub page_to_come : Config → List Entry → Option Page
 page_to_come c es =
-    if nat_le PAGES (length (slots es)) || nat_le (2 ^ 16) (next_number c.me (slots es)) then None
+    if nat_le PAGES (length (slots es)) || nat_le PAGE_NUMBERS (next_number c.me (slots es)) then None
     else Some (record { creator = c.me; number = next_number c.me (slots es) })
 
 -- an entry hands out and sends nothing

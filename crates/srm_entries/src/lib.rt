@@ -30,7 +30,7 @@ pub use entry::{Effects, Entry, Input, Verdict};
 pub use fault::AgentFault;
 pub use kind::DatagramKind;
 pub use laws::{gives, keeps_rate, responds};
-pub use limits::{SECOND, SESSION_SHARE, SHORTEST_INTERVAL};
+pub use limits::{DEFAULT_DEPTH, DEFAULT_RATE, SECOND, SESSION_SHARE, SHORTEST_INTERVAL};
 pub use settings::Settings;
 pub use srm_timers::{Arm, ArmKind};
 pub use state::AgentState;

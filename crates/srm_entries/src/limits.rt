@@ -1,4 +1,12 @@
-//! When session messages come.
+//! What most members may send, and when session messages come.
+
+use srm_bucket::GREATEST_LENGTH;
+
+/// The rate of a member that names none, in bytes a second.
+pub const DEFAULT_RATE: u32 = 8_000;
+
+/// The depth of its bucket, in bytes: four of the longest datagrams that are charged.
+pub const DEFAULT_DEPTH: u32 = 4 * GREATEST_LENGTH;
 
 /// Microseconds of a second.
 pub const SECOND: u64 = 1_000_000;

@@ -43,15 +43,15 @@ fn main(rt: HostRuntime) -> anyhow::Result<()> {
 /// Plays the session and prints what happens.
 fn play<O: Write>(alloc: Global, out: &mut O) -> anyhow::Result<()> {
     let mut drawer = join(alloc, 0)?;
-    let mut viewer = join(alloc, 1)?;
+    let mut listener = join(alloc, 1)?;
     let page = Page::first();
     for stroke in STROKES {
         drawer.draw(page, Bytes::copy_from_slice(alloc, stroke)?, 0)?;
     }
     let ticked = drawer.tick(0)?;
-    carry(&ticked, Some(LOST), &mut viewer, 0)?;
-    tick_both(&mut drawer, &mut viewer, out)?;
-    print_given(&mut viewer, out)
+    carry(&ticked, Some(LOST), &mut listener, 0)?;
+    tick_both(&mut drawer, &mut listener, out)?;
+    print_given(&mut listener, out)
 }
 
 /// The agent of one member, made at moment 0. Its number is the seed of the words by which it chooses its waits: members that choose by the same words
@@ -65,26 +65,26 @@ fn join(alloc: Global, number: u8) -> anyhow::Result<Agent<Pcg>> {
 /// Ticks both members whenever one of them has something to do, until nothing is due before the end.
 fn tick_both<O: Write>(
     drawer: &mut Agent<Pcg>,
-    viewer: &mut Agent<Pcg>,
+    listener: &mut Agent<Pcg>,
     out: &mut O,
 ) -> anyhow::Result<()> {
     // A loop is to end, so it is counted, past all that can be due.
     for _ in 0..u64::MAX {
-        let Some(now) = next_due(drawer, viewer) else {
+        let Some(now) = next_due(drawer, listener) else {
             break;
         };
-        tick(drawer, viewer, now, out)?;
-        tick(viewer, drawer, now, out)?;
+        tick(drawer, listener, now, out)?;
+        tick(listener, drawer, now, out)?;
     }
     Ok(())
 }
 
 /// The first moment at which a member has something to do, and none where that is past the end. An agent may name one past 2^48, which
 /// its calls don't take: who calls `tick` shows that a moment is within it.
-fn next_due(drawer: &Agent<Pcg>, viewer: &Agent<Pcg>) -> Option<u64>
+fn next_due(drawer: &Agent<Pcg>, listener: &Agent<Pcg>) -> Option<u64>
     ensures { IfSome result (λ now. now ≤ END) }
 {
-    let first = drawer.next_due()?.min(viewer.next_due()?);
+    let first = drawer.next_due()?.min(listener.next_due()?);
     if first <= END { Some(first) } else { None }
 }
 
@@ -120,9 +120,9 @@ fn carry(ticked: &Ticked, lost: Option<usize>, to: &mut Agent<Pcg>, now: u64) ->
 }
 
 /// Prints all that the worker of the first page is given.
-fn print_given<O: Write>(viewer: &mut Agent<Pcg>, out: &mut O) -> anyhow::Result<()> {
+fn print_given<O: Write>(listener: &mut Agent<Pcg>, out: &mut O) -> anyhow::Result<()> {
     for _ in 0..u64::MAX {
-        let Some(message) = viewer.give(FIRST_SLOT)? else {
+        let Some(message) = listener.give(FIRST_SLOT)? else {
             break;
         };
         writeln!(out, "given {}", PrintedMessage(&message))?;

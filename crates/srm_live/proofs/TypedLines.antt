@@ -11,7 +11,7 @@ use Rattle.srm_live.specs.declared.typed.Typed.TheVariants.{Stroke, TooLong}
 use Rattle.srm_member.specs.Lines.{lines_of, before_first}
 use Rattle.srm_member.specs.Strokes.{stroke_of}
 use Rattle.srm_member.proofs.Splitting.{other}
-use Rattle.srm_live.specs.Typing.{short_lines, strokes_in, LineView, with_byte, typed_of, bodies_in, PenSent, HasNoEnd, DrawsTyped, DrawsSome, DrawsLast, ReadsOf, PenSentAllOf, PenSentPrefixOf}
+use Rattle.srm_live.specs.Typing.{short_lines, strokes_in, LineContent, with_byte, typed_of, bodies_in, PenSent, HasNoEnd, DrawsTyped, DrawsSome, DrawsLast, ReadsOf, PenSentAllOf, PenSentPrefixOf}
 
 -- THE LINES OF A FRONT AND WHAT IS BEHIND IT
 
@@ -77,7 +77,7 @@ pub draws_none : (front : List ℕ) (pen : PenView) → DrawsTyped [] front pen 
 draws_none front pen = record { drawn = []; strokes = λ h more. refl; one = λ h. h; sent = sent_none pen }
 
 -- a byte that is no line end
-pub draws_byte : (byte : ℕ) (l new : LineView) (pen : PenView) → byte ≢ 10 → new ≡ with_byte byte l → DrawsTyped (byte ∷ []) l.kept pen new.kept pen
+pub draws_byte : (byte : ℕ) (l new : LineContent) (pen : PenView) → byte ≢ 10 → new ≡ with_byte byte l → DrawsTyped (byte ∷ []) l.kept pen new.kept pen
 draws_byte byte l new pen not_end is = subst (λ n. DrawsTyped (byte ∷ []) l.kept pen n.kept pen) (sym is) (go (nat_lt LONGEST_BODY (length l.kept)) refl)
   where
     go : (b : Bool) → nat_lt LONGEST_BODY (length l.kept) ≡ b → DrawsTyped (byte ∷ []) l.kept pen (if b then l else record l { kept = l.kept ++ byte ∷ [] }).kept pen
@@ -85,7 +85,7 @@ draws_byte byte l new pen not_end is = subst (λ n. DrawsTyped (byte ∷ []) l.k
     go false short = record { drawn = []; strokes = λ h more. ap strokes_in (sym (append_assoc l.kept (byte ∷ []) more)); one = λ h. no_end_more l.kept byte h not_end; sent = sent_none pen }
 
 -- the strokes of a text that begins with a line
-first_strokes : (l : LineView) (ls : List (List ℕ)) → short_lines (l.kept ∷ ls) ≡ bodies_in (typed_of l) ++ short_lines ls
+first_strokes : (l : LineContent) (ls : List (List ℕ)) → short_lines (l.kept ∷ ls) ≡ bodies_in (typed_of l) ++ short_lines ls
 first_strokes l ls = go (nat_lt LONGEST_BODY (length l.kept))
   where
     go : (b : Bool) → (if b then short_lines ls else l.kept ∷ short_lines ls) ≡ bodies_in (if b then TooLong l.number else Stroke l.kept) ++ short_lines ls
@@ -93,7 +93,7 @@ first_strokes l ls = go (nat_lt LONGEST_BODY (length l.kept))
     go false = refl
 
 -- a line end
-pub draws_end : (l : LineView) (typed : Typed) (old new : PenView) → typed ≡ typed_of l → PenSent (bodies_in typed) old new → DrawsTyped (10 ∷ []) l.kept old [] new
+pub draws_end : (l : LineContent) (typed : Typed) (old new : PenView) → typed ≡ typed_of l → PenSent (bodies_in typed) old new → DrawsTyped (10 ∷ []) l.kept old [] new
 draws_end l typed old new is sent = record {
   drawn = bodies_in (typed_of l);
   strokes = λ h more. ap short_lines (line_ends l.kept more h) ∙ first_strokes l (lines_of more);
@@ -144,7 +144,7 @@ draws_all bytes i front old begun new all h = subst (λ done. DrawsTyped done fr
 -- A TEXT THAT IS READ
 
 -- the last line, which lacks its end
-pub draws_last : (l : LineView) (typed : Typed) (old new : PenView) → l.kept ≢ [] → typed ≡ typed_of l → PenSent (bodies_in typed) old new → DrawsLast l.kept old new
+pub draws_last : (l : LineContent) (typed : Typed) (old new : PenView) → l.kept ≢ [] → typed ≡ typed_of l → PenSent (bodies_in typed) old new → DrawsLast l.kept old new
 draws_last l typed old new some is sent = record {
   drawn = bodies_in (typed_of l);
   strokes = λ h. last l.kept refl h;

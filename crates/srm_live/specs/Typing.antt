@@ -18,20 +18,20 @@ abbrev pub strokes_in : List ℕ → List (List ℕ)
 strokes_in text = short_lines (lines_of text)
 
 -- The line that is being typed: its number, from 1, and what is kept of it, which tells whether it is too long.
-pub record LineView : Type 0 where
+pub record LineContent : Type 0 where
   pub number : ℕ
   pub kept : List ℕ
 
 -- a line with a byte more; of one that is too long already no more is kept
-abbrev pub with_byte : ℕ → LineView → LineView
+abbrev pub with_byte : ℕ → LineContent → LineContent
 with_byte byte l = if nat_lt LONGEST_BODY (length l.kept) then l else record l { kept = l.kept ++ byte ∷ [] }
 
 -- what a line becomes as it ends: a stroke with its bytes, or one that isn't drawn
-abbrev pub typed_of : LineView → Typed
+abbrev pub typed_of : LineContent → Typed
 typed_of l = if nat_lt LONGEST_BODY (length l.kept) then TooLong l.number else Stroke l.kept
 
 -- the line behind it, of which nothing is typed
-abbrev pub line_after : LineView → LineView
+abbrev pub line_after : LineContent → LineContent
 line_after l = record { number = one_more l.number; kept = [] }
 
 -- the bodies that are drawn of a line that ended

@@ -3,7 +3,7 @@
 ghost use Rattle.std.specs.Prelude.{◌≡◌, ◌≤◌, vec_len, IfOk};
 ghost use Rattle.srm_names.specs.declared.limits.TheConstants.{PAGES};
 ghost use Rattle.srm_script.specs.declared.status.TheConstants.{RAN_OUT};
-ghost use Rattle.srm_member.specs.Statuses.{IsExitStatus};
+ghost use Rattle.srm_member.specs.Statuses.{IsStatus};
 
 use crate::counted_wire::CountedWire;
 use crate::desk::Desk;
@@ -40,7 +40,7 @@ where
     I: Read + Send + Drop + 'static,
     O: Write + Send + Drop + 'static,
     E: Write + IsTerminal + Send + Drop + 'static,
-    ensures ends { IsExitStatus result }
+    ensures ends { IsStatus result }
     ensures greatest { result ≤ RAN_OUT }
 {
     let alloc = rt.alloc();
@@ -63,7 +63,7 @@ where
     I: Read + Send + Drop + 'static,
     O: Write + Send + Drop + 'static,
     E: Write + Send + Drop + 'static,
-    ensures ends { IsExitStatus result }
+    ensures ends { IsStatus result }
     ensures greatest { result ≤ RAN_OUT }
 {
     let run = match printing_sinks(rt, alloc, desk) {
@@ -78,7 +78,7 @@ where
 
 // Tells why the member isn't run, or not to its end.
 fn print<R: Wait, O: Write, E: Write>(rt: &R, desk: &Desk<O, E>, fault: &MemberFault) -> u8
-    ensures ends { IsExitStatus result }
+    ensures ends { IsStatus result }
     ensures greatest { result ≤ RAN_OUT }
 {
     desk.print_fault(rt, fault)

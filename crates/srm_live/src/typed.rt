@@ -26,9 +26,9 @@ pub struct Line {
 }
 
 impl Model for Line {
-    ghost use Rattle.srm_live.specs.Typing.{LineView};
+    ghost use Rattle.srm_live.specs.Typing.{LineContent};
 
-    ghost Value = { LineView };
+    ghost Value = { LineContent };
 
     ghost view = { λ l. record { number = l.number; kept = l.kept.items } };
 }

@@ -51,8 +51,8 @@ status_of_member fault.Wire = WIRE_FAILED
 status_of_member fault.Turns = RAN_OUT
 
 -- a whole run has status 0, and any other that of its fault
-abbrev pub IsExitStatus : ℕ → Type 0
-IsExitStatus status = (status ≡ 0) ⊎ ((f : MemberFault) × (status ≡ status_of_member f))
+abbrev pub IsStatus : ℕ → Type 0
+IsStatus status = (status ≡ 0) ⊎ ((f : MemberFault) × (status ≡ status_of_member f))
 
 -- What was asked for is shown, unless the output fails; a wrong line and want of memory have statuses of their own.
 abbrev pub StatusOf : Reply → ℕ → Type 0

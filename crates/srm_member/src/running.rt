@@ -2,7 +2,7 @@
 
 ghost use Rattle.std.specs.Prelude.{◌≤◌};
 ghost use Rattle.srm_script.specs.declared.status.TheConstants.{RAN_OUT};
-ghost use Rattle.srm_member.specs.Statuses.{IsExitStatus};
+ghost use Rattle.srm_member.specs.Statuses.{IsStatus};
 
 use crate::dealing::deal;
 use crate::fault::MemberFault;
@@ -32,7 +32,7 @@ pub fn run_node<R, I: Read, O: Write, E: Write>(
 ) -> u8
 where
     R: Net + time::Clock + Threads + Wait + AllocGlobal + Copy + Send + Drop + 'static,
-    ensures ends { IsExitStatus result }
+    ensures ends { IsStatus result }
     ensures greatest { result ≤ RAN_OUT }
 {
     let alloc = rt.alloc();

@@ -32,8 +32,8 @@ pub use drawop::Drawop;
 pub use echo::Echo;
 pub use items::Items;
 pub use limits::{
-    DRAWOPS, LANE_MESSAGES, LATEST_MOMENT, LONGEST_BODY, LONGEST_DISTANCE, MEMBERS, PAGES, PENS,
-    VIEWERS, WELL_STROKES,
+    DRAWOPS, LANE_MESSAGES, LATEST_MOMENT, LONGEST_BODY, LONGEST_DISTANCE, MEMBERS, PAGE_NUMBERS,
+    PAGES, PENS, VIEWERS, WELL_STROKES,
 };
 pub use member::Member;
 pub use moments::has_come;

@@ -6,6 +6,9 @@ pub const MEMBERS: u8 = 32;
 /// Pages in one member's table.
 pub const PAGES: u8 = 8;
 
+/// Pages that one member makes, at most. They have the numbers from 0 to one below this.
+pub const PAGE_NUMBERS: u32 = 65_536;
+
 /// Drawops of a stream. They have the numbers from 1 to this.
 pub const DRAWOPS: u32 = 65_536;
 

@@ -17,7 +17,7 @@ use Rattle.srm_node.specs.TurnSample.{feed}
 use Rattle.srm_node.specs.WholeTurnExamples.{before, after, whole}
 
 abbrev pub tap : ℕ → List PageMsg → LaneId → TapView
-tap slot taken lane = record { taken = taken; seat = []; slot = slot; lane = lane; board = lane.stamps }
+tap slot taken lane = record { taken = taken; seat = []; slot = slot; lane = lane; board = lane.board }
 
 -- LANES
 

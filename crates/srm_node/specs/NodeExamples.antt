@@ -52,7 +52,7 @@ gave_both : given released_two 0 ≡ Open first_page ∷ Draw first_drawop ∷ [
 gave_both = refl
 
 abbrev feed : Bool → List PageMsg → LaneId → FeedView
-feed lost put lane = record { put = put; seen = 0; disconnected = lost; slot = 0; lane = lane; board = lane.stamps }
+feed lost put lane = record { put = put; seen = 0; disconnected = lost; slot = 0; lane = lane; board = lane.board }
 
 -- a lane that stands has all that was given
 carries_all : (lane : LaneId) → Carries (given released_two 0) (feed false (Open first_page ∷ Draw first_drawop ∷ []) lane)
@@ -125,7 +125,7 @@ not_while_leaving n lane = refl
 -- WORKERS
 
 abbrev tap : List PageMsg → LaneId → TapView
-tap taken lane = record { taken = taken; seat = []; slot = 3; lane = lane; board = lane.stamps }
+tap taken lane = record { taken = taken; seat = []; slot = 3; lane = lane; board = lane.board }
 
 took_two : (lane : LaneId) → Took (tap (Open first_page ∷ []) lane) (tap (Open first_page ∷ Draw first_drawop ∷ Close ∷ []) lane) (Draw first_drawop ∷ Close ∷ [])
 took_two lane = record { is = refl }

@@ -77,7 +77,7 @@ abbrev out : Out
 out = record { datagram = farewell; bytes = farewell_bytes }
 
 farewell_spelled : IsSpellable farewell
-farewell_spelled = (lit< tt, lit≤ tt, (lit< tt, lit< tt), record { few = lit< tt; names = tt; rising = refl; sources = tt }, record { few = lit< tt; each = tt; rising = refl })
+farewell_spelled = (lit< tt, lit≤ tt, (lit< tt, lit< tt), record { few = lit≤ tt; names = tt; rising = refl; sources = tt }, record { few = lit≤ tt; each = tt; rising = refl })
 
 spelled_so : farewell_bytes ≡ spelling 1 farewell
 unfolding head page_bytes name_bytes echo_bytes spelling

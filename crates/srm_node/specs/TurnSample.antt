@@ -28,7 +28,7 @@ at_each P (x ∷ xs) h (suc k) f at_f = at_each (λ i g. P (suc i) g) xs h.1 k f
 -- A NODE THAT HEARS NOTHING
 
 abbrev pub feed : ℕ → List PageMsg → LaneId → FeedView
-feed slot put lane = record { put = put; seen = 0; disconnected = false; slot = slot; lane = lane; board = lane.stamps }
+feed slot put lane = record { put = put; seen = 0; disconnected = false; slot = slot; lane = lane; board = lane.board }
 
 -- eight feeds, of which the first one put these, and each other one those
 abbrev pub eight : List PageMsg → List PageMsg → LaneId → List FeedView

@@ -15,14 +15,14 @@ use Rattle.srm_pages.specs.Seats.{LookoutView, CountsTaken, new_lookout}
 
 -- Which lane it is, by the two tables of its channel, and how many messages it holds at most
 pub record LaneId : Type 0 where
-  pub stamps : TableId
+  pub board : TableId
   pub messages : Badge (Key PageMsg)
   pub capacity : ℕ
 
 abbrev pub lane_of : Pass PageMsg LaneView → ℕ → LaneId
-lane_of p capacity = record { stamps = p.table_id; messages = p.me.0.of; capacity = capacity }
+lane_of p capacity = record { board = p.table_id; messages = p.me.0.of; capacity = capacity }
 
--- what the feeder has put, how many of these it has seen taken, whether a message came back, the slot, the lane and the board
+-- what the feed has put, how many of these it has seen taken, whether a message came back, the slot, the lane and the board
 pub record FeedView : Type 0 where
   pub put : List PageMsg
   pub seen : ℕ

@@ -1,4 +1,4 @@
-//! The feeder's end of a lane.
+//! The end of a lane that puts messages in.
 ghost use Rattle.std.specs.Prelude.{◌≡◌, ◌+◌, ◌<◌, ◌≤◌, [], ◌∷◌, ◌++◌, true, OnOk, IfErr};
 ghost use Rattle.srm_names.specs.PageFeeds.{is_page_feed};
 ghost use Rattle.srm_pages.specs.Ends.{credit_of};
@@ -10,7 +10,7 @@ use srm_names::{LANE_MESSAGES, PageMsg};
 use std::marker::Model;
 use std::sync::Wait;
 
-/// The feeder's end of a lane, with the token that has what was put.
+/// The end of a lane that puts messages in, with the pass that has what was put.
 #[derive(Drop)]
 pub struct Feed {
     pub(crate) sender: Sender,

@@ -26,7 +26,7 @@ impl Protocol<PageMsg, LaneView> for LaneRule {
     ghost first = { lane_view true true [] [] };
 }
 
-/// The cut of the first pass into the feeder's and the tap's, and their join.
+/// The cut of the first pass into that of the feed and that of the tap, and their join.
 pub struct LaneSplit;
 
 impl Split<LaneView> for LaneSplit {

@@ -16,7 +16,7 @@ ghost use Rattle.srm_pages.specs.Ink.{IsWellState, strokes_of};
 use crate::board::{BoardRule, BoardView};
 use atomic_table::TableRule;
 
-/// What the feeder has put is what the tap has taken and then what the lane holds, and a page feed.
+/// What the feed has put is what the tap has taken and then what the lane holds, and a page feed.
 pub fn lane_keeps_its_rule()
     ensures { (items : List PageMsg) (views : List LaneView) → IsLaneState items views
         → (i j : ℕ) (f t : LaneView) → get_elem? views i ≡ some f → f.puts ≡ true → get_elem? views j ≡ some t → t.takes ≡ true

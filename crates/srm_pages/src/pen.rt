@@ -11,7 +11,7 @@ use std::marker::Model;
 use std::sync::atomic::Ordering;
 use std::sync::{Arc, Wait};
 
-/// A pen, with the token that has what it sent. Contracts see its number and that list.
+/// A pen, with the pass that has what it sent. Contracts see its number and that list.
 #[derive(Drop)]
 pub struct Pen {
     pub(crate) ink: Arc<Ink, Global>,

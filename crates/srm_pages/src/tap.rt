@@ -24,7 +24,7 @@ pub enum Ended {
     Broken = 2,
 }
 
-/// The tap's end of a lane, with the token that has what was taken.
+/// The tap's end of a lane, with the pass that has what was taken.
 #[derive(Drop)]
 pub struct Tap {
     pub(crate) receiver: Receiver,

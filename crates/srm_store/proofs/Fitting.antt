@@ -26,7 +26,7 @@ use Rattle.srm_store.specs.PageTables.{is_in, each_once}
 use Rattle.srm_store.specs.Tables.{TableContent, places_of_stream, drawop_in_table, IsNewTable, SameTable, TableGains, TableLearns}
 use Rattle.srm_store.specs.Stores.{StoreContent}
 use Rattle.srm_store.specs.Rooms.{RoomContent}
-use Rattle.srm_store.specs.Fits.{Fits, StillFits}
+use Rattle.srm_store.specs.Fits.{Fits, StoreStays}
 use Rattle.srm_store.proofs.Placing.{place_at-blank}
 use Rattle.srm_store.proofs.Slots.{is_in-with_page}
 use Rattle.srm_store.proofs.Pages.{length-included, each_once-firsts, is_in-firsts, once_with}
@@ -192,19 +192,19 @@ module _ {inserted : List Drawop} {evidence : List FullName} {settled : List Set
 pub same_finals : (f : FinalsContent) → SameFinals f f
 same_finals f = record { each = λ m. refl }
 
-pub still_fits_on : (a b c : StoreContent) → StillFits a b → StillFits b c → StillFits a c
+pub still_fits_on : (a b c : StoreContent) → StoreStays a b → StoreStays b c → StoreStays a c
 still_fits_on a b c h k = record { each = λ inserted evidence settled f. k.each inserted evidence settled (h.each inserted evidence settled f) }
 
-pub still_fits : (s : StoreContent) → StillFits s s
+pub still_fits : (s : StoreContent) → StoreStays s s
 still_fits s = record { each = λ inserted evidence settled h. h }
 
 -- room for answers has no part in what fits
-pub still_with : (a b : StoreContent) (rooms : List RoomContent) → StillFits a b → StillFits a (record b { rooms = rooms })
+pub still_with : (a b : StoreContent) (rooms : List RoomContent) → StoreStays a b → StoreStays a (record b { rooms = rooms })
 still_with a b rooms h = record {
   each = λ inserted evidence settled f.
       let g = h.each inserted evidence settled f in
       record { pages = g.pages; once = g.once; held = g.held; known = g.known; rows = g.rows };
 }
 
-pub without : (a b : StoreContent) (rooms : List RoomContent) → StillFits b a → StillFits (record b { rooms = rooms }) a
+pub without : (a b : StoreContent) (rooms : List RoomContent) → StoreStays b a → StoreStays (record b { rooms = rooms }) a
 without a b rooms h = record { each = λ inserted evidence settled f. h.each inserted evidence settled (record { pages = f.pages; once = f.once; held = f.held; known = f.known; rows = f.rows }) }

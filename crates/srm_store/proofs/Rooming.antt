@@ -8,7 +8,7 @@ use Rattle.std.proofs.lemmas.List.Quantifiers.{position-Some}
 use Rattle.srm_names.specs.FullName.{FullName}
 use Rattle.srm_names.specs.Names.{same_name, same_stream, among}
 use Rattle.srm_names.proofs.Same.{same_name-is, same_stream-itself}
-use Rattle.srm_store.specs.Rooms.{RoomContent, fits_answer, has_room, StillHasOthers}
+use Rattle.srm_store.specs.Rooms.{RoomContent, is_room_for, has_room, StillHasOthers}
 use Rattle.srm_store.specs.Tables.{places_of_stream, TableLearns, StillHasPlaces}
 use Rattle.srm_store.specs.Stores.{StoreContent, IsReady, StaysReady}
 use Rattle.srm_store.specs.declared.fault.StoreFault.{StoreFault}
@@ -31,8 +31,8 @@ position_any p xs = go (nat_lt (position_or_len p xs) (length xs)) (position_or_
     go true k = refl
     go false k = refl
 
-pub no_room : (rooms : List RoomContent) (n : FullName) (count : ℕ) → position (fits_answer n count) rooms ≡ None → has_room rooms n count ≡ true → ⊥
-no_room rooms n count e had = false≢true (ap is_some (sym e) ∙ position_any (fits_answer n count) rooms ∙ had)
+pub no_room : (rooms : List RoomContent) (n : FullName) (count : ℕ) → position (is_room_for n count) rooms ≡ None → has_room rooms n count ≡ true → ⊥
+no_room rooms n count e had = false≢true (ap is_some (sym e) ∙ position_any (is_room_for n count) rooms ∙ had)
 
 any_removed : {X : Type 0} (p : X → Bool) (xs : List X) (i : ℕ) (d : X) → p (get_or xs i d) ≡ false → list_any p xs ≡ true → list_any p (take i xs ++ drop (suc i) xs) ≡ true
 any_removed p [] i d out had = absurd (false≢true had)
@@ -44,21 +44,21 @@ any_removed p (x ∷ xs) (suc i) d out had = go (p x) had (any_removed p xs i d 
     go false had rest = rest had
 
 -- the room that was found is taken away
-module _ (rooms zs : List RoomContent) (n : FullName) (count i : ℕ) (room : RoomContent) (is : rooms ≡ zs) (at : position (fits_answer n count) zs ≡ Some i) (taken : room ≡ get_or rooms i room) where
-  fitting : fits_answer n count room ≡ true
-  fitting = ap (fits_answer n count) (taken ∙ ap (λ xs. get_or xs i room) is) ∙ (position-Some (fits_answer n count) zs i room at).1
+module _ (rooms zs : List RoomContent) (n : FullName) (count i : ℕ) (room : RoomContent) (is : rooms ≡ zs) (at : position (is_room_for n count) zs ≡ Some i) (taken : room ≡ get_or rooms i room) where
+  fitting : is_room_for n count room ≡ true
+  fitting = ap (is_room_for n count) (taken ∙ ap (λ xs. get_or xs i room) is) ∙ (position-Some (is_room_for n count) zs i room at).1
 
   pub room_enough : count ≤ room.capacity
   room_enough = let enough : nat_le count room.capacity ≡ true = (and_parts (same_name room.name n) (nat_le count room.capacity) fitting).1 in grind (arith, nat_tests)
 
   pub others_left : (left : List RoomContent) → left ≡ take i rooms ++ drop (suc i) rooms → StillHasOthers n zs left
-  others_left left e = record { each = λ m k other had. ap (λ xs. has_room xs m k) e ∙ any_removed (fits_answer m k) rooms i room (go m k other) (ap (λ xs. has_room xs m k) is ∙ had) }
+  others_left left e = record { each = λ m k other had. ap (λ xs. has_room xs m k) e ∙ any_removed (is_room_for m k) rooms i room (go m k other) (ap (λ xs. has_room xs m k) is ∙ had) }
     where
       named : room.name ≡ n
       named = same_name-is room.name n (and_parts (same_name room.name n) (nat_le count room.capacity) fitting).0
 
-      go : (m : FullName) (k : ℕ) → same_name n m ≡ false → fits_answer m k (get_or rooms i room) ≡ false
-      go m k other = ap (fits_answer m k) (sym taken) ∙ ap (λ b. b && nat_le k room.capacity) (ap (λ a. same_name a m) named ∙ other)
+      go : (m : FullName) (k : ℕ) → same_name n m ≡ false → is_room_for m k (get_or rooms i room) ≡ false
+      go m k other = ap (is_room_for m k) (sym taken) ∙ ap (λ b. b && nat_le k room.capacity) (ap (λ a. same_name a m) named ∙ other)
 
 -- room for more is room for fewer
 pub has_room-fewer : (rooms : List RoomContent) (n : FullName) (count fewer : ℕ) → fewer ≤ count → has_room rooms n count ≡ true → has_room rooms n fewer ≡ true

@@ -20,5 +20,5 @@ pub record Fits (inserted : List Drawop) (evidence : List FullName) (settled : L
   pub rows : (m : ℕ) → rows_kept s.finals m ≡ rows_of settled m
 
 -- what fits goes on to fit the same
-pub record StillFits (old new : StoreContent) : Type 0 where
+pub record StoreStays (old new : StoreContent) : Type 0 where
   pub each : (inserted : List Drawop) (evidence : List FullName) (settled : List Settling) → Fits inserted evidence settled old → Fits inserted evidence settled new

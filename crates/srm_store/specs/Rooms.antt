@@ -8,12 +8,12 @@ pub record RoomContent : Type 0 where
   pub name : FullName
   pub capacity : ℕ
 
-abbrev pub fits_answer : FullName → ℕ → RoomContent → Bool
-fits_answer n count room = same_name room.name n && nat_le count room.capacity
+abbrev pub is_room_for : FullName → ℕ → RoomContent → Bool
+is_room_for n count room = same_name room.name n && nat_le count room.capacity
 
 -- there is room for so many names that evidence of this name answers
 abbrev pub has_room : List RoomContent → FullName → ℕ → Bool
-has_room rooms n count = list_any (fits_answer n count) rooms
+has_room rooms n count = list_any (is_room_for n count) rooms
 
 pub record StillHasRooms (old new : List RoomContent) : Type 0 where
   pub each : (n : FullName) (count : ℕ) → has_room old n count ≡ true → has_room new n count ≡ true

@@ -2,7 +2,7 @@
 
 ghost use Rattle.std.specs.Prelude.{◌≡◌, ◌≤◌, [], IfOk};
 ghost use Rattle.std.specs.Vec.{vec_capacity};
-ghost use Rattle.srm_store.specs.Rooms.{fits_answer};
+ghost use Rattle.srm_store.specs.Rooms.{is_room_for};
 
 use srm_names::Name;
 use std::alloc::{AllocError, Global};
@@ -39,7 +39,7 @@ impl Room {
 
     /// Whether it is for this name, and has room for so many.
     pub fn fits(&self, name: Name, count: usize) -> bool
-        ensures { result ≡ fits_answer name count self.now }
+        ensures { result ≡ is_room_for name count self.now }
     {
         self.name == name && count <= self.list.capacity()
     }

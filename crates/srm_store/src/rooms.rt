@@ -2,7 +2,7 @@
 
 ghost use Rattle.std.specs.Prelude.{◌≡◌, ◌≤◌, [], true, position, OnOk};
 ghost use Rattle.std.specs.Vec.{vec_capacity};
-ghost use Rattle.srm_store.specs.Rooms.{fits_answer, has_room, StillHasRooms, StillHasOthers};
+ghost use Rattle.srm_store.specs.Rooms.{is_room_for, has_room, StillHasRooms, StillHasOthers};
 
 use crate::room::Room;
 use srm_names::Name;
@@ -47,7 +47,7 @@ impl Rooms {
     }
 
     fn position(&self, name: Name, count: usize) -> Option<usize>
-        ensures { result ≡ position (fits_answer name count) self.now }
+        ensures { result ≡ position (is_room_for name count) self.now }
     {
         self.rooms.iter().position(|room| room.fits(name, count))
     }

@@ -12,7 +12,7 @@ ghost use Rattle.srm_store.specs.Finals.{Settling, final};
 ghost use Rattle.srm_store.specs.Stores.{HasSlots, KeepsSlots, IsReady, IsReadyToSettle, AreReady, HavePlaces, StaysReady, KeepsRoom};
 ghost use Rattle.srm_store.specs.PageTables.{is_in};
 ghost use Rattle.srm_store.specs.Tables.{HasPlaceFor, StillHasPlaces};
-ghost use Rattle.srm_store.specs.Fits.{Fits, StillFits};
+ghost use Rattle.srm_store.specs.Fits.{Fits, StoreStays};
 
 use crate::fault::StoreFault;
 use crate::finals::Finals;
@@ -65,8 +65,8 @@ impl Store {
     /// [`StoreFault::PageLimit`] where the pages of the names don't all find slots, and then nothing changed;
     /// [`StoreFault::Memory`], and then what was ready before is still ready.
     pub fn room(&mut self, names: &[Name]) -> Result<(), StoreFault>
-        ensures kept { StillFits self.old self.new }
-        ensures before { StillFits self.new self.old }
+        ensures kept { StoreStays self.old self.new }
+        ensures before { StoreStays self.new self.old }
         ensures ready { OnOk result (AreReady names.now self.new) }
         ensures limit { (inserted : List ADrawop) (evidence : List FullName) (settled : List Settling) → Fits inserted evidence settled self.old
             → ((result ≡ Err PageLimit) ↔ (outgrow inserted evidence (map page_of_name names.now) ≡ true)) }
@@ -85,8 +85,8 @@ impl Store {
     /// [`StoreFault::PageLimit`] where the pages of the names don't all find slots, and then nothing changed;
     /// [`StoreFault::Memory`].
     pub fn room_to_learn(&mut self, names: &[Name]) -> Result<(), StoreFault>
-        ensures kept { StillFits self.old self.new }
-        ensures before { StillFits self.new self.old }
+        ensures kept { StoreStays self.old self.new }
+        ensures before { StoreStays self.new self.old }
         ensures ready { OnOk result (HavePlaces names.now self.new) }
         ensures limit { (inserted : List ADrawop) (evidence : List FullName) (settled : List Settling) → Fits inserted evidence settled self.old
             → ((result ≡ Err PageLimit) ↔ (outgrow inserted evidence (map page_of_name names.now) ≡ true)) }
@@ -112,8 +112,8 @@ impl Store {
 
     /// Makes room for one insert and one learn of each of the names, and one settling with all of them.
     fn make_places(&mut self, names: &[Name]) -> Result<(), AllocError>
-        ensures kept { StillFits self.old self.new }
-        ensures before { StillFits self.new self.old }
+        ensures kept { StoreStays self.old self.new }
+        ensures before { StoreStays self.new self.old }
         ensures ready { OnOk result ((n : FullName) → among names.now n ≡ true → HasPlaceFor n self.new.table) }
         ensures settling { OnOk result (IsReadyToSettle (length names.now) self.new) }
         ensures pages { self.new.table.pages ≡ self.old.table.pages }
@@ -129,8 +129,8 @@ impl Store {
 
     /// Makes room for one insert and one learn of a name.
     fn make_place(&mut self, name: Name) -> Result<(), AllocError>
-        ensures kept { StillFits self.old self.new }
-        ensures before { StillFits self.new self.old }
+        ensures kept { StoreStays self.old self.new }
+        ensures before { StoreStays self.new self.old }
         ensures ok { OnOk result (HasPlaceFor name self.new.table) }
         ensures still { StillHasPlaces self.old.table self.new.table }
         ensures earlier { StaysReady self.old self.new }
@@ -143,8 +143,8 @@ impl Store {
     /// Makes room for one insert and one evidence of each of the names, and one settling with all of them. The room for
     /// answers is made beside that of the call before, which goes once all is there.
     fn make_room(&mut self, names: &[Name]) -> Result<(), AllocError>
-        ensures kept { StillFits self.old self.new }
-        ensures before { StillFits self.new self.old }
+        ensures kept { StoreStays self.old self.new }
+        ensures before { StoreStays self.new self.old }
         ensures ready { OnOk result ((n : FullName) → among names.now n ≡ true → IsReady n self.new) }
         ensures settling { OnOk result (IsReadyToSettle (length names.now) self.new) }
         ensures pages { self.new.table.pages ≡ self.old.table.pages }
@@ -161,8 +161,8 @@ impl Store {
 
     /// Makes room for one insert and one evidence of a name, with the room for its answer among these.
     fn room_for(&mut self, name: Name, rooms: &mut Rooms) -> Result<(), AllocError>
-        ensures kept { StillFits self.old self.new }
-        ensures before { StillFits self.new self.old }
+        ensures kept { StoreStays self.old self.new }
+        ensures before { StoreStays self.new self.old }
         ensures ok { OnOk result (IsReady name (record self.new { rooms = rooms.new })) }
         ensures ready { StaysReady (record self.old { rooms = rooms.old }) (record self.new { rooms = rooms.new }) }
         ensures earlier { StaysReady self.old self.new }
@@ -182,7 +182,7 @@ impl Store {
             → Fits (inserted ++ drawop ∷ []) evidence settled self.new) }
         ensures answer { IfOk result (λ answer. (inserted : List ADrawop) (evidence : List FullName) (settled : List Settling) → Fits inserted evidence settled self.old
             → answer ≡ insert_answer drawop (held_at inserted drawop.name)) }
-        ensures err { OnErr result (StillFits self.old self.new) }
+        ensures err { OnErr result (StoreStays self.old self.new) }
         ensures limit { (inserted : List ADrawop) (evidence : List FullName) (settled : List Settling) → Fits inserted evidence settled self.old
             → ((result ≡ Err PageLimit) ↔ (lacks_room inserted evidence drawop.name.stream.page ≡ true)) }
         ensures room { IsReady drawop.name self.old → result ≢ Err Memory }
@@ -205,7 +205,7 @@ impl Store {
             → Fits inserted (evidence ++ name ∷ []) settled self.new) }
         ensures answer { IfOk result (λ names. (inserted : List ADrawop) (evidence : List FullName) (settled : List Settling) → Fits inserted evidence settled self.old
             → names.items ≡ newly_missing inserted evidence name) }
-        ensures err { OnErr result (StillFits self.old self.new) }
+        ensures err { OnErr result (StoreStays self.old self.new) }
         ensures limit { (inserted : List ADrawop) (evidence : List FullName) (settled : List Settling) → Fits inserted evidence settled self.old
             → ((result ≡ Err PageLimit) ↔ (lacks_room inserted evidence name.stream.page ≡ true)) }
         ensures room { IsReady name self.old → result ≢ Err Memory }
@@ -303,7 +303,7 @@ impl Store {
     pub fn settle_final(&mut self, member: Member, rows: &[Name]) -> Result<(), StoreFault>
         ensures fits { OnOk result ((inserted : List ADrawop) (evidence : List FullName) (settled : List Settling) → Fits inserted evidence settled self.old
             → Fits inserted evidence (settled ++ record { member = member; rows = rows.now } ∷ []) self.new) }
-        ensures err { OnErr result (StillFits self.old self.new) }
+        ensures err { OnErr result (StoreStays self.old self.new) }
         ensures refusal { OnErr result (result ≡ Err Memory) }
         ensures earlier { OnErr result (KeepsRoom self.old self.new) }
         ensures room { IsReadyToSettle (length rows.now) self.old → IsOk result }

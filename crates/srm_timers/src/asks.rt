@@ -6,7 +6,7 @@ ghost use Rattle.srm_names.specs.Names.{among, ascending, name_below};
 ghost use Rattle.srm_timers.specs.Arms.{backs_off, next_exponent, plan_of, arm_names, low_of, high_of, AreChosen, IsAsk, AreAsks, AreOfMembers};
 ghost use Rattle.srm_timers.specs.declared.arm.ArmKind.TheVariants.{Ask};
 ghost use Rattle.srm_timers.specs.AskCalls.{AskCall, Gained, ask_timer, sets, ask_plan, first_exponent, found_plan, again_plan, AskFits, AskAdds, AskExponentWhenHeard, AskExponentWhenDue, AskNext, AskDue, ArmsOfFound, ArmsSetAgain, AskStays, AskReady, DetectReady, DueReady, DetectAndDueReady, AskKeepsRoom, DetectStaysReady, DueStaysReady, AskTimersRun};
-ghost use Rattle.srm_deadlines.specs.Deadlines.{DueAmong, DueFit};
+ghost use Rattle.srm_deadlines.specs.Deadlines.{DueAmong, DueHasRoom};
 ghost use Rattle.srm_timers.specs.Distances.{distance_to, AreDistances};
 ghost use Rattle.srm_timers.specs.Expiries.{AreShort};
 ghost use Rattle.srm_deadlines.specs.Places.{value_at, has_place, KeepsValues};
@@ -228,7 +228,7 @@ impl<D: Deadlines> Asks<D> {
         ensures among { IfOk result (λ names. DueAmong now self.now.expiries.places names.items) }
         ensures rising { IfOk result (λ names. ascending name_below names.items ≡ true) }
         ensures timers { IfOk result (λ names. AskTimersRun names.items self.now) }
-        ensures room { DueFit now self.now.expiries.places (vec_capacity names) → IsOk result }
+        ensures room { DueHasRoom now self.now.expiries.places (vec_capacity names) → IsOk result }
     {
         let mut names = names;
         self.expiries.due(now, &mut names)?;

@@ -4,7 +4,7 @@ ghost use Rattle.std.specs.Prelude.{◌≡◌, ◌≤◌, ◌+◌, ◌++◌, tru
 ghost use Rattle.srm_names.specs.Names.{AreExactly, ascending, name_below};
 ghost use Rattle.srm_timers.specs.Arms.{arm_names};
 ghost use Rattle.srm_names.specs.Moments.{has_come};
-ghost use Rattle.srm_deadlines.specs.Deadlines.{DueFit};
+ghost use Rattle.srm_deadlines.specs.Deadlines.{DueHasRoom};
 ghost use Rattle.srm_timers.specs.Expiries.{timed_at, SetsExpiries, AreShort, HaveRoom, KeepsRoom};
 ghost use Rattle.srm_deadlines.specs.Places.{value_at, has_place, KeepsValues, Sets, ClearsAll, IsLeast, HasPlaces};
 
@@ -122,7 +122,7 @@ impl<D: Deadlines> Expiries<D> {
     pub fn due(&self, now: u64, names: &mut Vec<Name>) -> Result<(), AllocError>
         ensures names { OnOk result (AreExactly (λ n. has_come now (value_at self.now.places n)) names.new.items) }
         ensures capacity { vec_capacity names.old ≤ vec_capacity names.new }
-        ensures room { DueFit now self.now.places (vec_capacity names.old) → IsOk result }
+        ensures room { DueHasRoom now self.now.places (vec_capacity names.old) → IsOk result }
     {
         self.deadlines.due(now, names)
     }

@@ -5,7 +5,7 @@ ghost use Rattle.srm_names.specs.FullName.{FullName};
 ghost use Rattle.srm_names.specs.Names.{ascending, name_below};
 ghost use Rattle.srm_timers.specs.Arms.{plan_of, arm_names, low_of, high_of, AreChosen, IsFix, AreFixes, wait_basis};
 ghost use Rattle.srm_timers.specs.FixCalls.{Asked, Repaired, sets_fix, fix_plan, FixFits, FixAdds, FixRepairs, FixDue, FixNext, FixIsFree, FixFirstAsker, NotesRequest, FixStays, FixPlace, FixPlaces, FixReady, FixKeepsRoom, fix_basis, held_until};
-ghost use Rattle.srm_deadlines.specs.Deadlines.{DueAmong, DueFit};
+ghost use Rattle.srm_deadlines.specs.Deadlines.{DueAmong, DueHasRoom};
 ghost use Rattle.srm_timers.specs.Distances.{distance_to, AreDistances};
 ghost use Rattle.srm_timers.specs.Expiries.{HaveRoom, AreShort};
 ghost use Rattle.srm_deadlines.specs.Places.{HasPlaces, KeepsValues};
@@ -193,7 +193,7 @@ impl<D: Deadlines> Fixes<D> {
         ensures due { IfOk result (λ names. FixDue now self.now names.items) }
         ensures among { IfOk result (λ names. DueAmong now self.now.expiries.places names.items) }
         ensures rising { IfOk result (λ names. ascending name_below names.items ≡ true) }
-        ensures room { DueFit now self.now.expiries.places (vec_capacity names) → IsOk result }
+        ensures room { DueHasRoom now self.now.expiries.places (vec_capacity names) → IsOk result }
     {
         let mut names = names;
         self.expiries.due(now, &mut names)?;

@@ -51,15 +51,15 @@ abbrev entries : List Entry
 entries = draws_one ∷ sends ∷ hears ∷ hears_message ∷ answers ∷ hears_back ∷ []
 
 message_of_0_spelled : IsSpellable message_of_0
-message_of_0_spelled = (lit< tt, lit≤ tt, (lit< tt, lit< tt), record { few = lit< tt; names = (row_spelled, tt); rising = refl; sources = ((λ e. refl), tt) }, record { few = lit< tt; each = tt; rising = refl })
+message_of_0_spelled = (lit< tt, lit≤ tt, (lit< tt, lit< tt), record { few = lit≤ tt; names = (row_spelled, tt); rising = refl; sources = ((λ e. refl), tt) }, record { few = lit≤ tt; each = tt; rising = refl })
 
 message_of_1_spelled : IsSpellable message_of_1
 message_of_1_spelled = (
   lit< tt,
   lit≤ tt,
   (lit< tt, lit< tt),
-  record { few = lit< tt; names = (row_spelled, tt); rising = refl; sources = ((λ e. absurd (grind arith)), tt) },
-  record { few = lit< tt; each = ((lit< tt, lit≤ tt, lit≤ tt), tt); rising = refl },
+  record { few = lit≤ tt; names = (row_spelled, tt); rising = refl; sources = ((λ e. absurd (grind arith)), tt) },
+  record { few = lit≤ tt; each = ((lit< tt, lit≤ tt, lit≤ tt), tt); rising = refl },
 )
 
 -- neither misses anything at any time

@@ -43,7 +43,7 @@ abbrev farewell : Datagram
 farewell = Session 0 21 true first_page (named first_stream 1 ∷ []) []
 
 farewell_spelled : IsSpellable farewell
-farewell_spelled = (lit< tt, lit≤ tt, (lit< tt, lit< tt), record { few = lit< tt; names = (row_spelled, tt); rising = refl; sources = ((λ e. refl), tt) }, record { few = lit< tt; each = tt; rising = refl })
+farewell_spelled = (lit< tt, lit≤ tt, (lit< tt, lit< tt), record { few = lit≤ tt; names = (row_spelled, tt); rising = refl; sources = ((λ e. refl), tt) }, record { few = lit≤ tt; each = tt; rising = refl })
 
 abbrev parts : Entry
 parts = plain 0 21 Ticked None (farewell ∷ []) None Gone

@@ -85,7 +85,7 @@ fn one_s_own_datagrams_are_ignored(rt: HostRuntime) {
     );
 }
 
-/// Member 1 has eight pages, so 0.8 finds no room there: in a draw, a show, or a datagram of any kind.
+/// Member 1 has eight pages, so 0.8 finds no slot there: in a draw, a show, or a datagram of any kind.
 #[test]
 fn a_ninth_page_is_refused_or_ignored(rt: HostRuntime) {
     run_good(

@@ -37,7 +37,7 @@ impl<W: Words + Drop> Agent<W> {
     {
         let newly_missing = self.newly_missing_by_rows(names)?;
         let mut copies = room_to_note(self.alloc, notes, newly_missing.len())?;
-        self.timers.rows_room(&newly_missing)?;
+        self.timers.room_for_rows(&newly_missing)?;
         hear_session_message(&mut self.distances, self.config.me(), &datagram, moment);
         let dist = distance_table(&self.distances);
         let arms = self

@@ -10,7 +10,7 @@ ghost use Rattle.srm_store.specs.declared.fault.StoreFault.TheVariants.{PageLimi
 ghost use Rattle.srm_store.specs.Held.{outgrow};
 ghost use Rattle.srm_store.specs.Finals.{Settling};
 ghost use Rattle.srm_store.specs.Stores.{HavePlaces};
-ghost use Rattle.srm_store.specs.Fits.{Fits as StoreFits, StillFits};
+ghost use Rattle.srm_store.specs.Fits.{Fits as StoreFits, StoreStays};
 ghost use Rattle.srm_bucket.specs.Fits.{Stays as BucketStays};
 ghost use Rattle.srm_agent.specs.Drawing.{IsDraftOf};
 ghost use Rattle.srm_outbox.specs.Outs.{IsOutgoingOf};
@@ -43,7 +43,7 @@ impl<W: Words + Drop> Agent<W> {
         requires moment { moment ≤ LATEST_MOMENT }
         requires short { length body ≤ LONGEST_BODY }
         ensures rest { self.new ≡ record self.old { store = self.new.store; bucket = self.new.bucket } }
-        ensures store { StillFits self.old.store self.new.store }
+        ensures store { StoreStays self.old.store self.new.store }
         ensures bucket { BucketStays self.old.bucket self.new.bucket }
         ensures made { IfOk result (IsDraftOf self.old.config.session (record { name = name; stamp = moment; body = body })) }
         ensures spellable { OnOk result (is_drawop (record { name = name; stamp = moment; body = body })) }

@@ -16,7 +16,7 @@ use std::alloc::AllocError;
 impl Timers {
     /// Makes room for a session message by which these names become missing. No timer changes, and only want of memory refuses it.
     #[tactic(auto, using(crate::proofs::Midway::asks_stay, crate::proofs::Midway::asks_keep))]
-    pub fn rows_room(&mut self, newly_missing: &[Name]) -> Result<(), AllocError>
+    pub fn room_for_rows(&mut self, newly_missing: &[Name]) -> Result<(), AllocError>
         ensures kept { TimersStay self.old self.new }
         ensures settings { KeepSettings self.old self.new }
         ensures ready { OnOk result (DetectAndDueReady newly_missing.now self.new.asks) }
@@ -25,7 +25,7 @@ impl Timers {
     }
 
     /// A session message was heard, by which these names, which rise, become missing: their request timers are set. Only
-    /// want of memory refuses it, and not after [`rows_room`](Timers::rows_room) of them.
+    /// want of memory refuses it, and not after [`room_for_rows`](Timers::room_for_rows) of them.
     #[tactic(auto, using(crate::proofs::Missing::rows_hear))]
     pub fn hear_rows<W: Words>(
         &mut self,

@@ -14,7 +14,7 @@ use std::marker::Model;
 use std::sync::atomic::Ordering;
 use std::sync::{Arc, Wait};
 
-/// The reader's end of the well, with the token that has what was received. Contracts see that list, and how often it found none.
+/// The reader's end of the well, with the pass that has what was received. Contracts see that list, and how often it found none.
 #[derive(Drop)]
 pub struct Well {
     pub(crate) ink: Arc<Ink, Global>,

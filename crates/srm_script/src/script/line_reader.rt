@@ -5,7 +5,7 @@ ghost use Rattle.srm_names.specs.declared.limits.TheConstants.{LATEST_MOMENT};
 
 use super::number::read_number;
 use crate::fault::ScriptFault;
-use srm_names::{LATEST_MOMENT, MEMBERS, Member, Page};
+use srm_names::{LATEST_MOMENT, MEMBERS, Member, PAGE_NUMBERS, Page};
 use std::alloc::AllocError;
 
 /// Why a line isn't taken.
@@ -125,7 +125,7 @@ impl<'a> LineReader<'a> {
 fn read_page(text: &str) -> Option<Page> {
     let (creator, number) = text.split_once('.')?;
     let creator = read_number(creator, u64::from(MEMBERS) - 1)?;
-    let number = read_number(number, u64::from(u16::MAX))?;
+    let number = read_number(number, u64::from(PAGE_NUMBERS) - 1)?;
     Some(Page {
         creator: Member::new(creator as u8)?,
         number: number as u16,

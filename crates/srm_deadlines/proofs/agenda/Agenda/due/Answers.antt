@@ -6,7 +6,7 @@ use Rattle.std.proofs.lemmas.List.Sorted.{IsPartitionPoint-from_clause, IsPartit
 use Rattle.srm_names.specs.FullName.{FullName}
 use Rattle.srm_names.specs.Names.{AreExactly}
 use Rattle.srm_deadlines.specs.declared.timed.Timed.{Timed}
-use Rattle.srm_deadlines.specs.Agenda.{Agenda, of_name, is_due, PairsFit}
+use Rattle.srm_deadlines.specs.Agenda.{Agenda, of_name, is_due, PairsHaveRoom}
 use Rattle.srm_deadlines.specs.Places.{names_of}
 use Rattle.srm_deadlines.proofs.Dues.{due_names}
 use Rattle.srm_deadlines.proofs.Fitting.{front_fits}
@@ -32,5 +32,5 @@ returns-in_err-put_names-clause-room c = λ fit.
     let is : c.deref.result.now ≡ c.args.self.now.pairs = c.deref.ensures.value ∙ ap (λ (a : Agenda). a.pairs) c.self.view_is in
     let few : length (take c.partition_point-count.result c.deref.result.now) ≤ vec_capacity c.args.names.now =
     front_fits c.args.now c.deref.result.now c.partition_point-count.result _ (subst (λ pairs. (n : FullName) → length (of_name n pairs) ≤ 1) (sym is) c.requires.once) c.partition_point-count.ensures.bound parts
-    (subst (λ pairs. PairsFit c.args.now pairs (vec_capacity c.args.names.now)) (sym is) fit) in
+    (subst (λ pairs. PairsHaveRoom c.args.now pairs (vec_capacity c.args.names.now)) (sym is) fit) in
     absurd (let k : false ≡ true = c.in_err-put_names.ensures.room (subst (λ pairs. length (take c.partition_point-count.result pairs) ≤ vec_capacity c.args.names.now) (c.deref.ensures.value ∙ sym c.deref-2.ensures.value) few) in cc)

@@ -4,7 +4,7 @@ use Rattle.std.proofs.lemmas.List.{take_all}
 use Rattle.srm_names.specs.declared.name.Name.{Name}
 use Rattle.srm_names.specs.Names.{AreExactly}
 use Rattle.srm_names.specs.Moments.{has_come}
-use Rattle.srm_deadlines.specs.Deadlines.{DueFit}
+use Rattle.srm_deadlines.specs.Deadlines.{DueHasRoom}
 use Rattle.srm_deadlines.specs.Places.{value_at}
 use Rattle.srm_deadlines.proofs.Fitting.{another_fits}
 use Rattle.srm_deadlines.proofs.Looking.{DueSoFar, due_more, due_missed, due_all}
@@ -42,5 +42,5 @@ returns-in_err-insert_in_order-clause-room c = λ fit.
     let come : has_come c.args.now (value_at c.self.inside.moments c.place-name.result.name) ≡ true = ap (has_come c.args.now) (sym c.get.ensures) ∙ sym c.has_come.ensures ∙ c.if-has_come.true in
     let more : length c.loop-i.names.items < vec_capacity c.args.names.now =
     another_fits c.args.now (vec_capacity c.args.names.now) _ c.self.inside.moments c.loop-i.names.items c.place-name.result.name c.loop-i.invariant.due c.in_err-insert_in_order.ensures.new come
-    (subst (λ places. DueFit c.args.now places (vec_capacity c.args.names.now)) (sym c.self.view_is) fit) in
+    (subst (λ places. DueHasRoom c.args.now places (vec_capacity c.args.names.now)) (sym c.self.view_is) fit) in
     absurd (omega (arith, c.in_err-insert_in_order.ensures.full, c.loop-i.invariant.capacity, c.clear.ensures.capacity))

@@ -3,7 +3,7 @@ use Rattle.std.proofs.lemmas.List.{take_all}
 use Rattle.srm_names.specs.FullName.{FullName}
 use Rattle.srm_names.specs.Names.{among}
 use Rattle.srm_store.specs.Stores.{StoreContent, IsReady}
-use Rattle.srm_store.specs.Fits.{StillFits}
+use Rattle.srm_store.specs.Fits.{StoreStays}
 use Rattle.srm_store.specs.Finals.{FinalsContent}
 use Rattle.srm_store.proofs.Fitting.{still_fits_on, still_with, without}
 use Rattle.srm_store.proofs.Rooming.{ready_more, stays_on}
@@ -30,10 +30,10 @@ pub returns-in_err-room_for-clause-pages : goal.returns-in_err-room_for-clause-p
 returns-in_err-room_for-clause-pages c = c.in_err-room_for.ensures.pages ∙ c.loop-name.invariant.pages
 
 pub returns-clause-kept : goal.returns-clause-kept
-returns-clause-kept c = still_with _ _ _ (subst (StillFits c.args.self.now) (sym c.self-2.view_is) c.loop-name.invariant.kept)
+returns-clause-kept c = still_with _ _ _ (subst (StoreStays c.args.self.now) (sym c.self-2.view_is) c.loop-name.invariant.kept)
 
 pub returns-clause-before : goal.returns-clause-before
-returns-clause-before c = without _ _ _ (subst (λ s. StillFits s c.args.self.now) (sym c.self-2.view_is) c.loop-name.invariant.before)
+returns-clause-before c = without _ _ _ (subst (λ s. StoreStays s c.args.self.now) (sym c.self-2.view_is) c.loop-name.invariant.before)
 
 pub returns-clause-ready : goal.returns-clause-ready
 returns-clause-ready c =

@@ -1,6 +1,6 @@
 use Rattle.std.proofs.Common.{◌≡◌, ◌≤◌, take, length}
 use Rattle.srm_store.specs.Stores.{IsReady, IsReadyToSettle, StaysReady}
-use Rattle.srm_store.specs.Fits.{StillFits}
+use Rattle.srm_store.specs.Fits.{StoreStays}
 use Rattle.srm_names.specs.FullName.{FullName}
 use Rattle.srm_names.specs.Names.{among}
 use Rattle.std.specs.Prelude.{true}
@@ -8,8 +8,8 @@ use Rattle.srm_store.proofs.store.Store.make_room.Given as goal
 
 abbrev pub invariant-loop-name : goal.invariant-loop-name
 invariant-loop-name l = record {
-  kept : StillFits l.fn.self l.self;
-  before : StillFits l.self l.fn.self;
+  kept : StoreStays l.fn.self l.self;
+  before : StoreStays l.self l.fn.self;
   so_far : (n : FullName) → among (take l.name-index l.names) n ≡ true → IsReady n (record l.self { rooms = l.rooms });
   earlier : StaysReady l.fn.self l.self;
   finals : l.fn.self.finals.room ≤ l.self.finals.room;
