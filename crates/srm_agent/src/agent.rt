@@ -25,8 +25,8 @@ mod leaving;
 mod new_page;
 mod next_due;
 mod noting;
-mod session_message;
 mod sending;
+mod session_message;
 mod showing;
 mod ticking;
 

@@ -29,8 +29,8 @@ pub use agent::Agent;
 pub use heard::Heard;
 pub use noted::Noted;
 pub use srm_entries::{
-    AgentFault, AgentState, Arm, ArmKind, Cause, Config, Effects, Entry, Input, Outcome, Settings,
-    Verdict, gives, keeps_rate, responds,
+    AgentFault, AgentState, Arm, ArmKind, CAUSES, Cause, Config, Effects, Entry, Input, Outcome,
+    Settings, Verdict, gives, keeps_rate, responds,
 };
 pub use srm_outbox::Out;
 pub use ticked::Ticked;

@@ -25,6 +25,9 @@ pub enum Cause {
     Stranger,
 }
 
+/// How many causes there are.
+pub const CAUSES: usize = 7;
+
 impl Cause {
     /// The number that stands for it where causes are printed or counted, from 1.
     pub fn number(&self) -> u8

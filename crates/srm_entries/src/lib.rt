@@ -24,7 +24,7 @@ mod limits;
 mod settings;
 mod state;
 
-pub use cause::{Cause, Outcome};
+pub use cause::{CAUSES, Cause, Outcome};
 pub use config::Config;
 pub use entry::{Effects, Entry, Input, Verdict};
 pub use fault::AgentFault;

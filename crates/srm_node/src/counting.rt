@@ -4,7 +4,7 @@ ghost use Rattle.std.specs.Prelude.{◌≡◌, if◌then◌else◌};
 ghost use Rattle.srm_wire.specs.Wires.{one_more};
 ghost use Rattle.srm_node.specs.Counting.{came_as_noise, was_dropped, was_ignored, count_up_to, counts_of};
 
-use srm_agent::{Entry, Input, Verdict};
+use srm_agent::{CAUSES, Entry, Input, Verdict};
 
 /// How much of what a member was given came to nothing. Each number stays at the greatest of 64 bits when it gets there.
 #[derive(Clone, Copy, Debug, PartialEq, Eq)]
@@ -12,7 +12,7 @@ pub struct Counts {
     /// What came that is no datagram of the session, or came to a member that is gone.
     pub noise: u64,
     /// What was ignored, by its cause, in this order: Own, Gone, Conflict, PageLimit, BeyondFinal, Decode, Stranger.
-    pub ignored: [u64; 7],
+    pub ignored: [u64; CAUSES],
     /// The strokes that were refused.
     pub dropped: u64,
 }

@@ -2,9 +2,16 @@
 use Rattle.std.specs.Prelude.{ℕ, ◌==◌, nat_le, ◌&&◌, List, [], ◌∷◌, codes, if◌then◌else◌}
 use Rattle.std.specs.List.{flat_map}
 
--- a byte that isn't printable ASCII is a question mark
+-- printable ASCII goes from the space to the tilde
+abbrev space : ℕ
+space = 32
+
+abbrev tilde : ℕ
+tilde = 126
+
+-- what isn't that is a question mark
 abbrev pub printable : ℕ → List ℕ
-printable byte = if nat_le 32 byte && nat_le byte 126 then byte ∷ [] else 63 ∷ []
+printable byte = if nat_le space byte && nat_le byte tilde then byte ∷ [] else codes "?"
 
 -- what has a meaning in XML is spelled out
 abbrev pub escape : ℕ → List ℕ

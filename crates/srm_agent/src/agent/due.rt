@@ -110,7 +110,11 @@ impl<W: Words + Drop> Agent<W> {
     }
 
     /// The session message or the farewell of a moment. Only want of memory refuses it.
-    fn session_message_at(&self, farewell: bool, moment: u64) -> Result<DueSessionMessage, AllocError>
+    fn session_message_at(
+        &self,
+        farewell: bool,
+        moment: u64,
+    ) -> Result<DueSessionMessage, AllocError>
         requires { moment ≤ LATEST_MOMENT }
         ensures { IfOk result (IsSessionMessageAt self.now moment farewell) }
     {

@@ -38,7 +38,11 @@ pub const LONGEST_INTERVAL: u64 = SESSION_SHARE
 impl<W: Words + Drop> Agent<W> {
     /// The session message, or the farewell, that this member sends at a moment, in microseconds. Only want of memory
     /// refuses it.
-    pub(super) fn session_message(&self, farewell: bool, moment: u64) -> Result<Outgoing, AllocError>
+    pub(super) fn session_message(
+        &self,
+        farewell: bool,
+        moment: u64,
+    ) -> Result<Outgoing, AllocError>
         requires { moment ≤ LATEST_MOMENT }
         ensures { IfOk result (λ message. IsSessionMessageSpelled self.now moment farewell message) }
     {
@@ -151,7 +155,11 @@ impl<W: Words + Drop> Agent<W> {
         ensures value { (c : AConfig) (made : ℕ) (past : List AnEntry) → Fits c made past self.now → result ≡ session_interval c past message.now }
         ensures longest { result ≤ LONGEST_INTERVAL }
     {
-        interval_after(self.members_remaining(), length(message), self.config.rate())
+        interval_after(
+            self.members_remaining(),
+            length(message),
+            self.config.rate(),
+        )
     }
 
     /// How many members of the roster aren't known to have left, this one among them.
