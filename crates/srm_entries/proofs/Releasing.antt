@@ -1,7 +1,6 @@
 -- What was released stays so: one more entry adds to it at its end.
 use Rattle.std.proofs.Common.{◌≡◌, ℕ, zero, suc, ◌+◌, ◌≤◌, List, [], ◌∷◌, ◌++◌, map, refl, ap, ◌∙◌, arith}
 use Rattle.std.specs.Prelude.{Option, Some, None, find}
-use Rattle.std.specs.Option.{option_or}
 use Rattle.std.specs.List.{flat_map}
 use Rattle.std.proofs.lemmas.List.{map-append}
 use Rattle.std.proofs.lemmas.List.Folds.{find-append}
@@ -9,7 +8,7 @@ use Rattle.std.proofs.lemmas.Grind.{flat_map-append}
 use Rattle.srm_names.specs.declared.drawop.Drawop.{Drawop}
 use Rattle.srm_names.specs.declared.stream.Stream.{Stream}
 use Rattle.srm_names.specs.FullName.{FullName}
-use Rattle.srm_names.specs.Histories.{IsPrefix, count_up, until_none, greatest}
+use Rattle.srm_names.specs.Histories.{IsPrefix, or_else, count_up, until_none, greatest}
 use Rattle.srm_names.specs.Names.{named}
 use Rattle.srm_entries.specs.declared.entry.Entry.{Entry}
 use Rattle.srm_store.specs.Held.{has_name, number_in, greatest_in}
@@ -28,7 +27,7 @@ grows f g keeps from (suc few) zero l = absurd (omega arith)
 grows f g keeps from (suc few) (suc many) l =
     grows_at f g from (map f (count_up (from + 1) few)) (map g (count_up (from + 1) many)) (f from) refl (keeps from) (grows f g keeps (from + 1) few many (omega arith))
 
-pub held_at-snoc : (es : List Entry) (e : Entry) (n : FullName) → held_at (es ++ e ∷ []) n ≡ option_or (held_at es n) (held_at (e ∷ []) n)
+pub held_at-snoc : (es : List Entry) (e : Entry) (n : FullName) → held_at (es ++ e ∷ []) n ≡ or_else (held_at es n) (held_at (e ∷ []) n)
 held_at-snoc es e n = ap (find (has_name n)) (flat_map-append held_by es (e ∷ [])) ∙ find-append (has_name n) (held es) (held (e ∷ []))
 
 -- the first drawop that is held under a name stays

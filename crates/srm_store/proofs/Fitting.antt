@@ -2,7 +2,6 @@
 use Rattle.std.proofs.Common.{◌≡◌, ◌≢◌, ℕ, ◌<◌, ◌⊎◌, List, [], ◌∷◌, ◌++◌, Option, Some, None, Bool, true, false, ◌&&◌, max, length, refl, sym, ap, ◌∙◌, subst, append_assoc, arith, inl, inr}
 use Rattle.std.specs.Prelude.{◌==◌, ◌||◌, map, cond, if◌then◌else◌}
 use Rattle.std.specs.List.{list_any, flat_map}
-use Rattle.std.specs.Option.{option_or}
 use Rattle.std.proofs.Math.Bool.{or_assoc}
 use Rattle.std.proofs.lemmas.Bool.{false≢true, eq-eqb, ne_eqb, cases_eq}
 use Rattle.std.proofs.lemmas.List.{map-append}
@@ -32,12 +31,8 @@ use Rattle.srm_store.proofs.Slots.{is_in-with_page}
 use Rattle.srm_store.proofs.Pages.{length-included, each_once-firsts, is_in-firsts, once_with}
 
 -- a name among drawops
-option_or-is : {X : Type 0} (a b : Option X) → option_or a b ≡ or_else a b
-option_or-is None b = refl
-option_or-is (Some x) b = refl
-
 held_more : (inserted : List Drawop) (d : Drawop) (n : FullName) → held_at (inserted ++ d ∷ []) n ≡ (if same_name d.name n then or_else (held_at inserted n) (Some d) else held_at inserted n)
-held_more inserted d n = find-append (has_name n) inserted (d ∷ []) ∙ option_or-is (held_at inserted n) (cond (same_name d.name n) (Some d) None) ∙ go (same_name d.name n)
+held_more inserted d n = find-append (has_name n) inserted (d ∷ []) ∙ go (same_name d.name n)
   where
     go : (b : Bool) → or_else (held_at inserted n) (cond b (Some d) None) ≡ (if b then or_else (held_at inserted n) (Some d) else held_at inserted n)
     go true = refl
