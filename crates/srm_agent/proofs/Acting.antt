@@ -85,7 +85,7 @@ pub record Acts {W : Type 0} (next_word : W → ℕ × W) (a b d f z : Content W
 went_sent : (me session : ℕ) (items : List Outgoing) → AllByRecursion (IsOwn me session) items → AllByRecursion (IsSent me) (map (λ (o : Outgoing). o.noted) items)
 went_sent me session [] own = tt
 went_sent me session (o ∷ items) own =
-    (subst (IsSent me) (sym own.0.spelled.noted) (record { sender = own.0.sender; spellable = own.0.spelled.out.spelled.fits }), went_sent me session items own.1)
+    (subst (IsSent me) (sym own.0.spelled.noted) (record { sender = own.0.sender; spellable = own.0.spelled.out.spelled.spellable }), went_sent me session items own.1)
 
 went_charged : (me session : ℕ) (items : List Outgoing) → AllByRecursion (IsOwn me session) items → NoSessions (map (λ (o : Outgoing). o.noted) items)
 went_charged me session [] own = tt

@@ -291,8 +291,8 @@ room_stays names a b ready holds =
       timers = λ n at. holds.timers n (ready.detect.set.timers n at);
     } in
     record {
-      detect = record { set = set; list = omega (arith, ready.detect.list, holds.detect_list) };
-      due = record { set = set; list = omega (arith, ready.due.list, holds.due_list); look_up = omega (arith, ready.due.look_up, holds.names) };
+      detect = record { set = set; room = omega (arith, ready.detect.room, holds.detect_room) };
+      due = record { set = set; room = omega (arith, ready.due.room, holds.due_room); look_up = omega (arith, ready.due.look_up, holds.names_room) };
     }
 
 pub places_stay : (names : List FullName) (a b : FixContent) → FixPlaces names a → FixKeepsRoom a b → FixPlaces names b

@@ -172,7 +172,7 @@ pub judged_spells : (session : ℕ) (bytes : List ℕ) (g : Datagram) → IsByte
 judged_spells session bytes g fits e =
     let h = head_taken session bytes g fits e in
     let c = contents_taken h.version h.kind h.sender h.rest g h.is_version h.is_kind h.is_member h.rest_fits h.contents in
-    record { fits = c.fits; text = h.parts ∙ c.spelled session }
+    record { spellable = c.fits; text = h.parts ∙ c.spelled session }
 
 -- a spelling is judged to be its datagram
 request_judged : (session sender : ℕ) (name : FullName) (mask : ℕ) (none : Bool) → (mask == 0) ≡ none → session < 2 ^ 32 → IsSpellable (Request sender name mask) → judge session (request_bytes session sender name mask) ≡ Ok (Request sender name mask)
@@ -221,7 +221,7 @@ session_spelled session (Session sender sent farewell shown rows echoes) lt =
 
 -- the two laws
 pub spells_judged : (session : ℕ) (bytes : List ℕ) (g : Datagram) → session < 2 ^ 32 → Spells session g bytes → judge session bytes ≡ Ok g
-spells_judged session bytes g lt s = ap (judge session) s.text ∙ spelling_judged session g lt s.fits
+spells_judged session bytes g lt s = ap (judge session) s.text ∙ spelling_judged session g lt s.spellable
 
 pub undoes : JudgingUndoesSpelling
 undoes session bytes g lt fits = (judged_spells session bytes g fits, spells_judged session bytes g lt)

@@ -128,7 +128,7 @@ AreBytes bytes = (i : ℕ) → slice_index bytes i < 256
 
 -- The bytes are the fields of the datagram for this session, and nothing after them.
 pub record Spells (session : ℕ) (datagram : Datagram) (bytes : List ℕ) : Type 0 where
-  pub fits : IsSpellable datagram
+  pub spellable : IsSpellable datagram
   pub text : bytes ≡ spelling session datagram
 
 -- how many bytes the spelling of a datagram has, in any session

@@ -141,7 +141,7 @@ pub stays_on : (a b c : AskContent) → AskStays a b → AskStays b c → AskSta
 stays_on a b c p q = record { each = λ c1 c2 calls h. q.each c1 c2 calls (p.each c1 c2 calls h) }
 
 -- the list for the next answer has no part in what can be set
-pub ready_still : (names : List FullName) (a : AskContent) (list : ℕ) → AskReady names a → AskReady names (record a { detect_list = list })
+pub ready_still : (names : List FullName) (a : AskContent) (list : ℕ) → AskReady names a → AskReady names (record a { detect_room = list })
 ready_still names a list h = record { expiries = h.expiries; timers = h.timers }
 
 -- what has a value has a place
@@ -244,7 +244,7 @@ pub found_rise : (dist : List ℕ) (names asked : List FullName) (arms arms' : L
 found_rise dist names asked arms arms' plans is rising = ap (λ list. ascending name_below (arm_names list)) is ∙ ap (ascending name_below) (planned_names (found_plan asked dist) (λ n. refl) names arms plans) ∙ rising
 
 pub found_ready : (dist : List ℕ) (names asked : List FullName) (arms arms' : List Arm) (a b : AskContent) (list : ℕ) → map plan_of arms ≡ map (found_plan asked dist) names → arms' ≡ arms
-    → AskReady names a → b ≡ record a { detect_list = list } → AskReady (arm_names arms') b
+    → AskReady names a → b ≡ record a { detect_room = list } → AskReady (arm_names arms') b
 found_ready dist names asked arms arms' a b list plans is ready same =
     subst (λ ns. AskReady ns b) (sym (ap arm_names is ∙ planned_names (found_plan asked dist) (λ n. refl) names arms plans)) (subst (AskReady names) (sym same) (ready_still names a list ready))
 

@@ -21,11 +21,11 @@ pub record AskContent : Type 0 where
   pub expiries : ExpiryContent
   pub timers : List (NamedValue Armed)
   -- so many arms can be answered without memory, of names that are found missing
-  pub detect_list : ℕ
+  pub detect_room : ℕ
   -- and of names that are due
-  pub due_list : ℕ
+  pub due_room : ℕ
   -- so many names that are due can be looked up without memory
-  pub names : ℕ
+  pub names_room : ℕ
 
 -- a timer that was set, with its arm, or a name that was gained
 pub data AskCall : Type 0 where
@@ -126,13 +126,13 @@ pub record AskReady (names : List FullName) (a : AskContent) : Type 0 where
 -- one `detect` of these names needs no memory
 pub record DetectReady (names : List FullName) (a : AskContent) : Type 0 where
   pub set : AskReady names a
-  pub list : length names ≤ a.detect_list
+  pub room : length names ≤ a.detect_room
 
 -- one `due` at which no other names are due needs no memory
 pub record DueReady (names : List FullName) (a : AskContent) : Type 0 where
   pub set : AskReady names a
-  pub list : length names ≤ a.due_list
-  pub look_up : length names ≤ a.names
+  pub room : length names ≤ a.due_room
+  pub look_up : length names ≤ a.names_room
 
 -- neither of the two needs memory
 pub record DetectAndDueReady (names : List FullName) (a : AskContent) : Type 0 where
@@ -145,9 +145,9 @@ pub record AskKeepsRoom (old new : AskContent) : Type 0 where
   pub c2 : new.c2 ≡ old.c2
   pub expiries : KeepsRoom old.expiries new.expiries
   pub timers : (n : FullName) → has_place old.timers n ≡ true → has_place new.timers n ≡ true
-  pub detect_list : old.detect_list ≤ new.detect_list
-  pub due_list : old.due_list ≤ new.due_list
-  pub names : old.names ≤ new.names
+  pub detect_room : old.detect_room ≤ new.detect_room
+  pub due_room : old.due_room ≤ new.due_room
+  pub names_room : old.names_room ≤ new.names_room
 
 -- where one `detect` needed no memory, it needs none
 pub record DetectStaysReady (old new : AskContent) : Type 0 where

@@ -25,7 +25,7 @@ pub record FixContent : Type 0 where
   pub askers : List (NamedValue ℕ)
   pub held_off : List (NamedValue ℕ)
   -- so many names that are due can be repaired without memory
-  pub list : ℕ
+  pub due_room : ℕ
 
 -- a request that was heard, a timer that was set, with its arm, or a repair that holds the name off until a moment
 pub data FixCall : Type 0 where
@@ -164,7 +164,7 @@ pub record FixPlaces (names : List FullName) (a : FixContent) : Type 0 where
 pub record FixReady (names : List FullName) (a : FixContent) : Type 0 where
   pub places : FixPlaces names a
   pub expiries : HaveRoom names a.expiries
-  pub list : length names ≤ a.list
+  pub room : length names ≤ a.due_room
 
 -- whatever needed no memory needs none, and the settings are the same
 pub record FixKeepsRoom (old new : FixContent) : Type 0 where
@@ -172,7 +172,7 @@ pub record FixKeepsRoom (old new : FixContent) : Type 0 where
   pub d2 : new.d2 ≡ old.d2
   pub each : (n : FullName) → FixPlace old n → FixPlace new n
   pub expiries : KeepsRoom old.expiries new.expiries
-  pub list : old.list ≤ new.list
+  pub due_room : old.due_room ≤ new.due_room
 
 -- what holds of each Fixes: settings in range
 pub record FixIsRight (a : FixContent) : Type 0 where

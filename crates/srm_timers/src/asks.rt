@@ -49,9 +49,9 @@ impl<D: Deadlines> Model for Asks<D> {
 
     ghost Value = { AskContent };
 
-    ghost view = { λ a. record { c1 = a.c1; c2 = a.c2; expiries = a.expiries; timers = a.timers; detect_list = vec_capacity a.detect_list; due_list = vec_capacity a.due_list; names = vec_capacity a.names } };
+    ghost view = { λ a. record { c1 = a.c1; c2 = a.c2; expiries = a.expiries; timers = a.timers; detect_room = vec_capacity a.detect_list; due_room = vec_capacity a.due_list; names_room = vec_capacity a.names } };
 
-    ghost invariant = { λ a. AskIsRight (record { c1 = a.c1; c2 = a.c2; expiries = a.expiries; timers = a.timers; detect_list = vec_capacity a.detect_list; due_list = vec_capacity a.due_list; names = vec_capacity a.names }) a.detect_list.items a.due_list.items };
+    ghost invariant = { λ a. AskIsRight (record { c1 = a.c1; c2 = a.c2; expiries = a.expiries; timers = a.timers; detect_room = vec_capacity a.detect_list; due_room = vec_capacity a.due_list; names_room = vec_capacity a.names }) a.detect_list.items a.due_list.items };
 }
 
 impl<D: Deadlines> Asks<D> {
@@ -98,8 +98,8 @@ impl<D: Deadlines> Asks<D> {
         ensures expiries { KeepsValues self.old.expiries.places self.new.expiries.places }
         ensures c1 { self.new.c1 ≡ self.old.c1 }
         ensures c2 { self.new.c2 ≡ self.old.c2 }
-        ensures detect_list { self.new.detect_list ≡ self.old.detect_list }
-        ensures due_list { self.new.due_list ≡ self.old.due_list }
+        ensures detect_room { self.new.detect_room ≡ self.old.detect_room }
+        ensures due_room { self.new.due_room ≡ self.old.due_room }
         ensures keeps_room { AskKeepsRoom self.old self.new }
         ensures ok { OnOk result (AskReady names.now self.new) }
         ensures again { AskReady names.now self.old → IsOk result }
@@ -111,12 +111,12 @@ impl<D: Deadlines> Asks<D> {
     /// The empty list for what `detect` answers, with room for so many arms.
     #[tactic(auto, using(crate::proofs::AskSteps::stays_kept, crate::proofs::AskSteps::keeps_self))]
     fn take_list(&mut self, count: usize) -> Result<Vec<Arm>, AllocError>
-        ensures same { self.new ≡ record self.old { detect_list = self.new.detect_list } }
+        ensures same { self.new ≡ record self.old { detect_room = self.new.detect_room } }
         ensures kept { AskStays self.old self.new }
         ensures empty { IfOk result (λ list. list.items ≡ []) }
         ensures capacity { IfOk result (λ list. count ≤ vec_capacity list) }
-        ensures list { OnErr result (self.old.detect_list ≤ self.new.detect_list) }
-        ensures again { count ≤ self.old.detect_list → IsOk result }
+        ensures list { OnErr result (self.old.detect_room ≤ self.new.detect_room) }
+        ensures again { count ≤ self.old.detect_room → IsOk result }
     {
         self.detect_list.reserve(count)?;
         Ok(mem::replace(&mut self.detect_list, Vec::new(self.alloc)))
@@ -143,8 +143,8 @@ impl<D: Deadlines> Asks<D> {
         ensures chosen { IfOk result (λ arms. AreChosen W.next_word (low_of self.old.c1) (high_of self.old.c1 self.old.c2) words.old arms.items words.new) }
         ensures kept { OnErr result (AskStays self.old self.new) }
         ensures unchosen { OnErr result (words.new ≡ words.old) }
-        ensures keeps_room { AskKeepsRoom (record self.old { detect_list = 0 }) self.new }
-        ensures list { OnErr result (self.old.detect_list ≤ self.new.detect_list) }
+        ensures keeps_room { AskKeepsRoom (record self.old { detect_room = 0 }) self.new }
+        ensures list { OnErr result (self.old.detect_room ≤ self.new.detect_room) }
         ensures room { DetectReady names.now self.old → IsOk result }
         ensures due { DueStaysReady self.old self.new }
     {
@@ -254,8 +254,8 @@ impl<D: Deadlines> Asks<D> {
         ensures chosen { IfOk result (λ arms. AreChosen W.next_word (low_of self.old.c1) (high_of self.old.c1 self.old.c2) words.old arms.items words.new) }
         ensures kept { OnErr result (AskStays self.old self.new) }
         ensures unchosen { OnErr result (words.new ≡ words.old) }
-        ensures keeps_room { AskKeepsRoom (record self.old { due_list = 0 }) self.new }
-        ensures list { OnErr result (self.old.due_list ≤ self.new.due_list) }
+        ensures keeps_room { AskKeepsRoom (record self.old { due_room = 0 }) self.new }
+        ensures list { OnErr result (self.old.due_room ≤ self.new.due_room) }
         ensures room { (names : List FullName) → DueReady names self.old → DueAmong now self.old.expiries.places names → IsOk result }
         ensures detect { DetectStaysReady self.old self.new }
     {
@@ -268,14 +268,14 @@ impl<D: Deadlines> Asks<D> {
     /// The names whose timers have run out, in order of name, in the list that is kept for them.
     #[tactic(auto, using(crate::proofs::AskSteps::due_is, crate::proofs::AskSteps::timers_run, crate::proofs::Fitting::due_no_more))]
     fn take_due(&mut self, now: u64) -> Result<Vec<Name>, AllocError>
-        ensures same { self.new ≡ record self.old { names = self.new.names } }
+        ensures same { self.new ≡ record self.old { names_room = self.new.names_room } }
         ensures due { IfOk result (λ names. AskDue now self.old names.items) }
         ensures rising { IfOk result (λ names. ascending name_below names.items ≡ true) }
         ensures timers { IfOk result (λ names. AskTimersRun names.items self.old) }
         ensures few { IfOk result (λ names. (all : List FullName) → DueAmong now self.old.expiries.places all → length names.items ≤ length all) }
-        ensures capacity { IfOk result (λ names. self.old.names ≤ vec_capacity names) }
-        ensures list { OnErr result (self.old.names ≤ self.new.names) }
-        ensures room { (all : List FullName) → length all ≤ self.old.names → DueAmong now self.old.expiries.places all → IsOk result }
+        ensures capacity { IfOk result (λ names. self.old.names_room ≤ vec_capacity names) }
+        ensures list { OnErr result (self.old.names_room ≤ self.new.names_room) }
+        ensures room { (all : List FullName) → length all ≤ self.old.names_room → DueAmong now self.old.expiries.places all → IsOk result }
     {
         self.expiries.due(now, &mut self.names)?;
         Ok(mem::replace(&mut self.names, Vec::new(self.alloc)))
@@ -303,9 +303,9 @@ impl<D: Deadlines> Asks<D> {
         ensures chosen { IfOk result (λ arms. AreChosen W.next_word (low_of self.old.c1) (high_of self.old.c1 self.old.c2) words.old arms.items words.new) }
         ensures kept { OnErr result (AskStays self.old self.new) }
         ensures unchosen { OnErr result (words.new ≡ words.old) }
-        ensures keeps_room { AskKeepsRoom (record self.old { due_list = 0 }) self.new }
-        ensures list { OnErr result (self.old.due_list ≤ self.new.due_list) }
-        ensures room { length names.now ≤ self.old.expiries.room → length names.now ≤ self.old.due_list → IsOk result }
+        ensures keeps_room { AskKeepsRoom (record self.old { due_room = 0 }) self.new }
+        ensures list { OnErr result (self.old.due_room ≤ self.new.due_room) }
+        ensures room { length names.now ≤ self.old.expiries.room → length names.now ≤ self.old.due_room → IsOk result }
     {
         let count = names.len();
         self.expiries.reserve(count)?;

@@ -44,9 +44,9 @@ impl<D: Deadlines> Model for Fixes<D> {
 
     ghost Value = { FixContent };
 
-    ghost view = { λ a. record { d1 = a.d1; d2 = a.d2; expiries = a.expiries; askers = a.marks.askers; held_off = a.marks.held_off; list = vec_capacity a.list } };
+    ghost view = { λ a. record { d1 = a.d1; d2 = a.d2; expiries = a.expiries; askers = a.marks.askers; held_off = a.marks.held_off; due_room = vec_capacity a.list } };
 
-    ghost invariant = { λ a. FixIsRight (record { d1 = a.d1; d2 = a.d2; expiries = a.expiries; askers = a.marks.askers; held_off = a.marks.held_off; list = vec_capacity a.list }) };
+    ghost invariant = { λ a. FixIsRight (record { d1 = a.d1; d2 = a.d2; expiries = a.expiries; askers = a.marks.askers; held_off = a.marks.held_off; due_room = vec_capacity a.list }) };
 }
 
 impl<D: Deadlines> Fixes<D> {
@@ -209,8 +209,8 @@ impl<D: Deadlines> Fixes<D> {
         ensures fits { IfOk result (λ names. FixRepairs now dist.now names.items self.old self.new) }
         ensures names { IfOk result (λ names. FixDue now self.old names.items) }
         ensures kept { OnErr result (FixStays self.old self.new) }
-        ensures keeps_room { FixKeepsRoom (record self.old { list = 0 }) self.new }
-        ensures list { OnErr result (self.old.list ≤ self.new.list) }
+        ensures keeps_room { FixKeepsRoom (record self.old { due_room = 0 }) self.new }
+        ensures list { OnErr result (self.old.due_room ≤ self.new.due_room) }
         ensures room { (names : List FullName) → FixReady names self.old → DueAmong now self.old.expiries.places names → IsOk result }
     {
         self.expiries.due(now, &mut self.list)?;
