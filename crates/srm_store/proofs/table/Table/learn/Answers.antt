@@ -39,4 +39,4 @@ returns-clause-learns c = in_learns (wrote c) _ c.add.ensures c.args.name c.stre
     (c.know.ensures ∙ ap (λ (n : ℕ). let content : StreamContent = record c.index_mut.result.now { known = max c.index_mut.result.now.known n } in content) c.number.ensures.value)
 
 pub returns-clause-still : goal.returns-clause-still
-returns-clause-still c = in_still (wrote c) _ c.add.ensures (knows_still _ _ _ c.know.ensures)
+returns-clause-still c = in_still (wrote c) _ c.add.ensures (knows_still c.index_mut.result.now c.know.new.self _ c.know.ensures)
