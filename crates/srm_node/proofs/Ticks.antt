@@ -11,7 +11,7 @@ use Rattle.srm_agent.specs.Noting.{AnswersAs, IsTicked}
 use Rattle.srm_world.specs.Traces.{Journal}
 use Rattle.srm_world.specs.Claims.{IsLawfulJournal}
 use Rattle.srm_world.specs.Recording.{Records}
-use Rattle.srm_node.proofs.Rightly.{tick_done, leave_not_memory}
+use Rattle.srm_node.proofs.Rightly.{tick_done, not_memory}
 
 pub ticks_not : (now : ℕ) (j k : Journal) (fault : AgentFault) → IsLawfulJournal k → Records (Some now) Ticked (IsTicked j.start.config.session) j k (Err fault) → k ≡ j
 ticks_not now j k fault lawful (inr (is, same)) = same
@@ -29,4 +29,4 @@ leaves_cut now is j k fault lawful memory (inl (e, grows, input, answers)) = abs
     which : (v : Verdict) → e.verdict ≡ v → AnswersAs (is e) v (Err fault) → ⊥
     which Done at_v h = h
     which (Ignored cause) at_v h = h
-    which (Refused f) at_v h = leave_not_memory j k e grows.grown lawful input (at_v ∙ ap Refused (fault_of (Err fault) f refl h))
+    which (Refused f) at_v h = not_memory j k e grows.grown lawful (at_v ∙ ap Refused (fault_of (Err fault) f refl h))

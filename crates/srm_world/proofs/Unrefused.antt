@@ -48,7 +48,7 @@ noise_not : (gone : Bool) (v : Verdict) → noise_right gone v → v ≢ Refused
 noise_not true v h = λ e. cc
 noise_not false v (fault, other, is) = λ e. cc
 
-verdict_not : (c : Config) (es : List Entry) (i : Input) (v : Verdict) → VerdictRight c es i v → v ≢ Refused Memory
+pub verdict_not : (c : Config) (es : List Entry) (i : Input) (v : Verdict) → VerdictRight c es i v → v ≢ Refused Memory
 verdict_not c es (Drew page body) v h = λ r. draw_not _ _ _ _ _ (sym h ∙ r)
 verdict_not c es (Heard g) v h = λ r. heard_not _ _ _ _ _ _ (sym h.1 ∙ r)
 verdict_not c es Noise v h = noise_not (is_gone (state es)) v h
