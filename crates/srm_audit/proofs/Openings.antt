@@ -5,10 +5,9 @@ use Rattle.std.specs.List.{AllByRecursion}
 use Rattle.std.specs.Result.{IsErrAnd}
 use Rattle.std.proofs.lemmas.Bool.{cases_lt}
 use Rattle.std.proofs.lemmas.List.{append-nil, length-map, take-append-drop}
-use Rattle.std.proofs.lemmas.Option.{same_Some, slice_get-map, slice_get_past, slice_get_within, none-some}
+use Rattle.std.proofs.lemmas.Option.{IfSome_then, same_Some, slice_get-map, slice_get_past, slice_get_within, none-some}
 use Rattle.srm_names.specs.Histories.{steps_after}
 use Rattle.srm_names.proofs.Lists.{by_place, at_place, rest_first}
-use Rattle.srm_codec.specs.declared.datagram.Datagram.{Datagram}
 use Rattle.srm_entries.specs.Configs.{Config}
 use Rattle.srm_entries.specs.declared.entry.Entry.{Entry}
 use Rattle.srm_entries.specs.Entries.{sent}
@@ -17,7 +16,7 @@ use Rattle.srm_world.specs.declared.start.Start.{Start}
 use Rattle.srm_world.specs.Traces.{Journal, of_member, IsHonest, IsRoster}
 use Rattle.srm_world.specs.Claims.{IsLawfulJournal}
 use Rattle.srm_audit.specs.Audits.{entries_at, starts_of, next_entry_of, ArePrefixes, AreStuck, IsUnsent, HearsUnsent, IsFound, AreFound}
-use Rattle.srm_audit.specs.Spellings.{Knows, HearsOther}
+use Rattle.srm_audit.specs.Spellings.{Knows}
 use Rattle.srm_audit.specs.Queues.{AreReadable}
 use Rattle.srm_audit.specs.Merging.{Content, Merges, IsStalled, Stops, IsEmptied, IsFirstNonEmpty, Completes, Orders, LeadNoFurther, Refuses, IsUnsentAt, Opens}
 use Rattle.srm_audit.specs.declared.got.Got.{Got}
@@ -104,10 +103,6 @@ next_is q m k rest h at = ap (λ xs. slice_get xs (length (of_member k m.entries
 no_next : (q : List Journal) (es : List Entry) (k : ℕ) → length q ≤ k → next_entry_of q es k ≡ None
 no_next q es k l = ap (λ xs. slice_get xs (length (of_member k es))) (none_there q k l)
 
-some_of : (P Q : Entry → Type 0) (o : Option Entry) → ((e : Entry) → P e → Q e) → IfSome o P → IfSome o Q
-some_of P Q None f h = tt
-some_of P Q (Some e) f h = f e h
-
 stuck : (q : List Journal) (m : Content) → Merges q m → ((k : ℕ) → k < length m.queues → IsStalled m k) → AreStuck q m.entries
 stuck q m h waits = record {
   prefixes = prefixes q m h;
@@ -115,7 +110,7 @@ stuck q m h waits = record {
   waits = λ k. elim (cases_lt k (length m.queues)) [
     | inl l ↦ let w = waits k l in
         subst (λ o. IfSome o (HearsUnsent m.entries)) (sym (next_is q m k w.queue h w.at))
-        (some_of (λ e. (gs : List Datagram) → Knows gs m.spellings → HearsOther gs e) (HearsUnsent m.entries) (slice_get w.queue 0) (λ e f. f (sent m.entries) h.knows) w.next)
+        (IfSome_then (slice_get w.queue 0) w.next (λ e f. f (sent m.entries) h.knows))
     | inr l ↦ subst (λ o. IfSome o (HearsUnsent m.entries)) (sym (no_next q m.entries k (subst (λ n. n ≤ k) h.count l))) tt
   ];
 }
