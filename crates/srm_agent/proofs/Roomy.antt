@@ -1,6 +1,6 @@
 -- Room in the store: an agent fits with it what it fitted before, so what is heard with room is heard.
 use Rattle.std.proofs.Common.{◌≡◌, ℕ, ◌≤◌, true, false, List, refl, ap, sym, ◌∙◌}
-use Rattle.std.specs.Prelude.{◌↔◌, map, Some, Result, Ok, Err, OnErr}
+use Rattle.std.specs.Prelude.{◌↔◌, map, Some, Result, Err}
 use Rattle.std.proofs.lemmas.Bool.{false≢true}
 use Rattle.srm_names.specs.declared.drawop.Drawop.{Drawop}
 use Rattle.srm_names.specs.FullName.{FullName}
@@ -94,7 +94,3 @@ at_full s names r e limit inserted evidence settled h = (limit inserted evidence
 
 pub with_moment : {W : Type 0} (a b : Content W) (s : StoreContent) (moment : ℕ) → s ≡ a.store → b ≡ record a { store = s; last = moment } → b ≡ record a { last = moment }
 with_moment a b s moment same new = new ∙ ap (λ t. record a { store = t; last = moment }) same
-
-pub if_err : {A E P Q : Type 0} (r : Result A E) → OnErr r P → (P → Q) → OnErr r Q
-if_err (Ok x) p to = tt
-if_err (Err e) p to = to p

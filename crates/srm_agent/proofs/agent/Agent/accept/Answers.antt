@@ -1,9 +1,10 @@
 use Rattle.std.proofs.Common.{◌∙◌, ap, Err}
+use Rattle.std.proofs.lemmas.Result.{on_err_weaker}
 use Rattle.srm_agent.specs.Contents.{content_of}
 use Rattle.srm_agent.specs.Noting.{verdict_of_outcome}
 use Rattle.srm_agent.proofs.Answered.{ignored_by}
 use Rattle.srm_agent.proofs.Ignoring.{if_one}
-use Rattle.srm_agent.proofs.Roomy.{may_roomy, enters_roomy, stays_on_roomy, stays_roomy, judged_accepted, unslotted_enters, unslotted_judged, with_moment, if_err, at_full}
+use Rattle.srm_agent.proofs.Roomy.{may_roomy, enters_roomy, stays_on_roomy, stays_roomy, judged_accepted, unslotted_enters, unslotted_judged, with_moment, at_full}
 use Rattle.srm_agent.proofs.agent.Agent.accept.Goals as goal
 
 pub accept_ready-requires-clause-may : goal.accept_ready-requires-clause-may
@@ -16,7 +17,7 @@ pub returns-in-Ok-clause-judged : goal.returns-in-Ok-clause-judged
 returns-in-Ok-clause-judged g c = if_one c.accept_ready.result c.accept_ready.ensures.done (λ hearing done. judged_accepted c.args.datagram _ _ c.requires.may.allowed (ap verdict_of_outcome done))
 
 pub returns-in-Ok-clause-err : goal.returns-in-Ok-clause-err
-returns-in-Ok-clause-err g c = rw (← c.self.view_is) (if_err c.accept_ready.result c.accept_ready.ensures.err (stays_on_roomy _ _ _ c.room_to_learn.ensures.kept))
+returns-in-Ok-clause-err g c = rw (← c.self.view_is) (on_err_weaker c.accept_ready.result (stays_on_roomy _ _ _ c.room_to_learn.ensures.kept) c.accept_ready.ensures.err)
 
 pub returns-in-Err-PageLimit-clause-ok : goal.returns-in-Err-PageLimit-clause-ok
 returns-in-Err-PageLimit-clause-ok g c = rw (← c.self.view_is) (unslotted_enters g.W.Words.next_word (content_of c.self.inside) _ c.args.moment c.args.datagram c.args.names.now _
