@@ -1,6 +1,7 @@
 -- The entries of what is ignored: noise, and datagrams with a cause.
 use Rattle.std.proofs.Common.{◌≡◌, ◌≢◌, ℕ, ◌≤◌, max, Bool, true, false, inl, inr, List, [], ◌∷◌, refl, ap, sym, ◌∙◌, subst, arith}
 use Rattle.std.specs.Prelude.{Option, Some, None, Result, Ok, Err, IfOk, IsOk, OnErr, if◌then◌else◌}
+use Rattle.std.proofs.lemmas.Result.{IfOk-weaker}
 use Rattle.srm_names.specs.Histories.{greatest}
 use Rattle.srm_codec.specs.declared.datagram.Datagram.{Datagram}
 use Rattle.srm_codec.specs.declared.fault.DecodeFault.{DecodeFault}
@@ -107,8 +108,7 @@ refused_as_read (Err y) session own bytes g same read = rw (← same, read) refl
 
 -- what holds of what is answered, where something is
 pub if_one : {A B : Type 0} {P Q : A → Type 0} (r : Result A B) → IfOk r P → ((x : A) → P x → Q x) → IfOk r Q
-if_one (Ok x) p to = to x p
-if_one (Err y) p to = tt
+if_one {A} {B} {P} {Q} r p to = IfOk-weaker r P Q to p
 
 pub if_two : {A B : Type 0} {P R Q : A → Type 0} (r : Result A B) → IfOk r P → IfOk r R → ((x : A) → P x → R x → Q x) → IfOk r Q
 if_two (Ok x) p r to = to x p r
