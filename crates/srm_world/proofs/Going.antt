@@ -62,13 +62,8 @@ last_after made past e right = at e.verdict refl ∙ sym (last_moment-snoc made 
     at Done q = clocked (takes_moment e.input) e.moment (last_moment made past) right
     at (Ignored cause) q = clocked (takes_moment e.input) e.moment (last_moment made past) right
 
--- whether a call moves the messages of a slot
-abbrev pub moves_lane : Input → Bool
-moves_lane (Gave slot) = true
-moves_lane (Took slot) = true
-moves_lane _ = false
-
-ungiven : (input : Input) (j : ℕ) (m : Option PageMsg) → moves_lane input ≡ false → given_in j input m ≡ None
+-- a call that takes a moment moves no message of a slot
+ungiven : (input : Input) (j : ℕ) (m : Option PageMsg) → takes_moment input ≡ true → given_in j input m ≡ None
 ungiven (Gave slot) j m e = absurd (cc)
 ungiven (Took slot) j m e = refl
 ungiven (Drew page body) j m e = refl
@@ -78,7 +73,7 @@ ungiven inputs.Ticked j m e = refl
 ungiven (Showed page) j m e = refl
 ungiven AskedLeave j m e = refl
 
-untaken : (input : Input) (j : ℕ) (m : Option PageMsg) → moves_lane input ≡ false → taken_in j input m ≡ None
+untaken : (input : Input) (j : ℕ) (m : Option PageMsg) → takes_moment input ≡ true → taken_in j input m ≡ None
 untaken (Gave slot) j m e = refl
 untaken (Took slot) j m e = absurd (cc)
 untaken (Drew page body) j m e = refl
@@ -100,9 +95,9 @@ lane_stays : (past : List Entry) (e : Entry) (j : ℕ) (waiting : List PageMsg) 
 lane_stays past e j waiting g t h =
     given_more past e j None g ∙ append-nil (given past j) ∙ h ∙ ap (λ xs. xs ++ waiting) (sym (taken_more past e j None t ∙ append-nil (taken past j)))
 
-pub lanes_stay : (past : List Entry) (e : Entry) (input : Input) (lanes : List LaneContent) → e.input ≡ input → moves_lane input ≡ false → LanesFit past lanes → LanesFit (past ++ e ∷ []) lanes
+pub lanes_stay : (past : List Entry) (e : Entry) (input : Input) (lanes : List LaneContent) → e.input ≡ input → takes_moment input ≡ true → LanesFit past lanes → LanesFit (past ++ e ∷ []) lanes
 lanes_stay past e input lanes is still h j l at =
-    lane_stays past e j l.waiting (ungiven e.input j e.effects.message (ap moves_lane is ∙ still)) (untaken e.input j e.effects.message (ap moves_lane is ∙ still)) (h j l at)
+    lane_stays past e j l.waiting (ungiven e.input j e.effects.message (ap takes_moment is ∙ still)) (untaken e.input j e.effects.message (ap takes_moment is ∙ still)) (h j l at)
 
 -- the one step: each thing that is kept goes on as the entry says
 pub adds : {W : Type 0} (c : Config) (made : ℕ) (past : List Entry) (now : Option ℕ) (p q : Content W) (e : Entry) → Fits c made past p → agents_fit.Fits c made (past ++ e ∷ []) q.agent
@@ -120,7 +115,7 @@ adds c made past now p q e h fits config moment last after lanes = record {
 }
 
 -- a call that moves no message
-pub goes_on : {W : Type 0} (next_word : W → ℕ × W) (now : Option ℕ) (input : Input) (p q : Content W) (e : Entry) → Enters next_word now input p.agent q.agent e → moves_lane input ≡ false
+pub goes_on : {W : Type 0} (next_word : W → ℕ × W) (now : Option ℕ) (input : Input) (p q : Content W) (e : Entry) → Enters next_word now input p.agent q.agent e → takes_moment input ≡ true
     → q.config ≡ p.config → q.last ≡ last_with p.last e.verdict e.moment → q.state ≡ e.effects.state → q.lanes ≡ p.lanes → GoesOn next_word now input p q e
 goes_on next_word now input p q e enters still config last after lanes = record {
   input_is = enters.input_is;
@@ -131,10 +126,10 @@ goes_on next_word now input p q e enters still config last after lanes = record 
 
 -- a heard datagram or noise moves no message
 
-heard_still : (o : Input × Verdict) (gone : Bool) (c : Config) (past : List Entry) (read : Result Datagram DecodeFault) → o ≡ cond gone (Noise, Ignored causes.Gone) (read_as c past read) → moves_lane o.0 ≡ false
-heard_still o true c past read q = ap (λ (x : Input × Verdict). moves_lane x.0) q
-heard_still o false c past (Ok g) q = ap (λ (x : Input × Verdict). moves_lane x.0) q
-heard_still o false c past (Err fault) q = ap (λ (x : Input × Verdict). moves_lane x.0) q
+heard_still : (o : Input × Verdict) (gone : Bool) (c : Config) (past : List Entry) (read : Result Datagram DecodeFault) → o ≡ cond gone (Noise, Ignored causes.Gone) (read_as c past read) → takes_moment o.0 ≡ true
+heard_still o true c past read q = ap (λ (x : Input × Verdict). takes_moment x.0) q
+heard_still o false c past (Ok g) q = ap (λ (x : Input × Verdict). takes_moment x.0) q
+heard_still o false c past (Err fault) q = ap (λ (x : Input × Verdict). takes_moment x.0) q
 
 pub hears_on : {W : Type 0} (next_word : W → ℕ × W) (now : Option ℕ) (p q : Content W) (bytes : List ℕ) (e : Entry) → Enters next_word now e.input p.agent q.agent e → ReadsAs bytes p.agent e
     → q.config ≡ p.config → q.last ≡ last_with p.last e.verdict e.moment → q.state ≡ e.effects.state → q.lanes ≡ p.lanes → GoesOn next_word now e.input p q e
@@ -142,7 +137,7 @@ hears_on next_word now p q bytes e enters reads config last after lanes = record
   input_is = refl;
   words = enters.words;
   adds = λ c made past h.
-      let still : moves_lane e.input ≡ false = heard_still (e.input, e.verdict) (is_gone (state past)) c past (judge c.session bytes) (reads.each c made past h.agent) in
+      let still : takes_moment e.input ≡ true = heard_still (e.input, e.verdict) (is_gone (state past)) c past (judge c.session bytes) (reads.each c made past h.agent) in
       adds c made past now p q e h (enters.fits c made past h.agent) config enters.moment_is last after
       (subst (λ ls. LanesFit (past ++ e ∷ []) ls) (sym lanes) (lanes_stay past e e.input p.lanes refl still h.lanes));
 }
