@@ -8,6 +8,7 @@ use Rattle.std.proofs.lemmas.Option.{none-some, same_Some}
 use Rattle.srm_names.specs.declared.page_msg.PageMsg.{PageMsg}
 use Rattle.srm_names.specs.PageFeeds.{continues}
 use Rattle.srm_names.proofs.Feeds.{last_continues}
+use Rattle.srm_names.proofs.Lists.{set_elsewhere}
 use Rattle.srm_entries.specs.declared.entry.Entry.{Entry}
 use Rattle.srm_entries.specs.declared.entry.Input.TheVariants.{Gave}
 use Rattle.srm_entries.specs.declared.entry.Verdict.TheVariants.{Done}
@@ -54,13 +55,6 @@ set_there [] i x y e = absurd (none-some y e)
 set_there (z ∷ zs) zero x y e = same_Some x y e
 set_there (z ∷ zs) (suc i) x y e = set_there zs i x y e
 
-pub set_elsewhere : {X : Type 0} (xs : List X) (i : ℕ) (x : X) (j : ℕ) → (j ≡ i → ⊥) → slice_get (slice_set xs i x) j ≡ slice_get xs j
-set_elsewhere [] i x j other = refl
-set_elsewhere (z ∷ zs) zero x zero other = absurd (other refl)
-set_elsewhere (z ∷ zs) zero x (suc j) other = refl
-set_elsewhere (z ∷ zs) (suc i) x zero other = refl
-set_elsewhere (z ∷ zs) (suc i) x (suc j) other = set_elsewhere zs i x j (λ e. other (ap suc e))
-
 -- the progress with one message more in a slot
 progress_more : (past : List Entry) (e : Entry) (progress : List ProgressContent) (slot i : ℕ) (f : ProgressContent) (m : PageMsg) → e.input ≡ Gave slot → e.effects.message ≡ Some m → i ≡ slot → EachProgressFits past progress
     → ProgressFits (given past slot ++ m ∷ []) f → EachProgressFits (past ++ e ∷ []) (slice_set progress i f)
@@ -74,7 +68,7 @@ progress_more past e progress slot i f m input message at h more = record { each
       | inl same ↦ subst (λ g. ProgressFits g x) (sym (given_then j true (eq-eqb j slot (same ∙ at))))
           (subst (λ w. ProgressFits (given past j ++ m ∷ []) w) (set_there progress i f x (subst (λ k. slice_get (slice_set progress i f) k ≡ Some x) same there))
           (subst (λ k. ProgressFits (given past k ++ m ∷ []) f) (sym (same ∙ at)) more))
-      | inr other ↦ subst (λ g. ProgressFits g x) (sym (given_then j false (ne_eqb j slot (λ k. other (k ∙ sym at))) ∙ append-nil (given past j))) (h.each j x (sym (set_elsewhere progress i f j other) ∙ there))
+      | inr other ↦ subst (λ g. ProgressFits g x) (sym (given_then j false (ne_eqb j slot (λ k. other (k ∙ sym at))) ∙ append-nil (given past j))) (h.each j x (sym (set_elsewhere progress i j f other) ∙ there))
     ]
 
 pub gives_message : {W : Type 0} (next_word : W → ℕ × W) (a : Content W) (slot i : ℕ) (m : PageMsg) (f : ProgressContent) (e : Entry) → e ≡ entry_without_effects a.config.me a.last (Gave slot) Done (Some m) a.state → i ≡ slot

@@ -5,13 +5,12 @@ use Rattle.std.specs.List.{AllByRecursion}
 use Rattle.std.proofs.lemmas.Bool.{cases_eq}
 use Rattle.std.proofs.lemmas.Option.{same_Some, slice_get_read, slice_get_within, none-some}
 use Rattle.srm_names.specs.Histories.{Step}
-use Rattle.srm_names.proofs.Lists.{AllByRecursion-parts, AllByRecursion-snoc}
+use Rattle.srm_names.proofs.Lists.{AllByRecursion-parts, AllByRecursion-snoc, get_set_same, set_elsewhere, set_same}
 use Rattle.srm_codec.specs.declared.datagram.Datagram.{Datagram}
 use Rattle.srm_entries.specs.declared.entry.Entry.{Entry}
 use Rattle.srm_entries.specs.Entries.{accepted, sent}
 use Rattle.srm_entries.proofs.Running.{steps_more}
 use Rattle.srm_world.specs.Traces.{Journal, of_member, IsHonest}
-use Rattle.srm_world.proofs.Laning.{get_set_same, get_set_other}
 use Rattle.srm_world.proofs.Members.{of_member-own}
 use Rattle.srm_world.proofs.Stepping.{of_member-other, sent-snoc}
 use Rattle.srm_audit.specs.Audits.{entries_at}
@@ -20,11 +19,6 @@ use Rattle.srm_audit.specs.Queues.{HearsSent, MayGo, PopsReady}
 use Rattle.srm_audit.specs.Merging.{Content, entries_remaining, Merges, KeepsJournals, Advances, IsStalled, Moves, TriesMember, Tries}
 
 -- what one call finds
-
-set_same : {X : Type 0} (xs : List X) (k : ℕ) (x : X) → slice_get xs k ≡ Some x → slice_set xs k x ≡ xs
-set_same [] k x at = absurd (none-some x at)
-set_same (y ∷ xs) zero x at = ap (λ z. z ∷ xs) (sym (same_Some y x at))
-set_same (y ∷ xs) (suc k) x at = ap (λ zs. y ∷ zs) (set_same xs k x at)
 
 parts : (m new : Content) → new.queues ≡ m.queues → new.entries ≡ m.entries → new.spellings ≡ m.spellings → new ≡ m
 parts m new e f g =
@@ -91,7 +85,7 @@ advances_keeps k old new a q m = record {
         subst (λ (i : ℕ). of_member i new.entries ++ rest ≡ entries_at q i) (sym same) (subst (λ xs. of_member k new.entries ++ xs ≡ entries_at q k) is here)
     which j rest at (inr differ) =
         ap (λ es. of_member j es ++ rest) a.entries ∙ ap (λ es. es ++ rest) (of_member-other j old.entries a.entry (λ (e : a.entry.member ≡ j). differ (sym e ∙ mine)))
-        ∙ m.each j rest (sym (get_set_other old.queues k j a.rest differ) ∙ ap (λ xs. slice_get xs j) (sym a.queues) ∙ at)
+        ∙ m.each j rest (sym (set_elsewhere old.queues k j a.rest differ) ∙ ap (λ xs. slice_get xs j) (sym a.queues) ∙ at)
 
 left_set : (queues : List (List Entry)) (k : ℕ) (e : Entry) (rest : List Entry) → slice_get queues k ≡ Some (e ∷ rest) → entries_remaining (slice_set queues k rest) + 1 ≡ entries_remaining queues
 left_set [] k e rest at = absurd (none-some (e ∷ rest) at)

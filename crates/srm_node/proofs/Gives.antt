@@ -11,7 +11,7 @@ use Rattle.std.proofs.lemmas.List.Folds.{list_any-append}
 use Rattle.srm_names.specs.declared.limits.TheConstants.{PAGES}
 use Rattle.srm_names.specs.declared.page_msg.PageMsg.{PageMsg}
 use Rattle.srm_names.specs.PageFeeds.{is_page_feed}
-use Rattle.srm_names.proofs.Lists.{AllByRecursion-append, all_by}
+use Rattle.srm_names.proofs.Lists.{AllByRecursion-append, all_by, get_set_same, set_elsewhere}
 use Rattle.srm_pages.specs.Ends.{FeedView, credit_of}
 use Rattle.srm_entries.specs.declared.entry.Entry.{Entry}
 use Rattle.srm_entries.specs.declared.entry.Input.TheVariants.{Gave}
@@ -24,7 +24,6 @@ use Rattle.srm_world.specs.Traces.{Journal}
 use Rattle.srm_world.specs.Claims.{IsLawfulJournal}
 use Rattle.srm_world.specs.Recording.{Records, with_entry}
 use Rattle.srm_world.proofs.HearsAll.{grows_nothing, grown_on}
-use Rattle.srm_world.proofs.Laning.{get_set_same, get_set_other}
 use Rattle.srm_node.specs.Carrying.{Carries, CarriesEach}
 use Rattle.srm_node.specs.Parts.{Gives, GivesUpTo, GaveSome, SameFeed, is_served, gave_nothing, gives_in, is_give}
 use Rattle.srm_node.proofs.Rightly.{give_done}
@@ -230,7 +229,7 @@ up_stops n ended a b c fs gs hs g h x at_g y is = record {
   carries = λ j f at_f. carried_at j f (subst (λ xs. slice_get xs j ≡ Some f) is at_f) (cases_eq j n);
   slots = ap length is ∙ length-set gs n h ∙ x.slots;
   same = λ j f k at_f at_k. same_at j f k at_f (subst (λ xs. slice_get xs j ≡ Some k) is at_k) (cases_eq j n);
-  served = λ j f below at_f. served_front j x.entries y.entries f (x.served j f below (sym (get_set_other gs n j h (λ e. lower j below e)) ∙ subst (λ xs. slice_get xs j ≡ Some f) is at_f));
+  served = λ j f below at_f. served_front j x.entries y.entries f (x.served j f below (sym (set_elsewhere gs n j h (λ e. lower j below e)) ∙ subst (λ xs. slice_get xs j ≡ Some f) is at_f));
 }
   where
     lower : (j : ℕ) → j < n → j ≡ n → ⊥
@@ -243,13 +242,13 @@ up_stops n ended a b c fs gs hs g h x at_g y is = record {
     carried_at j f at_f (inl same) =
         let is_h : h ≡ f = same_Some h f (sym (get_set_same gs n g h at_g) ∙ ap (slice_get (slice_set gs n h)) (sym same) ∙ at_f) in
         subst (λ (i : ℕ). Carries (given c.entries i) f) (sym same) (subst (λ (z : FeedView). Carries (given c.entries n) z) is_h y.carries)
-    carried_at j f at_f (inr ne) = subst (λ xs. Carries xs f) (same_given j ne) (x.carries j f (sym (get_set_other gs n j h ne) ∙ at_f))
+    carried_at j f at_f (inr ne) = subst (λ xs. Carries xs f) (same_given j ne) (x.carries j f (sym (set_elsewhere gs n j h ne) ∙ at_f))
 
     same_at : (j : ℕ) (f k : FeedView) → slice_get fs j ≡ Some f → slice_get (slice_set gs n h) j ≡ Some k → ((j ≡ n) ⊎ (j ≢ n)) → SameFeed f k
     same_at j f k at_f at_k (inl same) =
         let is_h : h ≡ k = same_Some h k (sym (get_set_same gs n g h at_g) ∙ ap (slice_get (slice_set gs n h)) (sym same) ∙ at_k) in
         subst (λ (z : FeedView). SameFeed f z) is_h (same_on f g h (x.same j f g at_f (ap (slice_get gs) same ∙ at_g)) y.same)
-    same_at j f k at_f at_k (inr ne) = x.same j f k at_f (sym (get_set_other gs n j h ne) ∙ at_k)
+    same_at j f k at_f at_k (inr ne) = x.same j f k at_f (sym (set_elsewhere gs n j h ne) ∙ at_k)
 
 -- one slot more was served
 pub up_more : (n : ℕ) (a b c : Journal) (fs gs hs : List FeedView) (g h : FeedView) → GivesUpTo n a b fs gs → slice_get gs n ≡ Some g → Gives n true b c g h → hs ≡ slice_set gs n h → GivesUpTo (n + 1) a c fs hs
@@ -269,7 +268,7 @@ up_more n a b c fs gs hs g h x at_g y is = let z = up_stops n true a b c fs gs h
     served_at j f below at_f (inl same) =
         let is_h : h ≡ f = same_Some h f (sym (get_set_same gs n g h at_g) ∙ ap (slice_get (slice_set gs n h)) (sym same) ∙ at_f) in
         subst (λ (i : ℕ). is_served i (x.entries ++ y.entries) f ≡ true) (sym same) (served_back n x.entries y.entries f (subst (λ (w : FeedView). is_served n y.entries w ≡ true) is_h y.served))
-    served_at j f below at_f (inr ne) = served_front j x.entries y.entries f (x.served j f (omega arith) (sym (get_set_other gs n j h ne) ∙ at_f))
+    served_at j f below at_f (inr ne) = served_front j x.entries y.entries f (x.served j f (omega arith) (sym (set_elsewhere gs n j h ne) ∙ at_f))
 
 -- as the code has it: the feed at a place
 at_slot : (gs : List FeedView) (i n : ℕ) (g : FeedView) → i ≡ n → n < length gs → g ≡ get_or gs i g → slice_get gs n ≡ Some g

@@ -1,22 +1,13 @@
 -- The lanes of a member after one of them was written.
-use Rattle.std.proofs.Common.{◌≡◌, ◌≢◌, ℕ, zero, suc, ◌<◌, List, [], ◌∷◌, ◌++◌, length, get_or, refl, ap, sym, ◌∙◌, subst, arith, inl, inr, eq-eqb}
+use Rattle.std.proofs.Common.{◌≡◌, ◌≢◌, ℕ, ◌<◌, List, [], ◌∷◌, ◌++◌, length, get_or, refl, ap, sym, ◌∙◌, subst, arith, inl, inr, eq-eqb}
 use Rattle.std.specs.Prelude.{◌⊎◌, Result, Ok, Err, OnOk, Option, Some, slice_get, slice_set, option_to_list, drop, cond}
 use Rattle.std.proofs.lemmas.Bool.{cases_eq, ne_eqb}
 use Rattle.std.proofs.lemmas.List.{append-nil}
 use Rattle.std.proofs.lemmas.Option.{same_Some, slice_get-get_or}
 use Rattle.srm_names.specs.declared.page_msg.PageMsg.{PageMsg}
-use Rattle.srm_agent.proofs.Giving.{set_elsewhere}
+use Rattle.srm_names.proofs.Lists.{get_set_same, set_elsewhere}
 use Rattle.srm_world.specs.Lane.{LaneContent}
 use Rattle.srm_world.specs.Lanes.{HasRoom, Gains, Loses, in_lane}
-
--- what is read, of a list with one place written
-pub get_set_same : {X : Type 0} (xs : List X) (i : ℕ) (x y : X) → slice_get xs i ≡ Some x → slice_get (slice_set xs i y) i ≡ Some y
-get_set_same [] i x y h = cc
-get_set_same (z ∷ xs) zero x y h = refl
-get_set_same (z ∷ xs) (suc i) x y h = get_set_same xs i x y h
-
-pub get_set_other : {X : Type 0} (xs : List X) (i k : ℕ) (y : X) → k ≢ i → slice_get (slice_set xs i y) k ≡ slice_get xs k
-get_set_other xs i k y ne = set_elsewhere xs i y k ne
 
 -- one lane is written, and gains these messages
 pub gains_at : (lanes : List LaneContent) (slot : ℕ) (w l : LaneContent) (more : List PageMsg) → slice_get lanes slot ≡ Some w → l.waiting ≡ w.waiting ++ more → Gains slot more lanes (slice_set lanes slot l)
@@ -27,7 +18,7 @@ gains_at lanes slot w l more at e = record { each = λ j x there. which j x ther
         let is : l ≡ x = same_Some l x (sym (get_set_same lanes slot w l at) ∙ ap (slice_get (slice_set lanes slot l)) (sym same) ∙ there) in
         (w, ap (slice_get lanes) same ∙ at, ap (λ (v : LaneContent). v.waiting) (sym is) ∙ e ∙ ap (λ b. w.waiting ++ cond b more []) (sym (eq-eqb j slot same)))
     which j x there (inr differ) =
-        (x, sym (get_set_other lanes slot j l differ) ∙ there, sym (append-nil x.waiting) ∙ ap (λ b. x.waiting ++ cond b more []) (sym (ne_eqb j slot differ)))
+        (x, sym (set_elsewhere lanes slot j l differ) ∙ there, sym (append-nil x.waiting) ∙ ap (λ b. x.waiting ++ cond b more []) (sym (ne_eqb j slot differ)))
 
 first_and_rest : (ms : List PageMsg) → ms ≡ option_to_list (slice_get ms 0) ++ drop 1 ms
 first_and_rest [] = refl
@@ -48,7 +39,7 @@ loses_at lanes slot w l message at m rest = record {
         let is : l ≡ x = same_Some l x (sym (get_set_same lanes slot w l at) ∙ ap (slice_get (slice_set lanes slot l)) (sym same) ∙ there) in
         (w, ap (slice_get lanes) same ∙ at, taken ∙ ap (λ (v : LaneContent). option_to_list message ++ v.waiting) is ∙ ap (λ b. cond b (option_to_list message) [] ++ x.waiting) (sym (eq-eqb j slot same)))
     which j x there (inr differ) =
-        (x, sym (get_set_other lanes slot j l differ) ∙ there, ap (λ b. cond b (option_to_list message) [] ++ x.waiting) (sym (ne_eqb j slot differ)))
+        (x, sym (set_elsewhere lanes slot j l differ) ∙ there, ap (λ b. cond b (option_to_list message) [] ++ x.waiting) (sym (ne_eqb j slot differ)))
 
 -- the lane at a slot that is read
 pub read_at : (lanes : List LaneContent) (slot place : ℕ) (w : LaneContent) → w ≡ get_or lanes place w → place ≡ slot → slot < 8 → length lanes ≡ 8 → slice_get lanes slot ≡ Some w

@@ -6,7 +6,7 @@ use Rattle.std.proofs.lemmas.Option.{same_Some, slice_get-map, slice_get-get_or,
 use Rattle.std.proofs.lemmas.Bool.Decides.{nat_tests}
 use Rattle.std.proofs.lemmas.Bool.{cases_eq, lt-ltb, ne_eqb}
 use Rattle.std.proofs.lemmas.List.{length-set, append-nil, map-append, take_more}
-use Rattle.srm_names.proofs.Lists.{AllByRecursion-append, by_place, from_places, at_place}
+use Rattle.srm_names.proofs.Lists.{AllByRecursion-append, by_place, from_places, at_place, get_set_same, set_elsewhere}
 use Rattle.srm_codec.specs.declared.datagram.Datagram.{Datagram}
 use Rattle.srm_timers.specs.Arms.{AreChosen}
 use Rattle.srm_outbox.specs.declared.out.Out.{Out}
@@ -35,7 +35,6 @@ use Rattle.srm_world.specs.WaitWords.{WorldView, AreByOwnWords, PlaysByWords}
 use Rattle.srm_world.specs.Participants.{Content, Fits, Adds, GoesOn, Stays, HearsBytes, SendsOuts}
 use Rattle.srm_world.specs.Worlds.{words_of, AllFit, AreSent, AreWorld, EntersTrace, EntersAll, Skips, KeepsParticipants, Appends, after_entry}
 use Rattle.srm_world.proofs.Members.{of_member-append, of_member-own}
-use Rattle.srm_world.proofs.Laning.{get_set_same, get_set_other}
 use Rattle.srm_world.proofs.Wording.{plays_nothing, plays_one, sources_stay, plays_still, plays_on}
 use Rattle.srm_world.proofs.Going.{newest_right}
 use Rattle.srm_world.proofs.Lawful.{lawful}
@@ -65,7 +64,7 @@ fit_set starts ps es new m a p q all start at fits others k b x there_a there = 
         let is : q ≡ x = same_Some q x (sym (get_set_same ps m p q at) ∙ ap (slice_get (slice_set ps m q)) (sym same) ∙ there) in
         let begun : a ≡ b = same_Some a b (sym start ∙ ap (slice_get starts) (sym same) ∙ there_a) in
         subst (λ (j : ℕ). Fits b.config b.made (of_member j new) x) (sym same) (subst (λ (s : Start). Fits s.config s.made (of_member m new) x) begun (subst (Fits a.config a.made (of_member m new)) is fits))
-    which (inr differ) = subst (λ (ys : List Entry). Fits b.config b.made ys x) (sym (others k differ)) (all k b x there_a (sym (get_set_other ps m k q differ) ∙ there))
+    which (inr differ) = subst (λ (ys : List Entry). Fits b.config b.made ys x) (sym (others k differ)) (all k b x there_a (sym (set_elsewhere ps m k q differ) ∙ there))
 
 -- a member whose call was refused for memory
 pub keeps_at : {W : Type 0} (ps : List (Content W)) (sents : List Out) (i : ℕ) (d q : Content W) → i < length ps → Stays (get_or ps i d) q → KeepsParticipants ps (slice_set ps i q) sents sents
@@ -83,7 +82,7 @@ keeps_at ps sents i d q lt h = record {
         which (inl same) =
             let is : q ≡ x = same_Some q x (sym (get_set_same ps i (get_or ps i d) q (slice_get-get_or ps i d lt)) ∙ ap (slice_get (slice_set ps i q)) (sym same) ∙ there) in
             subst (Fits b.config b.made (of_member k es)) is (h.fits b.config b.made (of_member k es) (all k b (get_or ps i d) there_b (ap (slice_get ps) same ∙ slice_get-get_or ps i d lt)))
-        which (inr differ) = all k b x there_b (sym (get_set_other ps i k q differ) ∙ there)
+        which (inr differ) = all k b x there_b (sym (set_elsewhere ps i k q differ) ∙ there)
 
 pub keeps_all : {W : Type 0} (ps : List (Content W)) (sents : List Out) → KeepsParticipants ps ps sents sents
 keeps_all ps sents = record { fits = λ starts es all. all; words = refl; count = refl; sent = refl }

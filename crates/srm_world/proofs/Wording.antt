@@ -5,7 +5,7 @@ use Rattle.std.proofs.lemmas.Bool.{cases_eq, ne_eqb}
 use Rattle.std.proofs.lemmas.Grind.{flat_map-append}
 use Rattle.std.proofs.lemmas.List.{append-nil, length-set, length-map}
 use Rattle.std.proofs.lemmas.Option.{same_Some, slice_get-map, slice_get-get_or, slice_get_within}
-use Rattle.srm_names.proofs.Lists.{at_place}
+use Rattle.srm_names.proofs.Lists.{at_place, get_set_same, set_elsewhere}
 use Rattle.srm_timers.specs.Arms.{AreChosen}
 use Rattle.srm_timers.proofs.Arming.{chosen-append}
 use Rattle.srm_outbox.specs.declared.out.Out.{Out}
@@ -21,7 +21,6 @@ use Rattle.srm_world.specs.Traces.{Trace, Journal, of_member}
 use Rattle.srm_world.specs.Participants.{Content}
 use Rattle.srm_world.specs.WaitWords.{RecorderView, WorldView, AreByWords, AreByOwnWords, RecordsByWords, PlaysByWords, arms_in}
 use Rattle.srm_world.specs.Worlds.{AreWorld, words_of}
-use Rattle.srm_world.proofs.Laning.{get_set_same, get_set_other}
 use Rattle.srm_world.proofs.Members.{of_member-append}
 
 -- one source
@@ -84,7 +83,7 @@ plays_one {W = W} next_word starts ps i d q e a lt at mine drawn = record {
     which m b u v at_b at_u at_v (inr differ) =
         let none : of_member m (e ∷ []) ≡ [] = ap (λ x. cond x (e ∷ []) []) (ne_eqb e.member m (λ is. differ (sym is ∙ mine))) in
         subst (λ es. AreByWords next_word b.config u es v) (sym none)
-        (same_Some v u (sym at_v ∙ slice_get-map source (slice_set ps i q) m ∙ ap (option_map source) (get_set_other ps i m q differ) ∙ sym (slice_get-map source ps m) ∙ at_u))
+        (same_Some v u (sym at_v ∙ slice_get-map source (slice_set ps i q) m ∙ ap (option_map source) (set_elsewhere ps i m q differ) ∙ sym (slice_get-map source ps m) ∙ at_u))
 
 -- each member has a source
 pub sources_counted : {W : Type 0} (ps : List (Content W)) (sents : List Out) (t : Trace) → AreWorld ps sents t → length (words_of ps) ≡ length t.starts
