@@ -37,7 +37,7 @@ use Rattle.srm_outbox.specs.Outbox.{WentContent}
 use Rattle.srm_agent.specs.Noting.{Stays}
 use Rattle.srm_agent.specs.Ticking.{TicksAs, tick_entry, IsSessionMessageAt, IsSessionMessageIf, IsDue, HandsOut, SendsAll, data_waits, session_message_at_end, state_after, due_then}
 use Rattle.srm_entries.proofs.Ending.{ending_of, ending_is, EndsIn, NoSessions, charged_is, due_by}
-use Rattle.srm_agent.proofs.Entering.{at_moment}
+use Rattle.srm_agent.proofs.Entering.{max_above}
 use Rattle.srm_agent.proofs.Fitting.{refit, roomy}
 use Rattle.srm_agent.proofs.Sent.{bucket_ticks}
 use Rattle.srm_agent.proofs.Ticks.{IsSent, TickKeeps, TickRight, tick_fits}
@@ -335,7 +335,7 @@ pub acts_ticks : {W : Type 0} (next_word : W → ℕ × W) (a b d f z : Content 
 acts_ticks next_word a b d f z moment due arms went last outs answered s is = record {
   enters = record {
     input_is = refl;
-    moment_is = at_moment a.last moment s.later;
+    moment_is = max_above a.last moment s.later;
     fits = λ c made past h. subst (λ x. Fits c made (past ++ x ∷ []) z)
         (ap (λ gs. tick_entry c.me moment due.handed_out.asks due.handed_out.fixes arms gs z.state) same.0 ∙ ap (λ k. tick_entry k.me moment due.handed_out.asks due.handed_out.fixes arms (datagrams_of answered) z.state) (sym h.config))
         (acts_fits next_word a b d f z moment due arms went last outs c made past s h);

@@ -62,8 +62,8 @@ still_enters next_word a b now moment input verdict after e is at words same is_
 
 -- what a call without effects says of the moment that counts, and of its answer
 
-pub at_moment : (last moment : ℕ) → last ≤ moment → moment ≡ max moment last
-at_moment last moment l = omega (arith, l)
+pub max_above : (low high : ℕ) → low ≤ high → high ≡ max high low
+max_above low high l = omega (arith, l)
 
 answers_still : {A : Type 0} (r : Result A AgentFault) → AnswersAs (λ _. Unit {0}) (verdict_answering r) r
 answers_still (Ok value) = tt

@@ -40,7 +40,7 @@ use Rattle.srm_entries.proofs.Adding.{flat_map-snoc, known-snoc}
 use Rattle.srm_entries.proofs.Showing.{state-snoc, held-snoc, shown-snoc, drawn-snoc, hearing_fine}
 use Rattle.srm_entries.proofs.Running.{steps_more, last_moment-snoc, shown-page-snoc}
 use Rattle.srm_agent.proofs.Slotted.{slots-all}
-use Rattle.srm_agent.proofs.Entering.{of_member, at_moment}
+use Rattle.srm_agent.proofs.Entering.{of_member, max_above}
 use Rattle.srm_agent.proofs.Quiet.{bucket_stays, same_due, no_timers}
 use Rattle.srm_agent.proofs.Still.{same_progress}
 
@@ -127,9 +127,6 @@ own_within me past s k own drew (n ∷ ns) none =
         omega (arith, m, d, more)
     go false e more within = more
 
-own_known : (k m : ℕ) → m ≤ k → max k m ≡ k
-own_known k m l = omega arith
-
 same_own : {W : Type 0} (c : Config) (made : ℕ) (past : List Entry) (a b : Content W) (moment : ℕ) (g : Datagram) (arms : List Arm) → Heeds c made past a b moment g (heard_entry c.me moment g arms a.state)
     → (page : Page) → drawn_in (past ++ heard_entry c.me moment g arms a.state ∷ []) (stream_on c.me page) ≡ known (past ++ heard_entry c.me moment g arms a.state ∷ []) (stream_on c.me page)
 same_own c made past a b moment g arms h page =
@@ -140,7 +137,7 @@ same_own c made past a b moment g arms h page =
     let undrawn : drawn (past ++ e ∷ []) ≡ drawn past = drawn-snoc past e ∙ append-nil (drawn past) in
     ap (λ ds. length (filter (λ (d : Drawop). same_stream (stream_on c.me page) d.name.stream) ds)) undrawn ∙ drew
     ∙ sym (known-snoc past e (stream_on c.me page) ∙ ap (λ ns. max (known past (stream_on c.me page)) (greatest (flat_map (number_in (stream_on c.me page)) ns))) (append-nil (names_in g))
-    ∙ own_known (known past (stream_on c.me page)) (greatest (flat_map (number_in (stream_on c.me page)) (names_in g))) less)
+    ∙ sym (max_above (greatest (flat_map (number_in (stream_on c.me page)) (names_in g))) (known past (stream_on c.me page)) less))
 
 drawops_spelled : (g : Datagram) → IsSpellable g → AllByRecursion is_drawop (drawops_in (Some g))
 drawops_spelled (Data d) h = (h, tt)
@@ -177,7 +174,7 @@ pub heard_enters : {W : Type 0} (next_word : W → ℕ × W) (a b : Content W) (
     → e ≡ heard_entry a.config.me moment g arms a.state → ((c : Config) (made : ℕ) (past : List Entry) → Fits c made past a → Heeds c made past a b moment g (heard_entry c.me moment g arms a.state)) → Enters next_word (Some moment) (Heard g) a b e
 heard_enters next_word a b moment g arms e late settings drawn e_is heeds = record {
   input_is = ap (λ (x : Entry). x.input) e_is;
-  moment_is = ap (λ (x : Entry). x.moment) e_is ∙ at_moment a.last moment late;
+  moment_is = ap (λ (x : Entry). x.moment) e_is ∙ max_above a.last moment late;
   words = rw e_is (drawn.each a.config settings);
   fits = λ c made past h. of_member c made past a b e (λ me. heard_entry me moment g arms a.state) h e_is (heard_fits c made past a b moment g arms (heeds c made past h));
 }

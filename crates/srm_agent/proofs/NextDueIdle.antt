@@ -5,6 +5,7 @@ use Rattle.std.specs.Bool.{OnTrue}
 use Rattle.std.specs.List.{AllByRecursion}
 use Rattle.std.proofs.Math.Bool.{not-not}
 use Rattle.std.proofs.lemmas.List.{append-nil, map-append}
+use Rattle.std.proofs.lemmas.Bool.{and_right}
 use Rattle.std.proofs.lemmas.Bool.Decides.{nat_tests}
 use Rattle.std.proofs.lemmas.List.Sums.{sum_by-append}
 use Rattle.srm_names.specs.Histories.{steps}
@@ -75,14 +76,10 @@ not_asked u b false o e = sym (no b (ran_out u o))
     no true x = refl
     no false x = refl
 
-not_fixed : (b x : Bool) → x ≡ false → false ≡ (b && x)
-not_fixed true x e = sym e
-not_fixed false x e = refl
-
 idle_timers : (c : Config) (past : List Entry) (moment : Option ℕ) (u : ℕ) → FirstOfBothRunsOut past moment → IsBefore u moment → TimersRight past (idle_at c past u)
 idle_timers c past moment u first before = record {
   asks = record { in_order = refl; exact = λ n. not_asked u (not (is_gone (state past))) (is_missing past n) (last_ask past n) (first.no_ask u before n) };
-  fixes = record { in_order = refl; exact = λ n. not_fixed (not (is_gone (state past))) (ran_out u (fix_running past n)) (first.no_fix u before n) };
+  fixes = record { in_order = refl; exact = λ n. sym (and_right (not (is_gone (state past))) (ran_out u (fix_running past n)) (first.no_fix u before n)) };
 }
 
 -- the session message
