@@ -7,7 +7,7 @@ use Rattle.srm_entries.specs.declared.fault.AgentFault.{AgentFault}
 use Rattle.srm_agent.specs.declared.heard.Heard.{Heard}
 use Rattle.srm_world.specs.Traces.{Journal}
 use Rattle.srm_world.specs.Recording.{RecordsHeard, with_entry, IsHearing}
-use Rattle.srm_world.proofs.HearsAll.{grows_nothing, grown_on, hears-snoc}
+use Rattle.srm_world.proofs.HearsAll.{grows_nothing, grown_on, enters-snoc}
 use Rattle.srm_node.specs.declared.limits.TheConstants.{DATAGRAMS_A_TURN}
 use Rattle.srm_wire.specs.Wires.{Told, TellsMore}
 use Rattle.srm_node.specs.Parts.{Listens, Listened, ListenedCut}
@@ -36,7 +36,7 @@ heard_more now n bytes a b c s t u e h grown hearing told =
       entries = h.entries ++ e ∷ [];
       counted = length-append h.came (bytes ∷ []) ∙ ap (λ k. k + 1) h.counted;
       grown = grown_on a b c h.entries (e ∷ []) h.grown grown;
-      each = hears-snoc now a h.came h.entries bytes e h.each (subst (λ j. IsHearing now j bytes e) h.grown hearing);
+      each = enters-snoc (IsHearing now) a h.came h.entries bytes e h.each (subst (λ j. IsHearing now j bytes e) h.grown hearing);
       told = subst (λ all. TellsMore all [] s u) (ap (λ all. all ++ Some bytes ∷ []) (append-nil came) ∙ sym (map-append (λ x. Some x) h.came (bytes ∷ [])) ∙ sym (append-nil (map (λ x. Some x) (h.came ++ bytes ∷ []))))
           (tells_on (came ++ []) (Some bytes ∷ []) [] [] s t u h.told told);
     }

@@ -4,15 +4,14 @@ use Rattle.std.specs.Prelude.{Bool, map, min, if◌then◌else◌, Result, Ok, E
 use Rattle.std.specs.List.{AllByRecursion}
 use Rattle.std.proofs.lemmas.List.{append-nil}
 use Rattle.srm_names.specs.declared.limits.TheConstants.{LATEST_MOMENT, PAGES}
-use Rattle.srm_pages.specs.declared.stroke.Stroke.{Stroke}
 use Rattle.srm_entries.specs.declared.entry.Entry.{Entry}
 use Rattle.srm_entries.specs.declared.entry.Input.TheVariants.{AskedLeave}
 use Rattle.srm_world.specs.Traces.{Journal}
 use Rattle.srm_world.specs.WaitWords.{RecorderView}
 use Rattle.srm_entries.specs.Configs.{Config}
-use Rattle.srm_world.specs.Recording.{with_entry, with_entries, IsAt, HearsEach}
+use Rattle.srm_world.specs.Recording.{with_entry, with_entries, IsAt, IsHearing, EntersEach}
 use Rattle.srm_world.proofs.HearsAll.{at, grown_on}
-use Rattle.srm_node.specs.Parts.{DrawsEach, is_give}
+use Rattle.srm_node.specs.Parts.{IsDrawing, is_give}
 use Rattle.srm_node.specs.Nodes.{NodeView, NodeState}
 use Rattle.srm_node.specs.Turns.{HearsNow, DrawsNow, LeavesNow, TicksNow, GivesNow, HearsCut, DrawsCut, GivesCut, Paused}
 use Rattle.srm_node.specs.Moments.{IsTold, AreMadeAt, GrowsAt, GrowsAtTold}
@@ -32,17 +31,11 @@ grows_on Is a b c h k = record {
 
 -- THE PARTS
 
-heard_at : (Is : ℕ → Type 0) (now : ℕ) (j : Journal) (bs : List (List ℕ)) (es : List Entry) → Is now → HearsEach now j bs es → AreMadeAt Is j es
-heard_at Is now j [] [] is h = tt
-heard_at Is now j [] (e ∷ es) is h = absurd h
-heard_at Is now j (b ∷ bs) [] is h = absurd h
-heard_at Is now j (b ∷ bs) (e ∷ es) is h = (inr (now, is, h.0.moment), heard_at Is now (with_entry j e) bs es is h.1)
-
-drawn_at : (Is : ℕ → Type 0) (now : ℕ) (j : Journal) (ss : List Stroke) (es : List Entry) → Is now → DrawsEach now j ss es → AreMadeAt Is j es
-drawn_at Is now j [] [] is h = tt
-drawn_at Is now j [] (e ∷ es) is h = absurd h
-drawn_at Is now j (s ∷ ss) [] is h = absurd h
-drawn_at Is now j (s ∷ ss) (e ∷ es) is h = (inr (now, is, h.0.moment), drawn_at Is now (with_entry j e) ss es is h.1)
+entered_at : {X : Type 0} (Enters : Journal → X → Entry → Type 0) (Is : ℕ → Type 0) (now : ℕ) → ((j : Journal) (x : X) (e : Entry) → Enters j x e → IsAt now j e) → (j : Journal) (xs : List X) (es : List Entry) → Is now → EntersEach Enters j xs es → AreMadeAt Is j es
+entered_at Enters Is now moment j [] [] is h = tt
+entered_at Enters Is now moment j [] (e ∷ es) is h = absurd h
+entered_at Enters Is now moment j (x ∷ xs) [] is h = absurd h
+entered_at Enters Is now moment j (x ∷ xs) (e ∷ es) is h = (inr (now, is, moment j x e h.0), entered_at Enters Is now moment (with_entry j e) xs es is h.1)
 
 left_at : (Is : ℕ → Type 0) (now : ℕ) (j : Journal) (leaves : Bool) (es : List Entry) → Is now → map (λ (e : Entry). e.input) es ≡ (if leaves then AskedLeave ∷ [] else []) → AllByRecursion (IsAt now j) es → AreMadeAt Is j es
 left_at Is now j leaves [] is inputs h = tt
@@ -55,10 +48,10 @@ given_at Is j [] h = tt
 given_at Is j (e ∷ es) h = (inl h.0, given_at Is (with_entry j e) es h.1)
 
 hears_at : (Is : ℕ → Type 0) (now : ℕ) (u : Bool) (a b : NodeView) → Is now → HearsNow now u a b → GrowsAt Is a.journal b.journal
-hears_at Is now u a b is h = let l = h.listened.listens in record { entries = l.entries; grown = l.grown; made = heard_at Is now a.journal l.came l.entries is l.each }
+hears_at Is now u a b is h = let l = h.listened.listens in record { entries = l.entries; grown = l.grown; made = entered_at (IsHearing now) Is now (λ j bytes e h. h.moment) a.journal l.came l.entries is l.each }
 
 draws_at : (Is : ℕ → Type 0) (now : ℕ) (w : Bool) (a b : NodeView) → Is now → DrawsNow now w a b → GrowsAt Is a.journal b.journal
-draws_at Is now w a b is h = let d = h.drew.draws.draws in record { entries = d.entries; grown = d.grown; made = drawn_at Is now a.journal d.strokes d.entries is d.each }
+draws_at Is now w a b is h = let d = h.drew.draws.draws in record { entries = d.entries; grown = d.grown; made = entered_at (IsDrawing now) Is now (λ j s e h. h.moment) a.journal d.strokes d.entries is d.each }
 
 leaves_at : (Is : ℕ → Type 0) (now : ℕ) (w : Bool) (a b : NodeView) → Is now → LeavesNow now w a b → GrowsAt Is a.journal b.journal
 leaves_at Is now w a b is h = let l = h.leaves in record { entries = l.entries; grown = l.grown; made = left_at Is now a.journal _ l.entries is l.inputs l.moments }

@@ -15,7 +15,7 @@ use Rattle.srm_outbox.specs.declared.out.Out.{Out}
 use Rattle.srm_outbox.specs.Outs.{AreOutsOf}
 use Rattle.srm_world.specs.Traces.{Journal}
 use Rattle.srm_world.specs.Claims.{IsLawfulJournal}
-use Rattle.srm_world.specs.Recording.{with_entry, with_entries, IsAt, HearsEach}
+use Rattle.srm_world.specs.Recording.{with_entry, with_entries, IsAt, EntersEach, HearsEach}
 use Rattle.srm_node.specs.declared.limits.TheConstants.{DATAGRAMS_A_TURN, STROKES_A_TURN}
 use Rattle.srm_wire.specs.Wires.{Told, TellsMore}
 use Rattle.srm_node.specs.Carrying.{Carries, CarriesEach, drawing}
@@ -78,11 +78,9 @@ pub record DrawsOne (now : ℕ) (s : Stroke) (old new : Journal) : Type 0 where
   pub grown : new ≡ with_entry old entry
   pub is_drawing : IsDrawing now old s entry
 
--- an entry for each of these, in order, and no other
+-- an entry for each of these strokes, in order, and no other
 abbrev pub DrawsEach : ℕ → Journal → List Stroke → List Entry → Type 0
-DrawsEach now j [] [] = Unit {0}
-DrawsEach now j (s ∷ ss) (e ∷ es) = IsDrawing now j s e × DrawsEach now (with_entry j e) ss es
-DrawsEach now j _ _ = ⊥
+DrawsEach now j strokes es = EntersEach (IsDrawing now) j strokes es
 
 -- of these strokes the first so many are drawn in order, each with its entry, and the others kept
 pub record DrawsOf (now count : ℕ) (all kept : List Stroke) (old new : Journal) : Type 0 where

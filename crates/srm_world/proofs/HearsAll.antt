@@ -7,7 +7,7 @@ use Rattle.srm_agent.specs.declared.heard.Heard.{Heard}
 use Rattle.srm_world.specs.Traces.{Journal}
 use Rattle.srm_world.specs.declared.start.Start.{Start}
 use Rattle.srm_world.specs.WaitWords.{RecorderView, AreByWords, RecordsByWords}
-use Rattle.srm_world.specs.Recording.{RecordsHeard, IsHearing, HearsEach, HearsAll, with_entry, with_entries}
+use Rattle.srm_world.specs.Recording.{RecordsHeard, IsHearing, EntersEach, HearsAll, with_entry, with_entries}
 use Rattle.srm_world.proofs.Wording.{by_more}
 
 abbrev pub at : Journal → List Entry → Journal
@@ -20,11 +20,11 @@ pub grown_on : (a b c : Journal) (es fs : List Entry) → b ≡ with_entries a e
 grown_on a b c es fs h k = k ∙ ap (λ j. with_entries j fs) h ∙ ap (at a) (append_assoc a.entries es fs)
 
 -- one more, at the end
-pub hears-snoc : (now : ℕ) (j : Journal) (bs : List (List ℕ)) (es : List Entry) (b : List ℕ) (e : Entry) → HearsEach now j bs es → IsHearing now (with_entries j es) b e → HearsEach now j (bs ++ b ∷ []) (es ++ e ∷ [])
-hears-snoc now j [] [] b e h k = (subst (λ xs. IsHearing now (at j xs) b e) (append-nil j.entries) k, tt)
-hears-snoc now j [] (y ∷ es) b e h k = absurd h
-hears-snoc now j (x ∷ bs) [] b e h k = absurd h
-hears-snoc now j (x ∷ bs) (y ∷ es) b e h k = (h.0, hears-snoc now (with_entry j y) bs es b e h.1 (subst (λ xs. IsHearing now (at j xs) b e) (sym (append_assoc j.entries (y ∷ []) es)) k))
+pub enters-snoc : {X : Type 0} (Is : Journal → X → Entry → Type 0) (j : Journal) (xs : List X) (es : List Entry) (x : X) (e : Entry) → EntersEach Is j xs es → Is (with_entries j es) x e → EntersEach Is j (xs ++ x ∷ []) (es ++ e ∷ [])
+enters-snoc Is j [] [] x e h k = (subst (λ ys. Is (at j ys) x e) (append-nil j.entries) k, tt)
+enters-snoc Is j [] (y ∷ es) x e h k = absurd h
+enters-snoc Is j (z ∷ xs) [] x e h k = absurd h
+enters-snoc Is j (z ∷ xs) (y ∷ es) x e h k = (h.0, enters-snoc Is (with_entry j y) xs es x e h.1 (subst (λ ys. Is (at j ys) x e) (sym (append_assoc j.entries (y ∷ []) es)) k))
 
 pub hears_none : (now : ℕ) (j : Journal) → HearsAll now [] j j
 hears_none now j = record { entries = []; grown = grows_nothing j; each = tt }
@@ -33,7 +33,7 @@ hears_one_more : (now : ℕ) (bs : List (List ℕ)) (bytes : List ℕ) (a b c : 
 hears_one_more now bs bytes a b c e h grown hearing = record {
   entries = h.entries ++ e ∷ [];
   grown = grown_on a b c h.entries (e ∷ []) h.grown grown;
-  each = hears-snoc now a bs h.entries bytes e h.each (subst (λ j. IsHearing now j bytes e) h.grown hearing);
+  each = enters-snoc (IsHearing now) a bs h.entries bytes e h.each (subst (λ j. IsHearing now j bytes e) h.grown hearing);
 }
 
 hears_more : (now : ℕ) (bs : List (List ℕ)) (bytes : List ℕ) (a b c : Journal) (heard : Heard) → HearsAll now bs a b → RecordsHeard now bytes b c (Ok heard) → HearsAll now (bs ++ bytes ∷ []) a c

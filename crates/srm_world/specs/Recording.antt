@@ -44,11 +44,15 @@ pub record IsHearing (now : ℕ) (j : Journal) (bytes : List ℕ) (e : Entry) : 
   pub moment : IsAt now j e
   pub heard : (e.input, e.verdict) ≡ bytes_heard j.start.config j.entries bytes
 
--- an entry for each of these, in order, and no other
+-- an entry for each of these, in order, and no other: each is so by the journal before it and by what it is of
+abbrev pub EntersEach : {X : Type 0} → (Journal → X → Entry → Type 0) → Journal → List X → List Entry → Type 0
+EntersEach Is j [] [] = Unit {0}
+EntersEach Is j (x ∷ xs) (e ∷ es) = Is j x e × EntersEach Is (with_entry j e) xs es
+EntersEach Is j _ _ = ⊥
+
+-- an entry for each of these that came
 abbrev pub HearsEach : ℕ → Journal → List (List ℕ) → List Entry → Type 0
-HearsEach now j [] [] = Unit {0}
-HearsEach now j (b ∷ bs) (e ∷ es) = IsHearing now j b e × HearsEach now (with_entry j e) bs es
-HearsEach now j _ _ = ⊥
+HearsEach now j came es = EntersEach (IsHearing now) j came es
 
 -- the journal has an entry more for each of these, in order
 pub record HearsAll (now : ℕ) (all : List (List ℕ)) (old new : Journal) : Type 0 where
