@@ -221,8 +221,11 @@ pub record FeedsRight (c : Config) (es : List Entry) : Type 0 where
   pub feeds : (j : ℕ) → FedRight es (slice_get (slots es) j) (given es j)
   pub takes : (j : ℕ) → IsPrefix (taken es j) (given es j)
 
+pub given-append : (es fs : List Entry) (j : ℕ) → given (es ++ fs) j ≡ given es j ++ given fs j
+given-append es fs j = filter_map-append (λ (x : Entry). given_in j x.input x.effects.message) es fs
+
 pub given-snoc : (es : List Entry) (e : Entry) (j : ℕ) → given (es ++ e ∷ []) j ≡ given es j ++ cons_option (given_in j e.input e.effects.message) []
-given-snoc es e j = filter_map-append (λ (x : Entry). given_in j x.input x.effects.message) es (e ∷ [])
+given-snoc es e j = given-append es (e ∷ []) j
 
 pub taken-snoc : (es : List Entry) (e : Entry) (j : ℕ) → taken (es ++ e ∷ []) j ≡ taken es j ++ cons_option (taken_in j e.input e.effects.message) []
 taken-snoc es e j = filter_map-append (λ (x : Entry). taken_in j x.input x.effects.message) es (e ∷ [])

@@ -5,7 +5,6 @@ use Rattle.std.specs.Bool.{OnTrue}
 use Rattle.std.specs.List.{AllByRecursion, list_any, cons_option}
 use Rattle.std.proofs.lemmas.Bool.{cases_eq, ne_eqb}
 use Rattle.std.proofs.lemmas.List.{append-nil, length-set}
-use Rattle.std.proofs.lemmas.List.Elements.{filter_map-append}
 use Rattle.std.proofs.lemmas.Option.{same_Some, slice_get_read}
 use Rattle.std.proofs.lemmas.List.Folds.{list_any-append}
 use Rattle.srm_names.specs.declared.limits.TheConstants.{PAGES}
@@ -19,6 +18,7 @@ use Rattle.srm_entries.specs.declared.entry.Verdict.{Verdict}
 use Rattle.srm_entries.specs.declared.entry.Verdict.TheVariants.{Done, Ignored, Refused}
 use Rattle.srm_entries.specs.declared.fault.AgentFault.{AgentFault}
 use Rattle.srm_entries.specs.Giving.{given, given_in}
+use Rattle.srm_entries.proofs.Feeding.{given-append}
 use Rattle.srm_agent.specs.Noting.{AnswersAs}
 use Rattle.srm_world.specs.Traces.{Journal}
 use Rattle.srm_world.specs.Claims.{IsLawfulJournal}
@@ -33,10 +33,6 @@ Given e message = message ≡ e.effects.message
 
 abbrev GavesAll : ℕ → List Entry → Type 0
 GavesAll slot es = AllByRecursion (λ (e : Entry). e.input ≡ Gave slot) es
-
--- what was given, with more entries
-pub given-append : (es fs : List Entry) (j : ℕ) → given (es ++ fs) j ≡ given es j ++ given fs j
-given-append es fs j = filter_map-append (λ (x : Entry). given_in j x.input x.effects.message) es fs
 
 given_one : (e : Entry) (slot : ℕ) → e.input ≡ Gave slot → given (e ∷ []) slot ≡ cons_option e.effects.message []
 given_one e slot is = ap (λ i. cons_option (given_in slot i e.effects.message) []) is ∙ ap (λ b. cons_option (cond b e.effects.message None) []) (eq-eqb slot slot refl)

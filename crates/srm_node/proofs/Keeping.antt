@@ -26,6 +26,7 @@ use Rattle.srm_codec.specs.Judging.{judge}
 use Rattle.srm_entries.specs.Giving.{given, given_in}
 use Rattle.srm_entries.specs.Hearing.{bytes_heard, read_as}
 use Rattle.srm_entries.specs.Runs.{IsMemberRun}
+use Rattle.srm_entries.proofs.Feeding.{given-append}
 use Rattle.srm_world.specs.Traces.{Journal, IsUntaken}
 use Rattle.srm_world.specs.Claims.{IsLawfulJournal}
 use Rattle.srm_world.specs.Recording.{with_entry, with_entries, HearsEach}
@@ -38,7 +39,7 @@ use Rattle.srm_node.specs.Nodes.{NodeView, IsNode, AreNewFeeds, has_closed}
 use Rattle.srm_node.specs.declared.listening.Listening.{Listening}
 use Rattle.srm_node.specs.declared.drawing.Drawn.{Drawn}
 use Rattle.srm_node.proofs.Releasing.{puts_released}
-use Rattle.srm_node.proofs.Gives.{given-append, carries_standing}
+use Rattle.srm_node.proofs.Gives.{carries_standing}
 use Rattle.srm_node.proofs.Draws.{inputs_drawn}
 
 -- the entries neither draw nor give
