@@ -37,11 +37,7 @@ line_ends : (front more : List ℕ) → HasNoEnd front → lines_of (front ++ 10
 line_ends [] more h = refl
 line_ends (c ∷ cs) more h = other c (lines_of (cs ++ 10 ∷ more)) h.0 ∙ ap (before_first c) (line_ends cs more h.1)
 
-abbrev behind_first : List (List ℕ) → List (List ℕ)
-behind_first [] = []
-behind_first (l ∷ ls) = ls
-
-behind_before : (c : ℕ) (ls : List (List ℕ)) → behind_first (before_first c ls) ≡ behind_first ls
+behind_before : (c : ℕ) (ls : List (List ℕ)) → drop 1 (before_first c ls) ≡ drop 1 ls
 behind_before c [] = refl
 behind_before c (l ∷ ls) = refl
 
@@ -49,7 +45,7 @@ long_line : (l : List ℕ) (ls : List (List ℕ)) → nat_lt LONGEST_BODY (lengt
 long_line l ls long = rw long refl
 
 -- a prefix that is too long is drawn with nothing behind it
-long_front : (front : List ℕ) (ls : List (List ℕ)) → nat_lt LONGEST_BODY (length front) ≡ true → short_lines (before_lines front ls) ≡ short_lines (behind_first ls)
+long_front : (front : List ℕ) (ls : List (List ℕ)) → nat_lt LONGEST_BODY (length front) ≡ true → short_lines (before_lines front ls) ≡ short_lines (drop 1 ls)
 long_front front [] long = long_line front [] long
 long_front front (l ∷ ls) long = long_line (front ++ l) ls (lt-ltb LONGEST_BODY (length (front ++ l)) (omega (arith, ltb-true LONGEST_BODY (length front) long, length-append front l)))
 
@@ -59,7 +55,7 @@ no_room [] more byte h not_end long = absurd (omega (arith, ltb-true LONGEST_BOD
 no_room (c ∷ cs) more byte h not_end long =
     ap short_lines (lines_behind c cs (byte ∷ more) h)
     ∙ long_front (c ∷ cs) (lines_of (byte ∷ more)) long
-    ∙ ap (λ ls. short_lines (behind_first ls)) (other byte (lines_of more) not_end)
+    ∙ ap (λ ls. short_lines (drop 1 ls)) (other byte (lines_of more) not_end)
     ∙ ap short_lines (behind_before byte (lines_of more))
     ∙ sym (long_front (c ∷ cs) (lines_of more) long)
     ∙ sym (ap short_lines (lines_behind c cs more h))

@@ -15,17 +15,13 @@ abbrev front : List (List Fate) → List Fate
 front [] = []
 front (f ∷ fs) = f
 
-abbrev rest : List (List Fate) → List (List Fate)
-rest [] = []
-rest (f ∷ fs) = fs
-
 front_is : (fates : List (List Fate)) (me : ℕ) → fates_of fates me ≡ front (drop me fates)
 front_is [] zero = refl
 front_is [] (suc me) = refl
 front_is (f ∷ fs) zero = refl
 front_is (f ∷ fs) (suc me) = front_is fs me
 
-rest_is : (fates : List (List Fate)) (me : ℕ) → drop (suc me) fates ≡ rest (drop me fates)
+rest_is : (fates : List (List Fate)) (me : ℕ) → drop (suc me) fates ≡ drop 1 (drop me fates)
 rest_is [] zero = refl
 rest_is [] (suc me) = refl
 rest_is (f ∷ fs) zero = refl
@@ -46,10 +42,10 @@ wiring_more me fates left next wires w h k = record {
       | inr (last, is) ↦ sym is ∙ new ∙ ap (λ n. new_wire_of n (fates_of fates n)) (sym (last ∙ h.wires_are.count))
     ];
   };
-  left_are = (step left k).0 ∙ ap rest h.left_are ∙ sym (rest_is fates me) ∙ ap (λ n. drop n fates) (sym (add-one me));
+  left_are = (step left k).0 ∙ ap (drop 1) h.left_are ∙ sym (rest_is fates me) ∙ ap (λ n. drop n fates) (sym (add-one me));
 }
   where
-    step : (ls : List (List Fate)) → NextWire me ls next w → (next ≡ rest ls) × (w ≡ new_wire_of me (front ls))
+    step : (ls : List (List Fate)) → NextWire me ls next w → (next ≡ drop 1 ls) × (w ≡ new_wire_of me (front ls))
     step [] k = k
     step (f ∷ fs) k = k
 
