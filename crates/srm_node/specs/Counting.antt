@@ -1,21 +1,21 @@
 -- What came to nothing, counted.
-use Rattle.std.specs.Prelude.{ℕ, min, ◌==◌, Bool, true, false, ◌&&◌, List, [], ◌∷◌, count_by}
+use Rattle.std.specs.Prelude.{ℕ, min, ◌==◌, Bool, true, false, ◌&&◌, List, [], ◌∷◌, count_by, is_some}
 use Rattle.srm_entries.specs.declared.entry.Entry.{Entry}
 use Rattle.srm_entries.specs.declared.entry.Input.{Input}
-use Rattle.srm_entries.specs.declared.entry.Input.TheVariants.{Drew, Noise}
+use Rattle.srm_entries.specs.declared.entry.Input.TheVariants.{Noise}
 use Rattle.srm_entries.specs.declared.entry.Verdict.{Verdict}
 use Rattle.srm_entries.specs.declared.entry.Verdict.TheVariants.{Ignored, Refused}
 use Rattle.srm_entries.specs.Causes.{cause_number}
 use Rattle.srm_wire.specs.Wires.{greatest_count}
 use Rattle.srm_node.specs.declared.counting.Counts.{Counts}
+use Rattle.srm_node.specs.Carrying.{drew}
 
 abbrev pub is_noise : Input → Bool
 is_noise Noise = true
 is_noise _ = false
 
 abbrev pub is_drawn : Input → Bool
-is_drawn (Drew page body) = true
-is_drawn _ = false
+is_drawn i = is_some (drew i)
 
 abbrev pub is_refused : Verdict → Bool
 is_refused (Refused fault) = true
