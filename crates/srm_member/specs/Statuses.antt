@@ -5,7 +5,7 @@ use Rattle.std.specs.declared.io.ErrorKind.TheVariants as kind
 use Rattle.srm_script.specs.declared.fault.ScriptFault.{ScriptFault}
 use Rattle.srm_script.specs.declared.fault.ScriptFault.TheVariants.{Memory as OutOfMemory}
 use Rattle.srm_script.specs.declared.status.TheConstants.{FAILED, WRONG_USAGE, WIRE_FAILED, RAN_OUT}
-use Rattle.srm_script.specs.Statuses.{status_of}
+use Rattle.srm_script.specs.Statuses.{status_of, IsStatusBy}
 use Rattle.srm_node.specs.declared.fault.NodeFault.{NodeFault}
 use Rattle.srm_node.specs.declared.fault.NodeFault.TheVariants.{Wire, Memory, Turns}
 use Rattle.srm_node.specs.declared.working.WorkEnd.{WorkEnd}
@@ -52,7 +52,7 @@ status_of_member fault.Turns = RAN_OUT
 
 -- a whole run has status 0, and any other that of its fault
 abbrev pub IsStatus : ℕ → Type 0
-IsStatus status = (status ≡ 0) ⊎ ((f : MemberFault) × (status ≡ status_of_member f))
+IsStatus status = IsStatusBy status_of_member status
 
 -- What was asked for is shown, unless the output fails; a wrong line and want of memory have statuses of their own.
 abbrev pub StatusOf : Reply → ℕ → Type 0

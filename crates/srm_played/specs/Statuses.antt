@@ -1,7 +1,8 @@
 -- With which status the program ends.
-use Rattle.std.specs.Prelude.{◌≡◌, ◌⊎◌, ℕ}
+use Rattle.std.specs.Prelude.{ℕ}
 use Rattle.srm_script.specs.declared.status.TheConstants.{FAILED}
 use Rattle.srm_script.specs.Statuses as script
+use Rattle.srm_script.specs.Statuses.{IsStatusBy}
 use Rattle.srm_played.specs.declared.fault.PictureFault.{PictureFault}
 use Rattle.srm_played.specs.declared.fault.PictureFault.TheVariants.{Script, TooManyEvents}
 
@@ -11,4 +12,4 @@ status_of TooManyEvents = FAILED
 
 -- the status is that of success, or of a fault
 abbrev pub IsStatus : ℕ → Type 0
-IsStatus status = (status ≡ 0) ⊎ ((fault : PictureFault) × (status ≡ status_of fault))
+IsStatus status = IsStatusBy status_of status

@@ -1,5 +1,5 @@
 -- With which status the program ends.
-use Rattle.std.specs.Prelude.{ℕ}
+use Rattle.std.specs.Prelude.{◌≡◌, ◌⊎◌, ℕ}
 use Rattle.srm_script.specs.declared.fault.ScriptFault.{ScriptFault}
 use Rattle.srm_script.specs.declared.fault.ScriptFault.TheVariants.{Memory}
 use Rattle.srm_script.specs.declared.status.TheConstants.{FAILED, RAN_OUT}
@@ -7,3 +7,7 @@ use Rattle.srm_script.specs.declared.status.TheConstants.{FAILED, RAN_OUT}
 abbrev pub status_of : ScriptFault → ℕ
 status_of Memory = RAN_OUT
 status_of _ = FAILED
+
+-- the status is that of success, or by this of a fault
+abbrev pub IsStatusBy : {F : Type 0} → (F → ℕ) → ℕ → Type 0
+IsStatusBy {F} by status = (status ≡ 0) ⊎ ((fault : F) × (status ≡ by fault))
