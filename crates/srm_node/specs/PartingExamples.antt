@@ -33,7 +33,7 @@ use Rattle.srm_node.specs.declared.fault.NodeFault.TheVariants.{Turns}
 use Rattle.srm_node.specs.Carrying.{Carries, CarriesEach}
 use Rattle.srm_node.specs.Nodes.{NodeView, has_ended}
 use Rattle.srm_node.specs.Turns.{DrawsNow, LeavesNow, TicksNow, GivesNow, Turned, RunEnds}
-use Rattle.srm_node.specs.TurnSample.{at_each, eight, journal, unturned, heard_nothing, hears_nothing, gives_up_to}
+use Rattle.srm_node.specs.TurnSample.{at_each, eight, journal, unturned, heard_nothing, hears_nothing, gives_as, opens_as, give_right, gives_up_to}
 
 -- WHAT THE TURN WRITES
 
@@ -48,20 +48,14 @@ farewell = Session 0 1 true first_page [] []
 abbrev parts : Entry
 parts = plain 0 1 Ticked None (farewell ∷ []) None Gone
 
-abbrev gives : ℕ → Option PageMsg → Entry
-gives slot message = plain 0 1 (Gave slot) None [] message Gone
-
-abbrev opens : Entry
-opens = gives 0 (Some (Open first_page))
-
 abbrev closes : ℕ → Entry
-closes slot = gives slot (Some Close)
+closes slot = gives_as Gone slot (Some Close)
 
 abbrev nothing : ℕ → Entry
-nothing slot = gives slot None
+nothing slot = gives_as Gone slot None
 
 abbrev all_gives : List Entry
-all_gives = opens ∷ closes 0 ∷ nothing 0 ∷ closes 1 ∷ nothing 1 ∷ closes 2 ∷ nothing 2 ∷ closes 3 ∷ nothing 3 ∷ closes 4 ∷ nothing 4 ∷ closes 5 ∷ nothing 5 ∷ closes 6 ∷ nothing 6 ∷ closes 7 ∷ nothing 7 ∷ []
+all_gives = opens_as Gone ∷ closes 0 ∷ nothing 0 ∷ closes 1 ∷ nothing 1 ∷ closes 2 ∷ nothing 2 ∷ closes 3 ∷ nothing 3 ∷ closes 4 ∷ nothing 4 ∷ closes 5 ∷ nothing 5 ∷ closes 6 ∷ nothing 6 ∷ closes 7 ∷ nothing 7 ∷ []
 
 abbrev pub entries : List Entry
 entries = asks ∷ parts ∷ all_gives
@@ -88,12 +82,12 @@ spelled_so = refl
 message_right : SessionMessageRight (config 0) (asks ∷ []) 1 true []
 message_right = record { in_order = refl; exact = λ (s : Stream). neither (s.source == 0) }
 
--- a give that the entries before it allow
-gives_right : (past : List Entry) (slot : ℕ) (message : Option PageMsg) → ((n : FullName) → known past n.stream ≡ 0) → ((n : FullName) → known (past ++ gives slot message ∷ []) n.stream ≡ 0)
-    → ((n : FullName) → fix_running past n ≡ None) → MomentRight (config 0) 0 past (gives slot message) → MessageRight (config 0) past (Gave slot) message → Gone ≡ expected_state (state past) false (Some (Gave slot))
-    → EntryRight (config 0) 0 (record { before = past; this = gives slot message })
-gives_right past slot message here next fix moment given after =
-    right (config 0) 0 past 0 1 (Gave slot) None [] message Gone (λ n. unknown_unmissed past n (here n)) (λ n. unknown_unmissed (past ++ gives slot message ∷ []) n (next n)) (λ n. refl) fix refl moment refl refl tt tt tt refl given after
+-- a give that the entries before it allow, where nothing is known
+unknown_right : (past : List Entry) (slot : ℕ) (message : Option PageMsg) → ((n : FullName) → known past n.stream ≡ 0) → ((n : FullName) → known (past ++ gives_as Gone slot message ∷ []) n.stream ≡ 0)
+    → ((n : FullName) → fix_running past n ≡ None) → MomentRight (config 0) 0 past (gives_as Gone slot message) → MessageRight (config 0) past (Gave slot) message → Gone ≡ expected_state (state past) false (Some (Gave slot))
+    → EntryRight (config 0) 0 (record { before = past; this = gives_as Gone slot message })
+unknown_right past slot message here next fix moment given after =
+    give_right Gone past slot message (λ n. unknown_unmissed past n (here n)) (λ n. unknown_unmissed (past ++ gives_as Gone slot message ∷ []) n (next n)) fix moment given after
 
 each_right : AllByRecursion (EntryRight (config 0) 0) (steps entries)
 each_right = (
@@ -101,39 +95,39 @@ each_right = (
   (
     right (config 0) 0 (first 1) 0 1 Ticked None (farewell ∷ []) None Gone (λ n. unknown_unmissed (first 1) n refl) (λ n. unknown_unmissed (first 2) n refl) (λ n. refl) (λ n. refl) refl (lit≤ tt) refl refl (refl, tt) (farewell_spelled, tt) tt (farewell, refl, (refl, refl, refl, refl, refl, message_right)) refl refl,
     (
-      gives_right (first 2) 0 (Some (Open first_page)) (λ n. refl) (λ n. refl) (λ n. refl) refl (refl, refl) refl,
+      unknown_right (first 2) 0 (Some (Open first_page)) (λ n. refl) (λ n. refl) (λ n. refl) refl (refl, refl) refl,
       (
-        gives_right (first 3) 0 (Some Close) (λ n. refl) (λ n. refl) (λ n. refl) refl (refl, refl, refl) refl,
+        unknown_right (first 3) 0 (Some Close) (λ n. refl) (λ n. refl) (λ n. refl) refl (refl, refl, refl) refl,
         (
-          gives_right (first 4) 0 None (λ n. refl) (λ n. refl) (λ n. refl) refl ((λ h. refl), refl) refl,
+          unknown_right (first 4) 0 None (λ n. refl) (λ n. refl) (λ n. refl) refl ((λ h. refl), refl) refl,
           (
-            gives_right (first 5) 1 (Some Close) (λ n. refl) (λ n. refl) (λ n. refl) refl (refl, refl, refl) refl,
+            unknown_right (first 5) 1 (Some Close) (λ n. refl) (λ n. refl) (λ n. refl) refl (refl, refl, refl) refl,
             (
-              gives_right (first 6) 1 None (λ n. refl) (λ n. refl) (λ n. refl) refl ((λ h. refl), refl) refl,
+              unknown_right (first 6) 1 None (λ n. refl) (λ n. refl) (λ n. refl) refl ((λ h. refl), refl) refl,
               (
-                gives_right (first 7) 2 (Some Close) (λ n. refl) (λ n. refl) (λ n. refl) refl (refl, refl, refl) refl,
+                unknown_right (first 7) 2 (Some Close) (λ n. refl) (λ n. refl) (λ n. refl) refl (refl, refl, refl) refl,
                 (
-                  gives_right (first 8) 2 None (λ n. refl) (λ n. refl) (λ n. refl) refl ((λ h. refl), refl) refl,
+                  unknown_right (first 8) 2 None (λ n. refl) (λ n. refl) (λ n. refl) refl ((λ h. refl), refl) refl,
                   (
-                    gives_right (first 9) 3 (Some Close) (λ n. refl) (λ n. refl) (λ n. refl) refl (refl, refl, refl) refl,
+                    unknown_right (first 9) 3 (Some Close) (λ n. refl) (λ n. refl) (λ n. refl) refl (refl, refl, refl) refl,
                     (
-                      gives_right (first 10) 3 None (λ n. refl) (λ n. refl) (λ n. refl) refl ((λ h. refl), refl) refl,
+                      unknown_right (first 10) 3 None (λ n. refl) (λ n. refl) (λ n. refl) refl ((λ h. refl), refl) refl,
                       (
-                        gives_right (first 11) 4 (Some Close) (λ n. refl) (λ n. refl) (λ n. refl) refl (refl, refl, refl) refl,
+                        unknown_right (first 11) 4 (Some Close) (λ n. refl) (λ n. refl) (λ n. refl) refl (refl, refl, refl) refl,
                         (
-                          gives_right (first 12) 4 None (λ n. refl) (λ n. refl) (λ n. refl) refl ((λ h. refl), refl) refl,
+                          unknown_right (first 12) 4 None (λ n. refl) (λ n. refl) (λ n. refl) refl ((λ h. refl), refl) refl,
                           (
-                            gives_right (first 13) 5 (Some Close) (λ n. refl) (λ n. refl) (λ n. refl) refl (refl, refl, refl) refl,
+                            unknown_right (first 13) 5 (Some Close) (λ n. refl) (λ n. refl) (λ n. refl) refl (refl, refl, refl) refl,
                             (
-                              gives_right (first 14) 5 None (λ n. refl) (λ n. refl) (λ n. refl) refl ((λ h. refl), refl) refl,
+                              unknown_right (first 14) 5 None (λ n. refl) (λ n. refl) (λ n. refl) refl ((λ h. refl), refl) refl,
                               (
-                                gives_right (first 15) 6 (Some Close) (λ n. refl) (λ n. refl) (λ n. refl) refl (refl, refl, refl) refl,
+                                unknown_right (first 15) 6 (Some Close) (λ n. refl) (λ n. refl) (λ n. refl) refl (refl, refl, refl) refl,
                                 (
-                                  gives_right (first 16) 6 None (λ n. refl) (λ n. refl) (λ n. refl) refl ((λ h. refl), refl) refl,
+                                  unknown_right (first 16) 6 None (λ n. refl) (λ n. refl) (λ n. refl) refl ((λ h. refl), refl) refl,
                                   (
-                                    gives_right (first 17) 7 (Some Close) (λ n. refl) (λ n. refl) (λ n. refl) refl (refl, refl, refl) refl,
+                                    unknown_right (first 17) 7 (Some Close) (λ n. refl) (λ n. refl) (λ n. refl) refl (refl, refl, refl) refl,
                                     (
-                                      gives_right (first 18) 7 None (λ n. refl) (λ n. refl) (λ n. refl) refl ((λ h. refl), refl) refl,
+                                      unknown_right (first 18) 7 None (λ n. refl) (λ n. refl) (λ n. refl) refl ((λ h. refl), refl) refl,
                                       tt,
                                     ),
                                   ),

@@ -3,9 +3,18 @@ use Rattle.std.specs.Prelude.{◌≡◌, ℕ, zero, suc, true, false, List, [], 
 use Rattle.std.specs.List.{AllByRecursion}
 use Rattle.std.proofs.Common.{arith, inr, subst}
 use Rattle.std.proofs.lemmas.Option.{same_Some}
+use Rattle.srm_names.specs.FullName.{FullName}
+use Rattle.srm_names.specs.Names.{first_page}
 use Rattle.srm_names.specs.declared.page_msg.PageMsg.{PageMsg}
+use Rattle.srm_names.specs.declared.page_msg.PageMsg.TheVariants.{Open}
 use Rattle.srm_pages.specs.Ends.{FeedView, WellView, LaneId}
 use Rattle.srm_entries.specs.declared.entry.Entry.{Entry}
+use Rattle.srm_entries.specs.declared.entry.Input.TheVariants.{Gave}
+use Rattle.srm_entries.specs.declared.state.AgentState.{AgentState}
+use Rattle.srm_entries.specs.Entries.{state, is_missing}
+use Rattle.srm_entries.specs.Timers.{fix_running}
+use Rattle.srm_entries.specs.Giving.{MessageRight}
+use Rattle.srm_entries.specs.Runs.{EntryRight, MomentRight, expected_state}
 use Rattle.srm_world.specs.Traces.{Journal}
 use Rattle.srm_world.specs.Claims.{IsLawfulJournal}
 use Rattle.srm_node.specs.Carrying.{CarriesEach}
@@ -13,6 +22,7 @@ use Rattle.srm_node.specs.Parts.{GivesUpTo, SameFeed, is_give, is_served}
 use Rattle.srm_node.specs.Nodes.{NodeView}
 use Rattle.srm_node.specs.Turns.{HearsNow}
 use Rattle.srm_entries.specs.Sample.{config}
+use Rattle.srm_entries.proofs.Plain.{plain, right}
 
 -- WHAT HOLDS OF EACH FEED
 
@@ -58,6 +68,20 @@ hears_nothing asked lane well = record {
 }
 
 -- GIVES
+
+-- a give at moment 1 after which the member is in this state: of a message, or of none
+abbrev pub gives_as : AgentState → ℕ → Option PageMsg → Entry
+gives_as s slot message = plain 0 1 (Gave slot) None [] message s
+
+-- slot 0 is given its page
+abbrev pub opens_as : AgentState → Entry
+opens_as s = gives_as s 0 (Some (Open first_page))
+
+-- a give that the entries before it allow
+pub give_right : (s : AgentState) (past : List Entry) (slot : ℕ) (message : Option PageMsg) → ((n : FullName) → is_missing past n ≡ false) → ((n : FullName) → is_missing (past ++ gives_as s slot message ∷ []) n ≡ false)
+    → ((n : FullName) → fix_running past n ≡ None) → MomentRight (config 0) 0 past (gives_as s slot message) → MessageRight (config 0) past (Gave slot) message → s ≡ expected_state (state past) false (Some (Gave slot))
+    → EntryRight (config 0) 0 (record { before = past; this = gives_as s slot message })
+give_right s past slot message here next fix moment given after = right (config 0) 0 past 0 1 (Gave slot) None [] message s here next (λ n. refl) fix refl moment refl refl tt tt tt refl given after
 
 -- the first feed puts these by the gives, and each other one those
 pub gives_up_to : (put rest : List PageMsg) (past gives : List Entry) (lane : LaneId) → AllByRecursion (λ (e : Entry). is_give e.input ≡ true) gives → IsLawfulJournal (journal (past ++ gives))

@@ -1,8 +1,7 @@
 -- A node's first turn, in which it draws a stroke and gives it, whole and cut, at worked examples.
-use Rattle.std.specs.Prelude.{◌≡◌, ◌+◌, ℕ, true, false, List, [], ◌∷◌, ◌++◌, map, take, Option, Some, None, Ok, refl}
+use Rattle.std.specs.Prelude.{◌≡◌, ◌+◌, ℕ, true, false, List, [], ◌∷◌, ◌++◌, map, take, Some, None, Ok, refl}
 use Rattle.std.specs.List.{AllByRecursion}
 use Rattle.std.proofs.Common.{arith, inl, inr, ap, lit≤}
-use Rattle.srm_names.specs.FullName.{FullName}
 use Rattle.srm_names.specs.Histories.{steps}
 use Rattle.srm_names.specs.Names.{first_page}
 use Rattle.srm_names.specs.declared.page_msg.PageMsg.{PageMsg}
@@ -14,13 +13,11 @@ use Rattle.srm_bucket.specs.Law.{BucketLaw}
 use Rattle.srm_pages.specs.declared.stroke.Stroke.{Stroke}
 use Rattle.srm_pages.specs.Ends.{FeedView, WellView, LaneId}
 use Rattle.srm_entries.specs.declared.entry.Entry.{Entry}
-use Rattle.srm_entries.specs.declared.entry.Input.TheVariants.{Drew, Ticked, Gave}
+use Rattle.srm_entries.specs.declared.entry.Input.TheVariants.{Drew, Ticked}
 use Rattle.srm_entries.specs.declared.state.AgentState.TheVariants.{Active}
-use Rattle.srm_entries.specs.Entries.{state, is_missing}
-use Rattle.srm_entries.specs.Timers.{fix_running}
-use Rattle.srm_entries.specs.Giving.{given, MessageRight}
+use Rattle.srm_entries.specs.Giving.{given}
 use Rattle.srm_entries.specs.Bucket.{Going, GoesAsCharged, bucket_calls}
-use Rattle.srm_entries.specs.Runs.{EntryRight, MomentRight, expected_state}
+use Rattle.srm_entries.specs.Runs.{EntryRight}
 use Rattle.srm_entries.specs.Sample.{idle, first_drawop, config}
 use Rattle.srm_entries.proofs.Plain.{plain, idle_right, one_spelled, right, missing_none, one_goes, draws_one, missing_drawn, one_data}
 use Rattle.srm_outbox.specs.declared.out.Out.{Out}
@@ -30,7 +27,7 @@ use Rattle.srm_world.proofs.Lawful.{lawful_journal}
 use Rattle.srm_wire.specs.Wires.{bytes_to}
 use Rattle.srm_node.specs.Carrying.{Carries, CarriesEach, DrawsReceived}
 use Rattle.srm_node.specs.Parts.{IsAdmitted}
-use Rattle.srm_node.specs.TurnSample.{at_each, feed, eight, journal, unturned, heard_nothing, hears_nothing, gives_up_to}
+use Rattle.srm_node.specs.TurnSample.{at_each, feed, eight, journal, unturned, heard_nothing, hears_nothing, gives_as, opens_as, give_right, gives_up_to}
 use Rattle.srm_node.specs.Nodes.{NodeView, AreNewFeeds, IsNewJournal, IsNewNode}
 use Rattle.srm_node.specs.Turns.{DrawsNow, LeavesNow, TicksNow, GivesNow, DrawsCut, Turned, TurnEnds, IsCut}
 
@@ -73,21 +70,15 @@ stroke = record { pen = 0; page = first_page; body = 97 ∷ [] }
 abbrev sends : Entry
 sends = plain 0 1 Ticked None (Data first_drawop ∷ []) None Active
 
-abbrev gives : ℕ → Option PageMsg → Entry
-gives slot message = plain 0 1 (Gave slot) None [] message Active
-
-abbrev opens : Entry
-opens = gives 0 (Some (Open first_page))
-
 abbrev shows : Entry
-shows = gives 0 (Some (Draw first_drawop))
+shows = gives_as Active 0 (Some (Draw first_drawop))
 
 -- nothing is given in slot 0, and in those behind it
 abbrev nothing_more : List Entry
-nothing_more = gives 0 None ∷ gives 1 None ∷ gives 2 None ∷ gives 3 None ∷ gives 4 None ∷ gives 5 None ∷ gives 6 None ∷ gives 7 None ∷ []
+nothing_more = gives_as Active 0 None ∷ gives_as Active 1 None ∷ gives_as Active 2 None ∷ gives_as Active 3 None ∷ gives_as Active 4 None ∷ gives_as Active 5 None ∷ gives_as Active 6 None ∷ gives_as Active 7 None ∷ []
 
 abbrev all_gives : List Entry
-all_gives = opens ∷ shows ∷ nothing_more
+all_gives = opens_as Active ∷ shows ∷ nothing_more
 
 abbrev pub entries : List Entry
 entries = draws_one ∷ sends ∷ all_gives
@@ -104,17 +95,11 @@ spelled_so = refl
 
 -- THE JOURNAL IS LAWFUL
 
--- a give that the entries before it allow
-gives_right : (past : List Entry) (slot : ℕ) (message : Option PageMsg) → ((n : FullName) → is_missing past n ≡ false) → ((n : FullName) → is_missing (past ++ gives slot message ∷ []) n ≡ false)
-    → ((n : FullName) → fix_running past n ≡ None) → MomentRight (config 0) 0 past (gives slot message) → MessageRight (config 0) past (Gave slot) message → Active ≡ expected_state (state past) false (Some (Gave slot))
-    → EntryRight (config 0) 0 (record { before = past; this = gives slot message })
-gives_right past slot message here next fix moment given after = right (config 0) 0 past 0 1 (Gave slot) None [] message Active here next (λ n. refl) fix refl moment refl refl tt tt tt refl given after
-
 abbrev sent : List Entry
 sent = draws_one ∷ sends ∷ []
 
 abbrev shown : List Entry
-shown = sent ++ opens ∷ shows ∷ []
+shown = sent ++ opens_as Active ∷ shows ∷ []
 
 -- with nothing given in the slots below this one
 abbrev served : ℕ → List Entry
@@ -126,25 +111,25 @@ each_right = (
   (
     right (config 0) 0 (draws_one ∷ []) 0 1 Ticked None (Data first_drawop ∷ []) None Active missing_drawn missing_drawn (λ n. refl) (λ n. refl) refl (lit≤ tt) refl refl (refl, tt) (one_spelled, tt) tt refl refl refl,
     (
-      gives_right sent 0 (Some (Open first_page)) missing_drawn missing_drawn (λ n. refl) refl (refl, refl) refl,
+      give_right Active sent 0 (Some (Open first_page)) missing_drawn missing_drawn (λ n. refl) refl (refl, refl) refl,
       (
-        gives_right (sent ++ opens ∷ []) 0 (Some (Draw first_drawop)) missing_drawn missing_drawn (λ n. refl) refl (refl, refl, refl, refl) refl,
+        give_right Active (sent ++ opens_as Active ∷ []) 0 (Some (Draw first_drawop)) missing_drawn missing_drawn (λ n. refl) refl (refl, refl, refl, refl) refl,
         (
-          gives_right (served 0) 0 None missing_drawn missing_drawn (λ n. refl) refl ((λ h. h), refl) refl,
+          give_right Active (served 0) 0 None missing_drawn missing_drawn (λ n. refl) refl ((λ h. h), refl) refl,
           (
-            gives_right (served 1) 1 None missing_drawn missing_drawn (λ n. refl) refl ((λ h. h), refl) refl,
+            give_right Active (served 1) 1 None missing_drawn missing_drawn (λ n. refl) refl ((λ h. h), refl) refl,
             (
-              gives_right (served 2) 2 None missing_drawn missing_drawn (λ n. refl) refl ((λ h. h), refl) refl,
+              give_right Active (served 2) 2 None missing_drawn missing_drawn (λ n. refl) refl ((λ h. h), refl) refl,
               (
-                gives_right (served 3) 3 None missing_drawn missing_drawn (λ n. refl) refl ((λ h. h), refl) refl,
+                give_right Active (served 3) 3 None missing_drawn missing_drawn (λ n. refl) refl ((λ h. h), refl) refl,
                 (
-                  gives_right (served 4) 4 None missing_drawn missing_drawn (λ n. refl) refl ((λ h. h), refl) refl,
+                  give_right Active (served 4) 4 None missing_drawn missing_drawn (λ n. refl) refl ((λ h. h), refl) refl,
                   (
-                    gives_right (served 5) 5 None missing_drawn missing_drawn (λ n. refl) refl ((λ h. h), refl) refl,
+                    give_right Active (served 5) 5 None missing_drawn missing_drawn (λ n. refl) refl ((λ h. h), refl) refl,
                     (
-                      gives_right (served 6) 6 None missing_drawn missing_drawn (λ n. refl) refl ((λ h. h), refl) refl,
+                      give_right Active (served 6) 6 None missing_drawn missing_drawn (λ n. refl) refl ((λ h. h), refl) refl,
                       (
-                        gives_right (served 7) 7 None missing_drawn missing_drawn (λ n. refl) refl ((λ h. h), refl) refl,
+                        give_right Active (served 7) 7 None missing_drawn missing_drawn (λ n. refl) refl ((λ h. h), refl) refl,
                         tt,
                       ),
                     ),
