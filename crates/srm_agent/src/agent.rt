@@ -8,7 +8,7 @@ ghost use Rattle.srm_entries.specs.Entries.{is_gone, state};
 ghost use Rattle.srm_agent.specs.Fits.{Fits, AreNewProgress};
 ghost use Rattle.srm_entries.specs.Runs.{IsMemberRun};
 ghost use Rattle.srm_entries.specs.Still.{entry_without_effects};
-ghost use Rattle.srm_agent.specs.Noting.{Does, verdict_answering};
+ghost use Rattle.srm_agent.specs.Noting.{verdict_answering};
 
 mod accepting;
 mod accepting_request;

@@ -2,7 +2,7 @@
 
 ghost use Rattle.std.specs.Prelude.{ℕ, Ok, vec_len, ◌≡◌, ◌≤◌, ◌<◌, ◌^◌, ◌++◌, ◌∷◌, length, OnOk, IfOk};
 ghost use Rattle.std.specs.List.{flat_map};
-ghost use Rattle.std.specs.Int.{w16, w32, w64, to_be_bytes};
+ghost use Rattle.std.specs.Int.{to_be_bytes};
 ghost use Rattle.srm_names.specs.declared.limits.TheConstants.{LONGEST_BODY};
 ghost use Rattle.srm_codec.specs.Judging.{judge};
 ghost use Rattle.srm_codec.specs.declared.format.TheConstants.{LONGEST_LIST};

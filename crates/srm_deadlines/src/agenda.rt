@@ -1,6 +1,6 @@
 //! Moments in order.
 
-ghost use Rattle.std.specs.Prelude.{◌≡◌, ℕ, ◌≤◌, ◌<◌, ◌+◌, [], ◌∷◌, Bool, true, length, vec_capacity, slice_get, if◌then◌else◌, OnOk, IsOk, IfSome, All};
+ghost use Rattle.std.specs.Prelude.{◌≡◌, ◌≤◌, ◌<◌, ◌+◌, [], ◌∷◌, true, length, vec_capacity, slice_get, if◌then◌else◌, OnOk, IsOk, IfSome, All};
 ghost use Rattle.std.specs.List.{list_any};
 ghost use Rattle.srm_names.specs.FullName.{FullName};
 ghost use Rattle.srm_names.specs.Names.{among, ascending, name_below, same_name, AreExactly};

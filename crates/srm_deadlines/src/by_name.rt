@@ -1,9 +1,8 @@
 //! Values by name.
 
-ghost use Rattle.std.specs.Prelude.{◌≡◌, ℕ, ◌≤◌, ◌<◌, ◌+◌, ◌^◌, List, [], ◌∷◌, Bool, true, OnOk, OnErr, IsOk, length, slice_index_or, if◌then◌else◌, nat_eq, Some, None};
+ghost use Rattle.std.specs.Prelude.{◌≡◌, ℕ, ◌≤◌, ◌<◌, ◌+◌, ◌^◌, List, [], ◌∷◌, true, OnOk, OnErr, IsOk, length, slice_index_or, if◌then◌else◌, nat_eq, Some, None};
 ghost use Rattle.std.specs.List.{IsDistinct};
-ghost use Rattle.srm_names.specs.FullName.{FullName};
-ghost use Rattle.srm_names.specs.Names.{among, ascending, name_below, same_name};
+ghost use Rattle.srm_names.specs.Names.{ascending, name_below, same_name};
 ghost use Rattle.srm_deadlines.specs.MomentLists.{item_at, values_of};
 ghost use Rattle.srm_deadlines.specs.Places.{value_at, has_place, names_of, place_names, KeepsPlaces, GivesPlaces, KeepsValues, Sets, SetsAll, ClearsAll, HasPlaces};
 

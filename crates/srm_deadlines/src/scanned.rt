@@ -1,6 +1,6 @@
 //! Deadlines in a list that is looked through.
 
-ghost use Rattle.std.specs.Prelude.{◌≡◌, ℕ, ◌≤◌, ◌||◌, [], Bool, true, false, length, vec_capacity, take, drop, IfSome, OnOk, OnErr, IsOk, IsNone, Option};
+ghost use Rattle.std.specs.Prelude.{◌≡◌, ℕ, ◌≤◌, ◌||◌, [], true, false, length, vec_capacity, take, drop, IfSome, OnOk, OnErr, IsOk, IsNone, Option};
 ghost use Rattle.srm_names.specs.FullName.{FullName};
 ghost use Rattle.srm_names.specs.Names.{among, ascending, name_below, same_name, AreExactly};
 ghost use Rattle.srm_names.specs.Moments.{has_come};

@@ -18,7 +18,7 @@ pub(crate) struct Peer {
 }
 
 impl Peer {
-    ghost use Rattle.srm_distance.specs.Distance.{newest, estimate};
+    ghost use Rattle.srm_distance.specs.Distance.{estimate};
     ghost use Rattle.srm_distance.specs.Echoes.{SentWithin};
     ghost use Rattle.srm_distance.specs.Peers.{peer_of, echo_owed_by};
 

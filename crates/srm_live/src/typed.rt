@@ -1,6 +1,6 @@
 //! The line that is being typed.
 
-ghost use Rattle.std.specs.Prelude.{◌≡◌, ◌↔◌, ◌≢◌, IsTrue, OnOk, OnErr, IfOk, []};
+ghost use Rattle.std.specs.Prelude.{◌≡◌, ◌↔◌, IsTrue, OnOk, OnErr, IfOk, []};
 ghost use Rattle.srm_live.specs.Typing.{with_byte, typed_of, line_after};
 
 use bytes::Bytes;

@@ -1,6 +1,6 @@
 //! The lines of the input, dealt to the pens.
 
-ghost use Rattle.std.specs.Prelude.{◌≡◌, ◌<◌, [], ◌∷◌, None, length, map, IfOk, IfErr, MatchOption};
+ghost use Rattle.std.specs.Prelude.{◌≡◌, ◌<◌, [], None, map, IfOk, IfErr, MatchOption};
 ghost use Rattle.srm_member.specs.Lines.{lines_of, bad_line, each_fourth, dealt_of, IsRefusedFor, IsLineEnd, HasFirstLine};
 
 use bytes::Bytes;

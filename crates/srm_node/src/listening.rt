@@ -1,6 +1,6 @@
 //! Hearing what came.
 
-ghost use Rattle.std.specs.Prelude.{◌≡◌, ◌≤◌, true, false, [], length, MatchResult};
+ghost use Rattle.std.specs.Prelude.{◌≤◌, true, false, length, MatchResult};
 ghost use Rattle.srm_names.specs.declared.limits.TheConstants.{LATEST_MOMENT};
 ghost use Rattle.srm_world.specs.Claims.{IsLawfulJournal};
 ghost use Rattle.srm_wire.specs.Wires.{CountsIf};

@@ -1,6 +1,6 @@
 //! A member that takes part in a session.
 
-ghost use Rattle.std.specs.Prelude.{◌≡◌, ◌≤◌, true, [], Some, None, IfOk, MatchResult};
+ghost use Rattle.std.specs.Prelude.{◌≡◌, ◌≤◌, [], Some, None, IfOk, MatchResult};
 ghost use Rattle.srm_names.specs.declared.limits.TheConstants.{LATEST_MOMENT, PAGES};
 ghost use Rattle.srm_names.specs.Moments.{has_come};
 ghost use Rattle.srm_node.specs.Counting.{counts_of};

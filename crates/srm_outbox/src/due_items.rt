@@ -1,6 +1,6 @@
 //! What a tick hands in: the requests and the repairs that are due.
 
-ghost use Rattle.std.specs.Prelude.{◌≡◌, ◌++◌, List, [], true, false, option_map, IfOk, IfSome, map};
+ghost use Rattle.std.specs.Prelude.{◌≡◌, ◌++◌, List, true, option_map, IfOk, IfSome};
 ghost use Rattle.std.specs.List.{AllByRecursion, filter_map};
 ghost use Rattle.std.specs.Option.{option_copied};
 ghost use Rattle.srm_names.specs.Names.{ascending, name_below};

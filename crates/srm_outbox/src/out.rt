@@ -1,6 +1,6 @@
 //! What an agent sends.
 
-ghost use Rattle.std.specs.Prelude.{◌≡◌, IfOk};
+ghost use Rattle.std.specs.Prelude.{IfOk};
 ghost use Rattle.srm_codec.specs.Spelling.{IsSpellable};
 ghost use Rattle.srm_outbox.specs.Outs.{IsOutgoingOf};
 

@@ -1,6 +1,6 @@
 //! How far the streams of settled members go.
 
-ghost use Rattle.std.specs.Prelude.{◌≡◌, ◌≤◌, ◌<◌, ℕ, length, None, IfOk, IfSome, OnOk, OnErr, IsOk, slice_index_or};
+ghost use Rattle.std.specs.Prelude.{◌≡◌, ◌≤◌, ◌<◌, ℕ, length, None, IfOk, IfSome, OnOk, OnErr, IsOk};
 ghost use Rattle.srm_store.specs.Finals.{row_number, final_in, rows_kept, SameFinals, Settles};
 
 use srm_names::{DRAWOPS, Items, MEMBERS, Member, Name, Stream};

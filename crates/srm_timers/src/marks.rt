@@ -2,7 +2,7 @@
 
 ghost use Rattle.std.specs.Prelude.{◌≡◌, ◌≤◌, ◌<◌, ◌+◌, ◌*◌, [], true, unwrap_or, OnOk, IsOk};
 ghost use Rattle.srm_names.specs.declared.limits.TheConstants.{MEMBERS};
-ghost use Rattle.srm_deadlines.specs.Places.{value_at, has_place, KeepsPlaces, HasPlaces, KeepsValues};
+ghost use Rattle.srm_deadlines.specs.Places.{value_at, has_place, HasPlaces, KeepsValues};
 ghost use Rattle.srm_timers.specs.Distances.{AreDistances};
 ghost use Rattle.srm_timers.specs.FixCalls.{HoldsOff, HoldAllOff, asker_at, held_off_until, held_until};
 ghost use Rattle.srm_timers.specs.Marks.{HaveMarks, MarksKeepPlaces, NotesAsker, OffAsBefore};

@@ -1,7 +1,5 @@
 //! The inboxes of a network in memory.
 
-ghost use Rattle.std.specs.Prelude.{◌≡◌, map, IfOk, OnErr};
-
 use crate::sent::Sent;
 use std::alloc::{AllocError, Global};
 use std::collections::VecDeque;

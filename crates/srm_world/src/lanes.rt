@@ -1,6 +1,6 @@
 //! What the page workers of one member were given and didn't take yet.
 
-ghost use Rattle.std.specs.Prelude.{◌≡◌, ◌<◌, ℕ, [], length, slice_get, Some, OnOk, IfOk, option_to_list};
+ghost use Rattle.std.specs.Prelude.{◌<◌, [], Some, OnOk, IfOk, option_to_list};
 ghost use Rattle.srm_names.specs.declared.limits.TheConstants.{PAGES};
 ghost use Rattle.srm_world.specs.Lanes.{AreEmpty, HasRoom, Gains, Loses};
 

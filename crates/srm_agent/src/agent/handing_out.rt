@@ -1,6 +1,6 @@
 //! Handing out the requests and repairs that are due.
 
-ghost use Rattle.std.specs.Prelude.{◌≡◌, ◌≤◌, length, true, IfOk, OnErr};
+ghost use Rattle.std.specs.Prelude.{◌≡◌, ◌≤◌, true, IfOk, OnErr};
 ghost use Rattle.srm_names.specs.declared.limits.TheConstants.{LATEST_MOMENT};
 ghost use Rattle.srm_agent_state.specs.TimerCalls.{AreDueAsks, AreDueFixes, TimersStay};
 ghost use Rattle.srm_agent.specs.Ticking.{HandsOut};

@@ -7,7 +7,7 @@ ghost use Rattle.srm_names.specs.declared.limits.TheConstants.{LANE_MESSAGES, PA
 ghost use Rattle.srm_pages.specs.Board.{zeros};
 ghost use Rattle.srm_pages.specs.Ends.{AreLanes, AreNewEnds, AreNewLanes};
 ghost use Rattle.srm_pages.specs.Lane.{lane_view};
-ghost use Rattle.srm_pages.specs.Seats.{new_marker, new_lookout};
+ghost use Rattle.srm_pages.specs.Seats.{new_lookout};
 
 use crate::dealer::Dealer;
 use crate::ends;

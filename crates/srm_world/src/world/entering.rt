@@ -1,6 +1,6 @@
 //! What an event does to its member, entered into the trace.
 
-ghost use Rattle.std.specs.Prelude.{◌≡◌, [], length, IfOk, IfNone, IfSome, OnErr};
+ghost use Rattle.std.specs.Prelude.{◌≡◌, [], IfOk, IfNone, IfSome, OnErr};
 ghost use Rattle.srm_world.specs.Events.{IsTimely};
 ghost use Rattle.srm_world.specs.Sent.{all_of};
 ghost use Rattle.srm_world.specs.Worlds.{Appends, EntersAll, KeepsParticipants, Skips};
