@@ -4,7 +4,7 @@ use crate::rig::Rig;
 use srm_agent::{Config, Entry, Input, Verdict};
 use srm_node::Wire;
 use srm_rig::{Seen, look_at};
-use srm_rig_members::given_in;
+use srm_rig_members::{given_in, is_heard};
 use srm_world::Journal;
 use std::process::Abort;
 
@@ -102,10 +102,6 @@ fn has_asked(entry: &Entry) -> bool {
 
 fn has_repaired(entry: &Entry) -> bool {
     !entry.effects.fixes.as_slice().is_empty()
-}
-
-fn is_heard(entry: &Entry) -> bool {
-    matches!(entry.input, Input::Heard(_))
 }
 
 fn assert_flowed(

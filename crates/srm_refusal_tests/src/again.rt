@@ -14,11 +14,11 @@ pub(crate) fn body(rt: &impl Abort, alloc: Global, byte: u8) -> Bytes {
     }
 }
 
-/// Room for 4,096 bytes.
-pub(crate) fn buffer(rt: &impl Abort, alloc: Global) -> Vec<u8> {
-    match Vec::with_capacity(alloc, 4_096) {
-        Ok(buffer) => buffer,
-        Err(_) => Vec::with_capacity(alloc, 4_096).expect(rt, "memory"),
+/// Room for so many.
+pub(crate) fn room<T: Drop>(rt: &impl Abort, alloc: Global, count: usize) -> Vec<T> {
+    match Vec::with_capacity(alloc, count) {
+        Ok(room) => room,
+        Err(_) => Vec::with_capacity(alloc, count).expect(rt, "memory"),
     }
 }
 

@@ -5,7 +5,7 @@ use srm_agent::{Entry, Input};
 use srm_names::{Drawop, PAGES, PageMsg};
 use srm_node::{Node, Wire};
 use srm_pages::Tap;
-use srm_rig_members::given_in;
+use srm_rig_members::{given_in, is_heard};
 use srm_rig_nodes::{Station, StepClock};
 use srm_timers::Listed;
 use srm_world::Journal;
@@ -78,10 +78,6 @@ fn is_close(entry: &Entry) -> bool {
 
 fn is_leaving(entry: &Entry) -> bool {
     matches!(given_in(entry, 0), Some(PageMsg::Left(_)))
-}
-
-fn is_heard(entry: &Entry) -> bool {
-    matches!(entry.input, Input::Heard(_))
 }
 
 /// What a node did.

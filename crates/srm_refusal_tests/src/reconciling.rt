@@ -1,6 +1,6 @@
 //! Journals of two recorders, put together.
 
-use crate::again::text;
+use crate::again::{room, text};
 use crate::meeting::{meet, recorder};
 use srm_audit::{Got, Mismatch, reconcile};
 use srm_names::{Items, Member, PageMsg};
@@ -8,14 +8,6 @@ use srm_rig_members::{given, sizes};
 use srm_world::{Journal, Trace};
 use std::alloc::Global;
 use std::process::Abort;
-
-/// Room for two lists, or two journals.
-fn room_for_two<T: Drop>(rt: &impl Abort, alloc: Global) -> Vec<T> {
-    match Vec::with_capacity(alloc, 2) {
-        Ok(room) => room,
-        Err(_) => Vec::with_capacity(alloc, 2).expect(rt, "memory"),
-    }
-}
 
 fn messages(rt: &impl Abort, alloc: Global, journal: &Journal) -> Vec<PageMsg> {
     match given(alloc, journal) {
@@ -35,7 +27,7 @@ fn got(rt: &impl Abort, alloc: Global, journal: &Journal) -> Got {
 
 /// The same, so often.
 fn lists(rt: &impl Abort, alloc: Global, journal: &Journal, times: u8) -> Vec<Got> {
-    let mut lists = room_for_two(rt, alloc);
+    let mut lists = room(rt, alloc, 2);
     for _ in 0..times {
         let list = got(rt, alloc, journal);
         lists.push(list).expect(rt, "room");
@@ -72,7 +64,7 @@ fn journals(
     first: Option<Journal>,
     second: Journal,
 ) -> Vec<Journal> {
-    let mut journals = room_for_two(rt, alloc);
+    let mut journals = room(rt, alloc, 2);
     journals.push(second).expect(rt, "room");
     if let Some(first) = first {
         journals.push(first).expect(rt, "room");

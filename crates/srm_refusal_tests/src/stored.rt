@@ -3,7 +3,7 @@
 ghost use Rattle.std.specs.Prelude.{All, IfOk};
 ghost use Rattle.srm_world.specs.Events.{IsTimely};
 
-use crate::again::{buffer, text};
+use crate::again::{room, text};
 use crate::scripts::{BY_WORDS, OUT_OF_ORDER, REPAIRED_BY_ANOTHER};
 use srm_script::{EntryPrinter, Script, ScriptFault, print_newest, read_script};
 use srm_timers::Listed;
@@ -88,7 +88,7 @@ fn play(rt: &impl Abort, alloc: Global, script: &str, wanted: &str) -> String {
         timers,
     } = begin(rt, alloc, script);
     let mut printer = EntryPrinter::new(timers);
-    let mut out = buffer(rt, alloc);
+    let mut out: Vec<u8> = room(rt, alloc, 4_096);
     run_each(rt, &mut world, events.as_slice(), &mut printer, &mut out);
     assert_eq!(rt; out.as_slice(), wanted.as_bytes());
     text(rt, alloc, world.trace())

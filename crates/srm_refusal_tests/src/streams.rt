@@ -1,6 +1,6 @@
 //! A member over UDP whose input and output stand in memory.
 
-use crate::again::buffer;
+use crate::again::room;
 use srm_member::{print_reply, run_node};
 use srm_options::read_node;
 use std::process::Abort;
@@ -27,8 +27,8 @@ fn check_end(rt: &impl Abort, status: u8, out: &[u8], err: &[u8]) {
 #[test]
 fn a_member_prints_all_or_lacks_memory(rt: HostRuntime) {
     let mut input: &[u8] = b"hi\n";
-    let mut out = buffer(&rt, rt.alloc());
-    let mut err = buffer(&rt, rt.alloc());
+    let mut out: Vec<u8> = room(&rt, rt.alloc(), 4_096);
+    let mut err: Vec<u8> = room(&rt, rt.alloc(), 4_096);
     let status = match read_node(rt.alloc(), &WORDS) {
         Ok(options) => run_node(&rt, options, &mut input, &mut out, &mut err),
         Err(reply) => print_reply(&reply, &mut out, &mut err),

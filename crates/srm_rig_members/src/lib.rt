@@ -9,6 +9,6 @@ mod recorders;
 mod settings;
 
 pub use journals::{count_entries, sizes};
-pub use messages::{copies_of, given, given_in};
+pub use messages::{copies_of, given, given_in, is_heard};
 pub use recorders::{finish_all, recorder};
 pub use settings::{config, config_at};

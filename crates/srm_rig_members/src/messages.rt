@@ -1,9 +1,14 @@
-//! What was given to page workers.
+//! What was heard, and what was given to page workers.
 
 use srm_agent::{Entry, Input};
 use srm_names::PageMsg;
 use srm_world::Journal;
 use std::alloc::{AllocError, Global};
+
+/// Whether the entry heard a datagram.
+pub fn is_heard(entry: &Entry) -> bool {
+    matches!(entry.input, Input::Heard(_))
+}
 
 /// What an entry gave in a slot, if it gave a message there.
 pub fn given_in(entry: &Entry, slot: u8) -> Option<&PageMsg> {
