@@ -1,6 +1,7 @@
 -- Lanes and pens, one after another.
 use Rattle.std.proofs.Common.{◌≡◌, ◌≢◌, ◌⊎◌, ℕ, zero, suc, ◌<◌, List, [], ◌∷◌, ◌++◌, length, Some, sym, ap, ◌∙◌, subst, inl, inr, arith, slice_index_or}
 use Rattle.std.specs.Prelude.{slice_get}
+use Rattle.std.proofs.lemmas.Option.{slice_get_read}
 use Rattle.atomic_table.specs.Seated.{TableId}
 use Rattle.srm_names.proofs.Lists.{slice_get-snoc}
 use Rattle.srm_pages.specs.Ends.{FeedView, TapView, PenView, AreNewEnds, AreNewLanes, AreLanes, AreNewPens}
@@ -28,20 +29,15 @@ lanes_more board fs gs ts us slot f t e e' many many' new ends = record {
       ends_more board fs ts slot f t many many' new ends k g u (slice_get-snoc fs f k g (subst (λ l. slice_get l k ≡ Some g) e at)) (slice_get-snoc ts t k u (subst (λ l. slice_get l k ≡ Some u) e' at'));
 }
 
-at_place : {X : Type 0} (xs : List X) (k : ℕ) (x : X) → k < length xs → x ≡ slice_index_or xs k x → slice_get xs k ≡ Some x
-at_place [] k x small is = absurd (omega arith)
-at_place (y ∷ xs) zero x small is = ap Some (sym is)
-at_place (y ∷ xs) (suc k) x small is = at_place xs k x (omega arith) is
-
 -- the ends of the lane of a slot, taken out of all
 pub ends_at : (asked : ℕ) (fs : List FeedView) (ts : List TapView) (vs : List LookoutView) (slot : ℕ) (f : FeedView) (t : TapView) → AreLanes asked fs ts vs → slot < PAGES
     → f ≡ slice_index_or fs slot f → t ≡ slice_index_or ts slot t → (f.put ≡ []) × (f.lane ≡ t.lane)
 ends_at asked fs ts vs slot f t all small at at' =
     let feeds = all.1 in
     let taps = all.2 in
-    let ends = all.3.each slot f t (at_place fs slot f (omega arith) at) (at_place ts slot t (omega arith) at') in
+    let ends = all.3.each slot f t (slice_get_read fs (length fs) slot f refl (omega arith) at) (slice_get_read ts (length ts) slot t refl (omega arith) at') in
     (ends.0.0, ends.2)
 
 -- the first pen, taken out of all
 pub pen_at : (well : TableId) (pens : List PenView) (p : PenView) → AreNewPens well pens → 0 < length pens → p ≡ slice_index_or pens 0 p → (p.number ≡ 0) × (p.well ≡ well)
-pen_at well pens p new some at = let is = new 0 p (at_place pens 0 p some at) in (ap (λ (q : PenView). q.number) is, ap (λ (q : PenView). q.well) is)
+pen_at well pens p new some at = let is = new 0 p (slice_get_read pens (length pens) 0 p refl some at) in (ap (λ (q : PenView). q.number) is, ap (λ (q : PenView). q.well) is)
