@@ -3,6 +3,7 @@ use Rattle.std.proofs.Common.{◌≡◌, ℕ, ◌+◌, ◌==◌, Bool, true, fal
 use Rattle.std.specs.Prelude.{Option, Some, None, cond, count_by, filter, option_map, option_to_list, nat_le, if◌then◌else◌}
 use Rattle.std.specs.List.{flat_map, filter_map, cons_option, AllByRecursion}
 use Rattle.std.proofs.lemmas.Bool.Decides.{nat_tests}
+use Rattle.std.proofs.lemmas.List.{length-map}
 use Rattle.std.proofs.lemmas.List.Sums.{sum_by-append, sum_by-cons}
 use Rattle.std.proofs.lemmas.Grind.{flat_map-append}
 use Rattle.srm_names.specs.declared.page.Page.{Page}
@@ -20,8 +21,9 @@ use Rattle.srm_bucket.specs.Calls.{Classed}
 use Rattle.srm_bucket.specs.Classes.{rank, in_class, handed, departed}
 use Rattle.srm_bucket.specs.Content.{Content as BucketContent}
 use Rattle.srm_bucket.specs.Law.{BucketLaw}
+use Rattle.srm_bucket.specs.Mapping.{read_item}
 use Rattle.srm_bucket.specs.Waiting.{queue}
-use Rattle.srm_bucket.proofs.Mapping.{law-read, gone-read, handed-read, length-read}
+use Rattle.srm_bucket.proofs.Mapping.{law-read, gone-read, handed-read}
 use Rattle.srm_entries.specs.Configs.{Config}
 use Rattle.srm_entries.specs.declared.entry.Entry.{Entry}
 use Rattle.srm_outbox.specs.declared.out.Outgoing.{Outgoing}
@@ -181,10 +183,10 @@ pub all_sent : (c : Config) (es : List Entry) (b : BucketContent Outgoing) → B
 all_sent c es b h =
     let law : BucketLaw c.rate c.depth (bucket_calls c.me h.goings) = subst (BucketLaw c.rate c.depth) h.read (law-read datagram_of c.rate c.depth h.calls h.fits.law) in
     let went : length (departed New h.calls) ≡ count_by is_data (sent es) =
-    sym (length-read datagram_of (departed New h.calls)) ∙ ap length (sym (gone-read datagram_of New h.calls)) ∙ ap (λ cs. length (departed New cs)) h.read ∙ ap length (gone_is c.me New h.goings h.goes)
+    sym (length-map (departed New h.calls) (read_item datagram_of)) ∙ ap length (sym (gone-read datagram_of New h.calls)) ∙ ap (λ cs. length (departed New cs)) h.read ∙ ap length (gone_is c.me New h.goings h.goes)
     ∙ count_marked (departed_so_far h.goings) (went_marked c h.goings h.goes law) ∙ ap (count_by is_data) (went_is_charged h.goings h.goes) ∙ sent_data (entries_of h.goings) ∙ ap (λ xs. count_by is_data (sent xs)) h.entries in
     let all : length (handed New h.calls) ≡ length (drawn es) =
-    sym (length-read datagram_of (handed New h.calls)) ∙ ap length (sym (handed-read datagram_of New h.calls)) ∙ ap (λ cs. length (handed New cs)) h.read ∙ ap length (handed_is c.me New h.goings h.goes)
+    sym (length-map (handed New h.calls) (read_item datagram_of)) ∙ ap length (sym (handed-read datagram_of New h.calls)) ∙ ap (λ cs. length (handed New cs)) h.read ∙ ap length (handed_is c.me New h.goings h.goes)
     ∙ drawn_after c.me [] (entries_of h.goings) ∙ ap (λ xs. length (drawn xs)) h.entries in
     nothing_left (length (departed New h.calls)) (length (queue b.waiting New)) (length (drawn es)) (count_by is_data (sent es))
     (sym (length-append (departed New h.calls) (queue b.waiting New)) ∙ ap length (h.fits.waiting_is New) ∙ all) went

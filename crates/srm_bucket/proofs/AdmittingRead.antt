@@ -1,6 +1,6 @@
 -- What is admitted after calls over some values is admitted after these read as over others.
 use Rattle.std.proofs.Common.{◌≡◌, ℕ, ◌+◌, max, List, [], ◌∷◌, ◌++◌, map, length, refl, ap, sym, ◌∙◌}
-use Rattle.std.proofs.lemmas.List.{map-append}
+use Rattle.std.proofs.lemmas.List.{map-append, length-map}
 use Rattle.srm_bucket.specs.declared.class.Class.{Class}
 use Rattle.srm_bucket.specs.declared.class.Class.TheVariants.{Shown, New, Other}
 use Rattle.srm_bucket.specs.declared.item.Item.{Item}
@@ -11,7 +11,7 @@ use Rattle.srm_bucket.specs.Tokens.{cost_of}
 use Rattle.srm_bucket.specs.Law.{level_at}
 use Rattle.srm_bucket.specs.Mapping.{read_item, read_call}
 use Rattle.srm_bucket.specs.Admitting.{ahead_of, cost_of_all, is_paid, admits}
-use Rattle.srm_bucket.proofs.Mapping.{left-read, length-read, last_moment-read, ticks-read}
+use Rattle.srm_bucket.proofs.Mapping.{left-read, last_moment-read, ticks-read}
 
 module _ {T U : Type 0} (f : T → U) where
   ahead-map : (class : Class) (w : Class → List (Item U)) (v : Class → List (Item T)) → ((k : Class) → w k ≡ map (read_item f) (v k)) → ahead_of class w ≡ map (read_item f) (ahead_of class v)
@@ -26,7 +26,7 @@ module _ {T U : Type 0} (f : T → U) where
   cost-map (x ∷ xs) = ap (λ n. cost_of x.length + n) (cost-map xs)
 
   paid-map : (xs : List (Item T)) (bytes tokens : ℕ) → is_paid (map (read_item f) xs) bytes tokens ≡ is_paid xs bytes tokens
-  paid-map xs bytes tokens = rw (length-read f xs, cost-map xs) refl
+  paid-map xs bytes tokens = rw (length-map xs (read_item f), cost-map xs) refl
 
   pub admits-read : (rate depth : ℕ) (calls : List (Call T)) (class : Class) (bytes now : ℕ) → admits rate depth (map (read_call f) calls) class bytes now ≡ admits rate depth calls class bytes now
   admits-read rate depth calls class bytes now =

@@ -1,9 +1,9 @@
 -- The law of calls over some values is that of the calls read as over others: it speaks of classes, lengths and moments alone.
-use Rattle.std.proofs.Common.{◌≡◌, ℕ, zero, suc, ◌<◌, ◌==◌, max, Bool, true, false, List, [], ◌∷◌, ◌++◌, map, length, drop, refl, ap, sym, ◌∙◌, subst}
+use Rattle.std.proofs.Common.{◌≡◌, ℕ, ◌<◌, ◌==◌, max, Bool, true, false, List, [], ◌∷◌, ◌++◌, map, length, drop, refl, ap, sym, ◌∙◌, subst}
 use Rattle.std.specs.Prelude.{Option, Some, None, if◌then◌else◌, option_map, is_some, nat_le, IfSome}
 use Rattle.std.specs.Bool.{OnTrue}
 use Rattle.std.specs.List.{flat_map, AllByRecursion}
-use Rattle.std.proofs.lemmas.List.{map-append}
+use Rattle.std.proofs.lemmas.List.{map-append, length-map, drop-map}
 use Rattle.srm_names.specs.Histories.{steps_after, or_else}
 use Rattle.srm_bucket.specs.declared.class.Class.{Class}
 use Rattle.srm_bucket.specs.declared.class.Class.TheVariants.{Shown, New, Other}
@@ -48,19 +48,10 @@ module _ {T U : Type 0} (f : T → U) where
   pub gone-read : (class : Class) (calls : List (Call T)) → departed class (map (read_call f) calls) ≡ map (read_item f) (departed class calls)
   gone-read class calls = flat_map-read (departed_in class) (departed_in class) (departed_in-read class) calls
 
-  pub length-read : (xs : List (Item T)) → length (map (read_item f) xs) ≡ length xs
-  length-read [] = refl
-  length-read (x ∷ xs) = ap suc (length-read xs)
-
-  drop-read : (n : ℕ) (xs : List (Item T)) → drop n (map (read_item f) xs) ≡ map (read_item f) (drop n xs)
-  drop-read zero xs = refl
-  drop-read (suc n) [] = refl
-  drop-read (suc n) (x ∷ xs) = drop-read n xs
-
   pub left-read : (class : Class) (calls : List (Call T)) → queued (map (read_call f) calls) class ≡ map (read_item f) (queued calls class)
   left-read class calls =
-      ap (λ n. drop n (handed class (map (read_call f) calls))) (ap length (gone-read class calls) ∙ length-read (departed class calls))
-      ∙ ap (drop (length (departed class calls))) (handed-read class calls) ∙ drop-read (length (departed class calls)) (handed class calls)
+      ap (λ n. drop n (handed class (map (read_call f) calls))) (ap length (gone-read class calls) ∙ length-map (departed class calls) (read_item f))
+      ∙ ap (drop (length (departed class calls))) (handed-read class calls) ∙ drop-map (read_item f) (length (departed class calls)) (handed class calls)
 
   first_in-read : (class : Class) (xs : List (Item T)) → first_in class (map (read_item f) xs) ≡ option_map (read_classed f) (first_in class xs)
   first_in-read class [] = refl
