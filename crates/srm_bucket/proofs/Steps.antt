@@ -1,7 +1,7 @@
 -- What one more call does to what the calls say.
 use Rattle.std.proofs.Common.{◌≡◌, ℕ, ◌+◌, ◌*◌, ◌-◌, ◌≤◌, min, max, List, [], ◌∷◌, ◌++◌, map, Option, sym, ap, subst, ◌∙◌, arith, append_assoc}
 use Rattle.std.specs.List.{flat_map, AllByRecursion}
-use Rattle.std.proofs.lemmas.List.{append-nil, map-append}
+use Rattle.std.proofs.lemmas.List.{append-nil, map-append, map_push}
 use Rattle.std.proofs.lemmas.Grind.{flat_map-append}
 use Rattle.srm_names.specs.Histories.{Step, steps, greatest}
 use Rattle.srm_names.proofs.Snoc.{steps-snoc, greatest-snoc}
@@ -68,9 +68,6 @@ within-at rate depth last now ts within =
     subst (λ m. IsWithin rate depth m ts) later (within-later rate depth last (now - last) ts within)
 
 -- one more pop
-one_more : {T : Type 0} (ps : List (Pop T)) (p : Pop T) → map alone (ps ++ p ∷ []) ≡ map alone ps ++ alone p ∷ []
-one_more ps p = map-append alone ps (p ∷ [])
-
 pub level-popped : {T : Type 0} (rate depth : ℕ) (calls : List (Call T)) (now : ℕ) (went : Option (Classed T))
     → level rate depth (max (last_moment calls) now) (ticks (calls ++ Popped now went ∷ [])) ≡ level_at rate depth calls now - cost went
 level-popped {T = T} rate depth calls now went =
@@ -78,7 +75,7 @@ level-popped {T = T} rate depth calls now went =
     let p : Pop T = record { moment = m; went = went } in
     ap (λ ps. level rate depth m (parted ps)) (pops-snoc calls (Popped now went))
     ∙ level-parted rate depth m (pops calls ++ p ∷ [])
-    ∙ ap (level rate depth m) (one_more (pops calls) p)
+    ∙ ap (level rate depth m) (map_push alone (pops calls) p)
     ∙ level-spent rate depth (map alone (pops calls)) (alone p)
     ∙ ap (λ n. n - cost went) (sym (level-parted rate depth m (pops calls)))
 
@@ -92,7 +89,7 @@ within-popped {T = T} rate depth calls now went within le =
     let le_alone : cost went ≤ level rate depth m (map alone (pops calls)) = subst (λ n. cost went ≤ n) (level-parted rate depth m (pops calls)) le in
     subst (λ ps. IsWithin rate depth m (parted ps)) (sym (pops-snoc calls (Popped now went)))
     (within-parted rate depth m (pops calls ++ p ∷ [])
-    (subst (IsWithin rate depth m) (sym (one_more (pops calls) p)) (within-spent rate depth (map alone (pops calls)) (alone p) before le_alone)))
+    (subst (IsWithin rate depth m) (sym (map_push alone (pops calls) p)) (within-spent rate depth (map alone (pops calls)) (alone p) before le_alone)))
 
 -- what went had its tokens
 pub popped-within : {T : Type 0} (rate depth : ℕ) (calls : List (Call T)) (now : ℕ) (went : Option (Classed T))
@@ -101,5 +98,5 @@ popped-within {T = T} rate depth calls now went within =
     let m : ℕ = max (last_moment calls) now in
     let p : Pop T = record { moment = m; went = went } in
     let apart : IsWithin rate depth m (map alone (pops calls) ++ alone p ∷ []) =
-    subst (IsWithin rate depth m) (one_more (pops calls) p) (parted-within rate depth m (pops calls ++ p ∷ []) (subst (λ ps. IsWithin rate depth m (parted ps)) (pops-snoc calls (Popped now went)) within)) in
+    subst (IsWithin rate depth m) (map_push alone (pops calls) p) (parted-within rate depth m (pops calls ++ p ∷ []) (subst (λ ps. IsWithin rate depth m (parted ps)) (pops-snoc calls (Popped now went)) within)) in
     subst (λ n. cost went ≤ n) (sym (level-parted rate depth m (pops calls))) (spent-within rate depth (map alone (pops calls)) (alone p) apart)
