@@ -16,15 +16,6 @@ use Rattle.srm_names.specs.PageFeeds.{drawops_of, drawop_from, leaves, is_close,
 use Rattle.srm_names.proofs.Snoc.{first_of-snoc, list_any-snoc}
 use Rattle.srm_agent_state.specs.Progress.{ProgressContent, ProgressFits}
 
-opened-snoc : (g : List PageMsg) (m : PageMsg) → opened (g ++ m ∷ []) ≡ or_else (opened g) (page_opened m)
-opened-snoc g m = first_of-snoc page_opened g m
-
-closed-snoc : (g : List PageMsg) (m : PageMsg) → list_any is_close (g ++ m ∷ []) ≡ list_any is_close g || is_close m
-closed-snoc g m = list_any-snoc is_close g m
-
-leaves-snoc : (s : ℕ) (g : List PageMsg) (m : PageMsg) → list_any (leaves s) (g ++ m ∷ []) ≡ list_any (leaves s) g || leaves s m
-leaves-snoc s g m = list_any-snoc (leaves s) g m
-
 count-snoc : (s : ℕ) (g : List PageMsg) (m : PageMsg) → length (drawops_of s (g ++ m ∷ [])) ≡ length (drawops_of s g) + length (cons_option (drawop_from s m) [])
 count-snoc s g m = ap length (filter_map-append (drawop_from s) g (m ∷ [])) ∙ length-append (drawops_of s g) (cons_option (drawop_from s m) [])
 
@@ -41,20 +32,20 @@ zero_more n = omega arith
 
 pub opens : (g : List PageMsg) (p : Page) (f : ProgressContent) → ProgressFits g f → ProgressFits (g ++ Open p ∷ []) (record f { opened = true })
 opens g p f h = record {
-  opened = some_else (opened g) p ∙ ap is_some (sym (opened-snoc g (Open p)));
-  closed = h.closed ∙ sym (or-false (list_any is_close g)) ∙ sym (closed-snoc g (Open p));
+  opened = some_else (opened g) p ∙ ap is_some (sym (first_of-snoc page_opened g (Open p)));
+  closed = h.closed ∙ sym (or-false (list_any is_close g)) ∙ sym (list_any-snoc is_close g (Open p));
   begun = λ e. absurd (cc);
   numbers = λ s b. h.numbers s b ∙ zero_more (length (drawops_of s g)) ∙ sym (count-snoc s g (Open p));
-  left = λ s b. h.left s b ∙ sym (or-false (list_any (leaves s) g)) ∙ sym (leaves-snoc s g (Open p));
+  left = λ s b. h.left s b ∙ sym (or-false (list_any (leaves s) g)) ∙ sym (list_any-snoc (leaves s) g (Open p));
 }
 
 pub closes : (g : List PageMsg) (f : ProgressContent) → ProgressFits g f → ProgressFits (g ++ Close ∷ []) (record f { closed = true })
 closes g f h = record {
-  opened = h.opened ∙ still_open (opened g) ∙ ap is_some (sym (opened-snoc g Close));
-  closed = sym (or-true (list_any is_close g)) ∙ sym (closed-snoc g Close);
+  opened = h.opened ∙ still_open (opened g) ∙ ap is_some (sym (first_of-snoc page_opened g Close));
+  closed = sym (or-true (list_any is_close g)) ∙ sym (list_any-snoc is_close g Close);
   begun = λ e k. absurd (cc);
   numbers = λ s b. h.numbers s b ∙ zero_more (length (drawops_of s g)) ∙ sym (count-snoc s g Close);
-  left = λ s b. h.left s b ∙ sym (or-false (list_any (leaves s) g)) ∙ sym (leaves-snoc s g Close);
+  left = λ s b. h.left s b ∙ sym (or-false (list_any (leaves s) g)) ∙ sym (list_any-snoc (leaves s) g Close);
 }
 
 -- a drawop and a leaving come in an opened page feed alone
@@ -68,11 +59,11 @@ not_begun a b e t f = absurd (cc)
 pub draws : (g : List PageMsg) (d : Drawop) (f : ProgressContent) (source number : ℕ) → ProgressFits g f → length f.numbers ≡ MEMBERS → source ≡ d.name.stream.source → number ≡ d.name.number
     → source < MEMBERS → continues g (Draw d) ≡ true → ProgressFits (g ++ Draw d ∷ []) (record f { numbers = slice_set f.numbers source number })
 draws g d f source number h size at is below goes = record {
-  opened = h.opened ∙ still_open (opened g) ∙ ap is_some (sym (opened-snoc g (Draw d)));
-  closed = h.closed ∙ sym (or-false (list_any is_close g)) ∙ sym (closed-snoc g (Draw d));
+  opened = h.opened ∙ still_open (opened g) ∙ ap is_some (sym (first_of-snoc page_opened g (Draw d)));
+  closed = h.closed ∙ sym (or-false (list_any is_close g)) ∙ sym (list_any-snoc is_close g (Draw d));
   begun = λ e k. not_begun f.opened (is_some (opened g)) h.opened (open_there (opened g) d.name.stream.page parts.0) e;
   numbers = λ s b. counted s b (cases_eq s source) ∙ sym (count-snoc s g (Draw d));
-  left = λ s b. h.left s b ∙ sym (or-false (list_any (leaves s) g)) ∙ sym (leaves-snoc s g (Draw d));
+  left = λ s b. h.left s b ∙ sym (or-false (list_any (leaves s) g)) ∙ sym (list_any-snoc (leaves s) g (Draw d));
 }
   where
     parts : (is_open_at (opened g) d.name.stream.page ≡ true) × ((d.name.number == length (drawops_of d.name.stream.source g) + 1) ≡ true)
@@ -100,11 +91,11 @@ draws g d f source number h size at is below goes = record {
 pub leaving : (g : List PageMsg) (source place : ℕ) (f : ProgressContent) → ProgressFits g f → length f.left ≡ MEMBERS → place ≡ source → place < MEMBERS → continues g (Left source) ≡ true
     → ProgressFits (g ++ Left source ∷ []) (record f { left = slice_set f.left place true })
 leaving g source place f h size at below goes = record {
-  opened = h.opened ∙ still_open (opened g) ∙ ap is_some (sym (opened-snoc g (Left source)));
-  closed = h.closed ∙ sym (or-false (list_any is_close g)) ∙ sym (closed-snoc g (Left source));
+  opened = h.opened ∙ still_open (opened g) ∙ ap is_some (sym (first_of-snoc page_opened g (Left source)));
+  closed = h.closed ∙ sym (or-false (list_any is_close g)) ∙ sym (list_any-snoc is_close g (Left source));
   begun = λ e k. not_begun f.opened (is_some (opened g)) h.opened (first (is_some (opened g)) (list_any is_close g) (list_any (leaves source) g) goes) e;
   numbers = λ s b. h.numbers s b ∙ zero_more (length (drawops_of s g)) ∙ sym (count-snoc s g (Left source));
-  left = λ s b. marked s b (cases_eq s place) ∙ sym (leaves-snoc s g (Left source));
+  left = λ s b. marked s b (cases_eq s place) ∙ sym (list_any-snoc (leaves s) g (Left source));
 }
   where
     first : (a b c : Bool) → (a && not b && not c) ≡ true → a ≡ true
