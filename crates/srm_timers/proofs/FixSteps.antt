@@ -212,9 +212,6 @@ repairs_hold now dist calls (m ∷ names) n t = ap (λ b. same_name n m && nat_l
     go true e b = ap (λ k. nat_lt t (repair_holds_until now dist calls k) || b && nat_lt t (repair_holds_until now dist calls n)) (sym (same_name-is n m e)) ∙ both b (nat_lt t (repair_holds_until now dist calls n))
     go false e b = refl
 
-any_append : (calls more : List FixCall) (n : FullName) (t : ℕ) → calls_hold_off (calls ++ more) n t ≡ (calls_hold_off calls n t || list_any (call_holds_off n t) more)
-any_append calls more n t = list_any-append (call_holds_off n t) calls more
-
 cancels : (b : Bool) (o : Option Armed) (last : Option (Option Armed)) → flat last ≡ o → option_map runs_out_at (flat (or_else (cancelled b) last)) ≡ (if b then None else option_map runs_out_at o)
 cancels true o last e = refl
 cancels false o last e = ap (option_map runs_out_at) e
@@ -234,7 +231,7 @@ fix_timer-repairs now dist calls names n =
 
 pub calls_hold_off-repairs : (now : ℕ) (dist : List ℕ) (calls : List FixCall) (names : List FullName) (n : FullName) (t : ℕ)
     → calls_hold_off (calls ++ repair_calls now dist calls names) n t ≡ (calls_hold_off calls n t || among names n && nat_lt t (repair_holds_until now dist calls n))
-calls_hold_off-repairs now dist calls names n t = any_append calls (repair_calls now dist calls names) n t ∙ ap (λ b. calls_hold_off calls n t || b) (repairs_hold now dist calls names n t)
+calls_hold_off-repairs now dist calls names n t = list_any-append (call_holds_off n t) calls (repair_calls now dist calls names) ∙ ap (λ b. calls_hold_off calls n t || b) (repairs_hold now dist calls names n t)
 
 pub repairs_all : (now : ℕ) (dist : List ℕ) (names : List FullName) (a b : FixContent) → b.d1 ≡ a.d1 → b.d2 ≡ a.d2 → KeepsValues a.askers b.askers → ClearsAll names a.expiries.places b.expiries.places
     → HoldAllOff now dist names a.askers a.held_off b.held_off → FixRepairs now dist names a b
@@ -249,7 +246,7 @@ repairs_all now dist names a b p q askers expiries off = record {
         ∙ cancels (among names n) (fix_timer calls n) (last_of (fix_timer_after n) calls) refl);
     held_off = λ n t. off.each n t ∙ ap (λ b. b || among names n && nat_lt t (held_off_until now dist a.askers n)) (h.held_off n t)
         ∙ ap (λ o. calls_hold_off calls n t || among names n && nat_lt t (now + 3 * distance_to dist (unwrap_or o n.stream.source))) (h.askers n)
-        ∙ sym (any_append calls (repair_calls now dist calls names) n t ∙ ap (λ b. calls_hold_off calls n t || b) (repairs_hold now dist calls names n t));
+        ∙ sym (list_any-append (call_holds_off n t) calls (repair_calls now dist calls names) ∙ ap (λ b. calls_hold_off calls n t || b) (repairs_hold now dist calls names n t));
   };
 }
 
