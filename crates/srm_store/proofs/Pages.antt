@@ -2,7 +2,7 @@
 use Rattle.std.proofs.Common.{◌≡◌, suc, ◌<◌, ◌≤◌, List, [], ◌∷◌, ◌++◌, Bool, true, false, not, length, append_assoc, refl, sym, ap, ◌∙◌, arith}
 use Rattle.std.specs.Prelude.{filter, if◌then◌else◌, ◌||◌}
 use Rattle.std.proofs.lemmas.List.{append-nil}
-use Rattle.std.proofs.lemmas.Bool.{false≢true, not-true, and_parts, and_from, or_parts, ltb-false}
+use Rattle.std.proofs.lemmas.Bool.{false≢true, not-true, and_parts, and_from, or_parts, or_right, ltb-false}
 use Rattle.srm_names.specs.declared.limits.TheConstants.{PAGES}
 use Rattle.srm_names.specs.declared.page.Page.{Page}
 use Rattle.srm_names.specs.Histories.{firsts}
@@ -69,15 +69,8 @@ length-included (x ∷ pages) others once within =
     let out = not-true (is_in pages x) parts.0 in
     let there : is_in others x ≡ true = within x (rw (same_page-itself x) refl) in
     let fewer = length-included pages (filter (λ y. not (same_page x y)) others) parts.1
-    (λ p h. still_without x p others (other_of x p pages out h) ∙ within p (back x p pages h)) in
+    (λ p h. still_without x p others (other_of x p pages out h) ∙ within p (or_right (same_page x p) (is_in pages p) h)) in
     omega (arith, fewer, shorter_by_it x others there)
-  where
-    back : (x p : Page) (pages : List Page) → is_in pages p ≡ true → (same_page x p || is_in pages p) ≡ true
-    back x p pages h = go (same_page x p)
-      where
-        go : (b : Bool) → (b || is_in pages p) ≡ true
-        go true = refl
-        go false = h
 
 -- a part of pages that stand once each
 once_without : (p : Page) (pages : List Page) → each_once pages ≡ true → each_once (filter (λ y. not (same_page p y)) pages) ≡ true
@@ -107,13 +100,9 @@ once_pushed : (pages : List Page) (p : Page) → each_once pages ≡ true → is
 once_pushed [] p once out = refl
 once_pushed (q ∷ pages) p once out =
     let parts = and_parts (not (is_in pages q)) (each_once pages) once in
-    let o = outside (same_page q p) out in
+    let o = or_parts (same_page q p) (is_in pages p) out in
     let still : is_in (pages ++ p ∷ []) q ≡ false = list_any-snoc (λ r. same_page r q) pages p ∙ rw (not-true (is_in pages q) parts.0, same_page-flip p q, o.0) refl in
     and_from _ _ (ap not still) (once_pushed pages p parts.1 o.1)
-  where
-    outside : (b : Bool) → (b || is_in pages p) ≡ false → (b ≡ false) × (is_in pages p ≡ false)
-    outside false e = (refl, e)
-    outside true e = cc
 
 pub once_with : (pages : List Page) (p : Page) → each_once pages ≡ true → each_once (with_page pages p) ≡ true
 once_with pages p once = go (is_in pages p) refl

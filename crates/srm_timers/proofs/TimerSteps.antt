@@ -1,6 +1,7 @@
 -- One more timer that is set, in a list that is gone through.
 use Rattle.std.proofs.Common.{◌≡◌, ℕ, zero, suc, ◌+◌, ◌<◌, ◌≤◌, List, [], ◌∷◌, ◌++◌, length, get_or, take, Option, Some, None, Bool, true, false, ◌||◌, refl, sym, ap, ◌∙◌, arith}
 use Rattle.std.specs.Prelude.{if◌then◌else◌}
+use Rattle.std.proofs.lemmas.Bool.{or_right}
 use Rattle.std.proofs.lemmas.List.{take_more, take_all, map-id}
 use Rattle.srm_names.specs.FullName.{FullName}
 use Rattle.srm_names.specs.Histories.{or_else, last_of}
@@ -45,11 +46,7 @@ front_all now arms i old new le rising h = record {
 arm_among : (arms : List Arm) (i : ℕ) (a : Arm) → i < length arms → among (arm_names arms) (get_or arms i a).name ≡ true
 arm_among [] i a lt = absurd (omega arith)
 arm_among (b ∷ arms) zero a lt = ap (λ k. k || among (arm_names arms) b.name) (same_name-itself b.name)
-arm_among (b ∷ arms) (suc i) a lt = go (same_name (get_or arms i a).name b.name) (arm_among arms i a (omega arith))
-  where
-    go : (b : Bool) → among (arm_names arms) (get_or arms i a).name ≡ true → (b || among (arm_names arms) (get_or arms i a).name) ≡ true
-    go true h = refl
-    go false h = h
+arm_among (b ∷ arms) (suc i) a lt = or_right (same_name (get_or arms i a).name b.name) (among (arm_names arms) (get_or arms i a).name) (arm_among arms i a (omega arith))
 
 -- each arm of the list has a place
 pub arm_place : {V : Type 0} (arms : List Arm) (i : ℕ) (a : Arm) (old new : List (NamedValue V)) → i < length arms → a ≡ get_or arms i a → HasPlaces (arm_names arms) old → KeepsPlaces old new → has_place new a.name ≡ true
