@@ -1,8 +1,8 @@
 -- Requests for several names: the names that one request covers, and the requests one after the other.
 use Rattle.std.proofs.Common.{◌≡◌, ℕ, ◌+◌, ◌-◌, ◌*◌, ◌%◌, ◌^◌, ◌<◌, ◌≤◌, Bool, true, false, ◌&&◌, ◌||◌, suc, List, [], ◌∷◌, ◌++◌, length, get_or, drop, map, refl, ap, sym, ◌∙◌, subst, inl, inr, arith, append_assoc}
-use Rattle.std.specs.Prelude.{◌⊎◌, Option, Some, cond, filter, nat_lt, nat_le, if◌then◌else◌}
+use Rattle.std.specs.Prelude.{◌⊎◌, Option, Some, cond, filter, nat_lt, nat_le}
 use Rattle.std.specs.List.{AllByRecursion}
-use Rattle.std.proofs.lemmas.Bool.{and_parts, and_from, false_from_ne_true, lt-ltb, ltb-true, le-leb, leb-true}
+use Rattle.std.proofs.lemmas.Bool.{and_parts, and_from, cond-true, cond-false, false_from_ne_true, lt-ltb, ltb-true, le-leb, leb-true}
 use Rattle.std.proofs.lemmas.Bool.Decides.{nat_tests}
 use Rattle.std.proofs.lemmas.List.{append-nil}
 use Rattle.std.proofs.lemmas.List.Sums.{sum_by-cons}
@@ -168,23 +168,17 @@ pub record PackedSoFar (me : ℕ) (asks left : List FullName) (last : Option Ful
 
 pub packs_covered : (me : ℕ) (asks ns : List FullName) (n : FullName) (last : Option FullName) (requests : List Datagram) → is_covered_by last n ≡ true → PackedSoFar me asks (n ∷ ns) last requests → PackedSoFar me asks ns last requests
 packs_covered me asks ns n last requests e p = record {
-  packs = ap (λ gs. requests ++ gs) (sym (at (is_covered_by last n) e)) ∙ p.packs;
+  packs = ap (λ gs. requests ++ gs) (sym (cond-true (is_covered_by last n) (packed_after me last ns) (Request me n (mask_of n ns) ∷ packed_after me (Some n) ns) e)) ∙ p.packs;
   each = p.each;
 }
-  where
-    at : (b : Bool) → b ≡ true → (if b then packed_after me last ns else Request me n (mask_of n ns) ∷ packed_after me (Some n) ns) ≡ packed_after me last ns
-    at b e = ap (λ (x : Bool). if x then packed_after me last ns else Request me n (mask_of n ns) ∷ packed_after me (Some n) ns) e
 
 pub packs_more : (me : ℕ) (asks ns : List FullName) (n : FullName) (last : Option FullName) (requests : List Datagram) (r : Datagram) → is_covered_by last n ≡ false → r ≡ Request me n (mask_of n ns) → IsSpellable r
     → PackedSoFar me asks (n ∷ ns) last requests → PackedSoFar me asks ns (Some n) (requests ++ r ∷ [])
 packs_more me asks ns n last requests r e is spelled p = record {
   packs = append_assoc requests (r ∷ []) (packed_after me (Some n) ns)
-      ∙ ap (λ gs. requests ++ gs) (ap (λ g. g ∷ packed_after me (Some n) ns) is ∙ sym (at (is_covered_by last n) e)) ∙ p.packs;
+      ∙ ap (λ gs. requests ++ gs) (ap (λ g. g ∷ packed_after me (Some n) ns) is ∙ sym (cond-false (is_covered_by last n) (packed_after me last ns) (Request me n (mask_of n ns) ∷ packed_after me (Some n) ns) e)) ∙ p.packs;
   each = AllByRecursion-snoc (MayHandIn me) requests r p.each (record { sender = ap sender_of is; charged = ap is_session is; spellable = spelled });
 }
-  where
-    at : (b : Bool) → b ≡ false → (if b then packed_after me last ns else Request me n (mask_of n ns) ∷ packed_after me (Some n) ns) ≡ Request me n (mask_of n ns) ∷ packed_after me (Some n) ns
-    at b e = ap (λ (x : Bool). if x then packed_after me last ns else Request me n (mask_of n ns) ∷ packed_after me (Some n) ns) e
 
 pub packs_all : (me : ℕ) (asks : List FullName) (last : Option FullName) (requests : List Datagram) → PackedSoFar me asks [] last requests → requests ≡ packed me asks
 packs_all me asks last requests p = sym (append-nil requests) ∙ p.packs
