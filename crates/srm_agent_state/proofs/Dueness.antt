@@ -5,7 +5,7 @@ use Rattle.srm_names.specs.declared.limits.TheConstants.{MEMBERS}
 use Rattle.srm_names.specs.FullName.{FullName}
 use Rattle.srm_names.specs.Histories.{or_else, first_of}
 use Rattle.srm_names.specs.Names.{same_name, name_below, ascending, among}
-use Rattle.srm_names.proofs.Lists.{All-Has, all_by, find-Has}
+use Rattle.srm_names.proofs.Lists.{All-Has, all_by, find-Has, is_some_map}
 use Rattle.srm_names.proofs.Same.{same_name-is}
 use Rattle.srm_names.proofs.Snoc.{or_else-none}
 use Rattle.srm_timers.specs.declared.arm.Arm.{Arm}
@@ -74,10 +74,6 @@ of_member arms n None e all some = absurd (cc)
 of_member arms n (Some a) e all some =
     subst (λ (m : FullName). m.stream.source < MEMBERS) (sym (same_name-is n a.name (find-Has (λ (x : Arm). same_name n x.name) arms a e).1))
     (All-Has (λ (x : Arm). x.name.stream.source < MEMBERS) a arms all.each (find-Has (λ (x : Arm). same_name n x.name) arms a e).0)
-
-is_some_map : {X Y : Type 0} (f : X → Y) (o : Option X) → is_some (option_map f o) ≡ is_some o
-is_some_map f None = refl
-is_some_map f (Some x) = refl
 
 -- which names a tick asks for and repairs
 pub ticks_right : (now : ℕ) (past : List Entry) (e : Entry) (arms : List Arm) (asked fixed : List FullName) → TicksWith asked fixed now arms e → is_gone (state past) ≡ false → AreToAsk now past asked → AreToFix now past fixed

@@ -7,6 +7,7 @@ use Rattle.srm_names.specs.declared.stream.Stream.{Stream}
 use Rattle.srm_names.specs.FullName.{FullName}
 use Rattle.srm_names.specs.Histories.{or_else}
 use Rattle.srm_names.specs.Names.{name_below, ascending, among, named}
+use Rattle.srm_names.proofs.Lists.{is_some_map}
 use Rattle.srm_names.proofs.Same.{same_stream-is}
 use Rattle.srm_names.proofs.Rising.{ascending_joined}
 use Rattle.srm_codec.specs.declared.datagram.Datagram.{Datagram}
@@ -123,11 +124,7 @@ request_adds next_word start to c past e g from asked newly_missing dist now ans
     answered_known n k = wanted_known c past from dist now n (go (among asked n) refl)
       where
         some : (q : Bool) → among asked n ≡ q → is_some (if q then wanted c past from dist now n else None) ≡ true
-        some q t = ap (λ (b : Bool). is_some (if b then wanted c past from dist now n else None)) (sym t) ∙ sym (ap is_some (a.exact n)) ∙ is_some_setting (arm_of n answers) ∙ arm_named n answers ∙ k
-          where
-            is_some_setting : (o : Option Arm) → is_some (option_map wait_basis o) ≡ is_some o
-            is_some_setting None = refl
-            is_some_setting (Some x) = refl
+        some q t = ap (λ (b : Bool). is_some (if b then wanted c past from dist now n else None)) (sym t) ∙ sym (ap is_some (a.exact n)) ∙ is_some_map wait_basis (arm_of n answers) ∙ arm_named n answers ∙ k
 
         go : (q : Bool) → among asked n ≡ q → is_some (wanted c past from dist now n) ≡ true
         go true t = some true t

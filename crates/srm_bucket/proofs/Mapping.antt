@@ -1,10 +1,11 @@
 -- The law of calls over some values is that of the calls read as over others: it speaks of classes, lengths and moments alone.
 use Rattle.std.proofs.Common.{◌≡◌, ℕ, ◌<◌, ◌==◌, max, Bool, true, false, List, [], ◌∷◌, ◌++◌, map, length, drop, refl, ap, sym, ◌∙◌, subst}
-use Rattle.std.specs.Prelude.{Option, Some, None, if◌then◌else◌, option_map, is_some, nat_le, IfSome}
+use Rattle.std.specs.Prelude.{Option, Some, None, if◌then◌else◌, option_map, nat_le, IfSome}
 use Rattle.std.specs.Bool.{OnTrue}
 use Rattle.std.specs.List.{flat_map, AllByRecursion}
 use Rattle.std.proofs.lemmas.List.{map-append, length-map, drop-map}
 use Rattle.srm_names.specs.Histories.{steps_after, or_else}
+use Rattle.srm_names.proofs.Lists.{is_some_map}
 use Rattle.srm_bucket.specs.declared.class.Class.{Class}
 use Rattle.srm_bucket.specs.declared.class.Class.TheVariants.{Shown, New, Other}
 use Rattle.srm_bucket.specs.declared.item.Item.{Item}
@@ -98,13 +99,9 @@ module _ {T U : Type 0} (f : T → U) where
   cost-read None = refl
   cost-read (Some c) = refl
 
-  some-read : (o : Option (Classed T)) → is_some (option_map (read_classed f) o) ≡ is_some o
-  some-read None = refl
-  some-read (Some c) = refl
-
   joined-read : (p : Pop T) (ts : List Tick) → joined (read_pop f p) ts ≡ joined p ts
   joined-read p [] = ap (λ n. record { moment = p.moment; cost = n } ∷ []) (cost-read p.went)
-  joined-read p (t ∷ ts) = rw (some-read p.went, cost-read p.went) refl
+  joined-read p (t ∷ ts) = rw (is_some_map (read_classed f) p.went, cost-read p.went) refl
 
   parted-read : (ps : List (Pop T)) → parted (map (read_pop f) ps) ≡ parted ps
   parted-read [] = refl

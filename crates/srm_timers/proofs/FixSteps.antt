@@ -9,6 +9,7 @@ use Rattle.srm_names.specs.declared.limits.TheConstants.{MEMBERS}
 use Rattle.srm_names.specs.FullName.{FullName}
 use Rattle.srm_names.specs.Histories.{last_of, first_of, or_else}
 use Rattle.srm_names.specs.Names.{same_name, name_below, ascending, among, AreExactly}
+use Rattle.srm_names.proofs.Lists.{is_some_map}
 use Rattle.srm_names.proofs.Same.{same_name-is, same_name-itself}
 use Rattle.srm_names.proofs.Snoc.{or_else-none, last_of-snoc, last_of-append, first_of-snoc, list_any-snoc}
 use Rattle.srm_timers.specs.declared.arm.Arm.{Arm}
@@ -262,16 +263,12 @@ fix_stays a b p q expiries askers held_off = record {
   };
 }
 
-some_map : (o : Option Armed) → is_some (option_map runs_out_at o) ≡ is_some o
-some_map None = refl
-some_map (Some a) = refl
-
 -- whether a request sets the timer of a name
 pub free_is : (d1 d2 : ℕ) (calls : List FixCall) (a : FixContent) (n : FullName) (now : ℕ) → FixFits d1 d2 calls a
     → (not (is_some (value_at a.expiries.places n)) && not (nat_lt now (unwrap_or (value_at a.held_off n) 0))) ≡ is_free calls n now
 free_is d1 d2 calls a n now h =
     ap (λ o. not (is_some o) && not (nat_lt now (unwrap_or (value_at a.held_off n) 0))) (h.expiries n)
-    ∙ ap (λ b. not b && not (nat_lt now (unwrap_or (value_at a.held_off n) 0))) (some_map (fix_timer calls n))
+    ∙ ap (λ b. not b && not (nat_lt now (unwrap_or (value_at a.held_off n) 0))) (is_some_map runs_out_at (fix_timer calls n))
     ∙ ap (λ b. not (is_some (fix_timer calls n)) && not b) (h.held_off n now)
 
 pub fix_stays_on : (a b c : FixContent) → FixStays a b → FixStays b c → FixStays a c
