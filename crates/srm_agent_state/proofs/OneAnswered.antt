@@ -8,6 +8,7 @@ use Rattle.srm_names.specs.declared.drawop.Drawop.{Drawop}
 use Rattle.srm_names.specs.FullName.{FullName}
 use Rattle.srm_names.specs.Histories.{or_else, first_of}
 use Rattle.srm_names.specs.Names.{same_name, name_below, ascending, among}
+use Rattle.srm_names.proofs.Lists.{is_none}
 use Rattle.srm_names.proofs.Same.{same_name-is, same_name-itself}
 use Rattle.srm_names.proofs.Snoc.{or_else-none}
 use Rattle.srm_names.proofs.Rising.{ascending_joined, ascending_take}
@@ -25,7 +26,6 @@ use Rattle.srm_timers.specs.AskCalls.{AskCall, AskContent, AskFits, AskAdds, ask
 use Rattle.srm_timers.specs.AskCalls as asks
 use Rattle.srm_timers.specs.FixCalls.{FixCall, Asked, FixAdds, fix_timer, asked_first, calls_hold_off, is_free, sets_fix}
 use Rattle.srm_timers.specs.FixCalls as fixes
-use Rattle.srm_store.proofs.Placing.{is_none}
 use Rattle.srm_timers.proofs.AskSteps.{ask_timer-sets}
 use Rattle.srm_timers.proofs.FixSteps.{asked_first-snoc, asked_first-append, no_asker-sets, fix_timer-asked, fix_timer-sets, calls_hold_off-asked, calls_hold_off-append, none_off-sets}
 use Rattle.srm_entries.specs.Configs.{Config}

@@ -7,6 +7,7 @@ use Rattle.std.proofs.lemmas.List.{length-set, get_or-set_same, get_or-set_other
 use Rattle.std.proofs.lemmas.Nat.{div-add-mod', mod_below}
 use Rattle.std.proofs.lemmas.Option.{none-some}
 use Rattle.srm_names.specs.Moments.{has_come}
+use Rattle.srm_names.proofs.Lists.{is_none}
 use Rattle.srm_deadlines.specs.Least.{lesser}
 use Rattle.srm_deadlines.specs.MomentLists.{item_at, IsUnder, IsLeastIn, IsFirstIn, AreLeasts}
 
@@ -303,16 +304,12 @@ pub found_here : (now : ℕ) (moments seen view : List (Option ℕ)) (from high 
 found_here now moments seen view from high len None is same long le some h = absurd (let k : false ≡ true = some in cc)
 found_here now moments seen view from high len (Some k) is same long le some h = subst (λ r. IsFirstIn now r from (length r) (Some k)) (is ∙ same) (first_here now seen from high (Some k) k refl (omega arith) h)
 
-not_some : (o : Option ℕ) → is_some o ≡ false → o ≡ None
-not_some None e = refl
-not_some (Some k) e = absurd (let k : true ≡ false = e in cc)
-
 pub found_nowhere : (now : ℕ) (above moments seen view : List (Option ℕ)) (from high len : ℕ) (here over found : Option ℕ) → AreLeasts above moments → seen ≡ moments → moments ≡ view → length seen ≡ len
     → (high ≡ from / 16 * 16 + 16) ⊎ (high ≡ len) → is_some here ≡ false → IsFirstIn now seen from high here → over ≡ None → IsFirstIn now above (from / 16 + 1) (length above) over → found ≡ None
     → IsFirstIn now view from (length view) found
 found_nowhere now above moments seen view from high len here over found h is same long whole none f none' g e =
     subst (λ r. IsFirstIn now r from (length r) found) same (subst (IsFirstIn now moments from (length moments)) (sym e)
-    (first_nowhere now above moments from high here over h (whole_of _ high len _ (omega arith) whole moments (ap length (sym is) ∙ long)) (not_some here none) (subst (λ r. IsFirstIn now r from high here) is f) none' g))
+    (first_nowhere now above moments from high here over h (whole_of _ high len _ (omega arith) whole moments (ap length (sym is) ∙ long)) (is_none here none) (subst (λ r. IsFirstIn now r from high here) is f) none' g))
 
 pub found_later : (now : ℕ) (above moments seen seen' view : List (Option ℕ)) (from high j end len : ℕ) (here over found : Option ℕ) → AreLeasts above moments → seen ≡ moments → seen' ≡ moments → moments ≡ view → length seen ≡ len
     → (high ≡ from / 16 * 16 + 16) ⊎ (high ≡ len) → is_some here ≡ false → IsFirstIn now seen from high here → over ≡ Some j → IsFirstIn now above (from / 16 + 1) (length above) over
@@ -320,7 +317,7 @@ pub found_later : (now : ℕ) (above moments seen seen' view : List (Option ℕ)
 found_later now above moments seen seen' view from high j end len here over found h is is' same long whole none f some g whole' last =
     let long' : length moments ≡ len = ap length (sym is) ∙ long in
     subst (λ r. IsFirstIn now r from (length r) found) same
-    (first_later now above moments from high j end here over found h (whole_of _ high len _ (omega arith) whole moments long') (not_some here none) (subst (λ r. IsFirstIn now r from high here) is f) some g
+    (first_later now above moments from high j end here over found h (whole_of _ high len _ (omega arith) whole moments long') (is_none here none) (subst (λ r. IsFirstIn now r from high here) is f) some g
     (whole_of _ end len _ (omega arith) whole' moments long') (subst (λ l. IsFirstIn now moments l end found) (let e : j * 16 ≡ 16 * j = omega arith in e) (subst (λ r. IsFirstIn now r (j * 16) end found) is' last)))
 
 pub first_within : (now : ℕ) (above moments : List (Option ℕ)) (low high j : ℕ) (over : Option ℕ) → AreLeasts above moments → over ≡ Some j → IsFirstIn now above low high over → j * 16 < length moments

@@ -125,10 +125,6 @@ pub copied_some : {X : Type 0} (o : Option (Bor X)) (p : Option X) → option_co
 copied_some None p e = ap is_some (sym e)
 copied_some (Some x) p e = ap is_some (sym e)
 
-pub is_none : {X : Type 0} (o : Option X) → is_some o ≡ false → o ≡ None
-is_none None e = refl
-is_none (Some x) e = cc
-
 -- one more filled place
 pub filled_more : (bs : List (List (Option Drawop))) (front : ℕ) → ((n : ℕ) → 1 ≤ n → n ≤ front → IsSome (place_at bs n)) → IsSome (place_at bs (front + 1)) → (n : ℕ) → 1 ≤ n → n ≤ front + 1 → IsSome (place_at bs n)
 filled_more bs front before here n low high = go (cases_eq n (front + 1))

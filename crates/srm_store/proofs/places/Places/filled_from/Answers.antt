@@ -1,7 +1,8 @@
 use Rattle.std.proofs.Common.{◌∙◌, ◌+◌, ap, sym, arith}
 use Rattle.srm_names.specs.declared.limits.TheConstants.{DRAWOPS}
+use Rattle.srm_names.proofs.Lists.{is_none}
 use Rattle.srm_store.specs.Places.{place_at}
-use Rattle.srm_store.proofs.Placing.{copied_some, is_none, filled_more}
+use Rattle.srm_store.proofs.Placing.{copied_some, filled_more}
 use Rattle.srm_store.proofs.places.Places.filled_from.Goals as goal
 
 pub returns-then-is_none-clause-filled : goal.returns-then-is_none-clause-filled
