@@ -18,7 +18,7 @@ use Rattle.srm_names.specs.Histories.{steps, greatest, firsts, first_of}
 use Rattle.srm_names.specs.Names.{first_page, same_page, same_stream, named, stream_on}
 use Rattle.srm_names.proofs.Same.{same_page-is, same_page-itself, same_stream-is, same_stream-itself}
 use Rattle.srm_names.proofs.Lists.{Has, Has-append, Has-front, Has-back, Has-map, map-Has, AllByRecursion-snoc}
-use Rattle.srm_names.proofs.Snoc.{along, first_of-snoc, or_else-none}
+use Rattle.srm_names.proofs.Snoc.{along, first_of-snoc, or_else-none, flat_map-snoc}
 use Rattle.srm_codec.specs.declared.datagram.Datagram.{Datagram}
 use Rattle.srm_codec.specs.declared.datagram.Datagram.TheVariants.{Data}
 use Rattle.srm_codec.specs.Spelling.{is_drawop, length_of, sender_of, is_session}
@@ -58,7 +58,7 @@ use Rattle.srm_agent.specs.Noting.{HasEntry, IsAllowed, IsDrawnName, Enters, Sta
 use Rattle.srm_agent.specs.declared.agent.drafting.Draft.{Draft}
 use Rattle.srm_agent.specs.Drawing.{refusals, name_after, drawn_entry, IsDraftOf}
 use Rattle.srm_agent_state.specs.Growth.{HoldsToo}
-use Rattle.srm_entries.proofs.Adding.{known-snoc, is_missing-snoc, flat_map-snoc, last_ask-snoc, fix_running-snoc, held_off-snoc}
+use Rattle.srm_entries.proofs.Adding.{known-snoc, is_missing-snoc, last_ask-snoc, fix_running-snoc, held_off-snoc}
 use Rattle.srm_entries.proofs.Showing.{kind, shown_drawing, shown_hearing, shown_quiet, shown-snoc, held-snoc, drawn-snoc, state-snoc, held_is_shown, refused_is_not_done}
 use Rattle.srm_entries.proofs.Quiet.{same_settlings, same_distances}
 use Rattle.srm_entries.proofs.Running.{steps_more, last_moment-snoc, shown-page-snoc}

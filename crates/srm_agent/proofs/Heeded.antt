@@ -13,6 +13,7 @@ use Rattle.srm_names.specs.Histories.{greatest}
 use Rattle.srm_names.specs.Names.{same_stream, stream_on}
 use Rattle.srm_names.proofs.Same.{same_stream-is}
 use Rattle.srm_names.proofs.Lists.{AllByRecursion-append}
+use Rattle.srm_names.proofs.Snoc.{flat_map-snoc}
 use Rattle.srm_codec.specs.declared.datagram.Datagram.{Datagram}
 use Rattle.srm_codec.specs.declared.datagram.Datagram.TheVariants.{Data, Request, Repair, Session}
 use Rattle.srm_codec.specs.Spelling.{names_in, is_drawop, IsSpellable}
@@ -36,7 +37,7 @@ use Rattle.srm_agent.specs.Contents.{Content}
 use Rattle.srm_agent.specs.Fits.{Fits}
 use Rattle.srm_agent.specs.Heeding.{heard_entry}
 use Rattle.srm_agent.specs.Noting.{Enters, IsAllowed}
-use Rattle.srm_entries.proofs.Adding.{flat_map-snoc, known-snoc}
+use Rattle.srm_entries.proofs.Adding.{known-snoc}
 use Rattle.srm_entries.proofs.Showing.{state-snoc, held-snoc, shown-snoc, drawn-snoc, hearing_fine}
 use Rattle.srm_entries.proofs.Running.{steps_more, last_moment-snoc, shown-page-snoc}
 use Rattle.srm_agent.proofs.Slotted.{slots-all}

@@ -9,6 +9,7 @@ use Rattle.std.proofs.lemmas.Bool.{and_right}
 use Rattle.std.proofs.lemmas.Bool.Decides.{nat_tests}
 use Rattle.std.proofs.lemmas.List.Sums.{sum_by-append}
 use Rattle.srm_names.specs.Histories.{steps}
+use Rattle.srm_names.proofs.Snoc.{flat_map-snoc}
 use Rattle.srm_timers.specs.declared.arm.Armed.{Armed}
 use Rattle.srm_timers.specs.Arms.{ran_out}
 use Rattle.srm_deadlines.specs.Least.{lesser}
@@ -43,7 +44,6 @@ use Rattle.srm_agent_state.proofs.Midway.{before_first, before_second}
 use Rattle.srm_agent.specs.Ticking.{tick_entry}
 use Rattle.srm_outbox.specs.Outbox.{Passes}
 use Rattle.srm_agent.specs.Waking.{IsEarly, session_message_next, sooner_of}
-use Rattle.srm_entries.proofs.Adding.{flat_map-snoc}
 use Rattle.srm_entries.proofs.Ending.{ending_of, ending_is}
 use Rattle.srm_entries.proofs.Marking.{bucket_calls-snoc, entries-snoc, went_length}
 use Rattle.srm_agent.proofs.Quiet.{no_arms}

@@ -6,12 +6,12 @@ use Rattle.srm_names.specs.declared.limits.TheConstants.{PAGES}
 use Rattle.srm_names.specs.declared.page.Page.{Page}
 use Rattle.srm_names.specs.Histories.{firsts}
 use Rattle.srm_names.specs.Names.{first_page, same_page}
+use Rattle.srm_names.proofs.Snoc.{flat_map-snoc}
 use Rattle.srm_store.specs.PageTables.{with_page, with_pages}
 use Rattle.srm_store.proofs.Pages.{each_once-firsts, firsts_each_once, firsts_all}
 use Rattle.srm_entries.specs.declared.entry.Entry.{Entry}
 use Rattle.srm_entries.specs.Entries.{done, slots, pages_in}
 use Rattle.srm_entries.specs.Verdicts.{lacks_slots_for}
-use Rattle.srm_entries.proofs.Adding.{flat_map-snoc}
 
 -- the pages that one more entry names
 pub slots-all : (past : List Entry) (e : Entry) → slots (past ++ e ∷ []) ≡ with_pages (slots past) (pages_in (done e))

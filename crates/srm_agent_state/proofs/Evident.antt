@@ -10,7 +10,7 @@ use Rattle.srm_names.specs.Names.{same_stream, same_name, among}
 use Rattle.srm_store.specs.Held.{greatest_in, number_in}
 use Rattle.srm_names.proofs.Same.{same_name-itself}
 use Rattle.srm_names.proofs.Lists.{greatest-append}
-use Rattle.srm_entries.proofs.Adding.{flat_map-snoc}
+use Rattle.srm_names.proofs.Snoc.{flat_map-snoc}
 
 -- the greatest number of a stream among names, and one more
 

@@ -7,6 +7,7 @@ use Rattle.srm_names.specs.declared.limits.TheConstants.{MEMBERS}
 use Rattle.srm_names.specs.declared.stream.Stream.{Stream}
 use Rattle.srm_names.specs.FullName.{FullName}
 use Rattle.srm_names.specs.Names.{name_below, ascending, among}
+use Rattle.srm_names.proofs.Snoc.{flat_map-snoc}
 use Rattle.srm_codec.specs.declared.datagram.Datagram.{Datagram}
 use Rattle.srm_codec.specs.declared.datagram.Datagram.TheVariants.{Data, Request, Repair, Session}
 use Rattle.srm_codec.specs.Spelling.{asked_by, is_name, IsSpellable, names_in}
@@ -17,7 +18,7 @@ use Rattle.srm_distance.specs.Distance as defined
 use Rattle.srm_entries.specs.Distances.{distance, distance_calls, calls_in, calls_of}
 use Rattle.srm_entries.specs.Timers.{asker, asker_in, repaired, repairs_in}
 use Rattle.srm_agent_state.specs.TimerCalls.{IsRequestOf}
-use Rattle.srm_entries.proofs.Adding.{gains, flat_map-snoc}
+use Rattle.srm_entries.proofs.Adding.{gains}
 use Rattle.srm_agent_state.proofs.Missing.{gains_heard, unrepaired}
 use Rattle.srm_agent_state.proofs.AskedNames.{asked_rise, asked_in_stream}
 use Rattle.srm_agent_state.proofs.OneAnswered.{asked_if}

@@ -8,6 +8,7 @@ use Rattle.std.proofs.lemmas.Option.{same_Some, none-some, unwrap_or-slice_get}
 use Rattle.srm_names.specs.declared.page_msg.PageMsg.{PageMsg}
 use Rattle.srm_names.specs.Histories.{Step, steps_after, greatest}
 use Rattle.srm_names.proofs.Lists.{AllByRecursion-snoc, by_place, from_places, at_place, rest_first}
+use Rattle.srm_names.proofs.Snoc.{flat_map-snoc}
 use Rattle.srm_bucket.specs.Law.{BucketLaw}
 use Rattle.srm_entries.specs.Configs.{Config}
 use Rattle.srm_entries.specs.declared.entry.Entry.{Entry}
@@ -19,7 +20,6 @@ use Rattle.srm_entries.specs.Giving.{given, taken, taken_in}
 use Rattle.srm_entries.specs.Bucket.{Going, GoesAsCharged, bucket_calls, BucketRight}
 use Rattle.srm_entries.specs.Runs.{EntryRight, IsMemberRun}
 use Rattle.srm_entries.specs.declared.state.AgentState.TheVariants.{Active}
-use Rattle.srm_entries.proofs.Adding.{flat_map-snoc}
 use Rattle.srm_entries.proofs.Cutting.{bucket_calls-append}
 use Rattle.srm_entries.proofs.Feeding.{given-snoc, taken-snoc}
 use Rattle.srm_entries.proofs.Showing.{state-snoc}

@@ -2,9 +2,8 @@
 use Rattle.std.proofs.Common.{◌≡◌, ℕ, ◌+◌, ◌*◌, ◌-◌, ◌≤◌, min, max, List, [], ◌∷◌, ◌++◌, map, Option, sym, ap, subst, ◌∙◌, arith, append_assoc}
 use Rattle.std.specs.List.{flat_map, AllByRecursion}
 use Rattle.std.proofs.lemmas.List.{append-nil, map-append, map_push}
-use Rattle.std.proofs.lemmas.Grind.{flat_map-append}
 use Rattle.srm_names.specs.Histories.{Step, steps, greatest}
-use Rattle.srm_names.proofs.Snoc.{steps-snoc, greatest-snoc}
+use Rattle.srm_names.proofs.Snoc.{steps-snoc, greatest-snoc, flat_map-snoc}
 use Rattle.srm_names.proofs.Lists.{AllByRecursion-snoc}
 use Rattle.srm_bucket.specs.declared.class.Class.{Class}
 use Rattle.srm_bucket.specs.Calls.{Classed, Call, Popped}
@@ -22,17 +21,10 @@ last-snoc calls c = ap greatest (map-append moment_of calls (c ∷ [])) ∙ grea
 pops-snoc : {T : Type 0} (calls : List (Call T)) (c : Call T) → pops (calls ++ c ∷ []) ≡ pops calls ++ popped_in calls c
 pops-snoc calls c =
     ap (flat_map popped_at) (steps-snoc calls c)
-    ∙ flat_map-append popped_at (steps calls) (record { before = calls; this = c } ∷ [])
-    ∙ ap (λ ps. pops calls ++ ps) (append-nil (popped_in calls c))
+    ∙ flat_map-snoc popped_at (steps calls) (record { before = calls; this = c })
 
 pub ticks-same : {T : Type 0} (calls : List (Call T)) (c : Call T) → popped_in calls c ≡ [] → ticks (calls ++ c ∷ []) ≡ ticks calls
 ticks-same calls c none = ap parted (pops-snoc calls c ∙ ap (λ ps. pops calls ++ ps) none ∙ append-nil (pops calls))
-
-departed-snoc : {T : Type 0} (k : Class) (calls : List (Call T)) (c : Call T) → departed k (calls ++ c ∷ []) ≡ departed k calls ++ departed_in k c
-departed-snoc k calls c = flat_map-append (departed_in k) calls (c ∷ []) ∙ ap (λ xs. departed k calls ++ xs) (append-nil (departed_in k c))
-
-handed-snoc : {T : Type 0} (k : Class) (calls : List (Call T)) (c : Call T) → handed k (calls ++ c ∷ []) ≡ handed k calls ++ handed_in k c
-handed-snoc k calls c = flat_map-append (handed_in k) calls (c ∷ []) ∙ ap (λ xs. handed k calls ++ xs) (append-nil (handed_in k c))
 
 -- what a call hands in and lets go ties what waits before it to what waits after it
 abbrev pub Moves : {T : Type 0} → Call T → Waiting T → Waiting T → Type 0
@@ -42,12 +34,12 @@ pub waiting-snoc : {T : Type 0} (calls : List (Call T)) (c : Call T) (old new : 
     → ((k : Class) → departed k calls ++ queue old k ≡ handed k calls)
     → (k : Class) → departed k (calls ++ c ∷ []) ++ queue new k ≡ handed k (calls ++ c ∷ [])
 waiting-snoc calls c old new moves are k =
-    ap (λ xs. xs ++ queue new k) (departed-snoc k calls c)
+    ap (λ xs. xs ++ queue new k) (flat_map-snoc (departed_in k) calls c)
     ∙ append_assoc (departed k calls) (departed_in k c) (queue new k)
     ∙ ap (λ xs. departed k calls ++ xs) (moves k)
     ∙ sym (append_assoc (departed k calls) (queue old k) (handed_in k c))
     ∙ ap (λ xs. xs ++ handed_in k c) (are k)
-    ∙ sym (handed-snoc k calls c)
+    ∙ sym (flat_map-snoc (handed_in k) calls c)
 
 pub law-snoc : {T : Type 0} (rate depth : ℕ) (calls : List (Call T)) (c : Call T) → BucketLaw rate depth calls
     → GoesRight rate depth calls (calls ++ c ∷ []) c → BucketLaw rate depth (calls ++ c ∷ [])

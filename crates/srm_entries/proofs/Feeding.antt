@@ -15,7 +15,7 @@ use Rattle.srm_names.specs.FullName.{FullName}
 use Rattle.srm_names.specs.Histories.{steps, or_else, firsts, IsPrefix}
 use Rattle.srm_names.specs.Names.{named, same_page, first_page, stream_on}
 use Rattle.srm_names.specs.PageFeeds.{continues, is_page_feed, drawops_of, drawop_from, leaves, is_open_at, opened, page_opened, is_close}
-use Rattle.srm_names.proofs.Snoc.{along, first_of-snoc, or_else-none, list_any-snoc, is_page_feed-snoc}
+use Rattle.srm_names.proofs.Snoc.{along, first_of-snoc, or_else-none, list_any-snoc, is_page_feed-snoc, flat_map-snoc}
 use Rattle.srm_names.proofs.Feeds.{feed_draws, feed_leaves}
 use Rattle.srm_names.proofs.Lists.{Has, front_of_front, front_more, front_next, slice_get-front, firsts-front, until_none-at, find-Has}
 use Rattle.srm_names.proofs.Same.{same_name-is, same_page-itself}
@@ -29,7 +29,6 @@ use Rattle.srm_store.specs.Finals.{final_in, row_number}
 use Rattle.srm_entries.specs.Verdicts.{told, final}
 use Rattle.srm_entries.specs.Giving.{given, given_in, taken, taken_in, next_taken, next_drawop, may_leave, is_some_of, GivesAfter, GiveRight, MessageRight}
 use Rattle.srm_entries.specs.Runs.{EntryRight}
-use Rattle.srm_entries.proofs.Adding.{flat_map-snoc}
 use Rattle.srm_entries.proofs.Releasing.{released-grows}
 use Rattle.srm_entries.proofs.Telling.{ToldRight, told_stays, told_step, told_start}
 

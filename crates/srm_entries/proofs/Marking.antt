@@ -8,7 +8,7 @@ use Rattle.std.proofs.lemmas.Grind.{flat_map-append}
 use Rattle.srm_names.specs.declared.drawop.Drawop.{Drawop}
 use Rattle.srm_names.specs.Histories.{Step, steps}
 use Rattle.srm_names.proofs.Lists.{Has, Has-append, Has-map, Has-flat_map, Has-front}
-use Rattle.srm_names.proofs.Snoc.{along, steps-snoc}
+use Rattle.srm_names.proofs.Snoc.{along, steps-snoc, flat_map-snoc}
 use Rattle.srm_codec.specs.declared.datagram.Datagram.{Datagram}
 use Rattle.srm_codec.specs.Spelling.{length_of}
 use Rattle.srm_bucket.specs.declared.class.Class.{Class}
@@ -22,7 +22,6 @@ use Rattle.srm_entries.specs.declared.entry.Entry.{Entry}
 use Rattle.srm_entries.specs.Entries.{shown}
 use Rattle.srm_entries.specs.Bucket.{Going, GoesAsCharged, data_item, due_item, requests_and_repairs, handed_in_by, entries_of, lets_go, pops, calls_by, bucket_calls}
 use Rattle.srm_entries.specs.Rates.{one_of_class, of_class, handed_so_far, departed_so_far}
-use Rattle.srm_entries.proofs.Adding.{flat_map-snoc}
 use Rattle.srm_entries.proofs.Sending.{went_first, handed_in_entry, popped}
 
 -- one more entry

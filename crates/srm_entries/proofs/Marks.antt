@@ -6,6 +6,7 @@ use Rattle.std.proofs.lemmas.Bool.{OnTrue_at}
 use Rattle.std.proofs.lemmas.Option.{same_Some}
 use Rattle.std.proofs.lemmas.List.{append-nil, drop_at}
 use Rattle.srm_names.specs.Histories.{steps, steps_after}
+use Rattle.srm_names.proofs.Snoc.{flat_map-snoc}
 use Rattle.srm_codec.specs.declared.datagram.Datagram.{Datagram}
 use Rattle.srm_bucket.specs.declared.class.Class.{Class}
 use Rattle.srm_bucket.specs.declared.class.Class.TheVariants.{Shown, New, Other}
@@ -17,7 +18,6 @@ use Rattle.srm_bucket.proofs.Departing.{popping, in_its_own}
 use Rattle.srm_entries.specs.Configs.{Config}
 use Rattle.srm_entries.specs.declared.entry.Entry.{Entry}
 use Rattle.srm_entries.specs.Bucket.{Going, GoesAsCharged, handed_in_by, entries_of, datagrams_of, lets_go, pops, calls_by, bucket_calls}
-use Rattle.srm_entries.proofs.Adding.{flat_map-snoc}
 use Rattle.srm_entries.proofs.Charging.{law_at}
 use Rattle.srm_entries.proofs.Cutting.{bucket_calls-append}
 

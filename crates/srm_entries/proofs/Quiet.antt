@@ -5,11 +5,11 @@ use Rattle.std.specs.List.{cons_option}
 use Rattle.std.proofs.lemmas.List.{append-nil}
 use Rattle.std.proofs.lemmas.List.Elements.{filter_map-append}
 use Rattle.srm_names.specs.FullName.{FullName}
+use Rattle.srm_names.proofs.Snoc.{flat_map-snoc}
 use Rattle.srm_entries.specs.declared.entry.Entry.{Entry}
 use Rattle.srm_entries.specs.Entries.{accepted, held, held_by, drawops_in, evidence_in, drawn, is_missing}
 use Rattle.srm_entries.specs.Distances.{distance_calls, calls_in, calls_of}
 use Rattle.srm_entries.specs.Verdicts.{settlings, settling_of}
-use Rattle.srm_entries.proofs.Adding.{flat_map-snoc}
 use Rattle.srm_entries.proofs.Showing.{IsQuiet, held-snoc, shown-snoc, shown_quiet, drawn-snoc}
 
 held_by_none : (e : Entry) → IsQuiet e → held_by e ≡ []

@@ -6,11 +6,10 @@ use Rattle.std.proofs.lemmas.List.{append-nil}
 use Rattle.srm_names.specs.declared.page.Page.{Page}
 use Rattle.srm_names.specs.Histories.{Step, steps, or_else, last_of, greatest, firsts}
 use Rattle.srm_names.specs.Names.{first_page, same_page}
-use Rattle.srm_names.proofs.Snoc.{steps-snoc, last_of-snoc}
+use Rattle.srm_names.proofs.Snoc.{steps-snoc, last_of-snoc, flat_map-snoc}
 use Rattle.srm_entries.specs.declared.entry.Entry.{Entry}
 use Rattle.srm_entries.specs.Entries.{done, pages_in, slots, page_shown, shown, moments_counted, last_moment}
 use Rattle.srm_names.proofs.Lists.{AllByRecursion-snoc, greatest-append}
-use Rattle.srm_entries.proofs.Adding.{flat_map-snoc}
 
 -- what holds at each step, and at one more
 pub steps_more : {X : Type 0} (R : Step X → Type 0) (xs : List X) (x : X) → AllByRecursion R (steps xs) → R (record { before = xs; this = x }) → AllByRecursion R (steps (xs ++ x ∷ []))

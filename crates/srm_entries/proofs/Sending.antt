@@ -5,7 +5,7 @@ use Rattle.std.specs.List.{flat_map, filter_map, cons_option, AllByRecursion}
 use Rattle.srm_names.specs.declared.drawop.Drawop.{Drawop}
 use Rattle.srm_names.specs.FullName.{FullName}
 use Rattle.srm_names.specs.Histories.{Step, steps, steps_after, IsPrefix}
-use Rattle.srm_names.proofs.Snoc.{along}
+use Rattle.srm_names.proofs.Snoc.{along, flat_map-snoc}
 use Rattle.srm_names.proofs.Lists.{Has, Has-append, Has-front, Has-map, map-Has, Has-flat_map, flat_map-Has, Has-steps, Has-step_split, Has-split, Has-back, find-Has, at_parts, steps-append}
 use Rattle.srm_codec.specs.declared.datagram.Datagram.{Datagram}
 use Rattle.srm_codec.specs.declared.datagram.Datagram.TheVariants.{Data, Request, Repair, Session}
@@ -27,7 +27,6 @@ use Rattle.srm_entries.specs.Bucket.{Going, GoesAsCharged, BucketRight, repair_f
 use Rattle.std.proofs.lemmas.List.{map-append}
 use Rattle.std.proofs.lemmas.Bool.{OnTrue_at}
 use Rattle.std.proofs.lemmas.Grind.{flat_map-append}
-use Rattle.srm_entries.proofs.Adding.{flat_map-snoc}
 
 -- what asks are packed into are requests
 abbrev IsRequest : Datagram → Type 0

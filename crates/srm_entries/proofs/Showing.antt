@@ -12,7 +12,7 @@ use Rattle.srm_names.specs.FullName.{FullName}
 use Rattle.srm_names.specs.Histories.{greatest}
 use Rattle.srm_names.specs.Names.{named, same_stream, stream_on}
 use Rattle.srm_names.proofs.Lists.{Has, Has-append, Has-front, Has-back, map-Has, Has-flat_map, flat_map-Has}
-use Rattle.srm_names.proofs.Snoc.{last_of-snoc}
+use Rattle.srm_names.proofs.Snoc.{last_of-snoc, flat_map-snoc}
 use Rattle.srm_names.proofs.Same.{same_stream-itself}
 use Rattle.srm_codec.specs.declared.datagram.Datagram.{Datagram}
 use Rattle.srm_codec.specs.declared.datagram.Datagram.TheVariants.{Data, Request, Repair, Session}
@@ -29,7 +29,6 @@ use Rattle.srm_store.specs.Held.{number_in, greatest_in}
 use Rattle.srm_entries.specs.Entries.{done, done_input, accepted, heard_in, state, is_gone, is_leaving, drawn, held, held_by, held_at, evidence_by, evidence_in, names_heard, drawops_in, known}
 use Rattle.srm_entries.specs.Verdicts.{first_cause, verdict_of, VerdictRight, is_stranger, lacks_slots_for, is_beyond, says_too_little, differs, drawn_in}
 use Rattle.srm_entries.specs.Runs.{EntryRight, expected_drawop}
-use Rattle.srm_entries.proofs.Adding.{flat_map-snoc}
 
 -- the entry is done, and its input is this one
 pub done_is : (v : Verdict) (i j : Input) → done_input v i ≡ Some j → (v ≡ Done) × (i ≡ j)

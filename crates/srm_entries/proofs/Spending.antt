@@ -6,7 +6,7 @@ use Rattle.std.proofs.lemmas.Bool.{OnTrue_at}
 use Rattle.std.proofs.lemmas.List.{append-nil}
 use Rattle.srm_names.specs.Histories.{Step, steps_after, greatest}
 use Rattle.srm_names.proofs.Lists.{Has, Has-front, Has-back}
-use Rattle.srm_names.proofs.Snoc.{along}
+use Rattle.srm_names.proofs.Snoc.{along, flat_map-snoc}
 use Rattle.srm_codec.specs.declared.datagram.Datagram.{Datagram}
 use Rattle.srm_codec.specs.Spelling.{length_of}
 use Rattle.srm_bucket.specs.Calls.{Classed, Call, Handed}
@@ -25,7 +25,6 @@ use Rattle.srm_entries.specs.Sessions.{charged}
 use Rattle.srm_entries.specs.Bucket.{Going, GoesAsCharged, entries_of, datagrams_of, lets_go, pops, calls_by, bucket_calls}
 use Rattle.srm_entries.specs.Rates.{departed_so_far, cost_all, tick_in, ticks_of}
 use Rattle.srm_entries.specs.Runs.{EntryRight}
-use Rattle.srm_entries.proofs.Adding.{flat_map-snoc}
 use Rattle.srm_entries.proofs.Running.{last_moment-snoc}
 use Rattle.srm_entries.proofs.Cutting.{bucket_calls-append, law_part}
 use Rattle.srm_entries.proofs.Charging.{handed_ticks, handed_last, pops_last, pops_level, cost_of_items, later_same, within_later}

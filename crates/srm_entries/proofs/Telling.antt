@@ -13,7 +13,7 @@ use Rattle.srm_names.specs.FullName.{FullName}
 use Rattle.srm_names.specs.Histories.{or_else}
 use Rattle.srm_names.specs.Names.{first_page, stream_on}
 use Rattle.srm_names.proofs.Lists.{Has, Has-append, Has-front, Has-back, map-Has, none_passes}
-use Rattle.srm_names.proofs.Snoc.{first_of-snoc, or_else-none}
+use Rattle.srm_names.proofs.Snoc.{first_of-snoc, or_else-none, flat_map-snoc}
 use Rattle.srm_names.proofs.Same.{Has-firsts}
 use Rattle.srm_codec.specs.declared.datagram.Datagram.{Datagram}
 use Rattle.srm_codec.specs.declared.datagram.Datagram.TheVariants.{Data, Request, Repair, Session}
@@ -24,7 +24,6 @@ use Rattle.srm_entries.specs.Entries.{held, held_by, drawops_in, done, accepted,
 use Rattle.srm_store.specs.Finals.{Settling, rows_for, rows_of, row_number, final_in}
 use Rattle.srm_entries.specs.Verdicts.{told, settlings, settling_of, final, exceeds, is_beyond, says_too_little, drawn_in}
 use Rattle.srm_entries.specs.Runs.{EntryRight}
-use Rattle.srm_entries.proofs.Adding.{flat_map-snoc}
 use Rattle.srm_entries.proofs.Showing.{held-snoc, held_by_shown, held_in_shown, held_is_shown, made_by, IsDrawing, IsHearing, IsQuiet, kind, known_has, shown-snoc, shown_drawing, shown_hearing, shown_quiet, HeardFine, hearing_fine}
 
 abbrev pages : List Entry → List Page

@@ -2,13 +2,14 @@
 use Rattle.std.proofs.Math.Bool.{or-false, or_assoc}
 use Rattle.std.proofs.Common.{◌≡◌, ℕ, max, Bool, true, false, not, ◌||◌, List, [], ◌∷◌, ◌++◌, refl, ap, sym, ◌∙◌, subst, arith, append_assoc, zero, suc, ◌+◌, add-one}
 use Rattle.std.specs.Prelude.{nat_lt, filter, if◌then◌else◌, Option, Some, None}
-use Rattle.std.specs.List.{list_any, list_all, AllByRecursion}
+use Rattle.std.specs.List.{flat_map, list_any, list_all, AllByRecursion}
 use Rattle.srm_names.specs.declared.page_msg.PageMsg.{PageMsg}
 use Rattle.srm_names.specs.PageFeeds.{continues, is_page_feed}
 use Rattle.std.proofs.lemmas.List.{append-nil}
 use Rattle.std.proofs.lemmas.List.Elements.{filter-append}
 use Rattle.std.proofs.lemmas.List.Folds.{list_all-append}
 use Rattle.std.proofs.lemmas.Bool.Decides.{nat_tests}
+use Rattle.std.proofs.lemmas.Grind.{flat_map-append}
 use Rattle.srm_names.specs.Histories.{Step, steps_after, steps, or_else, first_of, last_of, since, greatest, better_first, first_best, firsts, count_up}
 
 steps_after-snoc : {X : Type 0} (before xs : List X) (y : X) → steps_after before (xs ++ y ∷ []) ≡ steps_after before xs ++ record { before = before ++ xs; this = y } ∷ []
@@ -43,6 +44,9 @@ last_of-append f (x ∷ xs) ys = ap (λ o. or_else o (f x)) (last_of-append f xs
 pub list_any-snoc : {X : Type 0} (p : X → Bool) (xs : List X) (y : X) → list_any p (xs ++ y ∷ []) ≡ list_any p xs || p y
 list_any-snoc p [] y = or-false (p y)
 list_any-snoc p (x ∷ xs) y = ap (λ b. p x || b) (list_any-snoc p xs y) ∙ sym (or_assoc (p x) (list_any p xs) (p y))
+
+pub flat_map-snoc : {X Y : Type 0} (f : X → List Y) (xs : List X) (y : X) → flat_map f (xs ++ y ∷ []) ≡ flat_map f xs ++ f y
+flat_map-snoc f xs y = flat_map-append f xs (y ∷ []) ∙ ap (λ zs. flat_map f xs ++ zs) (append-nil (f y))
 
 pub since-snoc : {X : Type 0} (p : X → Bool) (xs : List X) (y : X) → since p (xs ++ y ∷ []) ≡ (if p y then [] else since p xs ++ y ∷ [])
 since-snoc p [] y = refl

@@ -4,8 +4,7 @@ use Rattle.std.specs.Prelude.{Option, Some, None, map}
 use Rattle.std.specs.List.{flat_map, enumerate_from}
 use Rattle.std.proofs.lemmas.List.{take_more, length-take-le, map-append, take-append-drop}
 use Rattle.srm_names.specs.Histories.{first_of, or_else}
-use Rattle.srm_names.proofs.Snoc.{first_of-snoc}
-use Rattle.srm_entries.proofs.Adding.{flat_map-snoc}
+use Rattle.srm_names.proofs.Snoc.{first_of-snoc, flat_map-snoc}
 use Rattle.srm_picture.specs.ByEntry.{by_entry}
 
 pub enumerate_from-append : {X : Type 0} (n : ℕ) (xs ys : List X) → enumerate_from n (xs ++ ys) ≡ enumerate_from n xs ++ enumerate_from (n + length xs) ys

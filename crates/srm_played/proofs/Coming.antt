@@ -5,14 +5,13 @@ use Rattle.std.specs.List.{AllByRecursion, enumerate_from, flat_map}
 use Rattle.std.proofs.lemmas.Option.{same_Some}
 use Rattle.std.proofs.lemmas.List.{map-append, append-nil}
 use Rattle.srm_names.specs.Histories.{steps, steps_after}
-use Rattle.srm_names.proofs.Snoc.{steps-snoc}
+use Rattle.srm_names.proofs.Snoc.{steps-snoc, flat_map-snoc}
 use Rattle.srm_names.proofs.Lists.{slice_get-front, AllByRecursion-append, all_by, at_end}
 use Rattle.srm_codec.specs.declared.datagram.Datagram.{Datagram}
 use Rattle.srm_entries.specs.declared.entry.Entry.{Entry}
 use Rattle.srm_entries.specs.declared.entry.Input.{Input}
 use Rattle.srm_entries.specs.declared.entry.Input.TheVariants.{Drew, Ticked, Showed, AskedLeave, Gave, Took}
 use Rattle.srm_entries.specs.Entries.{sent, is_gone, state}
-use Rattle.srm_entries.proofs.Adding.{flat_map-snoc}
 use Rattle.srm_world.specs.declared.start.Start.{Start}
 use Rattle.srm_world.specs.declared.event.Event.{Event}
 use Rattle.srm_world.specs.declared.event.Event.TheVariants.{Draw, Deliver, Tick, Show, Leave, Give, Take}

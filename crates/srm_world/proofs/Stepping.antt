@@ -7,6 +7,7 @@ use Rattle.std.proofs.lemmas.Bool.Decides.{nat_tests}
 use Rattle.std.proofs.lemmas.Bool.{cases_eq, lt-ltb, ne_eqb}
 use Rattle.std.proofs.lemmas.List.{length-set, append-nil, map-append, take_more}
 use Rattle.srm_names.proofs.Lists.{AllByRecursion-append, by_place, from_places, at_place, get_set_same, set_elsewhere}
+use Rattle.srm_names.proofs.Snoc.{flat_map-snoc}
 use Rattle.srm_codec.specs.declared.datagram.Datagram.{Datagram}
 use Rattle.srm_timers.specs.Arms.{AreChosen}
 use Rattle.srm_outbox.specs.declared.out.Out.{Out}
@@ -21,7 +22,6 @@ use Rattle.srm_entries.specs.Timers.{low_of, high_of}
 use Rattle.srm_entries.specs.Runs.{EntryRight, IsMemberRun}
 use Rattle.srm_outbox.specs.Outs.{IsOut, AreOutsOf}
 use Rattle.srm_agent.specs.Noting.{moment_that_counts}
-use Rattle.srm_entries.proofs.Adding.{flat_map-snoc}
 use Rattle.srm_agent.proofs.Fitting.{fits_run}
 use Rattle.srm_entries.proofs.Running.{steps_more}
 use Rattle.srm_entries.proofs.Silence.{unticked_sends_nothing}
