@@ -6,7 +6,7 @@ use Rattle.srm_names.specs.FullName.{FullName}
 use Rattle.srm_names.specs.Histories.{or_else}
 use Rattle.srm_names.specs.Names.{among}
 use Rattle.srm_names.proofs.Same.{same_name-is}
-use Rattle.srm_names.proofs.Lists.{any_Has}
+use Rattle.srm_names.proofs.Lists.{any_Has, is_some_if}
 use Rattle.srm_names.proofs.Snoc.{or_else-none}
 use Rattle.srm_store.specs.Held as stores
 use Rattle.srm_timers.specs.declared.arm.Arm.{Arm}
@@ -30,10 +30,6 @@ use Rattle.srm_agent_state.proofs.Missing.{held_then}
 use Rattle.srm_agent_state.proofs.OneAnswered.{wanted, asked_if}
 
 -- the setting that the law asks for
-
-is_some_if : (q : Bool) (from : ℕ) → is_some (if q then Some from else None) ≡ q
-is_some_if true from = refl
-is_some_if false from = refl
 
 fix_case : (q fr free : Bool) (d from : ℕ) (far : ℕ → ℕ) (x : WaitBasis) → fr ≡ false → d ≡ far from
     → or_else (if q then (if free then Some (fixes.fix_basis d) else None) else None) (if fr then Some x else None)

@@ -7,6 +7,7 @@ use Rattle.std.proofs.lemmas.Bool.Decides.{nat_tests}
 use Rattle.std.proofs.lemmas.List.Quantifiers.{position-Some}
 use Rattle.srm_names.specs.FullName.{FullName}
 use Rattle.srm_names.specs.Names.{same_name, same_stream, among}
+use Rattle.srm_names.proofs.Lists.{is_some_if}
 use Rattle.srm_names.proofs.Same.{same_name-is, same_stream-itself}
 use Rattle.srm_store.specs.Rooms.{RoomContent, is_room_for, has_room, StillHasOthers}
 use Rattle.srm_store.specs.Tables.{places_of_stream, TableLearns, StillHasPlaces}
@@ -25,11 +26,7 @@ any_below p (x ∷ xs) = go (p x) (any_below p xs)
     go false h = grind (arith, nat_tests)
 
 position_any : {X : Type 0} (p : X → Bool) (xs : List X) → is_some (position p xs) ≡ list_any p xs
-position_any p xs = go (nat_lt (position_or_len p xs) (length xs)) (position_or_len p xs) ∙ sym (any_below p xs)
-  where
-    go : (b : Bool) (k : ℕ) → is_some (cond b (Some k) None) ≡ b
-    go true k = refl
-    go false k = refl
+position_any p xs = is_some_if (nat_lt (position_or_len p xs) (length xs)) (position_or_len p xs) ∙ sym (any_below p xs)
 
 pub no_room : (rooms : List RoomContent) (n : FullName) (count : ℕ) → position (is_room_for n count) rooms ≡ None → has_room rooms n count ≡ true → ⊥
 no_room rooms n count e had = false≢true (ap is_some (sym e) ∙ position_any (is_room_for n count) rooms ∙ had)
