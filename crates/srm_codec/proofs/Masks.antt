@@ -12,9 +12,9 @@ use Rattle.srm_names.specs.FullName.{FullName}
 use Rattle.srm_names.specs.Names.{named}
 use Rattle.srm_codec.specs.Spelling.{bits_set, asked_by}
 
-list_all-map : {X Y : Type 0} (p : Y → Bool) (f : X → Y) (q : X → Bool) → ((x : X) → p (f x) ≡ q x) → (xs : List X) → list_all p (map f xs) ≡ list_all q xs
-list_all-map p f q same [] = refl
-list_all-map p f q same (x ∷ xs) = ap (λ b. b && list_all p (map f xs)) (same x) ∙ ap (λ b. q x && b) (list_all-map p f q same xs)
+list_all_by : {X Y : Type 0} (p : Y → Bool) (f : X → Y) (q : X → Bool) → ((x : X) → p (f x) ≡ q x) → (xs : List X) → list_all p (map f xs) ≡ list_all q xs
+list_all_by p f q same [] = refl
+list_all_by p f q same (x ∷ xs) = ap (λ b. b && list_all p (map f xs)) (same x) ∙ ap (λ b. q x && b) (list_all_by p f q same xs)
 
 lower : (bit room : ℕ) → nat_lt (bit + 1) room ≡ nat_lt bit (room - 1)
 lower bit room = grind (arith, nat_tests)
@@ -40,7 +40,7 @@ bits_below zero mask room lt = grind (arith, nat_tests, pow_pos room)
 bits_below (suc k) mask room lt =
     list_all-append (λ bit. nat_lt bit room) (if mask % 2 == 1 then 0 ∷ [] else []) (map (λ bit. bit + 1) (bits_set k (mask / 2)))
     ∙ ap (λ b. list_all (λ bit. nat_lt bit room) (if mask % 2 == 1 then 0 ∷ [] else []) && b)
-    (list_all-map (λ bit. nat_lt bit room) (λ bit. bit + 1) (λ bit. nat_lt bit (room - 1)) (λ bit. lower bit room) (bits_set k (mask / 2)) ∙ bits_below k (mask / 2) (room - 1) (omega arith))
+    (list_all_by (λ bit. nat_lt bit room) (λ bit. bit + 1) (λ bit. nat_lt bit (room - 1)) (λ bit. lower bit room) (bits_set k (mask / 2)) ∙ bits_below k (mask / 2) (room - 1) (omega arith))
     ∙ half mask room (mask % 2 == 1) refl
 
 -- no named number is past the limit where the mask is below the power of the room under it
@@ -48,7 +48,7 @@ pub named_within : (name : FullName) (mask limit : ℕ) → name.number ≤ limi
 named_within name mask limit le lt =
     let here : nat_le name.number limit ≡ true = grind (arith, nat_tests) in
     ap (λ b. b && list_all (λ n. nat_le n.number limit) (map (λ bit. named name.stream (name.number + 1 + bit)) (bits_set 32 mask))) here
-    ∙ list_all-map (λ n. nat_le n.number limit) (λ bit. named name.stream (name.number + 1 + bit)) (λ bit. nat_lt bit (limit - name.number)) (λ bit. grind (arith, nat_tests)) (bits_set 32 mask)
+    ∙ list_all_by (λ n. nat_le n.number limit) (λ bit. named name.stream (name.number + 1 + bit)) (λ bit. nat_lt bit (limit - name.number)) (λ bit. grind (arith, nat_tests)) (bits_set 32 mask)
     ∙ bits_below 32 mask (limit - name.number) lt
 
 pub all_of_them : (mask room : ℕ) → mask < 2 ^ 32 → 32 ≤ room → nat_le 32 room ≡ nat_lt mask (2 ^ room)
