@@ -1,6 +1,7 @@
 -- The settings that a request asks for.
 use Rattle.std.proofs.Common.{◌≡◌, ℕ, ◌≤◌, Bool, true, false, not, ◌&&◌, ◌||◌, List, [], ◌∷◌, ◌++◌, refl, ap, sym, ◌∙◌, subst, arith}
 use Rattle.std.specs.Prelude.{nat_le, if◌then◌else◌, Option, Some, None, is_some, option_map}
+use Rattle.std.proofs.lemmas.Bool.{and_right}
 use Rattle.std.proofs.lemmas.Bool.Decides.{nat_tests}
 use Rattle.srm_names.specs.FullName.{FullName}
 use Rattle.srm_names.specs.Histories.{or_else}
@@ -77,11 +78,7 @@ request_setting c past e from asked newly_missing dist now n ask_is nothing at f
     to_ask = option_map (λ i. asks.ask_basis i (distance_to dist n.stream.source)) (backs_off now (ask_running past n))
 
     unfresh : is_held past n ≡ true → among newly_missing n ≡ false
-    unfresh h = f ∙ ap (λ m'. not (is_missing past n) && m') (held_then past e n h) ∙ expiries (not (is_missing past n))
-      where
-        expiries : (b : Bool) → (b && false) ≡ false
-        expiries true = refl
-        expiries false = refl
+    unfresh h = f ∙ ap (λ m'. not (is_missing past n) && m') (held_then past e n h) ∙ and_right (not (is_missing past n)) false refl
 
     fix_is : is_held past n ≡ true → fix_basis_of c.me past e n ≡ (if free now then option_map (fix_at c.me past) (asked_if asked from n) else None)
     fix_is h =

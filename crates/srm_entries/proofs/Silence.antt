@@ -2,7 +2,7 @@
 use Rattle.std.proofs.Common.{arith, ◌≡◌, ℕ, Bool, true, false, not, ◌||◌, List, [], ◌∷◌, ◌++◌, refl, ap, sym, ◌∙◌, subst}
 use Rattle.std.specs.Prelude.{Option, Some, None, if◌then◌else◌, nat_le, ◌&&◌}
 use Rattle.std.specs.List.{AllByRecursion}
-use Rattle.std.proofs.lemmas.Bool.{OnTrue_at}
+use Rattle.std.proofs.lemmas.Bool.{OnTrue_at, and_right}
 use Rattle.srm_names.specs.Histories.{steps, steps_after}
 use Rattle.srm_names.proofs.Lists.{at_parts, map-split}
 use Rattle.srm_entries.specs.Configs.{Config}
@@ -44,11 +44,7 @@ resting_sends_nothing c made before after e run rests =
     subst (EndsWith c before e) none right.session ∙ charged_none c before after e run.bucket rests
 
 pub gone_sends_nothing : (c : Config) (made : ℕ) (before after : List Entry) (e : Entry) → IsMemberRun c made (before ++ e ∷ after) → is_gone (state before) ≡ true → e.effects.outs ≡ []
-gone_sends_nothing c made before after e run gone = resting_sends_nothing c made before after e run (ap (λ b. ticked e && not b) gone ∙ never (ticked e))
-  where
-    never : (b : Bool) → (b && false) ≡ false
-    never true = refl
-    never false = refl
+gone_sends_nothing c made before after e run gone = resting_sends_nothing c made before after e run (ap (λ b. ticked e && not b) gone ∙ and_right (ticked e) false refl)
 
 pub unticked_sends_nothing : (c : Config) (made : ℕ) (before : List Entry) (e : Entry) → IsMemberRun c made (before ++ e ∷ []) → ticked e ≡ false → e.effects.outs ≡ []
 unticked_sends_nothing c made before e run still = resting_sends_nothing c made before [] e run (ap (λ b. b && not (is_gone (state before))) still)

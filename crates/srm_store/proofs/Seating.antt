@@ -1,7 +1,7 @@
 -- Slots for several pages.
 use Rattle.std.proofs.Common.{◌≡◌, ℕ, ◌+◌, ◌<◌, ◌≤◌, List, [], ◌∷◌, ◌++◌, Bool, true, false, not, length, get_or, set, take, drop, map, append_assoc, refl, sym, ap, ◌∙◌, arith}
 use Rattle.std.specs.Prelude.{if◌then◌else◌, ◌||◌, nat_lt}
-use Rattle.std.proofs.lemmas.Bool.{false≢true, lt-ltb, le-ltb, ltb-true, ltb-false}
+use Rattle.std.proofs.lemmas.Bool.{false≢true, or_right, lt-ltb, le-ltb, ltb-true, ltb-false}
 use Rattle.std.proofs.lemmas.List.{length-append, length-take-le, take_more_set, drop_all}
 use Rattle.srm_names.specs.declared.limits.TheConstants.{PAGES}
 use Rattle.srm_names.specs.declared.page.Page.{Page}
@@ -73,12 +73,8 @@ swapped pages p q = record {
 twice_with : (pages : List Page) (p : Page) → with_page (with_page pages p) p ≡ with_page pages p
 twice_with pages p = ap (λ b. if b then with_page pages p else with_page pages p ++ p ∷ []) there
   where
-    last : (b : Bool) → b || true ≡ true
-    last true = refl
-    last false = refl
-
     there : is_in (with_page pages p) p ≡ true
-    there = is_in-with_page pages p p ∙ ap (λ b. is_in pages p || b) (same_page-itself p) ∙ last (is_in pages p)
+    there = is_in-with_page pages p p ∙ ap (λ b. is_in pages p || b) (same_page-itself p) ∙ or_right (is_in pages p) true refl
 
 -- naming one of the pages before makes no difference to how many there are
 pub named_before : (pages : List Page) (p : Page) (ps : List Page) → is_in ps p ≡ true → length (with_pages (with_page pages p) ps) ≡ length (with_pages pages ps)
@@ -136,11 +132,7 @@ page_among (m ∷ names) n h = go (same_name n m) refl h (page_among names n)
   where
     go : (b : Bool) → same_name n m ≡ b → (b || among names n) ≡ true → (among names n ≡ true → is_in (map page_of_name names) n.stream.page ≡ true) → (same_page m.stream.page n.stream.page || is_in (map page_of_name names) n.stream.page) ≡ true
     go true e h rest = ap (λ b. b || is_in (map page_of_name names) n.stream.page) (ap (λ (k : FullName). same_page m.stream.page k.stream.page) (same_name-is n m e) ∙ same_page-itself m.stream.page)
-    go false e h rest = rw (rest h) (or_true (same_page m.stream.page n.stream.page))
-      where
-        or_true : (b : Bool) → b || true ≡ true
-        or_true true = refl
-        or_true false = refl
+    go false e h rest = or_right (same_page m.stream.page n.stream.page) (is_in (map page_of_name names) n.stream.page) (rest h)
 
 -- seating the names in turn
 pub one_seated : (pages : List Page) (names : List FullName) (i : ℕ) (name : FullName) (page : Page) → page ≡ name.stream.page → name ≡ get_or names i name → i < length names
