@@ -1,5 +1,5 @@
 -- The names that a request asks for rise, and are of one stream.
-use Rattle.std.proofs.Common.{◌≡◌, ℕ, zero, suc, ◌+◌, ◌/◌, ◌%◌, ◌<◌, ◌==◌, Bool, true, false, List, [], ◌∷◌, ◌++◌, map, refl, sym, ap, ◌∙◌, arith}
+use Rattle.std.proofs.Common.{◌≡◌, ℕ, zero, suc, ◌+◌, ◌/◌, ◌%◌, ◌<◌, ◌==◌, Bool, true, false, List, [], ◌∷◌, ◌++◌, map, refl, sym, ap, ◌∙◌, arith, add-zero}
 use Rattle.std.specs.Prelude.{if◌then◌else◌}
 use Rattle.std.specs.List.{AllByRecursion}
 use Rattle.std.proofs.lemmas.Bool.{and_from, or_right}
@@ -29,10 +29,7 @@ bits_rise name (suc k) low bit mask lt =
         → ascending name_below (named name.stream low ∷ bit_names name bit ((if b then 0 ∷ [] else []) ++ map (λ x. x + 1) (bits_set k (mask / 2)))) ≡ true
     go true with_ without =
         ap (λ ns. ascending name_below (named name.stream low ∷ at_bit name (bit + 0) ∷ ns)) (shifted name bit (bits_set k (mask / 2)))
-        ∙ and_from _ _ (below_in_stream name.stream low (name.number + 1 + (bit + 0)) (omega (arith, lt))) (ap (λ b. ascending name_below (at_bit name b ∷ bit_names name (bit + 1) (bits_set k (mask / 2)))) (zero_more bit) ∙ with_)
-      where
-        zero_more : (n : ℕ) → n + 0 ≡ n
-        zero_more n = omega arith
+        ∙ and_from _ _ (below_in_stream name.stream low (name.number + 1 + (bit + 0)) (omega (arith, lt))) (ap (λ b. ascending name_below (at_bit name b ∷ bit_names name (bit + 1) (bits_set k (mask / 2)))) (add-zero bit) ∙ with_)
     go false with_ without = ap (λ ns. ascending name_below (named name.stream low ∷ ns)) (shifted name bit (bits_set k (mask / 2))) ∙ without
 
 from_0 : (name : FullName) (bits : List ℕ) → bit_names name 0 bits ≡ map (at_bit name) bits

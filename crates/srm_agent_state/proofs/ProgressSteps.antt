@@ -1,5 +1,5 @@
 -- The progress of a slot with one more message.
-use Rattle.std.proofs.Common.{◌≡◌, ℕ, ◌+◌, ◌<◌, ◌==◌, Bool, true, false, not, ◌&&◌, ◌||◌, List, [], ◌∷◌, ◌++◌, length, ap, sym, ◌∙◌, subst, refl, inl, inr, ◌⊎◌, arith, length-append}
+use Rattle.std.proofs.Common.{◌≡◌, ℕ, ◌+◌, ◌<◌, ◌==◌, Bool, true, false, not, ◌&&◌, ◌||◌, List, [], ◌∷◌, ◌++◌, length, ap, sym, ◌∙◌, subst, refl, inl, inr, ◌⊎◌, length-append, add-zero}
 use Rattle.std.specs.Prelude.{Option, Some, None, is_some, if◌then◌else◌, slice_index, slice_index_or, slice_set}
 use Rattle.std.specs.List.{list_any, cons_option}
 use Rattle.std.proofs.Math.Bool.{or-false, or-true}
@@ -27,15 +27,12 @@ still_open : (o : Option Page) → is_some o ≡ is_some (or_else o None)
 still_open None = refl
 still_open (Some x) = refl
 
-zero_more : (n : ℕ) → n ≡ n + 0
-zero_more n = omega arith
-
 pub opens : (g : List PageMsg) (p : Page) (f : ProgressContent) → ProgressFits g f → ProgressFits (g ++ Open p ∷ []) (record f { opened = true })
 opens g p f h = record {
   opened = some_else (opened g) p ∙ ap is_some (sym (first_of-snoc page_opened g (Open p)));
   closed = h.closed ∙ sym (or-false (list_any is_close g)) ∙ sym (list_any-snoc is_close g (Open p));
   begun = λ e. absurd (cc);
-  numbers = λ s b. h.numbers s b ∙ zero_more (length (drawops_of s g)) ∙ sym (count-snoc s g (Open p));
+  numbers = λ s b. h.numbers s b ∙ sym (add-zero (length (drawops_of s g))) ∙ sym (count-snoc s g (Open p));
   left = λ s b. h.left s b ∙ sym (or-false (list_any (leaves s) g)) ∙ sym (list_any-snoc (leaves s) g (Open p));
 }
 
@@ -44,7 +41,7 @@ closes g f h = record {
   opened = h.opened ∙ still_open (opened g) ∙ ap is_some (sym (first_of-snoc page_opened g Close));
   closed = sym (or-true (list_any is_close g)) ∙ sym (list_any-snoc is_close g Close);
   begun = λ e k. absurd (cc);
-  numbers = λ s b. h.numbers s b ∙ zero_more (length (drawops_of s g)) ∙ sym (count-snoc s g Close);
+  numbers = λ s b. h.numbers s b ∙ sym (add-zero (length (drawops_of s g))) ∙ sym (count-snoc s g Close);
   left = λ s b. h.left s b ∙ sym (or-false (list_any (leaves s) g)) ∙ sym (list_any-snoc (leaves s) g Close);
 }
 
@@ -85,7 +82,7 @@ draws g d f source number h size at is below goes = record {
         ∙ next ∙ ap (λ x. length (drawops_of x g) + 1) (sym same)
         ∙ ap (λ (b : Bool). length (drawops_of s g) + length (cons_option (if b then Some d else None) [])) (sym (eq-eqb s d.name.stream.source (same ∙ at)))
     counted s b (inr other) =
-        get_or-set_other f.numbers source s number 0 other ∙ h.numbers s b ∙ zero_more (length (drawops_of s g))
+        get_or-set_other f.numbers source s number 0 other ∙ h.numbers s b ∙ sym (add-zero (length (drawops_of s g)))
         ∙ ap (λ (b : Bool). length (drawops_of s g) + length (cons_option (if b then Some d else None) [])) (sym (ne_eqb s d.name.stream.source (λ e. other (e ∙ sym at))))
 
 pub leaving : (g : List PageMsg) (source place : ℕ) (f : ProgressContent) → ProgressFits g f → length f.left ≡ MEMBERS → place ≡ source → place < MEMBERS → continues g (Left source) ≡ true
@@ -94,7 +91,7 @@ leaving g source place f h size at below goes = record {
   opened = h.opened ∙ still_open (opened g) ∙ ap is_some (sym (first_of-snoc page_opened g (Left source)));
   closed = h.closed ∙ sym (or-false (list_any is_close g)) ∙ sym (list_any-snoc is_close g (Left source));
   begun = λ e k. not_begun f.opened (is_some (opened g)) h.opened (first (is_some (opened g)) (list_any is_close g) (list_any (leaves source) g) goes) e;
-  numbers = λ s b. h.numbers s b ∙ zero_more (length (drawops_of s g)) ∙ sym (count-snoc s g (Left source));
+  numbers = λ s b. h.numbers s b ∙ sym (add-zero (length (drawops_of s g))) ∙ sym (count-snoc s g (Left source));
   left = λ s b. marked s b (cases_eq s place) ∙ sym (list_any-snoc (leaves s) g (Left source));
 }
   where
