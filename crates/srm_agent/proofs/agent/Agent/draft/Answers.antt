@@ -1,5 +1,6 @@
 use Rattle.std.proofs.Common.{◌∙◌, sym}
-use Rattle.srm_store.proofs.Faults.{err_is, same_fault}
+use Rattle.srm_names.proofs.Results.{err_is}
+use Rattle.srm_store.proofs.Faults.{same_fault}
 use Rattle.srm_agent.proofs.agent.Agent.draft.Goals as goal
 
 pub returns-in_err-room_to_learn-clause-limit : goal.returns-in_err-room_to_learn-clause-limit

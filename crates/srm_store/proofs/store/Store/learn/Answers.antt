@@ -1,10 +1,11 @@
 use Rattle.std.proofs.Common.{refl, sym, subst, ap, arith, length, ◌∙◌, ◌≡◌, true}
 use Rattle.srm_names.specs.declared.stream.Stream.{Stream}
+use Rattle.srm_names.proofs.Results.{err_is}
 use Rattle.srm_store.specs.Fits.{Fits}
 use Rattle.srm_store.specs.Inside.{store_of}
 use Rattle.srm_store.specs.Stores.{StoreContent, StaysReady, KeepsSlots}
 use Rattle.srm_store.specs.Held.{lacks_room}
-use Rattle.srm_store.proofs.Faults.{err_is, same_fault}
+use Rattle.srm_store.proofs.Faults.{same_fault}
 use Rattle.srm_store.specs.PageTables.{slot_of, with_pages}
 use Rattle.srm_store.proofs.Fitting.{fits_learns}
 use Rattle.srm_store.proofs.Rooming.{ready_learns}

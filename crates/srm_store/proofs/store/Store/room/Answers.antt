@@ -1,5 +1,6 @@
+use Rattle.srm_names.proofs.Results.{err_is}
 use Rattle.srm_store.specs.declared.fault.StoreFault.TheVariants.{Memory}
-use Rattle.srm_store.proofs.Faults.{err_is, no_page_limit, limit_handed_on, limit_past}
+use Rattle.srm_store.proofs.Faults.{no_page_limit, limit_handed_on, limit_past}
 use Rattle.srm_store.proofs.store.Store.room.Goals as goal
 
 pub returns-in_err-find_slots-clause-limit : goal.returns-in_err-find_slots-clause-limit
