@@ -9,15 +9,12 @@ use Rattle.srm_names.specs.declared.stream.Stream.{Stream}
 use Rattle.srm_names.specs.FullName.{FullName}
 use Rattle.srm_names.specs.Names.{same_stream, same_name, stream_below, name_below, ascending, named, AreExactly, among}
 use Rattle.srm_names.proofs.Same.{same_name-is}
+use Rattle.srm_names.proofs.Orders.{lex_then}
 use Rattle.srm_names.proofs.Rising.{ascending_joined}
 use Rattle.srm_names.specs.Between.{is_between}
 
 below_in_stream : (m n : FullName) → same_stream m.stream n.stream ≡ true → nat_lt m.number n.number ≡ true → name_below m n ≡ true
-below_in_stream m n s lt = or (stream_below m.stream n.stream) (same_stream m.stream n.stream) (nat_lt m.number n.number) s lt
-  where
-    or : (a b d : Bool) → b ≡ true → d ≡ true → (a || b && d) ≡ true
-    or true b d e f = refl
-    or false b d e f = rw (e, f) refl
+below_in_stream m n s lt = lex_then (stream_below m.stream n.stream) (same_stream m.stream n.stream) (nat_lt m.number n.number) s lt
 
 -- one more name that is above all
 pub ascending-snoc : (xs : List FullName) (y : FullName) → ascending name_below xs ≡ true → ((m : FullName) → among xs m ≡ true → name_below m y ≡ true) → ascending name_below (xs ++ y ∷ []) ≡ true

@@ -2,7 +2,7 @@
 use Rattle.std.proofs.Common.{◌≡◌, ℕ, ◌==◌, eq-eqb, Bool, true, false, ◌&&◌, ◌||◌, List, [], ◌∷◌, refl, ap, sym, ◌∙◌, subst, arith, inl, inr}
 use Rattle.std.specs.Prelude.{nat_lt, ◌⊎◌}
 use Rattle.std.specs.List.{list_any}
-use Rattle.std.proofs.lemmas.Bool.{and_from, cases_lt, cases_eq, false_from_ne_true, lt-ltb}
+use Rattle.std.proofs.lemmas.Bool.{and_from, or_left, cases_lt, cases_eq, false_from_ne_true, lt-ltb}
 use Rattle.std.proofs.lemmas.Bool.Decides.{nat_tests}
 use Rattle.srm_names.specs.declared.page.Page.{Page}
 use Rattle.srm_names.specs.declared.stream.Stream.{Stream}
@@ -25,10 +25,7 @@ lex_tells true eq more e = inl refl
 lex_tells false true more e = inr (refl, e)
 lex_tells false false more e = absurd (cc)
 
-lex_first : (lt eq more : Bool) → lt ≡ true → (lt || eq && more) ≡ true
-lex_first lt eq more e = rw e refl
-
-lex_then : (lt eq more : Bool) → eq ≡ true → more ≡ true → (lt || eq && more) ≡ true
+pub lex_then : (lt eq more : Bool) → eq ≡ true → more ≡ true → (lt || eq && more) ≡ true
 lex_then true eq more e f = refl
 lex_then false eq more e f = rw (e, f) refl
 
@@ -40,13 +37,13 @@ stream_below_trans a b c h k = grind (arith, nat_tests)
 
 name_below_trans : (a b c : FullName) → name_below a b ≡ true → name_below b c ≡ true → name_below a c ≡ true
 name_below_trans a b c h k = elim (tells a b h) [
-  | inl p ↦ lex_first (stream_below a.stream c.stream) (same_stream a.stream c.stream) (nat_lt a.number c.number)
+  | inl p ↦ or_left (stream_below a.stream c.stream) (same_stream a.stream c.stream && nat_lt a.number c.number)
       (elim (tells b c k) [
         | inl q ↦ stream_below_trans a.stream b.stream c.stream p q
         | inr q ↦ subst (λ s. stream_below a.stream s ≡ true) (same_stream-is b.stream c.stream q.0) p
       ])
   | inr p ↦ (let e : a.stream ≡ b.stream = same_stream-is a.stream b.stream p.0 in elim (tells b c k) [
-    | inl q ↦ lex_first (stream_below a.stream c.stream) (same_stream a.stream c.stream) (nat_lt a.number c.number)
+    | inl q ↦ or_left (stream_below a.stream c.stream) (same_stream a.stream c.stream && nat_lt a.number c.number)
         (subst (λ s. stream_below s c.stream ≡ true) (sym e) q)
     | inr q ↦ lex_then (stream_below a.stream c.stream) (same_stream a.stream c.stream) (nat_lt a.number c.number)
         (subst (λ s. same_stream s c.stream ≡ true) (sym e) q.0) (nat_lt_trans a.number b.number c.number p.1 q.1)
@@ -88,8 +85,8 @@ three_ways a b = elim (cases_lt a b) [
 -- so it is with what is ordered by one thing and then by another
 page_three_ways : (a b : Page) → (page_below a b ≡ true) ⊎ ((a ≡ b) ⊎ (page_below b a ≡ true))
 page_three_ways a b = elim (three_ways a.creator b.creator) [
-  | inl less ↦ inl (lex_first (nat_lt a.creator b.creator) (a.creator == b.creator) (nat_lt a.number b.number) less)
-  | inr (inr more) ↦ inr (inr (lex_first (nat_lt b.creator a.creator) (b.creator == a.creator) (nat_lt b.number a.number) more))
+  | inl less ↦ inl (or_left (nat_lt a.creator b.creator) ((a.creator == b.creator) && nat_lt a.number b.number) less)
+  | inr (inr more) ↦ inr (inr (or_left (nat_lt b.creator a.creator) ((b.creator == a.creator) && nat_lt b.number a.number) more))
   | inr (inl same) ↦ elim (three_ways a.number b.number) [
     | inl less ↦ inl (lex_then (nat_lt a.creator b.creator) (a.creator == b.creator) (nat_lt a.number b.number) (eq-eqb a.creator b.creator same) less)
     | inr (inl equal) ↦ inr (inl (same_page-is a b (and_from _ _ (eq-eqb a.creator b.creator same) (eq-eqb a.number b.number equal))))
@@ -99,8 +96,8 @@ page_three_ways a b = elim (three_ways a.creator b.creator) [
 
 stream_three_ways : (a b : Stream) → (stream_below a b ≡ true) ⊎ ((a ≡ b) ⊎ (stream_below b a ≡ true))
 stream_three_ways a b = elim (three_ways a.source b.source) [
-  | inl less ↦ inl (lex_first (nat_lt a.source b.source) (a.source == b.source) (page_below a.page b.page) less)
-  | inr (inr more) ↦ inr (inr (lex_first (nat_lt b.source a.source) (b.source == a.source) (page_below b.page a.page) more))
+  | inl less ↦ inl (or_left (nat_lt a.source b.source) ((a.source == b.source) && page_below a.page b.page) less)
+  | inr (inr more) ↦ inr (inr (or_left (nat_lt b.source a.source) ((b.source == a.source) && page_below b.page a.page) more))
   | inr (inl same) ↦ elim (page_three_ways a.page b.page) [
     | inl less ↦ inl (lex_then (nat_lt a.source b.source) (a.source == b.source) (page_below a.page b.page) (eq-eqb a.source b.source same) less)
     | inr (inl equal) ↦ inr (inl (stream_parts a b same equal))
@@ -110,8 +107,8 @@ stream_three_ways a b = elim (three_ways a.source b.source) [
 
 name_three_ways : (a b : FullName) → (name_below a b ≡ true) ⊎ ((a ≡ b) ⊎ (name_below b a ≡ true))
 name_three_ways a b = elim (stream_three_ways a.stream b.stream) [
-  | inl less ↦ inl (lex_first (stream_below a.stream b.stream) (same_stream a.stream b.stream) (nat_lt a.number b.number) less)
-  | inr (inr more) ↦ inr (inr (lex_first (stream_below b.stream a.stream) (same_stream b.stream a.stream) (nat_lt b.number a.number) more))
+  | inl less ↦ inl (or_left (stream_below a.stream b.stream) (same_stream a.stream b.stream && nat_lt a.number b.number) less)
+  | inr (inr more) ↦ inr (inr (or_left (stream_below b.stream a.stream) (same_stream b.stream a.stream && nat_lt b.number a.number) more))
   | inr (inl same) ↦ elim (three_ways a.number b.number) [
     | inl less ↦ inl (lex_then (stream_below a.stream b.stream) (same_stream a.stream b.stream) (nat_lt a.number b.number) (equal_streams a.stream b.stream same) less)
     | inr (inl equal) ↦ inr (inl (name_parts a b same equal))
