@@ -2,7 +2,7 @@
 use Rattle.std.specs.Prelude.{◌≡◌, ℕ, List, [], ◌∷◌, ◌++◌, length, replicate, Result, Ok, Err, true, false, take, refl}
 use Rattle.std.proofs.Common.{inl, inr}
 use Rattle.srm_names.specs.declared.stream.Stream.{Stream}
-use Rattle.srm_names.specs.Names.{first_page, named}
+use Rattle.srm_names.specs.Names.{first_page, named, stream_on}
 use Rattle.srm_codec.specs.declared.datagram.Datagram.{Datagram}
 use Rattle.srm_codec.specs.declared.datagram.Datagram.TheVariants.{Data, Request, Session}
 use Rattle.srm_codec.specs.declared.fault.DecodeFault.TheVariants.{Short, Number, Length, Order, Source, Memory}
@@ -13,7 +13,7 @@ use Rattle.srm_codec.specs.Reading.{IsJudged, takes_memory}
 use Rattle.srm_codec.specs.Judging.{front_at, judge, magic_at, version_at, kind_at, session_at, member_at, moment_at, page_at, source_at, stream_at, name_at, body_at, drawop_at, only_drawop, mask_at, flag_at, echo_at, items_at, list_at, any_stream_at, number_in_stream_at, echo_member_at, size_at, data_of, request_of, packed_of, repair_of, session_of, contents_of}
 
 abbrev zero_stream : Stream
-zero_stream = record { source = 0; page = first_page }
+zero_stream = stream_on 0 first_page
 
 abbrev hi : Datagram
 hi = Data (record { name = named zero_stream 1; stamp = 0; body = 0x68 ∷ 0x69 ∷ [] })
