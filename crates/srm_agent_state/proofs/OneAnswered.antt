@@ -35,6 +35,7 @@ use Rattle.srm_entries.specs.Timers.{asker, fix_running, held_off, ask_running}
 use Rattle.srm_entries.specs.Verdicts.{settlings}
 use Rattle.srm_agent_state.specs.TimersKept.{TimersContent, TimersFit}
 use Rattle.srm_agent_state.specs.TimerCalls.{IsRequestHeard}
+use Rattle.srm_entries.proofs.Plain.{neither}
 use Rattle.srm_entries.proofs.Setting.{of_kind}
 use Rattle.srm_agent_state.proofs.Midway.{Midway}
 use Rattle.srm_agent_state.proofs.Missing.{no_name}
@@ -79,10 +80,6 @@ plan_name name a (Some w) e = let same : plan_of a ≡ plan_at name w = cc in ap
 
 arm_one : (n name : FullName) (arm : Option Arm) (w : Option WaitBasis) → option_map plan_of arm ≡ option_map (plan_at name) w → arm_of n (option_to_list arm) ≡ (if same_name n name then arm else None)
 arm_one n name None w e = neither (same_name n name)
-  where
-    neither : (b : Bool) → ◌≡◌ {A = Option Arm} None (if b then None else None)
-    neither true = refl
-    neither false = refl
 arm_one n name (Some a) w e = ap (λ m. cond (same_name n m) (Some a) None) (plan_name name a w e)
 
 option_plans : (name : FullName) (d : ℕ) (o : Option ℕ) → option_map (ask_plan name d) o ≡ option_map (plan_at name) (option_map (λ i. asks.ask_basis i d) o)
