@@ -12,7 +12,7 @@ use Rattle.srm_entries.specs.declared.entry.Input.{Input}
 use Rattle.srm_entries.specs.declared.entry.Input.TheVariants.{Drew, Ticked, AskedLeave}
 use Rattle.srm_entries.specs.Entries.{is_missing, is_tick}
 use Rattle.srm_entries.specs.Sessions.{SessionRight, EndsWith, session_message_due, charged}
-use Rattle.srm_entries.specs.Bucket.{Going, GoesAsCharged, entries_of, datagrams_of, bucket_calls}
+use Rattle.srm_entries.specs.Bucket.{Going, idle, GoesAsCharged, entries_of, datagrams_of, bucket_calls}
 use Rattle.srm_entries.specs.Runs.{EntryRight, IsMemberRun}
 use Rattle.srm_entries.proofs.Parting.{tick_draws_nothing}
 use Rattle.srm_entries.proofs.Rating.{not_nil, rate_law}
@@ -21,7 +21,7 @@ use Rattle.std.specs.List.{AllByRecursion}
 use Rattle.srm_entries.specs.Promises.{MayDoNothing, IsNextDue}
 use Rattle.srm_agent.proofs.NextDueRests.{gone_rests, idle_rests}
 use Rattle.srm_agent.proofs.NextDueStirs.{nothing_went}
-use Rattle.srm_entries.specs.Sample.{first_stream, idle, config}
+use Rattle.srm_entries.specs.Sample.{first_stream, config}
 use Rattle.srm_entries.proofs.Plain.{plain, idle_right, right, missing_none, unknown_unmissed}
 
 -- a new member: its first session message is due after a second

@@ -1,6 +1,6 @@
 -- An entry that hears, draws, sets and hands out nothing: what it leaves as it was. And one that sends nothing either.
 use Rattle.std.proofs.Common.{◌≡◌, ℕ, ◌+◌, Bool, true, false, not, ◌&&◌, ◌||◌, List, [], ◌∷◌, ◌++◌, refl, ap, sym, ◌∙◌, subst}
-use Rattle.std.specs.Prelude.{Option, None, option_map, is_some, if◌then◌else◌, unwrap_or}
+use Rattle.std.specs.Prelude.{None, option_map, is_some, if◌then◌else◌, unwrap_or}
 use Rattle.std.proofs.Math.Bool.{or-false}
 use Rattle.std.proofs.lemmas.Bool.{and_left}
 use Rattle.std.proofs.lemmas.List.{append-nil, map-append}
@@ -19,7 +19,7 @@ use Rattle.srm_entries.specs.Configs.{Config}
 use Rattle.srm_entries.specs.Entries.{accepted, ticked, state, is_gone, is_missing, is_held}
 use Rattle.srm_entries.specs.Timers.{arm_in, last_ask, fix_running, held_off, asker, asker_in, repaired, repairs_in, ask_exponent, ask_basis_of, fix_basis_of, basis_of, ArmsRight, TimersRight, only_if}
 use Rattle.srm_entries.specs.Sessions.{session_due, session_due_after, session_message_due, EndsWith, SessionRight}
-use Rattle.srm_entries.specs.Bucket.{Going, GoesAsCharged, entries_of, bucket_calls, calls_by}
+use Rattle.srm_entries.specs.Bucket.{Going, idle, GoesAsCharged, entries_of, bucket_calls, calls_by}
 use Rattle.srm_agent_state.specs.TimersKept.{TimersContent, TimersFit}
 use Rattle.srm_agent_state.proofs.Midway.{if_none}
 use Rattle.srm_agent.specs.Fits.{BucketFits}
@@ -27,6 +27,7 @@ use Rattle.srm_entries.proofs.Adding.{last_ask-snoc, fix_running-snoc, held_off-
 use Rattle.srm_entries.proofs.Showing.{IsQuiet}
 use Rattle.srm_entries.proofs.Quiet.{same_missing}
 use Rattle.srm_entries.proofs.Running.{steps_more}
+use Rattle.srm_entries.proofs.Silence.{no_ending}
 use Rattle.srm_entries.proofs.Arming.{ask_at}
 use Rattle.srm_entries.proofs.Cutting.{bucket_calls-append}
 
@@ -85,24 +86,21 @@ timers_stay c past e t q h = record {
 
 -- the bucket
 
-abbrev still : Entry → Going
-still e = record { entry = e; goes = [] }
-
-no_calls : (me : ℕ) (gs : List Going) (e : Entry) → e.effects.drawn ≡ None → e.effects.asks ≡ [] → e.effects.fixes ≡ [] → IsIdle (entries_of gs) e → calls_by me (record { before = gs; this = still e }) ≡ []
+no_calls : (me : ℕ) (gs : List Going) (e : Entry) → e.effects.drawn ≡ None → e.effects.asks ≡ [] → e.effects.fixes ≡ [] → IsIdle (entries_of gs) e → calls_by me (record { before = gs; this = idle e }) ≡ []
 no_calls me gs e undrawn unasked unfixed i = rw (undrawn, unasked, unfixed, i.rests) refl
 
-same_calls : (me : ℕ) (gs : List Going) (e : Entry) → e.effects.drawn ≡ None → e.effects.asks ≡ [] → e.effects.fixes ≡ [] → IsIdle (entries_of gs) e → bucket_calls me (gs ++ still e ∷ []) ≡ bucket_calls me gs
+same_calls : (me : ℕ) (gs : List Going) (e : Entry) → e.effects.drawn ≡ None → e.effects.asks ≡ [] → e.effects.fixes ≡ [] → IsIdle (entries_of gs) e → bucket_calls me (gs ++ idle e ∷ []) ≡ bucket_calls me gs
 same_calls me gs e undrawn unasked unfixed i =
-    bucket_calls-append me gs (still e ∷ []) ∙ ap (λ cs. bucket_calls me gs ++ (cs ++ [])) (no_calls me gs e undrawn unasked unfixed i) ∙ append-nil (bucket_calls me gs)
+    bucket_calls-append me gs (idle e ∷ []) ∙ ap (λ cs. bucket_calls me gs ++ (cs ++ [])) (no_calls me gs e undrawn unasked unfixed i) ∙ append-nil (bucket_calls me gs)
 
-quiet_goes : (gs : List Going) (e : Entry) → IsIdle (entries_of gs) e → GoesAsCharged (record { before = gs; this = still e })
+quiet_goes : (gs : List Going) (e : Entry) → IsIdle (entries_of gs) e → GoesAsCharged (record { before = gs; this = idle e })
 quiet_goes gs e i = record { same = rw i.outs refl; at_ticks = rw i.rests refl }
 
 pub bucket_stays : (c : Config) (past : List Entry) (e : Entry) (b : BucketContent Outgoing) → e.effects.drawn ≡ None → e.effects.asks ≡ [] → e.effects.fixes ≡ [] → IsIdle past e → BucketFits c past b → BucketFits c (past ++ e ∷ []) b
 bucket_stays c past e b undrawn unasked unfixed i h = record {
-  goings = h.goings ++ still e ∷ [];
-  entries = map-append (λ (g : Going). g.entry) h.goings (still e ∷ []) ∙ ap (λ es. es ++ e ∷ []) h.entries;
-  goes = steps_more GoesAsCharged h.goings (still e) h.goes (quiet_goes h.goings e (subst (λ es. IsIdle es e) (sym h.entries) i));
+  goings = h.goings ++ idle e ∷ [];
+  entries = map-append (λ (g : Going). g.entry) h.goings (idle e ∷ []) ∙ ap (λ es. es ++ e ∷ []) h.entries;
+  goes = steps_more GoesAsCharged h.goings (idle e) h.goes (quiet_goes h.goings e (subst (λ es. IsIdle es e) (sym h.entries) i));
   calls = h.calls;
   read = h.read ∙ sym (same_calls c.me h.goings e undrawn unasked unfixed (subst (λ es. IsIdle es e) (sym h.entries) i));
   fits = h.fits;
@@ -158,11 +156,6 @@ no_timers past e unasked unfixed i = record {
   asks = record { in_order = rw unasked refl; exact = λ n. rw unasked (sym (never_both (ticked e) (is_gone (state past)) (is_missing past n) (ran_out e.moment (last_ask past n)) i.rests)) };
   fixes = record { in_order = rw unfixed refl; exact = λ n. rw unfixed (sym (never (ticked e) (is_gone (state past)) (ran_out e.moment (fix_running past n)) i.rests)) };
 }
-
-no_ending : (t g : Bool) (rest : Option Bool) → (t && not g) ≡ false → (if not t || g then None else rest) ≡ None
-no_ending true true rest i = refl
-no_ending true false rest i = absurd (cc)
-no_ending false g rest i = refl
 
 pub no_session : (c : Config) (made : ℕ) (past : List Entry) (e : Entry) → IsIdle past e → SessionRight c made past e
 no_session c made past e i =

@@ -18,9 +18,9 @@ use Rattle.srm_timers.specs.Arms.{WaitBasis, wait_basis, next_exponent, ran_out,
 use Rattle.srm_entries.specs.declared.entry.Entry.{Entry}
 use Rattle.srm_entries.specs.Entries.{is_held, is_missing, ticked}
 use Rattle.srm_entries.specs.Timers.{arm_in, ask_due, held_off, basis_of}
-use Rattle.srm_entries.specs.Bucket.{Going, classed, bucket_calls}
+use Rattle.srm_entries.specs.Bucket.{Going, idle, classed, bucket_calls}
 use Rattle.srm_entries.specs.Runs.{EntryRight, IsMemberRun}
-use Rattle.srm_entries.specs.Sample.{first_stream, ticks, ask_arm, idle, gap, one_of_four}
+use Rattle.srm_entries.specs.Sample.{first_stream, ticks, ask_arm, gap, one_of_four}
 use Rattle.srm_entries.proofs.Plain.{idle_right, of_all, neither, missing_none, unknown_unmissed, one_goes}
 use Rattle.srm_entries.proofs.Responding.{response_law}
 

@@ -33,10 +33,10 @@ use Rattle.srm_entries.specs.Timers.{asker, fix_running, held_off, ask_basis_of,
 use Rattle.srm_timers.specs.Arms.{ran_out}
 use Rattle.srm_entries.specs.Verdicts.{VerdictRight}
 use Rattle.srm_entries.specs.Sessions.{SessionRight, charged}
-use Rattle.srm_entries.specs.Bucket.{Going, GoesAsCharged, lets_go, classed}
+use Rattle.srm_entries.specs.Bucket.{Going, idle, GoesAsCharged, lets_go, classed}
 use Rattle.srm_entries.specs.Giving.{MessageRight}
 use Rattle.srm_entries.specs.Runs.{EntryRight, MomentRight, expected_drawop, expected_state}
-use Rattle.srm_entries.specs.Sample.{first_stream, quiet, entry, idle, first_drawop}
+use Rattle.srm_entries.specs.Sample.{first_stream, quiet, entry, first_drawop}
 
 -- a done entry without timers
 abbrev pub plain : ℕ → ℕ → Input → Option Drawop → List Datagram → Option PageMsg → AgentState → Entry

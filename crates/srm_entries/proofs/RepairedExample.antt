@@ -21,9 +21,9 @@ use Rattle.srm_entries.specs.declared.entry.Entry.{Entry}
 use Rattle.srm_entries.specs.Entries.{is_held, is_missing, ticked}
 use Rattle.srm_entries.specs.Distances.{distance}
 use Rattle.srm_entries.specs.Timers.{repaired, ask_due, fix_due, asker, basis_of}
-use Rattle.srm_entries.specs.Bucket.{Going, classed, bucket_calls}
+use Rattle.srm_entries.specs.Bucket.{Going, idle, classed, bucket_calls}
 use Rattle.srm_entries.specs.Runs.{EntryRight, IsMemberRun}
-use Rattle.srm_entries.specs.Sample.{in_roster, first_stream, hears, ticks, fix_arm, idle, first_drawop}
+use Rattle.srm_entries.specs.Sample.{in_roster, first_stream, hears, ticks, fix_arm, first_drawop}
 use Rattle.srm_entries.proofs.Plain.{idle_right, of_all, no_setting, missing_none, unknown_unmissed, one_held, one_spelled, one_goes}
 use Rattle.srm_entries.proofs.Responding.{response_law}
 

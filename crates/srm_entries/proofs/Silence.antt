@@ -31,7 +31,7 @@ charged_none c before after e (gs, q, all, law) rests =
     from us (x ∷ vs) r t all = subst (λ w. charged w ≡ []) (head t) (not_charged us x all.0
         (ap (λ w. ticked x.entry && not (is_gone (state w))) r ∙ ap (λ w. ticked w && not (is_gone (state before))) (head t) ∙ rests))
 
-no_ending : (t gone : Bool) (x : Option Bool) → (t && not gone) ≡ false → (if not t || gone then None else x) ≡ None
+pub no_ending : (t gone : Bool) (x : Option Bool) → (t && not gone) ≡ false → (if not t || gone then None else x) ≡ None
 no_ending true true x e = refl
 no_ending false gone x e = refl
 no_ending true false x e = absurd (cc)

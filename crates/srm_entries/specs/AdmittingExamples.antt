@@ -6,12 +6,12 @@ use Rattle.srm_names.specs.Histories.{count_up}
 use Rattle.srm_codec.specs.declared.datagram.Datagram.TheVariants.{Data}
 use Rattle.srm_codec.specs.Spelling.{length_of}
 use Rattle.srm_bucket.specs.declared.class.Class.TheVariants.{New}
-use Rattle.srm_entries.specs.Bucket.{Going, classed}
+use Rattle.srm_entries.specs.Bucket.{Going, idle, classed}
 use Rattle.srm_entries.specs.Admitting.{draw_length, admits_draw}
 use Rattle.srm_entries.specs.declared.entry.Entry.{Entry}
 use Rattle.srm_entries.specs.declared.entry.Input.TheVariants.{Showed}
 use Rattle.srm_entries.specs.declared.state.AgentState.TheVariants.{Active}
-use Rattle.srm_entries.specs.Sample.{in_roster, drawop_of, quiet, entry, draws, ticks, idle, full}
+use Rattle.srm_entries.specs.Sample.{in_roster, drawop_of, quiet, entry, draws, ticks, full}
 
 lengths : map draw_length (0 ∷ 1 ∷ 1024 ∷ 1025 ∷ 5000 ∷ []) ≡ 27 ∷ 28 ∷ 1051 ∷ 1051 ∷ 1051 ∷ []
 lengths = refl

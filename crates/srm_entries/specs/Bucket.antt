@@ -58,6 +58,10 @@ pub record Going : Type 0 where
   pub entry : Entry
   pub goes : List (Classed Datagram)
 
+-- an entry in which nothing goes
+abbrev pub idle : Entry → Going
+idle e = record { entry = e; goes = [] }
+
 abbrev pub entries_of : List Going → List Entry
 entries_of gs = map (λ g. g.entry) gs
 

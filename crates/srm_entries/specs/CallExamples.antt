@@ -20,11 +20,11 @@ use Rattle.srm_entries.specs.declared.entry.Verdict.TheVariants.{Done, Ignored, 
 use Rattle.srm_entries.specs.Entries.{last_moment, shown, slots, held_at}
 use Rattle.srm_entries.specs.Verdicts.{verdict_of, final, VerdictRight}
 use Rattle.srm_entries.specs.Sessions.{session_message_due, session_due, echoes_owed, expected_row, members_remaining}
-use Rattle.srm_entries.specs.Bucket.{classed, due_item}
+use Rattle.srm_entries.specs.Bucket.{classed, due_item, idle}
 use Rattle.srm_entries.specs.Hearing.{bytes_heard}
 use Rattle.srm_entries.specs.Promises.{page_to_come}
 use Rattle.srm_entries.specs.Runs.{MomentRight, expected_drawop}
-use Rattle.srm_entries.specs.Sample.{in_roster, first_stream, drawop_of, quiet, entry, draws, hears, ticks, idle, let_go, full}
+use Rattle.srm_entries.specs.Sample.{in_roster, first_stream, drawop_of, quiet, entry, draws, hears, ticks, let_go, full}
 
 abbrev trio : ℕ → Config
 trio me = in_roster me 3 4204

@@ -21,10 +21,10 @@ use Rattle.srm_entries.specs.Entries.{done, state, slots, last_moment, known, is
 use Rattle.srm_entries.specs.Timers.{basis_of, ask_due, fix_due, low_of, high_of}
 use Rattle.srm_entries.specs.Verdicts.{verdict_of}
 use Rattle.srm_entries.specs.Sessions.{session_message_due, session_due}
-use Rattle.srm_entries.specs.Bucket.{Going, classed, bucket_calls}
+use Rattle.srm_entries.specs.Bucket.{Going, idle, classed, bucket_calls}
 use Rattle.srm_entries.specs.Giving.{given, taken, GiveRight, next_taken}
 use Rattle.srm_entries.specs.Runs.{MomentRight, expected_drawop, expected_state}
-use Rattle.srm_entries.specs.Sample.{first_stream, first_drawop, second_drawop, third_drawop, draws, hears, ticks, gives, takes, ask_arm, ask_set, at_each, idle, let_go, config}
+use Rattle.srm_entries.specs.Sample.{first_stream, first_drawop, second_drawop, third_drawop, draws, hears, ticks, gives, takes, ask_arm, ask_set, at_each, let_go, config}
 
 -- what the member that draws did
 abbrev pub member_0 : List Entry

@@ -12,9 +12,9 @@ use Rattle.srm_bucket.specs.Ticks.{charge, allowance, level}
 use Rattle.srm_entries.specs.declared.entry.Entry.{Entry}
 use Rattle.srm_entries.specs.declared.state.AgentState.TheVariants.{Active}
 use Rattle.srm_entries.specs.declared.entry.Input.TheVariants.{Showed}
-use Rattle.srm_entries.specs.Bucket.{Going, classed, entries_of}
+use Rattle.srm_entries.specs.Bucket.{Going, idle, classed, entries_of}
 use Rattle.srm_entries.specs.Rates.{of_class, handed_so_far, departed_so_far, queued_of, cost_all, ticks_of}
-use Rattle.srm_entries.specs.Sample.{drawop_of, quiet, entry, draws, ticks, idle, full}
+use Rattle.srm_entries.specs.Sample.{drawop_of, quiet, entry, draws, ticks, full}
 
 -- five data of 1,051 bytes are drawn: four go at once, the fifth 131,375 microseconds later
 abbrev drawn : List Going

@@ -25,9 +25,9 @@ use Rattle.srm_entries.specs.declared.entry.Verdict.TheVariants.{Done, Ignored, 
 use Rattle.srm_entries.specs.Verdicts.{verdict_of}
 use Rattle.srm_entries.specs.Sessions.{session_message_due, session_due, echoes_owed}
 use Rattle.srm_entries.specs.Packing.{packed}
-use Rattle.srm_entries.specs.Bucket.{Going, GoesAsCharged, BucketRight, classed, entries_of, calls_by, bucket_calls}
+use Rattle.srm_entries.specs.Bucket.{Going, idle, GoesAsCharged, BucketRight, classed, entries_of, calls_by, bucket_calls}
 use Rattle.srm_entries.specs.Giving.{GiveRight, given, is_smallest}
-use Rattle.srm_entries.specs.Sample.{in_roster, first_stream, drawop_of, quiet, entry, draws, hears, idle, full}
+use Rattle.srm_entries.specs.Sample.{in_roster, first_stream, drawop_of, quiet, entry, draws, hears, full}
 
 -- verdicts at member 1 in a roster of 3
 abbrev judged : List Entry → Datagram → Verdict

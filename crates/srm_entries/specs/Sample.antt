@@ -100,10 +100,6 @@ fix_set = Some (record { kind = Fix; exponent = 0; distance = 100000 })
 abbrev pub at_each : {X : Type 0} → (Step Entry → X) → List Entry → List X
 at_each f es = map f (steps es)
 
--- an entry in which nothing goes out of the bucket
-abbrev pub idle : Entry → Going
-idle e = record { entry = e; goes = [] }
-
 -- what the bucket lets go in a call: something or nothing in a pop
 abbrev pub popped : Config → List (Call Datagram) → Call Datagram → List (Option (Classed Datagram))
 popped k before (Handed item) = []

@@ -22,10 +22,10 @@ use Rattle.srm_entries.specs.Entries.{done, state, is_missing, released}
 use Rattle.srm_entries.specs.Timers.{basis_of, ask_due, fix_due, held_off, first_asker}
 use Rattle.srm_entries.specs.Verdicts.{verdict_of, final}
 use Rattle.srm_entries.specs.Sessions.{session_message_due, expected_row, echoes_owed, members_remaining}
-use Rattle.srm_entries.specs.Bucket.{classed}
+use Rattle.srm_entries.specs.Bucket.{classed, idle}
 use Rattle.srm_entries.specs.Giving.{given, GiveRight, may_leave}
 use Rattle.srm_entries.specs.Runs.{expected_drawop, expected_state}
-use Rattle.srm_entries.specs.Sample.{in_roster, first_stream, first_drawop, second_drawop, third_drawop, quiet, entry, draws, hears, ticks, gives, ask_arm, fix_arm, ask_set, fix_set, at_each, idle, let_go}
+use Rattle.srm_entries.specs.Sample.{in_roster, first_stream, first_drawop, second_drawop, third_drawop, quiet, entry, draws, hears, ticks, gives, ask_arm, fix_arm, ask_set, fix_set, at_each, let_go}
 use Rattle.std.specs.List.{list_any}
 
 abbrev trio : ℕ → Config

@@ -19,8 +19,8 @@ use Rattle.srm_entries.specs.Timers.{basis_of, last_ask, ask_due, fix_due, fix_r
 use Rattle.srm_entries.specs.Verdicts.{verdict_of}
 use Rattle.srm_entries.specs.Sessions.{session_message_due, session_due}
 use Rattle.srm_entries.specs.Packing.{packed}
-use Rattle.srm_entries.specs.Bucket.{classed}
-use Rattle.srm_entries.specs.Sample.{first_stream, drawop_of, hears, ticks, ask_arm, fix_arm, ask_set, fix_set, at_each, idle, let_go, gap, one_of_four}
+use Rattle.srm_entries.specs.Bucket.{classed, idle}
+use Rattle.srm_entries.specs.Sample.{first_stream, drawop_of, hears, ticks, ask_arm, fix_arm, ask_set, fix_set, at_each, let_go, gap, one_of_four}
 
 -- all words of a list go to the waits of these arms
 abbrev WaitsBy : Config → List Arm → List ℕ → Type 0

@@ -20,10 +20,10 @@ use Rattle.srm_entries.specs.declared.state.AgentState.TheVariants.{Leaving, Gon
 use Rattle.srm_entries.specs.Entries.{state, known}
 use Rattle.srm_entries.specs.Timers.{fix_running}
 use Rattle.srm_entries.specs.Giving.{given, MessageRight}
-use Rattle.srm_entries.specs.Bucket.{GoesAsCharged, bucket_calls}
+use Rattle.srm_entries.specs.Bucket.{GoesAsCharged, bucket_calls, idle}
 use Rattle.srm_entries.specs.Runs.{EntryRight, MomentRight, expected_state}
 use Rattle.srm_entries.specs.Sessions.{SessionMessageRight}
-use Rattle.srm_entries.specs.Sample.{idle, config}
+use Rattle.srm_entries.specs.Sample.{config}
 use Rattle.srm_entries.proofs.Plain.{plain, idle_right, right, missing_none, unknown_unmissed, neither}
 use Rattle.srm_outbox.specs.declared.out.Out.{Out}
 use Rattle.srm_world.specs.Claims.{IsLawfulJournal}

@@ -16,9 +16,9 @@ use Rattle.srm_entries.specs.declared.entry.Entry.{Entry}
 use Rattle.srm_entries.specs.declared.entry.Input.TheVariants.{Drew, Ticked}
 use Rattle.srm_entries.specs.declared.state.AgentState.TheVariants.{Active}
 use Rattle.srm_entries.specs.Giving.{given}
-use Rattle.srm_entries.specs.Bucket.{Going, GoesAsCharged, bucket_calls}
+use Rattle.srm_entries.specs.Bucket.{Going, idle, GoesAsCharged, bucket_calls}
 use Rattle.srm_entries.specs.Runs.{EntryRight}
-use Rattle.srm_entries.specs.Sample.{idle, first_drawop, config}
+use Rattle.srm_entries.specs.Sample.{first_drawop, config}
 use Rattle.srm_entries.proofs.Plain.{plain, idle_right, one_spelled, right, missing_none, one_goes, draws_one, missing_drawn, one_data}
 use Rattle.srm_outbox.specs.declared.out.Out.{Out}
 use Rattle.srm_world.specs.Traces.{Journal}

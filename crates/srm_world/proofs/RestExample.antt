@@ -19,11 +19,11 @@ use Rattle.srm_entries.specs.declared.state.AgentState.TheVariants.{Active}
 use Rattle.srm_entries.specs.declared.entry.Input.TheVariants.{Drew, Heard, Ticked}
 use Rattle.srm_entries.specs.Entries.{shown, known, is_missing, released}
 use Rattle.srm_entries.specs.Sessions.{expected_row, if_positive, SessionMessageRight}
-use Rattle.srm_entries.specs.Bucket.{Going, bucket_calls}
+use Rattle.srm_entries.specs.Bucket.{Going, idle, bucket_calls}
 use Rattle.srm_entries.specs.Runs.{EntryRight, IsMemberRun}
 use Rattle.srm_world.specs.Traces.{Trace, of_member, IsHonest, IsRun}
 use Rattle.srm_world.specs.Claims.{AtRest}
-use Rattle.srm_entries.specs.Sample.{first_stream, idle, first_drawop, config}
+use Rattle.srm_entries.specs.Sample.{first_stream, first_drawop, config}
 use Rattle.srm_entries.proofs.Plain.{plain, idle_right, one_spelled, row_spelled, right, one_held, none_missing_in, missing_none, one_of, one_goes, draws_one, missing_drawn, one_data, one_known, twice_known}
 
 abbrev message_of_0 : Datagram

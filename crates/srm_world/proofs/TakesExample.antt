@@ -25,12 +25,12 @@ use Rattle.srm_entries.specs.Entries.{heard_in, is_missing, state}
 use Rattle.srm_entries.specs.Timers.{asker, fix_running}
 use Rattle.srm_entries.specs.Verdicts.{VerdictRight}
 use Rattle.srm_entries.specs.Sessions.{SessionRight, SessionMessageRight, expected_row, if_positive}
-use Rattle.srm_entries.specs.Bucket.{Going, GoesAsCharged, bucket_calls}
+use Rattle.srm_entries.specs.Bucket.{Going, idle, GoesAsCharged, bucket_calls}
 use Rattle.srm_entries.specs.Giving.{MessageRight}
 use Rattle.srm_entries.specs.Runs.{EntryRight, IsMemberRun, MomentRight, expected_drawop, expected_state}
 use Rattle.srm_entries.specs.declared.entry.Verdict.TheVariants.{Done}
 use Rattle.srm_world.specs.Traces.{Trace, taken_by, IsRun, IsHonest}
-use Rattle.srm_entries.specs.Sample.{first_stream, idle, first_drawop, config}
+use Rattle.srm_entries.specs.Sample.{first_stream, first_drawop, config}
 use Rattle.srm_entries.proofs.Plain.{plain, idle_right, one_spelled, row_spelled, neither, right, one_held, none_missing_in, missing_none, one_of, went_one, all_gone, one_goes, draws_one, missing_drawn, one_data, twice_known}
 
 abbrev sends : Entry
