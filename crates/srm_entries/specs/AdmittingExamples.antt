@@ -1,6 +1,5 @@
 -- What draws are admitted, at worked examples.
 use Rattle.std.specs.Prelude.{◌≡◌, ℕ, true, false, List, [], ◌∷◌, ◌++◌, map, refl}
-use Rattle.srm_names.specs.declared.page.Page.{Page}
 use Rattle.srm_names.specs.declared.drawop.Drawop.{Drawop}
 use Rattle.srm_names.specs.Histories.{count_up}
 use Rattle.srm_codec.specs.declared.datagram.Datagram.TheVariants.{Data}
@@ -11,7 +10,7 @@ use Rattle.srm_entries.specs.Admitting.{draw_length, admits_draw}
 use Rattle.srm_entries.specs.declared.entry.Entry.{Entry}
 use Rattle.srm_entries.specs.declared.entry.Input.TheVariants.{Showed}
 use Rattle.srm_entries.specs.declared.state.AgentState.TheVariants.{Active}
-use Rattle.srm_entries.specs.Sample.{in_roster, drawop_of, quiet, entry, draws, ticks, full}
+use Rattle.srm_entries.specs.Sample.{in_roster, drawop_of, quiet, entry, draws, ticks, full, elsewhere}
 
 lengths : map draw_length (0 ∷ 1 ∷ 1024 ∷ 1025 ∷ 5000 ∷ []) ≡ 27 ∷ 28 ∷ 1051 ∷ 1051 ∷ 1051 ∷ []
 lengths = refl
@@ -49,9 +48,6 @@ answered shows =
 
 answers_are_ahead : map (admits_draw (in_roster 0 2 1051) 0 (answered []) 1) (10509 ∷ 10510 ∷ []) ≡ false ∷ true ∷ []
 answers_are_ahead = refl
-
-abbrev elsewhere : Page
-elsewhere = record { creator = 1; number = 3 }
 
 those_for_others_are_not : map (admits_draw (in_roster 0 2 1051) 0 (answered (entry 0 12 (Showed elsewhere) (quiet Active) ∷ [])) 1) (7009 ∷ 7010 ∷ []) ≡ false ∷ true ∷ []
 those_for_others_are_not = refl

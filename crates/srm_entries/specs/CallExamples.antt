@@ -24,10 +24,7 @@ use Rattle.srm_entries.specs.Bucket.{classed, due_item, idle}
 use Rattle.srm_entries.specs.Hearing.{bytes_heard}
 use Rattle.srm_entries.specs.Promises.{page_to_come}
 use Rattle.srm_entries.specs.Runs.{MomentRight, expected_drawop}
-use Rattle.srm_entries.specs.Sample.{in_roster, first_stream, drawop_of, quiet, entry, draws, hears, ticks, let_go, full}
-
-abbrev trio : ℕ → Config
-trio me = in_roster me 3 4204
+use Rattle.srm_entries.specs.Sample.{in_roster, first_stream, drawop_of, quiet, entry, draws, hears, ticks, let_go, full, trio, known_three}
 
 abbrev page : ℕ → ℕ → Page
 page creator number = record { creator = creator; number = number }
@@ -111,9 +108,6 @@ refusals : map (verdict_of (trio 0) gone) (Drew first_page (replicate 1025 0) �
 refusals = refl
 
 -- an ignored farewell settles nothing, an ignored repair changes nothing
-abbrev known_three : List Entry
-known_three = hears 1 1 (Data (drawop_of 3 0 [])) [] ∷ []
-
 abbrev short_farewell : Datagram
 short_farewell = Session 0 5 true first_page (named first_stream 2 ∷ []) []
 

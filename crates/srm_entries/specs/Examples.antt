@@ -6,10 +6,9 @@ use Rattle.srm_codec.specs.declared.datagram.Datagram.TheVariants.{Data, Request
 use Rattle.srm_codec.specs.Spelling.{bits_set}
 use Rattle.srm_entries.specs.Configs.{Config, default_settings, config_with}
 use Rattle.srm_entries.specs.declared.entry.Entry.{Entry}
-use Rattle.srm_timers.specs.declared.arm.Arm.{Arm}
 use Rattle.srm_entries.specs.Distances.{distance}
 use Rattle.srm_timers.specs.Arms.{wait_basis, arm_of}
-use Rattle.srm_entries.specs.Sample.{in_roster, first_stream, drawop_of, hears, ticks, ask_arm, fix_arm, ask_set, fix_set, gap}
+use Rattle.srm_entries.specs.Sample.{in_roster, first_stream, drawop_of, hears, ticks, ask_arm, fix_arm, ask_set, fix_set, gap, asked}
 use Rattle.srm_entries.specs.Timers.{basis_of, ask_due, fix_due, low_of, high_of}
 
 abbrev config : ℕ → Config
@@ -36,9 +35,6 @@ asks_again : basis_of 1 (gap ∷ []) (ticks 1 1200000 (named first_stream 1 ∷ 
 asks_again = refl
 
 -- a request of another backs it off, and one before the ignore moment does nothing
-abbrev asked : ℕ → List Arm → Entry
-asked now arms = hears 1 now (Request 2 (named first_stream 1) 0) arms
-
 backed_off : basis_of 1 (gap ∷ []) (asked 1050000 []) (named first_stream 1) ≡ ask_set 1
 unfolding bits_set
 backed_off = refl

@@ -5,9 +5,8 @@ use Rattle.std.proofs.Common.{lit≤, arith}
 use Rattle.std.specs.List.{AllByRecursion}
 use Rattle.srm_names.specs.declared.page_msg.PageMsg.{PageMsg}
 use Rattle.srm_names.specs.declared.page_msg.PageMsg.TheVariants.{Open, Draw}
-use Rattle.srm_names.specs.FullName.{FullName}
 use Rattle.srm_names.specs.Histories.{Step, steps}
-use Rattle.srm_names.specs.Names.{first_page, names_up_to}
+use Rattle.srm_names.specs.Names.{first_page}
 use Rattle.srm_names.specs.PageFeeds.{is_page_feed}
 use Rattle.srm_codec.specs.declared.datagram.Datagram.TheVariants.{Data}
 use Rattle.srm_codec.specs.Spelling.{length_of}
@@ -24,7 +23,7 @@ use Rattle.srm_entries.specs.Sessions.{session_message_due, session_due}
 use Rattle.srm_entries.specs.Bucket.{Going, idle, classed, bucket_calls}
 use Rattle.srm_entries.specs.Giving.{given, taken, GiveRight, next_taken}
 use Rattle.srm_entries.specs.Runs.{MomentRight, expected_drawop, expected_state}
-use Rattle.srm_entries.specs.Sample.{first_stream, first_drawop, second_drawop, third_drawop, draws, hears, ticks, gives, takes, ask_arm, ask_set, at_each, let_go, config}
+use Rattle.srm_entries.specs.Sample.{first_stream, first_drawop, second_drawop, third_drawop, draws, hears, ticks, gives, takes, ask_arm, ask_set, at_each, let_go, config, four_names}
 
 -- what the member that draws did
 abbrev pub member_0 : List Entry
@@ -45,9 +44,6 @@ taken_by_1 = map (takes 1 13) messages
 
 abbrev pub member_1 : List Entry
 member_1 = heard_by_1 ++ given_by_1 ++ taken_by_1
-
-abbrev four_names : List FullName
-four_names = names_up_to first_stream 4
 
 -- verdicts: every call is done, also the one that hears a drawop again
 verdicts_0 : at_each (λ s. verdict_of (config 0) s.before s.this.input) member_0 ≡ replicate 4 Done

@@ -1,7 +1,6 @@
 -- The bucket law over entries, at worked examples.
 use Rattle.std.specs.Prelude.{◌≡◌, ◌<◌, List, [], ◌∷◌, ◌++◌, map, Some, None, refl}
 use Rattle.std.proofs.Common.{lit<}
-use Rattle.srm_names.specs.declared.page.Page.{Page}
 use Rattle.srm_names.specs.Histories.{count_up}
 use Rattle.srm_codec.specs.declared.datagram.Datagram.{Datagram}
 use Rattle.srm_codec.specs.declared.datagram.Datagram.TheVariants.{Data, Repair}
@@ -14,7 +13,7 @@ use Rattle.srm_entries.specs.declared.state.AgentState.TheVariants.{Active}
 use Rattle.srm_entries.specs.declared.entry.Input.TheVariants.{Showed}
 use Rattle.srm_entries.specs.Bucket.{Going, idle, classed, entries_of}
 use Rattle.srm_entries.specs.Rates.{of_class, handed_so_far, departed_so_far, queued_of, cost_all, ticks_of}
-use Rattle.srm_entries.specs.Sample.{drawop_of, quiet, entry, draws, ticks, full}
+use Rattle.srm_entries.specs.Sample.{drawop_of, quiet, entry, draws, ticks, full, elsewhere}
 
 -- five data of 1,051 bytes are drawn: four go at once, the fifth 131,375 microseconds later
 abbrev drawn : List Going
@@ -58,9 +57,6 @@ tokens_left : map (λ now. level 8000 4204 now (ticks_of (entries_of (drawn ++ f
 tokens_left = refl
 
 -- the classes: new data waits behind a repair for the page shown, and a repair for another page behind both
-abbrev elsewhere : Page
-elsewhere = record { creator = 1; number = 3 }
-
 abbrev answered : List Entry
 answered = draws 0 1 (drawop_of 1 1 []) ∷ entry 0 2 (Showed elsewhere) (quiet Active) ∷ ticks 0 3 [] ((drawop_of 1 1 []).name ∷ []) [] [] ∷ []
 

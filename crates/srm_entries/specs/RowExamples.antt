@@ -27,14 +27,11 @@ use Rattle.srm_entries.specs.Sessions.{session_message_due, session_due, echoes_
 use Rattle.srm_entries.specs.Packing.{packed}
 use Rattle.srm_entries.specs.Bucket.{Going, idle, GoesAsCharged, BucketRight, classed, entries_of, calls_by, bucket_calls}
 use Rattle.srm_entries.specs.Giving.{GiveRight, given, is_smallest}
-use Rattle.srm_entries.specs.Sample.{in_roster, first_stream, drawop_of, quiet, entry, draws, hears, full}
+use Rattle.srm_entries.specs.Sample.{in_roster, first_stream, drawop_of, quiet, entry, draws, hears, full, known_three}
 
 -- verdicts at member 1 in a roster of 3
 abbrev judged : List Entry → Datagram → Verdict
 judged es g = verdict_of (in_roster 1 3 4204) es (Heard g)
-
-abbrev known_three : List Entry
-known_three = hears 1 1 (Data (drawop_of 3 0 [])) [] ∷ []
 
 abbrev farewell_with : ℕ → Datagram
 farewell_with n = Session 0 5 true first_page (named first_stream n ∷ []) []

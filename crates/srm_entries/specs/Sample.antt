@@ -1,14 +1,15 @@
 -- Settings, drawops and entries for examples.
 use Rattle.std.specs.Prelude.{ℕ, List, [], ◌∷◌, map, Option, Some, None, replicate}
 use Rattle.std.specs.List.{flat_map}
+use Rattle.srm_names.specs.declared.page.Page.{Page}
 use Rattle.srm_names.specs.declared.stream.Stream.{Stream}
 use Rattle.srm_names.specs.declared.drawop.Drawop.{Drawop}
 use Rattle.srm_names.specs.declared.page_msg.PageMsg.{PageMsg}
 use Rattle.srm_names.specs.FullName.{FullName}
 use Rattle.srm_names.specs.Histories.{Step, steps}
-use Rattle.srm_names.specs.Names.{first_page, named}
+use Rattle.srm_names.specs.Names.{first_page, named, names_up_to}
 use Rattle.srm_codec.specs.declared.datagram.Datagram.{Datagram}
-use Rattle.srm_codec.specs.declared.datagram.Datagram.TheVariants.{Data}
+use Rattle.srm_codec.specs.declared.datagram.Datagram.TheVariants.{Data, Request}
 use Rattle.srm_bucket.specs.Calls.{Classed, Call, Handed, Refilled, Popped}
 use Rattle.srm_bucket.specs.Law.{may_go}
 use Rattle.srm_timers.specs.declared.arm.Arm.{Arm}
@@ -28,9 +29,12 @@ use Rattle.srm_entries.specs.Bucket.{Going, bucket_calls}
 abbrev pub in_roster : ℕ → ℕ → ℕ → Config
 in_roster me members depth = record { me = me; members = members; session = 1; rate = 8000; depth = depth; c1 = 2; c2 = 2; d1 = 1; d2 = 1 }
 
--- of one of two members, and of member 1 of four
+-- of one of two members, of one of three, and of member 1 of four
 abbrev pub config : ℕ → Config
 config me = in_roster me 2 4204
+
+abbrev pub trio : ℕ → Config
+trio me = in_roster me 3 4204
 
 abbrev pub one_of_four : Config
 one_of_four = in_roster 1 4 4204
@@ -38,6 +42,13 @@ one_of_four = in_roster 1 4 4204
 -- the stream of member 0 on the first page
 abbrev pub first_stream : Stream
 first_stream = record { source = 0; page = first_page }
+
+abbrev pub four_names : List FullName
+four_names = names_up_to first_stream 4
+
+-- a page that isn't shown
+abbrev pub elsewhere : Page
+elsewhere = record { creator = 1; number = 3 }
 
 abbrev pub drawop_of : ℕ → ℕ → List ℕ → Drawop
 drawop_of number stamp body = record { name = named first_stream number; stamp = stamp; body = body }
@@ -89,6 +100,14 @@ fix_arm number wait = record { kind = Fix; name = named first_stream number; exp
 -- a gap is found: the first drawop is missing
 abbrev pub gap : Entry
 gap = hears 1 1000000 (Data (drawop_of 2 0 [])) (ask_arm 1 0 200000 ∷ [])
+
+-- the first drawop is asked for by another
+abbrev pub asked : ℕ → List Arm → Entry
+asked now arms = hears 1 now (Request 2 (named first_stream 1) 0) arms
+
+-- three drawops are known
+abbrev pub known_three : List Entry
+known_three = hears 1 1 (Data (drawop_of 3 0 [])) [] ∷ []
 
 abbrev pub ask_set : ℕ → Option WaitBasis
 ask_set exponent = Some (record { kind = Ask; exponent = exponent; distance = 100000 })

@@ -1,10 +1,9 @@
 -- The second stored script, step by step: a source draws, sends and leaves; a member that misses a drawop asks for it, and has
 -- it from a third one.
-use Rattle.std.specs.Prelude.{◌≡◌, ℕ, Bool, List, [], ◌∷◌, ◌++◌, map, replicate, true, false, Option, Some, None, option_map, refl}
+use Rattle.std.specs.Prelude.{◌≡◌, Bool, List, [], ◌∷◌, ◌++◌, map, replicate, true, false, Option, Some, None, option_map, refl}
 use Rattle.std.proofs.Common.{arith}
 use Rattle.srm_names.specs.declared.page_msg.PageMsg.TheVariants.{Open, Draw, Left}
-use Rattle.srm_names.specs.FullName.{FullName}
-use Rattle.srm_names.specs.Names.{first_page, named, names_up_to}
+use Rattle.srm_names.specs.Names.{first_page, named}
 use Rattle.srm_names.specs.PageFeeds.{is_page_feed}
 use Rattle.srm_codec.specs.declared.datagram.Datagram.{Datagram}
 use Rattle.srm_codec.specs.declared.datagram.Datagram.TheVariants.{Data, Request, Repair, Session}
@@ -12,7 +11,6 @@ use Rattle.srm_codec.specs.Spelling.{bits_set, length_of, is_farewell}
 use Rattle.srm_bucket.specs.declared.class.Class.TheVariants.{Shown, New}
 use Rattle.srm_timers.specs.Arms.{WaitBasis, wait_basis, arm_of}
 use Rattle.srm_store.specs.Finals.{number_in_rows}
-use Rattle.srm_entries.specs.Configs.{Config}
 use Rattle.srm_entries.specs.declared.entry.Entry.{Entry}
 use Rattle.srm_entries.specs.declared.state.AgentState.TheVariants.{Active, Leaving, Gone}
 use Rattle.srm_entries.specs.declared.entry.Input.TheVariants.{Drew, Ticked, AskedLeave}
@@ -25,11 +23,8 @@ use Rattle.srm_entries.specs.Sessions.{session_message_due, expected_row, echoes
 use Rattle.srm_entries.specs.Bucket.{classed, idle}
 use Rattle.srm_entries.specs.Giving.{given, GiveRight, may_leave}
 use Rattle.srm_entries.specs.Runs.{expected_drawop, expected_state}
-use Rattle.srm_entries.specs.Sample.{in_roster, first_stream, first_drawop, second_drawop, third_drawop, quiet, entry, draws, hears, ticks, gives, ask_arm, fix_arm, ask_set, fix_set, at_each, let_go}
+use Rattle.srm_entries.specs.Sample.{first_stream, first_drawop, second_drawop, third_drawop, quiet, entry, draws, hears, ticks, gives, ask_arm, fix_arm, ask_set, fix_set, at_each, let_go, trio, four_names}
 use Rattle.std.specs.List.{list_any}
-
-abbrev trio : ℕ → Config
-trio me = in_roster me 3 4204
 
 abbrev pub farewell : Datagram
 farewell = Session 0 21 true first_page (named first_stream 3 ∷ []) []
@@ -84,9 +79,6 @@ repairs = ticks 2 100100 [] (named first_stream 2 ∷ []) [] (Repair 2 second_dr
 
 abbrev pub member_2 : List Entry
 member_2 = heard_by_2 ++ asked_of_2 ∷ ticks 2 100099 [] [] [] [] ∷ repairs ∷ []
-
-abbrev four_names : List FullName
-four_names = names_up_to first_stream 4
 
 abbrev none_of_four : List (Option WaitBasis)
 none_of_four = None ∷ None ∷ None ∷ None ∷ []

@@ -20,7 +20,7 @@ use Rattle.srm_entries.specs.Verdicts.{verdict_of}
 use Rattle.srm_entries.specs.Sessions.{session_message_due, session_due}
 use Rattle.srm_entries.specs.Packing.{packed}
 use Rattle.srm_entries.specs.Bucket.{classed, idle}
-use Rattle.srm_entries.specs.Sample.{first_stream, drawop_of, hears, ticks, ask_arm, fix_arm, ask_set, fix_set, at_each, let_go, gap, one_of_four}
+use Rattle.srm_entries.specs.Sample.{first_stream, drawop_of, hears, ticks, ask_arm, fix_arm, ask_set, fix_set, at_each, let_go, gap, one_of_four, asked}
 
 -- all words of a list go to the waits of these arms
 abbrev WaitsBy : Config → List Arm → List ℕ → Type 0
@@ -50,9 +50,6 @@ half_of_an_odd_wait : ignored_until (record { set = 10; arm = near_arm 1 1 5 }) 
 half_of_an_odd_wait = refl
 
 -- a gap, and two requests of another member: the second comes before the ignore moment, or at it
-abbrev asked : ℕ → List Arm → Entry
-asked now arms = hears 1 now (Request 2 (named first_stream 1) 0) arms
-
 abbrev backed_off : List Entry
 backed_off = gap ∷ asked 1050000 (ask_arm 1 1 400000 ∷ []) ∷ []
 
