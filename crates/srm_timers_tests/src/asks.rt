@@ -2,7 +2,7 @@
 
 ghost use Rattle.srm_timers.specs.Distances.{AreDistances};
 
-use crate::fixtures::{all_at, ask, name, no_asks, words};
+use crate::fixtures::{all_at, ask, check_next, name, no_asks, words};
 use srm_names::{LATEST_MOMENT, LONGEST_DISTANCE, Name};
 use srm_timers::{Arm, Asks, GREATEST_TIMER_SETTING, Listed, Scanned};
 use std::alloc::Global;
@@ -97,7 +97,7 @@ fn check_round(
 )
     requires { AreDistances dist.now }
 {
-    check_next(rt, asks, Some(end));
+    check_next(rt, asks.next(), Some(end));
     check_due(rt, alloc, asks, dist, end.saturating_sub(1), words, &[]);
     check_due(rt, alloc, asks, dist, end, words, &[wanted])
 }
@@ -118,10 +118,6 @@ fn check_heard(
     assert_eq!(rt; arm, wanted, "{now}");
 }
 
-fn check_next(rt: &impl Abort, asks: &Asks<Scanned>, wanted: Option<u64>) {
-    assert_eq!(rt; asks.next(), wanted);
-}
-
 /// Takes a step, and compares what comes of it.
 fn take(
     rt: &impl Abort,
@@ -136,7 +132,7 @@ fn take(
 {
     let missing = name(rt, 1);
     match step {
-        Step::Next(wanted) => check_next(rt, asks, wanted),
+        Step::Next(wanted) => check_next(rt, asks.next(), wanted),
         Step::Early(now) => check_due(rt, alloc, asks, dist, now, words, &[]),
         Step::Due(now, exponent, wait) => {
             check_due(

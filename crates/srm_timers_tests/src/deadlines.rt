@@ -4,6 +4,7 @@ ghost use Rattle.std.specs.Prelude.{◌≡◌, true, IfOk};
 ghost use Rattle.srm_names.specs.Names.{ascending, name_below};
 ghost use Rattle.srm_deadlines.specs.Places.{names_of};
 
+use crate::fixtures::check_next;
 use srm_names::Name;
 use srm_timers::{
     Deadlines, Listed, Ordered, Pcg, Scanned, Timed, Tree, Words, put_names, wait_between,
@@ -188,10 +189,6 @@ fn tree_has_many_names_as_scanned(rt: HostRuntime) -> Result<(), Fail> {
     Ok(())
 }
 
-fn check_next<D: Deadlines>(deadlines: &D, wanted: Option<u64>, rt: &impl Abort) {
-    assert_eq!(rt; deadlines.next(), wanted);
-}
-
 fn check_due<D: Deadlines>(
     alloc: Global,
     deadlines: &D,
@@ -210,10 +207,10 @@ fn sets<D: Deadlines>(
     [a, b, c]: [Name; 3],
     rt: &impl Abort,
 ) -> Result<(), AllocError> {
-    check_next(deadlines, None, rt);
+    check_next(rt, deadlines.next(), None);
     arm(deadlines, b, 50)?;
     arm(deadlines, c, 30)?;
-    check_next(deadlines, Some(30), rt);
+    check_next(rt, deadlines.next(), Some(30));
     let moments = [
         Timed {
             name: a,
@@ -251,9 +248,9 @@ fn sets_and_reads<D: Deadlines>(
     sets(alloc, deadlines, names, rt)?;
     reads(alloc, deadlines, names, rt)?;
     clear_due(alloc, deadlines, 40)?;
-    check_next(deadlines, Some(50), rt);
+    check_next(rt, deadlines.next(), Some(50));
     deadlines.clear(names[1]);
-    check_next(deadlines, None, rt);
+    check_next(rt, deadlines.next(), None);
     Ok(())
 }
 

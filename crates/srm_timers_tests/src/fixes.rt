@@ -2,7 +2,7 @@
 
 ghost use Rattle.srm_timers.specs.Distances.{AreDistances};
 
-use crate::fixtures::{all_at, fix, member, name, near_and_far, no_fixes, words};
+use crate::fixtures::{all_at, check_next, fix, member, name, near_and_far, no_fixes, words};
 use srm_names::{LATEST_MOMENT, Name};
 use srm_timers::{Fixes, Listed, Scanned};
 use std::alloc::Global;
@@ -76,10 +76,6 @@ fn check_due(
     assert_eq!(rt; names.len(), count);
 }
 
-fn check_next(rt: &impl Abort, fixes: &Fixes<Scanned>, wanted: Option<u64>) {
-    assert_eq!(rt; fixes.next(), wanted);
-}
-
 fn check_free(rt: &impl Abort, fixes: &Fixes<Scanned>, now: u64, wanted: bool) {
     assert_eq!(rt; fixes.is_free(name(rt, 1), now), wanted, "{now}");
 }
@@ -117,7 +113,7 @@ fn take(
         }
         Step::Repair(now) => check_repair(rt, fixes, dist, now),
         Step::Due(now, count) => check_due(rt, alloc, fixes, dist, now, count),
-        Step::Next(wanted) => check_next(rt, fixes, wanted),
+        Step::Next(wanted) => check_next(rt, fixes.next(), wanted),
         Step::Free(now, wanted) => check_free(rt, fixes, now, wanted),
         Step::Asker(wanted) => check_asker(rt, fixes, wanted),
     }
@@ -207,8 +203,8 @@ fn a_caller_sets_timers_in_an_order_of_its_own(rt: HostRuntime) {
     fixes.note_asker(held, member(&rt, 1));
     let arm = fixes.arm(held, 100_000, &mut words);
     fixes.set_all(10, &[arm]);
-    check_next(&rt, &fixes, Some(100_010));
+    check_next(&rt, fixes.next(), Some(100_010));
     fixes.repaired(held, 100_000, 20);
-    check_next(&rt, &fixes, None);
+    check_next(&rt, fixes.next(), None);
     check_asker(&rt, &fixes, 1);
 }

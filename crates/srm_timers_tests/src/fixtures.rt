@@ -39,6 +39,11 @@ pub(crate) fn near_and_far(near: u64, far: u64) -> [u64; 32]
     dist
 }
 
+/// The least moment of all, if there is any.
+pub(crate) fn check_next(rt: &impl Abort, next: Option<u64>, wanted: Option<u64>) {
+    assert_eq!(rt; next, wanted);
+}
+
 /// These words, and then 0.
 pub(crate) fn words(rt: &impl Abort, alloc: Global, words: &[u64]) -> Listed {
     Listed::new(words.to_vec(alloc).expect(rt, "memory"))
