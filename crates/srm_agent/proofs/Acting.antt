@@ -10,7 +10,7 @@ use Rattle.srm_codec.specs.declared.datagram.Datagram.TheVariants.{Data, Request
 use Rattle.srm_timers.specs.declared.arm.Arm.{Arm}
 use Rattle.srm_timers.specs.Arms.{AreChosen}
 use Rattle.srm_bucket.specs.declared.class.Class.TheVariants.{Shown, New, Other}
-use Rattle.srm_bucket.specs.Fits.{Stays as BucketStays}
+use Rattle.srm_bucket.specs.Fits.{BucketStays}
 use Rattle.srm_bucket.specs.Waiting.{Waiting, SameQueues, queue, count_of}
 use Rattle.srm_agent.specs.declared.agent.due.Due.{Due}
 use Rattle.srm_agent.specs.declared.agent.due.DueSessionMessage.{DueSessionMessage}
@@ -22,19 +22,19 @@ use Rattle.srm_outbox.specs.declared.out.Outgoing.{Outgoing}
 use Rattle.srm_entries.specs.declared.state.AgentState.{AgentState}
 use Rattle.srm_entries.specs.declared.state.AgentState.TheVariants.{Active, Leaving, Gone}
 use Rattle.srm_entries.specs.Configs.{Config}
-use Rattle.srm_agent.specs.Contents.{Content}
+use Rattle.srm_agent.specs.Contents.{AgentContent}
 use Rattle.srm_entries.specs.Entries.{state, is_gone, is_leaving}
 use Rattle.srm_entries.specs.Timers.{low_of, high_of, TimersRight}
 use Rattle.srm_codec.specs.Spelling.{is_session, is_farewell}
 use Rattle.srm_entries.specs.Sessions.{session_interval, IsSessionMessage, session_message_due}
 use Rattle.srm_entries.specs.Runs.{expected_state}
-use Rattle.srm_agent.specs.Fits.{Fits, BucketFits}
+use Rattle.srm_agent.specs.Fits.{AgentFits, BucketFitsPast}
 use Rattle.srm_agent_state.specs.TimersKept.{TimersFit}
 use Rattle.srm_outbox.specs.Outs.{IsOut, IsOutgoing, IsOwn, AreOwn, datagrams_of}
 use Rattle.srm_agent_state.specs.TimerCalls.{TicksWith, TimersAdd, TimersStay}
 use Rattle.srm_outbox.specs.DueItems.{AreDueItems}
 use Rattle.srm_outbox.specs.Outbox.{WentContent}
-use Rattle.srm_agent.specs.Noting.{Stays}
+use Rattle.srm_agent.specs.Noting.{AgentStays}
 use Rattle.srm_agent.specs.Ticking.{TicksAs, tick_entry, IsSessionMessageAt, IsSessionMessageIf, IsDue, HandsOut, SendsAll, data_waits, session_message_at_end, state_after, due_then}
 use Rattle.srm_entries.proofs.Ending.{ending_of, ending_is, EndsIn, NoSessions, charged_is, due_by}
 use Rattle.srm_agent.proofs.Entering.{max_above}
@@ -57,15 +57,15 @@ abbrev pub noted_of : DueSessionMessage → Datagram
 noted_of r = r.outgoing.noted
 
 -- want of memory: there is room in the bucket, the timers stay, and no word was used
-pub tick_stays : {W : Type 0} (a b d : Content W) → b ≡ record a { bucket = b.bucket } → BucketStays a.bucket b.bucket → d ≡ record b { timers = d.timers; words = d.words }
-    → TimersStay b.timers d.timers → d.words ≡ b.words → Stays a d
+pub tick_stays : {W : Type 0} (a b d : AgentContent W) → b ≡ record a { bucket = b.bucket } → BucketStays a.bucket b.bucket → d ≡ record b { timers = d.timers; words = d.words }
+    → TimersStay b.timers d.timers → d.words ≡ b.words → AgentStays a d
 tick_stays a b d room bucket rest timers words = record {
-  fits = λ c made past h. subst (Fits c made past) (sym rest) (subst (λ x. Fits c made past (record x { timers = d.timers; words = d.words })) (sym room) (refit c made past a a.store d.timers b.bucket d.words h h.store (timers.each c past (subst (TimersFit c past) (sym (ap (λ x. x.timers) room)) h.timers)) (roomy c past a.bucket b.bucket bucket h.bucket)));
+  fits = λ c made past h. subst (AgentFits c made past) (sym rest) (subst (λ x. AgentFits c made past (record x { timers = d.timers; words = d.words })) (sym room) (refit c made past a a.store d.timers b.bucket d.words h h.store (timers.each c past (subst (TimersFit c past) (sym (ap (λ x. x.timers) room)) h.timers)) (roomy c past a.bucket b.bucket bucket h.bucket)));
   words = words ∙ ap (λ x. x.words) room;
 }
 
 -- all steps of a tick, from the agent as it was to the one after it
-pub record Acts {W : Type 0} (next_word : W → ℕ × W) (a b d f z : Content W) (moment : ℕ) (due : Due) (arms : List Arm) (went : WentContent) (last : Option DueSessionMessage) (outs : List Datagram) : Type 0 where
+pub record Acts {W : Type 0} (next_word : W → ℕ × W) (a b d f z : AgentContent W) (moment : ℕ) (due : Due) (arms : List Arm) (went : WentContent) (last : Option DueSessionMessage) (outs : List Datagram) : Type 0 where
   pub here : is_gone a.state ≡ false
   pub later : a.last ≤ moment
   pub due_is : IsDue a moment due
@@ -98,31 +98,31 @@ each_last P true farewell message p q = q
 each_last P false None message p q = q
 each_last P false (Some r) message p q = p
 
-if_some : {W : Type 0} (a : Content W) (moment : ℕ) (farewell : Bool) (P : DueSessionMessage → Type 0) → ((r : DueSessionMessage) → IsSessionMessageAt a moment farewell r → P r) → (wanted : Bool) (o : Option DueSessionMessage) → IsSessionMessageIf wanted a moment farewell o → IfSome o P
+if_some : {W : Type 0} (a : AgentContent W) (moment : ℕ) (farewell : Bool) (P : DueSessionMessage → Type 0) → ((r : DueSessionMessage) → IsSessionMessageAt a moment farewell r → P r) → (wanted : Bool) (o : Option DueSessionMessage) → IsSessionMessageIf wanted a moment farewell o → IfSome o P
 if_some a moment farewell P each wanted None h = tt
 if_some a moment farewell P each wanted (Some r) h = each r h.1
 
-message_sent : {W : Type 0} (a : Content W) (moment : ℕ) (farewell : Bool) (r : DueSessionMessage) → IsSessionMessageAt a moment farewell r → IsSent a.config.me r.outgoing.noted
+message_sent : {W : Type 0} (a : AgentContent W) (moment : ℕ) (farewell : Bool) (r : DueSessionMessage) → IsSessionMessageAt a moment farewell r → IsSent a.config.me r.outgoing.noted
 message_sent a moment farewell r h = subst (IsSent a.config.me) (sym h.message.outgoing.noted) (record { sender = h.message.message.sender; spellable = h.message.message.spellable })
 
-message_next : {W : Type 0} (c : Config) (made : ℕ) (past : List Entry) (a : Content W) (moment : ℕ) (farewell : Bool) (r : DueSessionMessage) → Fits c made past a → IsSessionMessageAt a moment farewell r
+message_next : {W : Type 0} (c : Config) (made : ℕ) (past : List Entry) (a : AgentContent W) (moment : ℕ) (farewell : Bool) (r : DueSessionMessage) → AgentFits c made past a → IsSessionMessageAt a moment farewell r
     → r.next ≡ moment + session_interval c past r.outgoing.noted
 message_next c made past a moment farewell r fits h = h.next c made past fits ∙ ap (λ g. moment + session_interval c past g) (sym h.message.outgoing.noted)
 
-message_is : {W : Type 0} (c : Config) (made : ℕ) (past : List Entry) (a : Content W) (moment : ℕ) (farewell : Bool) (r : DueSessionMessage) → Fits c made past a → IsSessionMessageAt a moment farewell r → IsSessionMessage c past moment farewell r.outgoing.noted
+message_is : {W : Type 0} (c : Config) (made : ℕ) (past : List Entry) (a : AgentContent W) (moment : ℕ) (farewell : Bool) (r : DueSessionMessage) → AgentFits c made past a → IsSessionMessageAt a moment farewell r → IsSessionMessage c past moment farewell r.outgoing.noted
 message_is c made past a moment farewell r fits h = subst (IsSessionMessage c past moment farewell) (sym h.message.outgoing.noted) (h.message.message.right c made past fits)
 
-message_leaves : {W : Type 0} (a : Content W) (moment : ℕ) (farewell : Bool) (r : DueSessionMessage) → IsSessionMessageAt a moment farewell r → is_farewell r.outgoing.noted ≡ farewell
+message_leaves : {W : Type 0} (a : AgentContent W) (moment : ℕ) (farewell : Bool) (r : DueSessionMessage) → IsSessionMessageAt a moment farewell r → is_farewell r.outgoing.noted ≡ farewell
 message_leaves a moment farewell r h = ap is_farewell h.message.outgoing.noted ∙ h.message.message.farewell
 
-message_ends : {W : Type 0} (c : Config) (made : ℕ) (past : List Entry) (a : Content W) (moment : ℕ) → Fits c made past a → (is_due : Bool) (message : Option DueSessionMessage) → IsSessionMessageIf is_due a moment false message
+message_ends : {W : Type 0} (c : Config) (made : ℕ) (past : List Entry) (a : AgentContent W) (moment : ℕ) → AgentFits c made past a → (is_due : Bool) (message : Option DueSessionMessage) → IsSessionMessageIf is_due a moment false message
     → EndsIn c past moment (if is_due then Some false else None) (option_map noted_of message)
 message_ends c made past a moment fits false None h = tt
 message_ends c made past a moment fits true None h = absurd (cc)
 message_ends c made past a moment fits false (Some r) h = absurd (let k : false ≡ true = h.0 in cc)
 message_ends c made past a moment fits true (Some r) h = message_is c made past a moment false r fits h.1
 
-ends_in : {W : Type 0} (c : Config) (made : ℕ) (past : List Entry) (a : Content W) (moment : ℕ) → Fits c made past a → (old : AgentState) (waits is_due : Bool) (farewell message : Option DueSessionMessage) → is_gone old ≡ false
+ends_in : {W : Type 0} (c : Config) (made : ℕ) (past : List Entry) (a : AgentContent W) (moment : ℕ) → AgentFits c made past a → (old : AgentState) (waits is_due : Bool) (farewell message : Option DueSessionMessage) → is_gone old ≡ false
     → IsSessionMessageIf (is_leaving old) a moment true farewell → IsSessionMessageIf is_due a moment false message → EndsIn c past moment (ending_of old waits is_due) (option_map noted_of (session_message_at_end waits farewell message))
 ends_in c made past a moment fits Gone waits is_due farewell message here f r = absurd (cc)
 ends_in c made past a moment fits Active true is_due farewell message here f r = message_ends c made past a moment fits is_due message r
@@ -154,12 +154,12 @@ stays_here Active h = refl
 stays_here Leaving h = refl
 stays_here Gone h = refl
 
-message_state : {W : Type 0} (a : Content W) (moment : ℕ) (old : AgentState) → is_gone old ≡ false → (is_due : Bool) (message : Option DueSessionMessage) → IsSessionMessageIf is_due a moment false message
+message_state : {W : Type 0} (a : AgentContent W) (moment : ℕ) (old : AgentState) → is_gone old ≡ false → (is_due : Bool) (message : Option DueSessionMessage) → IsSessionMessageIf is_due a moment false message
     → old ≡ expected_state old (list_any is_farewell (option_to_list (option_map noted_of message))) (Some Ticked)
 message_state a moment old here is_due None h = stays_here old here
 message_state a moment old here is_due (Some r) h = stays_here old here ∙ ap (λ b. expected_state old (b || false) (Some Ticked)) (sym (message_leaves a moment false r h.1))
 
-state_is : {W : Type 0} (a : Content W) (moment : ℕ) (old : AgentState) (waits is_due : Bool) (farewell message : Option DueSessionMessage) → is_gone old ≡ false
+state_is : {W : Type 0} (a : AgentContent W) (moment : ℕ) (old : AgentState) (waits is_due : Bool) (farewell message : Option DueSessionMessage) → is_gone old ≡ false
     → IsSessionMessageIf (is_leaving old) a moment true farewell → IsSessionMessageIf is_due a moment false message
     → state_after waits farewell old ≡ expected_state old (list_any is_farewell (option_to_list (option_map noted_of (session_message_at_end waits farewell message)))) (Some Ticked)
 state_is a moment old true is_due None message here f r = message_state a moment old here is_due message r
@@ -169,11 +169,11 @@ state_is a moment old false is_due (Some x) message here f r = ap (λ b. expecte
 
 -- the run with the entry
 
-acts_fits : {W : Type 0} (next_word : W → ℕ × W) (a b d f z : Content W) (moment : ℕ) (due : Due) (arms : List Arm) (went : WentContent) (last : Option DueSessionMessage) (outs : List Datagram) (c : Config) (made : ℕ) (past : List Entry)
-    → Acts next_word a b d f z moment due arms went last outs → Fits c made past a → Fits c made (past ++ tick_entry c.me moment due.handed_out.asks due.handed_out.fixes arms outs z.state ∷ []) z
+acts_fits : {W : Type 0} (next_word : W → ℕ × W) (a b d f z : AgentContent W) (moment : ℕ) (due : Due) (arms : List Arm) (went : WentContent) (last : Option DueSessionMessage) (outs : List Datagram) (c : Config) (made : ℕ) (past : List Entry)
+    → Acts next_word a b d f z moment due arms went last outs → AgentFits c made past a → AgentFits c made (past ++ tick_entry c.me moment due.handed_out.asks due.handed_out.fixes arms outs z.state ∷ []) z
 acts_fits next_word a b d f z moment due arms went last outs c made past s h =
     tick_fits c made moment past due.handed_out.asks due.handed_out.fixes arms outs z.state wanted went.noted o a z h keeps right refl (ap (λ x. x.last) s.ended)
-    (subst (TimersFit c (past ++ e ∷ [])) (sym same_timers) ticked.0.fits) (subst (BucketFits c (past ++ e ∷ [])) (sym (ap (λ x. x.bucket) s.ended)) in_bucket) due_right
+    (subst (TimersFit c (past ++ e ∷ [])) (sym same_timers) ticked.0.fits) (subst (BucketFitsPast c (past ++ e ∷ [])) (sym (ap (λ x. x.bucket) s.ended)) in_bucket) due_right
   where
     waits : Bool
     waits = data_waits f.bucket
@@ -202,8 +202,8 @@ acts_fits next_word a b d f z moment due arms went last outs c made past s h =
     here : is_gone (state past) ≡ false
     here = ap is_gone (sym h.state) ∙ s.here
 
-    before : Fits c made past b
-    before = subst (Fits c made past) (sym s.room) (refit c made past a a.store a.timers b.bucket a.words h h.store h.timers (roomy c past a.bucket b.bucket s.bucket h.bucket))
+    before : AgentFits c made past b
+    before = subst (AgentFits c made past) (sym s.room) (refit c made past a a.store a.timers b.bucket a.words h h.store h.timers (roomy c past a.bucket b.bucket s.bucket h.bucket))
 
     keeps : TickKeeps a z
     keeps = record {
@@ -253,9 +253,9 @@ acts_fits next_word a b d f z moment due arms went last outs c made past s h =
         (if_some a moment true (λ r. r.next ≡ moment + session_interval c past r.outgoing.noted) (λ r k. message_next c made past a moment true r h k) (is_leaving a.state) due.farewell s.due_is.farewell)
         (if_some a moment false (λ r. r.next ≡ moment + session_interval c past r.outgoing.noted) (λ r k. message_next c made past a moment false r h k) is_due due.session_message s.due_is.session_message)))
 
-    in_bucket : BucketFits c (past ++ e ∷ []) f.bucket
+    in_bucket : BucketFitsPast c (past ++ e ∷ []) f.bucket
     in_bucket = bucket_ticks c d.config.session past e d.bucket s.sent.after_hand_in f.bucket a.showing s.due_is.due_items.datagrams due.due_items.items went
-        (subst (BucketFits c past) (sym d_bucket) before.bucket) (subst (λ m. AreOwn m d.config.session d.bucket.waiting) me_is s.waited)
+        (subst (BucketFitsPast c past) (sym d_bucket) before.bucket) (subst (λ m. AreOwn m d.config.session d.bucket.waiting) me_is s.waited)
         (subst (λ m. AreDueItems m d.config.session a.showing s.due_is.due_items.datagrams due.due_items.items) (ap (λ k. k.me) h.config) (subst (λ k. AreDueItems a.config.me k.session a.showing s.due_is.due_items.datagrams due.due_items.items) (sym d_config) s.due_is.due_items.spelled))
         h.showing s.sent.hands s.sent.lets
         (record { ticked = refl; here = here; drawn = refl; datagrams_are = s.due_is.due_items.value c made past h; charged_are = charged_is c past e wanted went.noted o none s.outs_are ends })
@@ -304,7 +304,7 @@ last_spelled session None h = tt
 last_spelled session (Some r) h = (h.out, tt)
 
 -- what is answered is spelled, and its datagrams are those that are noted
-pub acts_outs : {W : Type 0} (next_word : W → ℕ × W) (a b d f z : Content W) (moment : ℕ) (due : Due) (arms : List Arm) (went : WentContent) (last : Option DueSessionMessage) (outs : List Datagram) (answered : List Out)
+pub acts_outs : {W : Type 0} (next_word : W → ℕ × W) (a b d f z : AgentContent W) (moment : ℕ) (due : Due) (arms : List Arm) (went : WentContent) (last : Option DueSessionMessage) (outs : List Datagram) (answered : List Out)
     → Acts next_word a b d f z moment due arms went last outs → answered ≡ went.outs ++ option_to_list (option_map out_of last) → (outs ≡ datagrams_of answered) × AllByRecursion (IsOut a.config.session) answered
 acts_outs next_word a b d f z moment due arms went last outs answered s is = (
   sym (ap datagrams_of is ∙ map-append (λ (x : Out). x.datagram) went.outs (option_to_list (option_map out_of last))
@@ -329,14 +329,14 @@ acts_outs next_word a b d f z moment due arms went last outs answered s is = (
         (if_some a moment false (λ r. IsOutgoing a.config.session r.outgoing) (λ r k. k.message.outgoing) (nat_le a.due moment) due.session_message s.due_is.session_message))
 
 -- the entry of what is answered
-pub acts_ticks : {W : Type 0} (next_word : W → ℕ × W) (a b d f z : Content W) (moment : ℕ) (due : Due) (arms : List Arm) (went : WentContent) (last : Option DueSessionMessage) (outs : List Datagram) (answered : List Out)
+pub acts_ticks : {W : Type 0} (next_word : W → ℕ × W) (a b d f z : AgentContent W) (moment : ℕ) (due : Due) (arms : List Arm) (went : WentContent) (last : Option DueSessionMessage) (outs : List Datagram) (answered : List Out)
     → Acts next_word a b d f z moment due arms went last outs → answered ≡ went.outs ++ option_to_list (option_map out_of last)
     → TicksAs next_word moment moment a z (record { asks = due.handed_out.asks; fixes = due.handed_out.fixes; arms = arms; outs = answered; state = z.state })
 acts_ticks next_word a b d f z moment due arms went last outs answered s is = record {
   enters = record {
     input_is = refl;
     moment_is = max_above a.last moment s.later;
-    fits = λ c made past h. subst (λ x. Fits c made (past ++ x ∷ []) z)
+    fits = λ c made past h. subst (λ x. AgentFits c made (past ++ x ∷ []) z)
         (ap (λ gs. tick_entry c.me moment due.handed_out.asks due.handed_out.fixes arms gs z.state) same.0 ∙ ap (λ k. tick_entry k.me moment due.handed_out.asks due.handed_out.fixes arms (datagrams_of answered) z.state) (sym h.config))
         (acts_fits next_word a b d f z moment due arms went last outs c made past s h);
     words = subst (λ w. AreChosen next_word (low_of a.config) (high_of a.config) a.words arms w) (sym (ap (λ x. x.words) s.ended ∙ ap (λ x. x.words) s.sent_rest))
@@ -349,12 +349,12 @@ acts_ticks next_word a b d f z moment due arms went last outs answered s is = re
     same = acts_outs next_word a b d f z moment due arms went last outs answered s is
 
 -- there is room for the requests and repairs, which are own
-pub room_to_send : {W : Type 0} (a b d : Content W) (due_items count room : ℕ) → b ≡ record a { bucket = b.bucket } → SameQueues a.bucket.waiting b.bucket.waiting → d ≡ record b { timers = d.timers; words = d.words }
+pub room_to_send : {W : Type 0} (a b d : AgentContent W) (due_items count room : ℕ) → b ≡ record a { bucket = b.bucket } → SameQueues a.bucket.waiting b.bucket.waiting → d ≡ record b { timers = d.timers; words = d.words }
     → count ≡ due_items → count_of a.bucket.waiting + count < room → count_of d.bucket.waiting + due_items < room
 room_to_send a b d due_items count room is same rest counted less =
     let k : count_of d.bucket.waiting ≡ count_of a.bucket.waiting = ap (λ x. count_of x.bucket.waiting) rest ∙ count_same a.bucket.waiting b.bucket.waiting same in
     omega (arith, less, counted)
 
-pub own_to_send : {W : Type 0} (a b d : Content W) (due_items : List DueItem) → b ≡ record a { bucket = b.bucket } → d ≡ record b { timers = d.timers; words = d.words }
+pub own_to_send : {W : Type 0} (a b d : AgentContent W) (due_items : List DueItem) → b ≡ record a { bucket = b.bucket } → d ≡ record b { timers = d.timers; words = d.words }
     → AllByRecursion (λ x. IsOwn a.config.me a.config.session x.item.value) due_items → AllByRecursion (λ x. IsOwn d.config.me d.config.session x.item.value) due_items
 own_to_send a b d due_items is rest own = subst (λ k. AllByRecursion (λ x. IsOwn k.me k.session x.item.value) due_items) (sym (ap (λ x. x.config) rest ∙ ap (λ x. x.config) is)) own

@@ -14,24 +14,24 @@ use Rattle.srm_entries.specs.Entries.{last_moment}
 use Rattle.srm_entries.specs.Bucket.{entries_of, bucket_calls}
 use Rattle.srm_entries.specs.Admitting.{draw_length, admits_draw}
 use Rattle.srm_outbox.specs.Outs.{datagram_of}
-use Rattle.srm_agent.specs.Contents.{Content}
-use Rattle.srm_agent.specs.Fits.{Fits}
+use Rattle.srm_agent.specs.Contents.{AgentContent}
+use Rattle.srm_agent.specs.Fits.{AgentFits}
 use Rattle.srm_agent.specs.Admitting.{DrawAdmitted, DrawAdmittedFrom}
 use Rattle.srm_agent.proofs.NextDueIdle.{calls_before}
 
-so_far : {W : Type 0} (c : Config) (made : ℕ) (past : List Entry) (a : Content W) (h : Fits c made past a) → BucketLaw c.rate c.depth (bucket_calls c.me h.bucket.goings)
+so_far : {W : Type 0} (c : Config) (made : ℕ) (past : List Entry) (a : AgentContent W) (h : AgentFits c made past a) → BucketLaw c.rate c.depth (bucket_calls c.me h.bucket.goings)
 so_far c made past a h = subst (BucketLaw c.rate c.depth) h.bucket.read (law-read datagram_of c.rate c.depth h.bucket.calls h.bucket.fits.law)
 
 -- the calls of the bucket are those that the entries make
-over_entries : {W : Type 0} (c : Config) (made : ℕ) (past : List Entry) (a : Content W) (h : Fits c made past a) (bytes now : ℕ)
+over_entries : {W : Type 0} (c : Config) (made : ℕ) (past : List Entry) (a : AgentContent W) (h : AgentFits c made past a) (bytes now : ℕ)
     → admits c.rate c.depth h.bucket.calls New bytes now ≡ admits c.rate c.depth (bucket_calls c.me h.bucket.goings) New bytes now
 over_entries c made past a h bytes now = sym (admits-read datagram_of c.rate c.depth h.bucket.calls New bytes now) ∙ ap (λ cs. admits c.rate c.depth cs New bytes now) h.bucket.read
 
 -- the last moment of the marked entries
-last_of : {W : Type 0} (c : Config) (made : ℕ) (past : List Entry) (a : Content W) (h : Fits c made past a) → last_moment made (entries_of h.bucket.goings) ≡ a.last
+last_of : {W : Type 0} (c : Config) (made : ℕ) (past : List Entry) (a : AgentContent W) (h : AgentFits c made past a) → last_moment made (entries_of h.bucket.goings) ≡ a.last
 last_of c made past a h = ap (last_moment made) h.bucket.entries ∙ sym h.last
 
-pub admitted : {W : Type 0} (a : Content W) (body bytes now moment : ℕ) (answer : Bool) → bytes ≡ draw_length body → moment ≡ max now a.last → Admits New bytes moment a.bucket answer → DrawAdmitted body now a answer
+pub admitted : {W : Type 0} (a : AgentContent W) (body bytes now moment : ℕ) (answer : Bool) → bytes ≡ draw_length body → moment ≡ max now a.last → Admits New bytes moment a.bucket answer → DrawAdmitted body now a answer
 admitted a body bytes now moment answer length counts admits_at = record {
   each = λ c made past h. record {
     goings = (h.bucket.goings, h.bucket.entries, h.bucket.goes, so_far c made past a h);
@@ -42,8 +42,8 @@ admitted a body bytes now moment answer length counts admits_at = record {
 }
 
 -- from some moment on
-module _ {W : Type 0} (a : Content W) (body bytes : ℕ) (length : bytes ≡ draw_length body) where
-  same_answer : (c : Config) (made : ℕ) (past : List Entry) (h : Fits c made past a) (now : ℕ) → last_moment made past ≤ now
+module _ {W : Type 0} (a : AgentContent W) (body bytes : ℕ) (length : bytes ≡ draw_length body) where
+  same_answer : (c : Config) (made : ℕ) (past : List Entry) (h : AgentFits c made past a) (now : ℕ) → last_moment made past ≤ now
       → admits_draw c made h.bucket.goings body now ≡ admits c.rate c.depth h.bucket.calls New bytes now
   same_answer c made past h now l =
       let at : max now (last_moment made (entries_of h.bucket.goings)) ≡ now = ap (max now) (ap (last_moment made) h.bucket.entries) ∙ omega (arith, l) in

@@ -23,17 +23,16 @@ use Rattle.srm_codec.specs.declared.datagram.Datagram.{Datagram}
 use Rattle.srm_codec.specs.declared.datagram.Datagram.TheVariants.{Data}
 use Rattle.srm_codec.specs.Spelling.{is_drawop, length_of, sender_of, is_session}
 use Rattle.srm_store.specs.Held.{page_of_drawop, page_of_name, pages_named, outgrow}
-use Rattle.srm_store.specs.PageTables.{is_in}
+use Rattle.srm_store.specs.PageTables.{is_in, with_page}
 use Rattle.srm_store.specs.Finals.{Settling}
-use Rattle.srm_store.specs.Fits.{StoreStays}
-use Rattle.srm_store.specs.Fits as store
+use Rattle.srm_store.specs.Fits.{StoreStays, StoreFits}
 use Rattle.srm_store.proofs.Pages.{length-included, each_once-firsts, is_in-firsts}
 use Rattle.srm_bucket.specs.declared.class.Class.TheVariants.{New}
 use Rattle.srm_bucket.specs.declared.item.Item.{Item}
 use Rattle.srm_bucket.specs.Calls.{Classed, Handed}
 use Rattle.srm_bucket.specs.Mapping.{read_call}
-use Rattle.srm_bucket.specs.Content.{Content as BucketContent}
-use Rattle.srm_bucket.specs.Fits as bucket
+use Rattle.srm_bucket.specs.Content.{BucketContent}
+use Rattle.srm_bucket.specs.Fits.{BucketAdds, BucketStays}
 use Rattle.srm_entries.specs.declared.state.AgentState.{AgentState}
 use Rattle.srm_entries.specs.declared.fault.AgentFault.{AgentFault}
 use Rattle.srm_entries.specs.declared.fault.AgentFault.TheVariants as faults
@@ -48,13 +47,12 @@ use Rattle.srm_entries.specs.Timers.{last_ask, fix_running, held_off, asker, bas
 use Rattle.srm_entries.specs.Verdicts.{first_cause, verdict_of, lacks_slots_for, drawn_in, settlings}
 use Rattle.srm_entries.specs.Bucket.{Going, GoesAsCharged, bucket_calls, classed}
 use Rattle.srm_entries.specs.Runs.{EntryRight}
-use Rattle.srm_store.specs.PageTables.{with_page}
 use Rattle.srm_agent_state.specs.TimersKept.{TimersContent, TimersFit}
-use Rattle.srm_agent.specs.Contents.{Content}
-use Rattle.srm_agent.specs.Fits.{Fits, EachProgressFits, BucketFits}
+use Rattle.srm_agent.specs.Contents.{AgentContent}
+use Rattle.srm_agent.specs.Fits.{AgentFits, EachProgressFits, BucketFitsPast}
 use Rattle.srm_outbox.specs.Outs.{datagram_of, IsOwn}
 use Rattle.srm_entries.specs.Still.{entry_without_effects}
-use Rattle.srm_agent.specs.Noting.{HasEntry, IsAllowed, IsDrawnName, Enters, Stays}
+use Rattle.srm_agent.specs.Noting.{HasEntry, IsAllowed, IsDrawnName, Enters, AgentStays}
 use Rattle.srm_agent.specs.declared.agent.drafting.Draft.{Draft}
 use Rattle.srm_agent.specs.Drawing.{refusals, name_after, drawn_entry, IsDraftOf}
 use Rattle.srm_agent_state.specs.Growth.{HoldsToo}
@@ -234,7 +232,7 @@ module _ (me moment : ℕ) (page : Page) (body : List ℕ) (stamp : ℕ) (after 
   going = record { entry = e; goes = [] }
 
   bucket_gains : (c : Config) (a b : BucketContent Outgoing) (item : Item Outgoing) → datagram_of item.value ≡ Data d → item.length ≡ length_of (Data d)
-      → bucket.Adds (Handed (record { class = New; item = item })) a b → BucketFits c past a → BucketFits c (past ++ e ∷ []) b
+      → BucketAdds (Handed (record { class = New; item = item })) a b → BucketFitsPast c past a → BucketFitsPast c (past ++ e ∷ []) b
   bucket_gains c a b item is charged adds h = record {
     goings = h.goings ++ going ∷ [];
     entries = entries-snoc h.goings going ∙ ap (λ es. es ++ e ∷ []) h.entries;
@@ -269,7 +267,7 @@ module _ (me moment : ℕ) (page : Page) (body : List ℕ) (stamp : ℕ) (after 
       go false q = rw q (omega (arith, h))
 
 -- the agent that fits a run fits it with the draw
-module _ {W : Type 0} (c : Config) (made : ℕ) (past : List Entry) (a n : Content W) (moment : ℕ) (page : Page) (body : List ℕ) (h : Fits c made past a) where
+module _ {W : Type 0} (c : Config) (made : ℕ) (past : List Entry) (a n : AgentContent W) (moment : ℕ) (page : Page) (body : List ℕ) (h : AgentFits c made past a) where
   abbrev made_drawop : Drawop
   made_drawop = d c.me moment page body moment a.state past
 
@@ -294,21 +292,21 @@ module _ {W : Type 0} (c : Config) (made : ℕ) (past : List Entry) (a n : Conte
 
   drawn_fits : (item : Item Outgoing) → last_moment made past ≤ moment → moment ≡ max a.last (max moment 0) → Done ≡ verdict_of c past (Drew page body)
       → n ≡ record a { last = moment; pages = with_page a.pages page; store = n.store; bucket = n.bucket } → HoldsToo made_drawop a.store n.store → is_drawop made_drawop
-      → datagram_of item.value ≡ Data made_drawop → item.length ≡ length_of (Data made_drawop) → bucket.Adds (Handed (record { class = New; item = item })) a.bucket n.bucket
-      → Fits c made (past ++ entry ∷ []) n
+      → datagram_of item.value ≡ Data made_drawop → item.length ≡ length_of (Data made_drawop) → BucketAdds (Handed (record { class = New; item = item })) a.bucket n.bucket
+      → AgentFits c made (past ++ entry ∷ []) n
   drawn_fits item later at right is keeps spellable sent charged adds = record {
     run = steps_more (EntryRight c made) past entry h.run (draw_right later right);
-    config = ap (λ (x : Content W). x.config) is ∙ h.config;
-    state = ap (λ (x : Content W). x.state) is ∙ sym (state-snoc past entry);
-    last = ap (λ (x : Content W). x.last) is ∙ at ∙ ap (λ k. max k (max moment 0)) h.last ∙ sym (last_moment-snoc made past entry);
-    showing = ap (λ (x : Content W). x.showing) is ∙ h.showing ∙ sym (shown-page-snoc past entry);
-    pages = ap (λ (x : Content W). x.pages) is ∙ ap (λ ps. with_page ps page) h.pages ∙ sym (slots-one past entry page refl);
-    progress = subst (EachProgressFits (past ++ entry ∷ [])) (sym (ap (λ (x : Content W). x.progress) is)) (same_progress past entry a.progress (λ j. refl) h.progress);
+    config = ap (λ (x : AgentContent W). x.config) is ∙ h.config;
+    state = ap (λ (x : AgentContent W). x.state) is ∙ sym (state-snoc past entry);
+    last = ap (λ (x : AgentContent W). x.last) is ∙ at ∙ ap (λ k. max k (max moment 0)) h.last ∙ sym (last_moment-snoc made past entry);
+    showing = ap (λ (x : AgentContent W). x.showing) is ∙ h.showing ∙ sym (shown-page-snoc past entry);
+    pages = ap (λ (x : AgentContent W). x.pages) is ∙ ap (λ ps. with_page ps page) h.pages ∙ sym (slots-one past entry page refl);
+    progress = subst (EachProgressFits (past ++ entry ∷ [])) (sym (ap (λ (x : AgentContent W). x.progress) is)) (same_progress past entry a.progress (λ j. refl) h.progress);
     store = rw (held-snoc past entry, shown-snoc past entry, same_settlings past entry refl) (keeps.each _ _ _ h.store);
-    distances = rw (ap (λ (x : Content W). x.distances) is, same_distances c.me past entry refl) h.distances;
-    timers = subst (TimersFit c (past ++ entry ∷ [])) (sym (ap (λ (x : Content W). x.timers) is)) (timers_kept c.me moment page body moment a.state past c a.timers h.timers);
+    distances = rw (ap (λ (x : AgentContent W). x.distances) is, same_distances c.me past entry refl) h.distances;
+    timers = subst (TimersFit c (past ++ entry ∷ [])) (sym (ap (λ (x : AgentContent W). x.timers) is)) (timers_kept c.me moment page body moment a.state past c a.timers h.timers);
     bucket = bucket_gains c.me moment page body moment a.state past c a.bucket n.bucket item sent charged adds h.bucket;
-    due = ap (λ (x : Content W). x.due) is ∙ h.due ∙ sym (same_due c made past entry refl);
+    due = ap (λ (x : AgentContent W). x.due) is ∙ h.due ∙ sym (same_due c made past entry refl);
     own = λ page2. own_kept c.me moment page body moment a.state past page2 (h.own page2);
     spelled = subst (AllByRecursion is_drawop) (sym (held-snoc past entry)) (AllByRecursion-snoc is_drawop (held past) made_drawop h.spelled spellable);
   }
@@ -336,12 +334,12 @@ abbrev full_last : Config → List Entry → Page → List (Bool × Verdict)
 full_last c past page = (nat_le DRAWOPS (drawn_in past (stream_on c.me page)), Refused faults.StreamFull) ∷ []
 
 -- the first four as the agent keeps them
-kept_refusals : {W : Type 0} (c : Config) (made : ℕ) (past : List Entry) (a : Content W) (page : Page) (body : List ℕ) (v : Verdict) → Fits c made past a
+kept_refusals : {W : Type 0} (c : Config) (made : ℕ) (past : List Entry) (a : AgentContent W) (page : Page) (body : List ℕ) (v : Verdict) → AgentFits c made past a
     → v ≡ first_cause (refusals a.state a.pages page (length body)) → v ≡ first_cause (in_turn (is_gone (state past)) (is_leaving (state past)) (nat_lt LONGEST_BODY (length body)) (lacks_slots_for past (page ∷ [])) [])
 kept_refusals c made past a page body v h r = r ∙ ap (λ s. first_cause (refusals s a.pages page (length body))) h.state ∙ ap (λ ps. first_cause (refusals (state past) ps page (length body))) h.pages
     ∙ ap (λ full. first_cause (in_turn (is_gone (state past)) (is_leaving (state past)) (nat_lt LONGEST_BODY (length body)) full [])) (sym (slots_lack past (page ∷ [])))
 
-pub draw_refused : {W : Type 0} (next_word : W → ℕ × W) (a : Content W) (now moment : ℕ) (page : Page) (body : List ℕ) (fault : AgentFault) (x : Entry) → Refused fault ≡ first_cause (refusals a.state a.pages page (length body))
+pub draw_refused : {W : Type 0} (next_word : W → ℕ × W) (a : AgentContent W) (now moment : ℕ) (page : Page) (body : List ℕ) (fault : AgentFault) (x : Entry) → Refused fault ≡ first_cause (refusals a.state a.pages page (length body))
     → x ≡ entry_without_effects a.config.me moment (Drew page body) (Refused fault) None a.state → moment ≡ max now a.last → Enters next_word (Some now) (Drew page body) a a x
 draw_refused next_word a now moment page body fault x refused is at =
     refused_enters next_word a now moment (Drew page body) fault x is at refl refl (λ j. refl) (λ c past. refl)
@@ -362,14 +360,14 @@ next_of_name s k n some = go (nat_le DRAWOPS k) refl
     go false q = (refl, same_Some n (named s (k + 1)) (some ∙ ap (λ (b : Bool). if b then None else Some (named s (k + 1))) q))
 
 -- the next name of this member on the page, over whatever run the agent fits
-abbrev pub Names : {W : Type 0} → Content W → Page → Option FullName → Type 0
-Names a page o = (c : Config) (made : ℕ) (past : List Entry) → Fits c made past a → o ≡ name_after (stream_on c.me page) (known past (stream_on c.me page))
+abbrev pub Names : {W : Type 0} → AgentContent W → Page → Option FullName → Type 0
+Names a page o = (c : Config) (made : ℕ) (past : List Entry) → AgentFits c made past a → o ≡ name_after (stream_on c.me page) (known past (stream_on c.me page))
 
-fullness : {W : Type 0} (c : Config) (made : ℕ) (past : List Entry) (a : Content W) (page : Page) (b : Bool) → Fits c made past a → nat_le DRAWOPS (known past (stream_on c.me page)) ≡ b
+fullness : {W : Type 0} (c : Config) (made : ℕ) (past : List Entry) (a : AgentContent W) (page : Page) (b : Bool) → AgentFits c made past a → nat_le DRAWOPS (known past (stream_on c.me page)) ≡ b
     → (if b then Refused faults.StreamFull else Done) ≡ first_cause (full_last c past page)
 fullness c made past a page b h q = ap (λ (x : Bool). if x then Refused faults.StreamFull else Done) (sym q ∙ ap (nat_le DRAWOPS) (sym (h.own page)))
 
-pub draw_full : {W : Type 0} (next_word : W → ℕ × W) (a : Content W) (now moment : ℕ) (page : Page) (body : List ℕ) (x : Entry) → Done ≡ first_cause (refusals a.state a.pages page (length body))
+pub draw_full : {W : Type 0} (next_word : W → ℕ × W) (a : AgentContent W) (now moment : ℕ) (page : Page) (body : List ℕ) (x : Entry) → Done ≡ first_cause (refusals a.state a.pages page (length body))
     → Names a page None → x ≡ entry_without_effects a.config.me moment (Drew page body) (Refused faults.StreamFull) None a.state → moment ≡ max now a.last → Enters next_word (Some now) (Drew page body) a a x
 draw_full next_word a now moment page body x fine none is at =
     refused_enters next_word a now moment (Drew page body) faults.StreamFull x is at refl refl (λ j. refl) (λ c past. refl)
@@ -385,12 +383,12 @@ four_fine false false false true r = absurd (refused_is_not_done _ (sym r))
 four_fine false false false false r = refl
 
 -- the store has slots where the page table has
-pub draw_unslotted : {W : Type 0} (next_word : W → ℕ × W) (a b : Content W) (now moment : ℕ) (page : Page) (body : List ℕ) (name : FullName) (x : Entry) → Done ≡ first_cause (refusals a.state a.pages page (length body))
+pub draw_unslotted : {W : Type 0} (next_word : W → ℕ × W) (a b : AgentContent W) (now moment : ℕ) (page : Page) (body : List ℕ) (name : FullName) (x : Entry) → Done ≡ first_cause (refusals a.state a.pages page (length body))
     → Names a page (Some name) → b ≡ a
-    → ((inserted : List Drawop) (evidence : List FullName) (settled : List Settling) → store.Fits inserted evidence settled a.store → outgrow inserted evidence (name.stream.page ∷ []) ≡ true)
+    → ((inserted : List Drawop) (evidence : List FullName) (settled : List Settling) → StoreFits inserted evidence settled a.store → outgrow inserted evidence (name.stream.page ∷ []) ≡ true)
     → x ≡ entry_without_effects b.config.me moment (Drew page body) (Refused faults.PageLimit) None b.state → moment ≡ max now a.last → Enters next_word (Some now) (Drew page body) a b x
 draw_unslotted next_word a b now moment page body name x fine some same full is at = subst (λ y. Enters next_word (Some now) (Drew page body) a y x) (sym same)
-    (refused_enters next_word a now moment (Drew page body) faults.PageLimit x (subst (λ (y : Content _). x ≡ entry_without_effects y.config.me moment (Drew page body) (Refused faults.PageLimit) None y.state) same is) at refl refl (λ j. refl) (λ c past. refl)
+    (refused_enters next_word a now moment (Drew page body) faults.PageLimit x (subst (λ (y : AgentContent _). x ≡ entry_without_effects y.config.me moment (Drew page body) (Refused faults.PageLimit) None y.state) same is) at refl refl (λ j. refl) (λ c past. refl)
     (λ c made past h.
     let named_so = (next_of_name (stream_on c.me page) (known past (stream_on c.me page)) name (some c made past h)).1 in
     let room = four_fine (is_gone (state past)) (is_leaving (state past)) (nat_lt LONGEST_BODY (length body)) (lacks_slots_for past (page ∷ [])) (kept_refusals c made past a page body Done h fine) in
@@ -399,67 +397,67 @@ draw_unslotted next_word a b now moment page body name x fine some same full is 
     absurd (false≢true (sym short ∙ ap (λ (n : FullName). outgrow (held past) (evidence_in past) (n.stream.page ∷ [])) (sym named_so) ∙ long))))
 
 -- after room was made, the agent fits what it fitted
-roomy_fits : {W : Type 0} (a b : Content W) → b ≡ record a { store = b.store; bucket = b.bucket } → StoreStays a.store b.store → bucket.Stays a.bucket b.bucket
-    → (c : Config) (made : ℕ) (past : List Entry) → Fits c made past a → Fits c made past b
+roomy_fits : {W : Type 0} (a b : AgentContent W) → b ≡ record a { store = b.store; bucket = b.bucket } → StoreStays a.store b.store → BucketStays a.bucket b.bucket
+    → (c : Config) (made : ℕ) (past : List Entry) → AgentFits c made past a → AgentFits c made past b
 roomy_fits a b is still stays c made past h =
-    subst (Fits c made past) (sym is) (refit c made past a b.store a.timers b.bucket a.words h (still.each (held past) (evidence_in past) (settlings past) h.store) h.timers (roomy c past a.bucket b.bucket stays h.bucket))
+    subst (AgentFits c made past) (sym is) (refit c made past a b.store a.timers b.bucket a.words h (still.each (held past) (evidence_in past) (settlings past) h.store) h.timers (roomy c past a.bucket b.bucket stays h.bucket))
 
-pub roomy_stays : {W : Type 0} (a b : Content W) → b ≡ record a { store = b.store; bucket = b.bucket } → StoreStays a.store b.store → bucket.Stays a.bucket b.bucket → Stays a b
-roomy_stays a b is still stays = record { fits = roomy_fits a b is still stays; words = ap (λ (x : Content _). x.words) is }
+pub roomy_stays : {W : Type 0} (a b : AgentContent W) → b ≡ record a { store = b.store; bucket = b.bucket } → StoreStays a.store b.store → BucketStays a.bucket b.bucket → AgentStays a b
+roomy_stays a b is still stays = record { fits = roomy_fits a b is still stays; words = ap (λ (x : AgentContent _). x.words) is }
 
 -- the draft of a name of this member is its own
-pub own_draft : {W : Type 0} (a b : Content W) (name : FullName) (moment : ℕ) (body : List ℕ) (draft : Draft) (o : Option FullName) → b ≡ record a { store = b.store; bucket = b.bucket }
+pub own_draft : {W : Type 0} (a b : AgentContent W) (name : FullName) (moment : ℕ) (body : List ℕ) (draft : Draft) (o : Option FullName) → b ≡ record a { store = b.store; bucket = b.bucket }
     → IsDraftOf a.config.session (record { name = name; stamp = moment; body = body }) draft → o ≡ Some name → IfSome o (λ (n : FullName). n.stream.source ≡ a.config.me) → IsOwn b.config.me b.config.session draft.going.value
-own_draft {W = W} a b name moment body draft o is made named own = subst (λ (x : Content W). IsOwn x.config.me x.config.session draft.going.value) (sym is) (record {
+own_draft {W = W} a b name moment body draft o is made named own = subst (λ (x : AgentContent W). IsOwn x.config.me x.config.session draft.going.value) (sym is) (record {
   spelled = made.going.is;
   sender = ap sender_of made.going.of ∙ subst (λ p. IfSome p (λ (n : FullName). n.stream.source ≡ a.config.me)) named own;
   charged = ap is_session made.going.of;
 })
 
 -- a draw that no cause refuses is done
-judged_done : {W : Type 0} (c : Config) (made : ℕ) (past : List Entry) (a : Content W) (page : Page) (body : List ℕ) (name : FullName)
-    → Done ≡ first_cause (refusals a.state a.pages page (length body)) → Names a page (Some name) → Fits c made past a → Done ≡ verdict_of c past (Drew page body)
+judged_done : {W : Type 0} (c : Config) (made : ℕ) (past : List Entry) (a : AgentContent W) (page : Page) (body : List ℕ) (name : FullName)
+    → Done ≡ first_cause (refusals a.state a.pages page (length body)) → Names a page (Some name) → AgentFits c made past a → Done ≡ verdict_of c past (Drew page body)
 judged_done c made past a page body name fine some h =
     fullness c made past a page false h (next_of_name (stream_on c.me page) (known past (stream_on c.me page)) name (some c made past h)).0
     ∙ last_counts (is_gone (state past)) (is_leaving (state past)) (nat_lt LONGEST_BODY (length body)) (lacks_slots_for past (page ∷ [])) (full_last c past page) (kept_refusals c made past a page body Done h fine)
 
-pub draw_allowed : {W : Type 0} (a : Content W) (page : Page) (body : List ℕ) (name : FullName) → Done ≡ first_cause (refusals a.state a.pages page (length body)) → Names a page (Some name) → IsAllowed (Drew page body) a
+pub draw_allowed : {W : Type 0} (a : AgentContent W) (page : Page) (body : List ℕ) (name : FullName) → Done ≡ first_cause (refusals a.state a.pages page (length body)) → Names a page (Some name) → IsAllowed (Drew page body) a
 draw_allowed a page body name fine some = record { each = λ c made past h. sym (judged_done c made past a page body name fine some h) }
 
-pub draw_done : {W : Type 0} (next_word : W → ℕ × W) (a b n : Content W) (now moment : ℕ) (page : Page) (body : List ℕ) (name : FullName) (draft : Draft) (x : Entry)
+pub draw_done : {W : Type 0} (next_word : W → ℕ × W) (a b n : AgentContent W) (now moment : ℕ) (page : Page) (body : List ℕ) (name : FullName) (draft : Draft) (x : Entry)
     → Done ≡ first_cause (refusals a.state a.pages page (length body)) → Names a page (Some name) → moment ≡ max now a.last
-    → b ≡ record a { store = b.store; bucket = b.bucket } → StoreStays a.store b.store → bucket.Stays a.bucket b.bucket
+    → b ≡ record a { store = b.store; bucket = b.bucket } → StoreStays a.store b.store → BucketStays a.bucket b.bucket
     → IsDraftOf a.config.session (record { name = name; stamp = moment; body = body }) draft → is_drawop (record { name = name; stamp = moment; body = body })
     → n ≡ record b { last = moment; pages = with_page b.pages page; store = n.store; bucket = n.bucket } → HoldsToo draft.held b.store n.store
-    → bucket.Adds (Handed (record { class = New; item = draft.going })) b.bucket n.bucket
+    → BucketAdds (Handed (record { class = New; item = draft.going })) b.bucket n.bucket
     → x ≡ drawn_entry b.config.me moment page body draft.held b.state → Enters next_word (Some now) (Drew page body) a n x
 draw_done {W} next_word a b n now moment page body name draft x fine some at roomy still stays drafted spellable is keeps adds entry_is = record {
   input_is = ap (λ (y : Entry). y.input) entry_is;
   moment_is = ap (λ (y : Entry). y.moment) entry_is ∙ at;
   fits = fits;
-  words = rw entry_is (ap (λ (y : Content W). y.words) is ∙ ap (λ (y : Content W). y.words) roomy);
+  words = rw entry_is (ap (λ (y : AgentContent W). y.words) is ∙ ap (λ (y : AgentContent W). y.words) roomy);
 }
   where
-    fits : (c : Config) (made : ℕ) (past : List Entry) → Fits c made past a → Fits c made (past ++ x ∷ []) n
+    fits : (c : Config) (made : ℕ) (past : List Entry) → AgentFits c made past a → AgentFits c made (past ++ x ∷ []) n
     fits c made past h =
         let own : Stream = stream_on c.me page in
         let next = next_of_name own (known past own) name (some c made past h) in
         let k = roomy_fits a b roomy still stays c made past h in
         let drawop_is : ◌≡◌ {A = Drawop} (record { name = name; stamp = moment; body = body }) (made_drawop c made past b n moment page body k) = ap (λ m. let y : Drawop = record { name = m; stamp = moment; body = body } in y) next.1 in
         let right : Done ≡ verdict_of c past (Drew page body) = judged_done c made past a page body name fine some h in
-        let last_is : b.last ≡ a.last = ap (λ (y : Content W). y.last) roomy in
+        let last_is : b.last ≡ a.last = ap (λ (y : AgentContent W). y.last) roomy in
         let same : x ≡ entry c made past b n moment page body k =
         entry_is ∙ ap (λ (s : Config). drawn_entry s.me moment page body draft.held b.state) k.config
         ∙ ap (λ y. drawn_entry c.me moment page body y b.state) (drafted.held ∙ drawop_is) in
-        subst (λ y. Fits c made (past ++ y ∷ []) n) (sym same)
+        subst (λ y. AgentFits c made (past ++ y ∷ []) n) (sym same)
         (drawn_fits c made past b n moment page body k draft.going (later c made past a now moment h at) (moves_on now b.last moment (at ∙ ap (max now) (sym last_is))) right is
         (subst (λ y. HoldsToo y b.store n.store) (drafted.held ∙ drawop_is) keeps) (subst is_drawop drawop_is spellable) (drafted.going.of ∙ ap Data drawop_is) (drafted.length ∙ ap (λ y. length_of (Data y)) drawop_is) adds)
 
 -- what a draw answers that is refused, and one that is done
-pub draw_refuses : {W : Type 0} (next_word : W → ℕ × W) (a b : Content W) (now moment : ℕ) (page : Page) (body : List ℕ) (fault : AgentFault) → Enters next_word (Some now) (Drew page body) a b (entry_without_effects a.config.me moment (Drew page body) (Refused fault) None a.state)
+pub draw_refuses : {W : Type 0} (next_word : W → ℕ × W) (a b : AgentContent W) (now moment : ℕ) (page : Page) (body : List ℕ) (fault : AgentFault) → Enters next_word (Some now) (Drew page body) a b (entry_without_effects a.config.me moment (Drew page body) (Refused fault) None a.state)
     → HasEntry next_word (Some now) (Drew page body) IsDrawnName a b (Err fault)
 draw_refuses next_word a b now moment page body fault enters = (entry_without_effects a.config.me moment (Drew page body) (Refused fault) None a.state, enters, refl)
 
-pub draw_names : {W : Type 0} (next_word : W → ℕ × W) (a b n : Content W) (now moment : ℕ) (page : Page) (body : List ℕ) (name : FullName) (draft : Draft) → IsDraftOf a.config.session (record { name = name; stamp = moment; body = body }) draft
+pub draw_names : {W : Type 0} (next_word : W → ℕ × W) (a b n : AgentContent W) (now moment : ℕ) (page : Page) (body : List ℕ) (name : FullName) (draft : Draft) → IsDraftOf a.config.session (record { name = name; stamp = moment; body = body }) draft
     → Enters next_word (Some now) (Drew page body) a n (drawn_entry b.config.me moment page body draft.held b.state) → HasEntry next_word (Some now) (Drew page body) IsDrawnName a n (Ok name)
 draw_names next_word a b n now moment page body name draft drafted enters = (drawn_entry b.config.me moment page body draft.held b.state, enters, ap (λ (d : Drawop). Some d.name) drafted.held)

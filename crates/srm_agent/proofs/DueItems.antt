@@ -9,18 +9,18 @@ use Rattle.srm_codec.specs.declared.datagram.Datagram.TheVariants.{Repair}
 use Rattle.srm_codec.specs.Spelling.{is_drawop}
 use Rattle.srm_store.specs.Held.{held_at}
 use Rattle.srm_store.specs.Finals.{Settling}
-use Rattle.srm_store.specs.Fits as store
+use Rattle.srm_store.specs.Fits.{StoreFits}
 use Rattle.srm_outbox.specs.declared.due_items.DueItem.{DueItem}
 use Rattle.srm_entries.specs.Configs.{Config}
 use Rattle.srm_entries.specs.Entries.{held, evidence_in}
 use Rattle.srm_entries.specs.Verdicts.{settlings}
 use Rattle.srm_entries.specs.Packing.{packed}
-use Rattle.srm_agent.specs.Contents.{Content}
+use Rattle.srm_agent.specs.Contents.{AgentContent}
 use Rattle.srm_agent.specs.DueItems.{DueItems}
 use Rattle.srm_outbox.specs.DueItems.{AreDueItems}
 
-pub due_items : {W D E : Type 0} (a : Content W) (me session : ℕ) (asks fixes : List FullName) (gs : List Datagram) (items_of : D → List DueItem) (r : Result D E) → me ≡ a.config.me → session ≡ a.config.session
-    → ((held : List Drawop) (evidence : List FullName) (settled : List Settling) → store.Fits held evidence settled a.store → AllByRecursion is_drawop held → gs ≡ packed me asks ++ filter_map (λ n. option_map (Repair me) (held_at held n)) fixes)
+pub due_items : {W D E : Type 0} (a : AgentContent W) (me session : ℕ) (asks fixes : List FullName) (gs : List Datagram) (items_of : D → List DueItem) (r : Result D E) → me ≡ a.config.me → session ≡ a.config.session
+    → ((held : List Drawop) (evidence : List FullName) (settled : List Settling) → StoreFits held evidence settled a.store → AllByRecursion is_drawop held → gs ≡ packed me asks ++ filter_map (λ n. option_map (Repair me) (held_at held n)) fixes)
     → IfOk r (λ d. AreDueItems me session a.showing gs (items_of d)) → IfOk r (λ d. DueItems a asks fixes (items_of d))
 due_items a me session asks fixes gs items_of (Err e) same_me same_session value are = tt
 due_items a me session asks fixes gs items_of (Ok d) same_me same_session value are = record {

@@ -17,8 +17,8 @@ use Rattle.srm_entries.specs.Entries.{slots}
 use Rattle.srm_entries.specs.Giving.{given, given_in, GiveRight}
 use Rattle.srm_agent_state.specs.Progress.{ProgressContent, ProgressFits}
 use Rattle.srm_agent_state.proofs.Midway.{if_none}
-use Rattle.srm_agent.specs.Contents.{Content}
-use Rattle.srm_agent.specs.Fits.{Fits, EachProgressFits}
+use Rattle.srm_agent.specs.Contents.{AgentContent}
+use Rattle.srm_agent.specs.Fits.{AgentFits, EachProgressFits}
 use Rattle.srm_entries.specs.Still.{entry_without_effects}
 use Rattle.srm_agent.specs.Noting.{Enters, HasEntry, gave_by}
 use Rattle.srm_entries.proofs.Feeding.{feeds_right, fed_gives, given-snoc}
@@ -27,19 +27,19 @@ use Rattle.srm_agent.proofs.Still.{MayFollow, still_fits, same_progress}
 use Rattle.srm_agent.proofs.Entering.{of_member, stays_at}
 
 -- what may be given continues the page feed of its slot
-pub give_continues : {W : Type 0} (c : Config) (made : ℕ) (past : List Entry) (a : Content W) (j : ℕ) (m : PageMsg) → Fits c made past a → GiveRight c past j (Some m) → continues (given past j) m ≡ true
+pub give_continues : {W : Type 0} (c : Config) (made : ℕ) (past : List Entry) (a : AgentContent W) (j : ℕ) (m : PageMsg) → AgentFits c made past a → GiveRight c past j (Some m) → continues (given past j) m ≡ true
 give_continues c made past a j m h right =
     let fed = feeds_right c made past h.run in
     last_continues (given past j) m (fed_gives c past (slice_get (slots past) j) (given past j) m fed.tells right (fed.feeds j)).fed
 
-may_give : {W : Type 0} (c : Config) (made : ℕ) (past : List Entry) (a : Content W) (j : ℕ) (m : Option PageMsg) → Fits c made past a → GiveRight c past j m → MayFollow c made past a.last (Gave j) Done m a.state
+may_give : {W : Type 0} (c : Config) (made : ℕ) (past : List Entry) (a : AgentContent W) (j : ℕ) (m : Option PageMsg) → AgentFits c made past a → GiveRight c past j m → MayFollow c made past a.last (Gave j) Done m a.state
 may_give c made past a j m h right = record { unheard = refl; undrawn = refl; idle = refl; moment_right = h.last; verdict_right = refl; message_right = right; state_right = h.state }
 
 not_given : (j slot : ℕ) → given_in j (Gave slot) None ≡ None
 not_given j slot = if_none (j == slot) None refl
 
-pub gives_nothing : {W : Type 0} (next_word : W → ℕ × W) (a : Content W) (slot : ℕ) (e : Entry) → e ≡ entry_without_effects a.config.me a.last (Gave slot) Done None a.state
-    → ((c : Config) (made : ℕ) (past : List Entry) → Fits c made past a → GiveRight c past slot None) → Enters next_word None (Gave slot) a a e
+pub gives_nothing : {W : Type 0} (next_word : W → ℕ × W) (a : AgentContent W) (slot : ℕ) (e : Entry) → e ≡ entry_without_effects a.config.me a.last (Gave slot) Done None a.state
+    → ((c : Config) (made : ℕ) (past : List Entry) → AgentFits c made past a → GiveRight c past slot None) → Enters next_word None (Gave slot) a a e
 gives_nothing next_word a slot e is right = record {
   input_is = ap (λ (x : Entry). x.input) is;
   words = rw is refl;
@@ -71,9 +71,9 @@ progress_more past e progress slot i f m input message at h more = record { each
       | inr other ↦ subst (λ g. ProgressFits g x) (sym (given_then j false (ne_eqb j slot (λ k. other (k ∙ sym at))) ∙ append-nil (given past j))) (h.each j x (sym (set_elsewhere progress i j f other) ∙ there))
     ]
 
-pub gives_message : {W : Type 0} (next_word : W → ℕ × W) (a : Content W) (slot i : ℕ) (m : PageMsg) (f : ProgressContent) (e : Entry) → e ≡ entry_without_effects a.config.me a.last (Gave slot) Done (Some m) a.state → i ≡ slot
-    → ((c : Config) (made : ℕ) (past : List Entry) → Fits c made past a → GiveRight c past slot (Some m))
-    → ((c : Config) (made : ℕ) (past : List Entry) → Fits c made past a → ProgressFits (given past slot ++ m ∷ []) f)
+pub gives_message : {W : Type 0} (next_word : W → ℕ × W) (a : AgentContent W) (slot i : ℕ) (m : PageMsg) (f : ProgressContent) (e : Entry) → e ≡ entry_without_effects a.config.me a.last (Gave slot) Done (Some m) a.state → i ≡ slot
+    → ((c : Config) (made : ℕ) (past : List Entry) → AgentFits c made past a → GiveRight c past slot (Some m))
+    → ((c : Config) (made : ℕ) (past : List Entry) → AgentFits c made past a → ProgressFits (given past slot ++ m ∷ []) f)
     → Enters next_word None (Gave slot) a (record a { progress = slice_set a.progress i f }) e
 gives_message next_word a slot i m f e is at right more = record {
   input_is = ap (λ (x : Entry). x.input) is;
@@ -86,10 +86,10 @@ gives_message next_word a slot i m f e is at right more = record {
 }
 
 -- a give that isn't refused
-pub give_enters : {W : Type 0} (next_word : W → ℕ × W) (a b : Content W) (slot : ℕ) (m : Option PageMsg) → Enters next_word None (Gave slot) a b (gave_by a slot m) → HasEntry next_word None (Gave slot) (λ e message. message ≡ e.effects.message) a b (Ok m)
+pub give_enters : {W : Type 0} (next_word : W → ℕ × W) (a b : AgentContent W) (slot : ℕ) (m : Option PageMsg) → Enters next_word None (Gave slot) a b (gave_by a slot m) → HasEntry next_word None (Gave slot) (λ e message. message ≡ e.effects.message) a b (Ok m)
 give_enters next_word a b slot m enters = (gave_by a slot m, enters, refl)
 
 -- and its entry, where it is noted
-pub give_notes : {W : Type 0} (next_word : W → ℕ × W) (a b : Content W) (slot : ℕ) (m n : Option PageMsg) (e : Entry) → Enters next_word None (Gave slot) a b (gave_by a slot m) → b ≡ record a { progress = b.progress } → n ≡ m → e ≡ gave_by b slot n
+pub give_notes : {W : Type 0} (next_word : W → ℕ × W) (a b : AgentContent W) (slot : ℕ) (m n : Option PageMsg) (e : Entry) → Enters next_word None (Gave slot) a b (gave_by a slot m) → b ≡ record a { progress = b.progress } → n ≡ m → e ≡ gave_by b slot n
     → Enters next_word None (Gave slot) a b e
 give_notes next_word a b slot m n e enters rest same is = subst (Enters next_word None (Gave slot) a b) (sym (is ∙ ap (gave_by b slot) same ∙ ap (λ x. gave_by x slot m) rest)) enters

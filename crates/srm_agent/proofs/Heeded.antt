@@ -18,8 +18,8 @@ use Rattle.srm_codec.specs.declared.datagram.Datagram.{Datagram}
 use Rattle.srm_codec.specs.declared.datagram.Datagram.TheVariants.{Data, Request, Repair, Session}
 use Rattle.srm_codec.specs.Spelling.{names_in, is_drawop, IsSpellable}
 use Rattle.srm_store.specs.Held.{number_in}
-use Rattle.srm_store.specs.Fits as store
-use Rattle.srm_distance.specs.Fits as distances
+use Rattle.srm_store.specs.Fits.{StoreFits}
+use Rattle.srm_distance.specs.Fits.{DistancesFit}
 use Rattle.srm_timers.specs.declared.arm.Arm.{Arm}
 use Rattle.srm_entries.specs.declared.entry.Entry.{Entry}
 use Rattle.srm_entries.specs.declared.entry.Input.TheVariants.{Heard}
@@ -33,8 +33,8 @@ use Rattle.srm_agent_state.specs.TimersKept.{HaveSettings}
 use Rattle.srm_store.specs.PageTables.{with_pages_of}
 use Rattle.srm_entries.specs.Verdicts.{verdict_of, settlings, settling_of, drawn_in, exceeds, is_beyond, final}
 use Rattle.srm_entries.specs.Runs.{EntryRight}
-use Rattle.srm_agent.specs.Contents.{Content}
-use Rattle.srm_agent.specs.Fits.{Fits}
+use Rattle.srm_agent.specs.Contents.{AgentContent}
+use Rattle.srm_agent.specs.Fits.{AgentFits}
 use Rattle.srm_agent.specs.Heeding.{heard_entry}
 use Rattle.srm_agent.specs.Noting.{Enters, IsAllowed}
 use Rattle.srm_entries.proofs.Adding.{known-snoc}
@@ -46,7 +46,7 @@ use Rattle.srm_agent.proofs.Quiet.{bucket_stays, same_due, no_timers}
 use Rattle.srm_agent.proofs.Still.{same_progress}
 
 -- all but the last moment, the words, the pages, the store, the distances and the timers is as it was
-pub record Goes {W : Type 0} (a b : Content W) (moment : ℕ) : Type 0 where
+pub record Goes {W : Type 0} (a b : AgentContent W) (moment : ℕ) : Type 0 where
   pub last : b.last ≡ moment
   pub config : b.config ≡ a.config
   pub state : b.state ≡ a.state
@@ -56,15 +56,15 @@ pub record Goes {W : Type 0} (a b : Content W) (moment : ℕ) : Type 0 where
   pub due : b.due ≡ a.due
 
 -- what an agent keeps of a datagram that was heard and accepted; its entry is e
-pub record Heeds {W : Type 0} (c : Config) (made : ℕ) (past : List Entry) (a b : Content W) (moment : ℕ) (g : Datagram) (e : Entry) : Type 0 where
-  pub fits : Fits c made past a
+pub record Heeds {W : Type 0} (c : Config) (made : ℕ) (past : List Entry) (a b : AgentContent W) (moment : ℕ) (g : Datagram) (e : Entry) : Type 0 where
+  pub fits : AgentFits c made past a
   pub later : last_moment made past ≤ moment
   pub here : is_gone (state past) ≡ false
   pub accepted : Done ≡ verdict_of c past (Heard g)
   pub spellable : IsSpellable g
   pub timers : TimersAdd c past e b.timers
-  pub store : store.Fits (held past ++ drawops_in (Some g)) (evidence_in past ++ names_in g) (settlings past ++ cons_option (settling_of (Some g)) []) b.store
-  pub distances : distances.Fits c.me (distance_calls c.me past ++ calls_of c.me moment (Some g)) b.distances
+  pub store : StoreFits (held past ++ drawops_in (Some g)) (evidence_in past ++ names_in g) (settlings past ++ cons_option (settling_of (Some g)) []) b.store
+  pub distances : DistancesFit c.me (distance_calls c.me past ++ calls_of c.me moment (Some g)) b.distances
   pub pages : b.pages ≡ with_pages_of a.pages (names_in g)
   pub goes : Goes a b moment
 
@@ -73,10 +73,10 @@ pub heard_with : (me moment : ℕ) (g : Datagram) (arms : List Arm) (s : AgentSt
 heard_with me moment g arms s spellable = record { heard = refl; read = spellable; moment = refl; drawn = refl; arms = refl; asks = refl; fixes = refl }
 
 -- the kinds of datagram differ in what timers, store, distances and pages become
-pub heeds_by : {W : Type 0} (c : Config) (made : ℕ) (past : List Entry) (a b : Content W) (moment : ℕ) (g : Datagram) (arms : List Arm) → Fits c made past a → a.last ≤ moment → is_gone a.state ≡ false → IsSpellable g → IsAllowed (Heard g) a
+pub heeds_by : {W : Type 0} (c : Config) (made : ℕ) (past : List Entry) (a b : AgentContent W) (moment : ℕ) (g : Datagram) (arms : List Arm) → AgentFits c made past a → a.last ≤ moment → is_gone a.state ≡ false → IsSpellable g → IsAllowed (Heard g) a
     → TimersAdd c past (heard_entry c.me moment g arms a.state) b.timers
-    → store.Fits (held past ++ drawops_in (Some g)) (evidence_in past ++ names_in g) (settlings past ++ cons_option (settling_of (Some g)) []) b.store
-    → distances.Fits c.me (distance_calls c.me past ++ calls_of c.me moment (Some g)) b.distances
+    → StoreFits (held past ++ drawops_in (Some g)) (evidence_in past ++ names_in g) (settlings past ++ cons_option (settling_of (Some g)) []) b.store
+    → DistancesFit c.me (distance_calls c.me past ++ calls_of c.me moment (Some g)) b.distances
     → b.pages ≡ with_pages_of a.pages (names_in g) → Goes a b moment → Heeds c made past a b moment g (heard_entry c.me moment g arms a.state)
 heeds_by c made past a b moment g arms h late here spellable allowed add keeps calls pages goes = record {
   fits = h;
@@ -93,7 +93,7 @@ heeds_by c made past a b moment g arms h late here spellable allowed add keeps c
 
 -- the entry is one that those before it allow
 
-pub heard_right : {W : Type 0} (c : Config) (made : ℕ) (past : List Entry) (a b : Content W) (moment : ℕ) (g : Datagram) (arms : List Arm)
+pub heard_right : {W : Type 0} (c : Config) (made : ℕ) (past : List Entry) (a b : AgentContent W) (moment : ℕ) (g : Datagram) (arms : List Arm)
     → Heeds c made past a b moment g (heard_entry c.me moment g arms a.state) → EntryRight c made (record { before = past; this = heard_entry c.me moment g arms a.state })
 heard_right c made past a b moment g arms h = record {
   member = refl;
@@ -128,7 +128,7 @@ own_within me past s k own drew (n ∷ ns) none =
         omega (arith, m, d, more)
     go false e more within = more
 
-same_own : {W : Type 0} (c : Config) (made : ℕ) (past : List Entry) (a b : Content W) (moment : ℕ) (g : Datagram) (arms : List Arm) → Heeds c made past a b moment g (heard_entry c.me moment g arms a.state)
+same_own : {W : Type 0} (c : Config) (made : ℕ) (past : List Entry) (a b : AgentContent W) (moment : ℕ) (g : Datagram) (arms : List Arm) → Heeds c made past a b moment g (heard_entry c.me moment g arms a.state)
     → (page : Page) → drawn_in (past ++ heard_entry c.me moment g arms a.state ∷ []) (stream_on c.me page) ≡ known (past ++ heard_entry c.me moment g arms a.state ∷ []) (stream_on c.me page)
 same_own c made past a b moment g arms h page =
     let e : Entry = heard_entry c.me moment g arms a.state in
@@ -146,8 +146,8 @@ drawops_spelled (Repair s d) h = (h.1, tt)
 drawops_spelled (Request s n m) h = tt
 drawops_spelled (Session a b f p r x) h = tt
 
-pub heard_fits : {W : Type 0} (c : Config) (made : ℕ) (past : List Entry) (a b : Content W) (moment : ℕ) (g : Datagram) (arms : List Arm)
-    → Heeds c made past a b moment g (heard_entry c.me moment g arms a.state) → Fits c made (past ++ heard_entry c.me moment g arms a.state ∷ []) b
+pub heard_fits : {W : Type 0} (c : Config) (made : ℕ) (past : List Entry) (a b : AgentContent W) (moment : ℕ) (g : Datagram) (arms : List Arm)
+    → Heeds c made past a b moment g (heard_entry c.me moment g arms a.state) → AgentFits c made (past ++ heard_entry c.me moment g arms a.state ∷ []) b
 heard_fits c made past a b moment g arms h =
     let e : Entry = heard_entry c.me moment g arms a.state in
     record {
@@ -171,8 +171,8 @@ heard_fits c made past a b moment g arms h =
     clock l m k = omega (arith, k)
 
 -- the entry is of the datagram, at the moment, and its waits are by the next words
-pub heard_enters : {W : Type 0} (next_word : W → ℕ × W) (a b : Content W) (moment : ℕ) (g : Datagram) (arms : List Arm) (e : Entry) → a.last ≤ moment → HaveSettings a.config a.timers → WaitsAreChosen next_word a.timers a.words arms b.words
-    → e ≡ heard_entry a.config.me moment g arms a.state → ((c : Config) (made : ℕ) (past : List Entry) → Fits c made past a → Heeds c made past a b moment g (heard_entry c.me moment g arms a.state)) → Enters next_word (Some moment) (Heard g) a b e
+pub heard_enters : {W : Type 0} (next_word : W → ℕ × W) (a b : AgentContent W) (moment : ℕ) (g : Datagram) (arms : List Arm) (e : Entry) → a.last ≤ moment → HaveSettings a.config a.timers → WaitsAreChosen next_word a.timers a.words arms b.words
+    → e ≡ heard_entry a.config.me moment g arms a.state → ((c : Config) (made : ℕ) (past : List Entry) → AgentFits c made past a → Heeds c made past a b moment g (heard_entry c.me moment g arms a.state)) → Enters next_word (Some moment) (Heard g) a b e
 heard_enters next_word a b moment g arms e late settings drawn e_is heeds = record {
   input_is = ap (λ (x : Entry). x.input) e_is;
   moment_is = ap (λ (x : Entry). x.moment) e_is ∙ max_above a.last moment late;

@@ -22,37 +22,37 @@ use Rattle.srm_entries.specs.Verdicts.{VerdictRight, verdict_of}
 use Rattle.srm_entries.specs.Giving.{MessageRight, given_in}
 use Rattle.srm_entries.specs.Hearing.{read_as}
 use Rattle.srm_agent.specs.Heeding.{IsJudgedBy, IsNoiseFor}
-use Rattle.srm_agent.specs.Contents.{Content}
-use Rattle.srm_agent.specs.Fits.{Fits}
+use Rattle.srm_agent.specs.Contents.{AgentContent}
+use Rattle.srm_agent.specs.Fits.{AgentFits}
 use Rattle.srm_entries.specs.Still.{entry_without_effects}
 use Rattle.srm_agent.specs.Noting.{Enters, IsAllowed, ReadsAs}
 use Rattle.srm_entries.proofs.Running.{slots-same}
 use Rattle.srm_agent.proofs.Still.{undone_follows, same_progress}
 use Rattle.srm_agent.proofs.Entering.{still_enters, moves_on}
 
-ignored_enters : {W : Type 0} (next_word : W → ℕ × W) (a : Content W) (now moment : ℕ) (input : Input) (cause : Cause) (e : Entry) → e ≡ entry_without_effects a.config.me moment input (Ignored cause) None a.state → moment ≡ max now a.last
+ignored_enters : {W : Type 0} (next_word : W → ℕ × W) (a : AgentContent W) (now moment : ℕ) (input : Input) (cause : Cause) (e : Entry) → e ≡ entry_without_effects a.config.me moment input (Ignored cause) None a.state → moment ≡ max now a.last
     → is_tick input ≡ false → takes_moment input ≡ true → ((j : ℕ) → given_in j input None ≡ None) → ((c : Config) (past : List Entry) → MessageRight c past input None)
-    → ((c : Config) (made : ℕ) (past : List Entry) → Fits c made past a → VerdictRight c past input (Ignored cause)) → Enters next_word (Some now) input a (record a { last = moment }) e
+    → ((c : Config) (made : ℕ) (past : List Entry) → AgentFits c made past a → VerdictRight c past input (Ignored cause)) → Enters next_word (Some now) input a (record a { last = moment }) e
 ignored_enters next_word a now moment input cause e is at unticked takes ungiven message right =
     still_enters next_word a (record a { last = moment }) now moment input (Ignored cause) a.state e is at refl (record { config = refl; store = refl; distances = refl; timers = refl; bucket = refl; due = refl }) refl
     (subst (λ (b : Bool). moment ≡ max a.last (greatest (if b then moment ∷ [] else []))) (sym takes) (moves_on now a.last moment at)) refl
     (λ c made past h late. undone_follows c made past moment input (Ignored cause) a.state refl unticked takes late (right c made past h) (message c past) h.state)
     (λ c made past h. h.pages ∙ sym (slots-same past _ refl)) (λ c made past h. same_progress past _ a.progress ungiven h.progress)
 
-abbrev pub ignored_entry : {W : Type 0} → Content W → ℕ → Input → Cause → Entry
+abbrev pub ignored_entry : {W : Type 0} → AgentContent W → ℕ → Input → Cause → Entry
 ignored_entry a moment input cause = entry_without_effects a.config.me moment input (Ignored cause) None a.state
 
 -- to a gone agent all is noise
-pub gone_enters : {W : Type 0} (next_word : W → ℕ × W) (a b : Content W) (now moment : ℕ) (e : Entry) → is_gone a.state ≡ true → b ≡ record a { last = moment } → e ≡ ignored_entry a moment Noise causes.Gone → moment ≡ max now a.last
+pub gone_enters : {W : Type 0} (next_word : W → ℕ × W) (a b : AgentContent W) (now moment : ℕ) (e : Entry) → is_gone a.state ≡ true → b ≡ record a { last = moment } → e ≡ ignored_entry a moment Noise causes.Gone → moment ≡ max now a.last
     → Enters next_word (Some now) e.input a b e
 gone_enters next_word a b now moment e gone new is at =
     subst (λ x. Enters next_word (Some now) x.input a b e) (sym is) (subst (λ x. Enters next_word (Some now) Noise a x e) (sym new)
     (ignored_enters next_word a now moment Noise causes.Gone e is at refl refl (λ j. refl) (λ c past. refl) (λ c made past h. rw (ap is_gone (sym h.state) ∙ gone) refl)))
 
-pub gone_reads : {W : Type 0} (a : Content W) (moment : ℕ) (bytes : List ℕ) (e : Entry) → is_gone a.state ≡ true → e ≡ ignored_entry a moment Noise causes.Gone → ReadsAs bytes a e
+pub gone_reads : {W : Type 0} (a : AgentContent W) (moment : ℕ) (bytes : List ℕ) (e : Entry) → is_gone a.state ≡ true → e ≡ ignored_entry a moment Noise causes.Gone → ReadsAs bytes a e
 gone_reads a moment bytes e gone is = record { each = λ c made past h. rw (is, ap is_gone (sym h.state) ∙ gone) refl }
 
-pub noise_enters : {W : Type 0} (next_word : W → ℕ × W) (a b : Content W) (moment : ℕ) (fault : DecodeFault) (e : Entry) → is_gone a.state ≡ false → a.last ≤ moment → fault ≢ decoding.Memory
+pub noise_enters : {W : Type 0} (next_word : W → ℕ × W) (a b : AgentContent W) (moment : ℕ) (fault : DecodeFault) (e : Entry) → is_gone a.state ≡ false → a.last ≤ moment → fault ≢ decoding.Memory
     → b ≡ record a { last = moment } → e ≡ ignored_entry a moment Noise (causes.Decode fault) → Enters next_word (Some moment) Noise a b e
 noise_enters next_word a b moment fault e here late other new is = subst (λ x. Enters next_word (Some moment) Noise a x e) (sym new)
     (ignored_enters next_word a moment moment Noise (causes.Decode fault) e is (omega (arith, late)) refl refl (λ j. refl) (λ c past. refl) (λ c made past h. rw (ap is_gone (sym h.state) ∙ here) (fault, other, refl)))
@@ -64,7 +64,7 @@ judged_fault : (fault : DecodeFault) (judged : Result Datagram DecodeFault) → 
 judged_fault fault judged other (inl e) = e
 judged_fault fault judged other (inr e) = absurd (other e.0)
 
-pub noise_reads : {W : Type 0} (a : Content W) (session : ℕ) (bytes : List ℕ) (fault : DecodeFault) (e : Entry) → is_gone a.state ≡ false → session ≡ a.config.session
+pub noise_reads : {W : Type 0} (a : AgentContent W) (session : ℕ) (bytes : List ℕ) (fault : DecodeFault) (e : Entry) → is_gone a.state ≡ false → session ≡ a.config.session
     → IsJudged takes_memory (Err fault) (judge session bytes) → IsNoiseFor fault e → ReadsAs bytes a e
 noise_reads a session bytes fault e here same judged noise = record {
   each = λ c made past h.
@@ -73,26 +73,26 @@ noise_reads a session bytes fault e here same judged noise = record {
 }
 
 -- a datagram with a cause
-pub ignored_datagram : {W : Type 0} (next_word : W → ℕ × W) (a b : Content W) (moment : ℕ) (g : Datagram) (cause : Cause) (o : Option Cause) (e : Entry) → is_gone a.state ≡ false → a.last ≤ moment → o ≡ Some cause
-    → ((c : Config) (made : ℕ) (past : List Entry) → Fits c made past a → ignored_for o ≡ verdict_of c past (Heard g))
+pub ignored_datagram : {W : Type 0} (next_word : W → ℕ × W) (a b : AgentContent W) (moment : ℕ) (g : Datagram) (cause : Cause) (o : Option Cause) (e : Entry) → is_gone a.state ≡ false → a.last ≤ moment → o ≡ Some cause
+    → ((c : Config) (made : ℕ) (past : List Entry) → AgentFits c made past a → ignored_for o ≡ verdict_of c past (Heard g))
     → b ≡ record a { last = moment } → e ≡ ignored_entry a moment (Heard g) cause → Enters next_word (Some moment) (Heard g) a b e
 ignored_datagram next_word a b moment g cause o e here late found judged new is = subst (λ x. Enters next_word (Some moment) (Heard g) a x e) (sym new)
     (ignored_enters next_word a moment moment (Heard g) cause e is (omega (arith, late)) refl refl (λ j. refl) (λ c past. refl)
     (λ c made past h. (ap is_gone (sym h.state) ∙ here, ap ignored_for (sym found) ∙ judged c made past h)))
 
-pub ignored_judged : {W : Type 0} (a : Content W) (moment : ℕ) (g : Datagram) (cause : Cause) (o : Option Cause) (e : Entry) → o ≡ Some cause
-    → ((c : Config) (made : ℕ) (past : List Entry) → Fits c made past a → ignored_for o ≡ verdict_of c past (Heard g)) → e ≡ ignored_entry a moment (Heard g) cause → IsJudgedBy g a e
+pub ignored_judged : {W : Type 0} (a : AgentContent W) (moment : ℕ) (g : Datagram) (cause : Cause) (o : Option Cause) (e : Entry) → o ≡ Some cause
+    → ((c : Config) (made : ℕ) (past : List Entry) → AgentFits c made past a → ignored_for o ≡ verdict_of c past (Heard g)) → e ≡ ignored_entry a moment (Heard g) cause → IsJudgedBy g a e
 ignored_judged a moment g cause o e found judged is = record { each = λ c made past h. ap (λ (x : Entry). x.verdict) is ∙ ap ignored_for (sym found) ∙ judged c made past h }
 
 -- a datagram with no cause to ignore it is accepted, and what is done with it is as judged
-pub accepted_at_none : {W : Type 0} (a : Content W) (g : Datagram) (o : Option Cause) → o ≡ None → ((c : Config) (made : ℕ) (past : List Entry) → Fits c made past a → ignored_for o ≡ verdict_of c past (Heard g)) → IsAllowed (Heard g) a
+pub accepted_at_none : {W : Type 0} (a : AgentContent W) (g : Datagram) (o : Option Cause) → o ≡ None → ((c : Config) (made : ℕ) (past : List Entry) → AgentFits c made past a → ignored_for o ≡ verdict_of c past (Heard g)) → IsAllowed (Heard g) a
 accepted_at_none a g o none judged = record { each = λ c made past h. sym (judged c made past h) ∙ ap ignored_for none }
 
 -- what was heard as a datagram was read as it
-pub read_enters : {W : Type 0} (next_word : W → ℕ × W) (a b : Content W) (now moment : ℕ) (input : Input) (e : Entry) → moment ≡ max now a.last → Enters next_word (Some moment) input a b e → Enters next_word (Some now) e.input a b e
+pub read_enters : {W : Type 0} (next_word : W → ℕ × W) (a b : AgentContent W) (now moment : ℕ) (input : Input) (e : Entry) → moment ≡ max now a.last → Enters next_word (Some moment) input a b e → Enters next_word (Some now) e.input a b e
 read_enters next_word a b now moment input e at enters = record { input_is = refl; moment_is = enters.moment_is ∙ omega (arith, at); fits = enters.fits; words = enters.words }
 
-pub heard_reads : {W : Type 0} (next_word : W → ℕ × W) (a b : Content W) (moment session : ℕ) (bytes : List ℕ) (g : Datagram) (e : Entry) → is_gone a.state ≡ false → session ≡ a.config.session
+pub heard_reads : {W : Type 0} (next_word : W → ℕ × W) (a b : AgentContent W) (moment session : ℕ) (bytes : List ℕ) (g : Datagram) (e : Entry) → is_gone a.state ≡ false → session ≡ a.config.session
     → judge session bytes ≡ Ok g → Enters next_word (Some moment) (Heard g) a b e → IsJudgedBy g a e → ReadsAs bytes a e
 heard_reads next_word a b moment session bytes g e here same judged enters by = record {
   each = λ c made past h.

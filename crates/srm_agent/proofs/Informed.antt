@@ -12,13 +12,11 @@ use Rattle.srm_codec.specs.declared.datagram.Datagram.TheVariants.{Data, Request
 use Rattle.srm_codec.specs.Spelling.{names_in, row_below, IsSpellable}
 use Rattle.srm_store.specs.Held.{number_in}
 use Rattle.srm_store.specs.Stores.{StoreContent}
-use Rattle.srm_store.specs.Fits as store
-use Rattle.srm_store.specs.Fits.{StoreStays}
-use Rattle.srm_distance.specs.Content.{Content as DistancesContent}
+use Rattle.srm_store.specs.Fits.{StoreFits, StoreStays}
+use Rattle.srm_distance.specs.Content.{DistancesContent}
 use Rattle.srm_distance.specs.Distance as defined
-use Rattle.srm_distance.specs.Fits as distances
-use Rattle.srm_distance.specs.Fits.{IsTableOf}
-use Rattle.srm_distance.specs.Calls.{Call}
+use Rattle.srm_distance.specs.Fits.{DistancesFit, IsTableOf}
+use Rattle.srm_distance.specs.Calls.{DistanceCall}
 use Rattle.srm_timers.specs.declared.arm.Arm.{Arm}
 use Rattle.srm_entries.specs.declared.entry.Entry.{Entry}
 use Rattle.srm_entries.specs.declared.entry.Input.TheVariants.{Heard}
@@ -32,8 +30,8 @@ use Rattle.srm_agent_state.specs.Growth.{HearsToo, LearnsToo}
 use Rattle.srm_store.specs.PageTables.{with_pages_of}
 use Rattle.srm_agent_state.specs.TimersKept.{HaveSettings, TimersContent}
 use Rattle.srm_agent_state.specs.TimerCalls.{AreDistancesAfter, TimersHear, TimersStay, WaitsAreChosen, IsSession}
-use Rattle.srm_agent.specs.Contents.{Content}
-use Rattle.srm_agent.specs.Fits.{Fits}
+use Rattle.srm_agent.specs.Contents.{AgentContent}
+use Rattle.srm_agent.specs.Fits.{AgentFits}
 use Rattle.srm_agent.specs.Heeding.{heard_entry}
 use Rattle.srm_agent.specs.Noting.{Enters, IsAllowed}
 use Rattle.srm_agent.proofs.Heeded.{Goes, Heeds, heard_with, heeds_by, heard_enters}
@@ -62,7 +60,7 @@ shows_rows (Repair sender drawop) me moment arms state is = absurd is
 pub hears_roomy : (is : Datagram → Type 0) (newly_missing : List FullName) (dist : List ℕ) (now : ℕ) (arms : List Arm) (a b d : TimersContent) → TimersStay a b → TimersHear is newly_missing dist now arms b d → TimersHear is newly_missing dist now arms a d
 hears_roomy is newly_missing dist now arms a b d stays hears = record { each = λ c past e g it with_this fits. hears.each c past e g it with_this (stays.each c past fits) }
 
-pub session_enters : {W : Type 0} (next_word : W → ℕ × W) (a b : Content W) (moment : ℕ) (g : Datagram) (names newly_missing : List FullName) (dist : List ℕ) (arms : List Arm) (roomy : StoreContent) (after : DistancesContent) (e : Entry)
+pub session_enters : {W : Type 0} (next_word : W → ℕ × W) (a b : AgentContent W) (moment : ℕ) (g : Datagram) (names newly_missing : List FullName) (dist : List ℕ) (arms : List Arm) (roomy : StoreContent) (after : DistancesContent) (e : Entry)
     → IsSession g → names ≡ names_in g → is_gone a.state ≡ false → IsSpellable g → a.last ≤ moment → IsAllowed (Heard g) a → AreNewlyMissingByRows names a newly_missing → HearsToo a.config.me moment g a.distances after → IsTableOf after dist
     → TimersHear IsSession newly_missing dist moment arms a.timers b.timers → StoreStays a.store roomy → LearnsToo g roomy b.store → b.pages ≡ with_pages_of a.pages names → b.distances ≡ after → Goes a b moment
     → HaveSettings a.config a.timers → WaitsAreChosen next_word a.timers a.words arms b.words → e ≡ heard_entry a.config.me moment g arms a.state
@@ -70,20 +68,20 @@ pub session_enters : {W : Type 0} (next_word : W → ℕ × W) (a b : Content W)
 session_enters next_word a b moment g names newly_missing dist arms roomy after e is named here spellable late allowed fresh_of hears_too table hears kept learns pages same goes settings drawn e_is =
     heard_enters next_word a b moment g arms e late settings drawn e_is heeds
   where
-    hears_by : (c : Config) (made : ℕ) (past : List Entry) → Fits c made past a → distances.Fits c.me (distance_calls c.me past ++ calls_of c.me moment (Some g)) after
+    hears_by : (c : Config) (made : ℕ) (past : List Entry) → AgentFits c made past a → DistancesFit c.me (distance_calls c.me past ++ calls_of c.me moment (Some g)) after
     hears_by c made past h = (subst (λ (s : Config). HearsToo s.me moment g a.distances after) h.config hears_too).each (distance_calls c.me past) h.distances
 
-    dist_after : (c : Config) (made : ℕ) (past : List Entry) → Fits c made past a → AreDistancesAfter c (past ++ heard_entry c.me moment g arms a.state ∷ []) dist
+    dist_after : (c : Config) (made : ℕ) (past : List Entry) → AgentFits c made past a → AreDistancesAfter c (past ++ heard_entry c.me moment g arms a.state ∷ []) dist
     dist_after c made past h = record {
       each = λ m l. table.each c.me (distance_calls c.me past ++ calls_of c.me moment (Some g)) (hears_by c made past h) m l
-          ∙ ap (λ (cs : List Call). defined.distance cs c.me m) (sym (flat_map-snoc (calls_in c.me) past (heard_entry c.me moment g arms a.state)));
+          ∙ ap (λ (cs : List DistanceCall). defined.distance cs c.me m) (sym (flat_map-snoc (calls_in c.me) past (heard_entry c.me moment g arms a.state)));
     }
 
-    heeds : (c : Config) (made : ℕ) (past : List Entry) → Fits c made past a → Heeds c made past a b moment g (heard_entry c.me moment g arms a.state)
+    heeds : (c : Config) (made : ℕ) (past : List Entry) → AgentFits c made past a → Heeds c made past a b moment g (heard_entry c.me moment g arms a.state)
     heeds c made past h = heeds_by c made past a b moment g arms h late here spellable allowed
         (hears.each c past (heard_entry c.me moment g arms a.state) g is (heard_with c.me moment g arms a.state spellable) h.timers
         (fresh_rows past (heard_entry c.me moment g arms a.state) names newly_missing (subst (λ ns. ShowsRows ns (heard_entry c.me moment g arms a.state)) (sym named) (shows_rows g c.me moment arms a.state is)) (fresh_of.each c made past h)) (dist_after c made past h))
-        (subst (λ ds. store.Fits ds (evidence_in past ++ names_in g) (settlings past ++ cons_option (settling_of (Some g)) []) b.store) (sym (ap (λ ds. held past ++ ds) (no_drawops g is) ∙ append-nil (held past)))
+        (subst (λ ds. StoreFits ds (evidence_in past ++ names_in g) (settlings past ++ cons_option (settling_of (Some g)) []) b.store) (sym (ap (λ ds. held past ++ ds) (no_drawops g is) ∙ append-nil (held past)))
         (learns.each (held past) (evidence_in past) (settlings past) (kept.each (held past) (evidence_in past) (settlings past) h.store)))
-        (subst (λ d. distances.Fits c.me (distance_calls c.me past ++ calls_of c.me moment (Some g)) d) (sym same) (hears_by c made past h))
+        (subst (λ d. DistancesFit c.me (distance_calls c.me past ++ calls_of c.me moment (Some g)) d) (sym same) (hears_by c made past h))
         (pages ∙ ap (with_pages_of a.pages) named) goes

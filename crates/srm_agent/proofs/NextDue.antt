@@ -11,10 +11,10 @@ use Rattle.srm_bucket.specs.Fits.{IsNextDeparture}
 use Rattle.srm_bucket.specs.Law.{IsFirstToGo}
 use Rattle.srm_entries.specs.declared.entry.Entry.{Entry}
 use Rattle.srm_entries.specs.Configs.{Config}
-use Rattle.srm_agent.specs.Contents.{Content}
+use Rattle.srm_agent.specs.Contents.{AgentContent}
 use Rattle.srm_entries.specs.Entries.{state, is_gone, last_moment}
 use Rattle.srm_entries.specs.Timers.{fix_running, ask_running}
-use Rattle.srm_agent.specs.Fits.{Fits}
+use Rattle.srm_agent.specs.Fits.{AgentFits}
 use Rattle.srm_entries.specs.Promises.{MayDoNothing}
 use Rattle.srm_agent_state.specs.TimerCalls.{FirstOfBothRunsOut, TimersNext}
 use Rattle.srm_agent.specs.Waking.{IsEarly, IsLate, IsNextAt, NextDue, Stirs, session_message_next, sooner_of}
@@ -22,7 +22,7 @@ use Rattle.srm_agent.proofs.NextDueIdle.{idle_before}
 use Rattle.srm_agent.proofs.NextDueRests.{gone_rests, idle_rests}
 use Rattle.srm_agent.proofs.NextDueStirs.{did_nothing, asks_then, fixes_then, sends_then, goes_then}
 
-pub never_due : {W : Type 0} (a : Content W) → is_gone a.state ≡ true → NextDue a None
+pub never_due : {W : Type 0} (a : AgentContent W) → is_gone a.state ≡ true → NextDue a None
 never_due a gone = record {
   each = λ c made past h. let left : is_gone (state past) ≡ true = ap is_gone (sym h.state) ∙ gone in (left, λ u. gone_rests c made past u left);
 }
@@ -56,7 +56,7 @@ still_out : (now later : ℕ) (o : Option Armed) → now ≤ later → ran_out n
 still_out now later None l e = absurd (cc)
 still_out now later (Some a) l e = grind (arith, nat_tests)
 
-module _ {W : Type 0} (c : Config) (made : ℕ) (past : List Entry) (a : Content W) (t : ℕ) (h : Fits c made past a) (here : is_gone (state past) ≡ false) where
+module _ {W : Type 0} (c : Config) (made : ℕ) (past : List Entry) (a : AgentContent W) (t : ℕ) (h : AgentFits c made past a) (here : is_gone (state past) ≡ false) where
   timer_stirs : (timers : Option ℕ) → FirstOfBothRunsOut past timers → HasCome t timers → MayDoNothing c made past t → ⊥
   timer_stirs None first come idle = absurd come
   timer_stirs (Some r) first come idle =
@@ -73,7 +73,7 @@ module _ {W : Type 0} (c : Config) (made : ℕ) (past : List Entry) (a : Content
   message_stirs : session_message_next a ≤ t → MayDoNothing c made past t → ⊥
   message_stirs come idle = sends_then c made past a t idle.0 h (did_nothing c made past t idle) here come
 
-come_stirs : {W : Type 0} (c : Config) (made : ℕ) (past : List Entry) (a : Content W) (t : ℕ) → Fits c made past a → is_gone (state past) ≡ false → (next : ℕ) → IsNextAt a next → next ≤ t → MayDoNothing c made past t → ⊥
+come_stirs : {W : Type 0} (c : Config) (made : ℕ) (past : List Entry) (a : AgentContent W) (t : ℕ) → AgentFits c made past a → is_gone (state past) ≡ false → (next : ℕ) → IsNextAt a next → next ≤ t → MayDoNothing c made past t → ⊥
 come_stirs c made past a t h here next at come idle = elim (one_came t at.timers at.waiting (session_message_next a) (subst (λ n. n ≤ t) at.is come)) [
   | inl timer ↦ timer_stirs c made past a t h here at.timers (at.runs.each c past h.timers) timer idle
   | inr other ↦ elim other [
@@ -82,7 +82,7 @@ come_stirs c made past a t h here next at come idle = elim (one_came t at.timers
   ]
 ]
 
-pub first_due : {W : Type 0} (a : Content W) (next : ℕ) → is_gone a.state ≡ false → IsNextAt a next → NextDue a (Some (max a.last next))
+pub first_due : {W : Type 0} (a : AgentContent W) (next : ℕ) → is_gone a.state ≡ false → IsNextAt a next → NextDue a (Some (max a.last next))
 first_due a next active at = subst (λ n. NextDue a (Some (max a.last n))) (sym at.is) (record {
   each = λ c made past h.
       let here : is_gone (state past) ≡ false = ap is_gone (sym h.state) ∙ active in
@@ -99,18 +99,18 @@ first_due a next active at = subst (λ n. NextDue a (Some (max a.last n))) (sym 
 })
 
 -- the next moment, by the calls that tell its parts
-pub soonest : {W : Type 0} (a : Content W) (timers waiting : Option ℕ) → TimersNext a.timers timers → IsNextDeparture a.bucket waiting → IsNextAt a (sooner_of (lesser timers waiting) (session_message_next a))
+pub soonest : {W : Type 0} (a : AgentContent W) (timers waiting : Option ℕ) → TimersNext a.timers timers → IsNextDeparture a.bucket waiting → IsNextAt a (sooner_of (lesser timers waiting) (session_message_next a))
 soonest a timers waiting runs waits = record { timers = timers; waiting = waiting; runs = runs; waits = waits; is = refl }
 
 -- and whether it is to come
-pub early : {W : Type 0} (a : Content W) (moment next : ℕ) → IsNextAt a next → OnTrue (nat_lt moment next) (IsEarly a moment)
+pub early : {W : Type 0} (a : AgentContent W) (moment next : ℕ) → IsNextAt a next → OnTrue (nat_lt moment next) (IsEarly a moment)
 early a moment next at = go (nat_lt moment next) refl
   where
     go : (b : Bool) → nat_lt moment next ≡ b → OnTrue b (IsEarly a moment)
     go true e = (next, at, grind (arith, nat_tests))
     go false e = tt
 
-pub late : {W : Type 0} (a : Content W) (moment next : ℕ) → IsNextAt a next → OnFalse (nat_lt moment next) (IsLate a moment)
+pub late : {W : Type 0} (a : AgentContent W) (moment next : ℕ) → IsNextAt a next → OnFalse (nat_lt moment next) (IsLate a moment)
 late a moment next at = go (nat_lt moment next) refl
   where
     go : (b : Bool) → nat_lt moment next ≡ b → OnFalse b (IsLate a moment)
@@ -118,11 +118,11 @@ late a moment next at = go (nat_lt moment next) refl
     go false e = (next, at, grind (arith, nat_tests))
 
 -- what has come is done
-pub stirs : {W : Type 0} (a : Content W) (now moment : ℕ) → is_gone a.state ≡ false → moment ≡ max now a.last → IsLate a moment → Stirs now a
+pub stirs : {W : Type 0} (a : AgentContent W) (now moment : ℕ) → is_gone a.state ≡ false → moment ≡ max now a.last → IsLate a moment → Stirs now a
 stirs a now moment active counts (next, at, come) = record {
   each = λ c made past h idle. come_stirs c made past a moment h (ap is_gone (sym h.state) ∙ active) next at come (subst (MayDoNothing c made past) (sym counts) idle);
 }
 
-pub stirs_at : {W X Y : Type 0} (r : Result X Y) (a : Content W) (now moment : ℕ) → is_gone a.state ≡ false → moment ≡ max now a.last → IsLate a moment → OnErr r (Stirs now a)
+pub stirs_at : {W X Y : Type 0} (r : Result X Y) (a : AgentContent W) (now moment : ℕ) → is_gone a.state ≡ false → moment ≡ max now a.last → IsLate a moment → OnErr r (Stirs now a)
 stirs_at (Ok x) a now moment active counts late = tt
 stirs_at (Err y) a now moment active counts late = stirs a now moment active counts late

@@ -14,9 +14,9 @@ use Rattle.srm_timers.specs.declared.arm.Armed.{Armed}
 use Rattle.srm_timers.specs.Arms.{ran_out}
 use Rattle.srm_deadlines.specs.Least.{lesser}
 use Rattle.srm_bucket.specs.declared.class.Class.TheVariants.{New}
-use Rattle.srm_bucket.specs.Calls.{Call, Popped}
+use Rattle.srm_bucket.specs.Calls.{BucketCall, Popped}
 use Rattle.srm_bucket.specs.Classes.{next_queued}
-use Rattle.srm_bucket.specs.Content.{Content as BucketContent}
+use Rattle.srm_bucket.specs.Content.{BucketContent}
 use Rattle.srm_bucket.specs.Fits.{IsNextDeparture}
 use Rattle.srm_bucket.specs.Law.{BucketLaw, IsFirstToGo, level_at, covered, may_go}
 use Rattle.srm_bucket.specs.Mapping.{read_call}
@@ -28,14 +28,14 @@ use Rattle.srm_entries.specs.declared.entry.Entry.{Entry}
 use Rattle.srm_entries.specs.declared.state.AgentState.{AgentState}
 use Rattle.srm_entries.specs.declared.state.AgentState.TheVariants.{Active, Leaving, Gone}
 use Rattle.srm_entries.specs.Configs.{Config}
-use Rattle.srm_agent.specs.Contents.{Content}
+use Rattle.srm_agent.specs.Contents.{AgentContent}
 use Rattle.srm_entries.specs.Entries.{state, is_gone, is_leaving, ticked, last_moment, is_missing, drawn, sent}
 use Rattle.srm_entries.specs.Timers.{last_ask, fix_running, ArmsRight, TimersRight, only_if}
 use Rattle.srm_codec.specs.Spelling.{is_data}
 use Rattle.srm_entries.specs.Sessions.{charged, all_data_sent, session_message_due}
 use Rattle.srm_entries.specs.Bucket.{Going, GoesAsCharged, BucketRight, entries_of, calls_by, bucket_calls}
 use Rattle.srm_entries.specs.Runs.{EntryRight}
-use Rattle.srm_agent.specs.Fits.{Fits, BucketFits}
+use Rattle.srm_agent.specs.Fits.{AgentFits, BucketFitsPast}
 use Rattle.srm_outbox.specs.Outs.{datagram_of}
 use Rattle.srm_entries.specs.Promises.{MayDoNothing}
 use Rattle.srm_agent_state.specs.TimerCalls.{FirstOfBothRunsOut, IsBefore}
@@ -96,7 +96,7 @@ unsent_stays past e uncharged none =
     still n = omega arith
 
 -- what such a tick ends with
-pub ends_by : {W : Type 0} (c : Config) (made : ℕ) (past : List Entry) (a : Content W) (e : Entry) → Fits c made past a → ticked e ≡ true → charged e ≡ [] → e.effects.drawn ≡ None
+pub ends_by : {W : Type 0} (c : Config) (made : ℕ) (past : List Entry) (a : AgentContent W) (e : Entry) → AgentFits c made past a → ticked e ≡ true → charged e ≡ [] → e.effects.drawn ≡ None
     → session_message_due c made past e ≡ ending_of a.state (not (length (queue a.bucket.waiting New) == 0)) (nat_le a.due e.moment)
 ends_by c made past a e h t uncharged none =
     ending_is c made past e a.state (not (length (queue a.bucket.waiting New) == 0)) (nat_le a.due e.moment) t h.state
@@ -110,13 +110,13 @@ ends_not Leaving false last due u l m = let later : nat_le due u ≡ false = gri
 
 -- the bucket
 
-nothing_goes : {T : Type 0} (rate depth : ℕ) (calls : List (Call T)) (answer : Option ℕ) (u : ℕ) → MatchOption answer (next_queued calls ≡ None) (IsFirstToGo rate depth calls) → last_of_calls calls ≤ u → IsBefore u answer
+nothing_goes : {T : Type 0} (rate depth : ℕ) (calls : List (BucketCall T)) (answer : Option ℕ) (u : ℕ) → MatchOption answer (next_queued calls ≡ None) (IsFirstToGo rate depth calls) → last_of_calls calls ≤ u → IsBefore u answer
     → may_go rate depth calls u ≡ None
 nothing_goes rate depth calls None u until l before = ap (covered (level_at rate depth calls u)) until
 nothing_goes rate depth calls (Some t) u until l before = until.no_sooner u l before
 
 -- the bucket's last moment isn't after the member's
-pub calls_before : {W : Type 0} (c : Config) (made : ℕ) (past : List Entry) (a : Content W) (h : Fits c made past a) → last_of_calls h.bucket.calls ≤ last_moment made past
+pub calls_before : {W : Type 0} (c : Config) (made : ℕ) (past : List Entry) (a : AgentContent W) (h : AgentFits c made past a) → last_of_calls h.bucket.calls ≤ last_moment made past
 calls_before c made past a h =
     let law : BucketLaw c.rate c.depth (bucket_calls c.me h.bucket.goings) = subst (BucketLaw c.rate c.depth) h.bucket.read (law-read datagram_of c.rate c.depth h.bucket.calls h.bucket.fits.law) in
     let all : Charged c made h.bucket.goings = charged_along c made [] h.bucket.goings (charged_start c made) h.bucket.goes (subst (λ ys. AllByRecursion (EntryRight c made) (steps ys)) (sym h.bucket.entries) h.run) (went_length c h.bucket.goings h.bucket.goes law) law in
@@ -133,13 +133,13 @@ abbrev idle_going : Config → List Entry → ℕ → Going
 idle_going c past u = record { entry = idle_at c past u; goes = [] }
 
 -- nothing may go
-may_not : {W : Type 0} (c : Config) (made : ℕ) (past : List Entry) (a : Content W) (answer : Option ℕ) (u : ℕ) (h : Fits c made past a) → IsNextDeparture a.bucket answer → last_moment made past ≤ u → IsBefore u answer
+may_not : {W : Type 0} (c : Config) (made : ℕ) (past : List Entry) (a : AgentContent W) (answer : Option ℕ) (u : ℕ) (h : AgentFits c made past a) → IsNextDeparture a.bucket answer → last_moment made past ≤ u → IsBefore u answer
     → may_go c.rate c.depth h.bucket.calls u ≡ None
 may_not c made past a answer u h waits l before =
     let k : last_of_calls h.bucket.calls ≤ last_moment made past = calls_before c made past a h in
     nothing_goes c.rate c.depth h.bucket.calls answer u (waits.until c.rate c.depth h.bucket.calls h.bucket.fits) (omega (arith, k, l)) before
 
-module _ (c : Config) (past : List Entry) (u : ℕ) {b : BucketContent Outgoing} (h : BucketFits c past b) where
+module _ (c : Config) (past : List Entry) (u : ℕ) {b : BucketContent Outgoing} (h : BucketFitsPast c past b) where
   idle_entries : entries_of (h.goings ++ idle_going c past u ∷ []) ≡ past ++ idle_at c past u ∷ []
   idle_entries = entries-snoc h.goings (idle_going c past u) ∙ ap (λ es. es ++ idle_at c past u ∷ []) h.entries
 
@@ -155,7 +155,7 @@ module _ (c : Config) (past : List Entry) (u : ℕ) {b : BucketContent Outgoing}
       bucket_calls-snoc c.me h.goings (idle_going c past u) ∙ ap (λ cs. bucket_calls c.me h.goings ++ cs) (pauses c.me h.goings past (idle_at c past u) h.entries here refl refl refl refl)
       ∙ ap (λ cs. cs ++ Popped u None ∷ []) (sym h.read) ∙ sym (map-append (read_call datagram_of) h.calls (Popped u None ∷ [])))
 
-idle_bucket : {W : Type 0} (c : Config) (made : ℕ) (past : List Entry) (a : Content W) (answer : Option ℕ) (u : ℕ) → Fits c made past a → is_gone (state past) ≡ false → IsNextDeparture a.bucket answer
+idle_bucket : {W : Type 0} (c : Config) (made : ℕ) (past : List Entry) (a : AgentContent W) (answer : Option ℕ) (u : ℕ) → AgentFits c made past a → is_gone (state past) ≡ false → IsNextDeparture a.bucket answer
     → last_moment made past ≤ u → IsBefore u answer → BucketRight c (past ++ idle_at c past u ∷ [])
 idle_bucket c made past a answer u h here waits l before = (
   h.bucket.goings ++ idle_going c past u ∷ [],
@@ -175,12 +175,12 @@ before_other u None r l = l
 before_other u (Some t) r l = omega (arith, l)
 
 -- what is due next is to come
-pub record IsToCome {W : Type 0} (a : Content W) (u : ℕ) (at : IsEarly a u) : Type 0 where
+pub record IsToCome {W : Type 0} (a : AgentContent W) (u : ℕ) (at : IsEarly a u) : Type 0 where
   pub timer : IsBefore u at.1.timers
   pub item : IsBefore u at.1.waiting
   pub session_message : u < session_message_next a
 
-pub to_come : {W : Type 0} (a : Content W) (u : ℕ) (at : IsEarly a u) → IsToCome a u at
+pub to_come : {W : Type 0} (a : AgentContent W) (u : ℕ) (at : IsEarly a u) → IsToCome a u at
 to_come a u (next, n, before) =
     let sooner : u < sooner_of (lesser n.timers n.waiting) (session_message_next a) = subst (λ m. u < m) n.is before in
     let both : IsBefore u (lesser n.timers n.waiting) = before_one u (lesser n.timers n.waiting) (session_message_next a) sooner in
@@ -191,7 +191,7 @@ to_come a u (next, n, before) =
     }
 
 -- at a moment before all that is due
-module _ {W : Type 0} (c : Config) (made : ℕ) (past : List Entry) (a : Content W) (u : ℕ) (h : Fits c made past a) (here : is_gone (state past) ≡ false) (at : IsEarly a u) (l : last_moment made past ≤ u) where
+module _ {W : Type 0} (c : Config) (made : ℕ) (past : List Entry) (a : AgentContent W) (u : ℕ) (h : AgentFits c made past a) (here : is_gone (state past) ≡ false) (at : IsEarly a u) (l : last_moment made past ≤ u) where
   pub idle_right : TickRight c made past (idle_at c past u) None [] None
   idle_right =
       let come = to_come a u at in
@@ -224,7 +224,7 @@ module _ {W : Type 0} (c : Config) (made : ℕ) (past : List Entry) (a : Content
   )
 
   -- the bucket after it
-  pub idle_fits : (new : BucketContent Outgoing) → Passes u a.bucket new → BucketFits c (past ++ idle_at c past u ∷ []) new
+  pub idle_fits : (new : BucketContent Outgoing) → Passes u a.bucket new → BucketFitsPast c (past ++ idle_at c past u ∷ []) new
   idle_fits new passes = record {
     goings = h.bucket.goings ++ idle_going c past u ∷ [];
     entries = idle_entries c past u h.bucket;

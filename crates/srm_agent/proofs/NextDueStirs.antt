@@ -23,14 +23,14 @@ use Rattle.srm_entries.specs.declared.entry.Input.TheVariants.{Ticked}
 use Rattle.srm_entries.specs.declared.state.AgentState.{AgentState}
 use Rattle.srm_entries.specs.declared.state.AgentState.TheVariants.{Active, Leaving, Gone}
 use Rattle.srm_entries.specs.Configs.{Config}
-use Rattle.srm_agent.specs.Contents.{Content}
+use Rattle.srm_agent.specs.Contents.{AgentContent}
 use Rattle.srm_entries.specs.Entries.{state, is_gone, is_leaving, is_tick, ticked, is_missing}
 use Rattle.srm_entries.specs.Timers.{last_ask, fix_running, ask_running, only_if}
 use Rattle.srm_codec.specs.Spelling.{is_session}
 use Rattle.srm_entries.specs.Sessions.{charged, session_message_due, EndsWith}
 use Rattle.srm_entries.specs.Bucket.{Going, GoesAsCharged, entries_of, datagrams_of, bucket_calls}
 use Rattle.srm_entries.specs.Runs.{EntryRight, IsMemberRun}
-use Rattle.srm_agent.specs.Fits.{Fits}
+use Rattle.srm_agent.specs.Fits.{AgentFits}
 use Rattle.srm_outbox.specs.Outs.{datagram_of}
 use Rattle.srm_entries.specs.Promises.{MayDoNothing}
 use Rattle.srm_agent.specs.Waking.{session_message_next}
@@ -93,7 +93,7 @@ ends_with_some Active b last due now here l = let come : nat_le due now ≡ true
 ends_with_some Leaving true last due now here l = (true, refl)
 ends_with_some Leaving false last due now here l = let come : nat_le due now ≡ true = grind (arith, nat_tests) in (false, ap (λ (x : Bool). if x then Some false else None) come)
 
-pub sends_then : {W : Type 0} (c : Config) (made : ℕ) (past : List Entry) (a : Content W) (now : ℕ) (e : Entry) → Fits c made past a → DidNothing c made past now e → is_gone (state past) ≡ false → session_message_next a ≤ now → ⊥
+pub sends_then : {W : Type 0} (c : Config) (made : ℕ) (past : List Entry) (a : AgentContent W) (now : ℕ) (e : Entry) → AgentFits c made past a → DidNothing c made past now e → is_gone (state past) ≡ false → session_message_next a ≤ now → ⊥
 sends_then c made past a now e h d here l =
     let (f, some) = ends_with_some a.state (length (queue a.bucket.waiting New) == 0) a.last a.due now (ap is_gone h.state ∙ here) l in
     let ends : session_message_due c made past e ≡ Some f = ends_by c made past a e h d.comes.ticks (ap (filter (λ g. not (is_session g))) d.outs) d.comes.drawn ∙ ap (λ m. ending_of a.state (not (length (queue a.bucket.waiting New) == 0)) (nat_le a.due m)) d.comes.moment ∙ some in
@@ -123,7 +123,7 @@ marked_so c gs hs past e q all law same also other outs =
         let none : x.goes ≡ [] = nothing_went x.goes (right.0.same ∙ ap charged here ∙ ap (filter (λ g. not (is_session g))) outs) in
         ap (λ en. let z : Going = record { entry = en; goes = x.goes } in z ∷ []) here ∙ ap (λ goes. let z : Going = record { entry = e; goes = goes } in z ∷ []) none
 
-pub nothing_may_go : {W : Type 0} (c : Config) (made : ℕ) (past : List Entry) (a : Content W) (now : ℕ) (e : Entry) (h : Fits c made past a) → DidNothing c made past now e → is_gone (state past) ≡ false
+pub nothing_may_go : {W : Type 0} (c : Config) (made : ℕ) (past : List Entry) (a : AgentContent W) (now : ℕ) (e : Entry) (h : AgentFits c made past a) → DidNothing c made past now e → is_gone (state past) ≡ false
     → may_go c.rate c.depth h.bucket.calls now ≡ None
 nothing_may_go c made past a now e h d here =
     let (gs, q, all, law) = d.comes.run.bucket in
@@ -141,7 +141,7 @@ nothing_may_go c made past a now e h d here =
     unread None q = refl
     unread (Some i) q = absurd (cc)
 
-pub goes_then : {W : Type 0} (c : Config) (made : ℕ) (past : List Entry) (a : Content W) (now moment : ℕ) (e : Entry) (h : Fits c made past a) → DidNothing c made past now e → is_gone (state past) ≡ false
+pub goes_then : {W : Type 0} (c : Config) (made : ℕ) (past : List Entry) (a : AgentContent W) (now moment : ℕ) (e : Entry) (h : AgentFits c made past a) → DidNothing c made past now e → is_gone (state past) ≡ false
     → IsSome (may_go c.rate c.depth h.bucket.calls moment) → moment ≤ now → ⊥
 goes_then c made past a now moment e h d here some l =
     contrary (may_go c.rate c.depth h.bucket.calls moment) some (none-before c.rate c.depth h.bucket.calls moment now h.bucket.fits.within l (nothing_may_go c made past a now e h d here))

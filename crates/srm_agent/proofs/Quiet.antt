@@ -12,7 +12,7 @@ use Rattle.srm_timers.specs.declared.arm.Arm.{Arm}
 use Rattle.srm_timers.specs.declared.arm.ArmKind.{ArmKind}
 use Rattle.srm_timers.specs.declared.arm.ArmKind.TheVariants.{Ask, Fix}
 use Rattle.srm_timers.specs.Arms.{wait_basis, ran_out, arm_of}
-use Rattle.srm_bucket.specs.Content.{Content as BucketContent}
+use Rattle.srm_bucket.specs.Content.{BucketContent}
 use Rattle.srm_entries.specs.declared.entry.Entry.{Entry}
 use Rattle.srm_outbox.specs.declared.out.Outgoing.{Outgoing}
 use Rattle.srm_entries.specs.Configs.{Config}
@@ -22,7 +22,7 @@ use Rattle.srm_entries.specs.Sessions.{session_due, session_due_after, session_m
 use Rattle.srm_entries.specs.Bucket.{Going, idle, GoesAsCharged, entries_of, bucket_calls, calls_by}
 use Rattle.srm_agent_state.specs.TimersKept.{TimersContent, TimersFit}
 use Rattle.srm_agent_state.proofs.Midway.{if_none}
-use Rattle.srm_agent.specs.Fits.{BucketFits}
+use Rattle.srm_agent.specs.Fits.{BucketFitsPast}
 use Rattle.srm_entries.proofs.Adding.{last_ask-snoc, fix_running-snoc, held_off-snoc}
 use Rattle.srm_entries.proofs.Showing.{IsQuiet}
 use Rattle.srm_entries.proofs.Quiet.{same_missing}
@@ -96,7 +96,7 @@ same_calls me gs e undrawn unasked unfixed i =
 quiet_goes : (gs : List Going) (e : Entry) → IsIdle (entries_of gs) e → GoesAsCharged (record { before = gs; this = idle e })
 quiet_goes gs e i = record { same = rw i.outs refl; at_ticks = rw i.rests refl }
 
-pub bucket_stays : (c : Config) (past : List Entry) (e : Entry) (b : BucketContent Outgoing) → e.effects.drawn ≡ None → e.effects.asks ≡ [] → e.effects.fixes ≡ [] → IsIdle past e → BucketFits c past b → BucketFits c (past ++ e ∷ []) b
+pub bucket_stays : (c : Config) (past : List Entry) (e : Entry) (b : BucketContent Outgoing) → e.effects.drawn ≡ None → e.effects.asks ≡ [] → e.effects.fixes ≡ [] → IsIdle past e → BucketFitsPast c past b → BucketFitsPast c (past ++ e ∷ []) b
 bucket_stays c past e b undrawn unasked unfixed i h = record {
   goings = h.goings ++ idle e ∷ [];
   entries = map-append (λ (g : Going). g.entry) h.goings (idle e ∷ []) ∙ ap (λ es. es ++ e ∷ []) h.entries;

@@ -22,7 +22,7 @@ use Rattle.srm_store.specs.Held.{number_in}
 use Rattle.srm_store.specs.Finals.{number_in_rows}
 use Rattle.srm_entries.specs.declared.entry.Entry.{Entry}
 use Rattle.srm_entries.specs.Configs.{Config}
-use Rattle.srm_agent.specs.Contents.{Content}
+use Rattle.srm_agent.specs.Contents.{AgentContent}
 use Rattle.srm_entries.specs.Entries.{done, pages_in, known, shown, slots, evidence_in}
 use Rattle.srm_entries.specs.Runs.{EntryRight}
 use Rattle.srm_entries.specs.Sessions.{if_positive}
@@ -61,7 +61,7 @@ of_some [] s rows r e f n = inr (r, [], ap (λ w. w ++ r ∷ []) e, f, n, refl)
 of_some (x ∷ ss) s rows r (inl h) f n = inl (of_some ss s rows r h f n)
 of_some (x ∷ ss) s rows r (inr (q, rest, e, g, m, h)) f n = inr (q, rest ++ r ∷ [], ap (λ w. w ++ r ∷ []) e, g, m, of_some ss s rest r h f n)
 
-pub rows_none : {W : Type 0} (a : Content W) (streams : List Stream) (i : ℕ) (s : Stream) (rows more : List FullName) → i < length streams → s ≡ get_or streams i s → more ≡ rows
+pub rows_none : {W : Type 0} (a : AgentContent W) (streams : List Stream) (i : ℕ) (s : Stream) (rows more : List FullName) → i < length streams → s ≡ get_or streams i s → more ≡ rows
     → AreRowsOf a (take i streams) rows → IsRow a s None → AreRowsOf a (take (i + 1) streams) more
 rows_none a streams i s rows more lt at is sofar one =
     subst (λ ss. AreRowsOf a ss more) (sym (take_more streams i s lt ∙ ap (λ t. take i streams ++ t ∷ []) (sym at)))
@@ -72,7 +72,7 @@ rows_none a streams i s rows more lt at is sofar one =
       spelled = of_none (take i streams) s rows sofar.spelled;
     }))
 
-pub rows_some : {W : Type 0} (a : Content W) (streams : List Stream) (i : ℕ) (s : Stream) (rows more : List FullName) (r : FullName) → i < length streams → s ≡ get_or streams i s → more ≡ rows ++ r ∷ []
+pub rows_some : {W : Type 0} (a : AgentContent W) (streams : List Stream) (i : ℕ) (s : Stream) (rows more : List FullName) (r : FullName) → i < length streams → s ≡ get_or streams i s → more ≡ rows ++ r ∷ []
     → AreRowsOf a (take i streams) rows → IsRow a s (Some r) → AreRowsOf a (take (i + 1) streams) more
 rows_some a streams i s rows more r lt at is sofar one =
     subst (λ ss. AreRowsOf a ss more) (sym (take_more streams i s lt ∙ ap (λ t. take i streams ++ t ∷ []) (sym at)))
@@ -190,7 +190,7 @@ any_source : (me : ℕ) (ss : List Stream) → AllByRecursion (λ (s : Stream). 
 any_source me [] = tt
 any_source me (s ∷ ss) = ((λ e. absurd (cc)), any_source me ss)
 
-pub rows_of_page : {W : Type 0} (a : Content W) (streams : List Stream) (rows : List FullName) → AreShown a streams → AreRowsOf a streams rows → AreDueRows a false rows
+pub rows_of_page : {W : Type 0} (a : AgentContent W) (streams : List Stream) (rows : List FullName) → AreShown a streams → AreRowsOf a streams rows → AreDueRows a false rows
 rows_of_page a streams rows page are = record {
   right = λ c made past now fits. record {
     in_order = rising streams rows up are.spelled;
@@ -246,7 +246,7 @@ unknown c made past s all none = none_numbered s (evidence_in past) (λ n h. by 
         let not_there : same_page s.page n.stream.page ≡ false = none_passes (same_page s.page) (slots past) n.stream.page none there in
         absurd (let k : true ≡ false = sym (and_right (s.source == n.stream.source) (same_page s.page n.stream.page) e) ∙ not_there in cc)
 
-pub rows_of_own : {W : Type 0} (a : Content W) (streams : List Stream) (rows : List FullName) → AreOwnStreams a streams → AreRowsOf a streams rows → AreDueRows a true rows
+pub rows_of_own : {W : Type 0} (a : AgentContent W) (streams : List Stream) (rows : List FullName) → AreOwnStreams a streams → AreRowsOf a streams rows → AreDueRows a true rows
 rows_of_own a streams rows own are = record {
   right = λ c made past now fits. record {
     in_order = rising streams rows up are.spelled;

@@ -7,7 +7,7 @@ use Rattle.std.proofs.lemmas.List.{map-append}
 use Rattle.srm_names.specs.declared.page.Page.{Page}
 use Rattle.srm_codec.specs.declared.datagram.Datagram.{Datagram}
 use Rattle.srm_bucket.specs.Calls.{Classed, Handed, Popped}
-use Rattle.srm_bucket.specs.Content.{Content as BucketContent}
+use Rattle.srm_bucket.specs.Content.{BucketContent}
 use Rattle.srm_bucket.specs.Mapping.{read_classed, read_call}
 use Rattle.srm_outbox.specs.declared.due_items.DueItem.{DueItem}
 use Rattle.srm_entries.specs.declared.entry.Entry.{Entry}
@@ -16,7 +16,7 @@ use Rattle.srm_entries.specs.Configs.{Config}
 use Rattle.srm_entries.specs.Entries.{ticked, state, is_gone, shown}
 use Rattle.srm_entries.specs.Sessions.{charged}
 use Rattle.srm_entries.specs.Bucket.{Going, GoesAsCharged, entries_of, lets_go, pops, bucket_calls, handed_in_by, requests_and_repairs, due_item, data_item, datagrams_of}
-use Rattle.srm_agent.specs.Fits.{BucketFits}
+use Rattle.srm_agent.specs.Fits.{BucketFitsPast}
 use Rattle.srm_outbox.specs.Outs.{datagram_of, IsOwn, AreOwn}
 use Rattle.srm_outbox.specs.DueItems.{AreDueItems, classed_of}
 use Rattle.srm_outbox.specs.Outbox.{WentContent, HandsIn, Goes, LetsGo}
@@ -49,8 +49,8 @@ pub record TickSends (c : Config) (past : List Entry) (e : Entry) (datagrams : L
   pub charged_are : charged e ≡ went
 
 pub bucket_ticks : (c : Config) (session : ℕ) (past : List Entry) (e : Entry) (old after_hand_in new : BucketContent Outgoing) (showing : Page) (gs : List Datagram) (due_items : List DueItem) (went : WentContent)
-    → BucketFits c past old → AreOwn c.me session old.waiting → AreDueItems c.me session showing gs due_items → showing ≡ shown past
-    → HandsIn due_items old after_hand_in → LetsGo e.moment after_hand_in new went → TickSends c past e gs went.noted → BucketFits c (past ++ e ∷ []) new
+    → BucketFitsPast c past old → AreOwn c.me session old.waiting → AreDueItems c.me session showing gs due_items → showing ≡ shown past
+    → HandsIn due_items old after_hand_in → LetsGo e.moment after_hand_in new went → TickSends c past e gs went.noted → BucketFitsPast c (past ++ e ∷ []) new
 bucket_ticks c session past e old after_hand_in new showing gs due_items went h own spelled page hands goes sends = record {
   goings = h.goings ++ x ∷ [];
   entries = entries-snoc h.goings x ∙ ap (λ es. es ++ e ∷ []) h.entries;

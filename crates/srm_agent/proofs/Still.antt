@@ -16,8 +16,8 @@ use Rattle.srm_entries.specs.Verdicts.{VerdictRight}
 use Rattle.srm_entries.specs.Giving.{given, given_in, MessageRight}
 use Rattle.srm_entries.specs.Runs.{EntryRight, MomentRight, expected_drawop, expected_state}
 use Rattle.srm_agent_state.specs.Progress.{ProgressContent, ProgressFits}
-use Rattle.srm_agent.specs.Contents.{Content}
-use Rattle.srm_agent.specs.Fits.{Fits, EachProgressFits}
+use Rattle.srm_agent.specs.Contents.{AgentContent}
+use Rattle.srm_agent.specs.Fits.{AgentFits, EachProgressFits}
 use Rattle.srm_entries.specs.Still.{entry_without_effects}
 use Rattle.srm_entries.proofs.Feeding.{given-snoc}
 use Rattle.srm_entries.proofs.Showing.{IsQuiet, state-snoc}
@@ -72,7 +72,7 @@ still_right c made past moment input verdict message after m =
     }
 
 -- all but the state, the last moment, the page shown, the pages and the progress are as they were
-pub record SameParts {W : Type 0} (a b : Content W) : Type 0 where
+pub record SameParts {W : Type 0} (a b : AgentContent W) : Type 0 where
   pub config : b.config ≡ a.config
   pub store : b.store ≡ a.store
   pub distances : b.distances ≡ a.distances
@@ -80,13 +80,13 @@ pub record SameParts {W : Type 0} (a b : Content W) : Type 0 where
   pub bucket : b.bucket ≡ a.bucket
   pub due : b.due ≡ a.due
 
-pub still_fits : {W : Type 0} (c : Config) (made : ℕ) (past : List Entry) (a b : Content W) (moment : ℕ) (input : Input) (verdict : Verdict) (message : Option PageMsg) (after : AgentState)
-    → Fits c made past a → MayFollow c made past moment input verdict message after → SameParts a b → b.state ≡ after
+pub still_fits : {W : Type 0} (c : Config) (made : ℕ) (past : List Entry) (a b : AgentContent W) (moment : ℕ) (input : Input) (verdict : Verdict) (message : Option PageMsg) (after : AgentState)
+    → AgentFits c made past a → MayFollow c made past moment input verdict message after → SameParts a b → b.state ≡ after
     → b.last ≡ max a.last (greatest (moments_counted verdict (entry_without_effects c.me moment input verdict message after)))
     → b.showing ≡ unwrap_or (page_shown (done_input verdict input)) a.showing
     → b.pages ≡ slots (past ++ entry_without_effects c.me moment input verdict message after ∷ [])
     → EachProgressFits (past ++ entry_without_effects c.me moment input verdict message after ∷ []) b.progress
-    → Fits c made (past ++ entry_without_effects c.me moment input verdict message after ∷ []) b
+    → AgentFits c made (past ++ entry_without_effects c.me moment input verdict message after ∷ []) b
 still_fits c made past a b moment input verdict message after h m same is_state is_last is_showing is_pages progress =
     let q = quiet c made past moment input verdict message after m in
     let e : Entry = entry_without_effects c.me moment input verdict message after in

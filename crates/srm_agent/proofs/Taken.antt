@@ -14,7 +14,7 @@ use Rattle.srm_codec.specs.Spelling.{names_in, is_farewell, IsSpellable}
 use Rattle.srm_store.specs.Stores.{StoreContent}
 use Rattle.srm_store.specs.Fits.{StoreStays}
 use Rattle.srm_distance.specs.Distance as defined
-use Rattle.srm_distance.specs.Calls.{Call}
+use Rattle.srm_distance.specs.Calls.{DistanceCall}
 use Rattle.srm_timers.specs.declared.arm.Arm.{Arm}
 use Rattle.srm_deadlines.proofs.Same.{same_flip}
 use Rattle.srm_entries.specs.declared.entry.Entry.{Entry}
@@ -30,10 +30,10 @@ use Rattle.srm_store.specs.PageTables.{with_pages_of}
 use Rattle.srm_agent_state.specs.TimersKept.{HaveSettings, TimersContent}
 use Rattle.srm_distance.specs.Fits.{IsTableOf}
 use Rattle.srm_agent_state.specs.TimerCalls.{AreDistancesAfter, IsDrawopOf, TimersHear, TimersStay, WaitsAreChosen}
-use Rattle.srm_agent.specs.Contents.{Content}
-use Rattle.srm_agent.specs.Fits.{Fits}
+use Rattle.srm_agent.specs.Contents.{AgentContent}
+use Rattle.srm_agent.specs.Fits.{AgentFits}
 use Rattle.srm_agent.specs.Heeding.{AreNewlyMissingBelow, MayAccept, carrying, heard_entry}
-use Rattle.srm_agent.specs.Noting.{Enters, IsAllowed, Stays}
+use Rattle.srm_agent.specs.Noting.{Enters, IsAllowed, AgentStays}
 use Rattle.srm_entries.proofs.Quiet.{same_distances}
 use Rattle.srm_agent.proofs.Fitting.{refit}
 use Rattle.srm_agent.proofs.Fresh.{Brings, fresh_drawop}
@@ -81,10 +81,10 @@ carrying_is None d repaired e = rw e refl
 carrying_is (Some sender) d repaired e = rw e refl
 
 -- the name of a drawop that may be accepted
-pub may_carry : {W : Type 0} (repairer : Option ℕ) (d : Drawop) (names : List FullName) (moment : ℕ) (a : Content W) → MayAccept (carrying repairer d) names moment a → MayAccept (carrying repairer d) (d.name ∷ []) moment a
+pub may_carry : {W : Type 0} (repairer : Option ℕ) (d : Drawop) (names : List FullName) (moment : ℕ) (a : AgentContent W) → MayAccept (carrying repairer d) names moment a → MayAccept (carrying repairer d) (d.name ∷ []) moment a
 may_carry repairer d names moment a may = subst (λ ns. MayAccept (carrying repairer d) ns moment a) (may.named ∙ (carrying_brings repairer d).names) may
 
-pub drawop_enters : {W : Type 0} (next_word : W → ℕ × W) (a b : Content W) (moment : ℕ) (g : Datagram) (is : Datagram → Type 0) (d : Drawop) (newly_missing : List FullName) (dist : List ℕ) (arms : List Arm) (roomy : StoreContent) (e : Entry)
+pub drawop_enters : {W : Type 0} (next_word : W → ℕ × W) (a b : AgentContent W) (moment : ℕ) (g : Datagram) (is : Datagram → Type 0) (d : Drawop) (newly_missing : List FullName) (dist : List ℕ) (arms : List Arm) (roomy : StoreContent) (e : Entry)
     → BringsOne d g → is g → is_gone a.state ≡ false → IsSpellable g → a.last ≤ moment → IsAllowed (Heard g) a → AreNewlyMissingBelow d.name a newly_missing → IsTableOf a.distances dist
     → TimersHear is newly_missing dist moment arms a.timers b.timers → StoreStays a.store roomy → HoldsToo d roomy b.store → b.pages ≡ with_pages_of a.pages (d.name ∷ []) → b.distances ≡ a.distances → Goes a b moment
     → HaveSettings a.config a.timers → WaitsAreChosen next_word a.timers a.words arms b.words → e ≡ heard_entry a.config.me moment g arms a.state
@@ -92,12 +92,12 @@ pub drawop_enters : {W : Type 0} (next_word : W → ℕ × W) (a b : Content W) 
 drawop_enters next_word a b moment g is d newly_missing dist arms roomy e one it here spellable late allowed below table hears kept holds pages same goes settings drawn e_is =
     heard_enters next_word a b moment g arms e late settings drawn e_is heeds
   where
-    after : (c : Config) (made : ℕ) (past : List Entry) → Fits c made past a → AreDistancesAfter c (past ++ heard_entry c.me moment g arms a.state ∷ []) dist
+    after : (c : Config) (made : ℕ) (past : List Entry) → AgentFits c made past a → AreDistancesAfter c (past ++ heard_entry c.me moment g arms a.state ∷ []) dist
     after c made past h = record {
-      each = λ m l. table.each c.me (distance_calls c.me past) h.distances m l ∙ ap (λ (cs : List Call). defined.distance cs c.me m) (sym (same_distances c.me past (heard_entry c.me moment g arms a.state) (one.uncalled c.me moment)));
+      each = λ m l. table.each c.me (distance_calls c.me past) h.distances m l ∙ ap (λ (cs : List DistanceCall). defined.distance cs c.me m) (sym (same_distances c.me past (heard_entry c.me moment g arms a.state) (one.uncalled c.me moment)));
     }
 
-    heeds : (c : Config) (made : ℕ) (past : List Entry) → Fits c made past a → Heeds c made past a b moment g (heard_entry c.me moment g arms a.state)
+    heeds : (c : Config) (made : ℕ) (past : List Entry) → AgentFits c made past a → Heeds c made past a b moment g (heard_entry c.me moment g arms a.state)
     heeds c made past h = heeds_by c made past a b moment g arms h late here spellable allowed
         (hears.each c past (heard_entry c.me moment g arms a.state) g it (heard_with c.me moment g arms a.state spellable) h.timers
         (fresh_drawop past (heard_entry c.me moment g arms a.state) d _ newly_missing (one.brings c.me moment arms a.state) refl (below.each c made past h)) (after c made past h))
@@ -113,7 +113,7 @@ below_is n s k known_of number names e f g h = record {
 }
 
 -- want of memory: the store has room, the timers stay, and no word was used
-pub stays : {W : Type 0} (a : Content W) (s : StoreContent) (t : TimersContent) (w : W) → StoreStays a.store s → TimersStay a.timers t → w ≡ a.words → Stays a (record a { store = s; timers = t; words = w })
+pub stays : {W : Type 0} (a : AgentContent W) (s : StoreContent) (t : TimersContent) (w : W) → StoreStays a.store s → TimersStay a.timers t → w ≡ a.words → AgentStays a (record a { store = s; timers = t; words = w })
 stays a s t w kept timers words = record {
   fits = λ c made past h. refit c made past a s t a.bucket w h (kept.each (held past) (evidence_in past) (settlings past) h.store) (timers.each c past h.timers) h.bucket;
   words = words;

@@ -16,8 +16,8 @@ use Rattle.srm_entries.specs.Timers.{ArmsRight, TimersRight}
 use Rattle.srm_entries.specs.Sessions.{session_message_due}
 use Rattle.srm_entries.specs.Runs.{EntryRight, expected_state}
 use Rattle.srm_agent.specs.Ticking.{tick_entry}
-use Rattle.srm_agent.specs.Contents.{Content}
-use Rattle.srm_agent.specs.Fits.{Fits, BucketFits}
+use Rattle.srm_agent.specs.Contents.{AgentContent}
+use Rattle.srm_agent.specs.Fits.{AgentFits, BucketFitsPast}
 use Rattle.srm_agent_state.specs.TimersKept.{TimersFit}
 use Rattle.srm_entries.proofs.Ending.{EndsIn, NoSessions, session_right, due_by, due_after}
 use Rattle.srm_entries.proofs.Running.{steps_more, shown-page-snoc, slots-same}
@@ -64,7 +64,7 @@ tick_right c made moment past asks fixes arms outs after wanted went o t =
     }
 
 -- all but state, last moment, timers, bucket and the next due moment are as they were
-pub record TickKeeps {W : Type 0} (a b : Content W) : Type 0 where
+pub record TickKeeps {W : Type 0} (a b : AgentContent W) : Type 0 where
   pub config : b.config ≡ a.config
   pub showing : b.showing ≡ a.showing
   pub pages : b.pages ≡ a.pages
@@ -72,10 +72,10 @@ pub record TickKeeps {W : Type 0} (a b : Content W) : Type 0 where
   pub store : b.store ≡ a.store
   pub distances : b.distances ≡ a.distances
 
-pub tick_fits : {W : Type 0} (c : Config) (made moment : ℕ) (past : List Entry) (asks fixes : List FullName) (arms : List Arm) (outs : List Datagram) (after : AgentState) (wanted : Option Bool) (went : List Datagram) (o : Option Datagram) (a b : Content W)
-    → Fits c made past a → TickKeeps a b → TickRight c made past (tick_entry c.me moment asks fixes arms outs after) wanted went o
-    → b.state ≡ after → b.last ≡ moment → TimersFit c (past ++ tick_entry c.me moment asks fixes arms outs after ∷ []) b.timers → BucketFits c (past ++ tick_entry c.me moment asks fixes arms outs after ∷ []) b.bucket
-    → b.due ≡ due_by c past moment a.due o → Fits c made (past ++ tick_entry c.me moment asks fixes arms outs after ∷ []) b
+pub tick_fits : {W : Type 0} (c : Config) (made moment : ℕ) (past : List Entry) (asks fixes : List FullName) (arms : List Arm) (outs : List Datagram) (after : AgentState) (wanted : Option Bool) (went : List Datagram) (o : Option Datagram) (a b : AgentContent W)
+    → AgentFits c made past a → TickKeeps a b → TickRight c made past (tick_entry c.me moment asks fixes arms outs after) wanted went o
+    → b.state ≡ after → b.last ≡ moment → TimersFit c (past ++ tick_entry c.me moment asks fixes arms outs after ∷ []) b.timers → BucketFitsPast c (past ++ tick_entry c.me moment asks fixes arms outs after ∷ []) b.bucket
+    → b.due ≡ due_by c past moment a.due o → AgentFits c made (past ++ tick_entry c.me moment asks fixes arms outs after ∷ []) b
 tick_fits c made moment past asks fixes arms outs after wanted went o a b h keeps t is_state is_last timers bucket is_due =
     let right = tick_right c made moment past asks fixes arms outs after wanted went o t in
     let e : Entry = tick_entry c.me moment asks fixes arms outs after in

@@ -19,7 +19,7 @@ use Rattle.srm_bucket.specs.declared.class.Class.TheVariants.{Shown, New, Other}
 use Rattle.srm_bucket.specs.declared.item.Item.{Item}
 use Rattle.srm_bucket.specs.Calls.{Classed}
 use Rattle.srm_bucket.specs.Classes.{rank, in_class, handed, departed}
-use Rattle.srm_bucket.specs.Content.{Content as BucketContent}
+use Rattle.srm_bucket.specs.Content.{BucketContent}
 use Rattle.srm_bucket.specs.Law.{BucketLaw}
 use Rattle.srm_bucket.specs.Mapping.{read_item}
 use Rattle.srm_bucket.specs.Waiting.{queue}
@@ -33,7 +33,7 @@ use Rattle.srm_entries.specs.Sessions.{charged, all_data_sent}
 use Rattle.srm_entries.specs.Packing.{is_covered_by, packed_after, packed, mask_of}
 use Rattle.srm_entries.specs.Bucket.{Going, GoesAsCharged, class_for, page_of, due_item, data_item, requests_and_repairs, handed_in_by, repair_for, entries_of, bucket_calls, datagrams_of}
 use Rattle.srm_entries.specs.Rates.{one_of_class, of_class, handed_so_far, departed_so_far}
-use Rattle.srm_agent.specs.Fits.{BucketFits}
+use Rattle.srm_agent.specs.Fits.{BucketFitsPast}
 use Rattle.srm_outbox.specs.Outs.{datagram_of}
 use Rattle.srm_entries.proofs.Marking.{gone_is, handed_is}
 use Rattle.srm_entries.proofs.Sending.{went_first, went_is_charged, in_its_class}
@@ -179,7 +179,7 @@ nothing_left : (gone_count left drawn_count sent_count : ℕ) → gone_count + l
 nothing_left gone_count left drawn_count sent_count e f = grind (arith, nat_tests)
 
 -- After these entries each drawop that was drawn has been sent exactly where nothing waits as new.
-pub all_sent : (c : Config) (es : List Entry) (b : BucketContent Outgoing) → BucketFits c es b → all_data_sent es ≡ (length (queue b.waiting New) == 0)
+pub all_sent : (c : Config) (es : List Entry) (b : BucketContent Outgoing) → BucketFitsPast c es b → all_data_sent es ≡ (length (queue b.waiting New) == 0)
 all_sent c es b h =
     let law : BucketLaw c.rate c.depth (bucket_calls c.me h.goings) = subst (BucketLaw c.rate c.depth) h.read (law-read datagram_of c.rate c.depth h.calls h.fits.law) in
     let went : length (departed New h.calls) ≡ count_by is_data (sent es) =

@@ -3,8 +3,8 @@ use Rattle.std.specs.Prelude.{◌≡◌, ℕ, ◌≤◌, List, length}
 use Rattle.srm_names.specs.declared.limits.TheConstants.{LATEST_MOMENT, PAGES}
 use Rattle.srm_names.specs.declared.page.Page.{Page}
 use Rattle.srm_store.specs.Stores.{StoreContent}
-use Rattle.srm_distance.specs.Content.{Content as DistancesContent}
-use Rattle.srm_bucket.specs.Content.{Content as BucketContent}
+use Rattle.srm_distance.specs.Content.{DistancesContent}
+use Rattle.srm_bucket.specs.Content.{BucketContent}
 use Rattle.srm_entries.specs.declared.state.AgentState.{AgentState}
 use Rattle.srm_outbox.specs.declared.out.Outgoing.{Outgoing}
 use Rattle.srm_agent.specs.declared.agent.Agent.TheInside.{Inside}
@@ -13,7 +13,7 @@ use Rattle.srm_agent_state.specs.Progress.{ProgressContent}
 use Rattle.srm_outbox.specs.Outs.{AreOwn}
 use Rattle.srm_agent_state.specs.TimersKept.{TimersContent, HaveSettings}
 
-pub record Content (W : Type 0) : Type 0 where
+pub record AgentContent (W : Type 0) : Type 0 where
   pub config : Config
   pub words : W
   pub state : AgentState
@@ -27,7 +27,7 @@ pub record Content (W : Type 0) : Type 0 where
   pub bucket : BucketContent Outgoing
   pub due : ℕ
 
-abbrev pub content_of : {W : Type 0} → Inside W → Content W
+abbrev pub content_of : {W : Type 0} → Inside W → AgentContent W
 content_of a = record {
   config = a.config;
   words = a.words;

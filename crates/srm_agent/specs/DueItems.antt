@@ -8,13 +8,13 @@ use Rattle.srm_entries.specs.declared.entry.Entry.{Entry}
 use Rattle.srm_entries.specs.Configs.{Config}
 use Rattle.srm_entries.specs.Packing.{packed}
 use Rattle.srm_entries.specs.Bucket.{repair_for}
-use Rattle.srm_agent.specs.Contents.{Content}
-use Rattle.srm_agent.specs.Fits.{Fits}
+use Rattle.srm_agent.specs.Contents.{AgentContent}
+use Rattle.srm_agent.specs.Fits.{AgentFits}
 use Rattle.srm_outbox.specs.DueItems.{AreDueItems}
 
 -- the requests and the repairs of an agent for what is due, over whatever run it fits: the requests for these names, and the repairs of those of the
 -- others that it holds
-pub record DueItems {W : Type 0} (a : Content W) (asks fixes : List FullName) (items : List DueItem) : Type 0 where
+pub record DueItems {W : Type 0} (a : AgentContent W) (asks fixes : List FullName) (items : List DueItem) : Type 0 where
   pub datagrams : List Datagram
   pub spelled : AreDueItems a.config.me a.config.session a.showing datagrams items
-  pub value : (c : Config) (made : ℕ) (past : List Entry) → Fits c made past a → datagrams ≡ packed c.me asks ++ filter_map (repair_for c.me past) fixes
+  pub value : (c : Config) (made : ℕ) (past : List Entry) → AgentFits c made past a → datagrams ≡ packed c.me asks ++ filter_map (repair_for c.me past) fixes

@@ -5,12 +5,12 @@ use Rattle.srm_names.specs.declared.limits.TheConstants.{PAGES}
 use Rattle.srm_names.specs.declared.page.Page.{Page}
 use Rattle.srm_names.specs.Histories.{steps}
 use Rattle.srm_codec.specs.Spelling.{is_drawop}
-use Rattle.srm_store.specs.Fits as store
-use Rattle.srm_distance.specs.Fits as distances
-use Rattle.srm_bucket.specs.Calls.{Call}
+use Rattle.srm_store.specs.Fits.{StoreFits}
+use Rattle.srm_distance.specs.Fits.{DistancesFit}
+use Rattle.srm_bucket.specs.Calls.{BucketCall}
 use Rattle.srm_bucket.specs.Mapping.{read_call}
-use Rattle.srm_bucket.specs.Content.{Content as BucketContent}
-use Rattle.srm_bucket.specs.Fits as bucket
+use Rattle.srm_bucket.specs.Content.{BucketContent}
+use Rattle.srm_bucket.specs.Fits.{BucketFits}
 use Rattle.srm_entries.specs.declared.entry.Entry.{Entry}
 use Rattle.srm_outbox.specs.declared.out.Outgoing.{Outgoing}
 use Rattle.srm_entries.specs.Configs.{Config}
@@ -25,16 +25,16 @@ use Rattle.srm_entries.specs.Runs.{EntryRight}
 use Rattle.srm_outbox.specs.Outs.{datagram_of}
 use Rattle.srm_agent_state.specs.Progress.{ProgressContent, ProgressFits}
 use Rattle.srm_agent_state.specs.TimersKept.{TimersFit}
-use Rattle.srm_agent.specs.Contents.{Content}
+use Rattle.srm_agent.specs.Contents.{AgentContent}
 
 -- what waits for the bucket was handed in by the entries, and is spelled
-pub record BucketFits (c : Config) (past : List Entry) (b : BucketContent Outgoing) : Type 0 where
+pub record BucketFitsPast (c : Config) (past : List Entry) (b : BucketContent Outgoing) : Type 0 where
   pub goings : List Going
   pub entries : entries_of goings ≡ past
   pub goes : AllByRecursion GoesAsCharged (steps goings)
-  pub calls : List (Call Outgoing)
+  pub calls : List (BucketCall Outgoing)
   pub read : map (read_call datagram_of) calls ≡ bucket_calls c.me goings
-  pub fits : bucket.Fits c.rate c.depth calls b
+  pub fits : BucketFits c.rate c.depth calls b
 
 -- each slot has its progress
 pub record EachProgressFits (past : List Entry) (progress : List ProgressContent) : Type 0 where
@@ -43,7 +43,7 @@ pub record EachProgressFits (past : List Entry) (progress : List ProgressContent
 abbrev pub AreNewProgress : List ProgressContent → Type 0
 AreNewProgress progress = (length progress ≡ PAGES) × ((j : ℕ) (f : ProgressContent) → slice_get progress j ≡ Some f → ProgressFits [] f)
 
-pub record Fits {W : Type 0} (c : Config) (made : ℕ) (past : List Entry) (a : Content W) : Type 0 where
+pub record AgentFits {W : Type 0} (c : Config) (made : ℕ) (past : List Entry) (a : AgentContent W) : Type 0 where
   pub run : AllByRecursion (EntryRight c made) (steps past)
   pub config : a.config ≡ c
   pub state : a.state ≡ state past
@@ -51,10 +51,10 @@ pub record Fits {W : Type 0} (c : Config) (made : ℕ) (past : List Entry) (a : 
   pub showing : a.showing ≡ shown past
   pub pages : a.pages ≡ slots past
   pub progress : EachProgressFits past a.progress
-  pub store : store.Fits (held past) (evidence_in past) (settlings past) a.store
-  pub distances : distances.Fits c.me (distance_calls c.me past) a.distances
+  pub store : StoreFits (held past) (evidence_in past) (settlings past) a.store
+  pub distances : DistancesFit c.me (distance_calls c.me past) a.distances
   pub timers : TimersFit c past a.timers
-  pub bucket : BucketFits c past a.bucket
+  pub bucket : BucketFitsPast c past a.bucket
   pub due : a.due ≡ session_due c made past
   pub own : (page : Page) → drawn_in past (stream_on c.me page) ≡ known past (stream_on c.me page)
   pub spelled : AllByRecursion is_drawop (held past)

@@ -18,8 +18,8 @@ use Rattle.srm_entries.specs.declared.entry.Input.TheVariants.{Heard, Noise}
 use Rattle.srm_entries.specs.declared.entry.Verdict.TheVariants.{Ignored}
 use Rattle.srm_entries.specs.Configs.{Config}
 use Rattle.srm_agent.specs.declared.heard.Heard as answers
-use Rattle.srm_agent.specs.Contents.{Content}
-use Rattle.srm_agent.specs.Fits.{Fits}
+use Rattle.srm_agent.specs.Contents.{AgentContent}
+use Rattle.srm_agent.specs.Fits.{AgentFits}
 use Rattle.srm_codec.specs.Spelling.{IsSpellable, names_in}
 use Rattle.srm_entries.specs.Entries.{is_gone, known}
 use Rattle.srm_store.specs.PageTables.{table_lacks_room_for}
@@ -28,8 +28,8 @@ use Rattle.srm_entries.specs.Verdicts.{verdict_of}
 use Rattle.srm_agent.specs.Noting.{Enters, IsAllowed, verdict_of_outcome}
 
 -- the verdict is that on the datagram, after whatever run the agent fitted
-pub record IsJudgedBy {W : Type 0} (datagram : Datagram) (old : Content W) (e : Entry) : Type 0 where
-  pub each : (c : Config) (made : ℕ) (past : List Entry) → Fits c made past old → e.verdict ≡ verdict_of c past (Heard datagram)
+pub record IsJudgedBy {W : Type 0} (datagram : Datagram) (old : AgentContent W) (e : Entry) : Type 0 where
+  pub each : (c : Config) (made : ℕ) (past : List Entry) → AgentFits c made past old → e.verdict ≡ verdict_of c past (Heard datagram)
 
 -- what can't be read is noise with its fault, which is none of memory
 pub record IsNoiseFor (fault : DecodeFault) (e : Entry) : Type 0 where
@@ -43,7 +43,7 @@ carrying None drawop = Data drawop
 carrying (Some repairer) drawop = Repair repairer drawop
 
 -- a member may accept a datagram with these names at this moment: it isn't gone, and the table has room for their pages
-pub record MayAccept {W : Type 0} (datagram : Datagram) (names : List FullName) (moment : ℕ) (a : Content W) : Type 0 where
+pub record MayAccept {W : Type 0} (datagram : Datagram) (names : List FullName) (moment : ℕ) (a : AgentContent W) : Type 0 where
   pub here : is_gone a.state ≡ false
   pub spelled : IsSpellable datagram
   pub later : a.last ≤ moment
@@ -67,13 +67,13 @@ abbrev pub heard_entry : ℕ → ℕ → Datagram → List Arm → AgentState �
 heard_entry me moment datagram arms state = entry_with me moment (Heard datagram) state (record { arms = arms; outcome = outcomes.Taken })
 
 -- and of what an agent heard
-abbrev pub entry_by : {W : Type 0} → Content W → ℕ → Input → answers.Heard → Entry
+abbrev pub entry_by : {W : Type 0} → AgentContent W → ℕ → Input → answers.Heard → Entry
 entry_by a moment input heard = entry_with a.config.me moment input a.state heard
 
 -- the entry is of this datagram, and by what is answered
-abbrev pub EntersHeard : {W : Type 0} → (W → ℕ × W) → Datagram → ℕ → Content W → Content W → answers.Heard → Type 0
+abbrev pub EntersHeard : {W : Type 0} → (W → ℕ × W) → Datagram → ℕ → AgentContent W → AgentContent W → answers.Heard → Type 0
 EntersHeard next_word datagram moment old new heard = Enters next_word (Some moment) (Heard datagram) old new (entry_by old moment (Heard datagram) heard)
 
 -- the names are those below this one that aren't known of, in order, after whatever run the agent fitted
-pub record AreNewlyMissingBelow {W : Type 0} (name : FullName) (old : Content W) (names : List FullName) : Type 0 where
-  pub each : (c : Config) (made : ℕ) (past : List Entry) → Fits c made past old → AreExactly (is_between name.stream (known past name.stream) name.number) names
+pub record AreNewlyMissingBelow {W : Type 0} (name : FullName) (old : AgentContent W) (names : List FullName) : Type 0 where
+  pub each : (c : Config) (made : ℕ) (past : List Entry) → AgentFits c made past old → AreExactly (is_between name.stream (known past name.stream) name.number) names

@@ -20,8 +20,8 @@ use Rattle.srm_entries.specs.Configs.{Config}
 use Rattle.srm_entries.specs.Still.{entry_without_effects}
 use Rattle.srm_entries.specs.Entries.{is_gone}
 use Rattle.srm_entries.specs.Verdicts.{verdict_of}
-use Rattle.srm_agent.specs.Contents.{Content}
-use Rattle.srm_agent.specs.Fits.{Fits}
+use Rattle.srm_agent.specs.Contents.{AgentContent}
+use Rattle.srm_agent.specs.Fits.{AgentFits}
 use Rattle.srm_entries.specs.Timers.{low_of, high_of}
 use Rattle.srm_entries.specs.Hearing.{bytes_heard}
 use Rattle.srm_outbox.specs.Outs.{AreOutsOf}
@@ -32,7 +32,7 @@ verdict_answering (Ok value) = Done
 verdict_answering (Err fault) = Refused fault
 
 -- the entry of a give, by what is answered
-abbrev pub gave_by : {W : Type 0} → Content W → ℕ → Option PageMsg → Entry
+abbrev pub gave_by : {W : Type 0} → AgentContent W → ℕ → Option PageMsg → Entry
 gave_by a slot message = entry_without_effects a.config.me a.last (Gave slot) Done message a.state
 
 -- the moment that counts: a lower one than the last counts as the last, and a call that takes none has the last
@@ -42,19 +42,19 @@ moment_that_counts (Some now) last = max now last
 
 -- The entry is of this input, at the moment that counts. Whatever run the agent fitted, it fits the run with this entry added.
 -- The waits of its arms are by the next words, one word an arm, in order; no other word is used.
-pub record Enters {W : Type 0} (next_word : W → ℕ × W) (now : Option ℕ) (input : Input) (old new : Content W) (e : Entry) : Type 0 where
+pub record Enters {W : Type 0} (next_word : W → ℕ × W) (now : Option ℕ) (input : Input) (old new : AgentContent W) (e : Entry) : Type 0 where
   pub input_is : e.input ≡ input
   pub moment_is : e.moment ≡ moment_that_counts now old.last
-  pub fits : (c : Config) (made : ℕ) (past : List Entry) → Fits c made past old → Fits c made (past ++ e ∷ []) new
+  pub fits : (c : Config) (made : ℕ) (past : List Entry) → AgentFits c made past old → AgentFits c made (past ++ e ∷ []) new
   pub words : AreChosen next_word (low_of old.config) (high_of old.config) old.words e.effects.arms new.words
 
 -- a call without effects has the entry of the agent that it leaves, with the verdict of what it answers
-abbrev pub EntersWithoutEffects : {W A : Type 0} → (W → ℕ × W) → ℕ → Input → Content W → Content W → Result A AgentFault → Type 0
+abbrev pub EntersWithoutEffects : {W A : Type 0} → (W → ℕ × W) → ℕ → Input → AgentContent W → AgentContent W → Result A AgentFault → Type 0
 EntersWithoutEffects next_word moment input old new answer = Enters next_word (Some moment) input old new (entry_without_effects new.config.me moment input (verdict_answering answer) None new.state)
 
 -- whatever run the agent fitted, it still fits, and no word was used
-pub record Stays {W : Type 0} (old new : Content W) : Type 0 where
-  pub fits : (c : Config) (made : ℕ) (past : List Entry) → Fits c made past old → Fits c made past new
+pub record AgentStays {W : Type 0} (old new : AgentContent W) : Type 0 where
+  pub fits : (c : Config) (made : ℕ) (past : List Entry) → AgentFits c made past old → AgentFits c made past new
   pub words : new.words ≡ old.words
 
 -- a call that is refused answers so, and one that is done answers its value
@@ -65,21 +65,21 @@ AnswersAs is Done (Ok value) = is value
 AnswersAs is Done (Err fault) = ⊥
 
 -- a call had an entry, and answered as it says
-abbrev pub HasEntry : {W A : Type 0} → (W → ℕ × W) → Option ℕ → Input → (Entry → A → Type 0) → Content W → Content W → Result A AgentFault → Type 0
+abbrev pub HasEntry : {W A : Type 0} → (W → ℕ × W) → Option ℕ → Input → (Entry → A → Type 0) → AgentContent W → AgentContent W → Result A AgentFault → Type 0
 HasEntry next_word now input is old new answer = (e : Entry) × Enters next_word now input old new e × AnswersAs (is e) e.verdict answer
 
 -- whatever run the agent fitted, this input would be done after it
-pub record IsAllowed {W : Type 0} (input : Input) (old : Content W) : Type 0 where
-  pub each : (c : Config) (made : ℕ) (past : List Entry) → Fits c made past old → verdict_of c past input ≡ Done
+pub record IsAllowed {W : Type 0} (input : Input) (old : AgentContent W) : Type 0 where
+  pub each : (c : Config) (made : ℕ) (past : List Entry) → AgentFits c made past old → verdict_of c past input ≡ Done
 
 -- A call had an entry, and answered as it says; or memory ran out for what would else be done, and whatever run the agent fitted, it
 -- still fits.
-abbrev pub Does : {W A : Type 0} → (W → ℕ × W) → Option ℕ → Input → (Entry → A → Type 0) → Content W → Content W → Result A AgentFault → Type 0
-Does next_word now input is old new answer = HasEntry next_word now input is old new answer ⊎ ((answer ≡ Err Memory) × IsAllowed input old × Stays old new)
+abbrev pub Does : {W A : Type 0} → (W → ℕ × W) → Option ℕ → Input → (Entry → A → Type 0) → AgentContent W → AgentContent W → Result A AgentFault → Type 0
+Does next_word now input is old new answer = HasEntry next_word now input is old new answer ⊎ ((answer ≡ Err Memory) × IsAllowed input old × AgentStays old new)
 
 -- To the agent the bytes are what the entry heard: the datagram that they spell, else noise with their fault.
-pub record ReadsAs {W : Type 0} (bytes : List ℕ) (old : Content W) (e : Entry) : Type 0 where
-  pub each : (c : Config) (made : ℕ) (past : List Entry) → Fits c made past old → (e.input, e.verdict) ≡ bytes_heard c past bytes
+pub record ReadsAs {W : Type 0} (bytes : List ℕ) (old : AgentContent W) (e : Entry) : Type 0 where
+  pub each : (c : Config) (made : ℕ) (past : List Entry) → AgentFits c made past old → (e.input, e.verdict) ≡ bytes_heard c past bytes
 
 -- the verdict on what was heard, by what is answered
 abbrev pub verdict_of_outcome : Outcome → Verdict
@@ -92,14 +92,14 @@ AnswersHeard e (Ok heard) = (heard.arms ≡ e.effects.arms) × (e.verdict ≡ ve
 AnswersHeard e (Err fault) = ⊥
 
 -- hearing bytes had an entry, and answered as it says
-abbrev pub HeardAs : {W : Type 0} → (W → ℕ × W) → ℕ → List ℕ → Content W → Content W → Result Heard AgentFault → Type 0
+abbrev pub HeardAs : {W : Type 0} → (W → ℕ × W) → ℕ → List ℕ → AgentContent W → AgentContent W → Result Heard AgentFault → Type 0
 HeardAs next_word now bytes old new answer = (e : Entry) × Enters next_word (Some now) e.input old new e × ReadsAs bytes old e × AnswersHeard e answer
 
 -- Hearing bytes had an entry, and answered as it says; or memory ran out, for a member that isn't gone and bytes that spell a datagram of
 -- its session.
-abbrev pub Hears : {W : Type 0} → (W → ℕ × W) → ℕ → List ℕ → Content W → Content W → Result Heard AgentFault → Type 0
+abbrev pub Hears : {W : Type 0} → (W → ℕ × W) → ℕ → List ℕ → AgentContent W → AgentContent W → Result Heard AgentFault → Type 0
 Hears next_word now bytes old new answer =
-    HeardAs next_word now bytes old new answer ⊎ ((answer ≡ Err Memory) × (is_gone old.state ≡ false) × IsOk (judge old.config.session bytes) × Stays old new)
+    HeardAs next_word now bytes old new answer ⊎ ((answer ≡ Err Memory) × (is_gone old.state ≡ false) × IsOk (judge old.config.session bytes) × AgentStays old new)
 
 -- what a tick answers is what its entry says
 pub record IsTicked (session : ℕ) (e : Entry) (ticked : Ticked) : Type 0 where

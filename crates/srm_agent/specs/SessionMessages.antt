@@ -13,44 +13,44 @@ use Rattle.srm_codec.specs.Spelling.{sender_of, IsSpellable, is_name, AreRows, A
 use Rattle.srm_entries.specs.declared.entry.Entry.{Entry}
 use Rattle.srm_outbox.specs.declared.out.Outgoing.{Outgoing}
 use Rattle.srm_entries.specs.Configs.{Config}
-use Rattle.srm_agent.specs.Contents.{Content}
+use Rattle.srm_agent.specs.Contents.{AgentContent}
 use Rattle.srm_entries.specs.Entries.{known}
 use Rattle.srm_entries.specs.Sessions.{IsSessionMessage, SessionMessageRight, echoes_owed, if_positive}
 use Rattle.srm_outbox.specs.Outs.{IsOutgoing}
 use Rattle.srm_entries.specs.Verdicts.{told}
-use Rattle.srm_agent.specs.Fits.{Fits}
+use Rattle.srm_agent.specs.Fits.{AgentFits}
 
 -- the session message that an agent sends at a moment, by all that it keeps
-pub record IsSessionMessageOf {W : Type 0} (a : Content W) (moment : ℕ) (wanted : Bool) (g : Datagram) : Type 0 where
-  pub right : (c : Config) (made : ℕ) (past : List Entry) → Fits c made past a → IsSessionMessage c past moment wanted g
+pub record IsSessionMessageOf {W : Type 0} (a : AgentContent W) (moment : ℕ) (wanted : Bool) (g : Datagram) : Type 0 where
+  pub right : (c : Config) (made : ℕ) (past : List Entry) → AgentFits c made past a → IsSessionMessage c past moment wanted g
   pub sender : sender_of g ≡ a.config.me
   pub session : is_session g ≡ true
   pub farewell : is_farewell g ≡ wanted
   pub spellable : IsSpellable g
 
 -- and with its spelling
-pub record IsSessionMessageSpelled {W : Type 0} (a : Content W) (moment : ℕ) (wanted : Bool) (o : Outgoing) : Type 0 where
+pub record IsSessionMessageSpelled {W : Type 0} (a : AgentContent W) (moment : ℕ) (wanted : Bool) (o : Outgoing) : Type 0 where
   pub message : IsSessionMessageOf a moment wanted o.out.datagram
   pub outgoing : IsOutgoing a.config.session o
 
 -- whether a member is known to have left, by all that an agent keeps
-pub record SaysLeft {W : Type 0} (a : Content W) (member : ℕ) (left : Bool) : Type 0 where
-  pub is : (c : Config) (made : ℕ) (past : List Entry) → Fits c made past a → left ≡ is_some (told past member)
+pub record SaysLeft {W : Type 0} (a : AgentContent W) (member : ℕ) (left : Bool) : Type 0 where
+  pub is : (c : Config) (made : ℕ) (past : List Entry) → AgentFits c made past a → left ≡ is_some (told past member)
 
 -- 1 for a member that isn't known to have left, else 0
 abbrev pub once : List Entry → ℕ → ℕ
 once past member = cond (not (is_some (told past member))) 1 0
 
-pub record CountsOnce {W : Type 0} (a : Content W) (member count : ℕ) : Type 0 where
-  pub is : (c : Config) (made : ℕ) (past : List Entry) → Fits c made past a → count ≡ once past member
+pub record CountsOnce {W : Type 0} (a : AgentContent W) (member count : ℕ) : Type 0 where
+  pub is : (c : Config) (made : ℕ) (past : List Entry) → AgentFits c made past a → count ≡ once past member
   pub few : count ≤ 1
 
 -- the row of a stream of which something is known
 abbrev pub row_for : List Entry → Stream → Option FullName
 row_for past s = option_map (named s) (if_positive (known past s))
 
-pub record IsRow {W : Type 0} (a : Content W) (s : Stream) (row : Option FullName) : Type 0 where
-  pub value : (c : Config) (made : ℕ) (past : List Entry) → Fits c made past a → row ≡ row_for past s
+pub record IsRow {W : Type 0} (a : AgentContent W) (s : Stream) (row : Option FullName) : Type 0 where
+  pub value : (c : Config) (made : ℕ) (past : List Entry) → AgentFits c made past a → row ≡ row_for past s
   pub spelled : IfSome row (λ r. (r.stream ≡ s) × is_name r)
 
 -- each row is of one of the streams, in their order
@@ -59,8 +59,8 @@ AreRowsInOrder [] rows = rows ≡ []
 AreRowsInOrder (s ∷ ss) rows = AreRowsInOrder ss rows ⊎ ((r : FullName) × (rest : List FullName) × (rows ≡ r ∷ rest) × (r.stream ≡ s) × is_name r × AreRowsInOrder ss rest)
 
 -- the rows of these streams
-pub record AreRowsOf {W : Type 0} (a : Content W) (streams : List Stream) (rows : List FullName) : Type 0 where
-  pub value : (c : Config) (made : ℕ) (past : List Entry) → Fits c made past a → rows ≡ filter_map (row_for past) streams
+pub record AreRowsOf {W : Type 0} (a : AgentContent W) (streams : List Stream) (rows : List FullName) : Type 0 where
+  pub value : (c : Config) (made : ℕ) (past : List Entry) → AgentFits c made past a → rows ≡ filter_map (row_for past) streams
   pub spelled : AreRowsInOrder streams rows
 
 -- the streams of a page, one for each member of the roster
@@ -68,7 +68,7 @@ abbrev pub streams_on : Page → ℕ → List Stream
 streams_on page members = map (λ m. stream_on m page) (count_up 0 members)
 
 -- those of the page shown, in order
-pub record AreShown {W : Type 0} (a : Content W) (streams : List Stream) : Type 0 where
+pub record AreShown {W : Type 0} (a : AgentContent W) (streams : List Stream) : Type 0 where
   pub are : streams ≡ streams_on a.showing a.config.members
   pub few : a.config.members ≤ MEMBERS
 
@@ -79,17 +79,17 @@ pub record AreInOrder (pages sorted : List Page) : Type 0 where
   pub few : length sorted ≤ PAGES
 
 -- the streams of a member, in order
-pub record AreOwnStreams {W : Type 0} (a : Content W) (streams : List Stream) : Type 0 where
+pub record AreOwnStreams {W : Type 0} (a : AgentContent W) (streams : List Stream) : Type 0 where
   pub sorted : List Page
   pub pages : AreInOrder a.pages sorted
   pub are : streams ≡ map (stream_on a.config.me) sorted
 
 -- the rows of a session message, or of a farewell
-pub record AreDueRows {W : Type 0} (a : Content W) (wanted : Bool) (rows : List FullName) : Type 0 where
-  pub right : (c : Config) (made : ℕ) (past : List Entry) (now : ℕ) → Fits c made past a → SessionMessageRight c past now wanted rows
+pub record AreDueRows {W : Type 0} (a : AgentContent W) (wanted : Bool) (rows : List FullName) : Type 0 where
+  pub right : (c : Config) (made : ℕ) (past : List Entry) (now : ℕ) → AgentFits c made past a → SessionMessageRight c past now wanted rows
   pub spelled : AreRows wanted a.config.me rows
 
 -- the echoes that are owed at a moment
-pub record AreOwed {W : Type 0} (a : Content W) (now : ℕ) (echoes : List Echo) : Type 0 where
-  pub is : (c : Config) (made : ℕ) (past : List Entry) → Fits c made past a → echoes ≡ echoes_owed c past now
+pub record AreOwed {W : Type 0} (a : AgentContent W) (now : ℕ) (echoes : List Echo) : Type 0 where
+  pub is : (c : Config) (made : ℕ) (past : List Entry) → AgentFits c made past a → echoes ≡ echoes_owed c past now
   pub spelled : AreEchoes echoes

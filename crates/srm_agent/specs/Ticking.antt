@@ -7,7 +7,7 @@ use Rattle.srm_codec.specs.declared.datagram.Datagram.{Datagram}
 use Rattle.srm_timers.specs.declared.arm.Arm.{Arm}
 use Rattle.srm_timers.specs.Arms.{AreChosen}
 use Rattle.srm_bucket.specs.declared.class.Class.TheVariants.{New}
-use Rattle.srm_bucket.specs.Content.{Content as BucketContent}
+use Rattle.srm_bucket.specs.Content.{BucketContent}
 use Rattle.srm_bucket.specs.Waiting.{queue}
 use Rattle.srm_agent.specs.declared.agent.due.Due.{Due}
 use Rattle.srm_agent.specs.declared.agent.due.DueSessionMessage.{DueSessionMessage}
@@ -22,11 +22,11 @@ use Rattle.srm_agent.specs.declared.ticked.Ticked as answers
 use Rattle.srm_entries.specs.declared.state.AgentState.{AgentState}
 use Rattle.srm_entries.specs.declared.state.AgentState.TheVariants.{Gone}
 use Rattle.srm_entries.specs.Configs.{Config}
-use Rattle.srm_agent.specs.Contents.{Content}
+use Rattle.srm_agent.specs.Contents.{AgentContent}
 use Rattle.srm_entries.specs.Entries.{state, is_gone, is_leaving}
 use Rattle.srm_entries.specs.Timers.{low_of, high_of, TimersRight}
 use Rattle.srm_entries.specs.Sessions.{session_interval}
-use Rattle.srm_agent.specs.Fits.{Fits}
+use Rattle.srm_agent.specs.Fits.{AgentFits}
 use Rattle.srm_agent_state.specs.TimersKept.{TimersContent}
 use Rattle.srm_agent_state.specs.TimerCalls.{AreDueAsks, AreDueFixes, AsksRanOut, FixesRanOut, AreToAsk, AreToFix, TicksWith, TimersAdd}
 use Rattle.srm_agent.specs.Noting.{Enters}
@@ -49,11 +49,11 @@ abbrev pub ticked_with : ℕ → ℕ → answers.Ticked → Entry
 ticked_with me moment ticked = tick_entry me moment ticked.asks ticked.fixes ticked.arms (datagrams_of ticked.outs) ticked.state
 
 -- and of an agent's
-abbrev pub ticked_by : {W : Type 0} → Content W → ℕ → answers.Ticked → Entry
+abbrev pub ticked_by : {W : Type 0} → AgentContent W → ℕ → answers.Ticked → Entry
 ticked_by a moment ticked = ticked_with a.config.me moment ticked
 
 -- a tick had the entry of what is answered, and the bytes of each out spell its datagram in the session
-pub record TicksAs {W : Type 0} (next_word : W → ℕ × W) (now moment : ℕ) (old new : Content W) (ticked : answers.Ticked) : Type 0 where
+pub record TicksAs {W : Type 0} (next_word : W → ℕ × W) (now moment : ℕ) (old new : AgentContent W) (ticked : answers.Ticked) : Type 0 where
   pub enters : Enters next_word (Some now) Ticked old new (ticked_by old moment ticked)
   pub spelled : AllByRecursion (IsOut old.config.session) ticked.outs
 
@@ -65,17 +65,17 @@ pub record IsIdle (ticked : answers.Ticked) : Type 0 where
   pub outs : ticked.outs ≡ []
 
 -- a session message or a farewell of an agent at a moment, and when the next one is due after it
-pub record IsSessionMessageAt {W : Type 0} (a : Content W) (moment : ℕ) (farewell : Bool) (r : DueSessionMessage) : Type 0 where
+pub record IsSessionMessageAt {W : Type 0} (a : AgentContent W) (moment : ℕ) (farewell : Bool) (r : DueSessionMessage) : Type 0 where
   pub message : IsSessionMessageSpelled a moment farewell r.outgoing
-  pub next : (c : Config) (made : ℕ) (past : List Entry) → Fits c made past a → r.next ≡ moment + session_interval c past r.outgoing.out.datagram
+  pub next : (c : Config) (made : ℕ) (past : List Entry) → AgentFits c made past a → r.next ≡ moment + session_interval c past r.outgoing.out.datagram
 
 -- there is one exactly where it is wanted
-abbrev pub IsSessionMessageIf : {W : Type 0} → Bool → Content W → ℕ → Bool → Option DueSessionMessage → Type 0
+abbrev pub IsSessionMessageIf : {W : Type 0} → Bool → AgentContent W → ℕ → Bool → Option DueSessionMessage → Type 0
 IsSessionMessageIf wanted a moment farewell None = wanted ≡ false
 IsSessionMessageIf wanted a moment farewell (Some r) = (wanted ≡ true) × IsSessionMessageAt a moment farewell r
 
 -- the names whose timers ran out, over whatever run the agent fits
-pub record IsToHandOut {W : Type 0} (a : Content W) (moment : ℕ) (h : HandedOut) : Type 0 where
+pub record IsToHandOut {W : Type 0} (a : AgentContent W) (moment : ℕ) (h : HandedOut) : Type 0 where
   pub asks : AsksRanOut moment a.timers h.asks
   pub rising : ascending name_below h.asks ≡ true
   pub due_asks : AreDueAsks moment a.timers h.asks
@@ -84,19 +84,19 @@ pub record IsToHandOut {W : Type 0} (a : Content W) (moment : ℕ) (h : HandedOu
 
 -- All that a tick hands out, sends and answers: the names whose timers ran out, the requests and repairs for them, the farewell of a
 -- member that is leaving, and the session message that is due.
-pub record IsDue {W : Type 0} (a : Content W) (moment : ℕ) (d : Due) : Type 0 where
+pub record IsDue {W : Type 0} (a : AgentContent W) (moment : ℕ) (d : Due) : Type 0 where
   pub handed_out : IsToHandOut a moment d.handed_out
   pub due_items : DueItems a d.handed_out.asks d.handed_out.fixes d.due_items.items
   pub farewell : IsSessionMessageIf (is_leaving a.state) a moment true d.farewell
   pub session_message : IsSessionMessageIf (nat_le a.due moment) a moment false d.session_message
 
 -- the timers whose moment has come are handed out, and the timers are those after it
-pub record TicksTimers {W : Type 0} (a : Content W) (asks fixes : List FullName) (moment : ℕ) (arms : List Arm) (new : TimersContent) : Type 0 where
-  pub each : (c : Config) (made : ℕ) (past : List Entry) (e : Entry) → Fits c made past a → TicksWith asks fixes moment arms e → is_gone (state past) ≡ false
+pub record TicksTimers {W : Type 0} (a : AgentContent W) (asks fixes : List FullName) (moment : ℕ) (arms : List Arm) (new : TimersContent) : Type 0 where
+  pub each : (c : Config) (made : ℕ) (past : List Entry) (e : Entry) → AgentFits c made past a → TicksWith asks fixes moment arms e → is_gone (state past) ≡ false
       → AreToAsk moment past asks → AreToFix moment past fixes → TimersAdd c past e new × TimersRight past e
 
 -- these names were handed out, and these timers set by the next words
-pub record HandsOut {W : Type 0} (next_word : W → ℕ × W) (a : Content W) (handed_out : HandedOut) (moment : ℕ) (arms : List Arm) (b : Content W) : Type 0 where
+pub record HandsOut {W : Type 0} (next_word : W → ℕ × W) (a : AgentContent W) (handed_out : HandedOut) (moment : ℕ) (arms : List Arm) (b : AgentContent W) : Type 0 where
   pub ticks : TicksTimers a handed_out.asks handed_out.fixes moment arms b.timers
   pub chosen : AreChosen next_word (low_of a.config) (high_of a.config) a.words arms b.words
 

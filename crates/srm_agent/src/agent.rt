@@ -5,7 +5,7 @@ ghost use Rattle.srm_names.specs.declared.limits.TheConstants.{LATEST_MOMENT};
 ghost use Rattle.srm_entries.specs.Configs.{Config as AConfig};
 ghost use Rattle.srm_entries.specs.declared.entry.Entry.{Entry as AnEntry};
 ghost use Rattle.srm_entries.specs.Entries.{is_gone, state};
-ghost use Rattle.srm_agent.specs.Fits.{Fits, AreNewProgress};
+ghost use Rattle.srm_agent.specs.Fits.{AgentFits, AreNewProgress};
 ghost use Rattle.srm_entries.specs.Runs.{IsMemberRun};
 ghost use Rattle.srm_entries.specs.Still.{entry_without_effects};
 ghost use Rattle.srm_agent.specs.Noting.{verdict_answering};
@@ -100,9 +100,9 @@ pub struct Agent<W: Words + Drop> {
 }
 
 impl<W: Words + Drop> Model for Agent<W> {
-    ghost use Rattle.srm_agent.specs.Contents.{Content, content_of, IsWhole};
+    ghost use Rattle.srm_agent.specs.Contents.{AgentContent, content_of, IsWhole};
 
-    ghost Value = { Content W };
+    ghost Value = { AgentContent W };
 
     ghost view = { content_of };
 
@@ -114,7 +114,7 @@ impl<W: Words + Drop> Agent<W> {
     /// the start in slot 0. Only want of memory refuses it.
     pub fn new(alloc: Global, config: Config, words: W, now: u64) -> Result<Agent<W>, AllocError>
         requires { now ≤ LATEST_MOMENT }
-        ensures fits { IfOk result (Fits config now []) }
+        ensures fits { IfOk result (AgentFits config now []) }
         ensures words { IfOk result (λ agent. agent.words ≡ words) }
     {
         Ok(Agent {
@@ -137,12 +137,12 @@ impl<W: Words + Drop> Agent<W> {
     /// Does nothing. Whatever entries the agent fits are a run of its member, so the laws of runs hold of them: what was given
     /// ([`gives`](crate::gives)), the response ([`responds`](crate::responds)), and the rate ([`keeps_rate`](crate::keeps_rate)).
     pub fn fits_runs_alone(&self)
-        ensures { (c : AConfig) (made : ℕ) (past : List AnEntry) → Fits c made past self.now → IsMemberRun c made past }
+        ensures { (c : AConfig) (made : ℕ) (past : List AnEntry) → AgentFits c made past self.now → IsMemberRun c made past }
     {}
 
     /// Whether the member takes part, leaves or is gone. It takes no memory and changes nothing.
     pub fn state(&self) -> AgentState
-        ensures { (c : AConfig) (made : ℕ) (past : List AnEntry) → Fits c made past self.now → result ≡ state past }
+        ensures { (c : AConfig) (made : ℕ) (past : List AnEntry) → AgentFits c made past self.now → result ≡ state past }
     {
         self.state
     }

@@ -14,7 +14,7 @@ use Rattle.srm_names.proofs.Snoc.{or_else-none}
 use Rattle.srm_names.proofs.Rising.{ascending_joined, ascending_take}
 use Rattle.srm_store.specs.Held as stores
 use Rattle.srm_store.specs.Finals.{Settling}
-use Rattle.srm_store.specs.Fits as store
+use Rattle.srm_store.specs.Fits.{StoreFits}
 use Rattle.srm_store.specs.Stores.{StoreContent}
 use Rattle.srm_timers.specs.declared.arm.Arm.{Arm}
 use Rattle.srm_timers.specs.declared.arm.ArmKind.{ArmKind}
@@ -60,7 +60,7 @@ pub record AnsweredIn (c : Config) (past : List Entry) (from : ℕ) (dist : List
   pub exact : (n : FullName) → option_map wait_basis (arm_of n arms) ≡ (if among done n then wanted c past from dist now n else None)
 
 pub record AnsweredSoFar (s : StoreContent) (from : ℕ) (dist : List ℕ) (now : ℕ) (asked : List FullName) (i : ℕ) (arms : List Arm) (old t : TimersContent) : Type 0 where
-  pub each : (c : Config) (past : List Entry) → TimersFit c past old → store.Fits (held past) (evidence_in past) (settlings past) s → ascending name_below asked ≡ true
+  pub each : (c : Config) (past : List Entry) → TimersFit c past old → StoreFits (held past) (evidence_in past) (settlings past) s → ascending name_below asked ≡ true
       → AnsweredIn c past from dist now (take i asked) arms t
 
 -- one name
@@ -272,7 +272,7 @@ one_answered c past from dist now done arms t t' held name arm a is ans rising =
 
 pub one_more_answered : (s : StoreContent) (from : ℕ) (dist : List ℕ) (now : ℕ) (asked : List FullName) (i : ℕ) (arms arms' : List Arm) (old t t' : TimersContent) (holds : Bool) (name : FullName) (arm : Option Arm)
     → i < length asked → name ≡ get_or asked i name
-    → ((inserted : List Drawop) (shown : List FullName) (settled : List Settling) → store.Fits inserted shown settled s → holds ≡ stores.is_held inserted name)
+    → ((inserted : List Drawop) (shown : List FullName) (settled : List Settling) → StoreFits inserted shown settled s → holds ≡ stores.is_held inserted name)
     → AnsweredSoFar s from dist now asked i arms old t → IsRequestHeard holds name from dist now arm t t' → arms' ≡ arms ++ option_to_list arm
     → AnsweredSoFar s from dist now asked (i + 1) arms' old t'
 one_more_answered s from dist now asked i arms arms' old t t' holds name arm lt is held_is h ans added = rw added (record {

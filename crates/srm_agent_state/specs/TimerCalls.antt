@@ -6,7 +6,7 @@ use Rattle.srm_names.specs.Names.{AreExactly, ascending, name_below}
 use Rattle.srm_codec.specs.declared.datagram.Datagram.{Datagram}
 use Rattle.srm_codec.specs.declared.datagram.Datagram.TheVariants.{Data, Request, Repair, Session}
 use Rattle.srm_codec.specs.Spelling.{asked_by, IsSpellable}
-use Rattle.srm_store.specs.Fits as store
+use Rattle.srm_store.specs.Fits.{StoreFits}
 use Rattle.srm_store.specs.Stores.{StoreContent}
 use Rattle.srm_timers.specs.declared.arm.Arm.{Arm}
 use Rattle.srm_timers.specs.declared.arm.ArmKind.TheVariants.{Ask, Fix}
@@ -109,7 +109,7 @@ FixEnds true now dist name old new = FixRepairs now dist (name ∷ []) old new
 -- a request is heard, over the store as it is before
 pub record TimersHearRequest (s : StoreContent) (from : ℕ) (asked newly_missing : List FullName) (dist : List ℕ) (now : ℕ) (arms : List Arm) (old new : TimersContent) : Type 0 where
   pub each : (c : Config) (past : List Entry) (e : Entry) (g : Datagram) → IsRequestOf from asked g → HearsWith g now arms e → TimersFit c past old
-      → store.Fits (held past) (evidence_in past) (settlings past) s
+      → StoreFits (held past) (evidence_in past) (settlings past) s
       → AreNewlyMissing past e newly_missing → AreDistancesAfter c (past ++ e ∷ []) dist → TimersAdd c past e new
 
 -- the names are those whose request timers ran out, in order

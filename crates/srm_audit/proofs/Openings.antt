@@ -18,7 +18,7 @@ use Rattle.srm_world.specs.Claims.{IsLawfulJournal}
 use Rattle.srm_audit.specs.Audits.{entries_at, starts_of, next_entry_of, ArePrefixes, AreStuck, IsUnsent, HearsUnsent, IsFound, AreFound}
 use Rattle.srm_audit.specs.Spellings.{Knows}
 use Rattle.srm_audit.specs.Queues.{AreReadable}
-use Rattle.srm_audit.specs.Merging.{Content, Merges, IsStalled, Stops, IsEmptied, IsFirstNonEmpty, Completes, Orders, LeadNoFurther, Refuses, IsUnsentAt, Opens}
+use Rattle.srm_audit.specs.Merging.{MergingContent, Merges, IsStalled, Stops, IsEmptied, IsFirstNonEmpty, Completes, Orders, LeadNoFurther, Refuses, IsUnsentAt, Opens}
 use Rattle.srm_audit.specs.declared.got.Got.{Got}
 use Rattle.srm_audit.specs.declared.ending.Ending.{Ending}
 use Rattle.srm_audit.specs.declared.mismatch.Mismatch.{Mismatch}
@@ -74,7 +74,7 @@ own_at q (j ∷ js) zero i me all = subst (λ n. AllByRecursion (λ (e : Entry).
 own_at q (j ∷ js) (suc k) i me all =
     subst (λ n. AllByRecursion (λ (e : Entry). e.member ≡ n) (entries_at js k)) (omega arith) (own_at q js k (i + 1) (λ n x at. me (suc n) x at ∙ omega arith) all.1)
 
-pub merges : (q : List Journal) (m : Content) → IsRoster (starts_of q) → AllByRecursion IsLawfulJournal q → Opens q m → Merges q m
+pub merges : (q : List Journal) (m : MergingContent) → IsRoster (starts_of q) → AllByRecursion IsLawfulJournal q → Opens q m → Merges q m
 merges q m roster known o = record {
   count = ap length o.queues ∙ length-map q (λ (j : Journal). j.entries);
   own = λ k. subst (λ n. AllByRecursion (λ (e : Entry). e.member ≡ n) (entries_at q k)) (omega arith) (own_at q q k 0 (λ n j at. me_at q n j roster at ∙ omega arith) known);
@@ -89,7 +89,7 @@ merges q m roster known o = record {
 none_there : (q : List Journal) (k : ℕ) → length q ≤ k → entries_at q k ≡ []
 none_there q k l = ap (λ (o : Option Journal). unwrap_or (option_map (λ (j : Journal). j.entries) o) []) (slice_get_past q k l)
 
-prefixes : (q : List Journal) (m : Content) → Merges q m → ArePrefixes q m.entries
+prefixes : (q : List Journal) (m : MergingContent) → Merges q m → ArePrefixes q m.entries
 prefixes q m h = record {
   each = λ k. elim (cases_lt k (length q)) [
     | inl l ↦ let (rest, at) = at_place m.queues k (subst (λ n. k < n) (sym h.count) l) in (rest, h.each k rest at)
@@ -97,13 +97,13 @@ prefixes q m h = record {
   ];
 }
 
-next_is : (q : List Journal) (m : Content) (k : ℕ) (rest : List Entry) → Merges q m → slice_get m.queues k ≡ Some rest → next_entry_of q m.entries k ≡ slice_get rest 0
+next_is : (q : List Journal) (m : MergingContent) (k : ℕ) (rest : List Entry) → Merges q m → slice_get m.queues k ≡ Some rest → next_entry_of q m.entries k ≡ slice_get rest 0
 next_is q m k rest h at = ap (λ xs. slice_get xs (length (of_member k m.entries))) (sym (h.each k rest at)) ∙ rest_first (of_member k m.entries) rest
 
 no_next : (q : List Journal) (es : List Entry) (k : ℕ) → length q ≤ k → next_entry_of q es k ≡ None
 no_next q es k l = ap (λ xs. slice_get xs (length (of_member k es))) (none_there q k l)
 
-stuck : (q : List Journal) (m : Content) → Merges q m → ((k : ℕ) → k < length m.queues → IsStalled m k) → AreStuck q m.entries
+stuck : (q : List Journal) (m : MergingContent) → Merges q m → ((k : ℕ) → k < length m.queues → IsStalled m k) → AreStuck q m.entries
 stuck q m h waits = record {
   prefixes = prefixes q m h;
   honest = h.honest;
@@ -125,7 +125,7 @@ has_first : (queue : List Entry) → 0 < length queue → IsSome (slice_get queu
 has_first [] l = absurd (omega arith)
 has_first (e ∷ queue) l = refl
 
-pub cuts : (starts : List Start) (old new : Content) (place entry : ℕ) (a : Start) → Stops old new → IsFirstNonEmpty new.queues place → slice_get starts place ≡ Some a → entry ≡ length (of_member place new.entries) → LeadNoFurther starts old a.config.me entry
+pub cuts : (starts : List Start) (old new : MergingContent) (place entry : ℕ) (a : Start) → Stops old new → IsFirstNonEmpty new.queues place → slice_get starts place ≡ Some a → entry ≡ length (of_member place new.entries) → LeadNoFurther starts old a.config.me entry
 cuts starts old new place entry a stops first at count = record {
   each = λ q h same roster.
       let now = stops.keeps.each q h in
@@ -142,7 +142,7 @@ cuts starts old new place entry a stops first at count = record {
 emptied_at : (queues : List (List Entry)) (k : ℕ) (rest : List Entry) → AllByRecursion IsEmptied queues → slice_get queues k ≡ Some rest → rest ≡ []
 emptied_at queues k rest all at = by_place IsEmptied queues k rest all at
 
-pub orders : (old new : Content) → Stops old new → AllByRecursion IsEmptied new.queues → Orders old new.entries
+pub orders : (old new : MergingContent) → Stops old new → AllByRecursion IsEmptied new.queues → Orders old new.entries
 orders old new stops all = record {
   each = λ q h.
       let now = stops.keeps.each q h in
@@ -157,10 +157,10 @@ orders old new stops all = record {
       };
 }
 
-pub refuses : (starts : List Start) (old new : Content) (place : ℕ) (mismatch : Mismatch) → Stops old new → IsFirstNonEmpty new.queues place → IsUnsentAt starts new.entries place mismatch → Refuses starts old mismatch
+pub refuses : (starts : List Start) (old new : MergingContent) (place : ℕ) (mismatch : Mismatch) → Stops old new → IsFirstNonEmpty new.queues place → IsUnsentAt starts new.entries place mismatch → Refuses starts old mismatch
 refuses starts old new place mismatch stops first (a, at, is) = subst (Refuses starts old) (sym is) (cuts starts old new place (length (of_member place new.entries)) a stops first at refl)
 
-pub in_starts : (starts : List Start) (old new : Content) (place : ℕ) → length starts ≡ length old.queues → Stops old new → IsFirstNonEmpty new.queues place → place < length starts
+pub in_starts : (starts : List Start) (old new : MergingContent) (place : ℕ) → length starts ≡ length old.queues → Stops old new → IsFirstNonEmpty new.queues place → place < length starts
 in_starts starts old new place same stops first = let l = slice_get_within new.queues place first.queue first.at in let k = stops.keeps.count in omega (arith, l, k, same)
 
 -- what the parts answered
@@ -185,7 +185,7 @@ foreign_at q gots place mismatch first (got, at, is) =
     next (x ∷ xs) zero h = ap (λ y. y ∷ xs) (same_Some x got h)
     next (x ∷ xs) (suc k) h = next xs k h
 
-pub refused : (q : List Journal) (gots : List Got) (starts : List Start) (m : Content) (mismatch : Mismatch) → IsRoster (starts_of q) → AllByRecursion IsLawfulJournal q → AreFound q gots → starts ≡ starts_of q → Opens q m → Refuses starts m mismatch → IsRefusedInOrder q gots mismatch
+pub refused : (q : List Journal) (gots : List Got) (starts : List Start) (m : MergingContent) (mismatch : Mismatch) → IsRoster (starts_of q) → AllByRecursion IsLawfulJournal q → AreFound q gots → starts ≡ starts_of q → Opens q m → Refuses starts m mismatch → IsRefusedInOrder q gots mismatch
 refused q gots starts m (Unsent member entry) roster known found same opened cut = (found, cut.each q (merges q m roster known opened) same (subst IsRoster (sym same) roster))
 refused q gots starts m Memory roster known found same opened cut = found
 refused q gots starts m (Foreign member slot) roster known found same opened cut = absurd cut
@@ -198,7 +198,7 @@ members_of q gots endings found are = subst (λ n. AllByRecursion (λ (got : Got
     each before [] all = tt
     each before (got ∷ rest) all = (all.0.member, each (before ++ got ∷ []) rest all.1)
 
-pub completed : (q : List Journal) (m : Content) (calls : List Entry) → IsRoster (starts_of q) → AllByRecursion IsLawfulJournal q → Opens q m → Orders m calls → Completes q calls
+pub completed : (q : List Journal) (m : MergingContent) (calls : List Entry) → IsRoster (starts_of q) → AllByRecursion IsLawfulJournal q → Opens q m → Orders m calls → Completes q calls
 completed q m calls roster known opened orders = orders.each q (merges q m roster known opened)
 
 pub handed_on : {T E : Type 0} (r : Result T E) (x : E) (P : E → Type 0) → IsErrAnd r (λ y. y ≡ x) → P x → IfErr r P

@@ -13,12 +13,12 @@ use Rattle.srm_audit.specs.Spellings.{Knows, Learns}
 use Rattle.srm_audit.specs.Queues.{HearsSent, HearsUnknown}
 
 -- what is left of each journal, the entries in their order so far, and what these sent
-pub record Content : Type 0 where
+pub record MergingContent : Type 0 where
   pub queues : List (List Entry)
   pub entries : List Entry
   pub spellings : List (List ℕ)
 
-abbrev pub content_of : Inside → Content
+abbrev pub content_of : Inside → MergingContent
 content_of m = record { queues = m.queues.items; entries = m.entries.items; spellings = m.spellings }
 
 -- how many entries are left
@@ -27,7 +27,7 @@ entries_remaining [] = 0
 entries_remaining (es ∷ rest) = length es + entries_remaining rest
 
 -- These are the journals: of each, the entries so far and then what is left. The order is honest, and what it sent is known.
-pub record Merges (q : List Journal) (m : Content) : Type 0 where
+pub record Merges (q : List Journal) (m : MergingContent) : Type 0 where
   pub count : length m.queues ≡ length q
   pub own : (k : ℕ) → AllByRecursion (λ (e : Entry). e.member ≡ k) (entries_at q k)
   pub each : (k : ℕ) (rest : List Entry) → slice_get m.queues k ≡ Some rest → of_member k m.entries ++ rest ≡ entries_at q k
@@ -36,12 +36,12 @@ pub record Merges (q : List Journal) (m : Content) : Type 0 where
   pub knows : Knows (sent m.entries) m.spellings
 
 -- whatever journals they were, they still are
-pub record KeepsJournals (old new : Content) : Type 0 where
+pub record KeepsJournals (old new : MergingContent) : Type 0 where
   pub each : (q : List Journal) → Merges q old → Merges q new
   pub count : length new.queues ≡ length old.queues
 
 -- the next entry of a member went to the end of the order
-pub record Advances (member : ℕ) (old new : Content) : Type 0 where
+pub record Advances (member : ℕ) (old new : MergingContent) : Type 0 where
   pub entry : Entry
   pub rest : List Entry
   pub next : slice_get old.queues member ≡ Some (entry ∷ rest)
@@ -51,33 +51,33 @@ pub record Advances (member : ℕ) (old new : Content) : Type 0 where
   pub learns : Learns entry.effects.outs old.spellings new.spellings
 
 -- nothing is left of a member, or what comes next hears what wasn't sent
-pub record IsStalled (m : Content) (member : ℕ) : Type 0 where
+pub record IsStalled (m : MergingContent) (member : ℕ) : Type 0 where
   pub queue : List Entry
   pub at : slice_get m.queues member ≡ Some queue
   pub next : IfSome (slice_get queue 0) (HearsUnknown m.spellings)
 
 -- whether a member went on by one entry
-abbrev pub TriesOne : ℕ → Content → Content → Bool → Type 0
+abbrev pub TriesOne : ℕ → MergingContent → MergingContent → Bool → Type 0
 TriesOne member old new went = MatchBool went (Advances member old new) ((new ≡ old) × IsStalled old member)
 
 -- a member went on, by one entry or more
-pub record Moves (old new : Content) : Type 0 where
+pub record Moves (old new : MergingContent) : Type 0 where
   pub keeps : KeepsJournals old new
   pub less : entries_remaining new.queues + 1 ≤ entries_remaining old.queues
 
 -- whether a member went on
-abbrev pub TriesMember : ℕ → Content → Content → Bool → Type 0
+abbrev pub TriesMember : ℕ → MergingContent → MergingContent → Bool → Type 0
 TriesMember member old new moved = MatchBool moved (Moves old new) ((new ≡ old) × IsStalled old member)
 
 -- the members up to here were tried, and whether any of them went on
-pub record Tries (count : ℕ) (old new : Content) (moved : Bool) : Type 0 where
+pub record Tries (count : ℕ) (old new : MergingContent) (moved : Bool) : Type 0 where
   pub keeps : KeepsJournals old new
   pub less : entries_remaining new.queues + (if moved then 1 else 0) ≤ entries_remaining old.queues
   pub still : moved ≡ false → new ≡ old
   pub waits : moved ≡ false → (k : ℕ) → k < count → IsStalled old k
 
 -- no member can go on
-pub record Stops (old new : Content) : Type 0 where
+pub record Stops (old new : MergingContent) : Type 0 where
   pub keeps : KeepsJournals old new
   pub waits : (k : ℕ) → k < length new.queues → IsStalled new k
 
@@ -98,20 +98,20 @@ pub record Completes (q : List Journal) (es : List Entry) : Type 0 where
   pub honest : IsHonest es
 
 -- whatever journals they were, these are they
-pub record Orders (old : Content) (es : List Entry) : Type 0 where
+pub record Orders (old : MergingContent) (es : List Entry) : Type 0 where
   pub each : (q : List Journal) → Merges q old → Completes q es
 
 -- whatever journals they were, in order, they lead no further than here
-pub record LeadNoFurther (starts : List Start) (old : Content) (member entry : ℕ) : Type 0 where
+pub record LeadNoFurther (starts : List Start) (old : MergingContent) (member entry : ℕ) : Type 0 where
   pub each : (q : List Journal) → Merges q old → starts ≡ starts_of q → IsRoster starts → IsUnsent q member entry
 
-abbrev pub Refuses : List Start → Content → Mismatch → Type 0
+abbrev pub Refuses : List Start → MergingContent → Mismatch → Type 0
 Refuses starts old (Unsent member entry) = LeadNoFurther starts old member entry
 Refuses starts old Memory = Unit {0}
 Refuses starts old _ = ⊥
 
 -- the journals stand in the queues, and nothing else was done
-pub record Opens (q : List Journal) (m : Content) : Type 0 where
+pub record Opens (q : List Journal) (m : MergingContent) : Type 0 where
   pub queues : m.queues ≡ map (λ (j : Journal). j.entries) q
   pub entries : m.entries ≡ []
   pub knows : Knows [] m.spellings

@@ -23,9 +23,9 @@ pub struct Merge {
 }
 
 impl Model for Merge {
-    ghost use Rattle.srm_audit.specs.Merging.{Content, content_of};
+    ghost use Rattle.srm_audit.specs.Merging.{MergingContent, content_of};
 
-    ghost Value = { Content };
+    ghost Value = { MergingContent };
 
     ghost view = { content_of };
 }

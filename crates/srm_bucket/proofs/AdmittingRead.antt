@@ -4,7 +4,7 @@ use Rattle.std.proofs.lemmas.List.{map-append, length-map}
 use Rattle.srm_bucket.specs.declared.class.Class.{Class}
 use Rattle.srm_bucket.specs.declared.class.Class.TheVariants.{Shown, New, Other}
 use Rattle.srm_bucket.specs.declared.item.Item.{Item}
-use Rattle.srm_bucket.specs.Calls.{Call}
+use Rattle.srm_bucket.specs.Calls.{BucketCall}
 use Rattle.srm_bucket.specs.Classes.{queued}
 use Rattle.srm_bucket.specs.Ticks.{last_moment, ticks, level}
 use Rattle.srm_bucket.specs.Tokens.{cost_of}
@@ -28,7 +28,7 @@ module _ {T U : Type 0} (f : T → U) where
   paid-map : (xs : List (Item T)) (bytes tokens : ℕ) → is_paid (map (read_item f) xs) bytes tokens ≡ is_paid xs bytes tokens
   paid-map xs bytes tokens = rw (length-map xs (read_item f), cost-map xs) refl
 
-  pub admits-read : (rate depth : ℕ) (calls : List (Call T)) (class : Class) (bytes now : ℕ) → admits rate depth (map (read_call f) calls) class bytes now ≡ admits rate depth calls class bytes now
+  pub admits-read : (rate depth : ℕ) (calls : List (BucketCall T)) (class : Class) (bytes now : ℕ) → admits rate depth (map (read_call f) calls) class bytes now ≡ admits rate depth calls class bytes now
   admits-read rate depth calls class bytes now =
       ap (λ xs. is_paid xs bytes (level_at rate depth (map (read_call f) calls) now)) (ahead-map class (queued (map (read_call f) calls)) (queued calls) (λ k. left-read f k calls))
       ∙ paid-map (ahead_of class (queued calls)) bytes (level_at rate depth (map (read_call f) calls) now)

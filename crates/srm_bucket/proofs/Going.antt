@@ -8,28 +8,28 @@ use Rattle.std.proofs.lemmas.Bool.Decides.{nat_tests}
 use Rattle.srm_bucket.specs.declared.class.Class.{Class}
 use Rattle.srm_bucket.specs.declared.item.Item.{Item}
 use Rattle.srm_bucket.specs.declared.tokens.Tokens.{Tokens}
-use Rattle.srm_bucket.specs.Calls.{Classed, Call, Handed, Refilled, Popped}
+use Rattle.srm_bucket.specs.Calls.{Classed, BucketCall, Handed, Refilled, Popped}
 use Rattle.srm_bucket.specs.Classes.{in_class, handed, departed, queued, next_queued}
 use Rattle.srm_bucket.specs.Tokens.{IsFirstMoment, refilled, spent}
 use Rattle.srm_bucket.specs.Ticks.{last_moment, ticks, cost, level, IsWithin}
 use Rattle.srm_bucket.specs.Law.{GoesRight, NoneHigher, lets_nothing_go, level_at, covered, may_go}
 use Rattle.srm_bucket.specs.Waiting.{Waiting, Gains, Loses, SameQueues, queue, next_in}
-use Rattle.srm_bucket.specs.Content.{Content}
-use Rattle.srm_bucket.specs.Fits.{Fits, Stays, Adds, Pops, IsNextDeparture, tokens_at}
+use Rattle.srm_bucket.specs.Content.{BucketContent}
+use Rattle.srm_bucket.specs.Fits.{BucketFits, BucketStays, BucketAdds, Pops, IsNextDeparture, tokens_at}
 use Rattle.srm_bucket.proofs.Steps.{last-snoc, ticks-same, waiting-snoc, law-snoc, level-at, within-at, level-popped, within-popped}
 use Rattle.srm_bucket.proofs.Highest.{next-same, next-highest}
 
-pub left-is : {T : Type 0} (calls : List (Call T)) (w : Waiting T) → ((k : Class) → departed k calls ++ queue w k ≡ handed k calls) → (k : Class) → queued calls k ≡ queue w k
+pub left-is : {T : Type 0} (calls : List (BucketCall T)) (w : Waiting T) → ((k : Class) → departed k calls ++ queue w k ≡ handed k calls) → (k : Class) → queued calls k ≡ queue w k
 left-is calls w are k = ap (drop (length (departed k calls))) (sym (are k)) ∙ drop-append_seam (departed k calls) (queue w k)
 
-next-is : {T : Type 0} (calls : List (Call T)) (w : Waiting T) → ((k : Class) → departed k calls ++ queue w k ≡ handed k calls) → next_queued calls ≡ next_in w
+next-is : {T : Type 0} (calls : List (BucketCall T)) (w : Waiting T) → ((k : Class) → departed k calls ++ queue w k ≡ handed k calls) → next_queued calls ≡ next_in w
 next-is calls w are = next-same (queued calls) (queue w) (left-is calls w are)
 
-pub waiting_left : {T : Type 0} (b : Content T) (k : Class) (rate depth : ℕ) (calls : List (Call T)) → Fits rate depth calls b → length (queue b.waiting k) ≡ length (queued calls k)
+pub waiting_left : {T : Type 0} (b : BucketContent T) (k : Class) (rate depth : ℕ) (calls : List (BucketCall T)) → BucketFits rate depth calls b → length (queue b.waiting k) ≡ length (queued calls k)
 waiting_left b k rate depth calls f = ap length (sym (left-is calls b.waiting f.waiting_is k))
 
 -- what stays
-pub stays : {T : Type 0} (old new : Content T) → new.tokens ≡ old.tokens → SameQueues old.waiting new.waiting → Stays old new
+pub stays : {T : Type 0} (old new : BucketContent T) → new.tokens ≡ old.tokens → SameQueues old.waiting new.waiting → BucketStays old new
 stays old new tokens queues = record {
   fits = λ rate depth calls f. record {
     tokens_are = tokens ∙ f.tokens_are;
@@ -40,27 +40,27 @@ stays old new tokens queues = record {
 }
 
 -- the tokens at a moment
-tokens-refilled : {T : Type 0} (rate depth : ℕ) (calls : List (Call T)) (now : ℕ) → IsWithin rate depth (last_moment calls) (ticks calls)
+tokens-refilled : {T : Type 0} (rate depth : ℕ) (calls : List (BucketCall T)) (now : ℕ) → IsWithin rate depth (last_moment calls) (ticks calls)
     → refilled now (tokens_at rate depth calls (last_moment calls)) ≡ tokens_at rate depth calls (max (last_moment calls) now)
 tokens-refilled rate depth calls now within =
     let same : (l : ℕ) → Tokens = λ l. record { rate = rate; depth = depth; level = l; last = max (last_moment calls) now } in
     ap same (level-at rate depth (last_moment calls) now (ticks calls) within)
 
-pub refilled-is : {T : Type 0} (b : Content T) (rate depth : ℕ) (calls : List (Call T)) (now : ℕ) → Fits rate depth calls b
+pub refilled-is : {T : Type 0} (b : BucketContent T) (rate depth : ℕ) (calls : List (BucketCall T)) (now : ℕ) → BucketFits rate depth calls b
     → refilled now b.tokens ≡ tokens_at rate depth calls (max (last_moment calls) now)
 refilled-is b rate depth calls now f = ap (refilled now) f.tokens_are ∙ tokens-refilled rate depth calls now f.within
 
 -- tokens and window after a call that is no pop
-quiet-tokens : {T : Type 0} (rate depth : ℕ) (calls : List (Call T)) (c : Call T) (m : ℕ) → ticks (calls ++ c ∷ []) ≡ ticks calls → last_moment (calls ++ c ∷ []) ≡ m
+quiet-tokens : {T : Type 0} (rate depth : ℕ) (calls : List (BucketCall T)) (c : BucketCall T) (m : ℕ) → ticks (calls ++ c ∷ []) ≡ ticks calls → last_moment (calls ++ c ∷ []) ≡ m
     → tokens_at rate depth calls m ≡ tokens_at rate depth (calls ++ c ∷ []) (last_moment (calls ++ c ∷ []))
 quiet-tokens rate depth calls c m same at = rw (at, same) refl
 
-quiet-within : {T : Type 0} (rate depth : ℕ) (calls : List (Call T)) (c : Call T) (m : ℕ) → ticks (calls ++ c ∷ []) ≡ ticks calls → last_moment (calls ++ c ∷ []) ≡ m
+quiet-within : {T : Type 0} (rate depth : ℕ) (calls : List (BucketCall T)) (c : BucketCall T) (m : ℕ) → ticks (calls ++ c ∷ []) ≡ ticks calls → last_moment (calls ++ c ∷ []) ≡ m
     → IsWithin rate depth m (ticks calls) → IsWithin rate depth (last_moment (calls ++ c ∷ [])) (ticks (calls ++ c ∷ []))
 quiet-within rate depth calls c m same at within = rw (at, same) within
 
 -- a hand-in
-pub adds_handed : {T : Type 0} (c : Classed T) (old new : Content T) → new.tokens ≡ old.tokens → Gains c old.waiting new.waiting → Adds (Handed c) old new
+pub adds_handed : {T : Type 0} (c : Classed T) (old new : BucketContent T) → new.tokens ≡ old.tokens → Gains c old.waiting new.waiting → BucketAdds (Handed c) old new
 adds_handed c old new tokens gains = record {
   fits = λ rate depth calls f.
       let at : last_moment (calls ++ Handed c ∷ []) ≡ last_moment calls = last-snoc calls (Handed c) ∙ omega arith in
@@ -76,10 +76,10 @@ adds_handed c old new tokens gains = record {
 }
 
 -- a moment
-pub adds_refilled : {T : Type 0} (now : ℕ) (old new : Content T) → new.tokens ≡ refilled now old.tokens → SameQueues old.waiting new.waiting → Adds (Refilled now) old new
+pub adds_refilled : {T : Type 0} (now : ℕ) (old new : BucketContent T) → new.tokens ≡ refilled now old.tokens → SameQueues old.waiting new.waiting → BucketAdds (Refilled now) old new
 adds_refilled {T = T} now old new tokens queues = record {
   fits = λ rate depth calls f.
-      let c : Call T = Refilled now in
+      let c : BucketCall T = Refilled now in
       let at : last_moment (calls ++ c ∷ []) ≡ max (last_moment calls) now = last-snoc calls c in
       let same : ticks (calls ++ c ∷ []) ≡ ticks calls = ticks-same calls c refl in
       let within : IsWithin rate depth (last_moment (calls ++ c ∷ [])) (ticks (calls ++ c ∷ [])) = quiet-within rate depth calls c (max (last_moment calls) now) same at (within-at rate depth (last_moment calls) now (ticks calls) f.within) in
@@ -123,7 +123,7 @@ covers tokens c le = let t : nat_le (cost (Some c)) tokens ≡ true = grind (ari
 pub covers_not : {T : Type 0} (tokens : ℕ) (c : Classed T) → tokens < cost (Some c) → covered tokens (Some c) ≡ None
 covers_not tokens c lt = let t : nat_le (cost (Some c)) tokens ≡ false = grind (arith, nat_tests) in rw t refl
 
-each_higher : {T : Type 0} (calls : List (Call T)) (went : Option (Classed T)) → ((c : Classed T) → went ≡ Some c → NoneHigher calls c) → IfSome went (NoneHigher calls)
+each_higher : {T : Type 0} (calls : List (BucketCall T)) (went : Option (Classed T)) → ((c : Classed T) → went ≡ Some c → NoneHigher calls c) → IfSome went (NoneHigher calls)
 each_higher calls None h = tt
 each_higher calls (Some c) h = h c refl
 
@@ -141,12 +141,12 @@ paid-is None t = ap (λ l. record t { level = l }) (omega arith)
 paid-is (Some c) t = refl
 
 -- a pop right in each part of the law
-pub pop-right : {T : Type 0} (rate depth : ℕ) (calls : List (Call T)) (now : ℕ) (went : Option (Classed T)) (old new : Waiting T)
+pub pop-right : {T : Type 0} (rate depth : ℕ) (calls : List (BucketCall T)) (now : ℕ) (went : Option (Classed T)) (old new : Waiting T)
     → IsWithin rate depth (last_moment calls) (ticks calls) → ((k : Class) → departed k calls ++ queue old k ≡ handed k calls)
     → went ≡ may_go rate depth calls now → Loses went old new
     → GoesRight rate depth calls (calls ++ Popped now went ∷ []) (Popped now went)
 pop-right {T = T} rate depth calls now went old new within are is loses =
-    let c : Call T = Popped now went in
+    let c : BucketCall T = Popped now went in
     let at : last_moment (calls ++ c ∷ []) ≡ max (last_moment calls) now = last-snoc calls c in
     let are_new : (k : Class) → departed k (calls ++ c ∷ []) ++ queue new k ≡ handed k (calls ++ c ∷ []) = waiting-snoc calls c old new (λ k. sym (loses k) ∙ sym (append-nil (queue old k))) are in
     let le : cost went ≤ level_at rate depth calls now = subst (λ (g : Option (Classed T)). cost g ≤ level_at rate depth calls now) (sym is) (cost-covered (level_at rate depth calls now) (next_queued calls)) in
@@ -165,7 +165,7 @@ pop-right {T = T} rate depth calls now went old new within are is loses =
           (not-covered (level_at rate depth calls now) (next_queued calls) (sym is ∙ none))));
     }
   where
-    end_level : {T : Type 0} (rate depth : ℕ) (calls : List (Call T)) (now : ℕ) (went : Option (Classed T)) → went ≡ None
+    end_level : {T : Type 0} (rate depth : ℕ) (calls : List (BucketCall T)) (now : ℕ) (went : Option (Classed T)) → went ≡ None
         → last_moment (calls ++ Popped now went ∷ []) ≡ max (last_moment calls) now
         → level_at rate depth calls now ≡ level_at rate depth (calls ++ Popped now went ∷ []) (last_moment (calls ++ Popped now went ∷ []))
     end_level rate depth calls now went none at =
@@ -174,22 +174,22 @@ pop-right {T = T} rate depth calls now went old new within are is loses =
         let moment : max (last_moment calls) now ≡ max (last_moment (calls ++ Popped now went ∷ [])) (last_moment (calls ++ Popped now went ∷ [])) = omega (arith, at) in
         omega (arith, nothing, same) ∙ ap (λ m. level rate depth m (ticks (calls ++ Popped now went ∷ []))) moment
 
-pub pops_right : {T : Type 0} (now : ℕ) (old new : Content T) (answer : Option (Item T)) (went : Option (Classed T))
+pub pops_right : {T : Type 0} (now : ℕ) (old new : BucketContent T) (answer : Option (Item T)) (went : Option (Classed T))
     → went ≡ covered (refilled now old.tokens).level (next_in old.waiting) → answer ≡ option_map (λ c. c.item) went
     → new.tokens ≡ paid went (refilled now old.tokens) → Loses went old.waiting new.waiting → Pops now old answer new
 pops_right {T = T} now old new answer went is answers tokens loses = record {
   value = λ rate depth calls f. answers ∙ ap (option_map (λ (c : Classed T). c.item)) (may rate depth calls f);
-  fits = λ rate depth calls f. subst (λ (g : Option (Classed T)). Fits rate depth (calls ++ Popped now g ∷ []) new) (may rate depth calls f) (popped rate depth calls f);
+  fits = λ rate depth calls f. subst (λ (g : Option (Classed T)). BucketFits rate depth (calls ++ Popped now g ∷ []) new) (may rate depth calls f) (popped rate depth calls f);
 }
   where
-    may : (rate depth : ℕ) (calls : List (Call T)) → Fits rate depth calls old → went ≡ may_go rate depth calls now
+    may : (rate depth : ℕ) (calls : List (BucketCall T)) → BucketFits rate depth calls old → went ≡ may_go rate depth calls now
     may rate depth calls f =
         is ∙ ap (λ (t : Tokens). covered t.level (next_in old.waiting)) (refilled-is old rate depth calls now f)
         ∙ ap (covered (level_at rate depth calls now)) (sym (next-is calls old.waiting f.waiting_is))
 
-    popped : (rate depth : ℕ) (calls : List (Call T)) → Fits rate depth calls old → Fits rate depth (calls ++ Popped now went ∷ []) new
+    popped : (rate depth : ℕ) (calls : List (BucketCall T)) → BucketFits rate depth calls old → BucketFits rate depth (calls ++ Popped now went ∷ []) new
     popped rate depth calls f =
-        let c : Call T = Popped now went in
+        let c : BucketCall T = Popped now went in
         let at : last_moment (calls ++ c ∷ []) ≡ max (last_moment calls) now = last-snoc calls c in
         let right : GoesRight rate depth calls (calls ++ c ∷ []) c = pop-right rate depth calls now went old.waiting new.waiting f.within f.waiting_is (may rate depth calls f) loses in
         let both : ℕ → ℕ → Tokens = λ l m. record { rate = rate; depth = depth; level = l; last = m } in
@@ -204,7 +204,7 @@ pops_right {T = T} now old new answer went is answers tokens loses = record {
         }
 
 -- the first moment at which an item can go
-pub waits_for : {T : Type 0} (b : Content T) (c : Classed T) (moment : ℕ) → next_in b.waiting ≡ Some c → IsFirstMoment b.tokens c.item.length moment → IsNextDeparture b (Some moment)
+pub waits_for : {T : Type 0} (b : BucketContent T) (c : Classed T) (moment : ℕ) → next_in b.waiting ≡ Some c → IsFirstMoment b.tokens c.item.length moment → IsNextDeparture b (Some moment)
 waits_for {T = T} b c moment next first = record {
   until = λ rate depth calls f.
       let last : b.tokens.last ≡ last_moment calls = ap (λ (t : Tokens). t.last) f.tokens_are in
@@ -216,11 +216,11 @@ waits_for {T = T} b c moment next first = record {
       };
 }
   where
-    at : (rate depth : ℕ) (calls : List (Call T)) → Fits rate depth calls b → next_queued calls ≡ Some c → (m : ℕ)
+    at : (rate depth : ℕ) (calls : List (BucketCall T)) → BucketFits rate depth calls b → next_queued calls ≡ Some c → (m : ℕ)
         → may_go rate depth calls m ≡ covered (refilled m b.tokens).level (Some c)
     at rate depth calls f next_is m =
         ap (covered (level_at rate depth calls m)) next_is
         ∙ ap (λ (t : Tokens). covered t.level (Some c)) (sym (refilled-is b rate depth calls m f))
 
-pub waits_for_nothing : {T : Type 0} (b : Content T) → next_in b.waiting ≡ None → IsNextDeparture b None
+pub waits_for_nothing : {T : Type 0} (b : BucketContent T) → next_in b.waiting ≡ None → IsNextDeparture b None
 waits_for_nothing b next = record { until = λ rate depth calls f. next-is calls b.waiting f.waiting_is ∙ next }

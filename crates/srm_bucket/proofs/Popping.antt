@@ -12,7 +12,7 @@ use Rattle.srm_bucket.specs.Tokens.{IsFirstMoment, cost_of, refilled, spent}
 use Rattle.srm_bucket.specs.Ticks.{cost}
 use Rattle.srm_bucket.specs.Waiting.{Waiting, HasLength, Loses, SameQueues, queue, next_in, count_of}
 use Rattle.srm_bucket.specs.Law.{covered}
-use Rattle.srm_bucket.specs.Content.{Content}
+use Rattle.srm_bucket.specs.Content.{BucketContent}
 use Rattle.srm_bucket.specs.Fits.{Pops, IsNextDeparture}
 use Rattle.srm_bucket.proofs.Highest.{next-length, count-lost}
 use Rattle.srm_bucket.proofs.Going.{covers, covers_not, pops_right, waits_for, waits_for_nothing}
@@ -41,21 +41,21 @@ short (Some c) bytes e h = let same : c.item.length ≡ bytes = cc in omega (ari
 pub next_is_short : {T : Type 0} (w : Waiting T) (bytes : ℕ) → ((k : Class) → All HasLength (queue w k)) → next_bytes w ≡ Some bytes → bytes ≤ GREATEST_LENGTH
 next_is_short w bytes all e = short (next_in w) bytes e (next-length (queue w) all)
 
-pub waits_nothing : {T : Type 0} (b : Content T) → next_bytes b.waiting ≡ None → IsNextDeparture b None
+pub waits_nothing : {T : Type 0} (b : BucketContent T) → next_bytes b.waiting ≡ None → IsNextDeparture b None
 waits_nothing b e = waits_for_nothing b (nothing_next (next_in b.waiting) e)
 
-pub waits_something : {T : Type 0} (b : Content T) (bytes moment : ℕ) → next_bytes b.waiting ≡ Some bytes → IsFirstMoment b.tokens bytes moment → IsNextDeparture b (Some moment)
+pub waits_something : {T : Type 0} (b : BucketContent T) (bytes moment : ℕ) → next_bytes b.waiting ≡ Some bytes → IsFirstMoment b.tokens bytes moment → IsNextDeparture b (Some moment)
 waits_something b bytes moment e first =
     let n : IsNext (next_in b.waiting) bytes = something_next (next_in b.waiting) bytes e in
     waits_for b n.entry moment n.is (subst (λ k. IsFirstMoment b.tokens k moment) n.bytes_are first)
 
 -- nothing waits
-pub pop_nothing : {T : Type 0} (now : ℕ) (old new : Content T) → next_bytes old.waiting ≡ None → new.tokens ≡ refilled now old.tokens → SameQueues old.waiting new.waiting → Pops now old None new
+pub pop_nothing : {T : Type 0} (now : ℕ) (old new : BucketContent T) → next_bytes old.waiting ≡ None → new.tokens ≡ refilled now old.tokens → SameQueues old.waiting new.waiting → Pops now old None new
 pop_nothing now old new e tokens queues =
     pops_right now old new None None (sym (ap (covered (refilled now old.tokens).level) (nothing_next (next_in old.waiting) e))) refl tokens (λ k. sym (queues k))
 
 -- the next item costs too much
-pub pop_refused : {T : Type 0} (now : ℕ) (old new : Content T) (bytes : ℕ) (t : Tokens) → next_bytes old.waiting ≡ Some bytes → t ≡ refilled now old.tokens
+pub pop_refused : {T : Type 0} (now : ℕ) (old new : BucketContent T) (bytes : ℕ) (t : Tokens) → next_bytes old.waiting ≡ Some bytes → t ≡ refilled now old.tokens
     → nat_le (cost_of bytes) t.level ≡ false → new.tokens ≡ t → SameQueues old.waiting new.waiting → Pops now old None new
 pop_refused now old new bytes t e refills test tokens queues =
     let n : IsNext (next_in old.waiting) bytes = something_next (next_in old.waiting) bytes e in
@@ -66,7 +66,7 @@ pop_refused now old new bytes t e refills test tokens queues =
     refl (tokens ∙ refills) (λ k. sym (queues k))
 
 -- the next item goes
-pub pop_first : {T : Type 0} (now : ℕ) (old new : Content T) (answer : Option (Item T)) (bytes : ℕ) (t : Tokens) → next_bytes old.waiting ≡ Some bytes → t ≡ refilled now old.tokens
+pub pop_first : {T : Type 0} (now : ℕ) (old new : BucketContent T) (answer : Option (Item T)) (bytes : ℕ) (t : Tokens) → next_bytes old.waiting ≡ Some bytes → t ≡ refilled now old.tokens
     → nat_le (cost_of bytes) t.level ≡ true → new.tokens ≡ spent bytes t → answer ≡ option_map (λ c. c.item) (next_in old.waiting) → Loses (next_in old.waiting) old.waiting new.waiting
     → Pops now old answer new
 pop_first {T = T} now old new answer bytes t e refills test tokens answers loses =

@@ -2,16 +2,16 @@
 use Rattle.std.specs.Prelude.{◌≡◌, ℕ, true, false, List, [], ◌∷◌, ◌++◌, map, Some, refl}
 use Rattle.srm_bucket.specs.declared.class.Class.{Class}
 use Rattle.srm_bucket.specs.declared.class.Class.TheVariants.{Shown, New, Other}
-use Rattle.srm_bucket.specs.Calls.{Call, Handed, Popped}
+use Rattle.srm_bucket.specs.Calls.{BucketCall, Handed, Popped}
 use Rattle.srm_bucket.specs.Classes.{queued}
 use Rattle.srm_bucket.specs.Admitting.{ahead_of, cost_of_all, admits}
 use Rattle.srm_bucket.specs.Examples.{full, four_gone, emptied}
 
-none : List (Call ℕ)
+none : List (BucketCall ℕ)
 none = []
 
 -- three full datagrams that wait, and one more: the full bucket pays for four
-abbrev three : List (Call ℕ)
+abbrev three : List (BucketCall ℕ)
 three = Handed (full 1) ∷ Handed (full 2) ∷ Handed (full 3) ∷ []
 
 fourth_too : admits 8000 4204 three New 1051 0 ≡ true
@@ -25,7 +25,7 @@ behind_the_fifth : map (admits 8000 4204 four_gone New 1051) (7262749 ∷ 726275
 behind_the_fifth = refl
 
 -- where nothing is ahead, the level doesn't matter
-abbrev empty : List (Call ℕ)
+abbrev empty : List (BucketCall ℕ)
 empty = Handed (full 0) ∷ Popped 0 (Some (full 0)) ∷ []
 
 nothing_ahead : admits 8000 1051 empty New 1051 0 ≡ true

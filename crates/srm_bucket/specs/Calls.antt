@@ -8,8 +8,8 @@ pub record Classed (T : Type 0) : Type 0 where
   pub class : Class
   pub item : Item T
 
-pub data Call (T : Type 0) : Type 0 where
-  Handed : (item : Classed T) → Call T
-  Refilled : (now : ℕ) → Call T
+pub data BucketCall (T : Type 0) : Type 0 where
+  Handed : (item : Classed T) → BucketCall T
+  Refilled : (now : ℕ) → BucketCall T
   -- a pop at a moment, with the item that went in it, if one did
-  Popped : (now : ℕ) (went : Option (Classed T)) → Call T
+  Popped : (now : ℕ) (went : Option (Classed T)) → BucketCall T

@@ -3,7 +3,7 @@ use Rattle.std.specs.Prelude.{◌≡◌, ℕ, List, [], ◌∷◌, ◌++◌, Opt
 use Rattle.srm_bucket.specs.declared.class.Class.{Class}
 use Rattle.srm_bucket.specs.declared.class.Class.TheVariants.{Shown, New, Other}
 use Rattle.srm_bucket.specs.declared.item.Item.{Item}
-use Rattle.srm_bucket.specs.Calls.{Classed, Call, Handed, Refilled, Popped}
+use Rattle.srm_bucket.specs.Calls.{Classed, BucketCall, Handed, Refilled, Popped}
 use Rattle.srm_bucket.specs.Classes.{handed, departed, queued, next_queued}
 use Rattle.srm_bucket.specs.Ticks.{Tick, last_moment, ticks, charge, allowance, level}
 use Rattle.srm_bucket.specs.Law.{level_at, may_go}
@@ -25,10 +25,10 @@ tick moment cost = record { moment = moment; cost = cost }
 abbrev pub full : ℕ → Classed ℕ
 full value = entry New value 1051
 
-abbrev pub five : List (Call ℕ)
+abbrev pub five : List (BucketCall ℕ)
 five = Handed (full 1) ∷ Handed (full 2) ∷ Handed (full 3) ∷ Handed (full 4) ∷ Handed (full 5) ∷ []
 
-abbrev pub four_gone : List (Call ℕ)
+abbrev pub four_gone : List (BucketCall ℕ)
 four_gone = five ++ Popped 7000000 (Some (full 1)) ∷ Popped 7000000 (Some (full 2)) ∷ Popped 7000000 (Some (full 3)) ∷ Popped 7000000 (Some (full 4)) ∷ []
 
 first_goes : may_go 8000 4204 five 7000000 ≡ Some (full 1)
@@ -53,7 +53,7 @@ never_past_the_depth : level_at 8000 4204 four_gone 9000000000 ≡ 4204000000
 never_past_the_depth = refl
 
 -- a bucket that was emptied at 0, and then one item of each class, the lowest first
-abbrev pub emptied : List (Call ℕ)
+abbrev pub emptied : List (BucketCall ℕ)
 emptied = Handed (full 0) ∷ Popped 0 (Some (full 0)) ∷ Handed (entry Other 1 17) ∷ Handed (entry New 2 28) ∷ Handed (entry Shown 3 29) ∷ []
 
 highest_first : next_queued emptied ≡ Some (entry Shown 3 29)
@@ -72,7 +72,7 @@ then_the_last : may_go 8000 1051 (emptied ++ Popped 3625 (Some (entry Shown 3 29
 then_the_last = refl
 
 -- a rate of three bytes a second
-abbrev slow : List (Call ℕ)
+abbrev slow : List (BucketCall ℕ)
 slow = Handed (entry Other 1 1051) ∷ Popped 0 (Some (entry Other 1 1051)) ∷ Handed (entry Other 2 17) ∷ []
 
 not_at_5666666 : may_go 3 1051 slow 5666666 ≡ None

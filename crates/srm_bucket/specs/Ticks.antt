@@ -3,16 +3,16 @@
 use Rattle.std.specs.Prelude.{ℕ, ◌+◌, ◌*◌, ◌-◌, ◌≤◌, ◌==◌, ◌&&◌, min, max, List, [], ◌∷◌, map, if◌then◌else◌, Option, Some, None, is_some}
 use Rattle.std.specs.List.{flat_map}
 use Rattle.srm_names.specs.Histories.{Step, steps, greatest}
-use Rattle.srm_bucket.specs.Calls.{Classed, Call, Handed, Refilled, Popped}
+use Rattle.srm_bucket.specs.Calls.{Classed, BucketCall, Handed, Refilled, Popped}
 use Rattle.srm_bucket.specs.Tokens.{cost_of}
 
-abbrev pub moment_of : {T : Type 0} → Call T → ℕ
+abbrev pub moment_of : {T : Type 0} → BucketCall T → ℕ
 moment_of (Handed c) = 0
 moment_of (Refilled now) = now
 moment_of (Popped now went) = now
 
 -- the last moment: the greatest so far, as a lower one counts as the last
-abbrev pub last_moment : {T : Type 0} → List (Call T) → ℕ
+abbrev pub last_moment : {T : Type 0} → List (BucketCall T) → ℕ
 last_moment calls = greatest (map moment_of calls)
 
 -- a pop, at the moment that counts
@@ -20,15 +20,15 @@ pub record Pop (T : Type 0) : Type 0 where
   pub moment : ℕ
   pub went : Option (Classed T)
 
-abbrev pub popped_in : {T : Type 0} → List (Call T) → Call T → List (Pop T)
+abbrev pub popped_in : {T : Type 0} → List (BucketCall T) → BucketCall T → List (Pop T)
 popped_in before (Handed c) = []
 popped_in before (Refilled now) = []
 popped_in before (Popped now went) = record { moment = max (last_moment before) now; went = went } ∷ []
 
-abbrev pub popped_at : {T : Type 0} → Step (Call T) → List (Pop T)
+abbrev pub popped_at : {T : Type 0} → Step (BucketCall T) → List (Pop T)
 popped_at s = popped_in s.before s.this
 
-abbrev pub pops : {T : Type 0} → List (Call T) → List (Pop T)
+abbrev pub pops : {T : Type 0} → List (BucketCall T) → List (Pop T)
 pops calls = flat_map popped_at (steps calls)
 
 -- a tick: its moment, and what went in it costs, in millionths of a byte
@@ -55,7 +55,7 @@ abbrev pub parted : {T : Type 0} → List (Pop T) → List Tick
 parted [] = []
 parted (p ∷ ps) = joined p (parted ps)
 
-abbrev pub ticks : {T : Type 0} → List (Call T) → List Tick
+abbrev pub ticks : {T : Type 0} → List (BucketCall T) → List Tick
 ticks calls = parted (pops calls)
 
 abbrev pub charge : List Tick → ℕ

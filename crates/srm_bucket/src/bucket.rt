@@ -1,10 +1,10 @@
 //! The bucket: what is handed in waits until the rate lets it go.
 
 ghost use Rattle.std.specs.Prelude.{◌≡◌, ◌≤◌, ◌<◌, ◌+◌, ℕ, List, [], length, OnOk, OnErr, IsOk, OnSome, IfSome};
-ghost use Rattle.srm_bucket.specs.Calls.{Call, Handed, Refilled};
+ghost use Rattle.srm_bucket.specs.Calls.{BucketCall, Handed, Refilled};
 ghost use Rattle.srm_bucket.specs.Classes.{queued};
 ghost use Rattle.srm_bucket.specs.Waiting.{HasLength, Gains, SameQueues, TakesNext, queue, count_of};
-ghost use Rattle.srm_bucket.specs.Fits.{Fits, Stays, Adds, Pops, IsNextDeparture};
+ghost use Rattle.srm_bucket.specs.Fits.{BucketFits, BucketStays, BucketAdds, Pops, IsNextDeparture};
 ghost use Rattle.srm_bucket.specs.Admitting.{Admits, AdmitsFrom};
 
 use crate::class::Class;
@@ -27,13 +27,13 @@ pub struct Bucket<T> {
 }
 
 impl<T> Model for Bucket<T> {
-    ghost use Rattle.srm_bucket.specs.Content.{Content, content_of, IsInRange};
+    ghost use Rattle.srm_bucket.specs.Content.{BucketContent, content_of, IsBucketInRange};
 
-    ghost Value = { Content T };
+    ghost Value = { BucketContent T };
 
     ghost view = { content_of };
 
-    ghost invariant = { IsInRange };
+    ghost invariant = { IsBucketInRange };
 }
 
 impl<T> Bucket<T> {
@@ -44,7 +44,7 @@ impl<T> Bucket<T> {
         requires greatest_rate { rate ≤ GREATEST_RATE }
         requires least_depth { LEAST_DEPTH ≤ depth }
         requires greatest_depth { depth ≤ GREATEST_DEPTH }
-        ensures { let calls : List (Call T) = [] in Fits rate depth calls result }
+        ensures { let calls : List (BucketCall T) = [] in BucketFits rate depth calls result }
     {
         Bucket {
             tokens: Tokens::full(rate, depth),
@@ -55,7 +55,7 @@ impl<T> Bucket<T> {
     /// Makes room for more items, of whatever classes: after an `Ok` so many calls of [`hand`](Bucket::hand) are not
     /// refused. What waits stays. Only want of memory refuses it, and not where there is room already.
     pub fn room(&mut self, items: usize) -> Result<(), AllocError>
-        ensures stays { Stays self.old self.new }
+        ensures stays { BucketStays self.old self.new }
         ensures queues { SameQueues self.old.waiting self.new.waiting }
         ensures ok { OnOk result (items ≤ self.new.waiting.room) }
         ensures not_refused { items ≤ self.old.waiting.room → IsOk result }
@@ -71,8 +71,8 @@ impl<T> Bucket<T> {
         T: Drop,
         requires least { LEAST_LENGTH ≤ item.length }
         requires greatest { item.length ≤ GREATEST_LENGTH }
-        ensures ok { OnOk result (Adds (Handed (record { class = class; item = item })) self.old self.new) }
-        ensures err { OnErr result (Stays self.old self.new) }
+        ensures ok { OnOk result (BucketAdds (Handed (record { class = class; item = item })) self.old self.new) }
+        ensures err { OnErr result (BucketStays self.old self.new) }
         ensures gains { OnOk result (Gains (record { class = class; item = item }) self.old.waiting self.new.waiting) }
         ensures same { OnErr result (SameQueues self.old.waiting self.new.waiting) }
         ensures not_refused { 0 < self.old.waiting.room → IsOk result }
@@ -84,7 +84,7 @@ impl<T> Bucket<T> {
     /// A moment has come: the time since the last one brings tokens, up to the depth.
     pub fn refill(&mut self, now: u64)
         requires { now ≤ LATEST_MOMENT }
-        ensures adds { Adds (Refilled now) self.old self.new }
+        ensures adds { BucketAdds (Refilled now) self.old self.new }
         ensures room { self.old.waiting.room ≤ self.new.waiting.room }
     {
         self.tokens.refill(now);
@@ -154,7 +154,7 @@ impl<T> Bucket<T> {
 
     /// How many items of a class wait.
     pub fn waiting(&self, class: Class) -> usize
-        ensures value { (rate depth : ℕ) (calls : List (Call T)) → Fits rate depth calls self.now → result ≡ length (queued calls class) }
+        ensures value { (rate depth : ℕ) (calls : List (BucketCall T)) → BucketFits rate depth calls self.now → result ≡ length (queued calls class) }
         ensures counts { result ≡ length (queue self.now.waiting class) }
     {
         self.queues.len(class)

@@ -10,14 +10,14 @@ use Rattle.srm_names.specs.declared.echo.Echo.{Echo}
 use Rattle.srm_names.specs.Histories.{count_up}
 use Rattle.srm_names.specs.Names.{ascending, echo_below}
 use Rattle.srm_names.proofs.Snoc.{up_to_more}
-use Rattle.srm_distance.specs.Calls.{Call}
+use Rattle.srm_distance.specs.Calls.{DistanceCall}
 use Rattle.srm_distance.specs.Echoes.{echo_to, CanBeSent}
-use Rattle.srm_distance.specs.Content.{Content}
-use Rattle.srm_distance.specs.Fits.{Fits}
+use Rattle.srm_distance.specs.Content.{DistancesContent}
+use Rattle.srm_distance.specs.Fits.{DistancesFit}
 
 -- the echoes to the members below n
-pub record Collected (d : Content) (now n : ℕ) (echoes : List Echo) : Type 0 where
-  pub value : (me : ℕ) (calls : List Call) → Fits me calls d → echoes ≡ filter_map (echo_to calls me now) (count_up 0 n)
+pub record Collected (d : DistancesContent) (now n : ℕ) (echoes : List Echo) : Type 0 where
+  pub value : (me : ℕ) (calls : List DistanceCall) → DistancesFit me calls d → echoes ≡ filter_map (echo_to calls me now) (count_up 0 n)
   pub rising : ascending echo_below echoes ≡ true
   pub each : All (CanBeSent d.me now) echoes
   pub below : All (λ (e : Echo). e.member < n) echoes
@@ -42,8 +42,8 @@ wider : (n : ℕ) (echoes : List Echo) → All (λ (e : Echo). e.member < n) ech
 wider n echoes all = λ k d lt. omega (arith, all k d lt)
 
 -- a member to whom no echo is owed
-pub collected_none : (d : Content) (now n : ℕ) (echoes : List Echo) → Collected d now n echoes
-    → ((me : ℕ) (calls : List Call) → Fits me calls d → None ≡ echo_to calls me now n)
+pub collected_none : (d : DistancesContent) (now n : ℕ) (echoes : List Echo) → Collected d now n echoes
+    → ((me : ℕ) (calls : List DistanceCall) → DistancesFit me calls d → None ≡ echo_to calls me now n)
     → Collected d now (n + 1) echoes
 collected_none d now n echoes sofar none = record {
   value = λ me calls fits. sofar.value me calls fits ∙ sym (append-nil _)
@@ -57,12 +57,12 @@ collected_none d now n echoes sofar none = record {
 }
 
 -- oneself
-pub collected_self : (d : Content) (now n : ℕ) (echoes : List Echo) → Collected d now n echoes → n ≡ d.me → Collected d now (n + 1) echoes
+pub collected_self : (d : DistancesContent) (now n : ℕ) (echoes : List Echo) → Collected d now n echoes → n ≡ d.me → Collected d now (n + 1) echoes
 collected_self d now n echoes sofar same = collected_none d now n echoes sofar (λ me calls fits. rw (eq-eqb n me (same ∙ fits.me_is)) refl)
 
 -- a member to whom one is owed
-pub collected_some : (d : Content) (now n : ℕ) (echoes : List Echo) (e : Echo) → Collected d now n echoes → n ≢ d.me
-    → ((me : ℕ) (calls : List Call) → Fits me calls d → Some e ≡ echo_to calls me now n) → e.member ≡ n → CanBeSent d.me now e
+pub collected_some : (d : DistancesContent) (now n : ℕ) (echoes : List Echo) (e : Echo) → Collected d now n echoes → n ≢ d.me
+    → ((me : ℕ) (calls : List DistanceCall) → DistancesFit me calls d → Some e ≡ echo_to calls me now n) → e.member ≡ n → CanBeSent d.me now e
     → Collected d now (n + 1) (echoes ++ e ∷ [])
 collected_some d now n echoes e sofar other some member can = record {
   value = λ me calls fits. ap (λ es. es ++ e ∷ []) (sofar.value me calls fits)

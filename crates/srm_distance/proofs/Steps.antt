@@ -13,12 +13,12 @@ use Rattle.srm_names.proofs.Snoc.{later, first_best-snoc, list_any-snoc}
 use Rattle.srm_distance.specs.declared.returned.Returned.{Returned}
 use Rattle.srm_distance.specs.declared.heard_message.HeardMessage.{HeardMessage}
 use Rattle.srm_distance.specs.declared.peer.Peer.{Peer}
-use Rattle.srm_distance.specs.Calls.{Call, Heard, Forgot}
+use Rattle.srm_distance.specs.Calls.{DistanceCall, Heard, Forgot}
 use Rattle.srm_distance.specs.Distance.{returned_at, returned, newest}
 use Rattle.srm_distance.specs.Echoes.{message_from, latest, forgets, is_forgotten}
 use Rattle.srm_distance.specs.Peers.{peer_of}
-use Rattle.srm_distance.specs.Content.{Content}
-use Rattle.srm_distance.specs.Fits.{Fits, Adds}
+use Rattle.srm_distance.specs.Content.{DistancesContent}
+use Rattle.srm_distance.specs.Fits.{DistancesFit, DistancesAdd}
 
 -- the best so far, and perhaps one more
 abbrev pub kept_with : {X : Type 0} → (X → ℕ) → Option X → Option X → Option X
@@ -39,13 +39,13 @@ own b o = rw (eq-eqb b b refl) refl
 another : {X : Type 0} (a b : ℕ) (o : Option X) → a ≢ b → (if a == b then o else None) ≡ None
 another a b o ne = rw (ne_eqb a b ne) refl
 
-pub newest_heard : (calls : List Call) (b sent : ℕ) (echo : Option (ℕ × ℕ)) (now : ℕ)
+pub newest_heard : (calls : List DistanceCall) (b sent : ℕ) (echo : Option (ℕ × ℕ)) (now : ℕ)
     → newest (calls ++ Heard b sent echo now ∷ []) b ≡ kept_with (λ (r : Returned). r.t1) (newest calls b) (returned_at now echo)
 newest_heard calls b sent echo now =
     first_best-found (λ (r : Returned). r.t1) (returned b) calls (Heard b sent echo now)
     ∙ ap (kept_with (λ (r : Returned). r.t1) (newest calls b)) (own b (returned_at now echo))
 
-pub latest_heard : (calls : List Call) (b sent : ℕ) (echo : Option (ℕ × ℕ)) (now : ℕ)
+pub latest_heard : (calls : List DistanceCall) (b sent : ℕ) (echo : Option (ℕ × ℕ)) (now : ℕ)
     → latest (calls ++ Heard b sent echo now ∷ []) b ≡ Some (later (λ (r : HeardMessage). r.sent) (latest calls b) (record { sent = sent; came = now }))
 latest_heard calls b sent echo now =
     first_best-found (λ (r : HeardMessage). r.sent) (message_from b) calls (Heard b sent echo now)
@@ -55,7 +55,7 @@ pub same_peer : (r r' : Option Returned) (s s' : Option HeardMessage) (f f' : Bo
     → ◌≡◌ {A = Peer} (record { returned = r; newest_message = s; forgotten = f }) (record { returned = r'; newest_message = s'; forgotten = f' })
 same_peer r r' s s' f f' p q e = cc
 
-pub peer_of_forgot : (calls : List Call) (b : ℕ) → peer_of (calls ++ Forgot b ∷ []) b ≡ record { returned = newest calls b; newest_message = latest calls b; forgotten = true }
+pub peer_of_forgot : (calls : List DistanceCall) (b : ℕ) → peer_of (calls ++ Forgot b ∷ []) b ≡ record { returned = newest calls b; newest_message = latest calls b; forgotten = true }
 peer_of_forgot calls b =
     same_peer _ _ _ _ _ _
     (first_best-found (λ (r : Returned). r.t1) (returned b) calls (Forgot b))
@@ -63,30 +63,30 @@ peer_of_forgot calls b =
     (list_any-snoc (forgets b) calls (Forgot b) ∙ ap (λ x. is_forgotten calls b || x) (eq-eqb b b refl) ∙ or-true (is_forgotten calls b))
 
 -- a call that is about another member
-peer_of-other : (calls : List Call) (c : Call) (b : ℕ) → returned b c ≡ None → message_from b c ≡ None → forgets b c ≡ false → peer_of (calls ++ c ∷ []) b ≡ peer_of calls b
+peer_of-other : (calls : List DistanceCall) (c : DistanceCall) (b : ℕ) → returned b c ≡ None → message_from b c ≡ None → forgets b c ≡ false → peer_of (calls ++ c ∷ []) b ≡ peer_of calls b
 peer_of-other calls c b r s f =
     same_peer _ _ _ _ _ _
     (first_best-found (λ (r : Returned). r.t1) (returned b) calls c ∙ ap (kept_with (λ (r : Returned). r.t1) (newest calls b)) r)
     (first_best-found (λ (r : HeardMessage). r.sent) (message_from b) calls c ∙ ap (kept_with (λ (r : HeardMessage). r.sent) (latest calls b)) s)
     (list_any-snoc (forgets b) calls c ∙ ap (λ x. is_forgotten calls b || x) f ∙ or-false (is_forgotten calls b))
 
-pub heard-other : (a sent : ℕ) (echo : Option (ℕ × ℕ)) (now : ℕ) (calls : List Call) (b : ℕ) → a ≢ b → peer_of (calls ++ Heard a sent echo now ∷ []) b ≡ peer_of calls b
+pub heard-other : (a sent : ℕ) (echo : Option (ℕ × ℕ)) (now : ℕ) (calls : List DistanceCall) (b : ℕ) → a ≢ b → peer_of (calls ++ Heard a sent echo now ∷ []) b ≡ peer_of calls b
 heard-other a sent echo now calls b ne = peer_of-other calls (Heard a sent echo now) b (another a b (returned_at now echo) ne) (another a b (Some (record { sent = sent; came = now })) ne) refl
 
-pub forgot-other : (a : ℕ) (calls : List Call) (b : ℕ) → a ≢ b → peer_of (calls ++ Forgot a ∷ []) b ≡ peer_of calls b
+pub forgot-other : (a : ℕ) (calls : List DistanceCall) (b : ℕ) → a ≢ b → peer_of (calls ++ Forgot a ∷ []) b ≡ peer_of calls b
 forgot-other a calls b ne = peer_of-other calls (Forgot a) b refl refl (ne_eqb a b ne)
 
-pub kept_at : (me : ℕ) (calls : List Call) (d : Content) (a : ℕ) (p : Peer) → Fits me calls d → a < MEMBERS → get_or d.peers a p ≡ peer_of calls a
+pub kept_at : (me : ℕ) (calls : List DistanceCall) (d : DistancesContent) (a : ℕ) (p : Peer) → DistancesFit me calls d → a < MEMBERS → get_or d.peers a p ≡ peer_of calls a
 kept_at me calls d a p h lt = get_or_from_slice_get d.peers a (peer_of calls a) p (h.each a lt)
 
 abbrev pub nobody : Peer
 nobody = record { returned = None; newest_message = None; forgotten = false }
 
 -- A call that is about one member writes its place in the table.
-pub adds_at : (call : Call) (d : Content) (a place : ℕ) (peer : Peer) → place ≡ a → place < MEMBERS
-    → ((calls : List Call) → get_or d.peers place nobody ≡ peer_of calls a → peer ≡ peer_of (calls ++ call ∷ []) a)
-    → ((calls : List Call) (b : ℕ) → a ≢ b → peer_of (calls ++ call ∷ []) b ≡ peer_of calls b)
-    → Adds call d (record { me = d.me; peers = slice_set d.peers place peer })
+pub adds_at : (call : DistanceCall) (d : DistancesContent) (a place : ℕ) (peer : Peer) → place ≡ a → place < MEMBERS
+    → ((calls : List DistanceCall) → get_or d.peers place nobody ≡ peer_of calls a → peer ≡ peer_of (calls ++ call ∷ []) a)
+    → ((calls : List DistanceCall) (b : ℕ) → a ≢ b → peer_of (calls ++ call ∷ []) b ≡ peer_of calls b)
+    → DistancesAdd call d (record { me = d.me; peers = slice_set d.peers place peer })
 adds_at call d a place peer at lt here other = record {
   me_stays = refl;
   fits = λ me calls h. record {
@@ -108,7 +108,7 @@ adds_at call d a place peer at lt here other = record {
 }
 
 -- what is made for a member of which nothing was heard
-pub fits_new : (me : ℕ) (p : Peer) → ((b : ℕ) → p ≡ peer_of [] b) → Fits me [] (record { me = me; peers = replicate 32 p })
+pub fits_new : (me : ℕ) (p : Peer) → ((b : ℕ) → p ≡ peer_of [] b) → DistancesFit me [] (record { me = me; peers = replicate 32 p })
 fits_new me p h = record {
   me_is = refl;
   size = refl;

@@ -13,7 +13,7 @@ use Rattle.srm_distance.proofs.Steps.{nobody}
 use Rattle.srm_distance.specs.Distance.{estimate}
 use Rattle.srm_distance.specs.Echoes.{SentWithin}
 use Rattle.srm_distance.specs.Peers.{peer_of}
-use Rattle.srm_distance.specs.Content.{Content, DistancesAreRight, distance_by}
+use Rattle.srm_distance.specs.Content.{DistancesContent, DistancesAreRight, distance_by}
 use Rattle.srm_distance.specs.Fits.{IsTableOf}
 
 to_oneself : (me : ℕ) (p : Peer) → distance_by me me p ≡ 0
@@ -27,7 +27,7 @@ at : (me m : ℕ) (peers : List Peer) (table : List ℕ) (d : Peer) → m < MEMB
 at me m peers table d lt h = h.table m (get_or peers m d) (slice_get-get_or peers m d (omega (arith, lt, h.peers)))
 
 -- what stands in the table is what the definitions say
-pub is_table : (d : Content) (table : List ℕ) → DistancesAreRight (record { me = d.me; peers = d.peers; table = table }) → IsTableOf d table
+pub is_table : (d : DistancesContent) (table : List ℕ) → DistancesAreRight (record { me = d.me; peers = d.peers; table = table }) → IsTableOf d table
 is_table d table h = record {
   each = λ me calls fits m below. h.table m (peer_of calls m) (fits.each m below) ∙ ap (λ k. distance_by k m (peer_of calls m)) fits.me_is;
 }

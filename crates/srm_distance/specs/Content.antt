@@ -6,11 +6,11 @@ use Rattle.srm_distance.specs.declared.distances.Distances.TheInside.{Inside}
 use Rattle.srm_distance.specs.Distance.{estimate}
 use Rattle.srm_distance.specs.Echoes.{SentWithin}
 
-pub record Content : Type 0 where
+pub record DistancesContent : Type 0 where
   pub me : ℕ
   pub peers : List Peer
 
-abbrev pub content_of : Inside → Content
+abbrev pub content_of : Inside → DistancesContent
 content_of d = record { me = d.me; peers = d.peers }
 
 -- the distance of me to a member of which this is kept

@@ -5,7 +5,7 @@ use Rattle.srm_names.specs.Histories.{first_best}
 use Rattle.srm_distance.specs.declared.returned.Returned.{Returned}
 use Rattle.srm_names.specs.declared.limits.TheConstants.{LONGEST_DISTANCE}
 use Rattle.srm_distance.specs.declared.limits.TheConstants.{FIRST_DISTANCE, SHORTEST_DISTANCE}
-use Rattle.srm_distance.specs.Calls.{Call, Heard, Forgot}
+use Rattle.srm_distance.specs.Calls.{DistanceCall, Heard, Forgot}
 
 -- An echo that is heard at t4. It doesn't count where its own moment is still to come.
 abbrev pub returned_at : ℕ → Option (ℕ × ℕ) → Option Returned
@@ -13,12 +13,12 @@ returned_at t4 None = None
 returned_at t4 (Some e) = if nat_le e.0 t4 then Some (record { t1 = e.0; delay = e.1; t4 = t4 }) else None
 
 -- the echo that a call brings from b
-abbrev pub returned : ℕ → Call → Option Returned
+abbrev pub returned : ℕ → DistanceCall → Option Returned
 returned b (Heard from sent echo now) = if from == b then returned_at now echo else None
 returned b (Forgot member) = None
 
 -- of the echoes from b, that of the newest message, as it was heard first
-abbrev pub newest : List Call → ℕ → Option Returned
+abbrev pub newest : List DistanceCall → ℕ → Option Returned
 newest calls b = first_best (λ (r : Returned). r.t1) (filter_map (returned b) calls)
 
 -- half the time on the way there and back, rounded down, within the limits
@@ -30,5 +30,5 @@ estimate None = FIRST_DISTANCE
 estimate (Some r) = half_way r
 
 -- the distance of me to b
-abbrev pub distance : List Call → ℕ → ℕ → ℕ
+abbrev pub distance : List DistanceCall → ℕ → ℕ → ℕ
 distance calls me b = if b == me then 0 else estimate (newest calls b)

@@ -6,33 +6,33 @@ use Rattle.srm_names.specs.declared.limits.TheConstants.{MEMBERS, LATEST_MOMENT}
 use Rattle.srm_names.specs.Histories.{first_best, count_up}
 use Rattle.srm_names.specs.Names.{ascending, echo_below}
 use Rattle.srm_distance.specs.declared.heard_message.HeardMessage.{HeardMessage}
-use Rattle.srm_distance.specs.Calls.{Call, Heard, Forgot}
+use Rattle.srm_distance.specs.Calls.{DistanceCall, Heard, Forgot}
 
 -- the session message that a call brings from b
-abbrev pub message_from : ℕ → Call → Option HeardMessage
+abbrev pub message_from : ℕ → DistanceCall → Option HeardMessage
 message_from b (Heard from sent echo now) = if from == b then Some (record { sent = sent; came = now }) else None
 message_from b (Forgot member) = None
 
 -- of the session messages from b the newest, as it was heard first
-abbrev pub latest : List Call → ℕ → Option HeardMessage
+abbrev pub latest : List DistanceCall → ℕ → Option HeardMessage
 latest calls b = first_best (λ (r : HeardMessage). r.sent) (filter_map (message_from b) calls)
 
-abbrev pub forgets : ℕ → Call → Bool
+abbrev pub forgets : ℕ → DistanceCall → Bool
 forgets b (Heard from sent echo now) = false
 forgets b (Forgot member) = member == b
 
-abbrev pub is_forgotten : List Call → ℕ → Bool
+abbrev pub is_forgotten : List DistanceCall → ℕ → Bool
 is_forgotten calls b = list_any (forgets b) calls
 
 abbrev pub echo_of : ℕ → ℕ → HeardMessage → Echo
 echo_of now b r = record { member = b; t1 = r.sent; delay = now - r.came }
 
 -- the echo that is owed to b at a moment
-abbrev pub echo_to : List Call → ℕ → ℕ → ℕ → Option Echo
+abbrev pub echo_to : List DistanceCall → ℕ → ℕ → ℕ → Option Echo
 echo_to calls me now b = if (b == me) || is_forgotten calls b then None else option_map (echo_of now b) (latest calls b)
 
 -- the echoes that are owed, in order of member
-abbrev pub echoes_owed : List Call → ℕ → ℕ → List Echo
+abbrev pub echoes_owed : List DistanceCall → ℕ → ℕ → List Echo
 echoes_owed calls me now = filter_map (echo_to calls me now) (count_up 0 MEMBERS)
 
 abbrev pub SentWithin : Option HeardMessage → Type 0

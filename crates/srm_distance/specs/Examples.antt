@@ -1,16 +1,16 @@
 -- The definitions at worked examples. Member 0 is the one that hears, unless said.
 use Rattle.std.specs.Prelude.{◌≡◌, ℕ, [], ◌∷◌, Some, None, refl}
 use Rattle.srm_names.specs.declared.echo.Echo.{Echo}
-use Rattle.srm_distance.specs.Calls.{Call, Heard, Forgot}
+use Rattle.srm_distance.specs.Calls.{DistanceCall, Heard, Forgot}
 use Rattle.srm_distance.specs.Distance.{distance}
 use Rattle.srm_distance.specs.Echoes.{echoes_owed}
 
 -- member 1 echoes the message sent at t1, having had it for some time, and this is heard at a moment
-abbrev echoed : (t1 delay now : ℕ) → Call
+abbrev echoed : (t1 delay now : ℕ) → DistanceCall
 echoed t1 delay now = Heard 1 0 (Some (t1, delay)) now
 
 -- a session message of a member with no echo
-abbrev silent : (from sent now : ℕ) → Call
+abbrev silent : (from sent now : ℕ) → DistanceCall
 silent from sent now = Heard from sent None now
 
 -- distances

@@ -1,21 +1,21 @@
 -- What is kept fits a list of calls: it is what the definitions say of them.
 use Rattle.std.specs.Prelude.{◌≡◌, ℕ, ◌<◌, List, [], ◌∷◌, ◌++◌, length, Some, slice_get, slice_index}
 use Rattle.srm_names.specs.declared.limits.TheConstants.{MEMBERS}
-use Rattle.srm_distance.specs.Calls.{Call}
+use Rattle.srm_distance.specs.Calls.{DistanceCall}
 use Rattle.srm_distance.specs.Peers.{peer_of}
-use Rattle.srm_distance.specs.Content.{Content}
+use Rattle.srm_distance.specs.Content.{DistancesContent}
 use Rattle.srm_distance.specs.Distance.{distance}
 
-pub record Fits (me : ℕ) (calls : List Call) (d : Content) : Type 0 where
+pub record DistancesFit (me : ℕ) (calls : List DistanceCall) (d : DistancesContent) : Type 0 where
   pub me_is : d.me ≡ me
   pub size : length d.peers ≡ MEMBERS
   pub each : (b : ℕ) → b < MEMBERS → slice_get d.peers b ≡ Some (peer_of calls b)
 
 -- one more call: whose distances these are stays, and what fitted the calls so far fits them with this one
-pub record Adds (call : Call) (old new : Content) : Type 0 where
+pub record DistancesAdd (call : DistanceCall) (old new : DistancesContent) : Type 0 where
   pub me_stays : new.me ≡ old.me
-  pub fits : (me : ℕ) (calls : List Call) → Fits me calls old → Fits me (calls ++ call ∷ []) new
+  pub fits : (me : ℕ) (calls : List DistanceCall) → DistancesFit me calls old → DistancesFit me (calls ++ call ∷ []) new
 
 -- a table has the distance to each member, by its number
-pub record IsTableOf (d : Content) (table : List ℕ) : Type 0 where
-  pub each : (me : ℕ) (calls : List Call) → Fits me calls d → (member : ℕ) → member < MEMBERS → slice_index table member ≡ distance calls me member
+pub record IsTableOf (d : DistancesContent) (table : List ℕ) : Type 0 where
+  pub each : (me : ℕ) (calls : List DistanceCall) → DistancesFit me calls d → (member : ℕ) → member < MEMBERS → slice_index table member ≡ distance calls me member

@@ -2,11 +2,11 @@
 
 ghost use Rattle.std.specs.Prelude.{◌≡◌, ◌≢◌, ◌≤◌, ◌<◌, ◌↔◌, ℕ, List, [], IfOk, IfSome, length, slice_index, slice_set};
 ghost use Rattle.srm_names.specs.declared.limits.TheConstants.{MEMBERS};
-ghost use Rattle.srm_distance.specs.Calls.{Call, Heard, Forgot};
+ghost use Rattle.srm_distance.specs.Calls.{DistanceCall, Heard, Forgot};
 ghost use Rattle.srm_distance.specs.Content.{distance_by};
 ghost use Rattle.srm_distance.specs.Distance.{distance};
 ghost use Rattle.srm_distance.specs.Echoes.{echo_to, echoes_owed, AreSpellable, CanBeSent, SentWithin};
-ghost use Rattle.srm_distance.specs.Fits.{Fits, Adds, IsTableOf};
+ghost use Rattle.srm_distance.specs.Fits.{DistancesFit, DistancesAdd, IsTableOf};
 
 use crate::limits::FIRST_DISTANCE;
 use crate::peer::Peer;
@@ -25,9 +25,9 @@ pub struct Distances {
 }
 
 impl Model for Distances {
-    ghost use Rattle.srm_distance.specs.Content.{Content, content_of, DistancesAreRight};
+    ghost use Rattle.srm_distance.specs.Content.{DistancesContent, content_of, DistancesAreRight};
 
-    ghost Value = { Content };
+    ghost Value = { DistancesContent };
 
     ghost view = { content_of };
 
@@ -37,7 +37,7 @@ impl Model for Distances {
 impl Distances {
     /// What this member knows before any session message.
     pub fn new(me: Member) -> Distances
-        ensures fits { Fits me [] result }
+        ensures fits { DistancesFit me [] result }
     {
         let mut table = [FIRST_DISTANCE; MEMBERS as usize];
         table[me.index()] = 0;
@@ -68,7 +68,7 @@ impl Distances {
     /// message that was sent at 0 is a message like any other.
     pub fn heard_session(&mut self, from: Member, sent: u64, echo: Option<(u64, u64)>, now: u64)
         requires { sent ≤ LATEST_MOMENT }
-        ensures { Adds (Heard from sent echo now) self.old self.new }
+        ensures { DistancesAdd (Heard from sent echo now) self.old self.new }
     {
         let peer = self.peers[from.index()].after_session(sent, echo, now);
         self.keep(from, peer);
@@ -76,7 +76,7 @@ impl Distances {
 
     /// A member left: no more echoes to it. The distance to it stays.
     pub fn forget(&mut self, member: Member)
-        ensures { Adds (Forgot member) self.old self.new }
+        ensures { DistancesAdd (Forgot member) self.old self.new }
     {
         let peer = self.peers[member.index()].after_forget();
         self.keep(member, peer);
@@ -97,7 +97,7 @@ impl Distances {
     /// forgotten that of its newest session message, with the time since this was heard, 0 where that is to come.
     /// They are at most 31. Only want of memory refuses it.
     pub fn echoes(&self, alloc: Global, now: u64) -> Result<Vec<Echo>, AllocError>
-        ensures value { IfOk result (λ echoes. (me : ℕ) (calls : List Call) → Fits me calls self.now
+        ensures value { IfOk result (λ echoes. (me : ℕ) (calls : List DistanceCall) → DistancesFit me calls self.now
             → echoes.items ≡ echoes_owed calls me now) }
         ensures range { IfOk result (λ echoes. AreSpellable self.now.me now echoes.items) }
     {
@@ -119,7 +119,7 @@ impl Distances {
     fn echo_to(&self, number: u8, now: u64) -> Option<Echo>
         requires member { number < MEMBERS }
         requires other { number ≢ self.now.me }
-        ensures value { (me : ℕ) (calls : List Call) → Fits me calls self.now
+        ensures value { (me : ℕ) (calls : List DistanceCall) → DistancesFit me calls self.now
             → result ≡ echo_to calls me now number }
         ensures member { IfSome result (λ echo. echo.member ≡ number) }
         ensures range { IfSome result (CanBeSent self.now.me now) }
@@ -131,7 +131,7 @@ impl Distances {
     /// The distance to a member: 0 to this member itself, and to another 1 to 10,000,000; before an echo of it counted
     /// [`FIRST_DISTANCE`](crate::FIRST_DISTANCE).
     pub fn distance(&self, member: Member) -> u64
-        ensures value { (me : ℕ) (calls : List Call) → Fits me calls self.now → result ≡ distance calls me member }
+        ensures value { (me : ℕ) (calls : List DistanceCall) → DistancesFit me calls self.now → result ≡ distance calls me member }
         ensures to_oneself { (result ≡ 0) ↔ (member ≡ self.now.me) }
         ensures longest { result ≤ LONGEST_DISTANCE }
     {

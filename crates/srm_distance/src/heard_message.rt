@@ -1,7 +1,7 @@
 //! Session messages that were heard.
 
 ghost use Rattle.std.specs.Prelude.{◌≡◌, ◌≤◌, ℕ, Option, List, [], ◌∷◌, ◌++◌};
-ghost use Rattle.srm_distance.specs.Calls.{Call, Heard};
+ghost use Rattle.srm_distance.specs.Calls.{DistanceCall, Heard};
 
 use srm_names::{Echo, LATEST_MOMENT, Member};
 
@@ -21,7 +21,7 @@ impl HeardMessage {
     #[tactic(auto, using(crate::proofs::Steps::latest_heard, std::proofs::lemmas::Bool::Decides::nat_tests))]
     pub(crate) fn newer(kept: Option<HeardMessage>, sent: u64, now: u64) -> Option<HeardMessage>
         requires { sent ≤ LATEST_MOMENT }
-        ensures value { (calls : List Call) (b : ℕ) (echo : Option (ℕ × ℕ)) → kept ≡ latest calls b
+        ensures value { (calls : List DistanceCall) (b : ℕ) (echo : Option (ℕ × ℕ)) → kept ≡ latest calls b
             → result ≡ latest (calls ++ Heard b sent echo now ∷ []) b }
         ensures range { SentWithin kept → SentWithin result }
     {

@@ -1,7 +1,7 @@
 //! What is kept of one member.
 
 ghost use Rattle.std.specs.Prelude.{◌≡◌, ◌≤◌, ℕ, List, [], ◌∷◌, ◌++◌};
-ghost use Rattle.srm_distance.specs.Calls.{Call, Heard, Forgot};
+ghost use Rattle.srm_distance.specs.Calls.{DistanceCall, Heard, Forgot};
 
 use crate::heard_message::HeardMessage;
 use crate::limits::FIRST_DISTANCE;
@@ -37,7 +37,7 @@ impl Peer {
     /// What is kept after one more session message of the member.
     pub(crate) fn after_session(self, sent: u64, echo: Option<(u64, u64)>, now: u64) -> Peer
         requires { sent ≤ LATEST_MOMENT }
-        ensures fits { (calls : List Call) (b : ℕ) → self ≡ peer_of calls b
+        ensures fits { (calls : List DistanceCall) (b : ℕ) → self ≡ peer_of calls b
             → result ≡ peer_of (calls ++ Heard b sent echo now ∷ []) b }
         ensures range { SentWithin self.newest_message → SentWithin result.newest_message }
     {
@@ -51,7 +51,7 @@ impl Peer {
     /// What is kept after the member left.
     #[tactic(auto, using(crate::proofs::Steps::peer_of_forgot))]
     pub(crate) fn after_forget(self) -> Peer
-        ensures fits { (calls : List Call) (b : ℕ) → self ≡ peer_of calls b
+        ensures fits { (calls : List DistanceCall) (b : ℕ) → self ≡ peer_of calls b
             → result ≡ peer_of (calls ++ Forgot b ∷ []) b }
         ensures distance { result.returned ≡ self.returned }
         ensures range { SentWithin self.newest_message → SentWithin result.newest_message }

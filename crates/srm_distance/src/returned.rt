@@ -1,7 +1,7 @@
 //! Echoes that came back, and the distance that they tell.
 
 ghost use Rattle.std.specs.Prelude.{◌≡◌, ℕ, List, [], ◌∷◌, ◌++◌};
-ghost use Rattle.srm_distance.specs.Calls.{Call, Heard};
+ghost use Rattle.srm_distance.specs.Calls.{DistanceCall, Heard};
 
 use crate::limits::SHORTEST_DISTANCE;
 use srm_names::LONGEST_DISTANCE;
@@ -28,7 +28,7 @@ impl Returned {
         echo: Option<(u64, u64)>,
         now: u64,
     ) -> Option<Returned>
-        ensures { (calls : List Call) (b sent : ℕ) → kept ≡ newest calls b
+        ensures { (calls : List DistanceCall) (b sent : ℕ) → kept ≡ newest calls b
             → result ≡ newest (calls ++ Heard b sent echo now ∷ []) b }
     {
         let Some((t1, delay)) = echo else {

@@ -6,7 +6,7 @@ use Rattle.std.proofs.Math.Nat.{max-zero}
 use Rattle.srm_names.specs.Histories.{Step}
 use Rattle.srm_names.proofs.Lists.{at_parts}
 use Rattle.srm_codec.specs.declared.datagram.Datagram.{Datagram}
-use Rattle.srm_bucket.specs.Calls.{Classed, Call, Handed, Popped}
+use Rattle.srm_bucket.specs.Calls.{Classed, BucketCall, Handed, Popped}
 use Rattle.srm_bucket.specs.Tokens.{cost_of}
 use Rattle.srm_bucket.specs.Ticks.{Tick, last_moment, ticks, cost, level, IsWithin}
 use Rattle.srm_bucket.specs.Law.{BucketLaw, GoesRight as CallRight}
@@ -16,33 +16,33 @@ use Rattle.srm_entries.specs.Bucket.{pops}
 
 -- hand-ins change neither ticks nor the last moment
 
-pub handed_ticks : (calls : List (Call Datagram)) (items : List (Classed Datagram)) → ticks (calls ++ map Handed items) ≡ ticks calls
+pub handed_ticks : (calls : List (BucketCall Datagram)) (items : List (Classed Datagram)) → ticks (calls ++ map Handed items) ≡ ticks calls
 handed_ticks calls [] = ap ticks (append-nil calls)
 handed_ticks calls (i ∷ items) =
     ap ticks (sym (append_assoc calls (Handed i ∷ []) (map Handed items))) ∙ handed_ticks (calls ++ Handed i ∷ []) items ∙ ticks-same calls (Handed i) refl
 
-pub handed_last : (calls : List (Call Datagram)) (items : List (Classed Datagram)) → last_moment (calls ++ map Handed items) ≡ last_moment calls
+pub handed_last : (calls : List (BucketCall Datagram)) (items : List (Classed Datagram)) → last_moment (calls ++ map Handed items) ≡ last_moment calls
 handed_last calls [] = ap last_moment (append-nil calls)
 handed_last calls (i ∷ items) =
     ap last_moment (sym (append_assoc calls (Handed i ∷ []) (map Handed items))) ∙ handed_last (calls ++ Handed i ∷ []) items ∙ last-snoc calls (Handed i) ∙ max-zero (last_moment calls)
 
 -- what goes in a tick
 
-abbrev CallsRight : ℕ → ℕ → Step (Call Datagram) → Type 0
+abbrev CallsRight : ℕ → ℕ → Step (BucketCall Datagram) → Type 0
 CallsRight rate depth s = CallRight rate depth s.before (s.before ++ s.this ∷ []) s.this
 
 -- the law at a call
-pub law_at : (rate depth : ℕ) (calls more : List (Call Datagram)) (call : Call Datagram) → BucketLaw rate depth (calls ++ call ∷ more) → CallRight rate depth calls (calls ++ call ∷ []) call
+pub law_at : (rate depth : ℕ) (calls more : List (BucketCall Datagram)) (call : BucketCall Datagram) → BucketLaw rate depth (calls ++ call ∷ more) → CallRight rate depth calls (calls ++ call ∷ []) call
 law_at rate depth calls more call law = (at_parts (CallsRight rate depth) calls (call ∷ more) law).1.0
 
-pub pops_last : (calls : List (Call Datagram)) (now : ℕ) (goes : List (Classed Datagram)) → last_moment calls ≤ now → last_moment (calls ++ pops now goes) ≡ now
+pub pops_last : (calls : List (BucketCall Datagram)) (now : ℕ) (goes : List (Classed Datagram)) → last_moment calls ≤ now → last_moment (calls ++ pops now goes) ≡ now
 pops_last calls now [] l = last-snoc calls (Popped now None) ∙ omega arith
 pops_last calls now (i ∷ goes) l =
     let at : last_moment (calls ++ Popped now (Some i) ∷ []) ≡ max (last_moment calls) now = last-snoc calls (Popped now (Some i)) in
     ap last_moment (sym (append_assoc calls (Popped now (Some i) ∷ []) (pops now goes))) ∙ pops_last (calls ++ Popped now (Some i) ∷ []) now goes (omega arith)
 
 -- after a pop the level is lower by what went
-pub popped_level : (rate depth now : ℕ) (calls more : List (Call Datagram)) (i : Classed Datagram) → last_moment calls ≤ now → BucketLaw rate depth (calls ++ Popped now (Some i) ∷ more)
+pub popped_level : (rate depth now : ℕ) (calls more : List (BucketCall Datagram)) (i : Classed Datagram) → last_moment calls ≤ now → BucketLaw rate depth (calls ++ Popped now (Some i) ∷ more)
     → level rate depth now (ticks (calls ++ Popped now (Some i) ∷ [])) + cost (Some i) ≡ level rate depth now (ticks calls)
 popped_level rate depth now calls more i l law =
     let m : max (last_moment calls) now ≡ now = omega arith in
@@ -61,7 +61,7 @@ cost_of_items [] = 0
 cost_of_items (i ∷ items) = cost (Some i) + cost_of_items items
 
 -- after the pops of a tick it is lower by all that went
-pub pops_level : (rate depth now : ℕ) (calls : List (Call Datagram)) (goes : List (Classed Datagram)) → last_moment calls ≤ now → BucketLaw rate depth (calls ++ pops now goes)
+pub pops_level : (rate depth now : ℕ) (calls : List (BucketCall Datagram)) (goes : List (Classed Datagram)) → last_moment calls ≤ now → BucketLaw rate depth (calls ++ pops now goes)
     → level rate depth now (ticks (calls ++ pops now goes)) + cost_of_items goes ≡ level rate depth now (ticks calls)
 pops_level rate depth now calls [] l law =
     let m : max (last_moment calls) now ≡ now = omega arith in

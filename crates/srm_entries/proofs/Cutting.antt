@@ -5,7 +5,7 @@ use Rattle.std.proofs.lemmas.Grind.{flat_map-append}
 use Rattle.srm_names.specs.Histories.{steps, steps_after}
 use Rattle.srm_names.proofs.Lists.{at_parts, map-split, steps-append}
 use Rattle.srm_codec.specs.declared.datagram.Datagram.{Datagram}
-use Rattle.srm_bucket.specs.Calls.{Call}
+use Rattle.srm_bucket.specs.Calls.{BucketCall}
 use Rattle.srm_bucket.specs.Law.{BucketLaw, GoesRight as CallRight}
 use Rattle.srm_entries.specs.Configs.{Config}
 use Rattle.srm_entries.specs.declared.entry.Entry.{Entry}
@@ -16,7 +16,7 @@ pub bucket_calls-append : (me : ℕ) (us vs : List Going) → bucket_calls me (u
 bucket_calls-append me us vs = ap (flat_map (calls_by me)) (steps-append us vs) ∙ flat_map-append (calls_by me) (steps us) (steps_after us vs)
 
 -- the law holds of the calls so far
-pub law_part : (rate depth : ℕ) (calls more : List (Call Datagram)) → BucketLaw rate depth (calls ++ more) → BucketLaw rate depth calls
+pub law_part : (rate depth : ℕ) (calls more : List (BucketCall Datagram)) → BucketLaw rate depth (calls ++ more) → BucketLaw rate depth calls
 law_part rate depth calls more law = (at_parts (λ s. CallRight rate depth s.before (s.before ++ s.this ∷ []) s.this) calls more law).0
 
 bucket_part : (c : Config) (xs ys : List Entry) → BucketRight c (xs ++ ys) → BucketRight c xs

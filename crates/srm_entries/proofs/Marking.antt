@@ -13,7 +13,7 @@ use Rattle.srm_codec.specs.declared.datagram.Datagram.{Datagram}
 use Rattle.srm_codec.specs.Spelling.{length_of}
 use Rattle.srm_bucket.specs.declared.class.Class.{Class}
 use Rattle.srm_bucket.specs.declared.item.Item.{Item}
-use Rattle.srm_bucket.specs.Calls.{Classed, Call, Handed, Popped}
+use Rattle.srm_bucket.specs.Calls.{Classed, BucketCall, Handed, Popped}
 use Rattle.srm_bucket.specs.Classes.{handed_in, departed_in, handed, departed}
 use Rattle.srm_bucket.specs.Law.{BucketLaw}
 use Rattle.srm_bucket.proofs.Departing.{popping}
@@ -106,7 +106,7 @@ handed_is me class gs all =
     [] gs refl all
 
 -- in the middle of a tick: the calls before a pop
-abbrev pub calls_until : ℕ → List Going → Going → List (Classed Datagram) → List (Call Datagram)
+abbrev pub calls_until : ℕ → List Going → Going → List (Classed Datagram) → List (BucketCall Datagram)
 calls_until me before x first = bucket_calls me before ++ (map Handed (hands me before x) ++ popping x.entry.moment first)
 
 pub gone_until : (me : ℕ) (class : Class) (before : List Going) (x : Going) (first : List (Classed Datagram)) → AllByRecursion GoesAsCharged (steps before)

@@ -11,7 +11,7 @@ use Rattle.srm_codec.specs.declared.datagram.Datagram.{Datagram}
 use Rattle.srm_bucket.specs.declared.class.Class.{Class}
 use Rattle.srm_bucket.specs.declared.class.Class.TheVariants.{Shown, New, Other}
 use Rattle.srm_bucket.specs.declared.item.Item.{Item}
-use Rattle.srm_bucket.specs.Calls.{Classed, Call, Handed, Popped}
+use Rattle.srm_bucket.specs.Calls.{Classed, BucketCall, Handed, Popped}
 use Rattle.srm_bucket.specs.Classes.{rank, in_class, handed_in, departed_in, handed, departed, queued, first_of_highest, next_queued}
 use Rattle.srm_bucket.specs.Law.{BucketLaw, GoesRight as CallRight}
 use Rattle.srm_bucket.proofs.Departing.{popping, in_its_own}
@@ -31,7 +31,7 @@ new_first f x xs a e = rw (a, e) refl
 other_first : (f : Class → List (Item Datagram)) (x : Item Datagram) (xs : List (Item Datagram)) → f Shown ≡ [] → f New ≡ [] → f Other ≡ x ∷ xs → first_of_highest f ≡ Some (record { class = Other; item = x })
 other_first f x xs a b e = rw (a, b, e) refl
 
-module _ (rate depth now : ℕ) (before : List (Call Datagram)) (i : Classed Datagram) (right : CallRight rate depth before (before ++ Popped now (Some i) ∷ []) (Popped now (Some i))) where
+module _ (rate depth now : ℕ) (before : List (BucketCall Datagram)) (i : Classed Datagram) (right : CallRight rate depth before (before ++ Popped now (Some i) ∷ []) (Popped now (Some i))) where
   left_here : (k : Class) → i.class ≡ k → (rest : List (Item Datagram)) × (queued before k ≡ i.item ∷ rest)
   left_here k e =
       let (rest, whole) = right.in_order k in
@@ -60,7 +60,7 @@ module _ (rate depth now : ℕ) (before : List (Call Datagram)) (i : Classed Dat
       go Other e = let (rest, is) = left_here Other e in other_first (queued before) i.item rest (none_higher Shown (below Shown Other e (omega arith))) (none_higher New (below New Other e (omega arith))) is ∙ classed_so Other e
 
 -- as many pops after the same calls let the same go
-same_goes : (rate depth now : ℕ) (before : List (Call Datagram)) (xs ys : List (Classed Datagram)) (more others : List (Call Datagram)) → length xs ≡ length ys
+same_goes : (rate depth now : ℕ) (before : List (BucketCall Datagram)) (xs ys : List (Classed Datagram)) (more others : List (BucketCall Datagram)) → length xs ≡ length ys
     → BucketLaw rate depth (before ++ (popping now xs ++ more)) → BucketLaw rate depth (before ++ (popping now ys ++ others)) → xs ≡ ys
 same_goes rate depth now before [] [] more others e law other = refl
 same_goes rate depth now before [] (y ∷ ys) more others e law other = absurd (omega (arith, e))
@@ -80,11 +80,11 @@ length-datagrams [] = refl
 length-datagrams (x ∷ xs) = ap suc (length-datagrams xs)
 
 -- one entry
-module _ (c : Config) (before : List Going) (e : Entry) (xs ys : List (Classed Datagram)) (more others : List (Call Datagram))
+module _ (c : Config) (before : List Going) (e : Entry) (xs ys : List (Classed Datagram)) (more others : List (BucketCall Datagram))
     (right : GoesAsCharged (record { before = before; this = record { entry = e; goes = xs } })) (also : GoesAsCharged (record { before = before; this = record { entry = e; goes = ys } }))
     (law : BucketLaw c.rate c.depth (bucket_calls c.me before ++ (calls_by c.me (record { before = before; this = record { entry = e; goes = xs } }) ++ more)))
     (other : BucketLaw c.rate c.depth (bucket_calls c.me before ++ (calls_by c.me (record { before = before; this = record { entry = e; goes = ys } }) ++ others))) where
-  in_tick : (zs : List (Classed Datagram)) (rest : List (Call Datagram)) (b : Bool) → lets_go (record { before = before; this = record { entry = e; goes = zs } }) ≡ b → b ≡ true
+  in_tick : (zs : List (Classed Datagram)) (rest : List (BucketCall Datagram)) (b : Bool) → lets_go (record { before = before; this = record { entry = e; goes = zs } }) ≡ b → b ≡ true
       → bucket_calls c.me before ++ (calls_by c.me (record { before = before; this = record { entry = e; goes = zs } }) ++ rest)
       ≡ (bucket_calls c.me before ++ map Handed (handed_in_by c.me (record { before = entries_of before; this = e }))) ++ (popping e.moment zs ++ (Popped e.moment None ∷ rest))
   in_tick zs rest b q t =

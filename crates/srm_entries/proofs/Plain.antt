@@ -17,7 +17,7 @@ use Rattle.srm_codec.specs.Spelling.{sender_of, IsSpellable, is_name, is_farewel
 use Rattle.srm_bucket.specs.declared.class.Class.{Class}
 use Rattle.srm_bucket.specs.declared.class.Class.TheVariants.{Shown, New, Other}
 use Rattle.srm_bucket.specs.declared.item.Item.{Item}
-use Rattle.srm_bucket.specs.Calls.{Classed, Call, Handed, Popped}
+use Rattle.srm_bucket.specs.Calls.{Classed, BucketCall, Handed, Popped}
 use Rattle.srm_bucket.specs.Classes.{rank, handed, departed, next_queued}
 use Rattle.srm_bucket.specs.Ticks.{last_moment, ticks, cost, IsWithin}
 use Rattle.srm_bucket.specs.Law.{BucketLaw, level_at, GoesRight as CallRight}
@@ -58,10 +58,10 @@ idle_right {before} {e} q = record { same = sym q; at_ticks = whenever (not (let
 
 -- One item that is handed in, goes at the tick behind it, and nothing more does.
 
-abbrev pub handed_one : Class → Item Datagram → List (Call Datagram)
+abbrev pub handed_one : Class → Item Datagram → List (BucketCall Datagram)
 handed_one k item = Handed (record { class = k; item = item }) ∷ []
 
-abbrev pub went_one : ℕ → Class → Item Datagram → List (Call Datagram)
+abbrev pub went_one : ℕ → Class → Item Datagram → List (BucketCall Datagram)
 went_one now k item = handed_one k item ++ Popped now (Some (record { class = k; item = item })) ∷ []
 
 pub all_gone : (now : ℕ) (k : Class) (item : Item Datagram) (class : Class) → IsPrefix (departed class (went_one now k item)) (handed class (went_one now k item))

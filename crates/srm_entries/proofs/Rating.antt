@@ -11,7 +11,7 @@ use Rattle.srm_names.proofs.Lists.{at_parts}
 use Rattle.srm_names.proofs.Orders.{and_left}
 use Rattle.srm_codec.specs.declared.datagram.Datagram.{Datagram}
 use Rattle.srm_bucket.specs.declared.class.Class.{Class}
-use Rattle.srm_bucket.specs.Calls.{Classed, Call, Handed, Popped}
+use Rattle.srm_bucket.specs.Calls.{Classed, BucketCall, Handed, Popped}
 use Rattle.srm_bucket.specs.Classes.{rank, handed, queued, next_queued, first_of_highest}
 use Rattle.srm_bucket.specs.Ticks.{Tick, last_moment as last_of_calls, ticks, cost, charge, allowance, level, IsWithin}
 use Rattle.srm_bucket.specs.Law.{BucketLaw, level_at}
@@ -51,7 +51,7 @@ charged_of : (c : Config) (made : ℕ) (gs : List Going) → Marked c made gs �
 charged_of c made gs m = charged_along c made [] gs (charged_start c made) m.all m.each (went_length c gs m.all m.law) m.law
 
 -- the calls of a tick, parted at a pop
-regroup : (a b c d : List (Call Datagram)) → a ++ (b ++ (c ++ d)) ≡ (a ++ (b ++ c)) ++ d
+regroup : (a b c d : List (BucketCall Datagram)) → a ++ (b ++ (c ++ d)) ≡ (a ++ (b ++ c)) ++ d
 regroup a b c d = ap (λ w. a ++ w) (sym (append_assoc b c d)) ∙ sym (append_assoc a (b ++ c) d)
 
 tick_calls : (me : ℕ) (before : List Going) (x : Going) → lets_go (record { before = before; this = x }) ≡ true

@@ -11,7 +11,7 @@ use Rattle.srm_codec.specs.declared.datagram.Datagram.{Datagram}
 use Rattle.srm_codec.specs.declared.datagram.Datagram.TheVariants.{Data, Request, Repair, Session}
 use Rattle.srm_bucket.specs.declared.class.Class.{Class}
 use Rattle.srm_bucket.specs.declared.item.Item.{Item}
-use Rattle.srm_bucket.specs.Calls.{Classed, Call, Handed, Popped}
+use Rattle.srm_bucket.specs.Calls.{Classed, BucketCall, Handed, Popped}
 use Rattle.srm_bucket.specs.Classes.{rank, in_class, handed_in, departed_in, departed}
 use Rattle.srm_bucket.specs.Classes as bucket
 use Rattle.srm_bucket.specs.Law.{BucketLaw, GoesRight as CallRight}
@@ -81,7 +81,7 @@ handed_data me d es i h e =
     flat_map-Has (λ (x : Entry). option_to_list x.effects.drawn) d s.this es (Has-steps s [] es k) (from_step me d s i m e)
 
 -- what went, by class, was handed in
-pub went_first : (rate depth : ℕ) (calls : List (Call Datagram)) → BucketLaw rate depth calls → (class : Class) → IsPrefix (departed class calls) (bucket.handed class calls)
+pub went_first : (rate depth : ℕ) (calls : List (BucketCall Datagram)) → BucketLaw rate depth calls → (class : Class) → IsPrefix (departed class calls) (bucket.handed class calls)
 went_first rate depth calls law =
     along (λ s. CallRight rate depth s.before (s.before ++ s.this ∷ []) s.this) (λ cs. (class : Class) → IsPrefix (departed class cs) (bucket.handed class cs))
     (λ before call p right. right.in_order) [] calls (λ class. ([], refl)) law
@@ -132,14 +132,14 @@ handed_in_entry me gs class x h =
     let (s, p, q) = Has-flat_map (calls_by me) call (steps gs) k in
     by s call p (Has-append call (map Handed (handed_in_by me (record { before = entries_of s.before; this = s.this.entry }))) (if lets_go s then pops s.this.entry.moment s.this.goes else []) q) m
   where
-    never : (now : ℕ) (goes : List (Classed Datagram)) (b : Bool) (call : Call Datagram) → Has call (if b then pops now goes else []) → Has x (handed_in class call) → ⊥
+    never : (now : ℕ) (goes : List (Classed Datagram)) (b : Bool) (call : BucketCall Datagram) → Has call (if b then pops now goes else []) → Has x (handed_in class call) → ⊥
     never now goes false call h m = h
     never now goes true call h m = elim (Has-append call (map (λ (y : Classed Datagram). Popped now (Some y)) goes) (Popped now None ∷ []) h) [
       | inl l ↦ (let (y, w, e) = Has-map (λ (y : Classed Datagram). Popped now (Some y)) call goes l in subst (λ c. Has x (handed_in class c)) e m)
       | inr r ↦ elim r [ inl e ↦ subst (λ c. Has x (handed_in class c)) e m | inr f ↦ f ]
     ]
 
-    by : (s : Step Going) (call : Call Datagram) → Has s (steps gs) → Has call (map Handed (handed_in_by me (record { before = entries_of s.before; this = s.this.entry }))) ⊎ Has call (if lets_go s then pops s.this.entry.moment s.this.goes else [])
+    by : (s : Step Going) (call : BucketCall Datagram) → Has s (steps gs) → Has call (map Handed (handed_in_by me (record { before = entries_of s.before; this = s.this.entry }))) ⊎ Has call (if lets_go s then pops s.this.entry.moment s.this.goes else [])
         → Has x (handed_in class call) → (j : Classed Datagram) × Has j (handed_so_far me (entries_of gs)) × (j.item ≡ x)
     by s call p (inl l) m =
         let (j, w, e) = Has-map Handed call (handed_in_by me (record { before = entries_of s.before; this = s.this.entry })) l in

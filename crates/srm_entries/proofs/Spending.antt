@@ -9,7 +9,7 @@ use Rattle.srm_names.proofs.Lists.{Has, Has-front, Has-back}
 use Rattle.srm_names.proofs.Snoc.{along, flat_map-snoc}
 use Rattle.srm_codec.specs.declared.datagram.Datagram.{Datagram}
 use Rattle.srm_codec.specs.Spelling.{length_of}
-use Rattle.srm_bucket.specs.Calls.{Classed, Call, Handed}
+use Rattle.srm_bucket.specs.Calls.{Classed, BucketCall, Handed}
 use Rattle.srm_bucket.specs.Tokens.{cost_of}
 use Rattle.srm_bucket.specs.Ticks.{Tick, last_moment as last_of_calls, ticks, level, IsWithin}
 use Rattle.srm_bucket.specs.Law.{BucketLaw, GoesRight as CallRight}
@@ -68,24 +68,24 @@ pub record Charged (c : Config) (made : ℕ) (gs : List Going) : Type 0 where
   pub within : IsWithin c.rate c.depth (last_moment made (entries_of gs)) (ticks_of (entries_of gs))
   pub same : level c.rate c.depth (last_moment made (entries_of gs)) (ticks (bucket_calls c.me gs)) ≡ level c.rate c.depth (last_moment made (entries_of gs)) (ticks_of (entries_of gs))
 
-pub law_within : (rate depth : ℕ) (calls : List (Call Datagram)) → BucketLaw rate depth calls → IsWithin rate depth (last_of_calls calls) (ticks calls)
+pub law_within : (rate depth : ℕ) (calls : List (BucketCall Datagram)) → BucketLaw rate depth calls → IsWithin rate depth (last_of_calls calls) (ticks calls)
 law_within rate depth calls law =
-    along (λ (s : Step (Call Datagram)). CallRight rate depth s.before (s.before ++ s.this ∷ []) s.this) (λ cs. IsWithin rate depth (last_of_calls cs) (ticks cs))
+    along (λ (s : Step (BucketCall Datagram)). CallRight rate depth s.before (s.before ++ s.this ∷ []) s.this) (λ cs. IsWithin rate depth (last_of_calls cs) (ticks cs))
     (λ before call p right. right.not_too_much) [] calls tt law
 
 -- What one more entry does, with the calls and ticks of those before it, at its moment: the calls leave less by what it costs.
-pub record Spends (rate depth now price : ℕ) (calls more : List (Call Datagram)) : Type 0 where
+pub record Spends (rate depth now price : ℕ) (calls more : List (BucketCall Datagram)) : Type 0 where
   pub last : last_of_calls more ≤ now
   pub less : level rate depth now (ticks more) + price ≡ level rate depth now (ticks calls)
 
-spends_nothing : (rate depth now : ℕ) (calls : List (Call Datagram)) (items : List (Classed Datagram)) → last_of_calls calls ≤ now → Spends rate depth now 0 calls (calls ++ (map Handed items ++ []))
+spends_nothing : (rate depth now : ℕ) (calls : List (BucketCall Datagram)) (items : List (Classed Datagram)) → last_of_calls calls ≤ now → Spends rate depth now 0 calls (calls ++ (map Handed items ++ []))
 spends_nothing rate depth now calls items l =
     let same : calls ++ (map Handed items ++ []) ≡ calls ++ map Handed items = ap (λ xs. calls ++ xs) (append-nil (map Handed items)) in
     let at : last_of_calls (calls ++ (map Handed items ++ [])) ≡ last_of_calls calls = ap last_of_calls same ∙ handed_last calls items in
     let still : level rate depth now (ticks (calls ++ (map Handed items ++ []))) ≡ level rate depth now (ticks calls) = ap (level rate depth now) (ap ticks same ∙ handed_ticks calls items) in
     record { last = omega arith; less = omega arith }
 
-spends_all : (rate depth now : ℕ) (calls : List (Call Datagram)) (items goes : List (Classed Datagram)) → last_of_calls calls ≤ now → BucketLaw rate depth (calls ++ (map Handed items ++ pops now goes))
+spends_all : (rate depth now : ℕ) (calls : List (BucketCall Datagram)) (items goes : List (Classed Datagram)) → last_of_calls calls ≤ now → BucketLaw rate depth (calls ++ (map Handed items ++ pops now goes))
     → Spends rate depth now (cost_of_items goes) calls (calls ++ (map Handed items ++ pops now goes))
 spends_all rate depth now calls items goes l law =
     let split : calls ++ (map Handed items ++ pops now goes) ≡ (calls ++ map Handed items) ++ pops now goes = sym (append_assoc calls (map Handed items) (pops now goes)) in

@@ -13,7 +13,7 @@ use Rattle.srm_codec.specs.declared.datagram.Datagram.TheVariants.{Data, Request
 use Rattle.srm_codec.specs.Spelling.{length_of}
 use Rattle.srm_bucket.specs.declared.class.Class.{Class}
 use Rattle.srm_bucket.specs.declared.class.Class.TheVariants.{Shown, New, Other}
-use Rattle.srm_bucket.specs.Calls.{Classed, Call, Handed, Popped}
+use Rattle.srm_bucket.specs.Calls.{Classed, BucketCall, Handed, Popped}
 use Rattle.srm_bucket.specs.Law.{BucketLaw}
 use Rattle.srm_entries.specs.Configs.{Config}
 use Rattle.srm_entries.specs.declared.entry.Entry.{Entry}
@@ -70,15 +70,15 @@ abbrev pub lets_go : Step Going → Bool
 lets_go s = ticked s.this.entry && not (is_gone (state (entries_of s.before)))
 
 -- pops until nothing goes
-abbrev pub pops : {T : Type 0} → ℕ → List (Classed T) → List (Call T)
+abbrev pub pops : {T : Type 0} → ℕ → List (Classed T) → List (BucketCall T)
 pops now goes = map (λ i. Popped now (Some i)) goes ++ Popped now None ∷ []
 
-abbrev pub calls_by : ℕ → Step Going → List (Call Datagram)
+abbrev pub calls_by : ℕ → Step Going → List (BucketCall Datagram)
 calls_by me s =
     map Handed (handed_in_by me (record { before = entries_of s.before; this = s.this.entry }))
     ++ (if lets_go s then pops s.this.entry.moment s.this.goes else [])
 
-abbrev pub bucket_calls : ℕ → List Going → List (Call Datagram)
+abbrev pub bucket_calls : ℕ → List Going → List (BucketCall Datagram)
 bucket_calls me gs = flat_map (calls_by me) (steps gs)
 
 abbrev pub datagrams_of : List (Classed Datagram) → List Datagram

@@ -11,7 +11,7 @@ use Rattle.srm_codec.specs.declared.datagram.Datagram.TheVariants.{Data, Request
 use Rattle.srm_codec.specs.Spelling.{bits_set, length_of}
 use Rattle.srm_bucket.specs.declared.class.Class.{Class}
 use Rattle.srm_bucket.specs.declared.class.Class.TheVariants.{Shown, New, Other}
-use Rattle.srm_bucket.specs.Calls.{Classed, Call, Handed, Popped}
+use Rattle.srm_bucket.specs.Calls.{Classed, BucketCall, Handed, Popped}
 use Rattle.srm_bucket.specs.Classes.{rank, departed}
 use Rattle.srm_bucket.specs.Classes as bucket
 use Rattle.srm_bucket.specs.Law.{may_go, GoesRight as CallRight}
@@ -192,16 +192,16 @@ answers_first : calls_by 0 (record { before = draws_full 1 ∷ []; this = record
 answers_first = refl
 
 -- the bucket's law at the leaver's first tick
-abbrev handed_one : List (Call Datagram)
+abbrev handed_one : List (BucketCall Datagram)
 handed_one = Handed (data_of 1) ∷ []
 
-abbrev handed_two : List (Call Datagram)
+abbrev handed_two : List (BucketCall Datagram)
 handed_two = Handed (data_of 1) ∷ Handed (data_of 2) ∷ []
 
-abbrev popped_one : List (Call Datagram)
+abbrev popped_one : List (BucketCall Datagram)
 popped_one = handed_two ++ Popped 10 (Some (data_of 1)) ∷ []
 
-abbrev popped_two : List (Call Datagram)
+abbrev popped_two : List (BucketCall Datagram)
 popped_two = popped_one ++ Popped 10 None ∷ []
 
 bucket_holds : BucketRight (in_roster 0 1 1051) (entries_of (take 3 two_going))

@@ -10,7 +10,7 @@ use Rattle.srm_names.specs.Histories.{Step, steps}
 use Rattle.srm_names.specs.Names.{first_page, named, names_up_to}
 use Rattle.srm_codec.specs.declared.datagram.Datagram.{Datagram}
 use Rattle.srm_codec.specs.declared.datagram.Datagram.TheVariants.{Data, Request}
-use Rattle.srm_bucket.specs.Calls.{Classed, Call, Handed, Refilled, Popped}
+use Rattle.srm_bucket.specs.Calls.{Classed, BucketCall, Handed, Refilled, Popped}
 use Rattle.srm_bucket.specs.Law.{may_go}
 use Rattle.srm_timers.specs.declared.arm.Arm.{Arm}
 use Rattle.srm_timers.specs.declared.arm.ArmKind.TheVariants.{Ask, Fix}
@@ -120,12 +120,12 @@ abbrev pub at_each : {X : Type 0} → (Step Entry → X) → List Entry → List
 at_each f es = map f (steps es)
 
 -- what the bucket lets go in a call: something or nothing in a pop
-abbrev pub popped : Config → List (Call Datagram) → Call Datagram → List (Option (Classed Datagram))
+abbrev pub popped : Config → List (BucketCall Datagram) → BucketCall Datagram → List (Option (Classed Datagram))
 popped k before (Handed item) = []
 popped k before (Refilled now) = []
 popped k before (Popped now went) = may_go k.rate k.depth before now ∷ []
 
-abbrev pub pop_at : Config → Step (Call Datagram) → List (Option (Classed Datagram))
+abbrev pub pop_at : Config → Step (BucketCall Datagram) → List (Option (Classed Datagram))
 pop_at k s = popped k s.before s.this
 
 -- what the bucket lets go, pop by pop

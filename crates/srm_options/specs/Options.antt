@@ -4,6 +4,6 @@ use Rattle.srm_names.specs.declared.limits.TheConstants.{LATEST_MOMENT}
 use Rattle.srm_options.specs.declared.node_options.NodeOptions.{NodeOptions}
 
 -- each member has an address and nobody else has, and the member leaves in time; all else is in its range as settings always are
-pub record IsInRange (o : NodeOptions) : Type 0 where
+pub record AreInRange (o : NodeOptions) : Type 0 where
   pub members : vec_len o.addresses ≡ o.config.members
   pub stay : o.stay ≤ LATEST_MOMENT

@@ -1,7 +1,7 @@
 //! The command line of `srm node`.
 
 ghost use Rattle.std.specs.Prelude.{IfOk};
-ghost use Rattle.srm_options.specs.Options.{IsInRange};
+ghost use Rattle.srm_options.specs.Options.{AreInRange};
 
 use crate::help::{NODE, NODE_MORE};
 use crate::mistake::Mistake;
@@ -24,7 +24,7 @@ const TURNS: u64 = 1_000_000;
 
 /// Reads the arguments behind `srm node`.
 pub fn read_node<'a>(alloc: Global, arguments: &'a [&'a str]) -> Result<NodeOptions, Reply>
-    ensures { IfOk result IsInRange }
+    ensures { IfOk result AreInRange }
 {
     let mut command = node_command(alloc)?;
     let matches = command.try_get_matches_from_mut(arguments)?;

@@ -1,7 +1,7 @@
 //! What a command line of `srm node` says.
 
 ghost use Rattle.std.specs.Prelude.{◌↔◌, IsTrue};
-ghost use Rattle.srm_options.specs.Options.{IsInRange};
+ghost use Rattle.srm_options.specs.Options.{AreInRange};
 
 use srm_entries::Config;
 use srm_names::LATEST_MOMENT;
@@ -27,7 +27,7 @@ pub struct NodeOptions {
 impl NodeOptions {
     /// Whether each member has an address and nobody else has, and the member leaves in time.
     pub fn is_in_range(&self) -> bool
-        ensures { IsTrue result ↔ IsInRange self.now }
+        ensures { IsTrue result ↔ AreInRange self.now }
     {
         self.addresses.len() == usize::from(self.config.members()) && self.stay <= LATEST_MOMENT
     }

@@ -7,10 +7,10 @@ use Rattle.srm_names.proofs.Lists.{AllByRecursion-parts, AllByRecursion-append}
 use Rattle.srm_bucket.specs.declared.class.Class.{Class}
 use Rattle.srm_bucket.specs.declared.class.Class.TheVariants.{Shown, New, Other}
 use Rattle.srm_bucket.specs.declared.item.Item.{Item}
-use Rattle.srm_bucket.specs.Calls.{Classed, Call, Handed, Popped}
+use Rattle.srm_bucket.specs.Calls.{Classed, BucketCall, Handed, Popped}
 use Rattle.srm_bucket.specs.Classes.{rank, in_class}
-use Rattle.srm_bucket.specs.Content.{Content as BucketContent}
-use Rattle.srm_bucket.specs.Fits.{Fits, Adds, Pops}
+use Rattle.srm_bucket.specs.Content.{BucketContent}
+use Rattle.srm_bucket.specs.Fits.{BucketFits, BucketAdds, Pops}
 use Rattle.srm_bucket.specs.Law.{may_go}
 use Rattle.srm_bucket.specs.Waiting.{Waiting, HasLength, Gains, TakesNext, queue, next_in, count_of}
 use Rattle.srm_bucket.proofs.Departing.{popping, in_its_own}
@@ -48,15 +48,15 @@ count-of-class Other item old new h = omega (arith, ap length (h Shown), ap leng
 
 pub hands_nothing : (b : BucketContent Outgoing) → HandsIn [] b b
 hands_nothing b = record {
-  fits = λ rate depth calls f. subst (λ cs. Fits rate depth cs b) (sym (append-nil calls)) f;
+  fits = λ rate depth calls f. subst (λ cs. BucketFits rate depth cs b) (sym (append-nil calls)) f;
   own = λ me session own all. own;
   count = omega arith;
 }
 
-hands_more : (done : List DueItem) (a : DueItem) (old now new : BucketContent Outgoing) → HandsIn done old now → Adds (Handed (classed_of a)) now new → Gains (classed_of a) now.waiting new.waiting → HandsIn (done ++ a ∷ []) old new
+hands_more : (done : List DueItem) (a : DueItem) (old now new : BucketContent Outgoing) → HandsIn done old now → BucketAdds (Handed (classed_of a)) now new → Gains (classed_of a) now.waiting new.waiting → HandsIn (done ++ a ∷ []) old new
 hands_more done a old now new h adds gains = record {
   fits = λ rate depth calls f.
-      subst (λ cs. Fits rate depth cs new) (append_assoc calls (map Handed (map classed_of done)) (Handed (classed_of a) ∷ []) ∙ ap (λ cs. calls ++ cs) (sym (ap (map Handed) (map-append classed_of done (a ∷ [])) ∙ map-append Handed (map classed_of done) (classed_of a ∷ []))))
+      subst (λ cs. BucketFits rate depth cs new) (append_assoc calls (map Handed (map classed_of done)) (Handed (classed_of a) ∷ []) ∙ ap (λ cs. calls ++ cs) (sym (ap (map Handed) (map-append classed_of done (a ∷ [])) ∙ map-append Handed (map classed_of done) (classed_of a ∷ []))))
       (adds.fits rate depth (calls ++ map Handed (map classed_of done)) (h.fits rate depth calls f));
   own = λ me session own all. (let k = AllByRecursion-parts (λ (x : DueItem). IsOwn me session x.item.value) done (a ∷ []) all in
       own_behind me session (classed_of a) now.waiting new.waiting (h.own me session own k.0) gains k.1.0);
@@ -75,7 +75,7 @@ pub record HandedSoFar (due_items left : List DueItem) (old now : BucketContent 
 pub handing_begins : (due_items : List DueItem) (b : BucketContent Outgoing) → AllByRecursion (λ a. HasLength a.item) due_items → length due_items ≤ b.waiting.room → HandedSoFar due_items due_items b b
 handing_begins due_items b lengths room = record { done = []; split = refl; hands = hands_nothing b; lengths = lengths; room = room }
 
-pub handing_goes_on : (due_items left rest : List DueItem) (a : DueItem) (old now new : BucketContent Outgoing) → left ≡ a ∷ rest → HandedSoFar due_items left old now → Adds (Handed (classed_of a)) now new → Gains (classed_of a) now.waiting new.waiting
+pub handing_goes_on : (due_items left rest : List DueItem) (a : DueItem) (old now new : BucketContent Outgoing) → left ≡ a ∷ rest → HandedSoFar due_items left old now → BucketAdds (Handed (classed_of a)) now new → Gains (classed_of a) now.waiting new.waiting
     → now.waiting.room ≤ new.waiting.room + 1 → HandedSoFar due_items rest old new
 handing_goes_on due_items left rest a old now new e h adds gains room = record {
   done = h.done ++ a ∷ [];
@@ -96,16 +96,16 @@ handing_ends due_items left old now e h = subst (λ as_. HandsIn as_ old now) (s
 
 -- letting go
 
-pub record Going (rate depth now : ℕ) (calls : List (Call Outgoing)) (items : List Outgoing) (b : BucketContent Outgoing) : Type 0 where
+pub record Going (rate depth now : ℕ) (calls : List (BucketCall Outgoing)) (items : List Outgoing) (b : BucketContent Outgoing) : Type 0 where
   pub goes : List (Classed Outgoing)
   pub items_are : map (λ i. i.item.value) goes ≡ items
-  pub fits : Fits rate depth (calls ++ popping now goes) b
+  pub fits : BucketFits rate depth (calls ++ popping now goes) b
 
 pub record WentSoFar (now : ℕ) (old b : BucketContent Outgoing) (went : WentContent) : Type 0 where
   pub items : List Outgoing
   pub outs : went.outs ≡ map (λ o. o.out) items
   pub noted : went.noted ≡ map (λ o. o.noted) items
-  pub fits : (rate depth : ℕ) (calls : List (Call Outgoing)) → Fits rate depth calls old → Going rate depth now calls items b
+  pub fits : (rate depth : ℕ) (calls : List (BucketCall Outgoing)) → BucketFits rate depth calls old → Going rate depth now calls items b
   pub own : (me session : ℕ) → AreOwn me session old.waiting → AllByRecursion (IsOwn me session) items
   pub left : (me session : ℕ) → AreOwn me session old.waiting → AreOwn me session b.waiting
   pub room : count_of b.waiting < went.room
@@ -115,7 +115,7 @@ going_begins now b went none room = record {
   items = [];
   outs = none.outs;
   noted = none.noted;
-  fits = λ rate depth calls f. record { goes = []; items_are = refl; fits = subst (λ cs. Fits rate depth cs b) (sym (append-nil calls)) f };
+  fits = λ rate depth calls f. record { goes = []; items_are = refl; fits = subst (λ cs. BucketFits rate depth cs b) (sym (append-nil calls)) f };
   own = λ me session own. tt;
   left = λ me session own. own;
   room = room;
@@ -125,14 +125,14 @@ popped_is : (item : Item Outgoing) (o : Option (Classed Outgoing)) → Some item
 popped_is item None e = absurd (cc)
 popped_is item (Some c) e = (c, refl, cc)
 
-pops_one : (rate depth now : ℕ) (calls : List (Call Outgoing)) (items : List Outgoing) (b new : BucketContent Outgoing) (item : Item Outgoing) → Going rate depth now calls items b → Pops now b (Some item) new → Going rate depth now calls (items ++ item.value ∷ []) new
+pops_one : (rate depth now : ℕ) (calls : List (BucketCall Outgoing)) (items : List Outgoing) (b new : BucketContent Outgoing) (item : Item Outgoing) → Going rate depth now calls items b → Pops now b (Some item) new → Going rate depth now calls (items ++ item.value ∷ []) new
 pops_one rate depth now calls items b new item g pops =
     let (c, is, same) = popped_is item (may_go rate depth (calls ++ popping now g.goes) now) (pops.value rate depth (calls ++ popping now g.goes) g.fits) in
     record {
       goes = g.goes ++ c ∷ [];
       items_are = map-append (λ (i : Classed Outgoing). i.item.value) g.goes (c ∷ []) ∙ ap (λ xs. xs ++ c.item.value ∷ []) g.items_are ∙ ap (λ (i : Item Outgoing). items ++ i.value ∷ []) same;
-      fits = subst (λ cs. Fits rate depth cs new) (append_assoc calls (popping now g.goes) (Popped now (Some c) ∷ []) ∙ ap (λ cs. calls ++ cs) (sym (map-append (λ (i : Classed Outgoing). Popped now (Some i)) g.goes (c ∷ []))))
-          (subst (λ o. Fits rate depth ((calls ++ popping now g.goes) ++ Popped now o ∷ []) new) is (pops.fits rate depth (calls ++ popping now g.goes) g.fits));
+      fits = subst (λ cs. BucketFits rate depth cs new) (append_assoc calls (popping now g.goes) (Popped now (Some c) ∷ []) ∙ ap (λ cs. calls ++ cs) (sym (map-append (λ (i : Classed Outgoing). Popped now (Some i)) g.goes (c ∷ []))))
+          (subst (λ o. BucketFits rate depth ((calls ++ popping now g.goes) ++ Popped now o ∷ []) new) is (pops.fits rate depth (calls ++ popping now g.goes) g.fits));
     }
 
 -- what is taken is among what waited
@@ -178,8 +178,8 @@ going_ends now old b new went h pops takes = record {
       record {
         goes = g.goes;
         items_are = g.items_are;
-        fits = subst (λ cs. Fits rate depth cs new) (append_assoc calls (popping now g.goes) (Popped now None ∷ []))
-            (subst (λ o. Fits rate depth ((calls ++ popping now g.goes) ++ Popped now o ∷ []) new) is (pops.fits rate depth (calls ++ popping now g.goes) g.fits));
+        fits = subst (λ cs. BucketFits rate depth cs new) (append_assoc calls (popping now g.goes) (Popped now None ∷ []))
+            (subst (λ o. BucketFits rate depth ((calls ++ popping now g.goes) ++ Popped now o ∷ []) new) is (pops.fits rate depth (calls ++ popping now g.goes) g.fits));
       });
   own = h.own;
   left = λ me session own. record { each = λ class. subst (AllByRecursion (λ i. IsOwn me session i.value)) (sym (takes class)) ((h.left me session own).each class) };
@@ -189,10 +189,10 @@ going_ends now old b new went h pops takes = record {
 -- a pop at a moment at which nothing may go
 pub pop_passes : (now : ℕ) (old new : BucketContent Outgoing) (answer : Option (Item Outgoing)) → Pops now old answer new → TakesNext old.waiting answer new.waiting → Passes now old new
 pop_passes now old new None pops takes = record {
-  fits = λ rate depth calls h none. subst (λ o. Fits rate depth (calls ++ Popped now o ∷ []) new) none (pops.fits rate depth calls h);
+  fits = λ rate depth calls h none. subst (λ o. BucketFits rate depth (calls ++ Popped now o ∷ []) new) none (pops.fits rate depth calls h);
   left = λ me session own. record { each = λ class. subst (AllByRecursion (λ i. IsOwn me session i.value)) (sym (takes class)) (own.each class) };
 }
 pop_passes now old new (Some item) pops takes = record {
-  fits = λ rate depth calls h none. subst (λ o. Fits rate depth (calls ++ Popped now o ∷ []) new) none (pops.fits rate depth calls h);
+  fits = λ rate depth calls h none. subst (λ o. BucketFits rate depth (calls ++ Popped now o ∷ []) new) none (pops.fits rate depth calls h);
   left = λ me session own. record { each = remaining (λ i. IsOwn me session i.value) old.waiting new.waiting item takes own.each };
 }

@@ -13,7 +13,7 @@ use Rattle.srm_codec.specs.Spelling.{is_drawop}
 use Rattle.srm_names.proofs.Lists.{All-Has, find-Has, AllByRecursion-append}
 use Rattle.srm_store.specs.Held.{held_at, has_name}
 use Rattle.srm_store.specs.Finals.{Settling}
-use Rattle.srm_store.specs.Fits.{Fits}
+use Rattle.srm_store.specs.Fits.{StoreFits}
 use Rattle.srm_store.specs.Stores.{StoreContent}
 use Rattle.srm_bucket.specs.Mapping.{read_classed}
 use Rattle.srm_bucket.specs.Waiting.{HasLength}
@@ -32,7 +32,7 @@ spellable_at held n all = go (held_at held n) refl
 
 -- A loop has added the repairs of some of the names.
 pub record RepairedSoFar (me : ℕ) (s : StoreContent) (requests : List Datagram) (names : List FullName) (datagrams : List Datagram) : Type 0 where
-  pub value : (held : List Drawop) (evidence : List FullName) (settled : List Settling) → Fits held evidence settled s → AllByRecursion is_drawop held
+  pub value : (held : List Drawop) (evidence : List FullName) (settled : List Settling) → StoreFits held evidence settled s → AllByRecursion is_drawop held
       → datagrams ≡ requests ++ filter_map (λ n. option_map (Repair me) (held_at held n)) names
   pub each : AllByRecursion (MayHandIn me) datagrams
 
@@ -40,7 +40,7 @@ pub repairing_begins : (me : ℕ) (s : StoreContent) (requests datagrams : List 
 repairing_begins me s requests datagrams e all = record { value = λ held evidence settled fits spellable. e ∙ sym (append-nil requests); each = all }
 
 pub repairing_goes_on : (me : ℕ) (s : StoreContent) (requests : List Datagram) (names : List FullName) (i : ℕ) (n : FullName) (datagrams : List Datagram) (here : Option Drawop) (o : Option Datagram) → i < length names → n ≡ get_or names i n
-    → ((held : List Drawop) (evidence : List FullName) (settled : List Settling) → Fits held evidence settled s → here ≡ held_at held n) → (IfSome here is_drawop → o ≡ option_map (Repair me) here) → IfSome o (MayHandIn me)
+    → ((held : List Drawop) (evidence : List FullName) (settled : List Settling) → StoreFits held evidence settled s → here ≡ held_at held n) → (IfSome here is_drawop → o ≡ option_map (Repair me) here) → IfSome o (MayHandIn me)
     → RepairedSoFar me s requests (take i names) datagrams → RepairedSoFar me s requests (take (i + 1) names) (datagrams ++ option_to_list o)
 repairing_goes_on me s requests names i n datagrams here o lt at there is fine h = record {
   value = λ held evidence settled fits spellable.

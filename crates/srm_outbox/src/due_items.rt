@@ -10,7 +10,7 @@ ghost use Rattle.srm_codec.specs.declared.datagram.Datagram.TheVariants.{Repair}
 ghost use Rattle.srm_codec.specs.Spelling.{is_drawop, length_of};
 ghost use Rattle.srm_store.specs.Held.{held_at};
 ghost use Rattle.srm_store.specs.Finals.{Settling};
-ghost use Rattle.srm_store.specs.Fits.{Fits};
+ghost use Rattle.srm_store.specs.Fits.{StoreFits};
 ghost use Rattle.srm_bucket.specs.Waiting.{IsLength};
 ghost use Rattle.srm_entries.specs.Bucket.{class_for, page_of};
 ghost use Rattle.srm_entries.specs.Packing.{packed};
@@ -42,7 +42,7 @@ pub fn requests_and_repairs(
     fixes: &[Name],
 ) -> Result<VecDeque<Datagram>, AllocError>
     requires { ascending name_below asks.now ≡ true }
-    ensures value { IfOk result (λ datagrams. (held : List ADrawop) (evidence : List FullName) (settled : List Settling) → Fits held evidence settled store.now → AllByRecursion is_drawop held
+    ensures value { IfOk result (λ datagrams. (held : List ADrawop) (evidence : List FullName) (settled : List Settling) → StoreFits held evidence settled store.now → AllByRecursion is_drawop held
         → datagrams.items ≡ packed me asks.now ++ filter_map (λ n. option_map (Repair me) (held_at held n)) fixes.now) }
     ensures each { IfOk result (λ datagrams. AllByRecursion (MayHandIn me) datagrams.items) }
 {

@@ -10,7 +10,7 @@ use Rattle.srm_world.specs.Traces.{Trace}
 use Rattle.srm_world.specs.Events.{IsEntryOf, required_input}
 use Rattle.srm_picture.specs.declared.arrow.Arrival.{Arrival}
 use Rattle.srm_picture.specs.Arrows.{AreArrivals}
-use Rattle.srm_played.specs.Plays.{Content, Plays, PlaysOne, added, came, delivered_number}
+use Rattle.srm_played.specs.Plays.{PlayedContent, Plays, PlaysOne, added, came, delivered_number}
 use Rattle.srm_played.proofs.Coming.{right_more}
 
 none_added : (es : List Entry) → added es es ≡ []
@@ -44,14 +44,14 @@ right_after old new event hs heard one all = which (required_input old.starts ol
         (subst (λ es. AreArrivals es (hs ++ came (delivered_number event) (length old.entries, e))) (sym grown) (right_more old.starts old.entries event e hs (a ∙ ap Some (sym is.input_is)) all))
 
 -- whatever the events that are left come to from here, all events come to from the beginning
-pub record Reaches (begun : Content) (events : List Event) (now : Content) (left : List Event) : Type 0 where
-  pub goes_on : (end : Content) → Plays now left end → Plays begun events end
+pub record Reaches (begun : PlayedContent) (events : List Event) (now : PlayedContent) (left : List Event) : Type 0 where
+  pub goes_on : (end : PlayedContent) → Plays now left end → Plays begun events end
 
-pub reaches_none : (begun : Content) (events : List Event) → Reaches begun events begun events
+pub reaches_none : (begun : PlayedContent) (events : List Event) → Reaches begun events begun events
 reaches_none begun events = record { goes_on = λ end plays. plays }
 
-pub reaches_more : (begun between new : Content) (events left : List Event) (event : Event) → Reaches begun events between (event ∷ left) → PlaysOne between event new → Reaches begun events new left
+pub reaches_more : (begun between new : PlayedContent) (events left : List Event) (event : Event) → Reaches begun events between (event ∷ left) → PlaysOne between event new → Reaches begun events new left
 reaches_more begun between new events left event so_far one = record { goes_on = λ end plays. so_far.goes_on end (new, one, plays) }
 
-pub reaches_all : (begun now : Content) (events : List Event) → Reaches begun events now [] → Plays begun events now
+pub reaches_all : (begun now : PlayedContent) (events : List Event) → Reaches begun events now [] → Plays begun events now
 reaches_all begun now events so_far = so_far.goes_on now refl

@@ -1,9 +1,9 @@
 -- Scripts that were played.
 use Rattle.srm_picture.specs.Arrows.{AreArrivals}
 use Rattle.srm_played.specs.declared.played.Played.TheInside.{Inside}
-use Rattle.srm_played.specs.Plays.{Content}
+use Rattle.srm_played.specs.Plays.{PlayedContent}
 
-abbrev pub content_of : Inside → Content
+abbrev pub content_of : Inside → PlayedContent
 content_of p = record { trace = p.world.trace; arrivals = p.arrivals.items }
 
 -- each hearing is right

@@ -12,12 +12,12 @@ use Rattle.srm_picture.specs.ByEntry.{point_of}
 use Rattle.srm_picture.specs.Arrows.{is_done}
 
 -- what happened, and which datagrams came in which entries
-pub record Content : Type 0 where
+pub record PlayedContent : Type 0 where
   pub trace : Trace
   pub arrivals : List Arrival
 
 -- members that began so, and did nothing yet
-abbrev pub unplayed : List Start → Content
+abbrev pub unplayed : List Start → PlayedContent
 unplayed starts = record { trace = record { starts = starts; entries = [] }; arrivals = [] }
 
 -- the number of the datagram that an event delivers
@@ -38,12 +38,12 @@ abbrev pub added : List Entry → List Entry → List (ℕ × Entry)
 added old new = enumerate_from (length old) (drop (length old) new)
 
 -- an event: the trace goes on as that of a world, and what came in the entry that was added, if one was, is noted
-pub record PlaysOne (old : Content) (event : Event) (new : Content) : Type 0 where
+pub record PlaysOne (old : PlayedContent) (event : Event) (new : PlayedContent) : Type 0 where
   pub starts : new.trace.starts ≡ old.trace.starts
   pub follows : FollowsOne old.trace.starts old.trace.entries event new.trace.entries
   pub arrivals : new.arrivals ≡ old.arrivals ++ flat_map (came (delivered_number event)) (added old.trace.entries new.trace.entries)
 
 -- events in order
-abbrev pub Plays : Content → List Event → Content → Type 0
+abbrev pub Plays : PlayedContent → List Event → PlayedContent → Type 0
 Plays old [] new = new ≡ old
-Plays old (event ∷ events) new = (between : Content) × PlaysOne old event between × Plays between events new
+Plays old (event ∷ events) new = (between : PlayedContent) × PlaysOne old event between × Plays between events new

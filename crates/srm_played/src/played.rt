@@ -27,10 +27,10 @@ pub struct Played {
 }
 
 impl Model for Played {
-    ghost use Rattle.srm_played.specs.Plays.{Content};
+    ghost use Rattle.srm_played.specs.Plays.{PlayedContent};
     ghost use Rattle.srm_played.specs.Played.{content_of, IsPlayed};
 
-    ghost Value = { Content };
+    ghost Value = { PlayedContent };
 
     ghost view = { content_of };
 

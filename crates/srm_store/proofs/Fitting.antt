@@ -25,7 +25,7 @@ use Rattle.srm_store.specs.PageTables.{is_in, each_once}
 use Rattle.srm_store.specs.Tables.{TableContent, places_of_stream, drawop_in_table, IsNewTable, SameTable, TableGains, TableLearns}
 use Rattle.srm_store.specs.Stores.{StoreContent}
 use Rattle.srm_store.specs.Rooms.{RoomContent}
-use Rattle.srm_store.specs.Fits.{Fits, StoreStays}
+use Rattle.srm_store.specs.Fits.{StoreFits, StoreStays}
 use Rattle.srm_store.proofs.Placing.{place_at-blank}
 use Rattle.srm_store.proofs.Slots.{is_in-with_page}
 use Rattle.srm_store.proofs.Pages.{length-included, each_once-firsts, is_in-firsts, once_with}
@@ -124,14 +124,14 @@ pages_shown inserted evidence n p =
     ∙ sym (or_assoc (same_page first_page p) (is_in (map page_of_drawop inserted ++ map page_of_name evidence) p) (same_page n.stream.page p))
 
 -- as many pages were named as the table has
-pub count_named : {inserted : List Drawop} {evidence : List FullName} {settled : List Settling} {s : StoreContent} → Fits inserted evidence settled s → length (firsts same_page (pages_named inserted evidence)) ≡ length s.table.pages
+pub count_named : {inserted : List Drawop} {evidence : List FullName} {settled : List Settling} {s : StoreContent} → StoreFits inserted evidence settled s → length (firsts same_page (pages_named inserted evidence)) ≡ length s.table.pages
 count_named {inserted} {evidence} {s = s} h =
     let up = length-included s.table.pages (firsts same_page (pages_named inserted evidence)) h.once (λ q there. is_in-firsts (pages_named inserted evidence) q ∙ sym (h.pages q) ∙ there) in
     let down = length-included (firsts same_page (pages_named inserted evidence)) s.table.pages (each_once-firsts (pages_named inserted evidence)) (λ q there. h.pages q ∙ sym (is_in-firsts (pages_named inserted evidence) q) ∙ there) in
     omega arith
 
 -- the calls
-pub fits_new : (t : TableContent) (f : FinalsContent) (s : StoreContent) → s.table ≡ t → s.finals ≡ f → IsNewTable t → ((m : ℕ) → rows_kept f m ≡ None) → Fits [] [] [] s
+pub fits_new : (t : TableContent) (f : FinalsContent) (s : StoreContent) → s.table ≡ t → s.finals ≡ f → IsNewTable t → ((m : ℕ) → rows_kept f m ≡ None) → StoreFits [] [] [] s
 fits_new t f s ts fs new none = record {
   pages = λ p. ap (λ (x : TableContent). is_in x.pages p) ts ∙ ap (λ ps. is_in ps p) new.pages;
   once = ap (λ (x : TableContent). each_once x.pages) ts ∙ ap each_once new.pages;
@@ -140,8 +140,8 @@ fits_new t f s ts fs new none = record {
   rows = λ m. ap (λ x. rows_kept x m) fs ∙ none m;
 }
 
-module _ {inserted : List Drawop} {evidence : List FullName} {settled : List Settling} (old new : StoreContent) (h : Fits inserted evidence settled old) where
-  pub fits_gains : (d : Drawop) → TableGains d old.table new.table → new.finals ≡ old.finals → Fits (inserted ++ d ∷ []) evidence settled new
+module _ {inserted : List Drawop} {evidence : List FullName} {settled : List Settling} (old new : StoreContent) (h : StoreFits inserted evidence settled old) where
+  pub fits_gains : (d : Drawop) → TableGains d old.table new.table → new.finals ≡ old.finals → StoreFits (inserted ++ d ∷ []) evidence settled new
   fits_gains d g f = record {
     pages = λ p. ap (λ ps. is_in ps p) g.pages ∙ is_in-with_page old.table.pages d.name.stream.page p ∙ ap (λ b. b || same_page d.name.stream.page p) (h.pages p) ∙ sym (pages_inserted inserted evidence d p);
     once = ap each_once g.pages ∙ once_with old.table.pages d.name.stream.page h.once;
@@ -150,7 +150,7 @@ module _ {inserted : List Drawop} {evidence : List FullName} {settled : List Set
     rows = λ m. ap (λ x. rows_kept x m) f ∙ h.rows m;
   }
 
-  pub fits_learns : (a : FullName) → TableLearns a old.table new.table → new.finals ≡ old.finals → Fits inserted (evidence ++ a ∷ []) settled new
+  pub fits_learns : (a : FullName) → TableLearns a old.table new.table → new.finals ≡ old.finals → StoreFits inserted (evidence ++ a ∷ []) settled new
   fits_learns a g f = record {
     pages = λ p. ap (λ ps. is_in ps p) g.pages ∙ is_in-with_page old.table.pages a.stream.page p ∙ ap (λ b. b || same_page a.stream.page p) (h.pages p) ∙ sym (pages_shown inserted evidence a p);
     once = ap each_once g.pages ∙ once_with old.table.pages a.stream.page h.once;
@@ -159,7 +159,7 @@ module _ {inserted : List Drawop} {evidence : List FullName} {settled : List Set
     rows = λ m. ap (λ x. rows_kept x m) f ∙ h.rows m;
   }
 
-  pub fits_same : SameTable old.table new.table → SameFinals old.finals new.finals → Fits inserted evidence settled new
+  pub fits_same : SameTable old.table new.table → SameFinals old.finals new.finals → StoreFits inserted evidence settled new
   fits_same t f = record {
     pages = λ p. ap (λ ps. is_in ps p) t.pages ∙ h.pages p;
     once = ap each_once t.pages ∙ h.once;
@@ -168,7 +168,7 @@ module _ {inserted : List Drawop} {evidence : List FullName} {settled : List Set
     rows = λ m. f.each m ∙ h.rows m;
   }
 
-  pub fits_settled : (member : ℕ) (rows : List FullName) → new.table ≡ old.table → Settles member rows old.finals new.finals → Fits inserted evidence (settled ++ record { member = member; rows = rows } ∷ []) new
+  pub fits_settled : (member : ℕ) (rows : List FullName) → new.table ≡ old.table → Settles member rows old.finals new.finals → StoreFits inserted evidence (settled ++ record { member = member; rows = rows } ∷ []) new
   fits_settled member rows t f = record {
     pages = λ p. ap (λ (x : TableContent). is_in x.pages p) t ∙ h.pages p;
     once = ap (λ (x : TableContent). each_once x.pages) t ∙ h.once;

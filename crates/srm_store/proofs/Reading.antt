@@ -17,7 +17,7 @@ use Rattle.srm_store.specs.Places.{place_at, FilledTo}
 use Rattle.srm_store.specs.StreamPlaces.{StreamContent, unheld_in_stream}
 use Rattle.srm_store.specs.Tables.{TableContent, places_of_stream}
 use Rattle.srm_store.specs.Stores.{StoreContent}
-use Rattle.srm_store.specs.Fits.{Fits}
+use Rattle.srm_store.specs.Fits.{StoreFits}
 
 -- The places of a stream, read from the table of a store.
 pub record Reads (s : StoreContent) (u : Stream) (content : StreamContent) : Type 0 where
@@ -26,7 +26,7 @@ pub record Reads (s : StoreContent) (u : Stream) (content : StreamContent) : Typ
   pub row_is : content ≡ places_of_stream table u
   pub source : u.source < MEMBERS
 
-module _ {inserted : List Drawop} {evidence : List FullName} {settled : List Settling} {s : StoreContent} (h : Fits inserted evidence settled s) {u : Stream} {content : StreamContent} (r : Reads s u content) where
+module _ {inserted : List Drawop} {evidence : List FullName} {settled : List Settling} {s : StoreContent} (h : StoreFits inserted evidence settled s) {u : Stream} {content : StreamContent} (r : Reads s u content) where
   row_here : content ≡ places_of_stream s.table u
   row_here = r.row_is ∙ ap (λ t. places_of_stream t u) r.is
 
@@ -55,11 +55,11 @@ module _ {inserted : List Drawop} {evidence : List FullName} {settled : List Set
       ∙ ap (λ v. unheld inserted (names_after v (known evidence v) (n.number - known evidence v))) stream
 
 -- the names that a stream doesn't hold, from its first number on, and from the first that wasn't known
-pub missing_is : {inserted : List Drawop} {evidence : List FullName} {settled : List Settling} {s : StoreContent} (names : List FullName) (u : Stream) (table : TableContent) (last : ℕ) → Fits inserted evidence settled s
+pub missing_is : {inserted : List Drawop} {evidence : List FullName} {settled : List Settling} {s : StoreContent} (names : List FullName) (u : Stream) (table : TableContent) (last : ℕ) → StoreFits inserted evidence settled s
     → table ≡ s.table → u.source < MEMBERS → names ≡ unheld_in_stream (places_of_stream table u) (names_after u 0 last) → last ≡ (places_of_stream table u).known → names ≡ missing inserted evidence u
 missing_is names u table last h same source is known_is = is ∙ missing_here h (record { table = table; is = same; row_is = refl; source = source }) last known_is
 
-pub newly_is : {inserted : List Drawop} {evidence : List FullName} {settled : List Settling} {s : StoreContent} (names : List FullName) (n : FullName) (u : Stream) (table : TableContent) (after count : ℕ) → Fits inserted evidence settled s
+pub newly_is : {inserted : List Drawop} {evidence : List FullName} {settled : List Settling} {s : StoreContent} (names : List FullName) (n : FullName) (u : Stream) (table : TableContent) (after count : ℕ) → StoreFits inserted evidence settled s
     → table ≡ s.table → u ≡ n.stream → u.source < MEMBERS → names ≡ unheld_in_stream (places_of_stream table u) (names_after u after count) → after ≡ (places_of_stream table u).known → count ≡ n.number - after → names ≡ newly_missing inserted evidence n
 newly_is names n u table after count h same stream source is after_is count_is = is ∙ newly_here h (record { table = table; is = same; row_is = refl; source = source }) after count n stream after_is count_is
 

@@ -14,7 +14,7 @@ use Rattle.srm_store.specs.Held.{pages_named, page_of_name, outgrow, lacks_room}
 use Rattle.srm_store.specs.Finals.{Settling}
 use Rattle.srm_store.specs.PageTables.{is_in, slot_of, with_page, with_pages, with_pages_of, table_lacks_room, table_lacks_room_for}
 use Rattle.srm_store.specs.Stores.{StoreContent, KeepsSlots}
-use Rattle.srm_store.specs.Fits.{Fits}
+use Rattle.srm_store.specs.Fits.{StoreFits}
 use Rattle.srm_store.proofs.Slots.{is_in-with_page, with_page-longer, slot_of-le, slot_of-in, slot_of-absent, room_by_slot}
 use Rattle.srm_store.proofs.Pages.{is_in-firsts, firsts_all}
 use Rattle.srm_store.proofs.Fitting.{count_named, or_swap}
@@ -105,7 +105,7 @@ keeps_slots old new p e = record { each = λ ps there had. record { few = omega 
 pub keeps_slots_same : (old new : StoreContent) (p : Page) → new.table.pages ≡ old.table.pages → KeepsSlots p old new
 keeps_slots_same old new p e = record { each = λ ps there had. record { few = omega (arith, ap (λ xs. length (with_pages xs ps)) e, had.few) } }
 
-module _ {inserted : List Drawop} {evidence : List FullName} {settled : List Settling} {s : StoreContent} (h : Fits inserted evidence settled s) where
+module _ {inserted : List Drawop} {evidence : List FullName} {settled : List Settling} {s : StoreContent} (h : StoreFits inserted evidence settled s) where
   -- there would be too many pages exactly where the table with them has too many
   pub outgrows : (ps : List Page) → outgrow inserted evidence ps ≡ nat_lt PAGES (length (with_pages s.table.pages ps))
   outgrows ps = ap (nat_lt PAGES) (ap length (firsts_all (pages_named inserted evidence) ps) ∙ as_many _ s.table.pages ps (record { each = λ q. is_in-firsts (pages_named inserted evidence) q ∙ sym (h.pages q); count = count_named h }))

@@ -12,7 +12,7 @@ use Rattle.srm_store.specs.PageTables.{is_in, each_once}
 use Rattle.srm_store.specs.Tables.{places_of_stream, drawop_in_table}
 use Rattle.srm_store.specs.Stores.{StoreContent}
 
-pub record Fits (inserted : List Drawop) (evidence : List FullName) (settled : List Settling) (s : StoreContent) : Type 0 where
+pub record StoreFits (inserted : List Drawop) (evidence : List FullName) (settled : List Settling) (s : StoreContent) : Type 0 where
   pub pages : (p : Page) → is_in s.table.pages p ≡ is_in (pages_named inserted evidence) p
   pub once : each_once s.table.pages ≡ true
   pub held : (n : FullName) → n.stream.source < MEMBERS → drawop_in_table s.table n ≡ held_at inserted n
@@ -21,4 +21,4 @@ pub record Fits (inserted : List Drawop) (evidence : List FullName) (settled : L
 
 -- what fits goes on to fit the same
 pub record StoreStays (old new : StoreContent) : Type 0 where
-  pub each : (inserted : List Drawop) (evidence : List FullName) (settled : List Settling) → Fits inserted evidence settled old → Fits inserted evidence settled new
+  pub each : (inserted : List Drawop) (evidence : List FullName) (settled : List Settling) → StoreFits inserted evidence settled old → StoreFits inserted evidence settled new

@@ -12,7 +12,7 @@ ghost use Rattle.srm_store.specs.Finals.{Settling, final};
 ghost use Rattle.srm_store.specs.Stores.{HasSlots, KeepsSlots, IsReady, IsReadyToSettle, AreReady, HavePlaces, StaysReady, KeepsRoom};
 ghost use Rattle.srm_store.specs.PageTables.{is_in};
 ghost use Rattle.srm_store.specs.Tables.{HasPlaceFor, StillHasPlaces};
-ghost use Rattle.srm_store.specs.Fits.{Fits, StoreStays};
+ghost use Rattle.srm_store.specs.Fits.{StoreFits, StoreStays};
 
 use crate::fault::StoreFault;
 use crate::finals::Finals;
@@ -48,7 +48,7 @@ impl Model for Store {
 impl Store {
     /// An empty store. Only want of memory refuses it.
     pub fn new(alloc: Global) -> Result<Store, AllocError>
-        ensures { IfOk result (Fits [] [] []) }
+        ensures { IfOk result (StoreFits [] [] []) }
     {
         Ok(Store {
             alloc,
@@ -68,7 +68,7 @@ impl Store {
         ensures kept { StoreStays self.old self.new }
         ensures before { StoreStays self.new self.old }
         ensures ready { OnOk result (AreReady names.now self.new) }
-        ensures limit { (inserted : List ADrawop) (evidence : List FullName) (settled : List Settling) → Fits inserted evidence settled self.old
+        ensures limit { (inserted : List ADrawop) (evidence : List FullName) (settled : List Settling) → StoreFits inserted evidence settled self.old
             → ((result ≡ Err PageLimit) ↔ (outgrow inserted evidence (map page_of_name names.now) ≡ true)) }
         ensures same { result ≡ Err PageLimit → self.new ≡ self.old }
         ensures earlier { OnErr result (KeepsRoom self.old self.new) }
@@ -88,7 +88,7 @@ impl Store {
         ensures kept { StoreStays self.old self.new }
         ensures before { StoreStays self.new self.old }
         ensures ready { OnOk result (HavePlaces names.now self.new) }
-        ensures limit { (inserted : List ADrawop) (evidence : List FullName) (settled : List Settling) → Fits inserted evidence settled self.old
+        ensures limit { (inserted : List ADrawop) (evidence : List FullName) (settled : List Settling) → StoreFits inserted evidence settled self.old
             → ((result ≡ Err PageLimit) ↔ (outgrow inserted evidence (map page_of_name names.now) ≡ true)) }
         ensures same { result ≡ Err PageLimit → self.new ≡ self.old }
         ensures earlier { KeepsRoom self.old self.new }
@@ -101,7 +101,7 @@ impl Store {
     /// Whether the pages of the names all find slots: [`StoreFault::PageLimit`] where they don't. It takes no memory.
     fn find_slots(&self, names: &[Name]) -> Result<(), StoreFault>
         ensures slots { OnOk result (HasSlots (map page_of_name names.now) self.now) }
-        ensures limit { (inserted : List ADrawop) (evidence : List FullName) (settled : List Settling) → Fits inserted evidence settled self.now
+        ensures limit { (inserted : List ADrawop) (evidence : List FullName) (settled : List Settling) → StoreFits inserted evidence settled self.now
             → ((result ≡ Err PageLimit) ↔ (outgrow inserted evidence (map page_of_name names.now) ≡ true)) }
     {
         if self.table.lacks_room_for(names) {
@@ -178,12 +178,12 @@ impl Store {
     ///
     /// [`StoreFault::PageLimit`] where its page would be the ninth; [`StoreFault::Memory`].
     pub fn insert(&mut self, drawop: Drawop) -> Result<Insert, StoreFault>
-        ensures fits { OnOk result ((inserted : List ADrawop) (evidence : List FullName) (settled : List Settling) → Fits inserted evidence settled self.old
-            → Fits (inserted ++ drawop ∷ []) evidence settled self.new) }
-        ensures answer { IfOk result (λ answer. (inserted : List ADrawop) (evidence : List FullName) (settled : List Settling) → Fits inserted evidence settled self.old
+        ensures fits { OnOk result ((inserted : List ADrawop) (evidence : List FullName) (settled : List Settling) → StoreFits inserted evidence settled self.old
+            → StoreFits (inserted ++ drawop ∷ []) evidence settled self.new) }
+        ensures answer { IfOk result (λ answer. (inserted : List ADrawop) (evidence : List FullName) (settled : List Settling) → StoreFits inserted evidence settled self.old
             → answer ≡ insert_answer drawop (held_at inserted drawop.name)) }
         ensures err { OnErr result (StoreStays self.old self.new) }
-        ensures limit { (inserted : List ADrawop) (evidence : List FullName) (settled : List Settling) → Fits inserted evidence settled self.old
+        ensures limit { (inserted : List ADrawop) (evidence : List FullName) (settled : List Settling) → StoreFits inserted evidence settled self.old
             → ((result ≡ Err PageLimit) ↔ (lacks_room inserted evidence drawop.name.stream.page ≡ true)) }
         ensures room { IsReady drawop.name self.old → result ≢ Err Memory }
         ensures place { HasPlaceFor drawop.name self.old.table → result ≢ Err Memory }
@@ -201,12 +201,12 @@ impl Store {
     ///
     /// [`StoreFault::PageLimit`] where its page would be the ninth; [`StoreFault::Memory`].
     pub fn evidence(&mut self, name: Name) -> Result<Vec<Name>, StoreFault>
-        ensures fits { OnOk result ((inserted : List ADrawop) (evidence : List FullName) (settled : List Settling) → Fits inserted evidence settled self.old
-            → Fits inserted (evidence ++ name ∷ []) settled self.new) }
-        ensures answer { IfOk result (λ names. (inserted : List ADrawop) (evidence : List FullName) (settled : List Settling) → Fits inserted evidence settled self.old
+        ensures fits { OnOk result ((inserted : List ADrawop) (evidence : List FullName) (settled : List Settling) → StoreFits inserted evidence settled self.old
+            → StoreFits inserted (evidence ++ name ∷ []) settled self.new) }
+        ensures answer { IfOk result (λ names. (inserted : List ADrawop) (evidence : List FullName) (settled : List Settling) → StoreFits inserted evidence settled self.old
             → names.items ≡ newly_missing inserted evidence name) }
         ensures err { OnErr result (StoreStays self.old self.new) }
-        ensures limit { (inserted : List ADrawop) (evidence : List FullName) (settled : List Settling) → Fits inserted evidence settled self.old
+        ensures limit { (inserted : List ADrawop) (evidence : List FullName) (settled : List Settling) → StoreFits inserted evidence settled self.old
             → ((result ≡ Err PageLimit) ↔ (lacks_room inserted evidence name.stream.page ≡ true)) }
         ensures room { IsReady name self.old → result ≢ Err Memory }
         ensures slot { (pages : List APage) → is_in pages name.stream.page ≡ true → HasSlots pages self.old → result ≢ Err PageLimit }
@@ -230,10 +230,10 @@ impl Store {
     ///
     /// [`StoreFault::PageLimit`] alone, where its page would be the ninth.
     pub fn learn(&mut self, name: Name) -> Result<(), StoreFault>
-        ensures fits { OnOk result ((inserted : List ADrawop) (evidence : List FullName) (settled : List Settling) → Fits inserted evidence settled self.old
-            → Fits inserted (evidence ++ name ∷ []) settled self.new) }
+        ensures fits { OnOk result ((inserted : List ADrawop) (evidence : List FullName) (settled : List Settling) → StoreFits inserted evidence settled self.old
+            → StoreFits inserted (evidence ++ name ∷ []) settled self.new) }
         ensures err { OnErr result (self.new ≡ self.old) }
-        ensures limit { (inserted : List ADrawop) (evidence : List FullName) (settled : List Settling) → Fits inserted evidence settled self.old
+        ensures limit { (inserted : List ADrawop) (evidence : List FullName) (settled : List Settling) → StoreFits inserted evidence settled self.old
             → ((result ≡ Err PageLimit) ↔ (lacks_room inserted evidence name.stream.page ≡ true)) }
         ensures memory { result ≢ Err Memory }
         ensures slot { (pages : List APage) → is_in pages name.stream.page ≡ true → HasSlots pages self.old → result ≢ Err PageLimit }
@@ -250,7 +250,7 @@ impl Store {
     /// The missing names of a stream, in order: those that are known to exist and aren't held. It takes a step for each
     /// number that is known. Only want of memory refuses it.
     pub fn missing(&self, stream: Stream) -> Result<Vec<Name>, StoreFault>
-        ensures value { IfOk result (λ names. (inserted : List ADrawop) (evidence : List FullName) (settled : List Settling) → Fits inserted evidence settled self.now
+        ensures value { IfOk result (λ names. (inserted : List ADrawop) (evidence : List FullName) (settled : List Settling) → StoreFits inserted evidence settled self.now
             → names.items ≡ missing inserted evidence stream) }
         ensures err { OnErr result (result ≡ Err Memory) }
     {
@@ -261,7 +261,7 @@ impl Store {
 
     /// Whether a drawop of this name is held. Takes no memory.
     pub fn holds(&self, name: Name) -> bool
-        ensures { (inserted : List ADrawop) (evidence : List FullName) (settled : List Settling) → Fits inserted evidence settled self.now
+        ensures { (inserted : List ADrawop) (evidence : List FullName) (settled : List Settling) → StoreFits inserted evidence settled self.now
             → result ≡ is_held inserted name }
     {
         self.table
@@ -271,7 +271,7 @@ impl Store {
 
     /// The drawop that is held under this name. Takes no memory.
     pub fn get(&self, name: Name) -> Option<&Drawop>
-        ensures { (inserted : List ADrawop) (evidence : List FullName) (settled : List Settling) → Fits inserted evidence settled self.now
+        ensures { (inserted : List ADrawop) (evidence : List FullName) (settled : List Settling) → StoreFits inserted evidence settled self.now
             → option_copied result ≡ held_at inserted name }
     {
         self.table
@@ -281,7 +281,7 @@ impl Store {
 
     /// The greatest number of a stream that is known to exist, or 0. Takes no memory.
     pub fn known(&self, stream: Stream) -> u32
-        ensures value { (inserted : List ADrawop) (evidence : List FullName) (settled : List Settling) → Fits inserted evidence settled self.now
+        ensures value { (inserted : List ADrawop) (evidence : List FullName) (settled : List Settling) → StoreFits inserted evidence settled self.now
             → result ≡ known evidence stream }
         ensures last { result ≤ DRAWOPS }
     {
@@ -291,7 +291,7 @@ impl Store {
     /// How many drawops of a stream may be released: those from number 1 to the one in front of the first gap. Takes no
     /// memory.
     pub fn released(&self, stream: Stream) -> u32
-        ensures value { (inserted : List ADrawop) (evidence : List FullName) (settled : List Settling) → Fits inserted evidence settled self.now
+        ensures value { (inserted : List ADrawop) (evidence : List FullName) (settled : List Settling) → StoreFits inserted evidence settled self.now
             → result ≡ length (released inserted stream) }
         ensures last { result ≤ DRAWOPS }
     {
@@ -301,8 +301,8 @@ impl Store {
     /// A member left, and its streams go as far as these rows say, which are rows of that member. A second settling of a
     /// member keeps the first. Only want of memory refuses it, and then what was ready before is still ready.
     pub fn settle_final(&mut self, member: Member, rows: &[Name]) -> Result<(), StoreFault>
-        ensures fits { OnOk result ((inserted : List ADrawop) (evidence : List FullName) (settled : List Settling) → Fits inserted evidence settled self.old
-            → Fits inserted evidence (settled ++ record { member = member; rows = rows.now } ∷ []) self.new) }
+        ensures fits { OnOk result ((inserted : List ADrawop) (evidence : List FullName) (settled : List Settling) → StoreFits inserted evidence settled self.old
+            → StoreFits inserted evidence (settled ++ record { member = member; rows = rows.now } ∷ []) self.new) }
         ensures err { OnErr result (StoreStays self.old self.new) }
         ensures refusal { OnErr result (result ≡ Err Memory) }
         ensures earlier { OnErr result (KeepsRoom self.old self.new) }
@@ -316,7 +316,7 @@ impl Store {
 
     /// The last number of a stream, where its source was settled: 0 where it has no row. Takes no memory.
     pub fn final_of(&self, stream: Stream) -> Option<u32>
-        ensures value { (inserted : List ADrawop) (evidence : List FullName) (settled : List Settling) → Fits inserted evidence settled self.now
+        ensures value { (inserted : List ADrawop) (evidence : List FullName) (settled : List Settling) → StoreFits inserted evidence settled self.now
             → result ≡ final settled stream }
         ensures last { IfSome result (λ number. number ≤ DRAWOPS) }
     {

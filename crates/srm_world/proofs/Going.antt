@@ -31,10 +31,9 @@ use Rattle.srm_entries.specs.Hearing.{read_as}
 use Rattle.srm_outbox.specs.Outs.{IsOut, datagrams_of}
 use Rattle.srm_entries.specs.Verdicts.{VerdictRight}
 use Rattle.srm_entries.specs.Runs.{EntryRight}
-use Rattle.srm_agent.specs.Fits as agents_fit
-use Rattle.srm_agent.specs.Noting as noting
+use Rattle.srm_agent.specs.Fits.{AgentFits}
+use Rattle.srm_agent.specs.Noting.{AgentStays, Enters, ReadsAs, AnswersAs, IsTicked, moment_that_counts}
 use Rattle.srm_entries.specs.Still.{entry_without_effects}
-use Rattle.srm_agent.specs.Noting.{Enters, ReadsAs, AnswersAs, IsTicked, moment_that_counts}
 use Rattle.srm_entries.proofs.Running.{last_moment-snoc, slots-same}
 use Rattle.srm_agent.proofs.Still.{still_fits, same_progress}
 use Rattle.srm_entries.proofs.Showing.{state-snoc}
@@ -42,7 +41,7 @@ use Rattle.srm_entries.proofs.Feeding.{given-snoc, taken-snoc}
 use Rattle.srm_world.specs.Events.{input_heard}
 use Rattle.srm_world.specs.Lane.{LaneContent}
 use Rattle.srm_world.specs.Lanes.{AreEmpty, Gains, Loses, in_lane}
-use Rattle.srm_world.specs.Participants.{Content, Fits, LanesFit, Adds, GoesOn, Stays, HearsBytes, SendsOuts, last_with}
+use Rattle.srm_world.specs.Participants.{ParticipantContent, ParticipantFits, LanesFit, ParticipantAdds, GoesOn, ParticipantStays, HearsBytes, SendsOuts, last_with}
 
 -- the newest entry of a run is right
 pub newest_right : (c : Config) (made : ℕ) (past : List Entry) (e : Entry) → AllByRecursion (EntryRight c made) (steps (past ++ e ∷ [])) → EntryRight c made (record { before = past; this = e })
@@ -100,9 +99,9 @@ lanes_stay past e input lanes is still h j l at =
     lane_stays past e j l.waiting (ungiven e.input j e.effects.message (ap takes_moment is ∙ still)) (untaken e.input j e.effects.message (ap takes_moment is ∙ still)) (h j l at)
 
 -- the one step: each thing that is kept goes on as the entry says
-pub adds : {W : Type 0} (c : Config) (made : ℕ) (past : List Entry) (now : Option ℕ) (p q : Content W) (e : Entry) → Fits c made past p → agents_fit.Fits c made (past ++ e ∷ []) q.agent
+pub adds : {W : Type 0} (c : Config) (made : ℕ) (past : List Entry) (now : Option ℕ) (p q : ParticipantContent W) (e : Entry) → ParticipantFits c made past p → AgentFits c made (past ++ e ∷ []) q.agent
     → q.config ≡ p.config → e.moment ≡ moment_that_counts now p.agent.last → q.last ≡ last_with p.last e.verdict e.moment → q.state ≡ e.effects.state → LanesFit (past ++ e ∷ []) q.lanes
-    → Adds c made past now q e
+    → ParticipantAdds c made past now q e
 adds c made past now p q e h fits config moment last after lanes = record {
   moment = moment ∙ ap (moment_that_counts now) h.agent.last;
   fits = record {
@@ -115,7 +114,7 @@ adds c made past now p q e h fits config moment last after lanes = record {
 }
 
 -- a call that moves no message
-pub goes_on : {W : Type 0} (next_word : W → ℕ × W) (now : Option ℕ) (input : Input) (p q : Content W) (e : Entry) → Enters next_word now input p.agent q.agent e → takes_moment input ≡ true
+pub goes_on : {W : Type 0} (next_word : W → ℕ × W) (now : Option ℕ) (input : Input) (p q : ParticipantContent W) (e : Entry) → Enters next_word now input p.agent q.agent e → takes_moment input ≡ true
     → q.config ≡ p.config → q.last ≡ last_with p.last e.verdict e.moment → q.state ≡ e.effects.state → q.lanes ≡ p.lanes → GoesOn next_word now input p q e
 goes_on next_word now input p q e enters still config last after lanes = record {
   input_is = enters.input_is;
@@ -131,7 +130,7 @@ heard_still o true c past read q = ap (λ (x : Input × Verdict). takes_moment x
 heard_still o false c past (Ok g) q = ap (λ (x : Input × Verdict). takes_moment x.0) q
 heard_still o false c past (Err fault) q = ap (λ (x : Input × Verdict). takes_moment x.0) q
 
-pub hears_on : {W : Type 0} (next_word : W → ℕ × W) (now : Option ℕ) (p q : Content W) (bytes : List ℕ) (e : Entry) → Enters next_word now e.input p.agent q.agent e → ReadsAs bytes p.agent e
+pub hears_on : {W : Type 0} (next_word : W → ℕ × W) (now : Option ℕ) (p q : ParticipantContent W) (bytes : List ℕ) (e : Entry) → Enters next_word now e.input p.agent q.agent e → ReadsAs bytes p.agent e
     → q.config ≡ p.config → q.last ≡ last_with p.last e.verdict e.moment → q.state ≡ e.effects.state → q.lanes ≡ p.lanes → GoesOn next_word now e.input p q e
 hears_on next_word now p q bytes e enters reads config last after lanes = record {
   input_is = refl;
@@ -146,7 +145,7 @@ spelled_is_heard : (o : Input × Verdict) (gone : Bool) (c : Config) (past : Lis
 spelled_is_heard o true c past read g q r = ap (λ (x : Input × Verdict). x.0) q
 spelled_is_heard o false c past read g q r = ap (λ (x : Input × Verdict). x.0) q ∙ ap (λ (x : Result Datagram DecodeFault). (read_as c past x).0) r
 
-pub hears_bytes : {W : Type 0} (p : Content W) (bytes : List ℕ) (session : ℕ) (e : Entry) → session ≡ p.config.session → session < 2 ^ 32 → AreBytes bytes → ReadsAs bytes p.agent e → HearsBytes bytes p e
+pub hears_bytes : {W : Type 0} (p : ParticipantContent W) (bytes : List ℕ) (session : ℕ) (e : Entry) → session ≡ p.config.session → session < 2 ^ 32 → AreBytes bytes → ReadsAs bytes p.agent e → HearsBytes bytes p e
 hears_bytes p bytes session e is small are reads = record {
   each = λ c made past g h spells.
       spelled_is_heard (e.input, e.verdict) (is_gone (state past)) c past (judge c.session bytes) g (reads.each c made past h.agent)
@@ -160,7 +159,7 @@ done_answers is (Ignored cause) r h e = absurd (cc)
 done_answers is Done (Ok x) h e = (x, refl, h)
 done_answers is Done (Err fault) h e = absurd h
 
-pub sends_outs : {W : Type 0} (next_word : W → ℕ × W) (now : Option ℕ) (p : Content W) (b : agents.Content W) (e : Entry) (answer : Result Ticked AgentFault) (outs : List Out) → Enters next_word now inputs.Ticked p.agent b e
+pub sends_outs : {W : Type 0} (next_word : W → ℕ × W) (now : Option ℕ) (p : ParticipantContent W) (b : agents.AgentContent W) (e : Entry) (answer : Result Ticked AgentFault) (outs : List Out) → Enters next_word now inputs.Ticked p.agent b e
     → AnswersAs (IsTicked p.agent.config.session e) e.verdict answer → IfOk answer (λ (t : Ticked). outs ≡ t.outs) → SendsOuts p e outs
 sends_outs next_word now p b e answer outs enters answers are = record {
   each = λ c made past h.
@@ -202,7 +201,7 @@ given_lanes past e slot lanes roomy now is room gains h j l at =
     nothing true = refl
     nothing false = refl
 
-pub gives_on : {W : Type 0} (next_word : W → ℕ × W) (slot : ℕ) (p q : Content W) (roomy : List LaneContent) (e : Entry) (answer : Result (Option PageMsg) AgentFault) (message : Option PageMsg) → Enters next_word None (Gave slot) p.agent q.agent e
+pub gives_on : {W : Type 0} (next_word : W → ℕ × W) (slot : ℕ) (p q : ParticipantContent W) (roomy : List LaneContent) (e : Entry) (answer : Result (Option PageMsg) AgentFault) (message : Option PageMsg) → Enters next_word None (Gave slot) p.agent q.agent e
     → AnswersAs (λ m. m ≡ e.effects.message) e.verdict answer → IfOk answer (λ m. message ≡ m) → Gains slot [] p.lanes roomy → Gains slot (option_to_list message) roomy q.lanes
     → q.config ≡ p.config → q.last ≡ last_with p.last e.verdict e.moment → q.state ≡ e.effects.state → GoesOn next_word None (Gave slot) p q e
 gives_on next_word slot p q roomy e answer message enters answers are room gains config last after = record {
@@ -230,27 +229,27 @@ taken_lanes past e slot lanes now is loses h j l at =
     taken-snoc past e j ∙ ap (λ i. taken past j ++ cons_option (taken_in j i e.effects.message) []) is ∙ ap (λ ms. taken past j ++ ms) (lane_of_slot (j == slot) e.effects.message) in
     gives ∙ h j w at_w ∙ ap (λ ms. taken past j ++ ms) w_is ∙ sym (append_assoc (taken past j) (in_lane slot (option_to_list e.effects.message) j) l.waiting) ∙ ap (λ ms. ms ++ l.waiting) (sym takes)
 
-pub takes_on : {W : Type 0} (next_word : W → ℕ × W) (slot : ℕ) (p q : Content W) (message : Option PageMsg) (e : Entry) → e ≡ entry_without_effects p.config.me p.last (Took slot) Done message p.state
+pub takes_on : {W : Type 0} (next_word : W → ℕ × W) (slot : ℕ) (p q : ParticipantContent W) (message : Option PageMsg) (e : Entry) → e ≡ entry_without_effects p.config.me p.last (Took slot) Done message p.state
     → Loses slot message p.lanes q.lanes → q.agent ≡ p.agent → q.config ≡ p.config → q.last ≡ p.last → q.state ≡ p.state → GoesOn next_word None (Took slot) p q e
 takes_on next_word slot p q message e is loses agent config last after = record {
   input_is = ap (λ (x : Entry). x.input) is;
   words = rw is (ap (λ a. a.words) agent);
-  adds = λ c made past h. subst (λ (x : Entry). Adds c made past None q x) (sym (is ∙ ap (λ m. entry_without_effects m p.last (Took slot) Done message p.state) (ap (λ (s : Config). s.me) h.config))) (by c made past h);
+  adds = λ c made past h. subst (λ (x : Entry). ParticipantAdds c made past None q x) (sym (is ∙ ap (λ m. entry_without_effects m p.last (Took slot) Done message p.state) (ap (λ (s : Config). s.me) h.config))) (by c made past h);
 }
   where
-    by : (c : Config) (made : ℕ) (past : List Entry) → Fits c made past p → Adds c made past None q (entry_without_effects c.me p.last (Took slot) Done message p.state)
+    by : (c : Config) (made : ℕ) (past : List Entry) → ParticipantFits c made past p → ParticipantAdds c made past None q (entry_without_effects c.me p.last (Took slot) Done message p.state)
     by c made past h =
         let e : Entry = entry_without_effects c.me p.last (Took slot) Done message p.state in
         let (w, at, m) = loses.first in
         let next : message ≡ next_taken past slot = m ∙ sym (rest_first (taken past slot) w.waiting) ∙ ap (λ ms. slice_get ms (length (taken past slot))) (sym (h.lanes slot w at)) in
-        let fits : agents_fit.Fits c made (past ++ e ∷ []) p.agent = still_fits c made past p.agent p.agent p.last (Took slot) Done message p.state h.agent
+        let fits : AgentFits c made (past ++ e ∷ []) p.agent = still_fits c made past p.agent p.agent p.last (Took slot) Done message p.state h.agent
         (record { unheard = refl; undrawn = refl; idle = refl; moment_right = h.last; verdict_right = refl; message_right = next; state_right = h.state })
         (record { config = refl; store = refl; distances = refl; timers = refl; bucket = refl; due = refl })
         (h.agent.state ∙ sym h.state) (omega arith) refl (h.agent.pages ∙ sym (slots-same past e refl)) (same_progress past e p.agent.progress (λ j. refl) h.agent.progress) in
-        adds c made past None p q e h (subst (λ a. agents_fit.Fits c made (past ++ e ∷ []) a) (sym agent) fits) config (h.last ∙ sym h.agent.last) last after (taken_lanes past e slot p.lanes q.lanes refl loses h.lanes)
+        adds c made past None p q e h (subst (λ a. AgentFits c made (past ++ e ∷ []) a) (sym agent) fits) config (h.last ∙ sym h.agent.last) last after (taken_lanes past e slot p.lanes q.lanes refl loses h.lanes)
 
 -- a member whose call was refused for memory, with more room in a lane
-pub stays_with : {W : Type 0} (slot : ℕ) (p q : Content W) → noting.Stays p.agent q.agent → Gains slot [] p.lanes q.lanes → q.config ≡ p.config → q.last ≡ p.last → q.state ≡ p.state → Stays p q
+pub stays_with : {W : Type 0} (slot : ℕ) (p q : ParticipantContent W) → AgentStays p.agent q.agent → Gains slot [] p.lanes q.lanes → q.config ≡ p.config → q.last ≡ p.last → q.state ≡ p.state → ParticipantStays p q
 stays_with slot p q same room config last after = record {
   words = same.words;
   fits = λ c made past h. record {
@@ -271,11 +270,11 @@ stays_with slot p q same room config last after = record {
     nothing true = refl
     nothing false = refl
 
-pub agent_stays : {W : Type 0} (a : agents.Content W) → noting.Stays a a
+pub agent_stays : {W : Type 0} (a : agents.AgentContent W) → AgentStays a a
 agent_stays a = record { fits = λ c made past h. h; words = refl }
 
 -- a new member
-pub begins : {W : Type 0} (c : Config) (made : ℕ) (p : Content W) → agents_fit.Fits c made [] p.agent → p.config ≡ c → p.last ≡ made → p.state ≡ Active → AreEmpty p.lanes → Fits c made [] p
+pub begins : {W : Type 0} (c : Config) (made : ℕ) (p : ParticipantContent W) → AgentFits c made [] p.agent → p.config ≡ c → p.last ≡ made → p.state ≡ Active → AreEmpty p.lanes → ParticipantFits c made [] p
 begins c made p fits config last after empty = record {
   agent = fits;
   config = config;

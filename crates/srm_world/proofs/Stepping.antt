@@ -32,7 +32,7 @@ use Rattle.srm_world.specs.Traces.{Trace, of_member, IsRoster, IsAtPlace, IsRunO
 use Rattle.srm_world.specs.Events.{member_of, moment_in, input_of, in_slot, input_heard, required_input, made_at, last_of_member, FollowsOne, Follows}
 use Rattle.srm_world.specs.Claims.{IsLawful}
 use Rattle.srm_world.specs.WaitWords.{WorldView, AreByOwnWords, PlaysByWords}
-use Rattle.srm_world.specs.Participants.{Content, Fits, Adds, GoesOn, Stays, HearsBytes, SendsOuts}
+use Rattle.srm_world.specs.Participants.{ParticipantContent, ParticipantFits, ParticipantAdds, GoesOn, ParticipantStays, HearsBytes, SendsOuts}
 use Rattle.srm_world.specs.Worlds.{words_of, AllFit, AreSent, AreWorld, EntersTrace, EntersAll, Skips, KeepsParticipants, Appends, after_entry}
 use Rattle.srm_world.proofs.Members.{of_member-append, of_member-own}
 use Rattle.srm_world.proofs.Wording.{plays_nothing, plays_one, sources_stay, plays_still, plays_on}
@@ -55,19 +55,19 @@ pub sent-snoc : (es : List Entry) (e : Entry) → sent (es ++ e ∷ []) ≡ sent
 sent-snoc es e = flat_map-snoc (λ (x : Entry). x.effects.outs) es e
 
 -- one member went on to another content
-fit_set : {W : Type 0} (starts : List Start) (ps : List (Content W)) (es new : List Entry) (m : ℕ) (a : Start) (p q : Content W) → AllFit starts ps es → slice_get starts m ≡ Some a → slice_get ps m ≡ Some p
-    → Fits a.config a.made (of_member m new) q → ((k : ℕ) → k ≢ m → of_member k new ≡ of_member k es) → AllFit starts (slice_set ps m q) new
+fit_set : {W : Type 0} (starts : List Start) (ps : List (ParticipantContent W)) (es new : List Entry) (m : ℕ) (a : Start) (p q : ParticipantContent W) → AllFit starts ps es → slice_get starts m ≡ Some a → slice_get ps m ≡ Some p
+    → ParticipantFits a.config a.made (of_member m new) q → ((k : ℕ) → k ≢ m → of_member k new ≡ of_member k es) → AllFit starts (slice_set ps m q) new
 fit_set starts ps es new m a p q all start at fits others k b x there_a there = which (cases_eq k m)
   where
-    which : ((k ≡ m) ⊎ (k ≢ m)) → Fits b.config b.made (of_member k new) x
+    which : ((k ≡ m) ⊎ (k ≢ m)) → ParticipantFits b.config b.made (of_member k new) x
     which (inl same) =
         let is : q ≡ x = same_Some q x (sym (get_set_same ps m p q at) ∙ ap (slice_get (slice_set ps m q)) (sym same) ∙ there) in
         let begun : a ≡ b = same_Some a b (sym start ∙ ap (slice_get starts) (sym same) ∙ there_a) in
-        subst (λ (j : ℕ). Fits b.config b.made (of_member j new) x) (sym same) (subst (λ (s : Start). Fits s.config s.made (of_member m new) x) begun (subst (Fits a.config a.made (of_member m new)) is fits))
-    which (inr differ) = subst (λ (ys : List Entry). Fits b.config b.made ys x) (sym (others k differ)) (all k b x there_a (sym (set_elsewhere ps m k q differ) ∙ there))
+        subst (λ (j : ℕ). ParticipantFits b.config b.made (of_member j new) x) (sym same) (subst (λ (s : Start). ParticipantFits s.config s.made (of_member m new) x) begun (subst (ParticipantFits a.config a.made (of_member m new)) is fits))
+    which (inr differ) = subst (λ (ys : List Entry). ParticipantFits b.config b.made ys x) (sym (others k differ)) (all k b x there_a (sym (set_elsewhere ps m k q differ) ∙ there))
 
 -- a member whose call was refused for memory
-pub keeps_at : {W : Type 0} (ps : List (Content W)) (sents : List Out) (i : ℕ) (d q : Content W) → i < length ps → Stays (get_or ps i d) q → KeepsParticipants ps (slice_set ps i q) sents sents
+pub keeps_at : {W : Type 0} (ps : List (ParticipantContent W)) (sents : List Out) (i : ℕ) (d q : ParticipantContent W) → i < length ps → ParticipantStays (get_or ps i d) q → KeepsParticipants ps (slice_set ps i q) sents sents
 keeps_at ps sents i d q lt h = record {
   fits = λ starts es all. stays starts es all;
   words = sources_stay ps i d q h.words;
@@ -78,13 +78,13 @@ keeps_at ps sents i d q lt h = record {
     stays : (starts : List Start) (es : List Entry) → AllFit starts ps es → AllFit starts (slice_set ps i q) es
     stays starts es all k b x there_b there = which (cases_eq k i)
       where
-        which : ((k ≡ i) ⊎ (k ≢ i)) → Fits b.config b.made (of_member k es) x
+        which : ((k ≡ i) ⊎ (k ≢ i)) → ParticipantFits b.config b.made (of_member k es) x
         which (inl same) =
             let is : q ≡ x = same_Some q x (sym (get_set_same ps i (get_or ps i d) q (slice_get-get_or ps i d lt)) ∙ ap (slice_get (slice_set ps i q)) (sym same) ∙ there) in
-            subst (Fits b.config b.made (of_member k es)) is (h.fits b.config b.made (of_member k es) (all k b (get_or ps i d) there_b (ap (slice_get ps) same ∙ slice_get-get_or ps i d lt)))
+            subst (ParticipantFits b.config b.made (of_member k es)) is (h.fits b.config b.made (of_member k es) (all k b (get_or ps i d) there_b (ap (slice_get ps) same ∙ slice_get-get_or ps i d lt)))
         which (inr differ) = all k b x there_b (sym (set_elsewhere ps i k q differ) ∙ there)
 
-pub keeps_all : {W : Type 0} (ps : List (Content W)) (sents : List Out) → KeepsParticipants ps ps sents sents
+pub keeps_all : {W : Type 0} (ps : List (ParticipantContent W)) (sents : List Out) → KeepsParticipants ps ps sents sents
 keeps_all ps sents = record { fits = λ starts es all. all; words = refl; count = refl; sent = refl }
 
 heard_by : (v : Verdict) (input : Input) (gs : List Datagram) → IfSome (heard_in (Some input)) (Contains gs) → IfSome (heard_in (done_input v input)) (Contains gs)
@@ -93,15 +93,15 @@ heard_by (Ignored cause) input gs h = tt
 heard_by (Refused fault) input gs h = tt
 
 -- what a call of the member at a place makes of a world
-record Called {W : Type 0} (ps : List (Content W)) (t : Trace) (event : Event) (i : ℕ) (q : Content W) (e : Entry) : Type 0 where
+record Called {W : Type 0} (ps : List (ParticipantContent W)) (t : Trace) (event : Event) (i : ℕ) (q : ParticipantContent W) (e : Entry) : Type 0 where
   pub start : Start
   pub at : slice_get t.starts i ≡ Some start
-  pub adds : Adds start.config start.made (of_member i t.entries) (moment_in event) q e
+  pub adds : ParticipantAdds start.config start.made (of_member i t.entries) (moment_in event) q e
   pub right : EntryRight start.config start.made (record { before = of_member i t.entries; this = e })
   pub run : IsMemberRun start.config start.made (of_member i t.entries ++ e ∷ [])
   pub mine : e.member ≡ i
 
-called : {W : Type 0} (next_word : W → ℕ × W) (ps : List (Content W)) (sents : List Out) (t : Trace) (event : Event) (i : ℕ) (d q : Content W) (input : Input) (e : Entry) → AreWorld ps sents t → i < length ps
+called : {W : Type 0} (next_word : W → ℕ × W) (ps : List (ParticipantContent W)) (sents : List Out) (t : Trace) (event : Event) (i : ℕ) (d q : ParticipantContent W) (input : Input) (e : Entry) → AreWorld ps sents t → i < length ps
     → GoesOn next_word (moment_in event) input (get_or ps i d) q e → Called ps t event i q e
 called next_word ps sents t event i d q input e w lt goes =
     let (a, at) = at_place t.starts i (omega (arith, lt, w.count)) in
@@ -116,7 +116,7 @@ called next_word ps sents t event i d q input e w lt goes =
       mine = right.member ∙ me_at t.starts i a w.lawful.run.roster at;
     }
 
-enters : {W : Type 0} (next_word : W → ℕ × W) (ps : List (Content W)) (sents more : List Out) (t : Trace) (event : Event) (i : ℕ) (d q : Content W) (input : Input) (e : Entry) → AreWorld ps sents t → i < length ps → i ≡ member_of event
+enters : {W : Type 0} (next_word : W → ℕ × W) (ps : List (ParticipantContent W)) (sents more : List Out) (t : Trace) (event : Event) (i : ℕ) (d q : ParticipantContent W) (input : Input) (e : Entry) → AreWorld ps sents t → i < length ps → i ≡ member_of event
     → GoesOn next_word (moment_in event) input (get_or ps i d) q e → Called ps t event i q e → input_of t.entries event ≡ Some input → IfSome (heard_in (Some input)) (Contains (sent t.entries)) → AreSent t.starts more (t.entries ++ e ∷ [])
     → EntersTrace t.starts t.entries event (slice_set ps i q) more e
 enters next_word ps sents more t event i d q input e w lt named goes c asks hears sends = record {
@@ -129,7 +129,7 @@ enters next_word ps sents more t event i d q input e w lt named goes c asks hear
   inside = omega (arith, lt, w.count, c.mine);
   hears = heard_by e.verdict e.input (sent t.entries) (subst (λ x. IfSome (heard_in (Some x)) (Contains (sent t.entries))) (sym goes.input_is) hears);
   fit = fit_set t.starts ps t.entries (t.entries ++ e ∷ []) i c.start (get_or ps i d) q w.fit c.at (slice_get-get_or ps i d lt)
-      (subst (λ (ys : List Entry). Fits c.start.config c.start.made ys q) (sym (of_member-own i t.entries e c.mine)) c.adds.fits)
+      (subst (λ (ys : List Entry). ParticipantFits c.start.config c.start.made ys q) (sym (of_member-own i t.entries e c.mine)) c.adds.fits)
       (λ k differ. of_member-other k t.entries e (λ same. differ (sym same ∙ c.mine)));
   sent = sends;
 }
@@ -155,13 +155,13 @@ one_session t es m a run at n b there =
     by_place (λ (x : Start). a.config.session ≡ x.config.session) t.starts n b (by_place (λ (y : Start). AllByRecursion (λ (x : Start). y.config.session ≡ x.config.session) t.starts) t.starts m a run.roster.session at) there
 
 -- its waits are by the words of the member at the place
-by_words : {W : Type 0} (next_word : W → ℕ × W) (ps : List (Content W)) (sents : List Out) (t : Trace) (event : Event) (i : ℕ) (d q : Content W) (input : Input) (e : Entry) → AreWorld ps sents t → i < length ps
+by_words : {W : Type 0} (next_word : W → ℕ × W) (ps : List (ParticipantContent W)) (sents : List Out) (t : Trace) (event : Event) (i : ℕ) (d q : ParticipantContent W) (input : Input) (e : Entry) → AreWorld ps sents t → i < length ps
     → GoesOn next_word (moment_in event) input (get_or ps i d) q e → Called ps t event i q e → AreByOwnWords next_word t.starts (words_of ps) (e ∷ []) (words_of (slice_set ps i q))
 by_words next_word ps sents t event i d q input e w lt goes c = plays_one next_word t.starts ps i d q e c.start lt c.at c.mine
     (subst (λ (s : Config). AreChosen next_word (low_of s) (high_of s) (get_or ps i d).agent.words e.effects.arms q.agent.words) (w.fit i c.start (get_or ps i d) c.at (slice_get-get_or ps i d lt)).agent.config goes.words)
 
 -- a call that is no tick and hears nothing
-pub enters_at : {W : Type 0} (next_word : W → ℕ × W) (ps : List (Content W)) (sents : List Out) (event : Event) (i : ℕ) (d q : Content W) (now : Option ℕ) (input : Input) (e : Entry) → i < length ps → i ≡ member_of event → now ≡ moment_in event
+pub enters_at : {W : Type 0} (next_word : W → ℕ × W) (ps : List (ParticipantContent W)) (sents : List Out) (event : Event) (i : ℕ) (d q : ParticipantContent W) (now : Option ℕ) (input : Input) (e : Entry) → i < length ps → i ≡ member_of event → now ≡ moment_in event
     → GoesOn next_word now input (get_or ps i d) q e → ((es : List Entry) → input_of es event ≡ Some input) → heard_in (Some input) ≡ None → is_tick input ≡ false → EntersAll next_word ps (slice_set ps i q) sents sents event e
 enters_at next_word ps sents event i d q now input e lt named at goes asks unheard unticked = record {
   enters = λ t w.
@@ -173,7 +173,7 @@ enters_at next_word ps sents event i d q now input e lt named at goes asks unhea
   count = length-set ps i q;
 }
 
-pub ticks_at : {W : Type 0} (next_word : W → ℕ × W) (ps : List (Content W)) (sents more outs : List Out) (event : Event) (i : ℕ) (d q : Content W) (now : Option ℕ) (e : Entry) → i < length ps → i ≡ member_of event → now ≡ moment_in event
+pub ticks_at : {W : Type 0} (next_word : W → ℕ × W) (ps : List (ParticipantContent W)) (sents more outs : List Out) (event : Event) (i : ℕ) (d q : ParticipantContent W) (now : Option ℕ) (e : Entry) → i < length ps → i ≡ member_of event → now ≡ moment_in event
     → GoesOn next_word now Ticked (get_or ps i d) q e → SendsOuts (get_or ps i d) e outs → ((es : List Entry) → input_of es event ≡ Some Ticked) → more ≡ sents ++ outs → EntersAll next_word ps (slice_set ps i q) sents more event e
 ticks_at next_word ps sents more outs event i d q now e lt named at goes sends asks is = record {
   enters = λ t w.
@@ -202,7 +202,7 @@ no_tick true g = refl
 no_tick false g = refl
 
 -- a datagram is delivered
-pub delivers_at : {W : Type 0} (next_word : W → ℕ × W) (ps : List (Content W)) (sents : List Out) (event : Event) (i member now index : ℕ) (o : Out) (d q : Content W) (e : Entry) → event ≡ Deliver member now index → i < length ps → i ≡ member_of event
+pub delivers_at : {W : Type 0} (next_word : W → ℕ × W) (ps : List (ParticipantContent W)) (sents : List Out) (event : Event) (i member now index : ℕ) (o : Out) (d q : ParticipantContent W) (e : Entry) → event ≡ Deliver member now index → i < length ps → i ≡ member_of event
     → slice_get sents index ≡ Some o → GoesOn next_word (Some now) e.input (get_or ps i d) q e → HearsBytes o.bytes (get_or ps i d) e → EntersAll next_word ps (slice_set ps i q) sents sents event e
 delivers_at next_word ps sents event i member now index o d q e is lt named at goes reads = record {
   enters = λ t w.
@@ -228,7 +228,7 @@ either_way : (b : Bool) (o : Option Input) → o ≡ None → cond b o None ≡ 
 either_way true o e = e
 either_way false o e = refl
 
-pub skips_unsent : {W : Type 0} (ps : List (Content W)) (sents : List Out) (event : Event) (member now index : ℕ) → event ≡ Deliver member now index → slice_get sents index ≡ None → Skips ps ps sents sents event
+pub skips_unsent : {W : Type 0} (ps : List (ParticipantContent W)) (sents : List Out) (event : Event) (member now index : ℕ) → event ≡ Deliver member now index → slice_get sents index ≡ None → Skips ps ps sents sents event
 skips_unsent ps sents event member now index is past = record {
   nothing = λ t w. either_way (nat_lt (member_of event) (length t.starts)) (input_of t.entries event)
       (ap (input_of t.entries) is ∙ ap (option_map (input_heard (is_gone (state (of_member member t.entries))))) (datagram_at t.starts sents t.entries index None w.sent past));
@@ -236,10 +236,10 @@ skips_unsent ps sents event member now index is past = record {
   sent = refl;
 }
 
-pub skips_slot : {W : Type 0} (ps : List (Content W)) (sents : List Out) (event : Event) → ((es : List Entry) → input_of es event ≡ None) → Skips ps ps sents sents event
+pub skips_slot : {W : Type 0} (ps : List (ParticipantContent W)) (sents : List Out) (event : Event) → ((es : List Entry) → input_of es event ≡ None) → Skips ps ps sents sents event
 skips_slot ps sents event none = record { nothing = λ t w. either_way (nat_lt (member_of event) (length t.starts)) (input_of t.entries event) (none t.entries); same = refl; sent = refl }
 
-pub skips_member : {W : Type 0} (ps : List (Content W)) (sents : List Out) (event : Event) (i : ℕ) → i ≡ member_of event → length ps ≤ i → Skips ps ps sents sents event
+pub skips_member : {W : Type 0} (ps : List (ParticipantContent W)) (sents : List Out) (event : Event) (i : ℕ) → i ≡ member_of event → length ps ≤ i → Skips ps ps sents sents event
 skips_member ps sents event i named past = record {
   nothing = λ t w. ap (λ b. cond b (input_of t.entries event) None) (not_below (member_of event) (length t.starts) (omega (arith, w.count, named, past)));
   same = refl;
@@ -260,7 +260,7 @@ in_slot_none slot input l = ap (λ b. cond b (Some input) None) (past slot l)
 
 -- the world after an event
 
-pub run_more : {W : Type 0} (starts : List Start) (es : List Entry) (ps : List (Content W)) → IsRoster starts → length ps ≡ length starts → AllFit starts ps es → AllByRecursion (λ (e : Entry). e.member < length starts) es → IsRunOf starts es
+pub run_more : {W : Type 0} (starts : List Start) (es : List Entry) (ps : List (ParticipantContent W)) → IsRoster starts → length ps ≡ length starts → AllFit starts ps es → AllByRecursion (λ (e : Entry). e.member < length starts) es → IsRunOf starts es
 run_more starts es ps roster count fit inside = record {
   roster = roster;
   inside = inside;
@@ -270,7 +270,7 @@ run_more starts es ps roster count fit inside = record {
 }
 
 -- after an entry
-pub world_more : {W : Type 0} (next_word : W → ℕ × W) (old new : List (Content W)) (sents more : List Out) (t now : Trace) (event : Event) (e : Entry) → now ≡ after_entry t e → AreWorld old sents t → EntersAll next_word old new sents more event e
+pub world_more : {W : Type 0} (next_word : W → ℕ × W) (old new : List (ParticipantContent W)) (sents more : List Out) (t now : Trace) (event : Event) (e : Entry) → now ≡ after_entry t e → AreWorld old sents t → EntersAll next_word old new sents more event e
     → AreWorld new more now
 world_more next_word old new sents more t now event e is w all = subst (AreWorld new more) (sym is) (
     let es : List Entry = t.entries ++ e ∷ [] in
@@ -280,7 +280,7 @@ world_more next_word old new sents more t now event e is w all = subst (AreWorld
     record { count = all.count ∙ w.count; fit = h.fit; sent = h.sent; lawful = lawful (record { starts = t.starts; entries = es }) run honest })
 
 -- after a call that left the trace as it was
-pub world_same : {W : Type 0} (old new : List (Content W)) (sents more : List Out) (t : Trace) → AreWorld old sents t → KeepsParticipants old new sents more → AreWorld new more t
+pub world_same : {W : Type 0} (old new : List (ParticipantContent W)) (sents more : List Out) (t : Trace) → AreWorld old sents t → KeepsParticipants old new sents more → AreWorld new more t
 world_same old new sents more t w keeps = record {
   count = keeps.count ∙ w.count;
   fit = keeps.fits t.starts t.entries w.fit;
@@ -288,16 +288,16 @@ world_same old new sents more t w keeps = record {
   lawful = w.lawful;
 }
 
-pub skips_keep : {W : Type 0} (old new : List (Content W)) (sents more : List Out) (event : Event) → Skips old new sents more event → KeepsParticipants old new sents more
+pub skips_keep : {W : Type 0} (old new : List (ParticipantContent W)) (sents more : List Out) (event : Event) → Skips old new sents more event → KeepsParticipants old new sents more
 skips_keep old new sents more event skips = record { fits = λ starts es all. subst (λ ps. AllFit starts ps es) (sym skips.same) all; words = ap words_of skips.same; count = ap length skips.same; sent = skips.sent }
 
-pub followed : {W : Type 0} (next_word : W → ℕ × W) (old new : List (Content W)) (sents more : List Out) (t : Trace) (event : Event) (e : Entry) → AreWorld old sents t → EntersAll next_word old new sents more event e → FollowsOne t.starts t.entries event (t.entries ++ e ∷ [])
+pub followed : {W : Type 0} (next_word : W → ℕ × W) (old new : List (ParticipantContent W)) (sents more : List Out) (t : Trace) (event : Event) (e : Entry) → AreWorld old sents t → EntersAll next_word old new sents more event e → FollowsOne t.starts t.entries event (t.entries ++ e ∷ [])
 followed next_word old new sents more t event e w all = let h = all.enters t w in rw h.asks (e, h.is_entry, refl)
 
-pub was_asked : {W : Type 0} (next_word : W → ℕ × W) (old new : List (Content W)) (sents more : List Out) (t : Trace) (event : Event) (e : Entry) → AreWorld old sents t → EntersAll next_word old new sents more event e → IsSome (required_input t.starts t.entries event)
+pub was_asked : {W : Type 0} (next_word : W → ℕ × W) (old new : List (ParticipantContent W)) (sents more : List Out) (t : Trace) (event : Event) (e : Entry) → AreWorld old sents t → EntersAll next_word old new sents more event e → IsSome (required_input t.starts t.entries event)
 was_asked next_word old new sents more t event e w all = let h = all.enters t w in rw h.asks refl
 
-pub was_skipped : {W : Type 0} (old new : List (Content W)) (sents more : List Out) (t : Trace) (event : Event) → AreWorld old sents t → Skips old new sents more event → FollowsOne t.starts t.entries event t.entries
+pub was_skipped : {W : Type 0} (old new : List (ParticipantContent W)) (sents more : List Out) (t : Trace) (event : Event) → AreWorld old sents t → Skips old new sents more event → FollowsOne t.starts t.entries event t.entries
 was_skipped old new sents more t event w skips = rw (skips.nothing t w) refl
 
 -- a run of events goes on by one
@@ -306,21 +306,21 @@ follows_more starts old between new [] event h one = (new, subst (λ es. Follows
 follows_more starts old between new (x ∷ events) event h one = (h.0, h.1, follows_more starts h.0 between new events event h.2 one)
 
 -- the same world, with what is kept in other places
-pub world_is : {W : Type 0} (ps items : List (Content W)) (sents more : List Out) (t now : Trace) → items ≡ ps → more ≡ sents → now ≡ t → AreWorld ps sents t → AreWorld items more now
+pub world_is : {W : Type 0} (ps items : List (ParticipantContent W)) (sents more : List Out) (t now : Trace) → items ≡ ps → more ≡ sents → now ≡ t → AreWorld ps sents t → AreWorld items more now
 world_is ps items sents more t now items_are more_is now_is w = subst (λ xs. AreWorld xs more now) (sym items_are) (subst (λ os. AreWorld ps os now) (sym more_is) (subst (AreWorld ps sents) (sym now_is) w))
 
 -- what was appended to the trace of a world
 
-pub appended_world : {W : Type 0} (next_word : W → ℕ × W) (old new items : List (Content W)) (sents more : List Out) (t now : Trace) (event : Event) (applied : Bool) → items ≡ new → AreWorld old sents t → Appends next_word old new sents more event t now applied → AreWorld items more now
+pub appended_world : {W : Type 0} (next_word : W → ℕ × W) (old new items : List (ParticipantContent W)) (sents more : List Out) (t now : Trace) (event : Event) (applied : Bool) → items ≡ new → AreWorld old sents t → Appends next_word old new sents more event t now applied → AreWorld items more now
 appended_world next_word old new items sents more t now event true same w (e, all, is) = subst (λ ps. AreWorld ps more now) (sym same) (world_more next_word old new sents more t now event e is w all)
 appended_world next_word old new items sents more t now event false same w (skips, is) =
     world_is new items more more t now same refl is (world_same old new sents more t w (skips_keep old new sents more event skips))
 
-pub appended_follows : {W : Type 0} (next_word : W → ℕ × W) (old new : List (Content W)) (sents more : List Out) (t now : Trace) (event : Event) (applied : Bool) → AreWorld old sents t → Appends next_word old new sents more event t now applied → FollowsOne t.starts t.entries event now.entries
+pub appended_follows : {W : Type 0} (next_word : W → ℕ × W) (old new : List (ParticipantContent W)) (sents more : List Out) (t now : Trace) (event : Event) (applied : Bool) → AreWorld old sents t → Appends next_word old new sents more event t now applied → FollowsOne t.starts t.entries event now.entries
 appended_follows next_word old new sents more t now event true w (e, all, is) = subst (λ (x : Trace). FollowsOne t.starts t.entries event x.entries) (sym is) (followed next_word old new sents more t event e w all)
 appended_follows next_word old new sents more t now event false w (skips, is) = subst (λ (x : Trace). FollowsOne t.starts t.entries event x.entries) (sym is) (was_skipped old new sents more t event w skips)
 
-pub appended_asked : {W : Type 0} (next_word : W → ℕ × W) (old new : List (Content W)) (sents more : List Out) (t now : Trace) (event : Event) (applied : Bool) → AreWorld old sents t → Appends next_word old new sents more event t now applied
+pub appended_asked : {W : Type 0} (next_word : W → ℕ × W) (old new : List (ParticipantContent W)) (sents more : List Out) (t now : Trace) (event : Event) (applied : Bool) → AreWorld old sents t → Appends next_word old new sents more event t now applied
     → IsTrue applied ↔ IsSome (required_input t.starts t.entries event)
 appended_asked next_word old new sents more t now event true w (e, all, is) = ((λ h. was_asked next_word old new sents more t event e w all), (λ h. refl))
 appended_asked next_word old new sents more t now event false w (skips, is) = ((λ h. absurd (cc)), (λ h. absurd (no_input (required_input t.starts t.entries event) (skips.nothing t w) h)))
@@ -329,12 +329,12 @@ appended_asked next_word old new sents more t now event false w (skips, is) = ((
     no_input None e h = absurd (cc)
     no_input (Some x) e h = absurd (cc)
 
-pub appended_starts : {W : Type 0} (next_word : W → ℕ × W) (old new : List (Content W)) (sents more : List Out) (t now : Trace) (event : Event) (applied : Bool) → Appends next_word old new sents more event t now applied → now.starts ≡ t.starts
+pub appended_starts : {W : Type 0} (next_word : W → ℕ × W) (old new : List (ParticipantContent W)) (sents more : List Out) (t now : Trace) (event : Event) (applied : Bool) → Appends next_word old new sents more event t now applied → now.starts ≡ t.starts
 appended_starts next_word old new sents more t now event true (e, all, is) = ap (λ (x : Trace). x.starts) is
 appended_starts next_word old new sents more t now event false (skips, is) = ap (λ (x : Trace). x.starts) is
 
 -- what the words have come to after it
-pub appended_words : {W : Type 0} (next_word : W → ℕ × W) (first old new items : List (Content W)) (sents more : List Out) (t now : Trace) (event : Event) (applied : Bool) → old ≡ first → items ≡ new → AreWorld old sents t → Appends next_word old new sents more event t now applied
+pub appended_words : {W : Type 0} (next_word : W → ℕ × W) (first old new items : List (ParticipantContent W)) (sents more : List Out) (t now : Trace) (event : Event) (applied : Bool) → old ≡ first → items ≡ new → AreWorld old sents t → Appends next_word old new sents more event t now applied
     → PlaysByWords next_word (record { trace = t; words = words_of first }) (record { trace = now; words = words_of items })
 appended_words next_word first old new items sents more t now event applied first_is same w h =
     subst (λ ps. PlaysByWords next_word (record { trace = t; words = words_of ps }) (record { trace = now; words = words_of items })) first_is

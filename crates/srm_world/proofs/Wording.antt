@@ -14,11 +14,11 @@ use Rattle.srm_entries.specs.declared.entry.Input.{Input}
 use Rattle.srm_entries.specs.Configs.{Config}
 use Rattle.srm_entries.specs.Timers.{low_of, high_of}
 use Rattle.srm_agent.specs.Contents as agents
-use Rattle.srm_agent.specs.Fits as agents_fit
+use Rattle.srm_agent.specs.Fits.{AgentFits}
 use Rattle.srm_agent.specs.Noting.{Enters}
 use Rattle.srm_world.specs.declared.start.Start.{Start}
 use Rattle.srm_world.specs.Traces.{Trace, Journal, of_member}
-use Rattle.srm_world.specs.Participants.{Content}
+use Rattle.srm_world.specs.Participants.{ParticipantContent}
 use Rattle.srm_world.specs.WaitWords.{RecorderView, WorldView, AreByWords, AreByOwnWords, RecordsByWords, PlaysByWords, arms_in}
 use Rattle.srm_world.specs.Worlds.{AreWorld, words_of}
 use Rattle.srm_world.proofs.Members.{of_member-append}
@@ -34,7 +34,7 @@ by_more next_word c from mid to xs ys h k =
 
 -- a recorder
 
-pub recorded_by : {W : Type 0} (next_word : W → ℕ × W) (now : Option ℕ) (input : Input) (j : Journal) (a b : agents.Content W) (e : Entry) (es : List Entry) → agents_fit.Fits j.start.config j.start.made j.entries a → Enters next_word now input a b e → es ≡ j.entries ++ e ∷ []
+pub recorded_by : {W : Type 0} (next_word : W → ℕ × W) (now : Option ℕ) (input : Input) (j : Journal) (a b : agents.AgentContent W) (e : Entry) (es : List Entry) → AgentFits j.start.config j.start.made j.entries a → Enters next_word now input a b e → es ≡ j.entries ++ e ∷ []
     → RecordsByWords next_word (record { journal = j; words = a.words }) (record { journal = record { start = j.start; entries = es }; words = b.words })
 recorded_by next_word now input j a b e es fits enters is = record {
   added = e ∷ [];
@@ -52,7 +52,7 @@ no_words_recorded next_word old new same = subst (RecordsByWords next_word old) 
 -- a world
 
 -- the source of a member
-abbrev source : {W : Type 0} → Content W → W
+abbrev source : {W : Type 0} → ParticipantContent W → W
 source p = p.agent.words
 
 pub plays_nothing : {W : Type 0} (next_word : W → ℕ × W) (starts : List Start) (from to : List W) → to ≡ from → AreByOwnWords next_word starts from [] to
@@ -62,7 +62,7 @@ plays_nothing next_word starts from to same = record {
 }
 
 -- the source of one member went on
-pub plays_one : {W : Type 0} (next_word : W → ℕ × W) (starts : List Start) (ps : List (Content W)) (i : ℕ) (d q : Content W) (e : Entry) (a : Start) → i < length ps → slice_get starts i ≡ Some a → e.member ≡ i
+pub plays_one : {W : Type 0} (next_word : W → ℕ × W) (starts : List Start) (ps : List (ParticipantContent W)) (i : ℕ) (d q : ParticipantContent W) (e : Entry) (a : Start) → i < length ps → slice_get starts i ≡ Some a → e.member ≡ i
     → AreChosen next_word (low_of a.config) (high_of a.config) (get_or ps i d).agent.words e.effects.arms q.agent.words → AreByOwnWords next_word starts (words_of ps) (e ∷ []) (words_of (slice_set ps i q))
 plays_one {W = W} next_word starts ps i d q e a lt at mine drawn = record {
   count = length-map (slice_set ps i q) source ∙ length-set ps i q ∙ sym (length-map ps source);
@@ -86,11 +86,11 @@ plays_one {W = W} next_word starts ps i d q e a lt at mine drawn = record {
         (same_Some v u (sym at_v ∙ slice_get-map source (slice_set ps i q) m ∙ ap (option_map source) (set_elsewhere ps i m q differ) ∙ sym (slice_get-map source ps m) ∙ at_u))
 
 -- each member has a source
-pub sources_counted : {W : Type 0} (ps : List (Content W)) (sents : List Out) (t : Trace) → AreWorld ps sents t → length (words_of ps) ≡ length t.starts
+pub sources_counted : {W : Type 0} (ps : List (ParticipantContent W)) (sents : List Out) (t : Trace) → AreWorld ps sents t → length (words_of ps) ≡ length t.starts
 sources_counted ps sents t are = length-map ps source ∙ are.count
 
 -- no source went on
-pub sources_stay : {W : Type 0} (ps : List (Content W)) (i : ℕ) (d q : Content W) → q.agent.words ≡ (get_or ps i d).agent.words → words_of (slice_set ps i q) ≡ words_of ps
+pub sources_stay : {W : Type 0} (ps : List (ParticipantContent W)) (i : ℕ) (d q : ParticipantContent W) → q.agent.words ≡ (get_or ps i d).agent.words → words_of (slice_set ps i q) ≡ words_of ps
 sources_stay [] i d q e = refl
 sources_stay (p ∷ ps) zero d q e = ap (λ w. w ∷ words_of ps) e
 sources_stay (p ∷ ps) (suc i) d q e = ap (λ ws. p.agent.words ∷ ws) (sources_stay ps i d q e)

@@ -14,21 +14,21 @@ use Rattle.srm_entries.specs.Timers.{low_of, high_of}
 use Rattle.srm_agent.specs.Contents as agents
 use Rattle.srm_entries.specs.Entries.{state, is_gone, last_moment}
 use Rattle.srm_entries.specs.Giving.{given, taken}
-use Rattle.srm_agent.specs.Fits as agents_fit
+use Rattle.srm_agent.specs.Fits.{AgentFits}
 use Rattle.srm_agent.specs.Noting.{moment_that_counts}
 use Rattle.srm_outbox.specs.Outs.{AreOutsOf}
 use Rattle.srm_world.specs.declared.participant.Participant.TheInside.{Inside}
 use Rattle.srm_world.specs.Events.{input_heard}
 use Rattle.srm_world.specs.Lane.{LaneContent}
 
-pub record Content (W : Type 0) : Type 0 where
-  pub agent : agents.Content W
+pub record ParticipantContent (W : Type 0) : Type 0 where
+  pub agent : agents.AgentContent W
   pub config : Config
   pub last : ℕ
   pub state : AgentState
   pub lanes : List LaneContent
 
-abbrev pub content_of : {W : Type 0} → Inside W → Content W
+abbrev pub content_of : {W : Type 0} → Inside W → ParticipantContent W
 content_of p = record { agent = p.agent; config = p.config; last = p.last; state = p.state; lanes = p.lanes }
 
 -- what was given in a slot is what was taken there, followed by what waits in its lane
@@ -36,8 +36,8 @@ abbrev pub LanesFit : List Entry → List LaneContent → Type 0
 LanesFit past lanes = (j : ℕ) (l : LaneContent) → slice_get lanes j ≡ Some l → given past j ≡ taken past j ++ l.waiting
 
 -- all that is kept of a member is what the definitions say of its entries
-pub record Fits {W : Type 0} (c : Config) (made : ℕ) (past : List Entry) (p : Content W) : Type 0 where
-  pub agent : agents_fit.Fits c made past p.agent
+pub record ParticipantFits {W : Type 0} (c : Config) (made : ℕ) (past : List Entry) (p : ParticipantContent W) : Type 0 where
+  pub agent : AgentFits c made past p.agent
   pub config : p.config ≡ c
   pub last : p.last ≡ last_moment made past
   pub state : p.state ≡ state past
@@ -49,26 +49,26 @@ last_with last (Refused fault) moment = last
 last_with last _ moment = moment
 
 -- the entry is at the moment that counts, and the member then fits the entries with this one added
-pub record Adds {W : Type 0} (c : Config) (made : ℕ) (past : List Entry) (now : Option ℕ) (new : Content W) (e : Entry) : Type 0 where
+pub record ParticipantAdds {W : Type 0} (c : Config) (made : ℕ) (past : List Entry) (now : Option ℕ) (new : ParticipantContent W) (e : Entry) : Type 0 where
   pub moment : e.moment ≡ moment_that_counts now (last_moment made past)
-  pub fits : Fits c made (past ++ e ∷ []) new
+  pub fits : ParticipantFits c made (past ++ e ∷ []) new
 
 -- the same of whatever entries the member fitted, where the entry is of this input, and its waits are by the next words
-pub record GoesOn {W : Type 0} (next_word : W → ℕ × W) (now : Option ℕ) (input : Input) (old new : Content W) (e : Entry) : Type 0 where
+pub record GoesOn {W : Type 0} (next_word : W → ℕ × W) (now : Option ℕ) (input : Input) (old new : ParticipantContent W) (e : Entry) : Type 0 where
   pub input_is : e.input ≡ input
-  pub adds : (c : Config) (made : ℕ) (past : List Entry) → Fits c made past old → Adds c made past now new e
+  pub adds : (c : Config) (made : ℕ) (past : List Entry) → ParticipantFits c made past old → ParticipantAdds c made past now new e
   pub words : AreChosen next_word (low_of old.agent.config) (high_of old.agent.config) old.agent.words e.effects.arms new.agent.words
 
 -- whatever entries the member fitted, it still fits, and no word was used
-pub record Stays {W : Type 0} (old new : Content W) : Type 0 where
-  pub fits : (c : Config) (made : ℕ) (past : List Entry) → Fits c made past old → Fits c made past new
+pub record ParticipantStays {W : Type 0} (old new : ParticipantContent W) : Type 0 where
+  pub fits : (c : Config) (made : ℕ) (past : List Entry) → ParticipantFits c made past old → ParticipantFits c made past new
   pub words : new.agent.words ≡ old.agent.words
 
 -- where the bytes spell a datagram, the entry is of this datagram, or of noise where the member is gone
-pub record HearsBytes {W : Type 0} (bytes : List ℕ) (old : Content W) (e : Entry) : Type 0 where
-  pub each : (c : Config) (made : ℕ) (past : List Entry) (g : Datagram) → Fits c made past old → Spells c.session g bytes
+pub record HearsBytes {W : Type 0} (bytes : List ℕ) (old : ParticipantContent W) (e : Entry) : Type 0 where
+  pub each : (c : Config) (made : ℕ) (past : List Entry) (g : Datagram) → ParticipantFits c made past old → Spells c.session g bytes
       → e.input ≡ input_heard (is_gone (state past)) g
 
 -- these are the datagrams of the entry, each with its spelling in the session, whatever entries the member fitted
-pub record SendsOuts {W : Type 0} (old : Content W) (e : Entry) (outs : List Out) : Type 0 where
-  pub each : (c : Config) (made : ℕ) (past : List Entry) → Fits c made past old → AreOutsOf c.session outs e.effects.outs
+pub record SendsOuts {W : Type 0} (old : ParticipantContent W) (e : Entry) (outs : List Out) : Type 0 where
+  pub each : (c : Config) (made : ℕ) (past : List Entry) → ParticipantFits c made past old → AreOutsOf c.session outs e.effects.outs

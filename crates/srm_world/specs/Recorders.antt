@@ -1,8 +1,8 @@
 -- What a recorder keeps.
 use Rattle.std.specs.Prelude.{List}
 use Rattle.std.specs.List.{AllByRecursion}
-use Rattle.srm_agent.specs.Contents.{Content}
-use Rattle.srm_agent.specs.Fits.{Fits}
+use Rattle.srm_agent.specs.Contents.{AgentContent}
+use Rattle.srm_agent.specs.Fits.{AgentFits}
 use Rattle.srm_entries.specs.declared.entry.Entry.{Entry}
 use Rattle.srm_world.specs.declared.start.Start.{Start}
 use Rattle.srm_world.specs.Traces.{Journal, IsUntaken}
@@ -11,10 +11,10 @@ use Rattle.srm_world.specs.WaitWords.{RecorderView}
 abbrev pub journal_of : Start → List Entry → Journal
 journal_of start past = record { start = start; entries = past }
 
-abbrev pub recorder_view : {W : Type 0} → Start → List Entry → Content W → RecorderView W
+abbrev pub recorder_view : {W : Type 0} → Start → List Entry → AgentContent W → RecorderView W
 recorder_view start past agent = record { journal = journal_of start past; words = agent.words }
 
 -- the agent fits the entries, and none of them is a take
-pub record IsKept {W : Type 0} (j : Journal) (a : Content W) : Type 0 where
-  pub fits : Fits j.start.config j.start.made j.entries a
+pub record IsKept {W : Type 0} (j : Journal) (a : AgentContent W) : Type 0 where
+  pub fits : AgentFits j.start.config j.start.made j.entries a
   pub untaken : AllByRecursion IsUntaken j.entries

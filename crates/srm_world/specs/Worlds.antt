@@ -12,12 +12,12 @@ use Rattle.srm_world.specs.Traces.{Trace, of_member}
 use Rattle.srm_world.specs.WaitWords.{WorldView, AreByOwnWords}
 use Rattle.srm_world.specs.Events.{IsEntryOf, required_input}
 use Rattle.srm_world.specs.Claims.{IsLawful}
-use Rattle.srm_world.specs.Participants.{Content, Fits}
+use Rattle.srm_world.specs.Participants.{ParticipantContent, ParticipantFits}
 use Rattle.srm_world.specs.Sent.{all_of}
 
 -- each member fits its own entries
-abbrev pub AllFit : {W : Type 0} → List Start → List (Content W) → List Entry → Type 0
-AllFit {W = W} starts ps es = (m : ℕ) (a : Start) (p : Content W) → slice_get starts m ≡ Some a → slice_get ps m ≡ Some p → Fits a.config a.made (of_member m es) p
+abbrev pub AllFit : {W : Type 0} → List Start → List (ParticipantContent W) → List Entry → Type 0
+AllFit {W = W} starts ps es = (m : ℕ) (a : Start) (p : ParticipantContent W) → slice_get starts m ≡ Some a → slice_get ps m ≡ Some p → ParticipantFits a.config a.made (of_member m es) p
 
 -- what was sent is what the entries say, each with its spelling in the session of every member
 pub record AreSent (starts : List Start) (sents : List Out) (es : List Entry) : Type 0 where
@@ -25,15 +25,15 @@ pub record AreSent (starts : List Start) (sents : List Out) (es : List Entry) : 
   pub spelled : (m : ℕ) (a : Start) → slice_get starts m ≡ Some a → AllByRecursion (IsOut a.config.session) sents
 
 -- the members and what was sent are those of the trace, which is lawful
-pub record AreWorld {W : Type 0} (ps : List (Content W)) (sents : List Out) (t : Trace) : Type 0 where
+pub record AreWorld {W : Type 0} (ps : List (ParticipantContent W)) (sents : List Out) (t : Trace) : Type 0 where
   pub count : length ps ≡ length t.starts
   pub fit : AllFit t.starts ps t.entries
   pub sent : AreSent t.starts sents t.entries
   pub lawful : IsLawful t
 
 -- the words of the members
-abbrev pub words_of : {W : Type 0} → List (Content W) → List W
-words_of {W = W} ps = map (λ (p : Content W). p.agent.words) ps
+abbrev pub words_of : {W : Type 0} → List (ParticipantContent W) → List W
+words_of {W = W} ps = map (λ (p : ParticipantContent W). p.agent.words) ps
 
 abbrev pub world_view : {W : Type 0} → Inside W → WorldView W
 world_view w = record { trace = w.trace; words = words_of w.participants.items }
@@ -42,7 +42,7 @@ abbrev pub IsWorld : {W : Type 0} → Inside W → Type 0
 IsWorld w = AreWorld w.participants.items (all_of w.sent) w.trace
 
 -- the entry is of the event and hears only what was sent; the members and what was sent go on with it
-pub record EntersTrace {W : Type 0} (starts : List Start) (es : List Entry) (event : Event) (ps : List (Content W)) (sents : List Out) (e : Entry) : Type 0 where
+pub record EntersTrace {W : Type 0} (starts : List Start) (es : List Entry) (event : Event) (ps : List (ParticipantContent W)) (sents : List Out) (e : Entry) : Type 0 where
   pub asks : required_input starts es event ≡ Some e.input
   pub is_entry : IsEntryOf starts es event e.input e
   pub inside : e.member < length starts
@@ -51,19 +51,19 @@ pub record EntersTrace {W : Type 0} (starts : List Start) (es : List Entry) (eve
   pub sent : AreSent starts sents (es ++ e ∷ [])
 
 -- the same, in whatever world these were the members and what was sent, and its waits are by words
-pub record EntersAll {W : Type 0} (next_word : W → ℕ × W) (old new : List (Content W)) (sents more : List Out) (event : Event) (e : Entry) : Type 0 where
+pub record EntersAll {W : Type 0} (next_word : W → ℕ × W) (old new : List (ParticipantContent W)) (sents more : List Out) (event : Event) (e : Entry) : Type 0 where
   pub enters : (t : Trace) → AreWorld old sents t → EntersTrace t.starts t.entries event new more e
   pub words : (t : Trace) → AreWorld old sents t → AreByOwnWords next_word t.starts (words_of old) (e ∷ []) (words_of new)
   pub count : length new ≡ length old
 
 -- the event asks nothing of any member
-pub record Skips {W : Type 0} (old new : List (Content W)) (sents more : List Out) (event : Event) : Type 0 where
+pub record Skips {W : Type 0} (old new : List (ParticipantContent W)) (sents more : List Out) (event : Event) : Type 0 where
   pub nothing : (t : Trace) → AreWorld old sents t → required_input t.starts t.entries event ≡ None
   pub same : new ≡ old
   pub sent : more ≡ sents
 
 -- nothing was sent, no word was used, and the members fit what they did
-pub record KeepsParticipants {W : Type 0} (old new : List (Content W)) (sents more : List Out) : Type 0 where
+pub record KeepsParticipants {W : Type 0} (old new : List (ParticipantContent W)) (sents more : List Out) : Type 0 where
   pub fits : (starts : List Start) (es : List Entry) → AllFit starts old es → AllFit starts new es
   pub words : words_of new ≡ words_of old
   pub count : length new ≡ length old
@@ -73,6 +73,6 @@ abbrev pub after_entry : Trace → Entry → Trace
 after_entry t e = record { starts = t.starts; entries = t.entries ++ e ∷ [] }
 
 -- the trace has one entry more, which is of the event; or the event was skipped, and the trace is the same
-abbrev pub Appends : {W : Type 0} → (W → ℕ × W) → List (Content W) → List (Content W) → List Out → List Out → Event → Trace → Trace → Bool → Type 0
+abbrev pub Appends : {W : Type 0} → (W → ℕ × W) → List (ParticipantContent W) → List (ParticipantContent W) → List Out → List Out → Event → Trace → Trace → Bool → Type 0
 Appends next_word old new sents more event t now true = (e : Entry) × EntersAll next_word old new sents more event e × (now ≡ after_entry t e)
 Appends next_word old new sents more event t now false = Skips old new sents more event × (now ≡ t)

@@ -2,7 +2,7 @@
 
 ghost use Rattle.std.specs.Prelude.{◌≡◌, ◌≤◌, [], Some, IfOk, OnErr};
 ghost use Rattle.srm_names.specs.declared.limits.TheConstants.{LATEST_MOMENT};
-ghost use Rattle.srm_world.specs.Participants.{Fits, GoesOn, Stays, last_with};
+ghost use Rattle.srm_world.specs.Participants.{ParticipantFits, GoesOn, ParticipantStays, last_with};
 
 mod taking;
 mod ticking;
@@ -28,9 +28,9 @@ pub struct Participant<W: Words + Drop> {
 }
 
 impl<W: Words + Drop> Model for Participant<W> {
-    ghost use Rattle.srm_world.specs.Participants.{Content, content_of};
+    ghost use Rattle.srm_world.specs.Participants.{ParticipantContent, content_of};
 
-    ghost Value = { Content W };
+    ghost Value = { ParticipantContent W };
 
     ghost view = { content_of };
 }
@@ -44,7 +44,7 @@ impl<W: Words + Drop> Participant<W> {
         now: u64,
     ) -> Result<Participant<W>, AllocError>
         requires { now ≤ LATEST_MOMENT }
-        ensures fits { IfOk result (Fits config now []) }
+        ensures fits { IfOk result (ParticipantFits config now []) }
         ensures words { IfOk result (λ participant. participant.agent.words ≡ words) }
     {
         Ok(Participant {
@@ -61,7 +61,7 @@ impl<W: Words + Drop> Participant<W> {
     pub fn draw(&mut self, page: Page, body: Bytes, now: u64) -> Result<Entry, AllocError>
         requires { now ≤ LATEST_MOMENT }
         ensures ok { IfOk result (GoesOn W.next_word (Some now) (Input.Drew page body) self.old self.new) }
-        ensures err { OnErr result (Stays self.old self.new) }
+        ensures err { OnErr result (ParticipantStays self.old self.new) }
     {
         let entry = self.agent.draw_noted(page, body, now)?.entry;
         self.note(&entry);
@@ -72,7 +72,7 @@ impl<W: Words + Drop> Participant<W> {
     pub fn show(&mut self, page: Page, now: u64) -> Result<Entry, AllocError>
         requires { now ≤ LATEST_MOMENT }
         ensures ok { IfOk result (GoesOn W.next_word (Some now) (Input.Showed page) self.old self.new) }
-        ensures err { OnErr result (Stays self.old self.new) }
+        ensures err { OnErr result (ParticipantStays self.old self.new) }
     {
         let entry = self.agent.show_noted(page, now)?.entry;
         self.note(&entry);
@@ -83,7 +83,7 @@ impl<W: Words + Drop> Participant<W> {
     pub fn leave(&mut self, now: u64) -> Result<Entry, AllocError>
         requires { now ≤ LATEST_MOMENT }
         ensures ok { IfOk result (GoesOn W.next_word (Some now) Input.AskedLeave self.old self.new) }
-        ensures err { OnErr result (Stays self.old self.new) }
+        ensures err { OnErr result (ParticipantStays self.old self.new) }
     {
         let entry = self.agent.leave_noted(now)?.entry;
         self.note(&entry);

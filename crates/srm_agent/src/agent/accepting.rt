@@ -5,7 +5,7 @@ ghost use Rattle.srm_names.specs.Names.{ascending, name_below};
 ghost use Rattle.srm_store.specs.Stores.{HavePlaces};
 ghost use Rattle.srm_agent.specs.Heeding.{EntersHeard, MayAccept, AreNewlyMissingBelow, carrying};
 ghost use Rattle.srm_entries.specs.declared.cause.Outcome.TheVariants.{Taken};
-ghost use Rattle.srm_agent.specs.Noting.{Stays};
+ghost use Rattle.srm_agent.specs.Noting.{AgentStays};
 
 use super::Agent;
 use super::noting::{Hearing, accepted, note_arms, room_to_note};
@@ -28,7 +28,7 @@ impl<W: Words + Drop> Agent<W> {
         ensures ok { IfOk result (λ hearing. EntersHeard W.next_word (carrying repairer drawop) moment self.old self.new hearing.heard) }
         ensures done { IfOk result (λ hearing. hearing.heard.outcome ≡ Taken) }
         ensures noted { IfOk result (λ hearing. notes ≡ true → hearing.noted ≡ hearing.heard.arms) }
-        ensures err { OnErr result (Stays self.old self.new) }
+        ensures err { OnErr result (AgentStays self.old self.new) }
     {
         let name = drawop.name;
         let newly_missing = self.newly_missing_below(name)?;

@@ -10,8 +10,8 @@ ghost use Rattle.srm_store.specs.declared.fault.StoreFault.TheVariants.{PageLimi
 ghost use Rattle.srm_store.specs.Held.{outgrow};
 ghost use Rattle.srm_store.specs.Finals.{Settling};
 ghost use Rattle.srm_store.specs.Stores.{HavePlaces};
-ghost use Rattle.srm_store.specs.Fits.{Fits as StoreFits, StoreStays};
-ghost use Rattle.srm_bucket.specs.Fits.{Stays as BucketStays};
+ghost use Rattle.srm_store.specs.Fits.{StoreFits, StoreStays};
+ghost use Rattle.srm_bucket.specs.Fits.{BucketStays};
 ghost use Rattle.srm_agent.specs.Drawing.{IsDraftOf};
 ghost use Rattle.srm_outbox.specs.Outs.{IsOutgoingOf};
 

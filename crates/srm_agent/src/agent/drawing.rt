@@ -6,7 +6,7 @@ ghost use Rattle.srm_store.specs.Stores.{HavePlaces};
 ghost use Rattle.srm_bucket.specs.declared.class.Class.TheVariants.{New};
 ghost use Rattle.srm_bucket.specs.declared.limits.TheConstants.{LEAST_LENGTH, GREATEST_LENGTH};
 ghost use Rattle.srm_bucket.specs.Calls.{Handed};
-ghost use Rattle.srm_bucket.specs.Fits.{Adds};
+ghost use Rattle.srm_bucket.specs.Fits.{BucketAdds};
 ghost use Rattle.srm_bucket.specs.Waiting.{Gains};
 ghost use Rattle.srm_entries.specs.declared.entry.Entry.{Entry as AnEntry};
 ghost use Rattle.srm_entries.specs.Configs.{Config as AConfig};
@@ -17,8 +17,8 @@ ghost use Rattle.srm_store.specs.PageTables.{table_lacks_room, with_page};
 ghost use Rattle.srm_agent.specs.Drawing.{verdict_of_refusal, refusals, name_after, drawn_entry};
 ghost use Rattle.srm_agent_state.specs.Growth.{HoldsToo};
 ghost use Rattle.srm_outbox.specs.Outs.{IsOwn};
-ghost use Rattle.srm_agent.specs.Fits.{Fits};
-ghost use Rattle.srm_agent.specs.Noting.{Enters, Stays, AnswersAs, Does, IsAllowed, IsDrawnName};
+ghost use Rattle.srm_agent.specs.Fits.{AgentFits};
+ghost use Rattle.srm_agent.specs.Noting.{Enters, AgentStays, AnswersAs, Does, IsAllowed, IsDrawnName};
 
 use super::Agent;
 use crate::noted::Noted;
@@ -48,7 +48,7 @@ impl<W: Words + Drop> Agent<W> {
         requires { now ≤ LATEST_MOMENT }
         ensures ok { IfOk result (λ noted. Enters W.next_word (Some now) (Input.Drew page body) self.old self.new noted.entry) }
         ensures answer { IfOk result (λ noted. AnswersAs (IsDrawnName noted.entry) noted.entry.verdict noted.answer) }
-        ensures err { OnErr result (Stays self.old self.new) }
+        ensures err { OnErr result (AgentStays self.old self.new) }
         ensures allowed { OnErr result (IsAllowed (Input.Drew page body) self.old) }
     {
         let moment = self.moment(now);
@@ -115,7 +115,7 @@ impl<W: Words + Drop> Agent<W> {
 
     /// The name of this member's next drawop on a page, and `None` where the stream is full. All that it drew there is known.
     fn next_name(&self, page: &Page) -> Option<Name>
-        ensures value { (c : AConfig) (made : ℕ) (past : List AnEntry) → Fits c made past self.now → result ≡ name_after (stream_on c.me page.now) (known past (stream_on c.me page.now)) }
+        ensures value { (c : AConfig) (made : ℕ) (past : List AnEntry) → AgentFits c made past self.now → result ≡ name_after (stream_on c.me page.now) (known past (stream_on c.me page.now)) }
         ensures own { IfSome result (λ name. name.stream.source ≡ self.now.config.me) }
     {
         let stream = Stream {
@@ -137,7 +137,7 @@ impl<W: Words + Drop> Agent<W> {
         requires own { IsOwn self.old.config.me self.old.config.session going.value }
         ensures rest { self.new ≡ record self.old { last = moment; pages = with_page self.old.pages page.now; store = self.new.store; bucket = self.new.bucket } }
         ensures store { HoldsToo drawop self.old.store self.new.store }
-        ensures bucket { Adds (Handed (record { class = New; item = going })) self.old.bucket self.new.bucket }
+        ensures bucket { BucketAdds (Handed (record { class = New; item = going })) self.old.bucket self.new.bucket }
     {
         self.pages.add(*page);
         keep(&mut self.store, drawop);
@@ -172,7 +172,7 @@ fn wait_to_go(bucket: &mut Bucket<Outgoing>, going: Item<Outgoing>)
     requires room { 0 < bucket.old.waiting.room }
     requires least { LEAST_LENGTH ≤ going.length }
     requires greatest { going.length ≤ GREATEST_LENGTH }
-    ensures adds { Adds (Handed (record { class = New; item = going })) bucket.old bucket.new }
+    ensures adds { BucketAdds (Handed (record { class = New; item = going })) bucket.old bucket.new }
     ensures gains { Gains (record { class = New; item = going }) bucket.old.waiting bucket.new.waiting }
 {
     bucket.hand(Class::New, going).unwrap();

@@ -12,8 +12,8 @@ ghost use Rattle.srm_agent_state.specs.Progress.{ProgressFits};
 ghost use Rattle.srm_entries.specs.Giving.{GiveRight, is_some_of};
 ghost use Rattle.srm_entries.specs.Verdicts.{final};
 ghost use Rattle.srm_agent.specs.Nexts.{IsNextOf, IsNextOn};
-ghost use Rattle.srm_agent.specs.Fits.{Fits};
-ghost use Rattle.srm_agent.specs.Noting.{Enters, Stays, AnswersAs, Does, gave_by};
+ghost use Rattle.srm_agent.specs.Fits.{AgentFits};
+ghost use Rattle.srm_agent.specs.Noting.{Enters, AgentStays, AnswersAs, Does, gave_by};
 
 use super::Agent;
 use crate::noted::Noted;
@@ -33,7 +33,7 @@ impl<W: Words + Drop> Agent<W> {
         requires { slot < PAGES }
         ensures ok { IfOk result (λ noted. Enters W.next_word None (Input.Gave slot) self.old self.new noted.entry) }
         ensures answer { IfOk result (λ noted. AnswersAs (λ message. message ≡ noted.entry.effects.message) noted.entry.verdict noted.answer) }
-        ensures err { OnErr result (Stays self.old self.new) }
+        ensures err { OnErr result (AgentStays self.old self.new) }
     {
         let message = self.next_message(slot)?;
         let noted = copy_of(&message)?;
@@ -56,7 +56,7 @@ impl<W: Words + Drop> Agent<W> {
     /// A slot is given the message that it may be given next, if there is one. It takes no memory.
     fn hand_over(&mut self, slot: u8, message: &Option<PageMsg>)
         requires slot { slot < PAGES }
-        requires right { (c : AConfig) (made : ℕ) (past : List AnEntry) → Fits c made past self.old → GiveRight c past slot message.now }
+        requires right { (c : AConfig) (made : ℕ) (past : List AnEntry) → AgentFits c made past self.old → GiveRight c past slot message.now }
         ensures enters { Enters W.next_word None (Input.Gave slot) self.old self.new (gave_by self.old slot message.now) }
         ensures rest { self.new ≡ record self.old { progress = self.new.progress } }
     {
@@ -69,7 +69,7 @@ impl<W: Words + Drop> Agent<W> {
     /// The message that a slot may be given next.
     fn next_message(&self, slot: u8) -> Result<Option<PageMsg>, AllocError>
         requires { slot < PAGES }
-        ensures { IfOk result (λ message. (c : AConfig) (made : ℕ) (past : List AnEntry) → Fits c made past self.now → GiveRight c past slot message) }
+        ensures { IfOk result (λ message. (c : AConfig) (made : ℕ) (past : List AnEntry) → AgentFits c made past self.now → GiveRight c past slot message) }
     {
         let progress = &self.progress[usize::from(slot)];
         if progress.is_closed() {
@@ -99,7 +99,7 @@ impl<W: Words + Drop> Agent<W> {
 
     /// The next message of the smallest source that has one, on a page that was opened.
     fn next_on(&self, page: &Page, progress: &Progress) -> Result<Option<PageMsg>, AllocError>
-        ensures { IfOk result (λ message. (c : AConfig) (made : ℕ) (past : List AnEntry) (given : List APageMsg) → Fits c made past self.now → ProgressFits given progress.now
+        ensures { IfOk result (λ message. (c : AConfig) (made : ℕ) (past : List AnEntry) (given : List APageMsg) → AgentFits c made past self.now → ProgressFits given progress.now
             → IsNextOn c past page.now given message) }
     {
         for number in 0..self.config.members() {
@@ -127,7 +127,7 @@ impl<W: Words + Drop> Agent<W> {
 
     /// The next message of one source.
     fn next_of(&self, stream: Stream, progress: &Progress) -> Result<Option<PageMsg>, AllocError>
-        ensures { IfOk result (λ message. (c : AConfig) (made : ℕ) (past : List AnEntry) (given : List APageMsg) → Fits c made past self.now → ProgressFits given progress.now
+        ensures { IfOk result (λ message. (c : AConfig) (made : ℕ) (past : List AnEntry) (given : List APageMsg) → AgentFits c made past self.now → ProgressFits given progress.now
             → IsNextOf past stream.page given stream.source message) }
     {
         let given = progress.number(stream.source);
@@ -142,14 +142,14 @@ impl<W: Words + Drop> Agent<W> {
 
     /// Whether a stream goes so far and no further, its source having left.
     fn is_all(&self, stream: Stream, given: u32) -> bool
-        ensures { (c : AConfig) (made : ℕ) (past : List AnEntry) → Fits c made past self.now → result ≡ is_some_of given (final past stream) }
+        ensures { (c : AConfig) (made : ℕ) (past : List AnEntry) → AgentFits c made past self.now → result ≡ is_some_of given (final past stream) }
     {
         is_final(given, self.store.final_of(stream))
     }
 
     /// The released drawop of a stream behind so many.
     fn released_after(&self, stream: Stream, given: u32) -> Option<&Drawop>
-        ensures { (c : AConfig) (made : ℕ) (past : List AnEntry) → Fits c made past self.now → option_copied result ≡ slice_get (released past stream) given }
+        ensures { (c : AConfig) (made : ℕ) (past : List AnEntry) → AgentFits c made past self.now → option_copied result ≡ slice_get (released past stream) given }
     {
         if given >= self.store.released(stream) {
             return None;

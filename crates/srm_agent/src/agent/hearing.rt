@@ -9,7 +9,7 @@ ghost use Rattle.srm_entries.specs.Entries.{is_gone};
 ghost use Rattle.srm_store.specs.Stores.{HavePlaces};
 ghost use Rattle.srm_agent.specs.Heeding.{EntersHeard, IsJudgedBy, IsNoiseFor, MayAccept, entry_by};
 ghost use Rattle.srm_entries.specs.declared.cause.Outcome.TheVariants.{Taken};
-ghost use Rattle.srm_agent.specs.Noting.{Enters, Stays, ReadsAs, AnswersHeard, HeardAs, Hears};
+ghost use Rattle.srm_agent.specs.Noting.{Enters, AgentStays, ReadsAs, AnswersHeard, HeardAs, Hears};
 
 use super::Agent;
 use super::noting::{Hearing, note};
@@ -36,7 +36,7 @@ impl<W: Words + Drop> Agent<W> {
         ensures ok { IfOk result (λ noted. Enters W.next_word (Some now) noted.entry.input self.old self.new noted.entry) }
         ensures reading { IfOk result (λ noted. ReadsAs bytes.now self.old noted.entry) }
         ensures answer { IfOk result (λ noted. AnswersHeard noted.entry noted.answer) }
-        ensures err { OnErr result (Stays self.old self.new) }
+        ensures err { OnErr result (AgentStays self.old self.new) }
         ensures here { OnErr result (is_gone self.old.state ≡ false) }
         ensures spelled { OnErr result (IsOk (judge self.old.config.session bytes.now)) }
     {
@@ -66,7 +66,7 @@ impl<W: Words + Drop> Agent<W> {
     fn hear_bytes(&mut self, bytes: &[u8], now: u64) -> Result<Heard, AllocError>
         requires { now ≤ LATEST_MOMENT }
         ensures ok { IfOk result (λ heard. HeardAs W.next_word now bytes.now self.old self.new (Ok heard)) }
-        ensures err { OnErr result (Stays self.old self.new) }
+        ensures err { OnErr result (AgentStays self.old self.new) }
         ensures here { OnErr result (is_gone self.old.state ≡ false) }
         ensures spelled { OnErr result (IsOk (judge self.old.config.session bytes.now)) }
     {
@@ -90,7 +90,7 @@ impl<W: Words + Drop> Agent<W> {
         ensures noise { IfOk result (λ heard. IsNoiseFor fault (entry_by self.old moment Input.Noise heard)) }
         ensures still { IfOk result (λ heard. heard.arms ≡ []) }
         ensures new { IfOk result (λ _. self.new ≡ record self.old { last = moment }) }
-        ensures err { OnErr result (Stays self.old self.new) }
+        ensures err { OnErr result (AgentStays self.old self.new) }
         ensures memory { OnErr result (fault ≡ Memory) }
     {
         let cause = noise_cause(fault)?;
@@ -130,7 +130,7 @@ impl<W: Words + Drop> Agent<W> {
         ensures ok { IfOk result (λ noted. Enters W.next_word (Some moment) (Input.Heard datagram) self.old self.new noted.entry) }
         ensures judged { IfOk result (λ noted. IsJudgedBy datagram self.old noted.entry) }
         ensures answer { IfOk result (λ noted. AnswersHeard noted.entry noted.answer) }
-        ensures err { OnErr result (Stays self.old self.new) }
+        ensures err { OnErr result (AgentStays self.old self.new) }
     {
         let (me, state) = (self.config.me(), self.state);
         let input = Input::Heard(datagram.copy(self.alloc)?);
@@ -152,7 +152,7 @@ impl<W: Words + Drop> Agent<W> {
         ensures ok { IfOk result (λ hearing. EntersHeard W.next_word datagram moment self.old self.new hearing.heard) }
         ensures judged { IfOk result (λ hearing. IsJudgedBy datagram self.old (entry_by self.old moment (Input.Heard datagram) hearing.heard)) }
         ensures noted { IfOk result (λ hearing. notes ≡ true → hearing.noted ≡ hearing.heard.arms) }
-        ensures err { OnErr result (Stays self.old self.new) }
+        ensures err { OnErr result (AgentStays self.old self.new) }
     {
         if let Some(name) = only_name(&datagram) {
             return self.hear_named(datagram, &[name], notes, moment);
@@ -177,7 +177,7 @@ impl<W: Words + Drop> Agent<W> {
         ensures ok { IfOk result (λ hearing. EntersHeard W.next_word datagram moment self.old self.new hearing.heard) }
         ensures judged { IfOk result (λ hearing. IsJudgedBy datagram self.old (entry_by self.old moment (Input.Heard datagram) hearing.heard)) }
         ensures noted { IfOk result (λ hearing. notes ≡ true → hearing.noted ≡ hearing.heard.arms) }
-        ensures err { OnErr result (Stays self.old self.new) }
+        ensures err { OnErr result (AgentStays self.old self.new) }
     {
         match self.cause_to_ignore(&datagram, names) {
             Some(cause) => {
@@ -202,7 +202,7 @@ impl<W: Words + Drop> Agent<W> {
         ensures ok { IfOk result (λ hearing. EntersHeard W.next_word datagram moment self.old self.new hearing.heard) }
         ensures judged { IfOk result (λ hearing. IsJudgedBy datagram self.old (entry_by self.old moment (Input.Heard datagram) hearing.heard)) }
         ensures noted { IfOk result (λ hearing. notes ≡ true → hearing.noted ≡ hearing.heard.arms) }
-        ensures err { OnErr result (Stays self.old self.new) }
+        ensures err { OnErr result (AgentStays self.old self.new) }
     {
         match self.store.room_to_learn(names) {
             Ok(()) => self.accept_ready(datagram, names, notes, moment),
@@ -231,7 +231,7 @@ impl<W: Words + Drop> Agent<W> {
         ensures ok { IfOk result (λ hearing. EntersHeard W.next_word datagram moment self.old self.new hearing.heard) }
         ensures done { IfOk result (λ hearing. hearing.heard.outcome ≡ Taken) }
         ensures noted { IfOk result (λ hearing. notes ≡ true → hearing.noted ≡ hearing.heard.arms) }
-        ensures err { OnErr result (Stays self.old self.new) }
+        ensures err { OnErr result (AgentStays self.old self.new) }
     {
         match datagram {
             Datagram::Data(drawop) => self.accept_drawop(drawop, None, notes, moment),

@@ -13,7 +13,7 @@ ghost use Rattle.srm_entries.specs.Entries.{is_gone, slots, known, held_at, draw
 ghost use Rattle.srm_names.specs.Names.{stream_on};
 ghost use Rattle.srm_entries.specs.Verdicts.{verdict_of, first_cause, is_stranger, is_beyond, exceeds, says_too_little, final, drawn_in, differs};
 ghost use Rattle.srm_store.specs.PageTables.{table_lacks_room_for};
-ghost use Rattle.srm_agent.specs.Fits.{Fits};
+ghost use Rattle.srm_agent.specs.Fits.{AgentFits};
 
 use super::Agent;
 use srm_codec::Datagram;
@@ -59,7 +59,7 @@ impl<W: Words + Drop> Agent<W> {
     pub(super) fn cause_to_ignore(&self, datagram: &Datagram, names: &[Name]) -> Option<Cause>
         requires here { is_gone self.now.state ≡ false }
         requires names { names.now ≡ names_in datagram.now }
-        ensures verdict { (c : AConfig) (made : ℕ) (past : List AnEntry) → Fits c made past self.now → ignored_for result ≡ verdict_of c past (Heard datagram.now) }
+        ensures verdict { (c : AConfig) (made : ℕ) (past : List AnEntry) → AgentFits c made past self.now → ignored_for result ≡ verdict_of c past (Heard datagram.now) }
         ensures room { result ≡ None → table_lacks_room_for self.now.pages names.now ≡ false }
     {
         let findings = Findings {
@@ -89,14 +89,14 @@ impl<W: Words + Drop> Agent<W> {
 
     /// Whether it names what can't be, or is a farewell that says less than is known.
     fn is_beyond_final(&self, datagram: &Datagram, names: &[Name]) -> bool
-        ensures { (c : AConfig) (made : ℕ) (past : List AnEntry) → Fits c made past self.now → result ≡ list_any (is_beyond c.me past) names.now || says_too_little past datagram.now }
+        ensures { (c : AConfig) (made : ℕ) (past : List AnEntry) → AgentFits c made past self.now → result ≡ list_any (is_beyond c.me past) names.now || says_too_little past datagram.now }
     {
         self.goes_beyond(names) || self.is_short(datagram)
     }
 
     /// Whether one of the names goes beyond what can be.
     fn goes_beyond(&self, names: &[Name]) -> bool
-        ensures { (c : AConfig) (made : ℕ) (past : List AnEntry) → Fits c made past self.now → result ≡ list_any (is_beyond c.me past) names.now }
+        ensures { (c : AConfig) (made : ℕ) (past : List AnEntry) → AgentFits c made past self.now → result ≡ list_any (is_beyond c.me past) names.now }
     {
         for name in names {
             if self.is_beyond(*name) {
@@ -108,13 +108,13 @@ impl<W: Words + Drop> Agent<W> {
 
     /// Whether a name is above the last of a source that left, or one of this member's own above what it drew.
     fn is_beyond(&self, name: Name) -> bool
-        ensures { (c : AConfig) (made : ℕ) (past : List AnEntry) → Fits c made past self.now → result ≡ is_beyond c.me past name }
+        ensures { (c : AConfig) (made : ℕ) (past : List AnEntry) → AgentFits c made past self.now → result ≡ is_beyond c.me past name }
     {
         self.is_past_final(name) || self.is_own_undrawn(name)
     }
 
     fn is_past_final(&self, name: Name) -> bool
-        ensures { (c : AConfig) (made : ℕ) (past : List AnEntry) → Fits c made past self.now → result ≡ exceeds name.number (final past name.stream) }
+        ensures { (c : AConfig) (made : ℕ) (past : List AnEntry) → AgentFits c made past self.now → result ≡ exceeds name.number (final past name.stream) }
     {
         match self.store.final_of(name.stream()) {
             Some(last) => last < name.number(),
@@ -123,14 +123,14 @@ impl<W: Words + Drop> Agent<W> {
     }
 
     fn is_own_undrawn(&self, name: Name) -> bool
-        ensures { (c : AConfig) (made : ℕ) (past : List AnEntry) → Fits c made past self.now → result ≡ (name.stream.source == c.me) && nat_lt (drawn_in past name.stream) name.number }
+        ensures { (c : AConfig) (made : ℕ) (past : List AnEntry) → AgentFits c made past self.now → result ≡ (name.stream.source == c.me) && nat_lt (drawn_in past name.stream) name.number }
     {
         name.source() == self.config.me() && self.store.known(name.stream()) < name.number()
     }
 
     /// Whether it is a farewell that says less than is known of its sender.
     fn is_short(&self, datagram: &Datagram) -> bool
-        ensures { (c : AConfig) (made : ℕ) (past : List AnEntry) → Fits c made past self.now → result ≡ says_too_little past datagram.now }
+        ensures { (c : AConfig) (made : ℕ) (past : List AnEntry) → AgentFits c made past self.now → result ≡ says_too_little past datagram.now }
     {
         match datagram {
             Datagram::Session {
@@ -145,7 +145,7 @@ impl<W: Words + Drop> Agent<W> {
 
     /// Whether more is known of a source, on some page, than these rows say.
     fn knows_more(&self, source: Member, rows: &[Name]) -> bool
-        ensures { (c : AConfig) (made : ℕ) (past : List AnEntry) → Fits c made past self.now
+        ensures { (c : AConfig) (made : ℕ) (past : List AnEntry) → AgentFits c made past self.now
             → result ≡ list_any (λ page. nat_lt (row_number rows.now (stream_on source page)) (known past (stream_on source page))) (slots past) }
     {
         let pages = self.pages.as_slice();
@@ -162,7 +162,7 @@ impl<W: Words + Drop> Agent<W> {
     }
 
     fn knows_past(&self, stream: &Stream, rows: &[Name]) -> bool
-        ensures { (c : AConfig) (made : ℕ) (past : List AnEntry) → Fits c made past self.now → result ≡ nat_lt (row_number rows.now stream.now) (known past stream.now) }
+        ensures { (c : AConfig) (made : ℕ) (past : List AnEntry) → AgentFits c made past self.now → result ≡ nat_lt (row_number rows.now stream.now) (known past stream.now) }
     {
         let known = self.store.known(*stream);
         row_number(rows, *stream) < known
@@ -170,7 +170,7 @@ impl<W: Words + Drop> Agent<W> {
 
     /// Whether it brings a drawop under a name that is held with another stamp or body.
     fn conflicts(&self, datagram: &Datagram) -> bool
-        ensures { (c : AConfig) (made : ℕ) (past : List AnEntry) → Fits c made past self.now → result ≡ list_any (λ d. differs d (held_at past d.name)) (drawops_in (Some datagram.now)) }
+        ensures { (c : AConfig) (made : ℕ) (past : List AnEntry) → AgentFits c made past self.now → result ≡ list_any (λ d. differs d (held_at past d.name)) (drawops_in (Some datagram.now)) }
     {
         match datagram {
             Datagram::Data(drawop) | Datagram::Repair { drawop, .. } => self.differs(drawop),
@@ -179,7 +179,7 @@ impl<W: Words + Drop> Agent<W> {
     }
 
     fn differs(&self, drawop: &Drawop) -> bool
-        ensures { (c : AConfig) (made : ℕ) (past : List AnEntry) → Fits c made past self.now → result ≡ differs drawop.now (held_at past drawop.now.name) }
+        ensures { (c : AConfig) (made : ℕ) (past : List AnEntry) → AgentFits c made past self.now → result ≡ differs drawop.now (held_at past drawop.now.name) }
     {
         match self.store.get(drawop.name) {
             Some(held) => !same_drawop(drawop, held),

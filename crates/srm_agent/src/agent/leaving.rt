@@ -3,7 +3,7 @@
 ghost use Rattle.std.specs.Prelude.{◌≡◌, ◌≤◌, IfOk, OnErr, Ok, Some};
 ghost use Rattle.srm_names.specs.declared.limits.TheConstants.{LATEST_MOMENT};
 ghost use Rattle.srm_entries.specs.declared.state.AgentState.TheVariants.{Leaving};
-ghost use Rattle.srm_agent.specs.Noting.{Enters, EntersWithoutEffects, Stays, AnswersAs, IsAllowed, HasEntry};
+ghost use Rattle.srm_agent.specs.Noting.{Enters, EntersWithoutEffects, AgentStays, AnswersAs, IsAllowed, HasEntry};
 
 use super::Agent;
 use crate::noted::Noted;
@@ -20,7 +20,7 @@ impl<W: Words + Drop> Agent<W> {
         requires { now ≤ LATEST_MOMENT }
         ensures ok { IfOk result (λ noted. Enters W.next_word (Some now) Input.AskedLeave self.old self.new noted.entry) }
         ensures answer { IfOk result (λ noted. AnswersAs (λ _. Unit {0}) noted.entry.verdict noted.answer) }
-        ensures err { OnErr result (Stays self.old self.new) }
+        ensures err { OnErr result (AgentStays self.old self.new) }
         ensures allowed { OnErr result (IsAllowed Input.AskedLeave self.old) }
     {
         let moment = self.moment(now);

@@ -5,7 +5,7 @@ ghost use Rattle.srm_names.specs.declared.limits.TheConstants.{PAGES};
 ghost use Rattle.srm_entries.specs.Configs.{Config as AConfig};
 ghost use Rattle.srm_entries.specs.declared.entry.Entry.{Entry as AnEntry};
 ghost use Rattle.srm_entries.specs.Promises.{next_number, page_to_come};
-ghost use Rattle.srm_agent.specs.Fits.{Fits};
+ghost use Rattle.srm_agent.specs.Fits.{AgentFits};
 
 use super::Agent;
 use srm_names::{Member, PAGES, Page};
@@ -16,7 +16,7 @@ impl<W: Words + Drop> Agent<W> {
     /// the table, and 0 where there is none. `None` where the table is full, or the number would pass 65,535. It takes no
     /// memory and changes nothing: a page enters the table when it is drawn on or shown.
     pub fn new_page(&self) -> Option<Page>
-        ensures { (c : AConfig) (made : ℕ) (past : List AnEntry) → Fits c made past self.now → result ≡ page_to_come c past }
+        ensures { (c : AConfig) (made : ℕ) (past : List AnEntry) → AgentFits c made past self.now → result ≡ page_to_come c past }
     {
         if self.pages.as_slice().len() >= usize::from(PAGES) {
             return None;

@@ -3,7 +3,7 @@
 ghost use Rattle.std.specs.Prelude.{◌≡◌, ◌≤◌, ◌<◌, ◌+◌, ◌++◌, length, option_map, option_to_list, IfOk, IfSome, OnOk};
 ghost use Rattle.std.specs.List.{AllByRecursion};
 ghost use Rattle.srm_names.specs.declared.limits.TheConstants.{LATEST_MOMENT};
-ghost use Rattle.srm_bucket.specs.Fits.{Stays as BucketStays};
+ghost use Rattle.srm_bucket.specs.Fits.{BucketStays};
 ghost use Rattle.srm_bucket.specs.Waiting.{HasLength, SameQueues, count_of};
 ghost use Rattle.srm_outbox.specs.Outs.{IsOwn, AreOwn};
 ghost use Rattle.srm_outbox.specs.Outbox.{NothingWent};

@@ -9,7 +9,7 @@ ghost use Rattle.srm_codec.specs.Spelling.{IsSpellable, is_page};
 ghost use Rattle.srm_entries.specs.Configs.{Config as AConfig};
 ghost use Rattle.srm_agent.specs.declared.agent.session_message.TheConstants.{LONGEST_INTERVAL, LONGEST_SESSION_MESSAGE};
 ghost use Rattle.srm_entries.specs.declared.entry.Entry.{Entry as AnEntry};
-ghost use Rattle.srm_agent.specs.Fits.{Fits};
+ghost use Rattle.srm_agent.specs.Fits.{AgentFits};
 ghost use Rattle.srm_agent.specs.SessionMessages.{IsSessionMessageOf, IsSessionMessageSpelled, AreDueRows, AreOwed, AreShown, AreOwnStreams, AreInOrder, AreRowsOf, IsRow, SaysLeft, CountsOnce};
 ghost use Rattle.srm_entries.specs.Sessions.{members_remaining, session_interval, if_positive};
 
@@ -152,7 +152,7 @@ impl<W: Words + Drop> Agent<W> {
     /// How long after a session message the next one is due, in microseconds.
     pub(super) fn session_interval(&self, message: &Datagram) -> u64
         requires { IsSpellable message.now }
-        ensures value { (c : AConfig) (made : ℕ) (past : List AnEntry) → Fits c made past self.now → result ≡ session_interval c past message.now }
+        ensures value { (c : AConfig) (made : ℕ) (past : List AnEntry) → AgentFits c made past self.now → result ≡ session_interval c past message.now }
         ensures longest { result ≤ LONGEST_INTERVAL }
     {
         interval_after(
@@ -164,7 +164,7 @@ impl<W: Words + Drop> Agent<W> {
 
     /// How many members of the roster aren't known to have left, this one among them.
     fn members_remaining(&self) -> u8
-        ensures value { (c : AConfig) (made : ℕ) (past : List AnEntry) → Fits c made past self.now → result ≡ members_remaining c past }
+        ensures value { (c : AConfig) (made : ℕ) (past : List AnEntry) → AgentFits c made past self.now → result ≡ members_remaining c past }
         ensures few { result ≤ MEMBERS }
     {
         let mut count = 0;

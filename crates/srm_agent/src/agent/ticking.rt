@@ -3,7 +3,7 @@
 ghost use Rattle.std.specs.Prelude.{◌≡◌, ◌≤◌, Some, Ok, IfOk, OnErr, true, false, max};
 ghost use Rattle.srm_names.specs.declared.limits.TheConstants.{LATEST_MOMENT};
 ghost use Rattle.srm_entries.specs.Entries.{is_gone};
-ghost use Rattle.srm_agent.specs.Noting.{Enters, Stays, AnswersAs, Does, IsTicked};
+ghost use Rattle.srm_agent.specs.Noting.{Enters, AgentStays, AnswersAs, Does, IsTicked};
 ghost use Rattle.srm_agent.specs.Ticking.{IsDue, IsIdle, TicksAs, ticked_with};
 ghost use Rattle.srm_outbox.specs.Outs.{datagrams_of};
 ghost use Rattle.srm_agent.specs.Waking.{IsEarly, Stirs};
@@ -39,7 +39,7 @@ impl<W: Words + Drop> Agent<W> {
         requires { now ≤ LATEST_MOMENT }
         ensures ok { IfOk result (λ noted. Enters W.next_word (Some now) Input.Ticked self.old self.new noted.entry) }
         ensures answer { IfOk result (λ noted. AnswersAs (IsTicked self.old.config.session noted.entry) noted.entry.verdict noted.answer) }
-        ensures err { OnErr result (Stays self.old self.new) }
+        ensures err { OnErr result (AgentStays self.old self.new) }
         ensures due { OnErr result (Stirs now self.old) }
     {
         let me = self.config.me();
@@ -71,7 +71,7 @@ impl<W: Words + Drop> Agent<W> {
     fn tick_alone(&mut self, now: u64) -> Result<Ticked, AllocError>
         requires { now ≤ LATEST_MOMENT }
         ensures ok { IfOk result (TicksAs W.next_word now (max now self.old.last) self.old self.new) }
-        ensures err { OnErr result (Stays self.old self.new) }
+        ensures err { OnErr result (AgentStays self.old self.new) }
         ensures due { OnErr result (Stirs now self.old) }
     {
         let moment = self.moment(now);
@@ -126,7 +126,7 @@ impl<W: Words + Drop> Agent<W> {
         ensures fixes { IfOk result (λ acted. acted.ticked.fixes ≡ due.handed_out.fixes) }
         ensures arms { IfOk result (λ acted. notes ≡ true → acted.arms ≡ acted.ticked.arms) }
         ensures outs { IfOk result (λ acted. acted.outs ≡ datagrams_of acted.ticked.outs) }
-        ensures err { OnErr result (Stays self.old self.new) }
+        ensures err { OnErr result (AgentStays self.old self.new) }
     {
         let went = self.room_to_go(due.due_items.len())?;
         let (arms, noted) = self.hand_out(&due.handed_out, notes, moment)?;

@@ -4,7 +4,7 @@ ghost use Rattle.std.specs.Prelude.{◌≡◌, ◌<◌, None, IfOk, OnErr};
 ghost use Rattle.srm_names.specs.declared.limits.TheConstants.{PAGES};
 ghost use Rattle.srm_entries.specs.declared.entry.Verdict.TheVariants.{Done};
 ghost use Rattle.srm_entries.specs.Still.{entry_without_effects};
-ghost use Rattle.srm_world.specs.Participants.{GoesOn, Stays};
+ghost use Rattle.srm_world.specs.Participants.{GoesOn, ParticipantStays};
 
 use super::Participant;
 use srm_agent::{AgentFault, Entry, Input, Noted, Verdict};
@@ -17,7 +17,7 @@ impl<W: Words + Drop> Participant<W> {
     pub fn give(&mut self, slot: u8) -> Result<Entry, AllocError>
         requires { slot < PAGES }
         ensures ok { IfOk result (GoesOn W.next_word None (Input.Gave slot) self.old self.new) }
-        ensures err { OnErr result (Stays self.old self.new) }
+        ensures err { OnErr result (ParticipantStays self.old self.new) }
     {
         self.lanes.reserve(slot)?;
         let Noted { answer, entry } = self.agent.give_noted(slot)?;

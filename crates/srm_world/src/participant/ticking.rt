@@ -2,8 +2,8 @@
 
 ghost use Rattle.std.specs.Prelude.{◌≡◌, ◌≤◌, Some, IfOk, OnErr};
 ghost use Rattle.srm_names.specs.declared.limits.TheConstants.{LATEST_MOMENT};
-ghost use Rattle.srm_agent.specs.Noting.{Enters, Stays as AgentStays, AnswersAs, IsTicked};
-ghost use Rattle.srm_world.specs.Participants.{GoesOn, Stays, HearsBytes, SendsOuts};
+ghost use Rattle.srm_agent.specs.Noting.{Enters, AgentStays, AnswersAs, IsTicked};
+ghost use Rattle.srm_world.specs.Participants.{GoesOn, ParticipantStays, HearsBytes, SendsOuts};
 
 use super::Participant;
 use srm_agent::{AgentFault, Entry, Input, Noted, Out, Ticked};
@@ -17,7 +17,7 @@ impl<W: Words + Drop> Participant<W> {
         requires { now ≤ LATEST_MOMENT }
         ensures ok { IfOk result (λ e. GoesOn W.next_word (Some now) e.input self.old self.new e) }
         ensures reading { IfOk result (HearsBytes bytes.now self.old) }
-        ensures err { OnErr result (Stays self.old self.new) }
+        ensures err { OnErr result (ParticipantStays self.old self.new) }
     {
         // The number of the session, below 2^32, is the one in which the bytes are read.
         let _session = self.config.session();
@@ -31,7 +31,7 @@ impl<W: Words + Drop> Participant<W> {
         requires { now ≤ LATEST_MOMENT }
         ensures ok { IfOk result (λ sent. GoesOn W.next_word (Some now) Input.Ticked self.old self.new sent.0) }
         ensures outs { IfOk result (λ sent. SendsOuts self.old sent.0 sent.1) }
-        ensures err { OnErr result (Stays self.old self.new) }
+        ensures err { OnErr result (ParticipantStays self.old self.new) }
     {
         let Noted { answer, entry } = self.tick_agent(now)?;
         self.note(&entry);

@@ -1,7 +1,7 @@
 use Rattle.std.proofs.Common.{◌++◌, ◌∷◌, [], ap, sym, subst, ◌∙◌, refl, take, append_assoc}
 use Rattle.std.proofs.lemmas.List.{append-nil, take_more, take_all}
 use Rattle.srm_names.specs.FullName.{FullName}
-use Rattle.srm_store.specs.Fits as store
+use Rattle.srm_store.specs.Fits.{StoreFits}
 use Rattle.srm_store.proofs.Rooming.{not_refused}
 use Rattle.srm_store.proofs.Seating.{page_among}
 use Rattle.srm_agent_state.proofs.Evident.{is_among}
@@ -10,7 +10,7 @@ use Rattle.srm_agent_state.proofs.evidence.learn_all.Goals as goal
 
 pub loop-name-init : goal.loop-name-init
 loop-name-init c = record {
-  fits = λ inserted evidence settled h. subst (λ ns. store.Fits inserted ns settled c.args.store.now) (sym (append-nil evidence)) h;
+  fits = λ inserted evidence settled h. subst (λ ns. StoreFits inserted ns settled c.args.store.now) (sym (append-nil evidence)) h;
   finals = refl;
   slots = c.requires.slots;
 }
@@ -27,7 +27,7 @@ loop-name-preserved c =
     let ok = not_refused c.learn.result (c.learn.ensures.slot _ in_page c.loop-name.invariant.slots) c.learn.ensures.memory in
     record {
       fits = λ inserted evidence settled h.
-          subst (λ ns. store.Fits inserted ns settled c.learn.new.self)
+          subst (λ ns. StoreFits inserted ns settled c.learn.new.self)
           (append_assoc evidence (take c.loop-name.name-index c.args.names.now) (c.name-item.result ∷ [])
           ∙ ap (λ (n : FullName). evidence ++ (take c.loop-name.name-index c.args.names.now ++ n ∷ [])) c.name-item.is
           ∙ ap (λ ns. evidence ++ ns) (sym (take_more c.args.names.now c.loop-name.name-index c.name-item.result c.loop-name-test.true)))
@@ -40,5 +40,5 @@ pub returns : goal.returns
 returns c = record {
   finals = c.loop-name.invariant.finals;
   each = λ inserted evidence settled h.
-      subst (λ ns. store.Fits inserted (evidence ++ ns) settled c.loop-name.store) (take_all c.loop-name.name-index c.args.names.now c.loop-name-test.false) (c.loop-name.invariant.fits inserted evidence settled h);
+      subst (λ ns. StoreFits inserted (evidence ++ ns) settled c.loop-name.store) (take_all c.loop-name.name-index c.args.names.now c.loop-name-test.false) (c.loop-name.invariant.fits inserted evidence settled h);
 }

@@ -1,6 +1,6 @@
 use Rattle.std.proofs.Common.{◌∙◌, ap, length, subst, sym}
 use Rattle.srm_entries.specs.declared.state.AgentState.{AgentState}
-use Rattle.srm_agent.specs.Contents.{Content}
+use Rattle.srm_agent.specs.Contents.{AgentContent}
 use Rattle.srm_agent.specs.Ticking.{TicksAs}
 use Rattle.srm_agent.proofs.Acting.{Acts, tick_stays, acts_ticks, acts_outs, room_to_send, own_to_send}
 use Rattle.srm_names.proofs.Results.{at_err}
@@ -36,7 +36,7 @@ acted g c = record {
 
 pub returns-clause-ok : goal.returns-clause-ok
 returns-clause-ok g c = subst (λ (s : AgentState). TicksAs g.W.Words.next_word c.args.moment c.args.moment c.args.self.now c.end-last.new.self (record { asks = c.args.due.handed_out.asks; fixes = c.args.due.handed_out.fixes; arms = c.in_ok-arms.arms; outs = c.into_items-outs.result.0; state = s }))
-    (sym (ap (λ (x : Content _). x.state) c.self.view_is)) (acts_ticks g.W.Words.next_word c.args.self.now c.room_to_go.new.self c.hand_out.new.self c.send-went.new.self c.end-last.new.self c.args.moment c.args.due c.in_ok-arms.arms c.send-went.result
+    (sym (ap (λ (x : AgentContent _). x.state) c.self.view_is)) (acts_ticks g.W.Words.next_word c.args.self.now c.room_to_go.new.self c.hand_out.new.self c.send-went.new.self c.end-last.new.self c.args.moment c.args.due c.in_ok-arms.arms c.send-went.result
     c.end-last.result c.into_items-outs.result.1 c.into_items-outs.result.0 (acted g c) (c.into_items-outs.ensures.outs ∙ c.with_last.ensures.outs))
 
 pub returns-clause-outs : goal.returns-clause-outs

@@ -1,9 +1,9 @@
 use Rattle.std.proofs.Common.{refl, subst, []}
-use Rattle.srm_distance.specs.Fits as distances
+use Rattle.srm_distance.specs.Fits.{DistancesFit}
 use Rattle.srm_agent.proofs.Begins.{fits_begins, bucket_with}
 use Rattle.srm_agent.proofs.agent.Agent.new.Goals as goal
 
 pub returns-clause-fits : goal.returns-clause-fits
 returns-clause-fits g c = fits_begins c.args.config c.args.now _ refl refl refl c.first.ensures c.in_ok-new.ensures c.in_ok-no_progress.ensures c.in_ok-new-2.ensures
-    (subst (λ m. distances.Fits m [] c.new-3.result) c.me.ensures c.new-3.ensures.fits)
+    (subst (λ m. DistancesFit m [] c.new-3.result) c.me.ensures c.new-3.ensures.fits)
     c.new-4.ensures.fits (bucket_with c.rate.ensures.value c.depth.ensures.value c.new-5.ensures) refl

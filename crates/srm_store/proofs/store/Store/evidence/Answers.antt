@@ -1,7 +1,7 @@
 use Rattle.std.proofs.Common.{refl, sym, subst, ap, arith, length, ◌∙◌, ◌≡◌, true, rules}
 use Rattle.srm_names.specs.declared.stream.Stream.{Stream}
 use Rattle.srm_names.proofs.Results.{err_is}
-use Rattle.srm_store.specs.Fits.{Fits}
+use Rattle.srm_store.specs.Fits.{StoreFits}
 use Rattle.srm_store.specs.Inside.{store_of}
 use Rattle.srm_store.specs.Stores.{StoreContent, StaysReady, KeepsSlots}
 use Rattle.srm_store.specs.Held.{lacks_room}
@@ -16,24 +16,24 @@ use Rattle.srm_store.proofs.store.Store.evidence.Goals as goal
 
 pub returns-in_err-slot_for-clause-limit : goal.returns-in_err-slot_for-clause-limit
 returns-in_err-slot_for-clause-limit c = λ inserted evidence settled h.
-    let fits = subst (Fits inserted evidence settled) (sym c.self.view_is) h in
+    let fits = subst (StoreFits inserted evidence settled) (sym c.self.view_is) h in
     let full : lacks_room inserted evidence c.args.name.stream.page ≡ true = full_lacks_room fits c.in_err-slot_for.ensures.few c.args.name.stream.page (ap (λ (s : Stream). slot_of c.self.inside.table.pages s.page) (sym c.stream-stream.ensures) ∙ c.in_err-slot_for.ensures.limit.0 refl) in
     (λ e. full, λ over. err_is c.from_residual.result _ c.from_residual.ensures.1 ∙ same_fault _ _ c.in_err-slot_for.ensures.full)
 
 pub returns-in_err-reserve-clause-limit : goal.returns-in_err-reserve-clause-limit
 returns-in_err-reserve-clause-limit c = λ inserted evidence settled h.
-    let fits = subst (Fits inserted evidence settled) (sym c.self.view_is) h in
+    let fits = subst (StoreFits inserted evidence settled) (sym c.self.view_is) h in
     let page = ap (λ (s : Stream). slot_of c.self.inside.table.pages s.page) c.stream-stream.ensures in (
       λ e. absurd (no_page_limit c.from_residual-in_err-reserve.result (err_is c.from_residual-in_err-reserve.result Memory c.from_residual-in_err-reserve.ensures.1) e),
       λ over. absurd (omega (arith, lacks_room_full fits c.in_ok-slot_for.ensures.few c.args.name.stream.page over, page, c.in_ok-slot_for.ensures.value, c.in_ok-slot_for.ensures.below)),
     )
 
 pub returns-clause-fits : goal.returns-clause-fits
-returns-clause-fits c = λ inserted evidence settled h. fits_learns (store_of c.self.inside) _ (subst (Fits inserted evidence settled) (sym c.self.view_is) h) c.args.name c.learn.ensures.learns refl
+returns-clause-fits c = λ inserted evidence settled h. fits_learns (store_of c.self.inside) _ (subst (StoreFits inserted evidence settled) (sym c.self.view_is) h) c.args.name c.learn.ensures.learns refl
 
 pub returns-clause-limit : goal.returns-clause-limit
 returns-clause-limit c = λ inserted evidence settled h.
-    let fits = subst (Fits inserted evidence settled) (sym c.self.view_is) h in
+    let fits = subst (StoreFits inserted evidence settled) (sym c.self.view_is) h in
     let page = ap (λ (s : Stream). slot_of c.self.inside.table.pages s.page) c.stream-stream.ensures in
     (λ e. absurd (cc), λ over. absurd (omega (arith, lacks_room_full fits c.in_ok-slot_for.ensures.few c.args.name.stream.page over, page, c.in_ok-slot_for.ensures.value, c.in_ok-slot_for.ensures.below)))
 
