@@ -17,14 +17,14 @@ mod distances;
 mod evidence;
 mod keeping;
 mod progress;
-mod session_messages;
 mod roster;
+mod session_messages;
 mod timers;
 
 pub use distances::distance_table;
 pub use evidence::{greatest_in, learn_all};
 pub use keeping::keep;
 pub use progress::Progress;
-pub use session_messages::{hear_session_message, learn_datagram};
 pub use roster::{member, page_in_range, stream_in_range};
+pub use session_messages::{hear_session_message, learn_datagram};
 pub use timers::Timers;
