@@ -13,7 +13,7 @@ use Rattle.srm_codec.specs.declared.fault.DecodeFault.{DecodeFault}
 use Rattle.srm_codec.specs.declared.fault.DecodeFault.TheVariants.{Short, Magic, Version, Kind, Member, Number, Length, Order, Flags, Source, Memory}
 use Rattle.srm_codec.specs.declared.fault.DecodeFault.TheVariants as faults
 use Rattle.srm_codec.specs.Spelling.{asked_by}
-use Rattle.srm_codec.specs.Judging.{◌>>=◌, Read, check, nothing_after, is_kind, is_wanted, is_above, is_later_echo, front_at, number_at, judged, magic_at, version_at, kind_at, session_at, member_at, moment_at, page_at, source_at, any_stream_at, stream_at, number_in_stream_at, name_at, size_at, body_at, drawop_at, mask_at, flag_at, echo_member_at, echo_at, items_at, list_at, only_drawop, data_of, request_of, packed_of, repair_of, session_of, contents_of, judge}
+use Rattle.srm_codec.specs.Judging.{◌>>=◌, Read, check, nothing_after, is_kind, is_wanted, is_above, is_later_echo, prefix_at, number_at, judged, magic_at, version_at, kind_at, session_at, member_at, moment_at, page_at, source_at, any_stream_at, stream_at, number_in_stream_at, name_at, size_at, body_at, drawop_at, mask_at, flag_at, echo_member_at, echo_at, items_at, list_at, only_drawop, data_of, request_of, packed_of, repair_of, session_of, contents_of, judge}
 
 abbrev HasNone : {A : Type 0} → Result A DecodeFault → Type 0
 HasNone (Ok x) = ⊤
@@ -27,16 +27,16 @@ tested : {A : Type 0} (good : Bool) (fault : DecodeFault) (x : A) → fault ≢ 
 tested true fault x n = tt
 tested false fault x n = n
 
-front : (n : ℕ) (bytes : List ℕ) → HasNone (front_at n bytes)
-unfolding front_at
-front n bytes = at (nat_lt (length bytes) n)
+prefix : (n : ℕ) (bytes : List ℕ) → HasNone (prefix_at n bytes)
+unfolding prefix_at
+prefix n bytes = at (nat_lt (length bytes) n)
   where
     at : (short : Bool) → HasNone {A = List ℕ × List ℕ} (if short then Err Short else Ok (take n bytes, drop n bytes))
     at true = λ e. absurd cc
     at false = tt
 
 number : (w : Width) (bytes : List ℕ) → HasNone (number_at w bytes)
-number w bytes = bind (front_at (byte_len w) bytes) _ (front (byte_len w) bytes) (λ x. tt)
+number w bytes = bind (prefix_at (byte_len w) bytes) _ (prefix (byte_len w) bytes) (λ x. tt)
 
 value : (w : Width) (good : ℕ → Bool) (fault : DecodeFault) (bytes : List ℕ) → fault ≢ Memory → HasNone (judged w good fault bytes)
 value w good fault bytes n = bind (number_at w bytes) _ (number w bytes) (λ x. tested (good x.0) fault x n)
@@ -79,7 +79,7 @@ size bytes = value w16 (λ n. nat_le n LONGEST_BODY) Length bytes (λ e. absurd 
 
 body : (bytes : List ℕ) → HasNone (body_at bytes)
 unfolding body_at
-body bytes = bind (size_at bytes) _ (size bytes) (λ s. front s.0 s.1)
+body bytes = bind (size_at bytes) _ (size bytes) (λ s. prefix s.0 s.1)
 
 drawop : (wanted : Option ℕ) (bytes : List ℕ) → HasNone (drawop_at wanted bytes)
 unfolding drawop_at

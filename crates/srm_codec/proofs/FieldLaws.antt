@@ -18,7 +18,7 @@ use Rattle.srm_codec.specs.declared.fault.DecodeFault.{DecodeFault}
 use Rattle.srm_codec.specs.declared.fault.DecodeFault.TheVariants.{Short, Member, Number, Order, Source, Flags}
 use Rattle.srm_codec.specs.declared.fault.DecodeFault.TheVariants as faults
 use Rattle.srm_codec.specs.Spelling.{asked_by, is_page, is_name, is_drawop, is_echo, flag, page_bytes, name_bytes, drawop_bytes, echo_bytes}
-use Rattle.srm_codec.specs.Judging.{◌>>=◌, Read, front_at, number_at, judged, member_at, moment_at, page_at, is_wanted, source_at, is_above, any_stream_at, stream_at, number_in_stream_at, name_at, size_at, body_at, drawop_at, mask_at, flag_at, is_later_echo, echo_member_at, echo_at}
+use Rattle.srm_codec.specs.Judging.{◌>>=◌, Read, prefix_at, number_at, judged, member_at, moment_at, page_at, is_wanted, source_at, is_above, any_stream_at, stream_at, number_in_stream_at, name_at, size_at, body_at, drawop_at, mask_at, flag_at, is_later_echo, echo_member_at, echo_at}
 use Rattle.srm_codec.proofs.Readers.{IsBytes, IsBytes-drop, IsBytes-take, bind_ok, ok_is, Takes, Takes-then, Reads, renamed, checked, joined, three, respelled}
 
 -- ---- numbers
@@ -75,35 +75,35 @@ short : {A : Type 0} (b : Bool) (x y : A) → cond b (Err Short) (Ok x) ≡ Ok y
 short true x y e = absurd cc
 short false x y e = (refl, cc)
 
-pub front_takes : (n : ℕ) (bytes front rest : List ℕ) → IsBytes bytes → front_at n bytes ≡ Ok (front, rest) → Takes bytes front rest × ((length front ≡ n) × IsBytes front)
-unfolding front_at
-front_takes n bytes front rest fits e =
-    let g = short (nat_lt (length bytes) n) (take n bytes, drop n bytes) (front, rest) e in
+pub prefix_takes : (n : ℕ) (bytes prefix rest : List ℕ) → IsBytes bytes → prefix_at n bytes ≡ Ok (prefix, rest) → Takes bytes prefix rest × ((length prefix ≡ n) × IsBytes prefix)
+unfolding prefix_at
+prefix_takes n bytes prefix rest fits e =
+    let g = short (nat_lt (length bytes) n) (take n bytes, drop n bytes) (prefix, rest) e in
     let long : n ≤ length bytes = ltb-false _ _ g.0 in
     let made : Takes bytes (take n bytes) (drop n bytes) × ((length (take n bytes) ≡ n) × IsBytes (take n bytes)) =
     (record { parts = sym (take-append-drop n bytes); rest_fits = IsBytes-drop n bytes fits }, (omega (arith, length-take n bytes), IsBytes-take n bytes fits)) in
     subst (λ (p : List ℕ × List ℕ). Takes bytes p.0 p.1 × ((length p.0 ≡ n) × IsBytes p.0)) g.1 made
 
-pub front_again : (n : ℕ) (front rest : List ℕ) → length front ≡ n → front_at n (front ++ rest) ≡ Ok (front, rest)
-unfolding front_at
-front_again n front rest len =
-    let long : nat_lt (length (front ++ rest)) n ≡ false = le-ltb _ _ (omega (arith, length-append front rest)) in
-    rw (long, take_at front rest n len, drop_at front rest n len) refl
+pub prefix_again : (n : ℕ) (prefix rest : List ℕ) → length prefix ≡ n → prefix_at n (prefix ++ rest) ≡ Ok (prefix, rest)
+unfolding prefix_at
+prefix_again n prefix rest len =
+    let long : nat_lt (length (prefix ++ rest)) n ≡ false = le-ltb _ _ (omega (arith, length-append prefix rest)) in
+    rw (long, take_at prefix rest n len, drop_at prefix rest n len) refl
 
 pub number_reads : (w : Width) (limit : ℕ) (write : ℕ → List ℕ) → IsWide w limit write → Reads (number_at w) write (λ n. n < limit)
 number_reads w limit write wide = record { takes = taking; again = reading }
   where
     taking : (bytes : List ℕ) (n : ℕ) (rest : List ℕ) → IsBytes bytes → number_at w bytes ≡ Ok (n, rest) → Takes bytes (write n) rest × (n < limit)
     taking bytes n rest fits e =
-        let a = bind_ok (front_at (byte_len w) bytes) (λ front. Ok (from_be_bytes w front.0, front.1)) (n, rest) e in
-        let t = front_takes (byte_len w) bytes a.0.0 a.0.1 fits a.1 in
+        let a = bind_ok (prefix_at (byte_len w) bytes) (λ prefix. Ok (from_be_bytes w prefix.0, prefix.1)) (n, rest) e in
+        let t = prefix_takes (byte_len w) bytes a.0.0 a.0.1 fits a.1 in
         let made : Takes bytes (write (from_be_bytes w a.0.0)) a.0.1 × (from_be_bytes w a.0.0 < limit) =
         (subst (λ (text : List ℕ). Takes bytes text a.0.1) (sym (wide.back a.0.0 t.1.0 t.1.1)) t.0, wide.below a.0.0 t.1.1) in
         subst (λ (p : ℕ × List ℕ). Takes bytes (write p.0) p.1 × (p.0 < limit)) (ok_is (from_be_bytes w a.0.0, a.0.1) (n, rest) a.2) made
 
     reading : (n : ℕ) (rest : List ℕ) → n < limit → number_at w (write n ++ rest) ≡ Ok (n, rest)
     reading n rest lt =
-        ap (λ (read : Read (List ℕ)). read >>= λ front. Ok (from_be_bytes w front.0, front.1)) (front_again (byte_len w) (write n) rest (wide.len n))
+        ap (λ (read : Read (List ℕ)). read >>= λ prefix. Ok (from_be_bytes w prefix.0, prefix.1)) (prefix_again (byte_len w) (write n) rest (wide.len n))
         ∙ ap (λ m. Ok (m, rest)) (wide.again n lt)
 
 -- a number that passes a test, and what the test says
@@ -190,16 +190,16 @@ body_reads = record { takes = taking; again = reading }
   where
     taking : (bytes body rest : List ℕ) → IsBytes bytes → body_at bytes ≡ Ok (body, rest) → Takes bytes (body_bytes body) rest × (length body ≤ LONGEST_BODY)
     taking bytes body rest fits e =
-        let a = bind_ok (size_at bytes) (λ size. front_at size.0 size.1) (body, rest) e in
+        let a = bind_ok (size_at bytes) (λ size. prefix_at size.0 size.1) (body, rest) e in
         let t = size_reads.takes bytes a.0.0 a.0.1 fits a.1 in
-        let f = front_takes a.0.0 a.0.1 body rest t.0.rest_fits a.2 in
+        let f = prefix_takes a.0.0 a.0.1 body rest t.0.rest_fits a.2 in
         (Takes-then bytes (to_be_bytes w16 (length body)) a.0.1 body rest (subst (λ (n : ℕ). Takes bytes (to_be_bytes w16 n) a.0.1) (sym f.1.0) t.0) f.0, omega (arith, t.1, f.1.0))
 
     reading : (body rest : List ℕ) → length body ≤ LONGEST_BODY → body_at (body_bytes body ++ rest) ≡ Ok (body, rest)
     reading body rest le =
-        ap (λ (bytes : List ℕ). size_at bytes >>= λ size. front_at size.0 size.1) (append_assoc (to_be_bytes w16 (length body)) body rest)
-        ∙ ap (λ (read : Read ℕ). read >>= λ size. front_at size.0 size.1) (size_reads.again (length body) (body ++ rest) le)
-        ∙ front_again (length body) body rest refl
+        ap (λ (bytes : List ℕ). size_at bytes >>= λ size. prefix_at size.0 size.1) (append_assoc (to_be_bytes w16 (length body)) body rest)
+        ∙ ap (λ (read : Read ℕ). read >>= λ size. prefix_at size.0 size.1) (size_reads.again (length body) (body ++ rest) le)
+        ∙ prefix_again (length body) body rest refl
 
 abbrev drawop_of : FullName → ℕ → List ℕ → Drawop
 drawop_of name stamp body = record { name = name; stamp = stamp; body = body }

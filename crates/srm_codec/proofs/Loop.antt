@@ -19,68 +19,68 @@ newest-snoc xs x =
     ∙ ap Some (get_or-append_seam xs x [] x)
 
 -- what was read before, and what is still read
-abbrev pub with_front : {X : Type 0} → List X → Read (List X) → Read (List X)
-with_front front read = read >>= λ x. Ok (front ++ x.0, x.1)
+abbrev pub with_prefix : {X : Type 0} → List X → Read (List X) → Read (List X)
+with_prefix prefix read = read >>= λ x. Ok (prefix ++ x.0, x.1)
 
 -- A loop has read the first of these values, has these bytes left, and room for the others.
-pub record IsReading {X : Type 0} (item : Option X → List ℕ → Read X) (count done capacity : ℕ) (front : List X) (rest bytes : List ℕ) : Type 0 where
-  pub read : with_front front (items_at item (count - done) (newest front) rest) ≡ items_at item count None bytes
-  pub room : length front + (count - done) ≤ capacity
+pub record IsReading {X : Type 0} (item : Option X → List ℕ → Read X) (count done capacity : ℕ) (prefix : List X) (rest bytes : List ℕ) : Type 0 where
+  pub read : with_prefix prefix (items_at item (count - done) (newest prefix) rest) ≡ items_at item count None bytes
+  pub room : length prefix + (count - done) ≤ capacity
 
-regroup : {X : Type 0} (front : List X) (x : X) (read : Read (List X)) → with_front front (read >>= λ xs. Ok (x ∷ xs.0, xs.1)) ≡ with_front (front ++ x ∷ []) read
-regroup front x (Ok xs) = ap (λ ys. Ok (ys, xs.1)) (sym (append_assoc front (x ∷ []) xs.0))
-regroup front x (Err f) = refl
+regroup : {X : Type 0} (prefix : List X) (x : X) (read : Read (List X)) → with_prefix prefix (read >>= λ xs. Ok (x ∷ xs.0, xs.1)) ≡ with_prefix (prefix ++ x ∷ []) read
+regroup prefix x (Ok xs) = ap (λ ys. Ok (ys, xs.1)) (sym (append_assoc prefix (x ∷ []) xs.0))
+regroup prefix x (Err f) = refl
 
 pub starts : {X : Type 0} (item : Option X → List ℕ → Read X) (count capacity : ℕ) (bytes : List ℕ) → capacity ≡ count → IsReading item count 0 capacity [] bytes bytes
 starts {X = X} item count capacity bytes e = record { read = whole (items_at item (count - 0) None bytes) ∙ ap (λ n. items_at item n None bytes) (omega arith); room = omega arith }
   where
-    whole : (read : Read (List X)) → with_front [] read ≡ read
+    whole : (read : Read (List X)) → with_prefix [] read ≡ read
     whole (Ok x) = refl
     whole (Err f) = refl
 
-pub goes_on : {X : Type 0} (item : Option X → List ℕ → Read X) (count done capacity larger : ℕ) (front : List X) (rest bytes : List ℕ) (x : X) (after : List ℕ)
-    → capacity ≤ larger → done < count → item (newest front) rest ≡ Ok (x, after) → IsReading item count done capacity front rest bytes → IsReading item count (done + 1) larger (front ++ x ∷ []) after bytes
+pub goes_on : {X : Type 0} (item : Option X → List ℕ → Read X) (count done capacity larger : ℕ) (prefix : List X) (rest bytes : List ℕ) (x : X) (after : List ℕ)
+    → capacity ≤ larger → done < count → item (newest prefix) rest ≡ Ok (x, after) → IsReading item count done capacity prefix rest bytes → IsReading item count (done + 1) larger (prefix ++ x ∷ []) after bytes
 unfolding items_at
-goes_on item count done capacity larger front rest bytes x after le lt h so_far =
+goes_on item count done capacity larger prefix rest bytes x after le lt h so_far =
     let k : count - done ≡ suc (count - (done + 1)) = omega arith in
-    let one : with_front front (items_at item (count - done) (newest front) rest) ≡ with_front (front ++ x ∷ []) (items_at item (count - (done + 1)) (Some x) after) = rw (k, h) (regroup front x (items_at item (count - (done + 1)) (Some x) after)) in
+    let one : with_prefix prefix (items_at item (count - done) (newest prefix) rest) ≡ with_prefix (prefix ++ x ∷ []) (items_at item (count - (done + 1)) (Some x) after) = rw (k, h) (regroup prefix x (items_at item (count - (done + 1)) (Some x) after)) in
     record {
-      read = ap (λ o. with_front (front ++ x ∷ []) (items_at item (count - (done + 1)) o after)) (newest-snoc front x) ∙ sym one ∙ so_far.read;
-      room = omega (arith, so_far.room, length-append front (x ∷ []));
+      read = ap (λ o. with_prefix (prefix ++ x ∷ []) (items_at item (count - (done + 1)) o after)) (newest-snoc prefix x) ∙ sym one ∙ so_far.read;
+      room = omega (arith, so_far.room, length-append prefix (x ∷ []));
     }
 
-pub stops : {X : Type 0} (item : Option X → List ℕ → Read X) (count done capacity : ℕ) (front : List X) (rest bytes : List ℕ) (fault : DecodeFault)
-    → done < count → item (newest front) rest ≡ Err fault → IsReading item count done capacity front rest bytes → items_at item count None bytes ≡ Err fault
+pub stops : {X : Type 0} (item : Option X → List ℕ → Read X) (count done capacity : ℕ) (prefix : List X) (rest bytes : List ℕ) (fault : DecodeFault)
+    → done < count → item (newest prefix) rest ≡ Err fault → IsReading item count done capacity prefix rest bytes → items_at item count None bytes ≡ Err fault
 unfolding items_at
-stops item count done capacity front rest bytes fault lt h so_far =
+stops item count done capacity prefix rest bytes fault lt h so_far =
     let k : count - done ≡ suc (count - (done + 1)) = omega arith in
-    let one : with_front front (items_at item (count - done) (newest front) rest) ≡ Err fault = rw (k, h) refl in
+    let one : with_prefix prefix (items_at item (count - done) (newest prefix) rest) ≡ Err fault = rw (k, h) refl in
     sym so_far.read ∙ one
 
-pub is_done : {X : Type 0} (item : Option X → List ℕ → Read X) (count done capacity : ℕ) (front : List X) (rest bytes : List ℕ)
-    → count ≤ done → IsReading item count done capacity front rest bytes → items_at item count None bytes ≡ Ok (front, rest)
+pub is_done : {X : Type 0} (item : Option X → List ℕ → Read X) (count done capacity : ℕ) (prefix : List X) (rest bytes : List ℕ)
+    → count ≤ done → IsReading item count done capacity prefix rest bytes → items_at item count None bytes ≡ Ok (prefix, rest)
 unfolding items_at
-is_done item count done capacity front rest bytes le so_far =
+is_done item count done capacity prefix rest bytes le so_far =
     let k : count - done ≡ 0 = omega arith in
-    let one : with_front front (items_at item (count - done) (newest front) rest) ≡ Ok (front, rest) = rw k (ap (λ ys. Ok (ys, rest)) (append-nil front)) in
+    let one : with_prefix prefix (items_at item (count - done) (newest prefix) rest) ≡ Ok (prefix, rest) = rw k (ap (λ ys. Ok (ys, rest)) (append-nil prefix)) in
     sym so_far.read ∙ one
 
 -- A loop has judged the first of these values, the last of which is this one, and has these bytes left.
 abbrev pub IsSkimming : {X : Type 0} → (Option X → List ℕ → Read X) → ℕ → ℕ → Option X → List ℕ → List ℕ → Type 0
-IsSkimming {X} item count done last rest bytes = (front : List X) × (newest front ≡ last) × IsReading item count done count front rest bytes
+IsSkimming {X} item count done last rest bytes = (prefix : List X) × (newest prefix ≡ last) × IsReading item count done count prefix rest bytes
 
 pub skim_starts : {X : Type 0} (item : Option X → List ℕ → Read X) (count : ℕ) (bytes : List ℕ) → IsSkimming item count 0 None bytes bytes
 skim_starts item count bytes = ([], refl, starts item count count bytes refl)
 
 pub skim_goes_on : {X : Type 0} (item : Option X → List ℕ → Read X) (count done : ℕ) (last : Option X) (rest bytes : List ℕ) (x : X) (after : List ℕ)
     → done < count → item last rest ≡ Ok (x, after) → IsSkimming item count done last rest bytes → IsSkimming item count (done + 1) (Some x) after bytes
-skim_goes_on item count done last rest bytes x after lt h (front, e, so_far) =
-    (front ++ x ∷ [], newest-snoc front x, goes_on item count done count count front rest bytes x after (omega arith) lt (ap (λ o. item o rest) e ∙ h) so_far)
+skim_goes_on item count done last rest bytes x after lt h (prefix, e, so_far) =
+    (prefix ++ x ∷ [], newest-snoc prefix x, goes_on item count done count count prefix rest bytes x after (omega arith) lt (ap (λ o. item o rest) e ∙ h) so_far)
 
 pub skim_stops : {X : Type 0} (item : Option X → List ℕ → Read X) (count done : ℕ) (last : Option X) (rest bytes : List ℕ) (fault : DecodeFault)
     → done < count → item last rest ≡ Err fault → IsSkimming item count done last rest bytes → items_at item count None bytes ≡ Err fault
-skim_stops item count done last rest bytes fault lt h (front, e, so_far) = stops item count done count front rest bytes fault lt (ap (λ o. item o rest) e ∙ h) so_far
+skim_stops item count done last rest bytes fault lt h (prefix, e, so_far) = stops item count done count prefix rest bytes fault lt (ap (λ o. item o rest) e ∙ h) so_far
 
 pub skim_is_done : {X : Type 0} (item : Option X → List ℕ → Read X) (count done : ℕ) (last : Option X) (rest bytes : List ℕ)
     → count ≤ done → IsSkimming item count done last rest bytes → (xs : List X) × (items_at item count None bytes ≡ Ok (xs, rest))
-skim_is_done item count done last rest bytes le (front, e, so_far) = (front, is_done item count done count front rest bytes le so_far)
+skim_is_done item count done last rest bytes le (prefix, e, so_far) = (prefix, is_done item count done count prefix rest bytes le so_far)

@@ -10,7 +10,7 @@ use Rattle.srm_codec.specs.declared.fault.DecodeFault.{DecodeFault}
 use Rattle.srm_codec.specs.declared.fault.DecodeFault.TheVariants as faults
 use Rattle.srm_codec.specs.Spelling.{bits_set, head, page_bytes, name_bytes, drawop_bytes, echo_bytes, request_bytes, spelling}
 use Rattle.srm_codec.specs.Reading.{IsJudged, takes_memory}
-use Rattle.srm_codec.specs.Judging.{front_at, judge, magic_at, version_at, kind_at, session_at, member_at, moment_at, page_at, source_at, stream_at, name_at, body_at, drawop_at, only_drawop, mask_at, flag_at, echo_at, items_at, list_at, any_stream_at, number_in_stream_at, echo_member_at, size_at, data_of, request_of, packed_of, repair_of, session_of, contents_of}
+use Rattle.srm_codec.specs.Judging.{prefix_at, judge, magic_at, version_at, kind_at, session_at, member_at, moment_at, page_at, source_at, stream_at, name_at, body_at, drawop_at, only_drawop, mask_at, flag_at, echo_at, items_at, list_at, any_stream_at, number_in_stream_at, echo_member_at, size_at, data_of, request_of, packed_of, repair_of, session_of, contents_of}
 
 abbrev zero_stream : Stream
 zero_stream = stream_on 0 first_page
@@ -26,19 +26,19 @@ unfolding head page_bytes name_bytes drawop_bytes echo_bytes request_bytes spell
 spelled = refl
 
 read : judge 7 hi_bytes ≡ Ok hi
-unfolding bits_set head page_bytes name_bytes drawop_bytes echo_bytes request_bytes spelling front_at judge magic_at version_at kind_at session_at member_at moment_at page_at source_at stream_at name_at body_at drawop_at only_drawop mask_at flag_at echo_at items_at list_at any_stream_at number_in_stream_at echo_member_at size_at data_of request_of packed_of repair_of session_of contents_of
+unfolding bits_set head page_bytes name_bytes drawop_bytes echo_bytes request_bytes spelling prefix_at judge magic_at version_at kind_at session_at member_at moment_at page_at source_at stream_at name_at body_at drawop_at only_drawop mask_at flag_at echo_at items_at list_at any_stream_at number_in_stream_at echo_member_at size_at data_of request_of packed_of repair_of session_of contents_of
 read = refl
 
 one_more : judge 7 (hi_bytes ++ 0 ∷ []) ≡ Err Length
-unfolding bits_set head page_bytes name_bytes drawop_bytes echo_bytes request_bytes spelling front_at judge magic_at version_at kind_at session_at member_at moment_at page_at source_at stream_at name_at body_at drawop_at only_drawop mask_at flag_at echo_at items_at list_at any_stream_at number_in_stream_at echo_member_at size_at data_of request_of packed_of repair_of session_of contents_of
+unfolding bits_set head page_bytes name_bytes drawop_bytes echo_bytes request_bytes spelling prefix_at judge magic_at version_at kind_at session_at member_at moment_at page_at source_at stream_at name_at body_at drawop_at only_drawop mask_at flag_at echo_at items_at list_at any_stream_at number_in_stream_at echo_member_at size_at data_of request_of packed_of repair_of session_of contents_of
 one_more = refl
 
 one_less : judge 7 (take 28 hi_bytes) ≡ Err Short
-unfolding bits_set head page_bytes name_bytes drawop_bytes echo_bytes request_bytes spelling front_at judge magic_at version_at kind_at session_at member_at moment_at page_at source_at stream_at name_at body_at drawop_at only_drawop mask_at flag_at echo_at items_at list_at any_stream_at number_in_stream_at echo_member_at size_at data_of request_of packed_of repair_of session_of contents_of
+unfolding bits_set head page_bytes name_bytes drawop_bytes echo_bytes request_bytes spelling prefix_at judge magic_at version_at kind_at session_at member_at moment_at page_at source_at stream_at name_at body_at drawop_at only_drawop mask_at flag_at echo_at items_at list_at any_stream_at number_in_stream_at echo_member_at size_at data_of request_of packed_of repair_of session_of contents_of
 one_less = refl
 
 none : judge 7 [] ≡ Err Short
-unfolding bits_set head page_bytes name_bytes drawop_bytes echo_bytes request_bytes spelling front_at judge magic_at version_at kind_at session_at member_at moment_at page_at source_at stream_at name_at body_at drawop_at only_drawop mask_at flag_at echo_at items_at list_at any_stream_at number_in_stream_at echo_member_at size_at data_of request_of packed_of repair_of session_of contents_of
+unfolding bits_set head page_bytes name_bytes drawop_bytes echo_bytes request_bytes spelling prefix_at judge magic_at version_at kind_at session_at member_at moment_at page_at source_at stream_at name_at body_at drawop_at only_drawop mask_at flag_at echo_at items_at list_at any_stream_at number_in_stream_at echo_member_at size_at data_of request_of packed_of repair_of session_of contents_of
 none = refl
 
 -- asks 1, 3, 33 and 34: the mask of the first names 3 and 33
@@ -47,19 +47,19 @@ unfolding head page_bytes name_bytes drawop_bytes echo_bytes request_bytes spell
 packed = refl
 
 packed_read : judge 7 (spelling 7 (Request 1 (named zero_stream 1) 0x80000002)) ≡ Ok (Request 1 (named zero_stream 1) 0x80000002)
-unfolding bits_set head page_bytes name_bytes drawop_bytes echo_bytes request_bytes spelling front_at judge magic_at version_at kind_at session_at member_at moment_at page_at source_at stream_at name_at body_at drawop_at only_drawop mask_at flag_at echo_at items_at list_at any_stream_at number_in_stream_at echo_member_at size_at data_of request_of packed_of repair_of session_of contents_of
+unfolding bits_set head page_bytes name_bytes drawop_bytes echo_bytes request_bytes spelling prefix_at judge magic_at version_at kind_at session_at member_at moment_at page_at source_at stream_at name_at body_at drawop_at only_drawop mask_at flag_at echo_at items_at list_at any_stream_at number_in_stream_at echo_member_at size_at data_of request_of packed_of repair_of session_of contents_of
 packed_read = refl
 
 mask_zero : judge 7 (take 17 (spelling 7 (Request 1 (named zero_stream 1) 2)) ++ 0 ∷ 0 ∷ 0 ∷ 0 ∷ []) ≡ Err Number
-unfolding bits_set head page_bytes name_bytes drawop_bytes echo_bytes request_bytes spelling front_at judge magic_at version_at kind_at session_at member_at moment_at page_at source_at stream_at name_at body_at drawop_at only_drawop mask_at flag_at echo_at items_at list_at any_stream_at number_in_stream_at echo_member_at size_at data_of request_of packed_of repair_of session_of contents_of
+unfolding bits_set head page_bytes name_bytes drawop_bytes echo_bytes request_bytes spelling prefix_at judge magic_at version_at kind_at session_at member_at moment_at page_at source_at stream_at name_at body_at drawop_at only_drawop mask_at flag_at echo_at items_at list_at any_stream_at number_in_stream_at echo_member_at size_at data_of request_of packed_of repair_of session_of contents_of
 mask_zero = refl
 
 mask_past : judge 7 (spelling 7 (Request 1 (named zero_stream 65536) 2)) ≡ Err Number
-unfolding bits_set head page_bytes name_bytes drawop_bytes echo_bytes request_bytes spelling front_at judge magic_at version_at kind_at session_at member_at moment_at page_at source_at stream_at name_at body_at drawop_at only_drawop mask_at flag_at echo_at items_at list_at any_stream_at number_in_stream_at echo_member_at size_at data_of request_of packed_of repair_of session_of contents_of
+unfolding bits_set head page_bytes name_bytes drawop_bytes echo_bytes request_bytes spelling prefix_at judge magic_at version_at kind_at session_at member_at moment_at page_at source_at stream_at name_at body_at drawop_at only_drawop mask_at flag_at echo_at items_at list_at any_stream_at number_in_stream_at echo_member_at size_at data_of request_of packed_of repair_of session_of contents_of
 mask_past = refl
 
 session_spelled : judge 7 (spelling 7 (Session 3 1000000 false first_page (named zero_stream 3 ∷ []) (record { member = 1; t1 = 1000000; delay = 30000 } ∷ []))) ≡ Ok (Session 3 1000000 false first_page (named zero_stream 3 ∷ []) (record { member = 1; t1 = 1000000; delay = 30000 } ∷ []))
-unfolding bits_set head page_bytes name_bytes drawop_bytes echo_bytes request_bytes spelling front_at judge magic_at version_at kind_at session_at member_at moment_at page_at source_at stream_at name_at body_at drawop_at only_drawop mask_at flag_at echo_at items_at list_at any_stream_at number_in_stream_at echo_member_at size_at data_of request_of packed_of repair_of session_of contents_of
+unfolding bits_set head page_bytes name_bytes drawop_bytes echo_bytes request_bytes spelling prefix_at judge magic_at version_at kind_at session_at member_at moment_at page_at source_at stream_at name_at body_at drawop_at only_drawop mask_at flag_at echo_at items_at list_at any_stream_at number_in_stream_at echo_member_at size_at data_of request_of packed_of repair_of session_of contents_of
 session_spelled = refl
 
 session_length : length (spelling 7 (Session 3 1000000 false first_page (named zero_stream 3 ∷ []) (record { member = 1; t1 = 1000000; delay = 30000 } ∷ []))) ≡ 48
@@ -67,11 +67,11 @@ unfolding head page_bytes name_bytes drawop_bytes echo_bytes request_bytes spell
 session_length = refl
 
 twice_a_row : judge 7 (spelling 7 (Session 3 1000000 false first_page (named zero_stream 3 ∷ named zero_stream 3 ∷ []) [])) ≡ Err Order
-unfolding bits_set head page_bytes name_bytes drawop_bytes echo_bytes request_bytes spelling front_at judge magic_at version_at kind_at session_at member_at moment_at page_at source_at stream_at name_at body_at drawop_at only_drawop mask_at flag_at echo_at items_at list_at any_stream_at number_in_stream_at echo_member_at size_at data_of request_of packed_of repair_of session_of contents_of
+unfolding bits_set head page_bytes name_bytes drawop_bytes echo_bytes request_bytes spelling prefix_at judge magic_at version_at kind_at session_at member_at moment_at page_at source_at stream_at name_at body_at drawop_at only_drawop mask_at flag_at echo_at items_at list_at any_stream_at number_in_stream_at echo_member_at size_at data_of request_of packed_of repair_of session_of contents_of
 twice_a_row = refl
 
 farewell_of_another : judge 7 (spelling 7 (Session 3 1000000 true first_page (named zero_stream 3 ∷ []) [])) ≡ Err Source
-unfolding bits_set head page_bytes name_bytes drawop_bytes echo_bytes request_bytes spelling front_at judge magic_at version_at kind_at session_at member_at moment_at page_at source_at stream_at name_at body_at drawop_at only_drawop mask_at flag_at echo_at items_at list_at any_stream_at number_in_stream_at echo_member_at size_at data_of request_of packed_of repair_of session_of contents_of
+unfolding bits_set head page_bytes name_bytes drawop_bytes echo_bytes request_bytes spelling prefix_at judge magic_at version_at kind_at session_at member_at moment_at page_at source_at stream_at name_at body_at drawop_at only_drawop mask_at flag_at echo_at items_at list_at any_stream_at number_in_stream_at echo_member_at size_at data_of request_of packed_of repair_of session_of contents_of
 farewell_of_another = refl
 
 largest : length (spelling 7 (Data (record { name = named zero_stream 1; stamp = 0; body = replicate 1024 7 }))) ≡ 1051
@@ -84,7 +84,7 @@ abbrev memory : Result Datagram DecodeFault
 memory = Err Memory
 
 other_session : judge 8 hi_bytes ≡ Err faults.Session
-unfolding bits_set head page_bytes name_bytes drawop_bytes echo_bytes request_bytes spelling front_at judge magic_at version_at kind_at session_at member_at moment_at page_at source_at stream_at name_at body_at drawop_at only_drawop mask_at flag_at echo_at items_at list_at any_stream_at number_in_stream_at echo_member_at size_at data_of request_of packed_of repair_of session_of contents_of
+unfolding bits_set head page_bytes name_bytes drawop_bytes echo_bytes request_bytes spelling prefix_at judge magic_at version_at kind_at session_at member_at moment_at page_at source_at stream_at name_at body_at drawop_at only_drawop mask_at flag_at echo_at items_at list_at any_stream_at number_in_stream_at echo_member_at size_at data_of request_of packed_of repair_of session_of contents_of
 other_session = refl
 
 a_fault_stands : IsJudged takes_memory memory (Err faults.Session) → ⊥

@@ -30,14 +30,14 @@ abbrev pub check : {A : Type 0} → Bool → DecodeFault → A → Result A Deco
 check good fault x = if good then Ok x else Err fault
 
 -- this many bytes
-unfoldable pub front_at : ℕ → List ℕ → Read (List ℕ)
-front_at n bytes = if nat_lt (length bytes) n then Err Short else Ok (take n bytes, drop n bytes)
+unfoldable pub prefix_at : ℕ → List ℕ → Read (List ℕ)
+prefix_at n bytes = if nat_lt (length bytes) n then Err Short else Ok (take n bytes, drop n bytes)
 
 -- a number of this width
 abbrev pub number_at : Width → List ℕ → Read ℕ
 number_at w bytes = do
-  front ← front_at (byte_len w) bytes
-  Ok (from_be_bytes w front.0, front.1)
+  prefix ← prefix_at (byte_len w) bytes
+  Ok (from_be_bytes w prefix.0, prefix.1)
 
 -- a number that passes a test
 abbrev pub judged : Width → (ℕ → Bool) → DecodeFault → List ℕ → Read ℕ
@@ -114,7 +114,7 @@ size_at bytes = judged w16 (λ n. nat_le n LONGEST_BODY) Length bytes
 unfoldable pub body_at : List ℕ → Read (List ℕ)
 body_at bytes = do
   size ← size_at bytes
-  front_at size.0 size.1
+  prefix_at size.0 size.1
 
 unfoldable pub drawop_at : Option ℕ → List ℕ → Read Drawop
 drawop_at wanted bytes = do

@@ -3,7 +3,7 @@
 ghost use Rattle.std.specs.Prelude.{◌≡◌, ◌==◌, ◌<◌, length, MatchResult, true, false};
 ghost use Rattle.std.specs.Int.{w8, w16, w32, w64};
 ghost use Rattle.srm_codec.specs.declared.fault.DecodeFault.TheVariants.{Length};
-ghost use Rattle.srm_codec.specs.Judging.{front_at, number_at, magic_at, version_at, kind_at, session_at, member_at, moment_at, page_at, source_at, stream_at, name_at, body_at, flag_at};
+ghost use Rattle.srm_codec.specs.Judging.{prefix_at, number_at, magic_at, version_at, kind_at, session_at, member_at, moment_at, page_at, source_at, stream_at, name_at, body_at, flag_at};
 ghost use Rattle.srm_codec.specs.Reading.{IsRead, IsReadBy};
 
 use crate::fault::DecodeFault;
@@ -39,43 +39,43 @@ impl<'a> Reader<'a> {
         Reader { rest: self.rest }
     }
 
-    #[tactic(auto, unfolding(crate::specs::Judging::front_at))]
-    fn front<const N: usize>(&mut self) -> Result<[u8; N], DecodeFault>
-        ensures { IsRead result self.new (front_at N self.old) }
+    #[tactic(auto, unfolding(crate::specs::Judging::prefix_at))]
+    fn prefix<const N: usize>(&mut self) -> Result<[u8; N], DecodeFault>
+        ensures { IsRead result self.new (prefix_at N self.old) }
     {
-        let Some((front, rest)) = self.rest.split_first_chunk() else {
+        let Some((prefix, rest)) = self.rest.split_first_chunk() else {
             return Err(DecodeFault::Short);
         };
         self.rest = rest;
-        Ok(*front)
+        Ok(*prefix)
     }
 
     pub fn u8(&mut self) -> Result<u8, DecodeFault>
         ensures { IsRead result self.new (number_at w8 self.old) }
     {
-        let front: [u8; 1] = self.front()?;
-        Ok(front[0])
+        let prefix: [u8; 1] = self.prefix()?;
+        Ok(prefix[0])
     }
 
     fn u16(&mut self) -> Result<u16, DecodeFault>
         ensures { IsRead result self.new (number_at w16 self.old) }
     {
-        let front = self.front()?;
-        Ok(u16::from_be_bytes(front))
+        let prefix = self.prefix()?;
+        Ok(u16::from_be_bytes(prefix))
     }
 
     pub fn u32(&mut self) -> Result<u32, DecodeFault>
         ensures { IsRead result self.new (number_at w32 self.old) }
     {
-        let front = self.front()?;
-        Ok(u32::from_be_bytes(front))
+        let prefix = self.prefix()?;
+        Ok(u32::from_be_bytes(prefix))
     }
 
     fn u64(&mut self) -> Result<u64, DecodeFault>
         ensures { IsRead result self.new (number_at w64 self.old) }
     {
-        let front = self.front()?;
-        Ok(u64::from_be_bytes(front))
+        let prefix = self.prefix()?;
+        Ok(u64::from_be_bytes(prefix))
     }
 
     #[tactic(auto, unfolding(crate::specs::Judging::magic_at))]
@@ -191,7 +191,7 @@ impl<'a> Reader<'a> {
         stream.at(number).ok_or(DecodeFault::Number)
     }
 
-    #[tactic(auto, unfolding(crate::specs::Judging::front_at, crate::specs::Judging::size_at, crate::specs::Judging::body_at))]
+    #[tactic(auto, unfolding(crate::specs::Judging::prefix_at, crate::specs::Judging::size_at, crate::specs::Judging::body_at))]
     pub fn body(&mut self) -> Result<&'a [u8], DecodeFault>
         ensures { IsReadBy (λ body. body.now) result self.new (body_at self.old) }
     {

@@ -46,7 +46,7 @@ first_stream = record { source = 0; page = first_page }
 abbrev pub four_names : List FullName
 four_names = names_up_to first_stream 4
 
--- a page that isn't shown
+-- a page that isn't the first
 abbrev pub elsewhere : Page
 elsewhere = record { creator = 1; number = 3 }
 

@@ -17,8 +17,8 @@ use Rattle.srm_live.specs.Typing.{short_lines, strokes_in, LineContent, with_byt
 
 -- these lines, with a prefix before the first
 abbrev before_lines : List ℕ → List (List ℕ) → List (List ℕ)
-before_lines front [] = front ∷ []
-before_lines front (l ∷ ls) = (front ++ l) ∷ ls
+before_lines typed_before [] = typed_before ∷ []
+before_lines typed_before (l ∷ ls) = (typed_before ++ l) ∷ ls
 
 before_first_lines : (c d : ℕ) (ds : List ℕ) (ls : List (List ℕ)) → before_first c (before_lines (d ∷ ds) ls) ≡ before_lines (c ∷ d ∷ ds) ls
 before_first_lines c d ds [] = refl
@@ -33,7 +33,7 @@ lines_behind : (c : ℕ) (cs more : List ℕ) → HasNoEnd (c ∷ cs) → lines_
 lines_behind c [] more h = other c (lines_of more) h.0 ∙ one_before c (lines_of more)
 lines_behind c (d ∷ ds) more h = other c (lines_of ((d ∷ ds) ++ more)) h.0 ∙ ap (before_first c) (lines_behind d ds more h.1) ∙ before_first_lines c d ds (lines_of more)
 
-line_ends : (front more : List ℕ) → HasNoEnd front → lines_of (front ++ 10 ∷ more) ≡ front ∷ lines_of more
+line_ends : (typed_before more : List ℕ) → HasNoEnd typed_before → lines_of (typed_before ++ 10 ∷ more) ≡ typed_before ∷ lines_of more
 line_ends [] more h = refl
 line_ends (c ∷ cs) more h = other c (lines_of (cs ++ 10 ∷ more)) h.0 ∙ ap (before_first c) (line_ends cs more h.1)
 
@@ -45,32 +45,32 @@ long_line : (l : List ℕ) (ls : List (List ℕ)) → nat_lt LONGEST_BODY (lengt
 long_line l ls long = rw long refl
 
 -- a prefix that is too long is drawn with nothing behind it
-long_front : (front : List ℕ) (ls : List (List ℕ)) → nat_lt LONGEST_BODY (length front) ≡ true → short_lines (before_lines front ls) ≡ short_lines (drop 1 ls)
-long_front front [] long = long_line front [] long
-long_front front (l ∷ ls) long = long_line (front ++ l) ls (lt-ltb LONGEST_BODY (length (front ++ l)) (omega (arith, ltb-true LONGEST_BODY (length front) long, length-append front l)))
+long_before : (typed_before : List ℕ) (ls : List (List ℕ)) → nat_lt LONGEST_BODY (length typed_before) ≡ true → short_lines (before_lines typed_before ls) ≡ short_lines (drop 1 ls)
+long_before typed_before [] long = long_line typed_before [] long
+long_before typed_before (l ∷ ls) long = long_line (typed_before ++ l) ls (lt-ltb LONGEST_BODY (length (typed_before ++ l)) (omega (arith, ltb-true LONGEST_BODY (length typed_before) long, length-append typed_before l)))
 
 -- so one byte more of it changes nothing
-no_room : (front more : List ℕ) (byte : ℕ) → HasNoEnd front → byte ≢ 10 → nat_lt LONGEST_BODY (length front) ≡ true → strokes_in (front ++ byte ∷ more) ≡ strokes_in (front ++ more)
+no_room : (typed_before more : List ℕ) (byte : ℕ) → HasNoEnd typed_before → byte ≢ 10 → nat_lt LONGEST_BODY (length typed_before) ≡ true → strokes_in (typed_before ++ byte ∷ more) ≡ strokes_in (typed_before ++ more)
 no_room [] more byte h not_end long = absurd (omega (arith, ltb-true LONGEST_BODY 0 long))
 no_room (c ∷ cs) more byte h not_end long =
     ap short_lines (lines_behind c cs (byte ∷ more) h)
-    ∙ long_front (c ∷ cs) (lines_of (byte ∷ more)) long
+    ∙ long_before (c ∷ cs) (lines_of (byte ∷ more)) long
     ∙ ap (λ ls. short_lines (drop 1 ls)) (other byte (lines_of more) not_end)
     ∙ ap short_lines (behind_before byte (lines_of more))
-    ∙ sym (long_front (c ∷ cs) (lines_of more) long)
+    ∙ sym (long_before (c ∷ cs) (lines_of more) long)
     ∙ sym (ap short_lines (lines_behind c cs more h))
 
 -- ONE BYTE
 
-no_end_more : (front : List ℕ) (byte : ℕ) → HasNoEnd front → byte ≢ 10 → HasNoEnd (front ++ byte ∷ [])
+no_end_more : (typed_before : List ℕ) (byte : ℕ) → HasNoEnd typed_before → byte ≢ 10 → HasNoEnd (typed_before ++ byte ∷ [])
 no_end_more [] byte h not_end = (not_end, tt)
 no_end_more (c ∷ cs) byte h not_end = (h.0, no_end_more cs byte h.1 not_end)
 
 sent_none : (pen : PenView) → PenSent [] pen pen
 sent_none pen = ap (λ sent. record pen { sent = sent }) (sym (append-nil pen.sent))
 
-pub draws_none : (front : List ℕ) (pen : PenView) → DrawsTyped [] front pen front pen
-draws_none front pen = record { drawn = []; strokes = λ h more. refl; one = λ h. h; sent = sent_none pen }
+pub draws_none : (typed_before : List ℕ) (pen : PenView) → DrawsTyped [] typed_before pen typed_before pen
+draws_none typed_before pen = record { drawn = []; strokes = λ h more. refl; one = λ h. h; sent = sent_none pen }
 
 -- a byte that is no line end
 pub draws_byte : (byte : ℕ) (l new : LineContent) (pen : PenView) → byte ≢ 10 → new ≡ with_byte byte l → DrawsTyped (byte ∷ []) l.kept pen new.kept pen
@@ -107,11 +107,11 @@ sent_more a b old mid new one two =
     ap (λ (p : PenView). record p { sent = p.sent ++ map (stroke_of p.number) b }) one in
     two ∙ over_old ∙ ap (λ sent. record old { sent = sent }) joined
 
-draws_on : (a b front : List ℕ) (old : PenView) (begun : List ℕ) (mid : PenView) (left : List ℕ) (new : PenView) → DrawsTyped a front old begun mid → DrawsTyped b begun mid left new → DrawsTyped (a ++ b) front old left new
-draws_on a b front old begun mid left new one two = record {
+draws_on : (a b typed_before : List ℕ) (old : PenView) (begun : List ℕ) (mid : PenView) (left : List ℕ) (new : PenView) → DrawsTyped a typed_before old begun mid → DrawsTyped b begun mid left new → DrawsTyped (a ++ b) typed_before old left new
+draws_on a b typed_before old begun mid left new one two = record {
   drawn = one.drawn ++ two.drawn;
   strokes = λ h more.
-      ap (λ t. strokes_in (front ++ t)) (append_assoc a b more)
+      ap (λ t. strokes_in (typed_before ++ t)) (append_assoc a b more)
       ∙ one.strokes h (b ++ more)
       ∙ ap (λ t. one.drawn ++ t) (two.strokes (one.one h) more)
       ∙ sym (append_assoc one.drawn two.drawn (strokes_in (left ++ more)));
@@ -119,23 +119,23 @@ draws_on a b front old begun mid left new one two = record {
   sent = sent_more one.drawn two.drawn old mid new one.sent two.sent;
 }
 
-pub draws_more : (bytes : List ℕ) (i byte : ℕ) (front : List ℕ) (old : PenView) (begun : List ℕ) (mid : PenView) (left : List ℕ) (new : PenView) → i < length bytes → byte ≡ get_or bytes i 0
-    → DrawsTyped (take i bytes) front old begun mid → DrawsTyped (byte ∷ []) begun mid left new → DrawsTyped (take (i + 1) bytes) front old left new
-draws_more bytes i byte front old begun mid left new few is one two =
-    subst (λ done. DrawsTyped done front old left new) (ap (λ b. take i bytes ++ b ∷ []) is ∙ sym (take_more bytes i 0 few)) (draws_on (take i bytes) (byte ∷ []) front old begun mid left new one two)
+pub draws_more : (bytes : List ℕ) (i byte : ℕ) (typed_before : List ℕ) (old : PenView) (begun : List ℕ) (mid : PenView) (left : List ℕ) (new : PenView) → i < length bytes → byte ≡ get_or bytes i 0
+    → DrawsTyped (take i bytes) typed_before old begun mid → DrawsTyped (byte ∷ []) begun mid left new → DrawsTyped (take (i + 1) bytes) typed_before old left new
+draws_more bytes i byte typed_before old begun mid left new few is one two =
+    subst (λ done. DrawsTyped done typed_before old left new) (ap (λ b. take i bytes ++ b ∷ []) is ∙ sym (take_more bytes i 0 few)) (draws_on (take i bytes) (byte ∷ []) typed_before old begun mid left new one two)
 
 -- some of these bytes, where the pen stays as it is then
-pub draws_some : (bytes : List ℕ) (i : ℕ) (front : List ℕ) (old : PenView) (begun : List ℕ) (mid new : PenView) → DrawsTyped (take i bytes) front old begun mid → new ≡ mid → DrawsSome bytes front old new
-draws_some bytes i front old begun mid new h is = record {
+pub draws_some : (bytes : List ℕ) (i : ℕ) (typed_before : List ℕ) (old : PenView) (begun : List ℕ) (mid new : PenView) → DrawsTyped (take i bytes) typed_before old begun mid → new ≡ mid → DrawsSome bytes typed_before old new
+draws_some bytes i typed_before old begun mid new h is = record {
   done = take i bytes;
   rest = drop i bytes;
   split = sym (take-append-drop i bytes);
   begun = begun;
-  draws = subst (λ p. DrawsTyped (take i bytes) front old begun p) (sym is) h;
+  draws = subst (λ p. DrawsTyped (take i bytes) typed_before old begun p) (sym is) h;
 }
 
-pub draws_all : (bytes : List ℕ) (i : ℕ) (front : List ℕ) (old : PenView) (begun : List ℕ) (new : PenView) → length bytes ≤ i → DrawsTyped (take i bytes) front old begun new → DrawsTyped bytes front old begun new
-draws_all bytes i front old begun new all h = subst (λ done. DrawsTyped done front old begun new) (take_all i bytes all) h
+pub draws_all : (bytes : List ℕ) (i : ℕ) (typed_before : List ℕ) (old : PenView) (begun : List ℕ) (new : PenView) → length bytes ≤ i → DrawsTyped (take i bytes) typed_before old begun new → DrawsTyped bytes typed_before old begun new
+draws_all bytes i typed_before old begun new all h = subst (λ done. DrawsTyped done typed_before old begun new) (take_all i bytes all) h
 
 -- A TEXT THAT IS READ
 
@@ -147,23 +147,23 @@ draws_last l typed old new some is sent = record {
   sent = subst (λ t. PenSent (bodies_in t) old new) is sent;
 }
   where
-    last : (front : List ℕ) → l.kept ≡ front → HasNoEnd l.kept → strokes_in (l.kept ++ []) ≡ bodies_in (typed_of l)
+    last : (typed_before : List ℕ) → l.kept ≡ typed_before → HasNoEnd l.kept → strokes_in (l.kept ++ []) ≡ bodies_in (typed_of l)
     last [] none h = absurd (some none)
     last (c ∷ cs) is h =
         let here : lines_of (l.kept ++ []) ≡ l.kept ∷ [] = rw is (lines_behind c cs [] (subst HasNoEnd is h)) in
         ap short_lines here ∙ first_strokes l [] ∙ append-nil (bodies_in (typed_of l))
 
-pub draws_no_last : (front : List ℕ) (pen : PenView) → front ≡ [] → DrawsLast front pen pen
-draws_no_last front pen none = record { drawn = []; strokes = λ h. ap (λ f. strokes_in (f ++ [])) none; sent = sent_none pen }
+pub draws_no_last : (typed_before : List ℕ) (pen : PenView) → typed_before ≡ [] → DrawsLast typed_before pen pen
+draws_no_last typed_before pen none = record { drawn = []; strokes = λ h. ap (λ f. strokes_in (f ++ [])) none; sent = sent_none pen }
 
 pub reads_none : (known : Option (List ℕ)) (pen : PenView) → ReadsOf known known [] pen pen
 reads_none None pen = tt
 reads_none (Some text) pen = record { rest = text; left_is = refl; drawn = []; strokes = refl; one = tt; sent = sent_none pen }
 
 -- nothing is drawn yet
-pub front_none : (known : Option (List ℕ)) (pen : PenView) → PenSentPrefixOf known pen pen
-front_none None pen = tt
-front_none (Some text) pen = (strokes_in text, record { sent = []; split = refl; is = sent_none pen })
+pub prefix_none : (known : Option (List ℕ)) (pen : PenView) → PenSentPrefixOf known pen pen
+prefix_none None pen = tt
+prefix_none (Some text) pen = (strokes_in text, record { sent = []; split = refl; is = sent_none pen })
 
 rest_is : (left after : Option (List ℕ)) (bytes rest : List ℕ) → left ≡ Some rest → Consumes left after bytes → (ys : List ℕ) × (after ≡ Some ys) × (rest ≡ bytes ++ ys)
 rest_is None after bytes rest is took = absurd cc
@@ -224,9 +224,9 @@ reads_all (Some text) left begun old mid new h end last =
       is = sent_more h.drawn last.drawn old mid new h.sent last.sent;
     }
 
-front_of_all : (known : Option (List ℕ)) (old new : PenView) → PenSentAllOf known old new → PenSentPrefixOf known old new
-front_of_all None old new h = tt
-front_of_all (Some text) old new h = ([], h)
+prefix_of_all : (known : Option (List ℕ)) (old new : PenView) → PenSentAllOf known old new → PenSentPrefixOf known old new
+prefix_of_all None old new h = tt
+prefix_of_all (Some text) old new h = ([], h)
 
 -- A READ
 
@@ -264,5 +264,5 @@ read_last r known left after some buffer begun old mid new h took is end last cu
     go : {X Y : Type 0} (r : Result X Y) → OnOk r (DrawsLast begun mid new) → OnErr r (new ≡ mid) → OnOk r (PenSentAllOf known old new) × PenSentPrefixOf known old new
     go (Ok _) last cut =
         let all = reads_all known after begun old mid new here none last in
-        (all, front_of_all known old new all)
+        (all, prefix_of_all known old new all)
     go (Err _) last cut = (tt, reads_cut known after begun old mid new here cut)

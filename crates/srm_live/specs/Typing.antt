@@ -50,19 +50,19 @@ HasNoEnd (b ∷ bs) = (b ≢ 10) × HasNoEnd bs
 
 -- Behind a line's prefix these bytes were typed. What was drawn are the strokes that ended with them: whatever else is typed, these come first,
 -- and behind them those of the prefix that is begun now.
-pub record DrawsTyped (bytes front : List ℕ) (old : PenView) (begun : List ℕ) (new : PenView) : Type 0 where
+pub record DrawsTyped (bytes typed_before : List ℕ) (old : PenView) (begun : List ℕ) (new : PenView) : Type 0 where
   pub drawn : List (List ℕ)
-  pub strokes : HasNoEnd front → (more : List ℕ) → strokes_in (front ++ (bytes ++ more)) ≡ drawn ++ strokes_in (begun ++ more)
-  pub one : HasNoEnd front → HasNoEnd begun
+  pub strokes : HasNoEnd typed_before → (more : List ℕ) → strokes_in (typed_before ++ (bytes ++ more)) ≡ drawn ++ strokes_in (begun ++ more)
+  pub one : HasNoEnd typed_before → HasNoEnd begun
   pub sent : PenSent drawn old new
 
 -- some of these bytes were drawn, from the first on
-pub record DrawsSome (bytes front : List ℕ) (old new : PenView) : Type 0 where
+pub record DrawsSome (bytes typed_before : List ℕ) (old new : PenView) : Type 0 where
   pub done : List ℕ
   pub rest : List ℕ
   pub split : bytes ≡ done ++ rest
   pub begun : List ℕ
-  pub draws : DrawsTyped done front old begun new
+  pub draws : DrawsTyped done typed_before old begun new
 
 -- Of a text that is known, this is left to be read. What was read was drawn, but for the prefix of a line that is begun.
 pub record Reads (text : List ℕ) (left : Option (List ℕ)) (begun : List ℕ) (old new : PenView) : Type 0 where
@@ -74,9 +74,9 @@ pub record Reads (text : List ℕ) (left : Option (List ℕ)) (begun : List ℕ)
   pub sent : PenSent drawn old new
 
 -- the last line of a text, which lacks its end, was drawn
-pub record DrawsLast (front : List ℕ) (old new : PenView) : Type 0 where
+pub record DrawsLast (typed_before : List ℕ) (old new : PenView) : Type 0 where
   pub drawn : List (List ℕ)
-  pub strokes : HasNoEnd front → strokes_in (front ++ []) ≡ drawn
+  pub strokes : HasNoEnd typed_before → strokes_in (typed_before ++ []) ≡ drawn
   pub sent : PenSent drawn old new
 
 -- the same of what may be known of a text

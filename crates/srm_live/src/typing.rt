@@ -45,7 +45,7 @@ pub fn draw_typed<R: Clock + Wait, I: Read + Drop, O: Write, E: Write>(
 }
 
 // Draws each line of a reader, until it ends.
-#[tactic(auto, using(crate::proofs::TypedLines::front_none))]
+#[tactic(auto, using(crate::proofs::TypedLines::prefix_none))]
 fn draw_lines<R: Clock + Wait, I: Read, O: Write, E: Write>(
     rt: &R,
     alloc: Global,

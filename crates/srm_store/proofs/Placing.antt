@@ -126,10 +126,10 @@ copied_some None p e = ap is_some (sym e)
 copied_some (Some x) p e = ap is_some (sym e)
 
 -- one more filled place
-pub filled_more : (bs : List (List (Option Drawop))) (front : ℕ) → ((n : ℕ) → 1 ≤ n → n ≤ front → IsSome (place_at bs n)) → IsSome (place_at bs (front + 1)) → (n : ℕ) → 1 ≤ n → n ≤ front + 1 → IsSome (place_at bs n)
-filled_more bs front before here n low high = go (cases_eq n (front + 1))
+pub filled_more : (bs : List (List (Option Drawop))) (last : ℕ) → ((n : ℕ) → 1 ≤ n → n ≤ last → IsSome (place_at bs n)) → IsSome (place_at bs (last + 1)) → (n : ℕ) → 1 ≤ n → n ≤ last + 1 → IsSome (place_at bs n)
+filled_more bs last before here n low high = go (cases_eq n (last + 1))
   where
-    go : ((n ≡ front + 1) ⊎ (n ≢ front + 1)) → IsSome (place_at bs n)
+    go : ((n ≡ last + 1) ⊎ (n ≢ last + 1)) → IsSome (place_at bs n)
     go (inl e) = subst (λ k. IsSome (place_at bs k)) (sym e) here
     go (inr ne) = before n low (omega arith)
 

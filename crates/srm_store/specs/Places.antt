@@ -30,9 +30,9 @@ pub record Writes (number : ℕ) (value : Option Drawop) (old new : List (List (
   pub each : (n : ℕ) → place_at new n ≡ (if n == number then value else place_at old n)
 
 -- the places from 1 to this one are filled, and the next is empty
-pub record FilledTo (blocks : List (List (Option Drawop))) (front : ℕ) : Type 0 where
-  pub filled : (n : ℕ) → 1 ≤ n → n ≤ front → IsSome (place_at blocks n)
-  pub gap : place_at blocks (front + 1) ≡ None
+pub record FilledTo (blocks : List (List (Option Drawop))) (last : ℕ) : Type 0 where
+  pub filled : (n : ℕ) → 1 ≤ n → n ≤ last → IsSome (place_at blocks n)
+  pub gap : place_at blocks (last + 1) ≡ None
 
 -- there is nothing past the last number
 pub record EndsInTime (blocks : List (List (Option Drawop))) : Type 0 where

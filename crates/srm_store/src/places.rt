@@ -75,14 +75,14 @@ impl Places {
     }
 
     /// The number up to which places are filled, which is at least this one.
-    pub fn filled_from(&self, front: u32) -> u32
-        requires last { front ≤ DRAWOPS }
-        requires filled { (n : ℕ) → 1 ≤ n → n ≤ front → IsSome (place_at self.now n) }
+    pub fn filled_from(&self, last: u32) -> u32
+        requires last { last ≤ DRAWOPS }
+        requires filled { (n : ℕ) → 1 ≤ n → n ≤ last → IsSome (place_at self.now n) }
         ensures filled { FilledTo self.now result }
         ensures last { result ≤ DRAWOPS }
     {
         let _ = &self.blocks;
-        for number in front..DRAWOPS {
+        for number in last..DRAWOPS {
             if self.get(number + 1).is_none() {
                 return number;
             }

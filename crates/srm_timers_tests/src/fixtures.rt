@@ -39,7 +39,7 @@ pub(crate) fn near_and_far(near: u64, far: u64) -> [u64; 32]
     dist
 }
 
-/// The least moment of all, if there is any.
+/// Compares the moment that comes next.
 pub(crate) fn check_next(rt: &impl Abort, next: Option<u64>, wanted: Option<u64>) {
     assert_eq!(rt; next, wanted);
 }
