@@ -4,7 +4,7 @@ ghost use Rattle.std.specs.Prelude.{[], ◌∷◌};
 ghost use Rattle.srm_store.specs.Stores.{HavePlaces};
 ghost use Rattle.srm_agent_state.specs.Growth.{HoldsToo};
 
-use srm_names::{Drawop, Name};
+use srm_names::Drawop;
 use srm_store::Store;
 
 /// Holds a drawop, unless one of its name is held, and knows of its name. It takes no memory.

@@ -4,7 +4,7 @@ ghost use Rattle.std.specs.Prelude.{◌≡◌};
 ghost use Rattle.srm_codec.specs.Spelling.{head, page_bytes, name_bytes};
 
 use crate::format::{HEAD_BYTES, MAGIC, NAME_BYTES};
-use srm_names::{Echo, Member, Name, Page};
+use srm_names::{Member, Name, Page};
 
 #[tactic(auto, unfolding(crate::specs::Spelling::head))]
 pub fn head_field(version: u8, kind: u8, session: u32, sender: Member) -> [u8; HEAD_BYTES]

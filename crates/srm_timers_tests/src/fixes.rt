@@ -3,7 +3,7 @@
 ghost use Rattle.srm_timers.specs.Distances.{AreDistances};
 
 use crate::fixtures::{all_at, check_next, fix, member, name, near_and_far, no_fixes, words};
-use srm_names::{LATEST_MOMENT, Name};
+use srm_names::LATEST_MOMENT;
 use srm_timers::{Fixes, Listed, Scanned};
 use std::alloc::Global;
 use std::process::Abort;

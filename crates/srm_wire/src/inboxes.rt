@@ -3,7 +3,6 @@
 use crate::sent::Sent;
 use std::alloc::{AllocError, Global};
 use std::collections::VecDeque;
-use std::marker::Model;
 use std::sync::{Arc, Mutex};
 
 /// The inboxes that the wires of a network share.
