@@ -3,7 +3,7 @@ use Rattle.std.proofs.Common.{◌≡◌, ℕ, zero, suc, ◌≤◌, Bool, true, 
 use Rattle.std.specs.Prelude.{Option, Some, None, unwrap_or, if◌then◌else◌, option_to_list, filter, nat_le}
 use Rattle.std.specs.List.{list_any, AllByRecursion}
 use Rattle.std.proofs.lemmas.Option.{none-some}
-use Rattle.std.proofs.lemmas.Bool.{both_ways, not-true}
+use Rattle.std.proofs.lemmas.Bool.{lt-ltb, both_ways, not-true}
 use Rattle.std.proofs.lemmas.List.{append-nil}
 use Rattle.srm_names.specs.declared.page.Page.{Page}
 use Rattle.srm_names.specs.declared.stream.Stream.{Stream}
@@ -100,7 +100,7 @@ gone_draws_nothing c made xs ys gone all =
 
 positive_row : (n : ℕ) (rows : List FullName) (s : Stream) → number_in_rows rows s ≡ if_positive n → row_number rows s ≡ n
 positive_row zero rows s e = ap (λ o. unwrap_or o 0) e
-positive_row (suc n) rows s e = ap (λ o. unwrap_or o 0) e
+positive_row (suc n) rows s e = ap (λ o. unwrap_or o 0) e ∙ ap (λ b. unwrap_or (if b then Some (suc n) else None) 0) (lt-ltb 0 (suc n) (omega arith))
 
 -- a farewell says how much its sender drew, and ever will have drawn
 pub farewell_sent : (c : Config) (made : ℕ) (es : List Entry) (sender at : ℕ) (shown : Page) (rows : List FullName) (echoes : List Echo) → AllByRecursion (EntryRight c made) (steps es)

@@ -8,7 +8,7 @@ use Rattle.srm_codec.specs.declared.datagram.Datagram.{Datagram}
 use Rattle.srm_codec.specs.declared.datagram.Datagram.TheVariants.{Data, Request, Repair, Session}
 use Rattle.srm_codec.specs.declared.fault.DecodeFault.TheVariants as decoding
 use Rattle.srm_codec.specs.Spelling.{length_of}
-use Rattle.srm_codec.specs.Judging.{judge, magic_at, front_at}
+use Rattle.srm_codec.specs.Judging.{judge, magic_at, prefix_at}
 use Rattle.srm_bucket.specs.declared.class.Class.TheVariants.{New, Other}
 use Rattle.srm_entries.specs.Configs.{Config}
 use Rattle.srm_entries.specs.declared.entry.Entry.{Entry}
@@ -87,11 +87,11 @@ other_class = refl
 
 -- bytes: noise with its fault, the datagram that they spell, and noise to a gone member
 noise_of_bytes : bytes_heard (trio 1) [] (replicate 4096 255) ≡ (Noise, Ignored (causes.Decode decoding.Magic))
-unfolding judge magic_at front_at
+unfolding judge magic_at prefix_at
 noise_of_bytes = refl
 
 no_bytes : bytes_heard (trio 1) [] [] ≡ (Noise, Ignored (causes.Decode decoding.Short))
-unfolding judge magic_at front_at
+unfolding judge magic_at prefix_at
 no_bytes = refl
 
 noise_right : VerdictRight (trio 1) [] Noise (Ignored (causes.Decode decoding.Magic))
