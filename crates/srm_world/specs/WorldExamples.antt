@@ -10,7 +10,7 @@ use Rattle.srm_entries.specs.declared.entry.Verdict.TheVariants.{Done, Ignored, 
 use Rattle.srm_entries.specs.declared.cause.Cause.TheVariants.{Decode}
 use Rattle.srm_codec.specs.declared.fault.DecodeFault.{DecodeFault}
 use Rattle.srm_codec.specs.declared.fault.DecodeFault.TheVariants.{Short, Magic}
-use Rattle.srm_codec.specs.Judging.{judge, magic_at, front_at}
+use Rattle.srm_codec.specs.Judging.{judge, magic_at, prefix_at}
 use Rattle.srm_entries.specs.declared.state.AgentState.TheVariants.{Active}
 use Rattle.srm_entries.specs.declared.state.AgentState.TheVariants as states
 use Rattle.srm_entries.specs.Still.{entry_without_effects}
@@ -64,11 +64,11 @@ abbrev shown : Journal
 shown = journal (shows ∷ [])
 
 nothing_comes : IsHearing 2 shown [] (noise Short)
-unfolding judge magic_at front_at
+unfolding judge magic_at prefix_at
 nothing_comes = record { moment = refl; heard = refl }
 
 others_come : IsHearing 2 (with_entry shown (noise Short)) (replicate 4096 255) (noise Magic)
-unfolding judge magic_at front_at
+unfolding judge magic_at prefix_at
 others_come = record { moment = refl; heard = refl }
 
 both_heard : RecordsAll 2 ([] ∷ replicate 4096 255 ∷ []) shown (journal (shows ∷ noise Short ∷ noise Magic ∷ [])) (Ok tt)
