@@ -59,8 +59,8 @@ learns_one g old new fits gains gs knows = record {
     sent_is h = gains.each (spelling_of h)
 
     same : (h : Datagram) → IsSpellable h → bytes_eq (spelling_of h) (spelling_of g) ≡ true → h ≡ g
-    same h is e = (judging.unique ANY_SESSION ANY_SESSION (spelling_of h) h g (lit< tt) (lit< tt) (record { fits = is; text = refl })
-        (record { fits = fits; text = (bytes_decides (spelling_of h) (spelling_of g)).0 e })).1
+    same h is e = (judging.unique ANY_SESSION ANY_SESSION (spelling_of h) h g (lit< tt) (lit< tt) (record { spellable = is; text = refl })
+        (record { spellable = fits; text = (bytes_decides (spelling_of h) (spelling_of g)).0 e })).1
 
     to : (h : Datagram) → IsSpellable h → is_spelling new (spelling_of h) ≡ true → Contains (gs ++ g ∷ []) h
     to h is e = which (bytes_eq (spelling_of h) (spelling_of g)) refl (sym (sent_is h) ∙ e)

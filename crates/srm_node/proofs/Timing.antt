@@ -89,14 +89,14 @@ told_so {W} {C} Tells told own seen is h = subst (λ (n : NodeState W C). Tells 
 pub told_hearing : (Tells : ℕ → Type 0) (told now : ℕ) (a b : NodeView) → Tells told → now ≡ min told LATEST_MOMENT → HearsCut now a b → GrowsAtTold Tells a b
 told_hearing Tells told now a b tells counts h = record {
   grows = let l = h.listened.listens in
-      record { entries = l.entries; grown = l.grown; made = heard_at (IsTold Tells) now a.journal l.came l.entries (record { told = told; tells = tells; counts = counts }) l.each };
+      record { entries = l.entries; grown = l.grown; made = entered_at (IsHearing now) (IsTold Tells) now (λ j bytes e h. h.moment) a.journal l.came l.entries (record { told = told; tells = tells; counts = counts }) l.each };
 }
 
 pub told_drawing : (Tells : ℕ → Type 0) (told now : ℕ) (u : Bool) (a b c : NodeView) → Tells told → now ≡ min told LATEST_MOMENT → HearsNow now u a b → DrawsCut now b c → GrowsAtTold Tells a c
 told_drawing Tells told now u a b c tells counts h x =
     let is : IsTold Tells now = record { told = told; tells = tells; counts = counts } in
     let d = x.drew.draws.draws in
-    on Tells a b c (hears_told Tells now u a b is h) (record { entries = d.entries; grown = d.grown; made = drawn_at (IsTold Tells) now b.journal d.strokes d.entries is d.each })
+    on Tells a b c (hears_told Tells now u a b is h) (record { entries = d.entries; grown = d.grown; made = entered_at (IsDrawing now) (IsTold Tells) now (λ j s e h. h.moment) b.journal d.strokes d.entries is d.each })
 
 pub told_leaving : (Tells : ℕ → Type 0) (told now : ℕ) (u w : Bool) (a b c d : NodeView) → Tells told → now ≡ min told LATEST_MOMENT → HearsNow now u a b → DrawsNow now w b c → d ≡ c → GrowsAtTold Tells a d
 told_leaving Tells told now u w a b c d tells counts h x same = still Tells a c d same (drawn_told Tells now u w a b c (record { told = told; tells = tells; counts = counts }) h x)

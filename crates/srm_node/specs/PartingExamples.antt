@@ -213,7 +213,7 @@ leaves lane well = record { pens_done = true; leaves = record { entries = asks �
 ticks_once : (lane : LaneId) (well : WellView) → TicksNow 1 false (left lane well) (ticked lane well)
 ticks_once lane well = record {
   outs = out ∷ [];
-  ticks = record { entry = parts; grown = refl; moment = refl; is_tick = record { input = refl; sends = record { same = refl; spelled = (record { spelled = record { fits = farewell_spelled; text = spelled_so } }, tt) } } };
+  ticks = record { entry = parts; grown = refl; moment = refl; is_tick = record { input = refl; sends = record { same = refl; spelled = (record { spelled = record { spellable = farewell_spelled; text = spelled_so } }, tt) } } };
   sends = record { failures = (omega arith, tt); went = bytes_to 1 farewell_bytes ∷ []; some = inl (refl, tt); whole = refl; tells = record { told = refl } };
   same = refl;
 }

@@ -206,7 +206,7 @@ stays lane well = record { pens_done = true; leaves = record { entries = []; gro
 ticks_once : (lane : LaneId) (well : WellView) → TicksNow 1 false (drawn lane well) (ticked lane well)
 ticks_once lane well = record {
   outs = out ∷ [];
-  ticks = record { entry = sends; grown = refl; moment = refl; is_tick = record { input = refl; sends = record { same = refl; spelled = (record { spelled = record { fits = one_spelled; text = spelled_so } }, tt) } } };
+  ticks = record { entry = sends; grown = refl; moment = refl; is_tick = record { input = refl; sends = record { same = refl; spelled = (record { spelled = record { spellable = one_spelled; text = spelled_so } }, tt) } } };
   sends = record { failures = (omega arith, tt); went = bytes_to 1 one_bytes ∷ []; some = inl (refl, tt); whole = refl; tells = record { told = refl } };
   same = refl;
 }
