@@ -1,7 +1,8 @@
 //! Reading standard input.
 
 use crate::fault::PlayFault;
-use std::alloc::{AllocError, Global};
+use crate::memory::append;
+use std::alloc::Global;
 use std::io::Read;
 
 /// Bytes that are read at a time, at most.
@@ -23,12 +24,4 @@ pub fn read_input<I: Read>(alloc: Global, reader: &mut I) -> Result<Vec<u8>, Pla
         append(&mut input, read)?;
     }
     Ok(input)
-}
-
-/// Appends bytes. An allocation that is refused is made once more.
-pub fn append(bytes: &mut Vec<u8>, more: &[u8]) -> Result<(), AllocError> {
-    if bytes.reserve(more.len()).is_err() {
-        bytes.reserve(more.len())?;
-    }
-    bytes.extend_from_slice(more)
 }

@@ -6,6 +6,7 @@ mod fault;
 mod hex;
 mod input;
 mod lines;
+mod memory;
 mod words;
 mod world;
 

@@ -105,7 +105,8 @@ impl<'a> Words<'a> {
     }
 }
 
-fn read_page(text: &str) -> Option<Page> {
+/// The page that is written so.
+pub fn read_page(text: &str) -> Option<Page> {
     let (creator, number) = text.split_once('.')?;
     let creator = read_number(creator, u64::from(MEMBERS) - 1)?;
     let number = read_number(number, u64::from(PAGE_NUMBERS) - 1)?;
@@ -116,7 +117,7 @@ fn read_page(text: &str) -> Option<Page> {
 }
 
 /// The number with this decimal spelling, which has no sign and no leading zeros, where it is at most `greatest`.
-fn read_number(text: &str, greatest: u64) -> Option<u64>
+pub fn read_number(text: &str, greatest: u64) -> Option<u64>
     ensures { IfSome result (λ number. number ≤ greatest) }
 {
     if matches!(text.as_bytes(), [b'+', ..] | [b'0', _, ..]) {

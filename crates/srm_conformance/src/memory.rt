@@ -1,0 +1,20 @@
+//! Allocations of the player's own. One that is refused is made once more, so that a run in which a single allocation is refused ends as any
+//! other.
+
+use std::alloc::AllocError;
+
+/// Appends bytes.
+pub fn append(bytes: &mut Vec<u8>, more: &[u8]) -> Result<(), AllocError> {
+    if bytes.reserve(more.len()).is_err() {
+        bytes.reserve(more.len())?;
+    }
+    bytes.extend_from_slice(more)
+}
+
+/// Appends an item.
+pub fn push<T: Drop>(items: &mut Vec<T>, item: T) -> Result<(), AllocError> {
+    if items.reserve(1).is_err() {
+        items.reserve(1)?;
+    }
+    items.push(item).map_err(AllocError::from)
+}
