@@ -1,7 +1,7 @@
 -- Tests the upper half of srm.lua by itself: `lua test.lua`, in this folder. Ends with status 1 where something is wrong.
 --
--- Expected are the lines of vectors.txt, and the faults of crates/srm_codec_tests/src/changed.rt: its tables say which fault each byte of a
--- datagram makes where it is changed to each of five values, and are what the proved codec is tested by.
+-- Expected are the lines of vectors.txt, and the tables of tests/codec, by which the proved codec is tested: they say which fault each byte of a
+-- datagram makes where it is changed to each of five values.
 
 local SESSION = 7
 local srm = dofile("srm.lua")
@@ -47,48 +47,41 @@ for _, bytes in ipairs({
   check("no text", srm.is_text(bytes), false)
 end
 
--- ---- the tables of the codec's tests
+-- ---- the tables of the codec's cases
 
-local source = assert(io.open("../../crates/srm_codec_tests/src/changed.rt")):read("*a")
+local CASES = { data = "data", repair = "a_repair", request = "a_request", packed = "a_request_for_several", session = "a_session_message", farewell = "a_farewell" }
 local FAULTS = { "Short", "Magic", "Version", "Kind", "Session", "Member", "Number", "Length", "Order", "Flags", "Source" }
-
-local function numbers_of(text)
-  local numbers = {}
-  for number in text:gmatch("%w+") do
-    numbers[#numbers + 1] = assert(tonumber(number))
-  end
-  return numbers
-end
-
-local constants = { ANY = { 0, 0, 0, 0, 0 } }
-for name, value in source:gmatch("const ([%u_]+): %[u8; 5%] = (%b[])") do
-  constants[name] = value:match("^%[(%d+); 5%]$") and { value:match("%d+"), value:match("%d+"), value:match("%d+"), value:match("%d+"), value:match("%d+") }
-    or numbers_of(value)
-end
+local VALUES = { 0x00, 0x01, 0x7f, 0x80, 0xff }
 
 local changes = 0
-local function check_field(name, bytes, from, last, faults)
-  for at = from, last - 1 do
-    for place, value in ipairs(constants.VALUES) do
-      local changed = bytes:sub(1, at) .. string.char(value) .. bytes:sub(at + 2)
-      local fault = srm.read(changed, SESSION).fault
-      check(("%s, byte %d as %d"):format(name, at, value), fault and fault.name, FAULTS[tonumber(faults[place])])
-      changes = changes + 1
-    end
+local function check_byte(name, bytes, at, faults)
+  local place = 0
+  for fault in faults:gmatch("%d+") do
+    place = place + 1
+    local value = VALUES[place]
+    local found = srm.read(bytes:sub(1, at) .. string.char(value) .. bytes:sub(at + 2), SESSION).fault
+    check(("%s, byte %d as %d"):format(name, at, value), found and found.name, FAULTS[tonumber(fault)])
+    changes = changes + 1
   end
+  check(("%s, byte %d: how many values"):format(name, at), place, #VALUES)
 end
 
-for _, name in ipairs({ "data", "repair", "request", "packed", "session", "farewell" }) do
+for name, case in pairs(CASES) do
   local bytes = vectors[name]
   for size = 0, #bytes - 1 do
     check(("%s, cut to %d"):format(name, size), srm.read(bytes:sub(1, size), SESSION).fault.name, "Short")
   end
-  local fields = assert(source:match("const " .. name:upper() .. "_FIELDS: %[Field; %d+%] = (%b[])"), name)
+  local printed = assert(io.open(("../../tests/codec/%s_changed_and_cut.calls.stdout"):format(case))):read("*a")
+  local changed, answers = printed:match("> changes (%x+)\n(.*)")
+  check(name .. ": the bytes that are changed", unhexed(changed), bytes)
   local next_at = 0
-  for from, last, faults in fields:gsub("//[^\n]*", ""):gmatch("%((%d+), (%d+), ([^%)]+)%)") do
-    check(name .. ": where a field begins", tonumber(from), next_at)
-    next_at = tonumber(last)
-    check_field(name, bytes, tonumber(from), next_at, constants[faults] or numbers_of(faults))
+  for places, faults in answers:gmatch("([%d%-]+):([%d ]+)") do
+    local first = tonumber(places:match("^%d+"))
+    check(name .. ": where a field begins", first, next_at)
+    next_at = tonumber(places:match("%d+$")) + 1
+    for at = first, next_at - 1 do
+      check_byte(name, bytes, at, faults)
+    end
   end
   check(name .. ": where the last field ends", next_at, #bytes)
 end

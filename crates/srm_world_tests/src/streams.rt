@@ -84,3 +84,18 @@ fn streams_that_want_memory(rt: HostRuntime) -> Result<(), Fail> {
     }
     Ok(())
 }
+
+#[test]
+fn a_stream_is_full_after_65536_drawops(rt: HostRuntime) -> Result<(), Fail> {
+    let alloc = rt.alloc();
+    let mut script = b"members 1\n".to_vec(alloc)?;
+    script.extend_from_slice(repeated(alloc, "draw 0 1 0.0\n", 65_537)?.as_slice())?;
+    let ran = run_on(alloc, script.as_slice());
+    assert_eq!(rt; ran.status, 0);
+    assert!(rt;
+        ran.out
+            .as_slice()
+            .ends_with(b"drew 0 0.0 65536\nrefused 0 4\n")
+    );
+    Ok(())
+}

@@ -1,6 +1,5 @@
 //! Worlds to which all events of a list happen in one call.
 
-use crate::running::run_good;
 use srm_agent::{AgentFault, Verdict};
 use srm_rig::repeated;
 use srm_script::{Script, ScriptFault, read_script};
@@ -11,14 +10,10 @@ use std::fmt::Write;
 use std::process::Abort;
 use std::test::Fail;
 
-/// A script with an event of each kind, some of which are skipped, and what it prints.
-const EACH_KIND: (&str, &str) = (
+/// A script with an event of each kind, some of which are skipped.
+const EACH_KIND: &str =
     "members 2\ndraw 0 1 0.0 a\ntick 0 2\ndeliver 1 3 1\ndeliver 1 3 0\nshow 1 4 0.1\n\
-        give 1 8\ngive 1 0\ngive 1 0\ntake 1 0\ntake 1 0\ntake 2 0\nleave 0 5\ntick 0 6\ntick 0 7\n",
-    "drew 0 0.0 1\nout 0 0 data 28\nskipped\nheard 1 taken\nshown 1 0.1\n\
-        skipped\ngave 1 0 open 0.0\ngave 1 0 draw 0 1 a\ntook 1 0 open 0.0\ntook 1 0 draw 0 1 a\nskipped\n\
-        leaving 0\nout 1 0 session 31\ngone 0\n",
-);
+    give 1 8\ngive 1 0\ngive 1 0\ntake 1 0\ntake 1 0\ntake 2 0\nleave 0 5\ntick 0 6\ntick 0 7\n";
 
 /// The world of a script to which all events happened in one call.
 fn run_at_once(alloc: Global, text: &[u8]) -> Result<World<Listed>, ScriptFault> {
@@ -63,14 +58,8 @@ fn check_script(rt: &impl Abort, alloc: Global, text: &str) {
 }
 
 #[test]
-fn events_of_each_kind(rt: HostRuntime) {
-    run_good(&rt, &[EACH_KIND]);
-}
-
-#[test]
 fn a_whole_script_in_one_call_is_its_events_one_by_one(rt: HostRuntime) {
-    let (text, _) = EACH_KIND;
-    check_script(&rt, rt.alloc(), text);
+    check_script(&rt, rt.alloc(), EACH_KIND);
 }
 
 /// A list of 65,537 draws, of which the last is refused, since the stream is full.
