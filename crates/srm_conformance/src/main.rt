@@ -1,12 +1,24 @@
 //! Plays a case of `tests/`: `srm_conformance KIND < CASE` prints what the calls of the case answer. `tests/README.md` has the kinds.
 #![tactic(auto)]
 
+mod answers;
+mod asks;
+mod bucket;
 mod codec;
+mod deadlines;
+mod distance;
+mod distances;
 mod fault;
+mod fixes;
 mod hex;
 mod input;
 mod lines;
 mod memory;
+mod names;
+mod naming;
+mod store;
+mod timers;
+mod waits;
 mod words;
 mod world;
 
@@ -55,6 +67,14 @@ fn play_kind<O: Write>(
     match kind {
         "world" => world::play(alloc, input, out),
         "codec" => codec::play(alloc, input, out),
+        "names" => naming::play(alloc, input, out),
+        "store" => store::play(alloc, input, out),
+        "asks" => asks::play(alloc, input, out),
+        "fixes" => fixes::play(alloc, input, out),
+        "waits" => waits::play(alloc, input, out),
+        "deadlines" => deadlines::play(alloc, input, out),
+        "bucket" => bucket::play(alloc, input, out),
+        "distance" => distance::play(alloc, input, out),
         _ => Err(PlayFault::Usage),
     }
 }
