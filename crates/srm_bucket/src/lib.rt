@@ -23,8 +23,6 @@ mod class;
 mod item;
 mod limits;
 mod queues;
-#[cfg(test)]
-mod tests;
 mod tokens;
 
 pub use bucket::Bucket;

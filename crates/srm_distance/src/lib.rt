@@ -23,8 +23,6 @@ mod heard_message;
 mod limits;
 mod peer;
 mod returned;
-#[cfg(test)]
-mod tests;
 
 pub use distances::Distances;
 pub use limits::{FIRST_DISTANCE, SHORTEST_DISTANCE};

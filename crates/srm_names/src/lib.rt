@@ -24,8 +24,6 @@ mod name;
 mod page;
 mod page_msg;
 mod stream;
-#[cfg(test)]
-mod tests;
 
 pub use between::names_between;
 pub use drawop::Drawop;

@@ -1,43 +1,14 @@
-//! Words, waits and deadlines at worked values.
+//! Moments in order and in a tree give the same answers as moments that are looked through.
 
 ghost use Rattle.std.specs.Prelude.{◌≡◌, true, IfOk};
 ghost use Rattle.srm_names.specs.Names.{ascending, name_below};
 ghost use Rattle.srm_deadlines.specs.Places.{names_of};
 
-use crate::fixtures::check_next;
 use srm_names::Name;
-use srm_timers::{
-    Deadlines, Listed, Ordered, Pcg, Scanned, Timed, Tree, Words, put_names, wait_between,
-};
+use srm_timers::{Deadlines, Ordered, Pcg, Scanned, Timed, Tree, Words, put_names};
 use std::alloc::{AllocError, Global};
 use std::process::Abort;
 use std::test::Fail;
-
-#[test]
-fn the_generator_that_number_1_starts(rt: HostRuntime) {
-    let mut words = Pcg::new(1);
-    assert_eq!(rt; words.word(), 15_492_934_433_077_865_799);
-    assert_eq!(rt; words.word(), 319_104_231_195_455_319);
-}
-
-#[test]
-fn a_list_gives_its_words_and_then_0(rt: HostRuntime) -> Result<(), Fail> {
-    let mut words = Listed::new([5, 7].to_vec(rt.alloc())?);
-    for word in [5, 7, 0, 0] {
-        assert_eq!(rt; words.word(), word);
-    }
-    Ok(())
-}
-
-#[test]
-fn waits_are_taken_round_their_interval(rt: HostRuntime) -> Result<(), Fail> {
-    let mut words = Listed::new([0, 200_000, 200_001, 3].to_vec(rt.alloc())?);
-    for wait in [200_000, 400_000, 200_000, 200_003, 200_000] {
-        assert_eq!(rt; wait_between(200_000, 400_000, &mut words), wait);
-    }
-    assert_eq!(rt; wait_between(0, 0, &mut words), 0);
-    Ok(())
-}
 
 /// A name of one of four members, on the first page, with a number from 1 to 8.
 fn name(word: u64, rt: &impl Abort) -> Name {
@@ -187,86 +158,6 @@ fn tree_has_many_names_as_scanned(rt: HostRuntime) -> Result<(), Fail> {
         compare(rt.alloc(), &scanned, &tree, now, &rt)?;
     }
     Ok(())
-}
-
-fn check_due<D: Deadlines>(
-    alloc: Global,
-    deadlines: &D,
-    now: u64,
-    wanted: &[Name],
-    rt: &impl Abort,
-) -> Result<(), Fail> {
-    assert_eq!(rt; due(alloc, deadlines, now)?.as_slice(), wanted, "{now}");
-    Ok(())
-}
-
-/// Sets some moments one by one and some in one call.
-fn sets<D: Deadlines>(
-    alloc: Global,
-    deadlines: &mut D,
-    [a, b, c]: [Name; 3],
-    rt: &impl Abort,
-) -> Result<(), AllocError> {
-    check_next(rt, deadlines.next(), None);
-    arm(deadlines, b, 50)?;
-    arm(deadlines, c, 30)?;
-    check_next(rt, deadlines.next(), Some(30));
-    let moments = [
-        Timed {
-            name: a,
-            moment: 40,
-        },
-        Timed {
-            name: c,
-            moment: 40,
-        },
-    ];
-    arm_all(alloc, deadlines, &moments)
-}
-
-/// Reads what was set.
-fn reads<D: Deadlines>(
-    alloc: Global,
-    deadlines: &D,
-    [a, b, c]: [Name; 3],
-    rt: &impl Abort,
-) -> Result<(), Fail> {
-    assert_eq!(rt; deadlines.get(c), Some(40));
-    check_due(alloc, deadlines, 39, &[], rt)?;
-    check_due(alloc, deadlines, 40, &[a, c], rt)?;
-    check_due(alloc, deadlines, 50, &[a, b, c], rt)
-}
-
-/// Sets, reads and takes away.
-fn sets_and_reads<D: Deadlines>(
-    alloc: Global,
-    deadlines: &mut D,
-    rt: &impl Abort,
-) -> Result<(), Fail> {
-    let names = [name(0, rt), name(4, rt), name(1, rt)];
-    check_due(alloc, deadlines, 1_000, &[], rt)?;
-    sets(alloc, deadlines, names, rt)?;
-    reads(alloc, deadlines, names, rt)?;
-    clear_due(alloc, deadlines, 40)?;
-    check_next(rt, deadlines.next(), Some(50));
-    deadlines.clear(names[1]);
-    check_next(rt, deadlines.next(), None);
-    Ok(())
-}
-
-#[test]
-fn scanned_sets_and_reads(rt: HostRuntime) -> Result<(), Fail> {
-    sets_and_reads(rt.alloc(), &mut Scanned::new(rt.alloc()), &rt)
-}
-
-#[test]
-fn ordered_sets_and_reads(rt: HostRuntime) -> Result<(), Fail> {
-    sets_and_reads(rt.alloc(), &mut Ordered::new(rt.alloc()), &rt)
-}
-
-#[test]
-fn tree_sets_and_reads(rt: HostRuntime) -> Result<(), Fail> {
-    sets_and_reads(rt.alloc(), &mut Tree::new(rt.alloc()), &rt)
 }
 
 /// Up to 32 names that rise, with moments below 100: a name where its word is even.
