@@ -1,6 +1,7 @@
 //! Plays a case of `tests/`: `srm_conformance KIND < CASE` prints what the calls of the case answer. `tests/README.md` has the kinds.
 #![tactic(auto)]
 
+mod agent;
 mod answers;
 mod asks;
 mod bucket;
@@ -66,6 +67,7 @@ fn play_kind<O: Write>(
 ) -> Result<(), PlayFault> {
     match kind {
         "world" => world::play(alloc, input, out),
+        "agent" => agent::play(alloc, input, out),
         "codec" => codec::play(alloc, input, out),
         "names" => naming::play(alloc, input, out),
         "store" => store::play(alloc, input, out),

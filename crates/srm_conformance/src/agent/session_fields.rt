@@ -1,0 +1,120 @@
+//! Session messages by their fields.
+
+use super::again::push;
+use super::ranges::Range;
+use crate::fault::LineFault;
+use crate::words::{Words, read_number};
+use srm_codec::Datagram;
+use srm_names::{DRAWOPS, Echo, Items, LATEST_MOMENT, MEMBERS, Member, Name, PAGE_NUMBERS, Page};
+use std::alloc::Global;
+
+/// `M SENT C.P`, and behind it, where there are any, `rows S:C.P:N ..` and `echoes M:T1:DELAY ..`.
+pub fn read_session(
+    alloc: Global,
+    farewell: bool,
+    words: &mut Words<'_>,
+) -> Result<Datagram, LineFault> {
+    let sender = words.member()?;
+    let sent = words.moment()?;
+    let shown = words.page()?;
+    let mut lists = Lists {
+        rows: Vec::new(alloc),
+        echoes: Vec::new(alloc),
+    };
+    lists.read(words)?;
+    Ok(Datagram::Session {
+        sender,
+        sent,
+        farewell,
+        shown,
+        rows: Items::new(lists.rows),
+        echoes: Items::new(lists.echoes),
+    })
+}
+
+#[derive(Drop)]
+struct Lists {
+    rows: Vec<Name>,
+    echoes: Vec<Echo>,
+}
+
+impl Lists {
+    fn read(&mut self, words: &mut Words<'_>) -> Result<(), LineFault> {
+        let mut are_rows = true;
+        // A line ends, but a loop is to show it.
+        for _ in 0..u64::MAX {
+            if words.is_empty() {
+                break;
+            }
+            match words.word()? {
+                "rows" => are_rows = true,
+                "echoes" => are_rows = false,
+                word if are_rows => self.read_rows(word)?,
+                word => self.read_echo(word)?,
+            }
+        }
+        Ok(())
+    }
+
+    /// `S:C.P:N`. With ranges, as in `0..3:0.0..7:1`, a row for each source and each of its pages.
+    fn read_rows(&mut self, word: &str) -> Result<(), LineFault> {
+        let (sources, pages, number) = split_in_three(word)?;
+        let sources = Range::read(sources, u32::from(MEMBERS) - 1)?;
+        let (creator, pages) = pages.split_once('.').ok_or(LineFault::Bad)?;
+        let creator = read_number(creator, u64::from(MEMBERS) - 1).ok_or(LineFault::Bad)?;
+        let pages = Range::read(pages, PAGE_NUMBERS - 1)?;
+        let number = read_number(number, u64::from(DRAWOPS)).ok_or(LineFault::Bad)?;
+        for source in sources.first..sources.last + 1 {
+            self.add_rows(source as u8, creator as u8, pages, number as u32)?;
+        }
+        Ok(())
+    }
+
+    fn add_rows(
+        &mut self,
+        source: u8,
+        creator: u8,
+        pages: Range,
+        number: u32,
+    ) -> Result<(), LineFault> {
+        for page in pages.first..pages.last.saturating_add(1) {
+            self.add_row(source, creator, page, number)?;
+        }
+        Ok(())
+    }
+
+    fn add_row(
+        &mut self,
+        source: u8,
+        creator: u8,
+        page: u32,
+        number: u32,
+    ) -> Result<(), LineFault> {
+        let source = Member::new(source).ok_or(LineFault::Bad)?;
+        let page = Page {
+            creator: Member::new(creator).ok_or(LineFault::Bad)?,
+            number: u16::try_from(page).map_err(|_| LineFault::Bad)?,
+        };
+        let row = Name::new(source, page, number).ok_or(LineFault::Bad)?;
+        Ok(push(&mut self.rows, row)?)
+    }
+
+    /// `M:T1:DELAY`.
+    fn read_echo(&mut self, word: &str) -> Result<(), LineFault> {
+        let (member, t1, delay) = split_in_three(word)?;
+        let member = read_number(member, u64::from(MEMBERS) - 1).ok_or(LineFault::Bad)?;
+        let echo = Echo {
+            member: Member::new(member as u8).ok_or(LineFault::Bad)?,
+            t1: read_number(t1, LATEST_MOMENT).ok_or(LineFault::Bad)?,
+            delay: read_number(delay, LATEST_MOMENT).ok_or(LineFault::Bad)?,
+        };
+        Ok(push(&mut self.echoes, echo)?)
+    }
+}
+
+/// The parts of a word between two colons.
+fn split_in_three(word: &str) -> Result<(&str, &str, &str), LineFault> {
+    let (first, rest) = word.split_once(':').ok_or(LineFault::Bad)?;
+    let (second, third) = rest.split_once(':').ok_or(LineFault::Bad)?;
+    Ok((first, second, third))
+}
