@@ -166,13 +166,6 @@ pub fn spell(alloc: Global, session: u32, datagram: &Datagram) -> Result<Vec<u8>
     }
 }
 
-pub fn push<T: Drop>(list: &mut Vec<T>, value: T) -> Result<(), AllocError> {
-    match list.push(value) {
-        Ok(()) => Ok(()),
-        Err(failed) => Ok(list.push(failed.value)?),
-    }
-}
-
 pub fn copied(alloc: Global, bytes: &[u8]) -> Result<Bytes, AllocError> {
     match Bytes::copy_from_slice(alloc, bytes) {
         Err(_) => Bytes::copy_from_slice(alloc, bytes),

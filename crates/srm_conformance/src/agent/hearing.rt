@@ -11,7 +11,7 @@ use super::spelled::{Copied, Unnumbered, spelled};
 use super::telling::{HeardAlike, tell_heard};
 use crate::fault::LineFault;
 use crate::hex::read_hex;
-use crate::input::append;
+use crate::memory::append;
 use crate::words::{Words, read_number};
 use srm_agent::Agent;
 use srm_names::{DRAWOPS, LATEST_MOMENT, Member};

@@ -1,7 +1,7 @@
 //! The settings of a member, as lines say them.
 
-use super::again::push;
 use crate::fault::LineFault;
+use crate::memory::push;
 use crate::words::Words;
 use srm_agent::Config;
 use srm_names::Member;
