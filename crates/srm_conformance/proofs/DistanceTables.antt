@@ -1,15 +1,10 @@
--- Tables of distances, as lines make and change them.
-use Rattle.std.proofs.Common.{◌<◌, ◌≤◌, ℕ, inl, inr, get_or, set, replicate, length, List, ap, ◌∙◌, arith}
+-- Tables of distances, as lines change them.
+use Rattle.std.proofs.Common.{◌<◌, ◌≤◌, ℕ, inl, inr, get_or, set, length, List, ap, ◌∙◌, arith}
 use Rattle.std.specs.Prelude.{slice_set}
 use Rattle.std.proofs.lemmas.List.{length-set, get_or-set_same, get_or-set_other}
 use Rattle.std.proofs.lemmas.Bool.{cases_eq}
 use Rattle.srm_names.specs.declared.limits.TheConstants.{MEMBERS, LONGEST_DISTANCE}
 use Rattle.srm_timers.specs.Distances.{distance_to, AreDistances}
-use Rattle.srm_timers.proofs.Starting.{far_distances}
-
--- all are as far away
-pub all_alike : (far : ℕ) → far ≤ LONGEST_DISTANCE → AreDistances (replicate 32 far)
-all_alike far le = far_distances far le
 
 in_range : (dist : List ℕ) (place distance member : ℕ) → place < length dist → distance ≤ LONGEST_DISTANCE → ((m : ℕ) → distance_to dist m ≤ LONGEST_DISTANCE)
     → distance_to (slice_set dist place distance) member ≤ LONGEST_DISTANCE

@@ -30,10 +30,9 @@ impl Model for DistanceTable {
 
 impl DistanceTable {
     /// Every member is as far away as one of which nothing is known.
-    #[tactic(auto, using(crate::proofs::DistanceTables::all_alike))]
     pub fn new() -> DistanceTable {
         DistanceTable {
-            distances: [FIRST_DISTANCE; MEMBERS as usize],
+            distances: all_at(FIRST_DISTANCE),
         }
     }
 
@@ -51,11 +50,10 @@ impl DistanceTable {
         Ok(())
     }
 
-    #[tactic(auto, using(crate::proofs::DistanceTables::all_alike))]
     fn set_all(&mut self, distance: u64)
         requires { distance ≤ LONGEST_DISTANCE }
     {
-        self.distances = [distance; MEMBERS as usize];
+        self.distances = all_at(distance);
     }
 
     #[tactic(auto, using(crate::proofs::DistanceTables::one_changed))]
@@ -70,4 +68,12 @@ impl DistanceTable {
     {
         &self.distances
     }
+}
+
+/// The same distance to each member.
+fn all_at(distance: u64) -> [u64; MEMBERS as usize]
+    requires { distance ≤ LONGEST_DISTANCE }
+    ensures { AreDistances result }
+{
+    [distance; MEMBERS as usize]
 }

@@ -1,6 +1,7 @@
 //! Names in lines: how they are read and printed.
 
-ghost use Rattle.std.specs.Prelude.{◌≡◌};
+ghost use Rattle.std.specs.Prelude.{◌≡◌, ◌≤◌, IfOk};
+ghost use Rattle.srm_names.specs.declared.limits.TheConstants.{DRAWOPS};
 ghost use Rattle.srm_names.specs.Names.{ascending, name_below};
 
 use crate::fault::LineFault;
@@ -65,7 +66,9 @@ impl Words<'_> {
     }
 
     /// `N`, or `N..M` for the numbers from one to another: the first and the last.
-    pub fn numbers(&mut self) -> Result<(u32, u32), LineFault> {
+    pub fn numbers(&mut self) -> Result<(u32, u32), LineFault>
+        ensures { IfOk result (λ numbers. numbers.1 ≤ DRAWOPS) }
+    {
         let word = self.word()?;
         let (first, last) = word.split_once("..").unwrap_or((word, word));
         let first = read_number(first, u64::from(DRAWOPS)).ok_or(LineFault::Bad)?;
