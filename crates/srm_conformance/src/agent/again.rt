@@ -42,7 +42,7 @@ fn make_agent(
 
 pub fn draw(
     agent: &mut Agent<Listed>,
-    page: Page,
+    page: &Page,
     body: &Bytes,
     now: u64,
 ) -> Result<Name, AgentFault>
@@ -56,18 +56,18 @@ pub fn draw(
 
 fn draw_once(
     agent: &mut Agent<Listed>,
-    page: Page,
+    page: &Page,
     body: &Bytes,
     now: u64,
 ) -> Result<Name, AgentFault>
     requires { now ≤ LATEST_MOMENT }
 {
-    agent.draw(page, body.clone()?, now)
+    agent.draw(*page, body.clone()?, now)
 }
 
 pub fn draw_noted(
     agent: &mut Agent<Listed>,
-    page: Page,
+    page: &Page,
     body: &Bytes,
     now: u64,
 ) -> Result<Noted<Name>, AllocError>
@@ -81,21 +81,39 @@ pub fn draw_noted(
 
 fn draw_noted_once(
     agent: &mut Agent<Listed>,
-    page: Page,
+    page: &Page,
     body: &Bytes,
     now: u64,
 ) -> Result<Noted<Name>, AllocError>
     requires { now ≤ LATEST_MOMENT }
 {
-    agent.draw_noted(page, body.clone()?, now)
+    agent.draw_noted(*page, body.clone()?, now)
 }
 
-pub fn show_noted(agent: &mut Agent<Listed>, page: Page, now: u64) -> Result<Noted<()>, AllocError>
+pub fn show_noted(agent: &mut Agent<Listed>, page: &Page, now: u64) -> Result<Noted<()>, AllocError>
     requires { now ≤ LATEST_MOMENT }
 {
-    match agent.show_noted(page, now) {
-        Err(_) => agent.show_noted(page, now),
+    match agent.show_noted(*page, now) {
+        Err(_) => agent.show_noted(*page, now),
         noted => noted,
+    }
+}
+
+pub fn show(agent: &mut Agent<Listed>, page: &Page, now: u64) -> Result<(), AgentFault>
+    requires { now ≤ LATEST_MOMENT }
+{
+    match agent.show(*page, now) {
+        Err(AgentFault::Memory) => agent.show(*page, now),
+        shown => shown,
+    }
+}
+
+pub fn leave(agent: &mut Agent<Listed>, now: u64) -> Result<(), AgentFault>
+    requires { now ≤ LATEST_MOMENT }
+{
+    match agent.leave(now) {
+        Err(AgentFault::Memory) => agent.leave(now),
+        left => left,
     }
 }
 

@@ -42,7 +42,7 @@ fn draw<O: Write>(
     let now = words.moment()?;
     let page = words.page()?;
     let body = read_body(alloc, words.left())?;
-    let drawn = again::draw(agent, page, &body, now);
+    let drawn = again::draw(agent, &page, &body, now);
     tell_drawn(out, drawn)
 }
 
@@ -55,8 +55,8 @@ fn show<O: Write>(
     let now = words.moment()?;
     let page = words.page()?;
     words.end()?;
-    let shown = agent.show(page, now);
-    tell_shown(out, page, shown)
+    let shown = again::show(agent, &page, now);
+    tell_shown(out, &page, shown)
 }
 
 /// `T`.
@@ -67,7 +67,7 @@ fn leave<O: Write>(
 ) -> Result<(), LineFault> {
     let now = words.moment()?;
     words.end()?;
-    let left = agent.leave(now);
+    let left = again::leave(agent, now);
     tell_left(out, left)
 }
 
@@ -98,7 +98,7 @@ fn give<O: Write>(
 /// Tells the name of what was drawn.
 pub fn tell_drawn<O: Write>(out: &mut O, drawn: Result<Name, AgentFault>) -> Result<(), LineFault> {
     match drawn {
-        Ok(name) => Ok(writeln!(out, "drew {}", Numbered::new(name, name))?),
+        Ok(name) => Ok(writeln!(out, "drew {}", Numbered::one(name))?),
         Err(fault) => tell_refused(out, fault),
     }
 }
@@ -106,11 +106,11 @@ pub fn tell_drawn<O: Write>(out: &mut O, drawn: Result<Name, AgentFault>) -> Res
 /// Tells that a page is shown.
 pub fn tell_shown<O: Write>(
     out: &mut O,
-    page: Page,
+    page: &Page,
     shown: Result<(), AgentFault>,
 ) -> Result<(), LineFault> {
     match shown {
-        Ok(()) => Ok(writeln!(out, "shown {}", PrintedPage(page))?),
+        Ok(()) => Ok(writeln!(out, "shown {}", PrintedPage(*page))?),
         Err(fault) => tell_refused(out, fault),
     }
 }

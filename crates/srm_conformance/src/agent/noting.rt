@@ -46,7 +46,7 @@ fn draw<O: Write>(
     let now = words.moment()?;
     let page = words.page()?;
     let body = read_body(alloc, words.left())?;
-    let noted = again::draw_noted(agent, page, &body, now)?;
+    let noted = again::draw_noted(agent, &page, &body, now)?;
     tell_drawn(out, noted.answer)?;
     tell_entry(out, &noted.entry)
 }
@@ -59,8 +59,8 @@ fn show<O: Write>(
     let now = words.moment()?;
     let page = words.page()?;
     words.end()?;
-    let noted = again::show_noted(agent, page, now)?;
-    tell_shown(out, page, noted.answer)?;
+    let noted = again::show_noted(agent, &page, now)?;
+    tell_shown(out, &page, noted.answer)?;
     tell_entry(out, &noted.entry)
 }
 
@@ -131,7 +131,7 @@ fn tell_entry<O: Write>(out: &mut O, entry: &Entry) -> Result<(), LineFault> {
     let verdict = PrintedVerdict(entry.verdict);
     writeln!(out, "entry {member} {moment} {verdict} {state}")?;
     if let Some(drawop) = &effects.drawn {
-        let name = Numbered::new(drawop.name, drawop.name);
+        let name = Numbered::one(drawop.name);
         let stamp = drawop.stamp;
         writeln!(out, "drawn {name}@{stamp} {}", PrintedText(&drawop.body))?;
     }

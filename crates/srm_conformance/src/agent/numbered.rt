@@ -7,7 +7,7 @@ use std::fmt;
 use std::fmt::{Display, Formatter};
 
 /// One name, or those from one to another, as they are printed: source, page, and number or numbers.
-#[derive(Clone, Copy)]
+#[derive(Drop)]
 pub struct Numbered {
     stream: Stream,
     numbers: Range,
@@ -15,7 +15,7 @@ pub struct Numbered {
 
 impl Numbered {
     /// Those from the first to the last.
-    pub fn new(first: Name, last: Name) -> Numbered {
+    pub fn new(first: &Name, last: &Name) -> Numbered {
         Numbered {
             stream: first.stream(),
             numbers: Range {
@@ -25,9 +25,9 @@ impl Numbered {
         }
     }
 
-    /// The same where there are two ends.
-    pub fn of(first: Option<&Name>, last: Option<&Name>) -> Option<Numbered> {
-        Some(Numbered::new(*first?, *last?))
+    /// This one alone.
+    pub fn one(name: Name) -> Numbered {
+        Numbered::new(&name, &name)
     }
 }
 

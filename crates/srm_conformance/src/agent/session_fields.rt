@@ -65,7 +65,7 @@ impl Lists {
         let pages = Range::read(pages, PAGE_NUMBERS - 1)?;
         let number = read_number(number, u64::from(DRAWOPS)).ok_or(LineFault::Bad)?;
         for source in sources.first..sources.last + 1 {
-            self.add_rows(source as u8, creator as u8, pages, number as u32)?;
+            self.add_rows(source as u8, creator as u8, &pages, number as u32)?;
         }
         Ok(())
     }
@@ -74,7 +74,7 @@ impl Lists {
         &mut self,
         source: u8,
         creator: u8,
-        pages: Range,
+        pages: &Range,
         number: u32,
     ) -> Result<(), LineFault> {
         for page in pages.first..pages.last.saturating_add(1) {

@@ -31,7 +31,7 @@ pub fn tell_heard<O: Write>(out: &mut O, heard: &Heard) -> io::Result<()> {
 }
 
 /// Datagrams with numbers one after another that became the same and set no timer.
-#[derive(Clone, Copy)]
+#[derive(Drop)]
 pub struct HeardAlike {
     outcome: Outcome,
     numbers: Range,
@@ -91,9 +91,9 @@ pub fn tell_ticked<O: Write>(out: &mut O, ticked: &Ticked) -> io::Result<()> {
 
 /// A line for each name, but one for those of a stream whose numbers follow one another.
 fn tell_names<O: Write>(out: &mut O, word: &str, names: &[Name]) -> io::Result<()> {
-    for run in names.chunk_by(|name, next| are_neighbours(*name, *next)) {
-        if let Some(run) = Numbered::of(run.first(), run.last()) {
-            writeln!(out, "{word} {run}")?;
+    for run in names.chunk_by(|name, next| are_neighbours(name, next)) {
+        if let (Some(first), Some(last)) = (run.first(), run.last()) {
+            writeln!(out, "{word} {}", Numbered::new(first, last))?;
         }
     }
     Ok(())
@@ -111,20 +111,20 @@ pub fn tell_arms<O: Write>(out: &mut O, arms: &[Arm]) -> io::Result<()> {
 
 fn tell_arm<O: Write>(out: &mut O, first: &Arm, last: &Arm) -> io::Result<()> {
     let kind = first.kind.printed();
-    let names = Numbered::new(first.name, last.name);
+    let names = Numbered::new(&first.name, &last.name);
     let exponent = first.exponent;
     let wait = first.wait;
     writeln!(out, "arm {kind} {names} {exponent} {wait}")
 }
 
 /// Whether a name is the next of the same stream.
-fn are_neighbours(name: Name, next: Name) -> bool {
+fn are_neighbours(name: &Name, next: &Name) -> bool {
     name.stream() == next.stream() && name.number() + 1 == next.number()
 }
 
 /// Whether a timer is as another, but for the next number.
 fn are_alike(arm: &Arm, next: &Arm) -> bool {
-    are_neighbours(arm.name, next.name)
+    are_neighbours(&arm.name, &next.name)
         && arm.kind == next.kind
         && arm.exponent == next.exponent
         && arm.wait == next.wait
