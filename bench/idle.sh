@@ -7,10 +7,8 @@ here=$(CDPATH='' cd -- "$(dirname -- "$0")" && pwd) || exit 1
 srm=${SRM:-"$here/../crates/srm_main/out/srm_main"}
 minutes=${1:-17}
 form=${2:-live}
-if [ ! -x "$srm" ]; then
-    echo "there is no program, which ./srm --version builds" >&2
-    exit 1
-fi
+# The program is proved and built first, unless SRM names one.
+[ -n "${SRM-}" ] || "$here/../srm" build || exit
 folder=$(mktemp -d) || exit 1
 mkfifo "$folder/input" || exit 1
 

@@ -3,7 +3,7 @@
 # three, and how many times as long as `long.sh 8`.
 set -euo pipefail
 cd "$(dirname "$0")"
-../srm --help >/dev/null
+../srm build
 program=../crates/srm_main/out/srm_main
 folder=$(mktemp -d)
 trap 'rm -r "$folder"' EXIT
