@@ -1,6 +1,7 @@
 //! Bytes in hexadecimal, two digits each.
 
 use crate::fault::LineFault;
+use crate::memory::with_room;
 use std::alloc::{AllocError, Global};
 use std::fmt;
 use std::fmt::{Display, Formatter};
@@ -23,13 +24,10 @@ impl Display for Hex<'_> {
 
 /// Reads bytes that are written as they are printed, in small letters.
 pub fn read_hex(alloc: Global, text: &str) -> Result<Vec<u8>, LineFault> {
-    let mut bytes = Vec::new(alloc);
     if text == "-" {
-        return Ok(bytes);
+        return Ok(Vec::new(alloc));
     }
-    if bytes.reserve(text.len() / 2).is_err() {
-        bytes.reserve(text.len() / 2)?;
-    }
+    let mut bytes = with_room(alloc, text.len() / 2)?;
     for pair in text.as_bytes().chunks(2) {
         let [high, low] = pair else {
             return Err(LineFault::Bad);

@@ -1,7 +1,15 @@
 //! Allocations of the player's own. One that is refused is made once more, so that a run in which a single allocation is refused ends as any
 //! other.
 
-use std::alloc::AllocError;
+use std::alloc::{AllocError, Global};
+
+/// No bytes, with room for so many.
+pub fn with_room(alloc: Global, bytes: usize) -> Result<Vec<u8>, AllocError> {
+    match Vec::with_capacity(alloc, bytes) {
+        Err(_) => Vec::with_capacity(alloc, bytes),
+        made => made,
+    }
+}
 
 /// Appends bytes.
 pub fn append(bytes: &mut Vec<u8>, more: &[u8]) -> Result<(), AllocError> {

@@ -1,9 +1,13 @@
 //! Scripts of a world.
 
 use crate::fault::PlayFault;
+use crate::memory::with_room;
 use srm_script::{RAN_OUT, run_script};
-use std::alloc::Global;
+use std::alloc::{AllocError, Global};
 use std::io::Write;
+
+/// Bytes that a script prints on standard error, at most.
+const LONGEST_ERROR: usize = 64;
 
 /// How a script ran: what it printed on both streams, and its status.
 #[derive(Drop)]
@@ -13,19 +17,20 @@ struct Ran {
     status: u8,
 }
 
-fn run(alloc: Global, mut script: &[u8]) -> Ran {
+/// Runs a script. There is room for what it prints on standard error, since a script that is refused doesn't tell that its text was refused too.
+fn run(alloc: Global, mut script: &[u8]) -> Result<Ran, AllocError> {
     let mut out = Vec::new(alloc);
-    let mut err = Vec::new(alloc);
+    let mut err = with_room(alloc, LONGEST_ERROR)?;
     let status = run_script(alloc, &mut script, &mut out, &mut err);
-    Ran { out, err, status }
+    Ok(Ran { out, err, status })
 }
 
 /// Plays the input as a script. Prints what came on standard output, then each line of standard error behind `err `, and last the
 /// status.
 pub fn play<O: Write>(alloc: Global, input: &[u8], out: &mut O) -> Result<(), PlayFault> {
-    let mut ran = run(alloc, input);
+    let mut ran = run(alloc, input)?;
     if ran.status == RAN_OUT {
-        ran = run(alloc, input);
+        ran = run(alloc, input)?;
     }
     out.write_all(ran.out.as_slice())?;
     for line in ran.err.split(|byte| *byte == b'\n') {
