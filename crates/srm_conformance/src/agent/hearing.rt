@@ -49,7 +49,7 @@ pub fn hear<O: Write>(
     }
 }
 
-/// `T WHAT ..` of one datagram: the moment and the bytes.
+/// `WHAT ..` of one datagram: its bytes.
 pub fn read_heard(alloc: Global, session: u32, words: Words<'_>) -> Result<Vec<u8>, LineFault> {
     match read_said(alloc, session, words)? {
         Said::One(bytes) => Ok(bytes),

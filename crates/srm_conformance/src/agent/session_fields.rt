@@ -40,20 +40,28 @@ struct Lists {
 
 impl Lists {
     fn read(&mut self, words: &mut Words<'_>) -> Result<(), LineFault> {
-        let mut are_rows = true;
+        let mut are_rows = None;
         // A line ends, but a loop is to show it.
         for _ in 0..u64::MAX {
             if words.is_empty() {
                 break;
             }
             match words.word()? {
-                "rows" => are_rows = true,
-                "echoes" => are_rows = false,
-                word if are_rows => self.read_rows(word)?,
-                word => self.read_echo(word)?,
+                "rows" => are_rows = Some(true),
+                "echoes" => are_rows = Some(false),
+                word => self.read_item(are_rows, word)?,
             }
         }
         Ok(())
+    }
+
+    /// A row or an echo, by the word before it.
+    fn read_item(&mut self, are_rows: Option<bool>, word: &str) -> Result<(), LineFault> {
+        match are_rows {
+            Some(true) => self.read_rows(word),
+            Some(false) => self.read_echo(word),
+            None => Err(LineFault::Bad),
+        }
     }
 
     /// `S:C.P:N`. With ranges, as in `0..3:0.0..7:1`, a row for each source and each of its pages.
