@@ -5,9 +5,10 @@ ghost use Rattle.srm_names.specs.declared.limits.TheConstants.{DRAWOPS};
 ghost use Rattle.srm_names.specs.Names.{ascending, name_below};
 
 use crate::fault::LineFault;
+use crate::memory::push;
 use crate::words::{Words, read_number};
 use srm_names::{DRAWOPS, MEMBERS, Member, Name, Stream};
-use std::alloc::{AllocError, Global};
+use std::alloc::Global;
 use std::fmt::{Display, Formatter};
 use std::io::Write;
 use std::{fmt, io};
@@ -77,14 +78,6 @@ impl Words<'_> {
             return Err(LineFault::Bad);
         }
         Ok((first as u32, last as u32))
-    }
-}
-
-/// Adds a value to a list. An allocation that is refused is made once more.
-pub fn push<T: Drop>(list: &mut Vec<T>, value: T) -> Result<(), AllocError> {
-    match list.push(value) {
-        Ok(()) => Ok(()),
-        Err(failed) => Ok(list.push(failed.value)?),
     }
 }
 

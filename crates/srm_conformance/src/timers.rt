@@ -1,7 +1,8 @@
 //! What the calls of request timers and of repair timers have in common.
 
 use crate::fault::LineFault;
-use crate::names::{PrintedNames, push};
+use crate::memory::push;
+use crate::names::PrintedNames;
 use crate::words::Words;
 use srm_timers::{Arm, Listed};
 use std::alloc::Global;
