@@ -7,7 +7,7 @@ use crate::answers::{Maybe, yes_or_no};
 use crate::distances::DistanceTable;
 use crate::fault::{LineFault, PlayFault};
 use crate::lines::{Player, play_lines};
-use crate::names::tell_names;
+use crate::numbered::tell_names;
 use crate::timers::{read_listed, tell_arm};
 use crate::words::Words;
 use srm_names::{LONGEST_DISTANCE, Member, Name};

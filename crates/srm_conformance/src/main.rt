@@ -17,6 +17,8 @@ mod lines;
 mod memory;
 mod names;
 mod naming;
+mod numbered;
+mod ranges;
 mod store;
 mod timers;
 mod waits;

@@ -2,7 +2,7 @@
 
 use crate::fault::{LineFault, PlayFault};
 use crate::lines::{Player, play_lines};
-use crate::names::PrintedNames;
+use crate::numbered::Numbered;
 use crate::words::Words;
 use srm_names::{Member, Name};
 use std::alloc::Global;
@@ -54,7 +54,7 @@ fn tell_name<O: Write>(mut words: Words<'_>, out: &mut O) -> Result<(), LineFaul
     let number = words.number(u64::from(u32::MAX))? as u32;
     words.end()?;
     match Name::new(source, page, number) {
-        Some(name) => writeln!(out, "name {}", PrintedNames::one(name))?,
+        Some(name) => writeln!(out, "name {}", Numbered::one(name))?,
         None => writeln!(out, "name none")?,
     }
     Ok(())

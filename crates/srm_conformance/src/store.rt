@@ -5,7 +5,8 @@ use crate::fault::{LineFault, PlayFault};
 use crate::hex::Hex;
 use crate::lines::{Player, play_lines};
 use crate::memory::push;
-use crate::names::{PrintedNumbers, tell_names};
+use crate::numbered::tell_names;
+use crate::ranges::Range;
 use crate::words::Words;
 use bytes::Bytes;
 use srm_names::{DRAWOPS, Drawop, Name, Stream};
@@ -47,7 +48,7 @@ impl Calls {
     /// `S C.P N STAMP BODY`, or `N..M` for several, one by one.
     fn insert<O: Write>(&mut self, mut words: Words<'_>, out: &mut O) -> Result<(), LineFault> {
         let stream = words.stream()?;
-        let (first, last) = words.numbers()?;
+        let Range { first, last } = words.numbers()?;
         let stamp = words.moment()?;
         let bytes = words.bytes(self.alloc)?;
         words.end()?;
@@ -207,7 +208,7 @@ struct Inserted {
 fn tell_inserted<O: Write>(out: &mut O, inserted: &[Inserted]) -> Result<(), LineFault> {
     for run in inserted.chunk_by(|one, next| one.answer == next.answer) {
         if let (Some(first), Some(last)) = (run.first(), run.last()) {
-            let numbers = PrintedNumbers {
+            let numbers = Range {
                 first: first.number,
                 last: last.number,
             };

@@ -2,7 +2,7 @@
 
 use crate::fault::LineFault;
 use crate::memory::push;
-use crate::names::PrintedNames;
+use crate::numbered::Numbered;
 use crate::words::Words;
 use srm_timers::{Arm, Listed};
 use std::alloc::Global;
@@ -36,7 +36,7 @@ pub fn tell_arm<O: Write>(out: &mut O, arm: Option<Arm>) -> io::Result<()> {
         return writeln!(out, "arm none");
     };
     let kind = arm.kind.printed();
-    let name = PrintedNames::one(arm.name);
+    let name = Numbered::one(arm.name);
     let (exponent, wait, distance) = (arm.exponent, arm.wait, arm.distance);
     writeln!(out, "arm {kind} {name} {exponent} {wait} {distance}")
 }

@@ -5,13 +5,13 @@ ghost use Rattle.srm_names.specs.declared.limits.TheConstants.{LATEST_MOMENT};
 
 use super::again;
 use super::bodies::read_body;
-use super::ranges::Range;
 use super::session_fields::read_session;
 use super::spelled::{Copied, Unnumbered, spelled};
 use super::telling::{HeardAlike, tell_heard};
 use crate::fault::LineFault;
 use crate::hex::read_hex;
 use crate::memory::append;
+use crate::ranges::Range;
 use crate::words::{Words, read_number};
 use srm_agent::Agent;
 use srm_names::{DRAWOPS, LATEST_MOMENT, Member};

@@ -1,23 +1,12 @@
-//! How pages, texts and messages are printed.
+//! How texts and messages are printed.
 
-use srm_names::{Page, PageMsg};
+use crate::numbered::PrintedPage;
+use srm_names::PageMsg;
 use std::fmt;
 use std::fmt::{Display, Formatter};
 
 /// A text of one character that stands more often than this is printed as the character and how often.
 const SHORTEST_REPEATED: usize = 16;
-
-/// A page, as the number of its creator, a dot and its own number.
-#[derive(Drop)]
-pub struct PrintedPage(pub Page);
-
-impl Display for PrintedPage {
-    fn fmt<W: fmt::Write>(&self, f: &mut Formatter<W>) -> fmt::Result {
-        let creator = self.0.creator.number();
-        let number = self.0.number;
-        write!(f, "{creator}.{number}")
-    }
-}
 
 /// A message to a page's worker, or `none`.
 #[derive(Drop)]

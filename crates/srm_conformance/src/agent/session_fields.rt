@@ -1,8 +1,8 @@
 //! Session messages by their fields.
 
-use super::ranges::Range;
 use crate::fault::LineFault;
 use crate::memory::push;
+use crate::ranges::Range;
 use crate::words::{Words, read_number};
 use srm_codec::Datagram;
 use srm_names::{DRAWOPS, Echo, Items, LATEST_MOMENT, MEMBERS, Member, Name, PAGE_NUMBERS, Page};

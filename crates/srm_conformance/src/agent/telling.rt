@@ -1,9 +1,9 @@
 //! What calls answer, a line each.
 
 use super::fault_words::PrintedCause;
-use super::numbered::Numbered;
-use super::ranges::Range;
 use crate::hex::Hex;
+use crate::numbered::{Numbered, are_neighbours, tell_names};
+use crate::ranges::Range;
 use srm_agent::{AgentState, Arm, Heard, Out, Outcome, Ticked};
 use srm_entries::DatagramKind;
 use srm_names::Name;
@@ -89,16 +89,6 @@ pub fn tell_ticked<O: Write>(out: &mut O, ticked: &Ticked) -> io::Result<()> {
     Ok(())
 }
 
-/// A line for each name, but one for those of a stream whose numbers follow one another.
-fn tell_names<O: Write>(out: &mut O, word: &str, names: &[Name]) -> io::Result<()> {
-    for run in names.chunk_by(|name, next| are_neighbours(name, next)) {
-        if let (Some(first), Some(last)) = (run.first(), run.last()) {
-            writeln!(out, "{word} {}", Numbered::new(first, last))?;
-        }
-    }
-    Ok(())
-}
-
 /// A line for each timer, but one for those that are alike and whose numbers follow one another.
 pub fn tell_arms<O: Write>(out: &mut O, arms: &[Arm]) -> io::Result<()> {
     for run in arms.chunk_by(|arm, next| are_alike(arm, next)) {
@@ -115,11 +105,6 @@ fn tell_arm<O: Write>(out: &mut O, first: &Arm, last: &Arm) -> io::Result<()> {
     let exponent = first.exponent;
     let wait = first.wait;
     writeln!(out, "arm {kind} {names} {exponent} {wait}")
-}
-
-/// Whether a name is the next of the same stream.
-fn are_neighbours(name: &Name, next: &Name) -> bool {
-    name.stream() == next.stream() && name.number() + 1 == next.number()
 }
 
 /// Whether a timer is as another, but for the next number.
