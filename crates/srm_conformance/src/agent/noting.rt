@@ -11,7 +11,7 @@ use super::telling::{tell_arms, tell_heard};
 use crate::fault::LineFault;
 use crate::numbered::Numbered;
 use crate::words::Words;
-use srm_agent::{Agent, Entry, Verdict};
+use srm_agent::{Agent, Entry, Noted, Verdict};
 use srm_names::PAGES;
 use srm_timers::Listed;
 use std::alloc::Global;
@@ -86,11 +86,12 @@ fn hear<O: Write>(
     let now = words.moment()?;
     let bytes = read_heard(alloc, session, words)?;
     let noted = again::hear_noted(agent, bytes.as_slice(), now)?;
-    match noted.answer {
+    let Noted { answer, entry } = noted;
+    match answer {
         Ok(heard) => tell_heard(out, &heard)?,
         Err(_) => return Err(LineFault::Memory),
     }
-    tell_entry(out, &noted.entry)
+    tell_entry(out, &entry)
 }
 
 fn give<O: Write>(
@@ -101,11 +102,12 @@ fn give<O: Write>(
     let slot = words.number(u64::from(PAGES) - 1)?;
     words.end()?;
     let noted = again::give_noted(agent, slot as u8)?;
-    match noted.answer {
+    let Noted { answer, entry } = noted;
+    match answer {
         Ok(given) => tell_given(out, &given)?,
         Err(_) => return Err(LineFault::Memory),
     }
-    tell_entry(out, &noted.entry)
+    tell_entry(out, &entry)
 }
 
 /// What became of a call, as it is printed.
