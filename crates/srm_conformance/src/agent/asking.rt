@@ -1,7 +1,7 @@
 //! Calls that change nothing.
 
-use super::printed::PrintedPage;
 use crate::fault::LineFault;
+use crate::numbered::PrintedPage;
 use crate::words::Words;
 use srm_agent::{Agent, AgentState};
 use srm_names::LATEST_MOMENT;

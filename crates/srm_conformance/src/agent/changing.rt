@@ -3,10 +3,10 @@
 use super::again;
 use super::bodies::read_body;
 use super::fault_words::tell_refused;
-use super::printed::{PrintedMessage, PrintedPage};
+use super::printed::PrintedMessage;
 use super::telling::tell_ticked;
 use crate::fault::LineFault;
-use crate::numbered::Numbered;
+use crate::numbered::{Numbered, PrintedPage};
 use crate::words::Words;
 use srm_agent::{Agent, AgentFault};
 use srm_names::{Name, PAGES, Page, PageMsg};
