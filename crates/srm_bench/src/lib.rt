@@ -1,5 +1,5 @@
 //! What the benchmarks and the driver for hostile datagrams call from Rust: one member's agent over many calls, the moments of
-//! many names, which are cleared and set, the journals of a session, which are put together, and a group that repairs what it lost.
+//! many names, which are cleared and set, the journals of a session, which are put together, and a group that repairs what it loses.
 //!
 //! What the agent answered is told in numbers, by which two agents can be compared.
 #![tactic(auto)]
@@ -12,10 +12,11 @@ mod lists;
 mod moments;
 mod session;
 mod sessions;
+mod step;
 mod teller;
 
 use crate::caller::Caller;
-use crate::group::{Group, Waits};
+use crate::group::{Group, Places, Plan, Waits};
 use crate::moments::Moments;
 use crate::sessions::{mingled, talked};
 use crate::teller::Teller;
@@ -81,33 +82,23 @@ pub extern "C" fn srm_sessions(
         .unwrap_or(usize::MAX)
 }
 
-/// A group of so many members with these waits loses so many drawops of member 0, all members or the last one alone, and repairs them. It tells
-/// how many requests and how many repairs were sent in all, and how many microseconds passed in all from when a loss was shown until it was
-/// mended. How many numbers were told, which is 3; the greatest number where memory ran out, a setting is out of range, or there is no
-/// room for three numbers.
+/// A group loses drawops of member 0 and repairs them. It has a member for each seed of random numbers, 1 to 32, all with these waits; the ways
+/// between them are microseconds, by sender and then receiver, and drawops that are lost come to all members but those that are cut off. What
+/// becomes of each drawop is told, five numbers for each step: the moment, the member, the [`Step`](crate::step::Step), the drawop's number, and the
+/// distance by which a timer was set, else 0. How many numbers were told, as far as there was room; the greatest number where memory ran
+/// out, a wait is out of range, or a list is too short.
 #[unsafe(no_mangle)]
 pub extern "C" fn srm_losses(
     alloc: Global,
-    members: u8,
-    c1: u8,
-    c2: u8,
-    d1: u8,
-    d2: u8,
-    seed: u32,
-    times: u32,
-    all_lose: bool,
+    waits: &Waits,
+    plan: &Plan,
+    seeds: &[u64],
+    ways: &[u32],
+    cut_off: &[bool],
     told: &mut [u64],
 ) -> usize {
-    let waits = Waits { c1, c2, d1, d2 };
-    let mut teller = Teller::new(told);
-    let cost = Group::new(alloc, members, waits, seed, all_lose).and_then(|mut group| group.lose(
-        times,
-    ));
-    let Some(cost) = cost else {
-        return usize::MAX;
-    };
-    teller.tell(cost.requests);
-    teller.tell(cost.repairs);
-    teller.tell(cost.micros);
-    teller.count()
+    let places = Places { ways, cut_off };
+    Group::new(alloc, waits, seeds, places, Teller::new(told))
+        .and_then(|group| group.lose(plan))
+        .unwrap_or(usize::MAX)
 }
