@@ -1,0 +1,8 @@
+//! The figures.
+
+pub mod chain;
+pub mod distance;
+pub mod sparse;
+pub mod star;
+pub mod trees;
+pub mod waits;

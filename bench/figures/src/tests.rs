@@ -1,0 +1,5 @@
+//! The simulator at topologies that are worked out by hand.
+
+mod losses;
+mod numbers;
+mod topologies;
