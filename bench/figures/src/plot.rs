@@ -15,7 +15,7 @@ const STEPS: [u64; 9] = [10, 50, 100, 500, 1_000, 2_000, 4_000, 8_000, 16_000];
 /// An axis has no more steps.
 const MOST_STEPS: u64 = 6;
 
-/// How a series is drawn: each has a colour and a shape of its own.
+/// How a series is drawn. No two series share a colour or a shape.
 #[derive(Clone, Copy, Debug, PartialEq, Eq)]
 pub enum Look {
     First,

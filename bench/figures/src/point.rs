@@ -1,4 +1,4 @@
-//! What several losses cost, of which one point of a figure is made.
+//! A point of a figure: what several losses cost.
 
 use crate::cost::Cost;
 use crate::table::{Table, cells_of, columns_of};

@@ -5,7 +5,7 @@ use crate::tree::Tree;
 use srm_bench::losses::{Group, Plan, Waits, lose};
 use srm_bench::words::Pcg;
 
-/// The members of a session, of which the first is the source.
+/// The members of a session. The first is the source.
 pub struct Session<'a> {
     tree: &'a Tree,
     nodes: Vec<usize>,

@@ -60,7 +60,7 @@ fn a_tree_of_bounded_degree_fills_its_rows() {
     assert_eq!([beside(0), beside(1), beside(300), beside(999)], [4, 4, 4, 1]);
 }
 
-/// By Cayley's formula there are 16 trees with four names, of which 4 have a node beside all others.
+/// Cayley's formula counts 16 trees with four names. In 4 of them one node is next to all others.
 #[test]
 fn each_labelled_tree_is_as_likely() {
     let mut words = Pcg::new(1);
