@@ -14,7 +14,7 @@ use Rattle.srm_agent.specs.Fits.{AgentFits, AreNewProgress}
 use Rattle.srm_agent_state.specs.TimersKept.{TimersFit}
 
 pub fits_begins : {W : Type 0} (c : Config) (made : ℕ) (a : AgentContent W) → a.config ≡ c → a.state ≡ Active → a.last ≡ made → a.showing ≡ first_page → a.pages ≡ first_page ∷ []
-    → AreNewProgress a.progress → StoreFits [] [] [] a.store → DistancesFit c.me [] a.distances → TimersFit c [] a.timers
+    → AreNewProgress a.progress → StoreFits [] [] [] a.store → DistancesFit c.least_distance c.me [] a.distances → TimersFit c [] a.timers
     → (let calls : List (BucketCall Outgoing) = [] in BucketFits c.rate c.depth calls a.bucket) → a.due ≡ made + 1000000 → AgentFits c made [] a
 fits_begins c made a config state last showing pages progress kept heard timers bucket due = record {
   run = tt;

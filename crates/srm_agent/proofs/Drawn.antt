@@ -205,9 +205,9 @@ module _ (me moment : ℕ) (page : Page) (body : List ℕ) (stamp : ℕ) (after 
       exponent n true m = rw m refl
       exponent n false m = rw (m, drawn_missing n ∙ m) refl
 
-      none : (n : FullName) (b : Bool) → is_held past n ≡ b → basis_of c.me past e n ≡ None
-      none n true q = ap (λ (b : Bool). if b then fix_basis_of c.me past e n else ask_basis_of c.me past e n) q ∙ if_none (is_held past n && not (is_some (fix_running past n)) && not (held_off c.me past n moment)) None refl
-      none n false q = ap (λ (b : Bool). if b then fix_basis_of c.me past e n else ask_basis_of c.me past e n) q ∙ ap (option_map (ask_at c.me (past ++ e ∷ []) n)) (exponent n (is_missing past n) refl)
+      none : (n : FullName) (b : Bool) → is_held past n ≡ b → basis_of c past e n ≡ None
+      none n true q = ap (λ (b : Bool). if b then fix_basis_of c past e n else ask_basis_of c past e n) q ∙ if_none (is_held past n && not (is_some (fix_running past n)) && not (held_off c past n moment)) None refl
+      none n false q = ap (λ (b : Bool). if b then fix_basis_of c past e n else ask_basis_of c past e n) q ∙ ap (option_map (ask_at c (past ++ e ∷ []) n)) (exponent n (is_missing past n) refl)
 
   drawn_timers : TimersRight past e
   drawn_timers = record {
@@ -225,7 +225,7 @@ module _ (me moment : ℕ) (page : Page) (body : List ℕ) (stamp : ℕ) (after 
     fixes = h.fixes;
     fix_timers = λ n. h.fix_timers n ∙ sym (fix_running-snoc past e n);
     askers = λ n. h.askers n ∙ sym (first_of-snoc (asker n) past e ∙ or_else-none (first_of (asker n) past));
-    hold_offs = λ n now. h.hold_offs n now ∙ sym (held_off-snoc c.me past e n now ∙ or-false (held_off c.me past n now));
+    hold_offs = λ n now. h.hold_offs n now ∙ sym (held_off-snoc c past e n now ∙ or-false (held_off c past n now));
   }
 
   abbrev going : Going

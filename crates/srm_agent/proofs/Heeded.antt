@@ -64,7 +64,7 @@ pub record Heeds {W : Type 0} (c : Config) (made : ℕ) (past : List Entry) (a b
   pub spellable : IsSpellable g
   pub timers : TimersAdd c past e b.timers
   pub store : StoreFits (held past ++ drawops_in (Some g)) (evidence_in past ++ names_in g) (settlings past ++ cons_option (settling_of (Some g)) []) b.store
-  pub distances : DistancesFit c.me (distance_calls c.me past ++ calls_of c.me moment (Some g)) b.distances
+  pub distances : DistancesFit c.least_distance c.me (distance_calls c.me past ++ calls_of c.me moment (Some g)) b.distances
   pub pages : b.pages ≡ with_pages_of a.pages (names_in g)
   pub goes : Goes a b moment
 
@@ -76,7 +76,7 @@ heard_with me moment g arms s spellable = record { heard = refl; read = spellabl
 pub heeds_by : {W : Type 0} (c : Config) (made : ℕ) (past : List Entry) (a b : AgentContent W) (moment : ℕ) (g : Datagram) (arms : List Arm) → AgentFits c made past a → a.last ≤ moment → is_gone a.state ≡ false → IsSpellable g → IsAllowed (Heard g) a
     → TimersAdd c past (heard_entry c.me moment g arms a.state) b.timers
     → StoreFits (held past ++ drawops_in (Some g)) (evidence_in past ++ names_in g) (settlings past ++ cons_option (settling_of (Some g)) []) b.store
-    → DistancesFit c.me (distance_calls c.me past ++ calls_of c.me moment (Some g)) b.distances
+    → DistancesFit c.least_distance c.me (distance_calls c.me past ++ calls_of c.me moment (Some g)) b.distances
     → b.pages ≡ with_pages_of a.pages (names_in g) → Goes a b moment → Heeds c made past a b moment g (heard_entry c.me moment g arms a.state)
 heeds_by c made past a b moment g arms h late here spellable allowed add keeps calls pages goes = record {
   fits = h;

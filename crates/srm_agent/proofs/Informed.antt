@@ -68,13 +68,13 @@ pub session_enters : {W : Type 0} (next_word : W → ℕ × W) (a b : AgentConte
 session_enters next_word a b moment g names newly_missing dist arms roomy after e is named here spellable late allowed fresh_of hears_too table hears kept learns pages same goes settings drawn e_is =
     heard_enters next_word a b moment g arms e late settings drawn e_is heeds
   where
-    hears_by : (c : Config) (made : ℕ) (past : List Entry) → AgentFits c made past a → DistancesFit c.me (distance_calls c.me past ++ calls_of c.me moment (Some g)) after
-    hears_by c made past h = (subst (λ (s : Config). HearsToo s.me moment g a.distances after) h.config hears_too).each (distance_calls c.me past) h.distances
+    hears_by : (c : Config) (made : ℕ) (past : List Entry) → AgentFits c made past a → DistancesFit c.least_distance c.me (distance_calls c.me past ++ calls_of c.me moment (Some g)) after
+    hears_by c made past h = (subst (λ (s : Config). HearsToo s.me moment g a.distances after) h.config hears_too).each c.least_distance (distance_calls c.me past) h.distances
 
     dist_after : (c : Config) (made : ℕ) (past : List Entry) → AgentFits c made past a → AreDistancesAfter c (past ++ heard_entry c.me moment g arms a.state ∷ []) dist
     dist_after c made past h = record {
-      each = λ m l. table.each c.me (distance_calls c.me past ++ calls_of c.me moment (Some g)) (hears_by c made past h) m l
-          ∙ ap (λ (cs : List DistanceCall). defined.distance cs c.me m) (sym (flat_map-snoc (calls_in c.me) past (heard_entry c.me moment g arms a.state)));
+      each = λ m l. table.each c.least_distance c.me (distance_calls c.me past ++ calls_of c.me moment (Some g)) (hears_by c made past h) m l
+          ∙ ap (λ (cs : List DistanceCall). defined.distance c.least_distance cs c.me m) (sym (flat_map-snoc (calls_in c.me) past (heard_entry c.me moment g arms a.state)));
     }
 
     heeds : (c : Config) (made : ℕ) (past : List Entry) → AgentFits c made past a → Heeds c made past a b moment g (heard_entry c.me moment g arms a.state)
@@ -83,5 +83,5 @@ session_enters next_word a b moment g names newly_missing dist arms roomy after 
         (fresh_rows past (heard_entry c.me moment g arms a.state) names newly_missing (subst (λ ns. ShowsRows ns (heard_entry c.me moment g arms a.state)) (sym named) (shows_rows g c.me moment arms a.state is)) (fresh_of.each c made past h)) (dist_after c made past h))
         (subst (λ ds. StoreFits ds (evidence_in past ++ names_in g) (settlings past ++ cons_option (settling_of (Some g)) []) b.store) (sym (ap (λ ds. held past ++ ds) (no_drawops g is) ∙ append-nil (held past)))
         (learns.each (held past) (evidence_in past) (settlings past) (kept.each (held past) (evidence_in past) (settlings past) h.store)))
-        (subst (λ d. DistancesFit c.me (distance_calls c.me past ++ calls_of c.me moment (Some g)) d) (sym same) (hears_by c made past h))
+        (subst (λ d. DistancesFit c.least_distance c.me (distance_calls c.me past ++ calls_of c.me moment (Some g)) d) (sym same) (hears_by c made past h))
         (pages ∙ ap (with_pages_of a.pages) named) goes

@@ -30,14 +30,14 @@ are_echoes me now echoes low s = record { few = omega (arith, s.few); each = eac
 
 -- what the distances owe
 pub owed : {W : Type 0} (a : AgentContent W) (moment : ℕ) (echoes : List Echo) → moment ≤ LATEST_MOMENT
-    → ((me : ℕ) (calls : List DistanceCall) → DistancesFit me calls a.distances → echoes ≡ distances.echoes_owed calls me moment) → AreSpellable a.distances.me moment echoes → AreOwed a moment echoes
+    → ((least me : ℕ) (calls : List DistanceCall) → DistancesFit least me calls a.distances → echoes ≡ distances.echoes_owed calls me moment) → AreSpellable a.distances.me moment echoes → AreOwed a moment echoes
 owed a moment echoes low value range = record {
-  is = λ c made past fits. value c.me (distance_calls c.me past) fits.distances;
+  is = λ c made past fits. value c.least_distance c.me (distance_calls c.me past) fits.distances;
   spelled = are_echoes a.distances.me moment echoes low range;
 }
 
 pub owed_if_ok : {W V E : Type 0} (a : AgentContent W) (moment : ℕ) (items : V → List Echo) (r : Result V E) → moment ≤ LATEST_MOMENT
-    → IfOk r (λ v. (me : ℕ) (calls : List DistanceCall) → DistancesFit me calls a.distances → items v ≡ distances.echoes_owed calls me moment) → IfOk r (λ v. AreSpellable a.distances.me moment (items v))
+    → IfOk r (λ v. (least me : ℕ) (calls : List DistanceCall) → DistancesFit least me calls a.distances → items v ≡ distances.echoes_owed calls me moment) → IfOk r (λ v. AreSpellable a.distances.me moment (items v))
     → IfOk r (λ v. AreOwed a moment (items v))
 owed_if_ok a moment items (Ok v) low value range = owed a moment (items v) low value range
 owed_if_ok a moment items (Err e) low value range = tt

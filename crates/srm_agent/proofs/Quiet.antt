@@ -68,9 +68,9 @@ not_asked n e q = ap (asker_in n) q.unheard
 same_asker : (past : List Entry) (e : Entry) (n : FullName) → Quiet e → first_of (asker n) (past ++ e ∷ []) ≡ first_of (asker n) past
 same_asker past e n q = first_of-snoc (asker n) past e ∙ ap (or_else (first_of (asker n) past)) (not_asked n e q) ∙ or_else-none (first_of (asker n) past)
 
-same_off : (me : ℕ) (past : List Entry) (e : Entry) (n : FullName) (now : ℕ) → Quiet e → held_off me (past ++ e ∷ []) n now ≡ held_off me past n now
-same_off me past e n now q =
-    held_off-snoc me past e n now ∙ ap (λ b. held_off me past n now || b) (and_left (repaired n e) _ (not_repaired e n q)) ∙ or-false (held_off me past n now)
+same_off : (c : Config) (past : List Entry) (e : Entry) (n : FullName) (now : ℕ) → Quiet e → held_off c (past ++ e ∷ []) n now ≡ held_off c past n now
+same_off c past e n now q =
+    held_off-snoc c past e n now ∙ ap (λ b. held_off c past n now || b) (and_left (repaired n e) _ (not_repaired e n q)) ∙ or-false (held_off c past n now)
 
 pub timers_stay : (c : Config) (past : List Entry) (e : Entry) (t : TimersContent) → Quiet e → TimersFit c past t → TimersFit c (past ++ e ∷ []) t
 timers_stay c past e t q h = record {
@@ -81,7 +81,7 @@ timers_stay c past e t q h = record {
   fixes = h.fixes;
   fix_timers = λ n. h.fix_timers n ∙ sym (same_fix past e n q);
   askers = λ n. h.askers n ∙ sym (same_asker past e n q);
-  hold_offs = λ n now. h.hold_offs n now ∙ sym (same_off c.me past e n now q);
+  hold_offs = λ n now. h.hold_offs n now ∙ sym (same_off c past e n now q);
 }
 
 -- the bucket
@@ -119,25 +119,25 @@ same_due c made past e none =
 
 -- the entry is one that those before it allow
 
-no_setting : (me : ℕ) (past : List Entry) (e : Entry) (n : FullName) → Quiet e → basis_of me past e n ≡ None
-no_setting me past e n q = go (is_held past n) refl
+no_setting : (c : Config) (past : List Entry) (e : Entry) (n : FullName) → Quiet e → basis_of c past e n ≡ None
+no_setting c past e n q = go (is_held past n) refl
   where
-    fix : fix_basis_of me past e n ≡ None
-    fix = if_none (is_held past n && not (is_some (fix_running past n)) && not (held_off me past n e.moment)) _ (rw (not_asked n e q) refl)
+    fix : fix_basis_of c past e n ≡ None
+    fix = if_none (is_held past n && not (is_some (fix_running past n)) && not (held_off c past n e.moment)) _ (rw (not_asked n e q) refl)
 
     exponent : (b : Bool) → is_missing past n ≡ b → ask_exponent past e n ≡ None
     exponent true m = rw (m, not_asked n e q, q.asks) refl
     exponent false m = rw (m, same_missing past e n (is_quiet e q), m) refl
 
-    go : (b : Bool) → is_held past n ≡ b → basis_of me past e n ≡ None
-    go true h = ap (λ (b : Bool). if b then fix_basis_of me past e n else ask_basis_of me past e n) h ∙ fix
-    go false h = ap (λ (b : Bool). if b then fix_basis_of me past e n else ask_basis_of me past e n) h ∙ ap (option_map (ask_at me (past ++ e ∷ []) n)) (exponent (is_missing past n) refl)
+    go : (b : Bool) → is_held past n ≡ b → basis_of c past e n ≡ None
+    go true h = ap (λ (b : Bool). if b then fix_basis_of c past e n else ask_basis_of c past e n) h ∙ fix
+    go false h = ap (λ (b : Bool). if b then fix_basis_of c past e n else ask_basis_of c past e n) h ∙ ap (option_map (ask_at c (past ++ e ∷ []) n)) (exponent (is_missing past n) refl)
 
 pub no_arms : (c : Config) (past : List Entry) (e : Entry) → Quiet e → ArmsRight c past e
 no_arms c past e q = record {
   are = record {
     in_order = rw q.arms refl;
-    exact = λ n. ap (λ (as_ : List Arm). option_map wait_basis (arm_of n as_)) q.arms ∙ sym (no_setting c.me past e n q);
+    exact = λ n. ap (λ (as_ : List Arm). option_map wait_basis (arm_of n as_)) q.arms ∙ sym (no_setting c past e n q);
   };
   waits = rw q.arms tt;
 }

@@ -51,7 +51,7 @@ request_enters next_word a b moment sender name mask names newly_missing dist ar
   where
     after : (c : Config) (made : ℕ) (past : List Entry) → AgentFits c made past a → AreDistancesAfter c (past ++ heard_entry c.me moment (Request sender name mask) arms a.state ∷ []) dist
     after c made past h = record {
-      each = λ m l. table.each c.me (distance_calls c.me past) h.distances m l ∙ ap (λ (cs : List DistanceCall). defined.distance cs c.me m) (sym (same_distances c.me past (heard_entry c.me moment (Request sender name mask) arms a.state) refl));
+      each = λ m l. table.each c.least_distance c.me (distance_calls c.me past) h.distances m l ∙ ap (λ (cs : List DistanceCall). defined.distance c.least_distance cs c.me m) (sym (same_distances c.me past (heard_entry c.me moment (Request sender name mask) arms a.state) refl));
     }
 
     heeds : (c : Config) (made : ℕ) (past : List Entry) → AgentFits c made past a → Heeds c made past a b moment (Request sender name mask) (heard_entry c.me moment (Request sender name mask) arms a.state)

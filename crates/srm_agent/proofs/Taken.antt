@@ -94,7 +94,7 @@ drawop_enters next_word a b moment g is d newly_missing dist arms roomy e one it
   where
     after : (c : Config) (made : ℕ) (past : List Entry) → AgentFits c made past a → AreDistancesAfter c (past ++ heard_entry c.me moment g arms a.state ∷ []) dist
     after c made past h = record {
-      each = λ m l. table.each c.me (distance_calls c.me past) h.distances m l ∙ ap (λ (cs : List DistanceCall). defined.distance cs c.me m) (sym (same_distances c.me past (heard_entry c.me moment g arms a.state) (one.uncalled c.me moment)));
+      each = λ m l. table.each c.least_distance c.me (distance_calls c.me past) h.distances m l ∙ ap (λ (cs : List DistanceCall). defined.distance c.least_distance cs c.me m) (sym (same_distances c.me past (heard_entry c.me moment g arms a.state) (one.uncalled c.me moment)));
     }
 
     heeds : (c : Config) (made : ℕ) (past : List Entry) → AgentFits c made past a → Heeds c made past a b moment g (heard_entry c.me moment g arms a.state)

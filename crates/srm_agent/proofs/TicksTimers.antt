@@ -20,7 +20,7 @@ pub ticks_timers : {W : Type 0} (a : AgentContent W) (asks fixes : List FullName
 ticks_timers a asks fixes dist moment arms new table ticks = record {
   each = λ c made past e h t here to_ask to_fix.
       let after : AreDistancesAfter c (past ++ e ∷ []) dist = record {
-        each = λ m lt. table.each c.me (distance_calls c.me (past ++ e ∷ [])) (subst (λ cs. DistancesFit c.me cs a.distances) (sym (same_distances c.me past e (ap (calls_of c.me e.moment) t.heard))) h.distances) m lt;
+        each = λ m lt. table.each c.least_distance c.me (distance_calls c.me (past ++ e ∷ [])) (subst (λ cs. DistancesFit c.least_distance c.me cs a.distances) (sym (same_distances c.me past e (ap (calls_of c.me e.moment) t.heard))) h.distances) m lt;
       } in
       ticks.each c past e t h.timers here to_ask to_fix after;
 }

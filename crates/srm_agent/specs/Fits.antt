@@ -52,7 +52,7 @@ pub record AgentFits {W : Type 0} (c : Config) (made : ℕ) (past : List Entry) 
   pub pages : a.pages ≡ slots past
   pub progress : EachProgressFits past a.progress
   pub store : StoreFits (held past) (evidence_in past) (settlings past) a.store
-  pub distances : DistancesFit c.me (distance_calls c.me past) a.distances
+  pub distances : DistancesFit c.least_distance c.me (distance_calls c.me past) a.distances
   pub timers : TimersFit c past a.timers
   pub bucket : BucketFitsPast c past a.bucket
   pub due : a.due ≡ session_due c made past

@@ -14,6 +14,7 @@ mod accepting;
 mod accepting_request;
 mod accepting_session;
 mod admitting;
+mod distance;
 mod drafting;
 mod drawing;
 mod due;
@@ -127,7 +128,7 @@ impl<W: Words + Drop> Agent<W> {
             pages: PageTable::new(alloc)?,
             progress: no_progress(alloc)?,
             store: Store::new(alloc)?,
-            distances: Distances::new(config.me()),
+            distances: Distances::with_least(config.me(), config.least_distance()),
             timers: Timers::new(alloc, &config),
             bucket: Bucket::new(alloc, config.rate(), config.depth()),
             due: now + SHORTEST_INTERVAL,

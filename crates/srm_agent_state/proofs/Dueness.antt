@@ -20,6 +20,7 @@ use Rattle.srm_timers.specs.Timers.{armed_at}
 use Rattle.srm_timers.specs.Distances.{distance_to}
 use Rattle.srm_timers.proofs.AskSteps.{ask_timer-sets}
 use Rattle.srm_timers.proofs.FixSteps.{asked_first-repairs, fix_timer-repairs, calls_hold_off-repairs}
+use Rattle.srm_entries.specs.Configs.{Config}
 use Rattle.srm_entries.specs.declared.entry.Entry.{Entry}
 use Rattle.srm_entries.specs.Entries.{state, is_gone, is_held, is_missing}
 use Rattle.srm_entries.specs.Distances.{distance}
@@ -38,21 +39,21 @@ due_is_ask now distance None = refl
 due_is_ask now distance (Some a) = refl
 
 -- and the one that the law asks for
-unasked_tick : (me : ℕ) (past : List Entry) (e : Entry) (n : FullName) → asker n e ≡ None → is_missing (past ++ e ∷ []) n ≡ is_missing past n
-    → basis_of me past e n ≡ (if is_held past n then None else option_map (ask_at me (past ++ e ∷ []) n) (if is_missing past n then (if among e.effects.asks n then option_map next_exponent (last_ask past n) else None) else None))
-unasked_tick me past e n none same = go (is_held past n)
+unasked_tick : (c : Config) (past : List Entry) (e : Entry) (n : FullName) → asker n e ≡ None → is_missing (past ++ e ∷ []) n ≡ is_missing past n
+    → basis_of c past e n ≡ (if is_held past n then None else option_map (ask_at c (past ++ e ∷ []) n) (if is_missing past n then (if among e.effects.asks n then option_map next_exponent (last_ask past n) else None) else None))
+unasked_tick c past e n none same = go (is_held past n)
   where
-    fix : fix_basis_of me past e n ≡ None
-    fix = if_none (is_held past n && not (is_some (fix_running past n)) && not (held_off me past n e.moment)) _ (rw none refl)
+    fix : fix_basis_of c past e n ≡ None
+    fix = if_none (is_held past n && not (is_some (fix_running past n)) && not (held_off c past n e.moment)) _ (rw none refl)
 
     exponent : (m : Bool) → is_missing past n ≡ m → ask_exponent past e n ≡ (if m then (if among e.effects.asks n then option_map next_exponent (last_ask past n) else None) else None)
     exponent true p = rw (p, none) refl
     exponent false p = rw (p, same, p) refl
 
-    go : (h : Bool) → (if h then fix_basis_of me past e n else ask_basis_of me past e n)
-        ≡ (if h then None else option_map (ask_at me (past ++ e ∷ []) n) (if is_missing past n then (if among e.effects.asks n then option_map next_exponent (last_ask past n) else None) else None))
+    go : (h : Bool) → (if h then fix_basis_of c past e n else ask_basis_of c past e n)
+        ≡ (if h then None else option_map (ask_at c (past ++ e ∷ []) n) (if is_missing past n then (if among e.effects.asks n then option_map next_exponent (last_ask past n) else None) else None))
     go true = fix
-    go false = ap (option_map (ask_at me (past ++ e ∷ []) n)) (exponent (is_missing past n) refl)
+    go false = ap (option_map (ask_at c (past ++ e ∷ []) n)) (exponent (is_missing past n) refl)
 
 again_by : (now : ℕ) (h m a : Bool) (last : Option Armed) (near : ℕ) (armed : ℕ → WaitBasis) → (h ≡ true → m ≡ false) → a ≡ (m && ran_out now last)
     → (is_some (if ran_out now (only_if m last) then option_map (again_basis near) (only_if m last) else None) ≡ true → (i : ℕ) → asks.ask_basis i near ≡ armed i)
@@ -112,7 +113,7 @@ tick_ticks next_word from to asked fixed names dist now arms old mid new ask_sta
       = λ n. exact n ∙ due_is_ask now (distance_to dist n.stream.source) (ask_running past n) in
       let is_set : (n : FullName) → is_some (of_kind Ask (arm_of n arms)) ≡ ran_out now (ask_running past n)
       = λ n. ap is_some (asks_of (arm_of n arms) _ _ _ (as_ask n)) ∙ is_armed (arm_of n arms) _ _ _ (as_ask n) in
-      let near : (n : FullName) → is_some (due_at n) ≡ true → (i : ℕ) → asks.ask_basis i (distance_to dist n.stream.source) ≡ ask_at c.me (past ++ e ∷ []) n i
+      let near : (n : FullName) → is_some (due_at n) ≡ true → (i : ℕ) → asks.ask_basis i (distance_to dist n.stream.source) ≡ ask_at c (past ++ e ∷ []) n i
       = λ n some i. ap (asks.ask_basis i) (d.each n.stream.source (of_member arms n (arm_of n arms) refl members (sym (is_some_map wait_basis (arm_of n arms)) ∙ ap is_some (exact n) ∙ some))) in
       let repaired_are : (n : FullName) → repaired n e ≡ among names n
       = λ n. ap (λ o. repairs_in n o || among e.effects.fixes n) t.heard ∙ ap (λ ns. among ns n) t.fixes ∙ tofix.exact n ∙ sym (fixed_are.exact n ∙ ap (ran_out now) (h.fix_timers n)) in (
@@ -121,9 +122,9 @@ tick_ticks next_word from to asked fixed names dist now arms old mid new ask_sta
             are = record {
               in_order = ap (λ as_. ascending name_below (arm_names as_)) t.arms ∙ are.in_order;
               exact = λ n. ap (λ as_. option_map wait_basis (arm_of n as_)) t.arms ∙ exact n
-                  ∙ again_by now (is_held past n) (is_missing past n) (among e.effects.asks n) (last_ask past n) (distance_to dist n.stream.source) (ask_at c.me (past ++ e ∷ []) n)
+                  ∙ again_by now (is_held past n) (is_missing past n) (among e.effects.asks n) (last_ask past n) (distance_to dist n.stream.source) (ask_at c (past ++ e ∷ []) n)
                   (held_not_missing past n) (ap (λ ns. among ns n) t.asks ∙ toask.exact n) (near n)
-                  ∙ sym (unasked_tick c.me past e n (none n) (same n));
+                  ∙ sym (unasked_tick c past e n (none n) (same n));
             };
             waits = rw t.arms (chosen_waits next_word c from to arms (drawn.each c (settings_fit c past old h)));
           };

@@ -24,8 +24,8 @@ use Rattle.srm_agent_state.specs.Growth.{HearsToo, LearnsToo, LearnsNames, Settl
 hears_farewell : (me now sender sent : ℕ) (shown : Page) (rows : List FullName) (echoes : List Echo) (d a b : DistancesContent) → DistancesAdd (calls.Heard sender sent (echo_for me echoes) now) d a → DistancesAdd (calls.Forgot sender) a b
     → HearsToo me now (Session sender sent true shown rows echoes) d b
 hears_farewell me now sender sent shown rows echoes d a b heard forgot = record {
-  each = λ cs h. subst (λ xs. DistancesFit me xs b) (append_assoc cs (calls.Heard sender sent (echo_for me echoes) now ∷ []) (calls.Forgot sender ∷ []))
-      (forgot.fits me (cs ++ calls.Heard sender sent (echo_for me echoes) now ∷ []) (heard.fits me cs h));
+  each = λ least cs h. subst (λ xs. DistancesFit least me xs b) (append_assoc cs (calls.Heard sender sent (echo_for me echoes) now ∷ []) (calls.Forgot sender ∷ []))
+      (forgot.fits least me (cs ++ calls.Heard sender sent (echo_for me echoes) now ∷ []) (heard.fits least me cs h));
 }
 
 pub hears_leaver : (me now sender sent : ℕ) (farewell : Bool) (shown : Page) (rows : List FullName) (echoes : List Echo) (g : Datagram) (echo : Option (ℕ × ℕ)) (d0 d a b : DistancesContent) → g ≡ Session sender sent farewell shown rows echoes → farewell ≡ true
@@ -38,7 +38,7 @@ pub hears_stayer : (me now sender sent : ℕ) (farewell : Bool) (shown : Page) (
     → echo ≡ echo_for me echoes → d0 ≡ d → DistancesAdd (calls.Heard sender sent echo now) d0 a → HearsToo me now g d a
 hears_stayer me now sender sent farewell shown rows echoes g echo d0 d a is f e same heard =
     subst (λ x. HearsToo me now x d a) (sym (is ∙ ap (λ f. Session sender sent f shown rows echoes) f))
-    (record { each = λ cs h. (subst (λ x. DistancesAdd (calls.Heard sender sent (echo_for me echoes) now) x a) same (subst (λ x. DistancesAdd (calls.Heard sender sent x now) d0 a) e heard)).fits me cs h })
+    (record { each = λ least cs h. (subst (λ x. DistancesAdd (calls.Heard sender sent (echo_for me echoes) now) x a) same (subst (λ x. DistancesAdd (calls.Heard sender sent x now) d0 a) e heard)).fits least me cs h })
 
 -- what is learnt of the names, and then of the leaving
 pub learns_by : (g : Datagram) (names : List FullName) (leaver : Option ℕ) (a b d : StoreContent) → names ≡ names_in g → settling_of (Some g) ≡ option_map (λ m. record { member = m; rows = names_in g }) leaver

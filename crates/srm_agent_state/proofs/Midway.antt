@@ -41,7 +41,7 @@ pub record Midway (c : Config) (past : List Entry) (now : ℕ) (arms : List Arm)
   pub fixes : FixFits c.d1 c.d2 fix_calls t.fixes
   pub fix_timers : (n : FullName) → fix_timer fix_calls n ≡ or_else (armed_as Fix now arms n) (if ended n then None else fix_running past n)
   pub askers : (n : FullName) → asked_first fix_calls n ≡ or_else (first_of (asker n) past) (asked n)
-  pub hold_offs : (n : FullName) (u : ℕ) → calls_hold_off fix_calls n u ≡ held_off c.me past n u || ended n && nat_lt u (until n)
+  pub hold_offs : (n : FullName) (u : ℕ) → calls_hold_off fix_calls n u ≡ held_off c past n u || ended n && nat_lt u (until n)
 
 -- The entry with these arms does just that.
 pub record Does (c : Config) (past : List Entry) (e : Entry) (now : ℕ) (arms : List Arm) (gained : FullName → Bool) (asked : FullName → Option ℕ) (ended : FullName → Bool) (until : FullName → ℕ) : Type 0 where
@@ -54,7 +54,7 @@ pub record Does (c : Config) (past : List Entry) (e : Entry) (now : ℕ) (arms :
   pub asked_is : (n : FullName) → asker n e ≡ asked n
   pub ended_is : (n : FullName) → repaired n e ≡ ended n
   pub ended_unset : (n : FullName) → ended n ≡ true → of_kind Fix (arm_of n arms) ≡ None
-  pub until_is : (n : FullName) → ended n ≡ true → until n ≡ now + 3 * distance (past ++ e ∷ []) c.me (first_asker past n)
+  pub until_is : (n : FullName) → ended n ≡ true → until n ≡ now + 3 * distance c (past ++ e ∷ []) (first_asker past n)
 
 -- the timers after it: the arm, else what ran before, for what is missing then
 timers_join : (now : ℕ) (o : Option Arm) (f s m m' : Bool) (last : Option Armed) → is_some o ≡ f → (f ≡ true → m' ≡ true) → (s ≡ true → m' ≡ false) → (f ≡ false → s ≡ false → m' ≡ m)
@@ -93,9 +93,9 @@ midway_fits c past e now arms gained asked ended until t d m = record {
       ∙ ap (λ o. if ended n then None else or_else o (fix_running past n)) (arm_is Fix n now arms e d.moment d.arms_are d.rising));
   askers = λ n. m.askers n ∙ sym (first_of-snoc (asker n) past e ∙ ap (or_else (first_of (asker n) past)) (d.asked_is n));
   hold_offs = λ n u. m.hold_offs n u
-      ∙ ap (λ b. held_off c.me past n u || b) (offs_join (ended n) u (until n) (e.moment + 3 * distance (past ++ e ∷ []) c.me (first_asker past n))
-      (λ en. d.until_is n en ∙ ap (λ k. k + 3 * distance (past ++ e ∷ []) c.me (first_asker past n)) (sym d.moment)))
-      ∙ sym (held_off-snoc c.me past e n u ∙ ap (λ b. held_off c.me past n u || (b && nat_lt u (e.moment + 3 * distance (past ++ e ∷ []) c.me (first_asker past n)))) (d.ended_is n));
+      ∙ ap (λ b. held_off c past n u || b) (offs_join (ended n) u (until n) (e.moment + 3 * distance c (past ++ e ∷ []) (first_asker past n))
+      (λ en. d.until_is n en ∙ ap (λ k. k + 3 * distance c (past ++ e ∷ []) (first_asker past n)) (sym d.moment)))
+      ∙ sym (held_off-snoc c past e n u ∙ ap (λ b. held_off c past n u || (b && nat_lt u (e.moment + 3 * distance c (past ++ e ∷ []) (first_asker past n)))) (d.ended_is n));
 }
 
 -- what the parts keep, the timers keep

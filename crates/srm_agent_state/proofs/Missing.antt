@@ -145,22 +145,22 @@ fresh_source past e g n h d s m m' =
 
 -- The arms that such an entry holds, where no request is heard: those of the names that become missing.
 
-unasked : (me : ℕ) (past : List Entry) (e : Entry) (n : FullName) → asker n e ≡ None → e.effects.asks ≡ []
-    → basis_of me past e n ≡ (if is_held past n then None else option_map (ask_at me (past ++ e ∷ []) n) (if is_missing past n then None else if is_missing (past ++ e ∷ []) n then Some 0 else None))
-unasked me past e n none nothing = go (is_held past n)
+unasked : (c : Config) (past : List Entry) (e : Entry) (n : FullName) → asker n e ≡ None → e.effects.asks ≡ []
+    → basis_of c past e n ≡ (if is_held past n then None else option_map (ask_at c (past ++ e ∷ []) n) (if is_missing past n then None else if is_missing (past ++ e ∷ []) n then Some 0 else None))
+unasked c past e n none nothing = go (is_held past n)
   where
-    fix : fix_basis_of me past e n ≡ None
-    fix = if_none (is_held past n && not (is_some (fix_running past n)) && not (held_off me past n e.moment)) _ (rw none refl)
+    fix : fix_basis_of c past e n ≡ None
+    fix = if_none (is_held past n && not (is_some (fix_running past n)) && not (held_off c past n e.moment)) _ (rw none refl)
 
     exponent : (m m' : Bool) → is_missing past n ≡ m → is_missing (past ++ e ∷ []) n ≡ m' → ask_exponent past e n ≡ (if m then None else if m' then Some 0 else None)
     exponent true m' p q = rw (p, none, nothing) refl
     exponent false true p q = rw (p, q, none) refl
     exponent false false p q = rw (p, q) refl
 
-    go : (h : Bool) → (if h then fix_basis_of me past e n else ask_basis_of me past e n)
-        ≡ (if h then None else option_map (ask_at me (past ++ e ∷ []) n) (if is_missing past n then None else if is_missing (past ++ e ∷ []) n then Some 0 else None))
+    go : (h : Bool) → (if h then fix_basis_of c past e n else ask_basis_of c past e n)
+        ≡ (if h then None else option_map (ask_at c (past ++ e ∷ []) n) (if is_missing past n then None else if is_missing (past ++ e ∷ []) n then Some 0 else None))
     go true = fix
-    go false = ap (option_map (ask_at me (past ++ e ∷ []) n)) (exponent (is_missing past n) (is_missing (past ++ e ∷ []) n) refl refl)
+    go false = ap (option_map (ask_at c (past ++ e ∷ []) n)) (exponent (is_missing past n) (is_missing (past ++ e ∷ []) n) refl refl)
 
 fresh_by : (f h m m' : Bool) (wanted : WaitBasis) (armed : ℕ → WaitBasis) → f ≡ (not m && m') → (h ≡ true → m' ≡ false) → (f ≡ true → wanted ≡ armed 0)
     → (if f then Some wanted else None) ≡ (if h then None else option_map armed (if m then None else if m' then Some 0 else None))
@@ -175,18 +175,18 @@ fresh_by f h m m' wanted armed e q s = ap (λ (b : Bool). if b then Some wanted 
     go false false true q s = ap Some (s refl)
     go false false false q s = refl
 
-found_by : (me : ℕ) (past : List Entry) (e : Entry) (n : FullName) (newly_missing : List FullName) (dist : List ℕ) → asker n e ≡ None → e.effects.asks ≡ [] → AreNewlyMissing past e newly_missing
-    → (among newly_missing n ≡ true → distance_to dist n.stream.source ≡ distance (past ++ e ∷ []) me n.stream.source) → found_basis newly_missing [] dist n ≡ basis_of me past e n
-found_by me past e n newly_missing dist none nothing are near =
-    fresh_by (among newly_missing n) (is_held past n) (is_missing past n) (is_missing (past ++ e ∷ []) n) (asks.ask_basis 0 (distance_to dist n.stream.source)) (ask_at me (past ++ e ∷ []) n)
+found_by : (c : Config) (past : List Entry) (e : Entry) (n : FullName) (newly_missing : List FullName) (dist : List ℕ) → asker n e ≡ None → e.effects.asks ≡ [] → AreNewlyMissing past e newly_missing
+    → (among newly_missing n ≡ true → distance_to dist n.stream.source ≡ distance c (past ++ e ∷ []) n.stream.source) → found_basis newly_missing [] dist n ≡ basis_of c past e n
+found_by c past e n newly_missing dist none nothing are near =
+    fresh_by (among newly_missing n) (is_held past n) (is_missing past n) (is_missing (past ++ e ∷ []) n) (asks.ask_basis 0 (distance_to dist n.stream.source)) (ask_at c (past ++ e ∷ []) n)
     (are.exact n) (held_then past e n) (λ f. ap (λ d. asks.ask_basis 0 d) (near f))
-    ∙ sym (unasked me past e n none nothing)
+    ∙ sym (unasked c past e n none nothing)
 
 pub settings_fit : (c : Config) (past : List Entry) (t : TimersContent) → TimersFit c past t → HaveSettings c t
 settings_fit c past t h = record { c1 = h.asks.c1_is; c2 = h.asks.c2_is; d1 = h.fixes.d1_is; d2 = h.fixes.d2_is }
 
 pub fresh_near : (c : Config) (past : List Entry) (e : Entry) (g : Datagram) (now : ℕ) (arms : List Arm) (newly_missing : List FullName) (dist : List ℕ) (n : FullName) → HearsWith g now arms e → AreNewlyMissing past e newly_missing
-    → AreDistancesAfter c (past ++ e ∷ []) dist → among newly_missing n ≡ true → distance_to dist n.stream.source ≡ distance (past ++ e ∷ []) c.me n.stream.source
+    → AreDistancesAfter c (past ++ e ∷ []) dist → among newly_missing n ≡ true → distance_to dist n.stream.source ≡ distance c (past ++ e ∷ []) n.stream.source
 fresh_near c past e g now arms newly_missing dist n with_ are d f =
     let k = fresh_then past e n (sym (are.exact n) ∙ f) in
     d.each n.stream.source (fresh_source past e g n with_.heard with_.drawn with_.read k.0 k.1)
@@ -199,7 +199,7 @@ arms_right next_word from to c past e g now arms newly_missing dist t h with_ no
   are = record {
     in_order = ap (λ as_. ascending name_below (arm_names as_)) with_.arms ∙ first.are.in_order;
     exact = λ n. ap (λ as_. option_map wait_basis (arm_of n as_)) with_.arms ∙ first.are.exact n
-        ∙ found_by c.me past e n newly_missing dist (none n) with_.asks are (fresh_near c past e g now arms newly_missing dist n with_ are d);
+        ∙ found_by c past e n newly_missing dist (none n) with_.asks are (fresh_near c past e g now arms newly_missing dist n with_ are d);
   };
   waits = rw with_.arms (chosen_waits next_word c from to arms (drawn.each c (settings_fit c past t h)));
 }
@@ -208,7 +208,7 @@ arms_right next_word from to c past e g now arms newly_missing dist t h with_ no
 does_so : (c : Config) (past : List Entry) (e : Entry) (g : Datagram) (now : ℕ) (arms : List Arm) (newly_missing : List FullName) (dist : List ℕ) (gained ended : FullName → Bool) (until : FullName → ℕ)
     → HearsWith g now arms e → ((n : FullName) → asker n e ≡ None) → AreNewlyMissing past e newly_missing → ArmsOfFound newly_missing [] dist arms
     → ((n : FullName) → gains e n ≡ gained n) → ((n : FullName) → repaired n e ≡ ended n)
-    → ((n : FullName) → ended n ≡ true → until n ≡ now + 3 * distance (past ++ e ∷ []) c.me (first_asker past n))
+    → ((n : FullName) → ended n ≡ true → until n ≡ now + 3 * distance c (past ++ e ∷ []) (first_asker past n))
     → Does c past e now arms gained (λ n. None) ended until
 does_so c past e g now arms newly_missing dist gained ended until with_ none are first gain repair hold = record {
   moment = with_.moment;
@@ -325,7 +325,7 @@ rows_hear next_word from to newly_missing dist now arms old new adds same first 
               fixes = rw same h.fixes;
               fix_timers = λ n. h.fix_timers n ∙ fixes_as_they_were past now arms newly_missing dist n (fix_running past n) first;
               askers = λ n. h.askers n ∙ sym (or_else-none (first_of (asker n) past));
-              hold_offs = λ n u. h.hold_offs n u ∙ sym (or-false (held_off c.me past n u));
+              hold_offs = λ n u. h.hold_offs n u ∙ sym (or-false (held_off c past n u));
             });
       };
 }
@@ -356,7 +356,7 @@ data_hears next_word from to name newly_missing dist now arms old roomy set held
               fixes = subst (FixFits c.d1 c.d2 h.fix_calls) (sym (new_fixes ∙ held_fixes ∙ set_fixes)) (stays.each c.d1 c.d2 h.fix_calls h.fixes);
               fix_timers = λ n. h.fix_timers n ∙ fixes_as_they_were past now arms newly_missing dist n (fix_running past n) first;
               askers = λ n. h.askers n ∙ sym (or_else-none (first_of (asker n) past));
-              hold_offs = λ n u. h.hold_offs n u ∙ sym (or-false (held_off c.me past n u));
+              hold_offs = λ n u. h.hold_offs n u ∙ sym (or-false (held_off c past n u));
             });
       };
 }
@@ -364,9 +364,9 @@ data_hears next_word from to name newly_missing dist now arms old roomy set held
 -- until when a repair holds a name off, by the calls and by the entries
 pub holds_until : (c : Config) (past : List Entry) (e : Entry) (now : ℕ) (dist : List ℕ) (calls : List FixCall) (n : FullName) → AreDistancesAfter c (past ++ e ∷ []) dist
     → fixes.asked_first calls n ≡ first_of (asker n) past → fixes.first_asker calls n < MEMBERS
-    → repair_holds_until now dist calls n ≡ now + 3 * distance (past ++ e ∷ []) c.me (first_asker past n)
+    → repair_holds_until now dist calls n ≡ now + 3 * distance c (past ++ e ∷ []) (first_asker past n)
 holds_until c past e now dist calls n d asked near =
-    ap (λ k. now + 3 * k) (d.each (fixes.first_asker calls n) near ∙ ap (λ o. distance (past ++ e ∷ []) c.me (unwrap_or o n.stream.source)) asked)
+    ap (λ k. now + 3 * k) (d.each (fixes.first_asker calls n) near ∙ ap (λ o. distance c (past ++ e ∷ []) (unwrap_or o n.stream.source)) asked)
 
 -- a repair
 repair_hears : {W : Type 0} (next_word : W → ℕ × W) (from to : W) (name : FullName) (newly_missing : List FullName) (dist : List ℕ) (now : ℕ) (arms : List Arm) (old roomy set held new : TimersContent)

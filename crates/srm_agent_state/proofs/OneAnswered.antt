@@ -46,7 +46,7 @@ use Rattle.srm_agent_state.proofs.JoinedArms.{arm_of-append, arm_named, joined}
 abbrev pub wanted : Config → List Entry → ℕ → List ℕ → ℕ → FullName → Option WaitBasis
 wanted c past from dist now n =
     if is_held past n
-    then (if not (is_some (fix_running past n)) && not (held_off c.me past n now) then Some (fixes.fix_basis (distance_to dist from)) else None)
+    then (if not (is_some (fix_running past n)) && not (held_off c past n now) then Some (fixes.fix_basis (distance_to dist from)) else None)
     else option_map (λ i. asks.ask_basis i (distance_to dist n.stream.source)) (backs_off now (ask_running past n))
 
 abbrev pub asked_if : List FullName → ℕ → FullName → Option ℕ
@@ -182,22 +182,22 @@ wants c past from dist now done arms t t' held name arm a is ans new = go held i
     ask_at_name : ask_timer a.mid.ask_calls name ≡ ask_running past name
     ask_at_name = a.mid.ask_timers name ∙ ap (λ o. or_else (option_map (armed_at now) (of_kind Ask o)) (ask_running past name)) none
 
-    free : is_free a.mid.fix_calls name now ≡ (not (is_some (fix_running past name)) && not (held_off c.me past name now))
+    free : is_free a.mid.fix_calls name now ≡ (not (is_some (fix_running past name)) && not (held_off c past name now))
     free = ap (λ o. not (is_some o) && not (calls_hold_off a.mid.fix_calls name now)) fix_at_name
-        ∙ ap (λ b. not (is_some (fix_running past name)) && not b) (a.mid.hold_offs name now ∙ or-false (held_off c.me past name now))
+        ∙ ap (λ b. not (is_some (fix_running past name)) && not b) (a.mid.hold_offs name now ∙ or-false (held_off c past name now))
 
     go : (b : Bool) → b ≡ is_held past name → IsRequestHeard b name from dist now arm t t' → option_map plan_of arm ≡ option_map (plan_at name) (wanted c past from dist now name)
     go true e r =
         (r.to_fix refl).each c.d1 c.d2 a.mid.fix_calls a.mid.fixes
         ∙ ap (λ b. if true && b then Some (fixes.fix_plan name (distance_to dist from)) else None) free
-        ∙ fix_plans name (distance_to dist from) (not (is_some (fix_running past name)) && not (held_off c.me past name now))
-        ∙ ap (λ (b : Bool). option_map (plan_at name) (if b then (if not (is_some (fix_running past name)) && not (held_off c.me past name now) then Some (fixes.fix_basis (distance_to dist from)) else None)
+        ∙ fix_plans name (distance_to dist from) (not (is_some (fix_running past name)) && not (held_off c past name now))
+        ∙ ap (λ (b : Bool). option_map (plan_at name) (if b then (if not (is_some (fix_running past name)) && not (held_off c past name now) then Some (fixes.fix_basis (distance_to dist from)) else None)
         else option_map (λ i. asks.ask_basis i (distance_to dist name.stream.source)) (backs_off now (ask_running past name)))) e
     go false e r =
         r.to_ask refl c.c1 c.c2 a.mid.ask_calls a.mid.asks
         ∙ ap (λ o. option_map (ask_plan name (distance_to dist name.stream.source)) (backs_off now o)) ask_at_name
         ∙ option_plans name (distance_to dist name.stream.source) (backs_off now (ask_running past name))
-        ∙ ap (λ (b : Bool). option_map (plan_at name) (if b then (if not (is_some (fix_running past name)) && not (held_off c.me past name now) then Some (fixes.fix_basis (distance_to dist from)) else None)
+        ∙ ap (λ (b : Bool). option_map (plan_at name) (if b then (if not (is_some (fix_running past name)) && not (held_off c past name now) then Some (fixes.fix_basis (distance_to dist from)) else None)
         else option_map (λ i. asks.ask_basis i (distance_to dist name.stream.source)) (backs_off now (ask_running past name)))) e
 
 one_answered : (c : Config) (past : List Entry) (from : ℕ) (dist : List ℕ) (now : ℕ) (done : List FullName) (arms : List Arm) (t t' : TimersContent) (held : Bool) (name : FullName) (arm : Option Arm)

@@ -12,6 +12,7 @@ use Rattle.srm_codec.specs.declared.datagram.Datagram.{Datagram}
 use Rattle.srm_codec.specs.declared.datagram.Datagram.TheVariants.{Data, Request, Repair, Session}
 use Rattle.srm_codec.specs.Spelling.{asked_by, is_name, IsSpellable, names_in}
 use Rattle.srm_store.specs.Held as stores
+use Rattle.srm_entries.specs.Configs.{Config}
 use Rattle.srm_entries.specs.declared.entry.Entry.{Entry}
 use Rattle.srm_entries.specs.Entries.{accepted, drawops_in}
 use Rattle.srm_distance.specs.Distance as defined
@@ -75,6 +76,6 @@ request_says from asked (Data d) is s = absurd is
 request_says from asked (Repair sender d) is s = absurd is
 request_says from asked (Session sender sent farewell shown rows echoes) is s = absurd is
 
-pub same_distance : (me : ℕ) (past : List Entry) (e : Entry) (g : Datagram) (m : ℕ) → accepted e ≡ Some g → calls_of me e.moment (Some g) ≡ [] → distance (past ++ e ∷ []) me m ≡ distance past me m
-same_distance me past e g m h none =
-    ap (λ cs. defined.distance cs me m) (flat_map-snoc (calls_in me) past e ∙ ap (λ o. distance_calls me past ++ calls_of me e.moment o) h ∙ ap (λ cs. distance_calls me past ++ cs) none ∙ append-nil (distance_calls me past))
+pub same_distance : (c : Config) (past : List Entry) (e : Entry) (g : Datagram) (m : ℕ) → accepted e ≡ Some g → calls_of c.me e.moment (Some g) ≡ [] → distance c (past ++ e ∷ []) m ≡ distance c past m
+same_distance c past e g m h none =
+    ap (λ cs. defined.distance c.least_distance cs c.me m) (flat_map-snoc (calls_in c.me) past e ∙ ap (λ o. distance_calls c.me past ++ calls_of c.me e.moment o) h ∙ ap (λ cs. distance_calls c.me past ++ cs) none ∙ append-nil (distance_calls c.me past))

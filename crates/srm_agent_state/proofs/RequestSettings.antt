@@ -61,12 +61,12 @@ ask_case false false false false d now armed last e s = refl
 
 pub request_setting : (c : Config) (past : List Entry) (e : Entry) (from : ℕ) (asked newly_missing : List FullName) (dist : List ℕ) (now : ℕ) (n : FullName)
     → asker n e ≡ asked_if asked from n → e.effects.asks ≡ [] → e.moment ≡ now → among newly_missing n ≡ (not (is_missing past n) && is_missing (past ++ e ∷ []) n)
-    → distance_to dist from ≡ distance past c.me from → ((among asked n || among newly_missing n) ≡ true → distance_to dist n.stream.source ≡ distance (past ++ e ∷ []) c.me n.stream.source)
-    → or_else (if among asked n then wanted c past from dist now n else None) (found_basis newly_missing asked dist n) ≡ basis_of c.me past e n
+    → distance_to dist from ≡ distance c past from → ((among asked n || among newly_missing n) ≡ true → distance_to dist n.stream.source ≡ distance c (past ++ e ∷ []) n.stream.source)
+    → or_else (if among asked n then wanted c past from dist now n else None) (found_basis newly_missing asked dist n) ≡ basis_of c past e n
 request_setting c past e from asked newly_missing dist now n ask_is nothing at f near_from near = go (is_held past n) refl
   where
     free : ℕ → Bool
-    free k = not (is_some (fix_running past n)) && not (held_off c.me past n k)
+    free k = not (is_some (fix_running past n)) && not (held_off c past n k)
 
     found : Option WaitBasis
     found = if among newly_missing n then Some (asks.ask_basis (if among asked n then 1 else 0) (distance_to dist n.stream.source)) else None
@@ -80,11 +80,11 @@ request_setting c past e from asked newly_missing dist now n ask_is nothing at f
     unfresh : is_held past n ≡ true → among newly_missing n ≡ false
     unfresh h = f ∙ ap (λ m'. not (is_missing past n) && m') (held_then past e n h) ∙ and_right (not (is_missing past n)) false refl
 
-    fix_is : is_held past n ≡ true → fix_basis_of c.me past e n ≡ (if free now then option_map (fix_at c.me past) (asked_if asked from n) else None)
+    fix_is : is_held past n ≡ true → fix_basis_of c past e n ≡ (if free now then option_map (fix_at c past) (asked_if asked from n) else None)
     fix_is h =
-        ap (λ b. if b && not (is_some (fix_running past n)) && not (held_off c.me past n e.moment) then option_map (fix_at c.me past) (asker n e) else None) h
-        ∙ ap (λ k. if free k then option_map (fix_at c.me past) (asker n e) else None) at
-        ∙ ap (λ o. if free now then option_map (fix_at c.me past) o else None) ask_is
+        ap (λ b. if b && not (is_some (fix_running past n)) && not (held_off c past n e.moment) then option_map (fix_at c past) (asker n e) else None) h
+        ∙ ap (λ k. if free k then option_map (fix_at c past) (asker n e) else None) at
+        ∙ ap (λ o. if free now then option_map (fix_at c past) o else None) ask_is
 
     exponent_is : ask_exponent past e n ≡ (if is_missing past n then (if among asked n then backs_off now (last_ask past n) else None) else if is_missing (past ++ e ∷ []) n then Some (if among asked n then 1 else 0) else None)
     exponent_is =
@@ -97,17 +97,17 @@ request_setting c past e from asked newly_missing dist now n ask_is nothing at f
         ∙ ap (λ ns. if is_missing past n then (if among asked n then backs_off now (last_ask past n) else if among ns n then option_map next_exponent (last_ask past n) else None)
         else if is_missing (past ++ e ∷ []) n then Some (if among asked n then 1 else 0) else None) nothing
 
-    go : (b : Bool) → is_held past n ≡ b → or_else (if among asked n then (if is_held past n then to_fix else to_ask) else None) found ≡ (if is_held past n then fix_basis_of c.me past e n else ask_basis_of c.me past e n)
+    go : (b : Bool) → is_held past n ≡ b → or_else (if among asked n then (if is_held past n then to_fix else to_ask) else None) found ≡ (if is_held past n then fix_basis_of c past e n else ask_basis_of c past e n)
     go true h =
         ap (λ (b : Bool). or_else (if among asked n then (if b then to_fix else to_ask) else None) found) h
-        ∙ fix_case (among asked n) (among newly_missing n) (free now) (distance_to dist from) from (λ a. distance past c.me a) (asks.ask_basis (if among asked n then 1 else 0) (distance_to dist n.stream.source)) (unfresh h) near_from
+        ∙ fix_case (among asked n) (among newly_missing n) (free now) (distance_to dist from) from (λ a. distance c past a) (asks.ask_basis (if among asked n then 1 else 0) (distance_to dist n.stream.source)) (unfresh h) near_from
         ∙ sym (fix_is h)
-        ∙ sym (ap (λ (b : Bool). if b then fix_basis_of c.me past e n else ask_basis_of c.me past e n) h)
+        ∙ sym (ap (λ (b : Bool). if b then fix_basis_of c past e n else ask_basis_of c past e n) h)
     go false h =
         ap (λ (b : Bool). or_else (if among asked n then (if b then to_fix else to_ask) else None) found) h
-        ∙ ask_case (among asked n) (among newly_missing n) (is_missing past n) (is_missing (past ++ e ∷ []) n) (distance_to dist n.stream.source) now (ask_at c.me (past ++ e ∷ []) n) (last_ask past n) f (λ k i. ap (asks.ask_basis i) (near k))
-        ∙ sym (ap (option_map (ask_at c.me (past ++ e ∷ []) n)) exponent_is)
-        ∙ sym (ap (λ (b : Bool). if b then fix_basis_of c.me past e n else ask_basis_of c.me past e n) h)
+        ∙ ask_case (among asked n) (among newly_missing n) (is_missing past n) (is_missing (past ++ e ∷ []) n) (distance_to dist n.stream.source) now (ask_at c (past ++ e ∷ []) n) (last_ask past n) f (λ k i. ap (asks.ask_basis i) (near k))
+        ∙ sym (ap (option_map (ask_at c (past ++ e ∷ []) n)) exponent_is)
+        ∙ sym (ap (λ (b : Bool). if b then fix_basis_of c past e n else ask_basis_of c past e n) h)
 
 -- what is held or missing is known
 
@@ -127,7 +127,7 @@ wanted_known c past from dist now n some = go (is_held past n) refl (is_missing 
   where
     off : is_held past n ≡ false → is_missing past n ≡ false → is_some (wanted c past from dist now n) ≡ false
     off h m =
-        ap (λ (b : Bool). is_some (if b then (if not (is_some (fix_running past n)) && not (held_off c.me past n now) then Some (fixes.fix_basis (distance_to dist from)) else None)
+        ap (λ (b : Bool). is_some (if b then (if not (is_some (fix_running past n)) && not (held_off c past n now) then Some (fixes.fix_basis (distance_to dist from)) else None)
         else option_map (λ i. asks.ask_basis i (distance_to dist n.stream.source)) (backs_off now (ask_running past n)))) h
         ∙ ap (λ b. is_some (option_map (λ i. asks.ask_basis i (distance_to dist n.stream.source)) (backs_off now (only_if b (last_ask past n))))) m
 
@@ -139,7 +139,7 @@ wanted_known c past from dist now n some = go (is_held past n) refl (is_missing 
 -- a name that becomes missing wants no arm before
 pub fresh_unwanted : (c : Config) (past : List Entry) (e : Entry) (from : ℕ) (dist : List ℕ) (now : ℕ) (n : FullName) → is_missing past n ≡ false → is_missing (past ++ e ∷ []) n ≡ true → wanted c past from dist now n ≡ None
 fresh_unwanted c past e from dist now n m m' =
-    ap (λ (b : Bool). if b then (if not (is_some (fix_running past n)) && not (held_off c.me past n now) then Some (fixes.fix_basis (distance_to dist from)) else None)
+    ap (λ (b : Bool). if b then (if not (is_some (fix_running past n)) && not (held_off c past n now) then Some (fixes.fix_basis (distance_to dist from)) else None)
     else option_map (λ i. asks.ask_basis i (distance_to dist n.stream.source)) (backs_off now (ask_running past n))) (unheld (is_held past n) refl)
     ∙ ap (λ b. option_map (λ i. asks.ask_basis i (distance_to dist n.stream.source)) (backs_off now (only_if b (last_ask past n)))) m
   where

@@ -57,7 +57,7 @@ request_adds next_word start to c past e g from asked newly_missing dist now ans
           ∙ ap (option_map wait_basis) (arm_of-append n answers found) ∙ setting_or (arm_of n answers) (arm_of n found)
           ∙ ap (λ o. or_else o (option_map wait_basis (arm_of n found))) (a.exact n) ∙ ap (or_else (if among asked n then wanted c past from dist now n else None)) (first.are.exact n)
           ∙ request_setting c past e from asked newly_missing dist now n (asker_is e g from asked n with_.heard is) with_.asks with_.moment (are.exact n)
-          (d.each from says.member ∙ same_distance c.me past e g from with_.heard (says.far c.me e.moment)) (near n);
+          (d.each from says.member ∙ same_distance c past e g from with_.heard (says.far c.me e.moment)) (near n);
     };
     waits = rw with_.arms (chosen_waits next_word c start to arms (drawn.each c (settings_fit c past old h)));
   };
@@ -107,10 +107,10 @@ request_adds next_word start to c past e g from asked newly_missing dist now ans
         let k = fresh_is n (sym (found_is n) ∙ there) in
         no_setting_no_arm (arm_of n answers) (a.exact n ∙ if_none (among asked n) (wanted c past from dist now n) (fresh_unwanted c past e from dist now n k.0 k.1))
 
-    near : (n : FullName) → (among asked n || among newly_missing n) ≡ true → distance_to dist n.stream.source ≡ distance (past ++ e ∷ []) c.me n.stream.source
+    near : (n : FullName) → (among asked n || among newly_missing n) ≡ true → distance_to dist n.stream.source ≡ distance c (past ++ e ∷ []) n.stream.source
     near n k = go (among asked n) refl k
       where
-        go : (q : Bool) → among asked n ≡ q → (q || among newly_missing n) ≡ true → distance_to dist n.stream.source ≡ distance (past ++ e ∷ []) c.me n.stream.source
+        go : (q : Bool) → among asked n ≡ q → (q || among newly_missing n) ≡ true → distance_to dist n.stream.source ≡ distance c (past ++ e ∷ []) n.stream.source
         go true t k = let name = among_all is_name asked n says.spelled t in d.each n.stream.source name.0
         go false t k = fresh_near c past e g now arms newly_missing dist n with_ are d k
 
@@ -150,7 +150,7 @@ request_adds next_word start to c past e g from asked newly_missing dist now ans
     now_missing n (Some x) p y q some = stays_missing past e n (gain n) (go (among asked n) refl)
       where
         go : (t : Bool) → among asked n ≡ t → is_missing past n ≡ true
-        go true t = ask_wanted (is_held past n) (is_missing past n) (not (is_some (fix_running past n)) && not (held_off c.me past n now)) (distance_to dist from) (distance_to dist n.stream.source) now (last_ask past n) (Some x)
+        go true t = ask_wanted (is_held past n) (is_missing past n) (not (is_some (fix_running past n)) && not (held_off c past n now)) (distance_to dist from) (distance_to dist n.stream.source) now (last_ask past n) (Some x)
             (ap (option_map wait_basis) (sym p) ∙ a.exact n ∙ ap (λ (b : Bool). if b then wanted c past from dist now n else None) t) some
         go false t =
             let wrong : Some (wait_basis x) ≡ None = ap (option_map wait_basis) (sym p) ∙ a.exact n ∙ ap (λ (b : Bool). if b then wanted c past from dist now n else None) t in

@@ -21,7 +21,7 @@ pub record LearnsNames (names : List FullName) (old new : StoreContent) : Type 0
 
 -- what is known of the others after a datagram was heard
 pub record HearsToo (me now : ℕ) (g : Datagram) (old new : DistancesContent) : Type 0 where
-  pub each : (calls : List DistanceCall) → DistancesFit me calls old → DistancesFit me (calls ++ calls_of me now (Some g)) new
+  pub each : (least : ℕ) (calls : List DistanceCall) → DistancesFit least me calls old → DistancesFit least me (calls ++ calls_of me now (Some g)) new
 
 -- a member is settled with these rows, if it left
 pub record SettlesToo (leaver : Option ℕ) (rows : List FullName) (old new : StoreContent) : Type 0 where

@@ -36,7 +36,7 @@ pub record WaitsAreChosen {W : Type 0} (next_word : W → ℕ × W) (t : TimersC
 
 -- a table of distances has those after these entries
 pub record AreDistancesAfter (c : Config) (es : List Entry) (dist : List ℕ) : Type 0 where
-  pub each : (m : ℕ) → m < MEMBERS → distance_to dist m ≡ distance es c.me m
+  pub each : (m : ℕ) → m < MEMBERS → distance_to dist m ≡ distance c es m
 
 -- entries
 

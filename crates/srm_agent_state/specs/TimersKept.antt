@@ -32,4 +32,4 @@ pub record TimersFit (c : Config) (past : List Entry) (t : TimersContent) : Type
   pub fixes : FixFits c.d1 c.d2 fix_calls t.fixes
   pub fix_timers : (n : FullName) → fix_timer fix_calls n ≡ fix_running past n
   pub askers : (n : FullName) → asked_first fix_calls n ≡ first_of (asker n) past
-  pub hold_offs : (n : FullName) (now : ℕ) → calls_hold_off fix_calls n now ≡ held_off c.me past n now
+  pub hold_offs : (n : FullName) (now : ℕ) → calls_hold_off fix_calls n now ≡ held_off c past n now

@@ -17,7 +17,7 @@ use Rattle.srm_distance.specs.Fits.{DistancesFit}
 
 -- the echoes to the members below n
 pub record Collected (d : DistancesContent) (now n : ℕ) (echoes : List Echo) : Type 0 where
-  pub value : (me : ℕ) (calls : List DistanceCall) → DistancesFit me calls d → echoes ≡ filter_map (echo_to calls me now) (count_up 0 n)
+  pub value : (least me : ℕ) (calls : List DistanceCall) → DistancesFit least me calls d → echoes ≡ filter_map (echo_to calls me now) (count_up 0 n)
   pub rising : ascending echo_below echoes ≡ true
   pub each : All (CanBeSent d.me now) echoes
   pub below : All (λ (e : Echo). e.member < n) echoes
@@ -43,11 +43,11 @@ wider n echoes all = λ k d lt. omega (arith, all k d lt)
 
 -- a member to whom no echo is owed
 pub collected_none : (d : DistancesContent) (now n : ℕ) (echoes : List Echo) → Collected d now n echoes
-    → ((me : ℕ) (calls : List DistanceCall) → DistancesFit me calls d → None ≡ echo_to calls me now n)
+    → ((least me : ℕ) (calls : List DistanceCall) → DistancesFit least me calls d → None ≡ echo_to calls me now n)
     → Collected d now (n + 1) echoes
 collected_none d now n echoes sofar none = record {
-  value = λ me calls fits. sofar.value me calls fits ∙ sym (append-nil _)
-      ∙ ap (λ o. filter_map (echo_to calls me now) (count_up 0 n) ++ cons_option o []) (none me calls fits)
+  value = λ least me calls fits. sofar.value least me calls fits ∙ sym (append-nil _)
+      ∙ ap (λ o. filter_map (echo_to calls me now) (count_up 0 n) ++ cons_option o []) (none least me calls fits)
       ∙ sym (one_more (echo_to calls me now) n);
   rising = sofar.rising;
   each = sofar.each;
@@ -58,15 +58,15 @@ collected_none d now n echoes sofar none = record {
 
 -- oneself
 pub collected_self : (d : DistancesContent) (now n : ℕ) (echoes : List Echo) → Collected d now n echoes → n ≡ d.me → Collected d now (n + 1) echoes
-collected_self d now n echoes sofar same = collected_none d now n echoes sofar (λ me calls fits. rw (eq-eqb n me (same ∙ fits.me_is)) refl)
+collected_self d now n echoes sofar same = collected_none d now n echoes sofar (λ least me calls fits. rw (eq-eqb n me (same ∙ fits.me_is)) refl)
 
 -- a member to whom one is owed
 pub collected_some : (d : DistancesContent) (now n : ℕ) (echoes : List Echo) (e : Echo) → Collected d now n echoes → n ≢ d.me
-    → ((me : ℕ) (calls : List DistanceCall) → DistancesFit me calls d → Some e ≡ echo_to calls me now n) → e.member ≡ n → CanBeSent d.me now e
+    → ((least me : ℕ) (calls : List DistanceCall) → DistancesFit least me calls d → Some e ≡ echo_to calls me now n) → e.member ≡ n → CanBeSent d.me now e
     → Collected d now (n + 1) (echoes ++ e ∷ [])
 collected_some d now n echoes e sofar other some member can = record {
-  value = λ me calls fits. ap (λ es. es ++ e ∷ []) (sofar.value me calls fits)
-      ∙ ap (λ o. filter_map (echo_to calls me now) (count_up 0 n) ++ cons_option o []) (some me calls fits)
+  value = λ least me calls fits. ap (λ es. es ++ e ∷ []) (sofar.value least me calls fits)
+      ∙ ap (λ o. filter_map (echo_to calls me now) (count_up 0 n) ++ cons_option o []) (some least me calls fits)
       ∙ sym (one_more (echo_to calls me now) n);
   rising = rises echoes n e sofar.rising sofar.below (omega (arith, member));
   each = All-push (CanBeSent d.me now) echoes e sofar.each can;

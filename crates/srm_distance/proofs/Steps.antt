@@ -76,8 +76,8 @@ heard-other a sent echo now calls b ne = peer_of-other calls (Heard a sent echo 
 pub forgot-other : (a : ℕ) (calls : List DistanceCall) (b : ℕ) → a ≢ b → peer_of (calls ++ Forgot a ∷ []) b ≡ peer_of calls b
 forgot-other a calls b ne = peer_of-other calls (Forgot a) b refl refl (ne_eqb a b ne)
 
-pub kept_at : (me : ℕ) (calls : List DistanceCall) (d : DistancesContent) (a : ℕ) (p : Peer) → DistancesFit me calls d → a < MEMBERS → get_or d.peers a p ≡ peer_of calls a
-kept_at me calls d a p h lt = get_or_from_slice_get d.peers a (peer_of calls a) p (h.each a lt)
+pub kept_at : (least me : ℕ) (calls : List DistanceCall) (d : DistancesContent) (a : ℕ) (p : Peer) → DistancesFit least me calls d → a < MEMBERS → get_or d.peers a p ≡ peer_of calls a
+kept_at least me calls d a p h lt = get_or_from_slice_get d.peers a (peer_of calls a) p (h.each a lt)
 
 abbrev pub nobody : Peer
 nobody = record { returned = None; newest_message = None; forgotten = false }
@@ -86,10 +86,11 @@ nobody = record { returned = None; newest_message = None; forgotten = false }
 pub adds_at : (call : DistanceCall) (d : DistancesContent) (a place : ℕ) (peer : Peer) → place ≡ a → place < MEMBERS
     → ((calls : List DistanceCall) → get_or d.peers place nobody ≡ peer_of calls a → peer ≡ peer_of (calls ++ call ∷ []) a)
     → ((calls : List DistanceCall) (b : ℕ) → a ≢ b → peer_of (calls ++ call ∷ []) b ≡ peer_of calls b)
-    → DistancesAdd call d (record { me = d.me; peers = slice_set d.peers place peer })
+    → DistancesAdd call d (record { me = d.me; least = d.least; peers = slice_set d.peers place peer })
 adds_at call d a place peer at lt here other = record {
   me_stays = refl;
-  fits = λ me calls h. record {
+  fits = λ least me calls h. record {
+    least_is = h.least_is;
     me_is = h.me_is;
     size = length-set d.peers place peer ∙ h.size;
     each = λ b below.
@@ -98,18 +99,19 @@ adds_at call d a place peer at lt here other = record {
         ∙ ap Some (elim (cases_eq place b) [
           | inl same ↦ (ap (λ k. get_or (slice_set d.peers place peer) k peer) (sym same)
               ∙ get_or-set_same d.peers place peer peer (omega (arith, h.size))
-              ∙ here calls (kept_at me calls d place nobody h lt ∙ ap (peer_of calls) at)
+              ∙ here calls (kept_at least me calls d place nobody h lt ∙ ap (peer_of calls) at)
               ∙ ap (peer_of (calls ++ call ∷ [])) (sym at ∙ same))
           | inr differ ↦ (get_or-set_other d.peers place b peer peer (λ e. differ (sym e))
-              ∙ kept_at me calls d b peer h below
+              ∙ kept_at least me calls d b peer h below
               ∙ sym (other calls b (λ e. differ (at ∙ e))))
         ]);
   };
 }
 
 -- what is made for a member of which nothing was heard
-pub fits_new : (me : ℕ) (p : Peer) → ((b : ℕ) → p ≡ peer_of [] b) → DistancesFit me [] (record { me = me; peers = replicate 32 p })
-fits_new me p h = record {
+pub fits_new : (least me : ℕ) (p : Peer) → ((b : ℕ) → p ≡ peer_of [] b) → DistancesFit least me [] (record { me = me; least = least; peers = replicate 32 p })
+fits_new least me p h = record {
+  least_is = refl;
   me_is = refl;
   size = refl;
   each = λ b below. slice_get-get_or (replicate 32 p) b p (omega (arith, length-replicate 32 p)) ∙ ap Some (get_or-replicate 32 b p p below ∙ h b);

@@ -4,7 +4,7 @@ use Rattle.std.specs.List.{filter_map}
 use Rattle.srm_names.specs.Histories.{first_best}
 use Rattle.srm_distance.specs.declared.returned.Returned.{Returned}
 use Rattle.srm_names.specs.declared.limits.TheConstants.{LONGEST_DISTANCE}
-use Rattle.srm_distance.specs.declared.limits.TheConstants.{FIRST_DISTANCE, SHORTEST_DISTANCE}
+use Rattle.srm_distance.specs.declared.limits.TheConstants.{FIRST_DISTANCE}
 use Rattle.srm_distance.specs.Calls.{DistanceCall, Heard, Forgot}
 
 -- An echo that is heard at t4. It doesn't count where its own moment is still to come.
@@ -21,14 +21,14 @@ returned b (Forgot member) = None
 abbrev pub newest : List DistanceCall → ℕ → Option Returned
 newest calls b = first_best (λ (r : Returned). r.t1) (filter_map (returned b) calls)
 
--- half the time on the way there and back, rounded down, within the limits
-abbrev pub half_way : Returned → ℕ
-half_way r = max SHORTEST_DISTANCE (min LONGEST_DISTANCE ((r.t4 - r.t1 - r.delay) / 2))
+-- half the time on the way there and back, rounded down, at least the floor and at most the limit
+abbrev pub half_way : ℕ → Returned → ℕ
+half_way least r = max least (min LONGEST_DISTANCE ((r.t4 - r.t1 - r.delay) / 2))
 
-abbrev pub estimate : Option Returned → ℕ
-estimate None = FIRST_DISTANCE
-estimate (Some r) = half_way r
+abbrev pub estimate : ℕ → Option Returned → ℕ
+estimate least None = max least FIRST_DISTANCE
+estimate least (Some r) = half_way least r
 
--- the distance of me to b
-abbrev pub distance : List DistanceCall → ℕ → ℕ → ℕ
-distance calls me b = if b == me then 0 else estimate (newest calls b)
+-- the distance of me to b, where no distance to another is below the floor `least`
+abbrev pub distance : ℕ → List DistanceCall → ℕ → ℕ → ℕ
+distance least calls me b = if b == me then 0 else estimate least (newest calls b)

@@ -14,50 +14,69 @@ abbrev silent : (from sent now : ℕ) → DistanceCall
 silent from sent now = Heard from sent None now
 
 -- distances
-before_the_first : distance [] 0 1 ≡ 100000
+before_the_first : distance 1 [] 0 1 ≡ 100000
 before_the_first = refl
 
-to_oneself : distance (echoed 1000000 30000 1110000 ∷ []) 1 1 ≡ 0
+to_oneself : distance 1 (echoed 1000000 30000 1110000 ∷ []) 1 1 ≡ 0
 to_oneself = refl
 
-halved : distance (echoed 1000000 30000 1110000 ∷ []) 0 1 ≡ 40000
+halved : distance 1 (echoed 1000000 30000 1110000 ∷ []) 0 1 ≡ 40000
 halved = refl
 
-rounded_down : distance (echoed 1000000 30000 1110001 ∷ []) 0 1 ≡ 40000
+rounded_down : distance 1 (echoed 1000000 30000 1110001 ∷ []) 0 1 ≡ 40000
 rounded_down = refl
 
-at_least_one : distance (echoed 1000000 30000 1030001 ∷ []) 0 1 ≡ 1
+at_least_one : distance 1 (echoed 1000000 30000 1030001 ∷ []) 0 1 ≡ 1
 at_least_one = refl
 
-shorter_than_the_delay : distance (echoed 1000000 30000 1020000 ∷ []) 0 1 ≡ 1
+shorter_than_the_delay : distance 1 (echoed 1000000 30000 1020000 ∷ []) 0 1 ≡ 1
 shorter_than_the_delay = refl
 
-at_most_ten_seconds : distance (echoed 1000000 30000 21030002 ∷ []) 0 1 ≡ 10000000
+at_most_ten_seconds : distance 1 (echoed 1000000 30000 21030002 ∷ []) 0 1 ≡ 10000000
 at_most_ten_seconds = refl
 
-same_echo_later : distance (echoed 1000000 30000 1110000 ∷ echoed 1000000 30000 1111000 ∷ []) 0 1 ≡ 40000
+same_echo_later : distance 1 (echoed 1000000 30000 1110000 ∷ echoed 1000000 30000 1111000 ∷ []) 0 1 ≡ 40000
 same_echo_later = refl
 
-newer_echo : distance (echoed 1000000 30000 1110000 ∷ echoed 1000001 0 1111001 ∷ []) 0 1 ≡ 55500
+newer_echo : distance 1 (echoed 1000000 30000 1110000 ∷ echoed 1000001 0 1111001 ∷ []) 0 1 ≡ 55500
 newer_echo = refl
 
-older_echo : distance (echoed 1000001 0 1111001 ∷ echoed 1000000 30000 1112000 ∷ []) 0 1 ≡ 55500
+older_echo : distance 1 (echoed 1000001 0 1111001 ∷ echoed 1000000 30000 1112000 ∷ []) 0 1 ≡ 55500
 older_echo = refl
 
-to_come : distance (echoed 900001 0 900000 ∷ []) 0 1 ≡ 100000
+to_come : distance 1 (echoed 900001 0 900000 ∷ []) 0 1 ≡ 100000
 to_come = refl
 
-of_this_moment : distance (echoed 900000 0 900000 ∷ []) 0 1 ≡ 1
+of_this_moment : distance 1 (echoed 900000 0 900000 ∷ []) 0 1 ≡ 1
 of_this_moment = refl
 
-sent_at_zero : distance (echoed 0 0 200 ∷ []) 0 1 ≡ 100
+sent_at_zero : distance 1 (echoed 0 0 200 ∷ []) 0 1 ≡ 100
 sent_at_zero = refl
 
-of_another_member : distance (echoed 1000000 30000 1110000 ∷ []) 0 2 ≡ 100000
+of_another_member : distance 1 (echoed 1000000 30000 1110000 ∷ []) 0 2 ≡ 100000
 of_another_member = refl
 
-forgotten_is_still_there : distance (echoed 1000000 30000 1110000 ∷ Forgot 1 ∷ []) 0 1 ≡ 40000
+forgotten_is_still_there : distance 1 (echoed 1000000 30000 1110000 ∷ Forgot 1 ∷ []) 0 1 ≡ 40000
 forgotten_is_still_there = refl
+
+-- with a floor
+near_with_a_floor : distance 5000 (echoed 1000000 30000 1030001 ∷ []) 0 1 ≡ 5000
+near_with_a_floor = refl
+
+far_with_a_floor : distance 5000 (echoed 1000000 30000 1110000 ∷ []) 0 1 ≡ 40000
+far_with_a_floor = refl
+
+unknown_with_a_floor : distance 5000 [] 0 1 ≡ 100000
+unknown_with_a_floor = refl
+
+unknown_with_a_floor_above_it : distance 200000 [] 0 1 ≡ 200000
+unknown_with_a_floor_above_it = refl
+
+farthest_with_the_greatest_floor : distance 10000000 (echoed 1000000 30000 21030002 ∷ []) 0 1 ≡ 10000000
+farthest_with_the_greatest_floor = refl
+
+to_oneself_with_a_floor : distance 5000 [] 1 1 ≡ 0
+to_oneself_with_a_floor = refl
 
 -- echoes
 abbrev echo : (member t1 delay : ℕ) → Echo

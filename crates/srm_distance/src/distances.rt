@@ -1,14 +1,15 @@
 //! Distances and echoes, by the session messages heard so far.
 
 ghost use Rattle.std.specs.Prelude.{◌≡◌, ◌≢◌, ◌≤◌, ◌<◌, ◌↔◌, ℕ, List, [], IfOk, IfSome, length, slice_index, slice_set};
-ghost use Rattle.srm_names.specs.declared.limits.TheConstants.{MEMBERS};
+ghost use Rattle.srm_names.specs.declared.limits.TheConstants.{MEMBERS, LONGEST_DISTANCE};
+ghost use Rattle.srm_distance.specs.declared.limits.TheConstants.{SHORTEST_DISTANCE};
 ghost use Rattle.srm_distance.specs.Calls.{DistanceCall, Heard, Forgot};
 ghost use Rattle.srm_distance.specs.Content.{distance_by};
 ghost use Rattle.srm_distance.specs.Distance.{distance};
 ghost use Rattle.srm_distance.specs.Echoes.{echo_to, echoes_owed, AreSpellable, CanBeSent, SentWithin};
 ghost use Rattle.srm_distance.specs.Fits.{DistancesFit, DistancesAdd, IsTableOf};
 
-use crate::limits::FIRST_DISTANCE;
+use crate::limits::{FIRST_DISTANCE, SHORTEST_DISTANCE};
 use crate::peer::Peer;
 use srm_names::{Echo, LATEST_MOMENT, LONGEST_DISTANCE, MEMBERS, Member};
 use std::alloc::{AllocError, Global};
@@ -19,6 +20,8 @@ use std::marker::Model;
 #[derive(Debug, Drop)]
 pub struct Distances {
     me: Member,
+    /// The floor: no distance to another member is shorter.
+    least: u64,
     peers: [Peer; MEMBERS as usize],
     /// The distance to each member, by its number: kept beside the peers, so that all of them are at hand at once.
     table: [u64; MEMBERS as usize],
@@ -35,14 +38,28 @@ impl Model for Distances {
 }
 
 impl Distances {
-    /// What this member knows before any session message.
+    /// What this member knows before any session message, with the floor [`SHORTEST_DISTANCE`].
     pub fn new(me: Member) -> Distances
-        ensures fits { DistancesFit me [] result }
+        ensures fits { DistancesFit SHORTEST_DISTANCE me [] result }
     {
-        let mut table = [FIRST_DISTANCE; MEMBERS as usize];
+        Distances::with_least(me, SHORTEST_DISTANCE)
+    }
+
+    /// What this member knows before any session message, with a floor under its distances to others: `least` microseconds,
+    /// from [`SHORTEST_DISTANCE`] to [`LONGEST_DISTANCE`].
+    ///
+    /// Timers wait for a multiple of a distance. On a network of a few microseconds a floor keeps a member that misses much from
+    /// asking for it faster than its rate lets it ask.
+    pub fn with_least(me: Member, least: u64) -> Distances
+        requires shortest { SHORTEST_DISTANCE ≤ least }
+        requires longest { least ≤ LONGEST_DISTANCE }
+        ensures fits { DistancesFit least me [] result }
+    {
+        let mut table = [FIRST_DISTANCE.max(least); MEMBERS as usize];
         table[me.index()] = 0;
         Distances {
             me,
+            least,
             peers: [Peer::unknown(); MEMBERS as usize],
             table,
         }
@@ -54,6 +71,7 @@ impl Distances {
     {
         Distances {
             me: self.me,
+            least: self.least,
             peers: self.peers,
             table: self.table,
         }
@@ -90,14 +108,14 @@ impl Distances {
     {
         let place = member.index();
         self.peers[place] = peer;
-        self.table[place] = distance_by(self.me, member, peer);
+        self.table[place] = distance_by(self.least, self.me, member, peer);
     }
 
     /// The echoes that are owed at a moment, in order of member: to each other member that was heard and isn't
     /// forgotten that of its newest session message, with the time since this was heard, 0 where that is to come.
     /// They are at most 31. Only want of memory refuses it.
     pub fn echoes(&self, alloc: Global, now: u64) -> Result<Vec<Echo>, AllocError>
-        ensures value { IfOk result (λ echoes. (me : ℕ) (calls : List DistanceCall) → DistancesFit me calls self.now
+        ensures value { IfOk result (λ echoes. (least me : ℕ) (calls : List DistanceCall) → DistancesFit least me calls self.now
             → echoes.items ≡ echoes_owed calls me now) }
         ensures range { IfOk result (λ echoes. AreSpellable self.now.me now echoes.items) }
     {
@@ -119,7 +137,7 @@ impl Distances {
     fn echo_to(&self, number: u8, now: u64) -> Option<Echo>
         requires member { number < MEMBERS }
         requires other { number ≢ self.now.me }
-        ensures value { (me : ℕ) (calls : List DistanceCall) → DistancesFit me calls self.now
+        ensures value { (least me : ℕ) (calls : List DistanceCall) → DistancesFit least me calls self.now
             → result ≡ echo_to calls me now number }
         ensures member { IfSome result (λ echo. echo.member ≡ number) }
         ensures range { IfSome result (CanBeSent self.now.me now) }
@@ -128,10 +146,10 @@ impl Distances {
         self.peers[member.index()].echo(member, now)
     }
 
-    /// The distance to a member: 0 to this member itself, and to another 1 to 10,000,000; before an echo of it counted
-    /// [`FIRST_DISTANCE`](crate::FIRST_DISTANCE).
+    /// The distance to a member: 0 to this member itself, and to another from the floor to 10,000,000; before an echo of it counted
+    /// [`FIRST_DISTANCE`](crate::FIRST_DISTANCE), or the floor where that is more.
     pub fn distance(&self, member: Member) -> u64
-        ensures value { (me : ℕ) (calls : List DistanceCall) → DistancesFit me calls self.now → result ≡ distance calls me member }
+        ensures value { (least me : ℕ) (calls : List DistanceCall) → DistancesFit least me calls self.now → result ≡ distance least calls me member }
         ensures to_oneself { (result ≡ 0) ↔ (member ≡ self.now.me) }
         ensures longest { result ≤ LONGEST_DISTANCE }
     {
@@ -150,11 +168,12 @@ impl Distances {
 }
 
 /// The distance of a member to another, or to itself, of which this is kept.
-fn distance_by(me: Member, member: Member, peer: Peer) -> u64
-    ensures { result ≡ distance_by me member peer }
+fn distance_by(least: u64, me: Member, member: Member, peer: Peer) -> u64
+    requires { least ≤ LONGEST_DISTANCE }
+    ensures { result ≡ distance_by least me member peer }
 {
     if member == me {
         return 0;
     }
-    peer.distance()
+    peer.distance(least)
 }

@@ -1,6 +1,7 @@
 //! What is kept of one member.
 
 ghost use Rattle.std.specs.Prelude.{◌≡◌, ◌≤◌, ℕ, List, [], ◌∷◌, ◌++◌};
+ghost use Rattle.srm_names.specs.declared.limits.TheConstants.{LONGEST_DISTANCE};
 ghost use Rattle.srm_distance.specs.Calls.{DistanceCall, Heard, Forgot};
 
 use crate::heard_message::HeardMessage;
@@ -72,13 +73,14 @@ impl Peer {
         Some(self.newest_message?.echo(member, now))
     }
 
-    /// The distance to the member, in microseconds: 1 to 10,000,000.
-    pub(crate) fn distance(self) -> u64
-        ensures { result ≡ estimate self.returned }
+    /// The distance to the member, in microseconds: from the floor `least` to 10,000,000.
+    pub(crate) fn distance(self, least: u64) -> u64
+        requires { least ≤ LONGEST_DISTANCE }
+        ensures { result ≡ estimate least self.returned }
     {
         match self.returned {
-            None => FIRST_DISTANCE,
-            Some(returned) => returned.distance(),
+            None => FIRST_DISTANCE.max(least),
+            Some(returned) => returned.distance(least),
         }
     }
 }

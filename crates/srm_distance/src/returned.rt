@@ -1,9 +1,9 @@
 //! Echoes that came back, and the distance that they tell.
 
-ghost use Rattle.std.specs.Prelude.{◌≡◌, ℕ, List, [], ◌∷◌, ◌++◌};
+ghost use Rattle.std.specs.Prelude.{◌≡◌, ◌≤◌, ℕ, List, [], ◌∷◌, ◌++◌};
+ghost use Rattle.srm_names.specs.declared.limits.TheConstants.{LONGEST_DISTANCE};
 ghost use Rattle.srm_distance.specs.Calls.{DistanceCall, Heard};
 
-use crate::limits::SHORTEST_DISTANCE;
 use srm_names::LONGEST_DISTANCE;
 
 /// An echo of one of this member's own session messages. Moments and times are in microseconds.
@@ -43,11 +43,12 @@ impl Returned {
         }
     }
 
-    /// The distance that the echo tells, in microseconds: 1 to 10,000,000.
-    pub(crate) fn distance(self) -> u64
-        ensures { result ≡ half_way self }
+    /// The distance that the echo tells, in microseconds: from the floor `least` to 10,000,000.
+    pub(crate) fn distance(self, least: u64) -> u64
+        requires { least ≤ LONGEST_DISTANCE }
+        ensures { result ≡ half_way least self }
     {
         let both_ways = self.t4.saturating_sub(self.t1).saturating_sub(self.delay);
-        (both_ways / 2).clamp(SHORTEST_DISTANCE, LONGEST_DISTANCE)
+        (both_ways / 2).clamp(least, LONGEST_DISTANCE)
     }
 }

@@ -9,6 +9,7 @@ use Rattle.srm_names.specs.FullName.{FullName}
 use Rattle.srm_names.specs.Histories.{steps, or_else, last_of, greatest, since}
 use Rattle.srm_names.proofs.Lists.{greatest-append}
 use Rattle.srm_names.proofs.Snoc.{steps-snoc, last_of-snoc, since-snoc, list_any-snoc}
+use Rattle.srm_entries.specs.Configs.{Config}
 use Rattle.srm_entries.specs.declared.entry.Entry.{Entry}
 use Rattle.srm_timers.specs.declared.arm.ArmKind.TheVariants.{Ask, Fix}
 use Rattle.srm_store.specs.Held.{number_in, has_name}
@@ -47,9 +48,9 @@ fix_running-snoc es e n = ap (last_of (arm_in Fix n)) (since-snoc (repaired n) e
     go true = refl
     go false = last_of-snoc (arm_in Fix n) (since (repaired n) es) e
 
-pub held_off-snoc : (me : ℕ) (es : List Entry) (e : Entry) (n : FullName) (now : ℕ)
-    → held_off me (es ++ e ∷ []) n now ≡ held_off me es n now || holds_off me n now (record { before = es; this = e })
-held_off-snoc me es e n now = ap (list_any (holds_off me n now)) (steps-snoc es e) ∙ list_any-snoc (holds_off me n now) (steps es) _
+pub held_off-snoc : (c : Config) (es : List Entry) (e : Entry) (n : FullName) (now : ℕ)
+    → held_off c (es ++ e ∷ []) n now ≡ held_off c es n now || holds_off c n now (record { before = es; this = e })
+held_off-snoc c es e n now = ap (list_any (holds_off c n now)) (steps-snoc es e) ∙ list_any-snoc (holds_off c n now) (steps es) _
 
 pub known-append : (es more : List Entry) (s : Stream) → known (es ++ more) s ≡ max (known es s) (known more s)
 known-append es more s =

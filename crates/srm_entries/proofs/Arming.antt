@@ -45,11 +45,11 @@ find-coarser p q (y ∷ ys) x e = coarser_at x y (p y) (q y) (find p ys) (find (
 
 -- the settings that the law asks for: an ask with an exponent, where these are all entries with this one,
 -- and a fix for who asked, where these are the entries before
-abbrev pub ask_at : ℕ → List Entry → FullName → ℕ → WaitBasis
-ask_at me entries n i = record { kind = Ask; exponent = i; distance = distance entries me n.stream.source }
+abbrev pub ask_at : Config → List Entry → FullName → ℕ → WaitBasis
+ask_at c entries n i = record { kind = Ask; exponent = i; distance = distance c entries n.stream.source }
 
-abbrev pub fix_at : ℕ → List Entry → ℕ → WaitBasis
-fix_at me before who = record { kind = Fix; exponent = 0; distance = distance before me who }
+abbrev pub fix_at : Config → List Entry → ℕ → WaitBasis
+fix_at c before who = record { kind = Fix; exponent = 0; distance = distance c before who }
 
 abbrev pub kind_and_name : ArmKind → FullName → Arm → Bool
 kind_and_name kind n a = same_kind kind a.kind && same_name n a.name
@@ -80,7 +80,7 @@ setting_found s (Some a) e = (a, refl, cc)
 
 -- where the law sets an arm, the entry has it
 pub armed_by : (kind : ArmKind) (n : FullName) (c : Config) (before : List Entry) (e : Entry) (s : WaitBasis) → ArmsRight c before e
-    → basis_of c.me before e n ≡ Some s → s.kind ≡ kind → is_some (arm_in kind n e) ≡ true
+    → basis_of c before e n ≡ Some s → s.kind ≡ kind → is_some (arm_in kind n e) ≡ true
 armed_by kind n c before e s r h k =
     let (a, found, is) = setting_found s (arm_of n e.effects.arms) (r.are.exact n ∙ h) in
     let test : same_kind kind a.kind ≡ true = subst (λ j. same_kind kind j ≡ true) (sym k ∙ ap (λ (t : WaitBasis). t.kind) (sym is)) (same_kind_itself kind) in
@@ -93,14 +93,14 @@ some_of (Some x) e = (x, refl)
 
 -- where the entry has an arm, the law sets one
 pub set_by : (kind : ArmKind) (n : FullName) (c : Config) (before : List Entry) (e : Entry) (a : Armed) → ArmsRight c before e
-    → arm_in kind n e ≡ Some a → is_some (basis_of c.me before e n) ≡ true
+    → arm_in kind n e ≡ Some a → is_some (basis_of c before e n) ≡ true
 set_by kind n c before e a r h =
     let (x, found) = some_of (arm_of n e.effects.arms) (find-coarser (λ (x : Arm). same_name n x.name) (λ (x : Arm). same_kind kind x.kind) e.effects.arms a.arm (arm_found kind n e a h).0) in
     ap is_some (sym (r.are.exact n) ∙ ap (option_map wait_basis) found)
 
 -- where the law sets none, the entry has none
 pub unset_by : (kind : ArmKind) (n : FullName) (c : Config) (before : List Entry) (e : Entry) → ArmsRight c before e
-    → basis_of c.me before e n ≡ None → arm_in kind n e ≡ None
+    → basis_of c before e n ≡ None → arm_in kind n e ≡ None
 unset_by kind n c before e r h = go (arm_in kind n e) refl
   where
     go : (o : Option Armed) → arm_in kind n e ≡ o → o ≡ None
@@ -146,7 +146,7 @@ only_arm n q (y ∷ ys) x o e =
 
 -- the arm of a kind and a name in an entry is the one that the law sets
 pub kind_set : (kind : ArmKind) (n : FullName) (c : Config) (before : List Entry) (e : Entry) (a : Armed) (s : WaitBasis) → ArmsRight c before e
-    → arm_in kind n e ≡ Some a → basis_of c.me before e n ≡ Some s → s.kind ≡ kind
+    → arm_in kind n e ≡ Some a → basis_of c before e n ≡ Some s → s.kind ≡ kind
 kind_set kind n c before e a s r h k =
     let found = (arm_found kind n e a h).0 in
     let one = only_arm n (λ (x : Arm). same_kind kind x.kind) e.effects.arms a.arm r.are.in_order found in

@@ -40,8 +40,8 @@ nothing_else n e = unknown_unmissed (gap ∷ []) n (ap (λ b. greatest ((if b th
 
 -- the arms of the gap
 
-gap_armed : (n : FullName) → option_map wait_basis (arm_of n gap.effects.arms) ≡ basis_of 1 [] gap n
-gap_armed = of_all (λ n. option_map wait_basis (arm_of n gap.effects.arms) ≡ basis_of 1 [] gap n)
+gap_armed : (n : FullName) → option_map wait_basis (arm_of n gap.effects.arms) ≡ basis_of one_of_four [] gap n
+gap_armed = of_all (λ n. option_map wait_basis (arm_of n gap.effects.arms) ≡ basis_of one_of_four [] gap n)
     (λ k. rw (missing_none (named first_stream k), only_first k) (which (k == 1)))
     (λ n e. rw (missing_none n, nothing_else n e) (ap (λ b. option_map wait_basis (if b && (n.number == 1) then Some (ask_arm 1 0 200000) else None)) e))
   where
@@ -71,12 +71,12 @@ gap_right = record {
 never_held : (k : ℕ) → (k == 1) ≡ true → ((2 == k) || false) ≡ false
 never_held k e = grind (arith, nat_tests)
 
-armed_again : (n : FullName) → option_map wait_basis (arm_of n asks.effects.arms) ≡ basis_of 1 (gap ∷ []) asks n
-armed_again = of_all (λ n. option_map wait_basis (arm_of n asks.effects.arms) ≡ basis_of 1 (gap ∷ []) asks n)
-    (λ k. rw (only_first k) (here ((2 == k) || false) (not (held_off 1 (gap ∷ []) (named first_stream k) 1400000)) (k == 1) (never_held k)))
+armed_again : (n : FullName) → option_map wait_basis (arm_of n asks.effects.arms) ≡ basis_of one_of_four (gap ∷ []) asks n
+armed_again = of_all (λ n. option_map wait_basis (arm_of n asks.effects.arms) ≡ basis_of one_of_four (gap ∷ []) asks n)
+    (λ k. rw (only_first k) (here ((2 == k) || false) (not (held_off one_of_four (gap ∷ []) (named first_stream k) 1400000)) (k == 1) (never_held k)))
     (λ n e. rw (nothing_else n e)
     (ap (λ b. option_map wait_basis (if b && (n.number == 1) then Some (ask_arm 1 1 400000) else None)) e
-    ∙ there (is_held (gap ∷ []) n) (not (held_off 1 (gap ∷ []) n 1400000))))
+    ∙ there (is_held (gap ∷ []) n) (not (held_off one_of_four (gap ∷ []) n 1400000))))
   where
     here : (held free first : Bool) → (first ≡ true → held ≡ false) → option_map wait_basis (if first then Some (ask_arm 1 1 400000) else None)
         ≡ (if held then (if held && true && free then None else None)

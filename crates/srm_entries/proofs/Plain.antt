@@ -127,11 +127,11 @@ pub neither : {X : Type 0} (b : Bool) → ◌≡◌ {A = Option X} None (if b th
 neither true = refl
 neither false = refl
 
-pub no_setting : (me : ℕ) (before : List Entry) (e : Entry) (n : FullName) → asker n e ≡ None → is_missing before n ≡ false → is_missing (before ++ e ∷ []) n ≡ false → None ≡ basis_of me before e n
-no_setting me before e n ask here next = which (is_held before n)
+pub no_setting : (c : Config) (before : List Entry) (e : Entry) (n : FullName) → asker n e ≡ None → is_missing before n ≡ false → is_missing (before ++ e ∷ []) n ≡ false → None ≡ basis_of c before e n
+no_setting c before e n ask here next = which (is_held before n)
   where
-    which : (b : Bool) → None ≡ (if b then fix_basis_of me before e n else ask_basis_of me before e n)
-    which true = rw ask (neither (is_held before n && not (is_some (fix_running before n)) && not (held_off me before n e.moment)))
+    which : (b : Bool) → None ≡ (if b then fix_basis_of c before e n else ask_basis_of c before e n)
+    which true = rw ask (neither (is_held before n && not (is_some (fix_running before n)) && not (held_off c before n e.moment)))
     which false = rw (here, next) refl
 
 pub right : (c : Config) (made : ℕ) (before : List Entry) (m now : ℕ) (input : Input) (drawn : Option Drawop) (outs : List Datagram) (message : Option PageMsg) (after : AgentState)
@@ -147,7 +147,7 @@ right c made before m now input drawn outs message after here next ask fix p1 p2
   moment = p2;
   verdict = p3;
   drawn = p4;
-  arms = record { are = record { in_order = refl; exact = λ n. no_setting c.me before (plain m now input drawn outs message after) n (ask n) (here n) (next n) }; waits = tt };
+  arms = record { are = record { in_order = refl; exact = λ n. no_setting c before (plain m now input drawn outs message after) n (ask n) (here n) (next n) }; waits = tt };
   timers = record {
     asks = record { in_order = refl; exact = λ n. not_asked (ticked (plain m now input drawn outs message after)) (not (is_gone (state before))) (is_missing before n) (ran_out now (last_ask before n)) (here n) };
     fixes = record {

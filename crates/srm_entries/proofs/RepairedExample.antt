@@ -57,9 +57,9 @@ none_missing_last = of_all (λ n. is_missing (holds ∷ asked ∷ repairs ∷ []
 
 -- the arm of the request
 
-fixes_set : (n : FullName) → option_map wait_basis (arm_of n asked.effects.arms) ≡ basis_of 2 (holds ∷ []) asked n
+fixes_set : (n : FullName) → option_map wait_basis (arm_of n asked.effects.arms) ≡ basis_of two_of_four (holds ∷ []) asked n
 unfolding bits_set
-fixes_set = of_all (λ n. option_map wait_basis (arm_of n asked.effects.arms) ≡ basis_of 2 (holds ∷ []) asked n)
+fixes_set = of_all (λ n. option_map wait_basis (arm_of n asked.effects.arms) ≡ basis_of two_of_four (holds ∷ []) asked n)
     (λ k. rw (none_missing (named first_stream k)) (here (k == 1) ((1 == k) || false) (turned k)))
     (λ n e. rw (none_missing n, none_missing_later n)
     (ap (λ b. option_map wait_basis (if b && (n.number == 1) then Some (fix_arm 1 100000) else None)) e
@@ -69,14 +69,14 @@ fixes_set = of_all (λ n. option_map wait_basis (arm_of n asked.effects.arms) �
     turned k = grind (arith, nat_tests)
 
     here : (first held : Bool) → first ≡ held → option_map wait_basis (if first then Some (fix_arm 1 100000) else None)
-        ≡ (if held then (if held && true && true then option_map (λ (a : ℕ). record { kind = Fix; exponent = 0; distance = distance (holds ∷ []) 2 a }) (if first || false then Some 1 else None) else None) else None)
+        ≡ (if held then (if held && true && true then option_map (λ (a : ℕ). record { kind = Fix; exponent = 0; distance = distance two_of_four (holds ∷ []) a }) (if first || false then Some 1 else None) else None) else None)
     here true true p = refl
     here false false p = refl
     here true false p = absurd (cc)
     here false true p = absurd (cc)
 
-    there : (held : Bool) (o : Option ℕ) → o ≡ None → ◌≡◌ {A = Option WaitBasis} None (if held then (if held && true && true then option_map (λ (a : ℕ). record { kind = Fix; exponent = 0; distance = distance (holds ∷ []) 2 a }) o else None) else None)
-    there true o p = ap (option_map (λ (a : ℕ). record { kind = Fix; exponent = 0; distance = distance (holds ∷ []) 2 a })) (sym p)
+    there : (held : Bool) (o : Option ℕ) → o ≡ None → ◌≡◌ {A = Option WaitBasis} None (if held then (if held && true && true then option_map (λ (a : ℕ). record { kind = Fix; exponent = 0; distance = distance two_of_four (holds ∷ []) a }) o else None) else None)
+    there true o p = ap (option_map (λ (a : ℕ). record { kind = Fix; exponent = 0; distance = distance two_of_four (holds ∷ []) a })) (sym p)
     there false o p = refl
 
 -- the entries
@@ -91,7 +91,7 @@ holds_right = record {
   moment = lit≤ tt;
   verdict = (refl, refl);
   drawn = refl;
-  arms = record { are = record { in_order = refl; exact = λ n. no_setting 2 [] holds n refl (missing_none n) (none_missing n) }; waits = tt };
+  arms = record { are = record { in_order = refl; exact = λ n. no_setting two_of_four [] holds n refl (missing_none n) (none_missing n) }; waits = tt };
   timers = record { asks = record { in_order = refl; exact = λ n. refl }; fixes = record { in_order = refl; exact = λ n. refl } };
   senders = tt;
   spelled = tt;
@@ -134,7 +134,7 @@ repairs_right = record {
   moment = lit≤ tt;
   verdict = refl;
   drawn = refl;
-  arms = record { are = record { in_order = refl; exact = λ n. no_setting 2 (holds ∷ asked ∷ []) repairs n refl (none_missing_later n) (none_missing_last n) }; waits = tt };
+  arms = record { are = record { in_order = refl; exact = λ n. no_setting two_of_four (holds ∷ asked ∷ []) repairs n refl (none_missing_later n) (none_missing_last n) }; waits = tt };
   timers = record { asks = record { in_order = refl; exact = none_asked }; fixes = record { in_order = refl; exact = fixed_exactly } };
   senders = (refl, tt);
   spelled = ((lit< tt, one_spelled), tt);

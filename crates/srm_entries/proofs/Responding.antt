@@ -122,9 +122,9 @@ some_then (Some x) b e = refl
 ask_armed : (c : Config) (before : List Entry) (e : Entry) (n : FullName) (i : ℕ) → ArmsRight c before e → is_held before n ≡ false
     → ask_exponent before e n ≡ Some i → is_some (arm_in Ask n e) ≡ true
 ask_armed c before e n i r h x =
-    armed_by Ask n c before e (ask_at c.me (before ++ e ∷ []) n i) r
-    (ap (λ b. if b then fix_basis_of c.me before e n else ask_basis_of c.me before e n) h
-    ∙ ap (option_map (ask_at c.me (before ++ e ∷ []) n)) x)
+    armed_by Ask n c before e (ask_at c (before ++ e ∷ []) n i) r
+    (ap (λ b. if b then fix_basis_of c before e n else ask_basis_of c before e n) h
+    ∙ ap (option_map (ask_at c (before ++ e ∷ []) n)) x)
     refl
 
 abbrev Asked : List Entry → Type 0
@@ -155,7 +155,7 @@ each_missing_asked c made es all = along (EntryRight c made) Asked (asked_more c
 -- a request for a held name starts a repair timer
 
 fix_armed : (c : Config) (made : ℕ) (before : List Entry) (e : Entry) (n : FullName) → EntryRight c made (record { before = before; this = e })
-    → is_held before n ≡ true → held_off c.me before n e.moment ≡ false → asks_for n e ≡ true → is_some (fix_running (before ++ e ∷ []) n) ≡ true
+    → is_held before n ≡ true → held_off c before n e.moment ≡ false → asks_for n e ≡ true → is_some (fix_running (before ++ e ∷ []) n) ≡ true
 fix_armed c made before e n r h o a =
     ap is_some (fix_running-snoc before e n ∙ ap (λ b. if b then None else or_else (arm_in Fix n e) (fix_running before n)) (asked_unrepaired before e n r.timers a))
     ∙ go (fix_running before n) refl (asker n e) refl
@@ -164,12 +164,12 @@ fix_armed c made before e n r h o a =
     go (Some x) k b q = some_then (arm_in Fix n e) (Some x) refl
     go None k None q = absurd (cc (a, q))
     go None k (Some b) q = some_first (arm_in Fix n e) None
-        (armed_by Fix n c before e (fix_at c.me before b) r.arms
-        (ap (λ t. if t then fix_basis_of c.me before e n else ask_basis_of c.me before e n) h
-        ∙ ap (λ t. if t && not (is_some (fix_running before n)) && not (held_off c.me before n e.moment) then option_map (fix_at c.me before) (asker n e) else None) h
-        ∙ ap (λ t. if not (is_some t) && not (held_off c.me before n e.moment) then option_map (fix_at c.me before) (asker n e) else None) k
-        ∙ ap (λ t. if not t then option_map (fix_at c.me before) (asker n e) else None) o
-        ∙ ap (option_map (fix_at c.me before)) q)
+        (armed_by Fix n c before e (fix_at c before b) r.arms
+        (ap (λ t. if t then fix_basis_of c before e n else ask_basis_of c before e n) h
+        ∙ ap (λ t. if t && not (is_some (fix_running before n)) && not (held_off c before n e.moment) then option_map (fix_at c before) (asker n e) else None) h
+        ∙ ap (λ t. if not (is_some t) && not (held_off c before n e.moment) then option_map (fix_at c before) (asker n e) else None) k
+        ∙ ap (λ t. if not t then option_map (fix_at c before) (asker n e) else None) o
+        ∙ ap (option_map (fix_at c before)) q)
         refl)
 
 -- an asking timer that ran out is answered by a newer one, or the name was gained
@@ -197,9 +197,9 @@ ask_exists c before e n a r k h = go (ask_exponent before e n) refl
     go : (o : Option ℕ) → ask_exponent before e n ≡ o → exists (before ++ e ∷ []) n ≡ true
     go (Some i) x = exponent_exists before e n i x
     go None x =
-        let none : basis_of c.me before e n ≡ None =
-        ap (λ b. if b then fix_basis_of c.me before e n else ask_basis_of c.me before e n) h
-        ∙ ap (option_map (ask_at c.me (before ++ e ∷ []) n)) x in
+        let none : basis_of c before e n ≡ None =
+        ap (λ b. if b then fix_basis_of c before e n else ask_basis_of c before e n) h
+        ∙ ap (option_map (ask_at c (before ++ e ∷ []) n)) x in
         let bad : false ≡ true = ap is_some (sym none) ∙ set_by Ask n c before e a r k in
         absurd (cc)
 
@@ -257,7 +257,7 @@ ask_kind f s (Some i) k e = let h : f i ≡ s = cc in ap (λ (t : WaitBasis). t.
 fix_of_held : (c : Config) (before : List Entry) (e : Entry) (n : FullName) (a : Armed) → ArmsRight c before e → arm_in Fix n e ≡ Some a → (is_held before n ≡ true) × (asks_for n e ≡ true)
 fix_of_held c before e n a r k = go (is_held before n) refl
   where
-    some : is_some (basis_of c.me before e n) ≡ true
+    some : is_some (basis_of c before e n) ≡ true
     some = set_by Fix n c before e a r k
 
     asks : (b : Bool) (f : ℕ → WaitBasis) (o : Option ℕ) → is_some (if b then option_map f o else None) ≡ true → is_some o ≡ true
@@ -268,14 +268,14 @@ fix_of_held c before e n a r k = go (is_held before n) refl
     go : (b : Bool) → is_held before n ≡ b → (is_held before n ≡ true) × (asks_for n e ≡ true)
     go true h = (
       h,
-      asks (is_held before n && not (is_some (fix_running before n)) && not (held_off c.me before n e.moment)) (fix_at c.me before) (asker n e)
-          (ap (λ b. is_some (if b then fix_basis_of c.me before e n else ask_basis_of c.me before e n)) (sym h) ∙ some),
+      asks (is_held before n && not (is_some (fix_running before n)) && not (held_off c before n e.moment)) (fix_at c before) (asker n e)
+          (ap (λ b. is_some (if b then fix_basis_of c before e n else ask_basis_of c before e n)) (sym h) ∙ some),
     )
     go false h =
-        let (s, q) = some_of (basis_of c.me before e n) some in
+        let (s, q) = some_of (basis_of c before e n) some in
         let fix : s.kind ≡ Fix = kind_set Fix n c before e a s r k q in
-        let ask : s.kind ≡ Ask = ask_kind (ask_at c.me (before ++ e ∷ []) n) s (ask_exponent before e n) (λ i. refl)
-        (ap (λ b. if b then fix_basis_of c.me before e n else ask_basis_of c.me before e n) (sym h) ∙ q) in
+        let ask : s.kind ≡ Ask = ask_kind (ask_at c (before ++ e ∷ []) n) s (ask_exponent before e n) (λ i. refl)
+        (ap (λ b. if b then fix_basis_of c before e n else ask_basis_of c before e n) (sym h) ∙ q) in
         absurd (cc)
 
 fix_begins : (c : Config) (made : ℕ) (before : List Entry) (e : Entry) (n : FullName) (a : Armed) → EntryRight c made (record { before = before; this = e })
@@ -295,9 +295,9 @@ fix_stays c made before e n a r f h p =
     ∙ ap (λ b. if b then None else or_else (arm_in Fix n e) (fix_running before n)) p
     ∙ ap (λ o. or_else o (fix_running before n))
     (unset_by Fix n c before e r.arms
-    (ap (λ b. if b then fix_basis_of c.me before e n else ask_basis_of c.me before e n) h
-    ∙ ap (λ t. if t && not (is_some (fix_running before n)) && not (held_off c.me before n e.moment) then option_map (fix_at c.me before) (asker n e) else None) h
-    ∙ ap (λ t. if not (is_some t) && not (held_off c.me before n e.moment) then option_map (fix_at c.me before) (asker n e) else None) f))
+    (ap (λ b. if b then fix_basis_of c before e n else ask_basis_of c before e n) h
+    ∙ ap (λ t. if t && not (is_some (fix_running before n)) && not (held_off c before n e.moment) then option_map (fix_at c before) (asker n e) else None) h
+    ∙ ap (λ t. if not (is_some t) && not (held_off c before n e.moment) then option_map (fix_at c before) (asker n e) else None) f))
     ∙ f
 
 fix_runs_on : (c : Config) (made : ℕ) (n : FullName) (a : Armed) (before between : List Entry) → fix_running before n ≡ Some a → is_held before n ≡ true

@@ -8,6 +8,7 @@ use Rattle.srm_codec.specs.declared.datagram.Datagram.TheVariants.{Session}
 use Rattle.srm_distance.specs.Calls.{DistanceCall, Heard, Forgot}
 use Rattle.srm_distance.specs.Distance as distances
 use Rattle.srm_entries.specs.declared.entry.Entry.{Entry}
+use Rattle.srm_entries.specs.Configs.{Config}
 use Rattle.srm_entries.specs.Entries.{accepted}
 
 -- the echo for a member: the moment that it answers, and how long it waited
@@ -27,6 +28,6 @@ calls_in me e = calls_of me e.moment (accepted e)
 abbrev pub distance_calls : ℕ → List Entry → List DistanceCall
 distance_calls me es = flat_map (calls_in me) es
 
--- the distance of me to b
-abbrev pub distance : List Entry → ℕ → ℕ → ℕ
-distance es me b = distances.distance (distance_calls me es) me b
+-- the distance of a member with these settings to b
+abbrev pub distance : Config → List Entry → ℕ → ℕ
+distance c es b = distances.distance c.least_distance (distance_calls c.me es) c.me b

@@ -1,8 +1,9 @@
 -- The definitions at worked examples.
-use Rattle.std.specs.Prelude.{◌≡◌, ℕ, List, [], ◌∷◌, ◌++◌, map, true, false, None, option_map, refl}
+use Rattle.std.specs.Prelude.{◌≡◌, ℕ, List, [], ◌∷◌, ◌++◌, map, true, false, Some, None, option_map, refl}
 use Rattle.srm_names.specs.declared.drawop.Drawop.{Drawop}
 use Rattle.srm_names.specs.Names.{first_page, named, names_up_to, ascending, name_below}
 use Rattle.srm_codec.specs.declared.datagram.Datagram.TheVariants.{Data, Request, Repair, Session}
+use Rattle.srm_timers.specs.declared.arm.ArmKind.TheVariants.{Ask}
 use Rattle.srm_codec.specs.Spelling.{bits_set}
 use Rattle.srm_entries.specs.Configs.{Config, default_settings, config_with}
 use Rattle.srm_entries.specs.declared.entry.Entry.{Entry}
@@ -22,7 +23,7 @@ of_another_rate : config_with 2 4 1 (record default_settings { rate = 100000 }) 
 of_another_rate = refl
 
 -- a gap is found and asked for
-gap_arms : map (basis_of 1 [] gap) (names_up_to first_stream 4) ≡ ask_set 0 ∷ None ∷ None ∷ None ∷ []
+gap_arms : map (basis_of (config 1) [] gap) (names_up_to first_stream 4) ≡ ask_set 0 ∷ None ∷ None ∷ None ∷ []
 gap_arms = refl
 
 not_yet : ask_due (gap ∷ []) (named first_stream 1) 1199999 ≡ false
@@ -31,19 +32,19 @@ not_yet = refl
 then_due : map (λ n. ask_due (gap ∷ []) n 1200000) (names_up_to first_stream 4) ≡ true ∷ false ∷ false ∷ false ∷ []
 then_due = refl
 
-asks_again : basis_of 1 (gap ∷ []) (ticks 1 1200000 (named first_stream 1 ∷ []) [] [] []) (named first_stream 1) ≡ ask_set 1
+asks_again : basis_of (config 1) (gap ∷ []) (ticks 1 1200000 (named first_stream 1 ∷ []) [] [] []) (named first_stream 1) ≡ ask_set 1
 asks_again = refl
 
 -- a request of another backs it off, and one before the ignore moment does nothing
-backed_off : basis_of 1 (gap ∷ []) (asked 1050000 []) (named first_stream 1) ≡ ask_set 1
+backed_off : basis_of (config 1) (gap ∷ []) (asked 1050000 []) (named first_stream 1) ≡ ask_set 1
 unfolding bits_set
 backed_off = refl
 
-ignored : basis_of 1 (gap ∷ asked 1050000 (ask_arm 1 1 400000 ∷ []) ∷ []) (asked 1249999 []) (named first_stream 1) ≡ None
+ignored : basis_of (config 1) (gap ∷ asked 1050000 (ask_arm 1 1 400000 ∷ []) ∷ []) (asked 1249999 []) (named first_stream 1) ≡ None
 unfolding bits_set
 ignored = refl
 
-backed_off_again : basis_of 1 (gap ∷ asked 1050000 (ask_arm 1 1 400000 ∷ []) ∷ []) (asked 1250000 []) (named first_stream 1) ≡ ask_set 2
+backed_off_again : basis_of (config 1) (gap ∷ asked 1050000 (ask_arm 1 1 400000 ∷ []) ∷ []) (asked 1250000 []) (named first_stream 1) ≡ ask_set 2
 unfolding bits_set
 backed_off_again = refl
 
@@ -54,7 +55,7 @@ one = drawop_of 1 0 []
 abbrev holding : List Entry
 holding = hears 2 1 (Data one) [] ∷ hears 2 5000000 (Request 1 (named first_stream 1) 0) (fix_arm 1 100000 ∷ []) ∷ []
 
-fix_armed : basis_of 2 (hears 2 1 (Data one) [] ∷ []) (hears 2 5000000 (Request 1 (named first_stream 1) 0) []) (named first_stream 1) ≡ fix_set
+fix_armed : basis_of (config 2) (hears 2 1 (Data one) [] ∷ []) (hears 2 5000000 (Request 1 (named first_stream 1) 0) []) (named first_stream 1) ≡ fix_set
 unfolding bits_set
 fix_armed = refl
 
@@ -67,11 +68,11 @@ repaired = holding ++ hears 2 5099999 (Repair 3 one) [] ∷ []
 cancelled : fix_due repaired (named first_stream 1) 5100000 ≡ false
 cancelled = refl
 
-still_held_off : basis_of 2 repaired (hears 2 5399998 (Request 1 (named first_stream 1) 0) []) (named first_stream 1) ≡ None
+still_held_off : basis_of (config 2) repaired (hears 2 5399998 (Request 1 (named first_stream 1) 0) []) (named first_stream 1) ≡ None
 unfolding bits_set
 still_held_off = refl
 
-held_off_no_more : basis_of 2 repaired (hears 2 5399999 (Request 1 (named first_stream 1) 0) []) (named first_stream 1) ≡ fix_set
+held_off_no_more : basis_of (config 2) repaired (hears 2 5399999 (Request 1 (named first_stream 1) 0) []) (named first_stream 1) ≡ fix_set
 unfolding bits_set
 held_off_no_more = refl
 
@@ -79,14 +80,24 @@ held_off_no_more = refl
 abbrev echoed : ℕ → Entry
 echoed now = hears 1 now (Session 2 5 false first_page [] (record { member = 1; t1 = 1000000; delay = 30000 } ∷ [])) []
 
-estimates : map (λ now. distance (echoed now ∷ []) 1 2) (1110000 ∷ 1030001 ∷ 1020000 ∷ 21030002 ∷ 999999 ∷ []) ≡ 40000 ∷ 1 ∷ 1 ∷ 10000000 ∷ 100000 ∷ []
+estimates : map (λ now. distance (config 1) (echoed now ∷ []) 2) (1110000 ∷ 1030001 ∷ 1020000 ∷ 21030002 ∷ 999999 ∷ []) ≡ 40000 ∷ 1 ∷ 1 ∷ 10000000 ∷ 100000 ∷ []
 estimates = refl
 
-first_counts : distance (echoed 1110000 ∷ echoed 1200000 ∷ []) 1 2 ≡ 40000
+first_counts : distance (config 1) (echoed 1110000 ∷ echoed 1200000 ∷ []) 2 ≡ 40000
 first_counts = refl
 
+-- a floor under distances: of what is near, of who was not heard, and of the timer that is set by it
+abbrev floored : Config
+floored = record (config 1) { least_distance = 250000 }
+
+floors : map (λ now. distance floored (echoed now ∷ []) 2) (1110000 ∷ 21030002 ∷ 999999 ∷ []) ≡ 250000 ∷ 10000000 ∷ 250000 ∷ []
+floors = refl
+
+floored_timer : basis_of floored [] gap (named first_stream 1) ≡ Some (record { kind = Ask; exponent = 0; distance = 250000 })
+floored_timer = refl
+
 -- a packed request for 1 and 3, with nothing known
-packed_heard : map (basis_of 1 [] (hears 1 1000000 (Request 2 (named first_stream 1) 2) [])) (names_up_to first_stream 4) ≡ ask_set 1 ∷ ask_set 0 ∷ ask_set 1 ∷ None ∷ []
+packed_heard : map (basis_of (config 1) [] (hears 1 1000000 (Request 2 (named first_stream 1) 2) [])) (names_up_to first_stream 4) ≡ ask_set 1 ∷ ask_set 0 ∷ ask_set 1 ∷ None ∷ []
 unfolding bits_set
 packed_heard = refl
 
@@ -94,7 +105,7 @@ packed_heard = refl
 abbrev holds_two : List Entry
 holds_two = hears 2 1 (Data (drawop_of 1 0 [])) [] ∷ hears 2 2 (Data (drawop_of 3 0 [])) (ask_arm 2 0 200000 ∷ []) ∷ []
 
-mixed : map (basis_of 2 holds_two (hears 2 10 (Request 1 (named first_stream 1) 3) [])) (names_up_to first_stream 3)
+mixed : map (basis_of (config 2) holds_two (hears 2 10 (Request 1 (named first_stream 1) 3) [])) (names_up_to first_stream 3)
     ≡ fix_set ∷ ask_set 1 ∷ fix_set ∷ []
 unfolding bits_set
 mixed = refl
@@ -117,5 +128,5 @@ gap_in_order : ascending name_below (map (λ a. a.name) gap.effects.arms) ≡ tr
 gap_in_order = refl
 
 -- in order of name, with none for a name that isn't missing
-gap_exact : map (λ n. option_map wait_basis (arm_of n gap.effects.arms)) (names_up_to first_stream 4) ≡ map (basis_of 1 [] gap) (names_up_to first_stream 4)
+gap_exact : map (λ n. option_map wait_basis (arm_of n gap.effects.arms)) (names_up_to first_stream 4) ≡ map (basis_of (config 1) [] gap) (names_up_to first_stream 4)
 gap_exact = refl

@@ -70,13 +70,13 @@ moments_right : AllByRecursion (λ (s : Step Entry). MomentRight (config 1) 0 s.
 moments_right = (lit≤ tt, (lit≤ tt, (lit≤ tt, (lit≤ tt, tt))))
 
 -- arms: the third drawop, heard first, makes the first two missing
-arms_0 : at_each (λ s. map (basis_of 0 s.before s.this) four_names) member_0 ≡ replicate 4 (None ∷ None ∷ None ∷ None ∷ [])
+arms_0 : at_each (λ s. map (basis_of (config 0) s.before s.this) four_names) member_0 ≡ replicate 4 (None ∷ None ∷ None ∷ None ∷ [])
 arms_0 = refl
 
-arms_1 : at_each (λ s. map (basis_of 1 s.before s.this) four_names) member_1 ≡ (ask_set 0 ∷ ask_set 0 ∷ None ∷ None ∷ []) ∷ replicate 13 (None ∷ None ∷ None ∷ None ∷ [])
+arms_1 : at_each (λ s. map (basis_of (config 1) s.before s.this) four_names) member_1 ≡ (ask_set 0 ∷ ask_set 0 ∷ None ∷ None ∷ []) ∷ replicate 13 (None ∷ None ∷ None ∷ None ∷ [])
 arms_1 = refl
 
-arms_are_these : at_each (λ s. map (λ n. option_map wait_basis (arm_of n s.this.effects.arms)) four_names) member_1 ≡ at_each (λ s. map (basis_of 1 s.before s.this) four_names) member_1
+arms_are_these : at_each (λ s. map (λ n. option_map wait_basis (arm_of n s.this.effects.arms)) four_names) member_1 ≡ at_each (λ s. map (basis_of (config 1) s.before s.this) four_names) member_1
 arms_are_these = refl
 
 waits_from : map (low_of (config 1)) (ask_arm 1 0 200000 ∷ ask_arm 2 0 200000 ∷ []) ≡ 200000 ∷ 200000 ∷ []

@@ -61,7 +61,7 @@ pub record IsMemberRun (c : Config) (made : ℕ) (es : List Entry) : Type 0 wher
 pub record RespondsInTime (c : Config) (es : List Entry) : Type 0 where
   pub asking : (n : FullName) → is_missing es n ≡ true → is_some (last_ask es n) ≡ true
   pub fixing : (before after : List Entry) (e : Entry) (n : FullName) → es ≡ before ++ e ∷ after
-      → is_held before n ≡ true → held_off c.me before n e.moment ≡ false → asks_for n e ≡ true
+      → is_held before n ≡ true → held_off c before n e.moment ≡ false → asks_for n e ≡ true
       → is_some (fix_running (before ++ e ∷ []) n) ≡ true
   pub asked : (before between after : List Entry) (e tick : Entry) (n : FullName) (a : Armed) → es ≡ before ++ e ∷ between ++ tick ∷ after
       → arm_in Ask n e ≡ Some a → ticked tick ≡ true → is_gone (state (before ++ e ∷ between)) ≡ false → a.set + high_of c a.arm ≤ tick.moment

@@ -27,7 +27,7 @@ use Rattle.srm_entries.specs.Bucket.{Going, bucket_calls}
 
 -- the settings of a member in a roster of so many, with a bucket of this depth
 abbrev pub in_roster : ℕ → ℕ → ℕ → Config
-in_roster me members depth = record { me = me; members = members; session = 1; rate = 8000; depth = depth; c1 = 2; c2 = 2; d1 = 1; d2 = 1 }
+in_roster me members depth = record { me = me; members = members; session = 1; rate = 8000; depth = depth; c1 = 2; c2 = 2; d1 = 1; d2 = 1; least_distance = 1 }
 
 -- of one of two members, of one of three, and of member 1 of four
 abbrev pub config : ℕ → Config

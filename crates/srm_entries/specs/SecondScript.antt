@@ -108,20 +108,20 @@ drawn_by_others : at_each (λ s. expected_drawop (trio 1) s.before s.this.moment
 drawn_by_others = refl
 
 -- arms: a request when the third drawop shows the gap, and again when it asks
-arms_0 : at_each (λ s. map (basis_of 0 s.before s.this) four_names) member_0 ≡ replicate 6 none_of_four
+arms_0 : at_each (λ s. map (basis_of (trio 0) s.before s.this) four_names) member_0 ≡ replicate 6 none_of_four
 arms_0 = refl
 
-arms_1 : at_each (λ s. map (basis_of 1 s.before s.this) four_names) member_1
+arms_1 : at_each (λ s. map (basis_of (trio 1) s.before s.this) four_names) member_1
     ≡ none_of_four ∷ (None ∷ ask_set 0 ∷ None ∷ None ∷ []) ∷ replicate 5 none_of_four ++ (None ∷ ask_set 1 ∷ None ∷ None ∷ []) ∷ replicate 5 none_of_four
 arms_1 = refl
 
 -- a repair when it hears the request for what it holds
-arms_2 : at_each (λ s. map (basis_of 2 s.before s.this) four_names) member_2 ≡ replicate 3 none_of_four ++ (None ∷ fix_set ∷ None ∷ None ∷ []) ∷ replicate 2 none_of_four
+arms_2 : at_each (λ s. map (basis_of (trio 2) s.before s.this) four_names) member_2 ≡ replicate 3 none_of_four ++ (None ∷ fix_set ∷ None ∷ None ∷ []) ∷ replicate 2 none_of_four
 unfolding bits_set
 arms_2 = refl
 
 arms_are_these : map (λ (e : Entry). map (λ n. option_map wait_basis (arm_of n e.effects.arms)) four_names) (member_1 ++ member_2)
-    ≡ at_each (λ s. map (basis_of 1 s.before s.this) four_names) member_1 ++ at_each (λ s. map (basis_of 2 s.before s.this) four_names) member_2
+    ≡ at_each (λ s. map (basis_of (trio 1) s.before s.this) four_names) member_1 ++ at_each (λ s. map (basis_of (trio 2) s.before s.this) four_names) member_2
 unfolding bits_set
 arms_are_these = refl
 
@@ -148,7 +148,7 @@ first_to_ask : first_asker member_2 (named first_stream 2) ≡ 1
 unfolding bits_set
 first_to_ask = refl
 
-held_off_until : map (held_off 2 member_2 (named first_stream 2)) (400099 ∷ 400100 ∷ []) ≡ true ∷ false ∷ []
+held_off_until : map (held_off (trio 2) member_2 (named first_stream 2)) (400099 ∷ 400100 ∷ []) ≡ true ∷ false ∷ []
 unfolding bits_set
 held_off_until = refl
 

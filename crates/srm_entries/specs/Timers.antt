@@ -61,12 +61,12 @@ abbrev pub first_asker : List Entry → FullName → ℕ
 first_asker es n = unwrap_or (first_of (asker n) es) n.stream.source
 
 -- a repair holds the name off for three distances to the member that asked first, as both were known at that entry
-abbrev pub holds_off : ℕ → FullName → ℕ → Step Entry → Bool
-holds_off me n now s =
-    repaired n s.this && nat_lt now (held_until s.this.moment (distance (s.before ++ s.this ∷ []) me (first_asker s.before n)))
+abbrev pub holds_off : Config → FullName → ℕ → Step Entry → Bool
+holds_off c n now s =
+    repaired n s.this && nat_lt now (held_until s.this.moment (distance c (s.before ++ s.this ∷ []) (first_asker s.before n)))
 
-abbrev pub held_off : ℕ → List Entry → FullName → ℕ → Bool
-held_off me es n now = list_any (holds_off me n now) (steps es)
+abbrev pub held_off : Config → List Entry → FullName → ℕ → Bool
+held_off c es n now = list_any (holds_off c n now) (steps es)
 
 -- the repair timer that runs: the last one set since a repair was heard or handed out
 abbrev pub fix_running : List Entry → FullName → Option Armed
@@ -83,19 +83,19 @@ ask_exponent before e n =
     then (if asks_for n e then backs_off e.moment (last_ask before n) else if among e.effects.asks n then option_map next_exponent (last_ask before n) else None)
     else if is_missing (before ++ e ∷ []) n then Some (if asks_for n e then 1 else 0) else None
 
-abbrev pub ask_basis_of : ℕ → List Entry → Entry → FullName → Option WaitBasis
-ask_basis_of me before e n =
-    option_map (λ i. ask_basis i (distance (before ++ e ∷ []) me n.stream.source)) (ask_exponent before e n)
+abbrev pub ask_basis_of : Config → List Entry → Entry → FullName → Option WaitBasis
+ask_basis_of c before e n =
+    option_map (λ i. ask_basis i (distance c (before ++ e ∷ []) n.stream.source)) (ask_exponent before e n)
 
 -- a request for a held name arms a repair, where none runs and the name isn't held off
-abbrev pub fix_basis_of : ℕ → List Entry → Entry → FullName → Option WaitBasis
-fix_basis_of me before e n =
-    if is_held before n && not (is_some (fix_running before n)) && not (held_off me before n e.moment)
-    then option_map (λ a. fix_basis (distance before me a)) (asker n e)
+abbrev pub fix_basis_of : Config → List Entry → Entry → FullName → Option WaitBasis
+fix_basis_of c before e n =
+    if is_held before n && not (is_some (fix_running before n)) && not (held_off c before n e.moment)
+    then option_map (λ a. fix_basis (distance c before a)) (asker n e)
     else None
 
-abbrev pub basis_of : ℕ → List Entry → Entry → FullName → Option WaitBasis
-basis_of me before e n = if is_held before n then fix_basis_of me before e n else ask_basis_of me before e n
+abbrev pub basis_of : Config → List Entry → Entry → FullName → Option WaitBasis
+basis_of c before e n = if is_held before n then fix_basis_of c before e n else ask_basis_of c before e n
 
 -- the ends of the range from which the wait of an arm is chosen
 abbrev pub low_of : Config → Arm → ℕ
@@ -114,7 +114,7 @@ high_of c a = times a.kind
 
 -- the entry holds these arms and no others, in order of name
 pub record ArmsRight (c : Config) (before : List Entry) (e : Entry) : Type 0 where
-  pub are : ArmsAre (basis_of c.me before e) e.effects.arms
+  pub are : ArmsAre (basis_of c before e) e.effects.arms
   pub waits : AllByRecursion (λ a. (low_of c a ≤ a.wait) × (a.wait ≤ high_of c a)) e.effects.arms
 
 -- A tick hands out exactly the requests and repairs whose timers ran out. No other entry hands out any.

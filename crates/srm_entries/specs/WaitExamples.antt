@@ -20,7 +20,7 @@ use Rattle.srm_entries.specs.Verdicts.{verdict_of}
 use Rattle.srm_entries.specs.Sessions.{session_message_due, session_due}
 use Rattle.srm_entries.specs.Packing.{packed}
 use Rattle.srm_entries.specs.Bucket.{classed, idle}
-use Rattle.srm_entries.specs.Sample.{first_stream, drawop_of, hears, ticks, ask_arm, fix_arm, ask_set, fix_set, at_each, let_go, gap, one_of_four, asked}
+use Rattle.srm_entries.specs.Sample.{first_stream, drawop_of, hears, ticks, ask_arm, fix_arm, ask_set, fix_set, at_each, let_go, gap, in_roster, one_of_four, asked}
 
 -- all words of a list go to the waits of these arms
 abbrev WaitsBy : Config → List Arm → List ℕ → Type 0
@@ -80,7 +80,7 @@ abbrev never_gained : List Entry
 never_gained = gap ∷ asks_at 1200000 1 400000 ∷ asks_at 1600000 2 800000 ∷ asks_at 2400000 3 1600000 ∷ asks_at 4000000 4 3200000 ∷ asks_at 7200000 5 6400000
     ∷ asks_at 13600000 6 12800000 ∷ asks_at 26400000 7 25600000 ∷ asks_at 52000000 8 51200000 ∷ asks_at 103200000 8 51200000 ∷ []
 
-exponents : at_each (λ s. basis_of 1 s.before s.this (named first_stream 1)) never_gained ≡ map ask_set (0 ∷ 1 ∷ 2 ∷ 3 ∷ 4 ∷ 5 ∷ 6 ∷ 7 ∷ 8 ∷ 8 ∷ [])
+exponents : at_each (λ s. basis_of one_of_four s.before s.this (named first_stream 1)) never_gained ≡ map ask_set (0 ∷ 1 ∷ 2 ∷ 3 ∷ 4 ∷ 5 ∷ 6 ∷ 7 ∷ 8 ∷ 8 ∷ [])
 exponents = refl
 
 due_at_each_end : at_each (λ s. ask_due s.before (named first_stream 1) s.this.moment) never_gained ≡ false ∷ replicate 9 true
@@ -107,7 +107,7 @@ asked_at_each_tick : at_each (λ s. ask_due s.before (named first_stream 1) s.th
 asked_at_each_tick = refl
 
 -- a request for what isn't known shows that it exists, and all before it
-request_for_the_third : map (basis_of 1 [] (hears 1 1000000 (Request 2 (named first_stream 3) 0) [])) (names_up_to first_stream 4) ≡ ask_set 0 ∷ ask_set 0 ∷ ask_set 1 ∷ None ∷ []
+request_for_the_third : map (basis_of one_of_four [] (hears 1 1000000 (Request 2 (named first_stream 3) 0) [])) (names_up_to first_stream 4) ≡ ask_set 0 ∷ ask_set 0 ∷ ask_set 1 ∷ None ∷ []
 unfolding bits_set
 request_for_the_third = refl
 
@@ -154,7 +154,7 @@ far_off = hears 1 1 (Data (drawop_of 65536 0 [])) []
 all_below_missing : map (λ k. is_missing (far_off ∷ []) (named first_stream k)) (0 ∷ 1 ∷ 65535 ∷ 65536 ∷ 65537 ∷ []) ≡ false ∷ true ∷ true ∷ false ∷ false ∷ []
 all_below_missing = refl
 
-all_below_armed : map (λ k. basis_of 1 [] far_off (named first_stream k)) (0 ∷ 1 ∷ 65535 ∷ 65536 ∷ 65537 ∷ []) ≡ None ∷ ask_set 0 ∷ ask_set 0 ∷ None ∷ None ∷ []
+all_below_armed : map (λ k. basis_of one_of_four [] far_off (named first_stream k)) (0 ∷ 1 ∷ 65535 ∷ 65536 ∷ 65537 ∷ []) ≡ None ∷ ask_set 0 ∷ ask_set 0 ∷ None ∷ None ∷ []
 all_below_armed = refl
 
 -- a repair is armed, cancelled by a third member's, and armed again once it isn't held off
@@ -170,7 +170,7 @@ cancelled = hears 2 1 (Data one) [] ∷ asked_of_2 5000000 (fix_arm 1 100000 ∷
 abbrev armed_again : List Entry
 armed_again = cancelled ++ asked_of_2 5399998 [] ∷ asked_of_2 5399999 (fix_arm 1 100000 ∷ []) ∷ []
 
-repairs_armed : at_each (λ s. basis_of 2 s.before s.this (named first_stream 1)) armed_again ≡ None ∷ fix_set ∷ None ∷ None ∷ fix_set ∷ []
+repairs_armed : at_each (λ s. basis_of (in_roster 2 4 4204) s.before s.this (named first_stream 1)) armed_again ≡ None ∷ fix_set ∷ None ∷ None ∷ fix_set ∷ []
 unfolding bits_set
 repairs_armed = refl
 
@@ -186,5 +186,5 @@ unfolding bits_set
 first_askers = refl
 
 -- nothing holds off what one drew oneself before another asks: the first asker is then oneself, at no distance
-own_is_not_held_off : held_off 0 (hears 0 10 (Repair 2 one) [] ∷ []) (named first_stream 1) 10 ≡ false
+own_is_not_held_off : held_off (in_roster 0 4 4204) (hears 0 10 (Repair 2 one) [] ∷ []) (named first_stream 1) 10 ≡ false
 own_is_not_held_off = refl

@@ -1,15 +1,15 @@
 //! What is fixed for a session.
 
 ghost use Rattle.std.specs.Prelude.{◌≡◌, ◌≤◌, ◌↔◌, IfSome, IsSome};
-ghost use Rattle.srm_names.specs.declared.limits.TheConstants.{MEMBERS};
+ghost use Rattle.srm_names.specs.declared.limits.TheConstants.{MEMBERS, LONGEST_DISTANCE};
+ghost use Rattle.srm_distance.specs.declared.limits.TheConstants.{SHORTEST_DISTANCE};
 ghost use Rattle.srm_bucket.specs.declared.limits.TheConstants.{LEAST_RATE, GREATEST_RATE, LEAST_DEPTH, GREATEST_DEPTH};
 ghost use Rattle.srm_timers.specs.declared.limits.TheConstants.{GREATEST_TIMER_SETTING};
 ghost use Rattle.srm_entries.specs.Configs.{IsConfig, config_with};
 
 use crate::settings::Settings;
-use srm_bucket::{GREATEST_DEPTH, GREATEST_RATE, LEAST_DEPTH, LEAST_RATE};
-use srm_names::{MEMBERS, Member};
-use srm_timers::GREATEST_TIMER_SETTING;
+use srm_distance::SHORTEST_DISTANCE;
+use srm_names::{LONGEST_DISTANCE, MEMBERS, Member};
 use std::marker::Model;
 
 /// The settings of one member, fixed for the session. Contracts see them as a record.
@@ -24,6 +24,7 @@ pub struct Config {
     c2: u8,
     d1: u8,
     d2: u8,
+    least_distance: u64,
 }
 
 impl Model for Config {
@@ -31,18 +32,18 @@ impl Model for Config {
 
     ghost Value = { AConfig };
 
-    ghost view = { λ c. record { me = c.me; members = c.members; session = c.session; rate = c.rate; depth = c.depth; c1 = c.c1; c2 = c.c2; d1 = c.d1; d2 = c.d2 } };
+    ghost view = { λ c. record { me = c.me; members = c.members; session = c.session; rate = c.rate; depth = c.depth; c1 = c.c1; c2 = c.c2; d1 = c.d1; d2 = c.d2; least_distance = c.least_distance } };
 
-    ghost invariant = { λ c. IsConfig (record { me = c.me; members = c.members; session = c.session; rate = c.rate; depth = c.depth; c1 = c.c1; c2 = c.c2; d1 = c.d1; d2 = c.d2 }) };
+    ghost invariant = { λ c. IsConfig (record { me = c.me; members = c.members; session = c.session; rate = c.rate; depth = c.depth; c1 = c.c1; c2 = c.c2; d1 = c.d1; d2 = c.d2; least_distance = c.least_distance }) };
 
-    ghost inverse = { λ c. record { me = c.me; members = c.members; session = c.session; rate = c.rate; depth = c.depth; c1 = c.c1; c2 = c.c2; d1 = c.d1; d2 = c.d2 } };
+    ghost inverse = { λ c. record { me = c.me; members = c.members; session = c.session; rate = c.rate; depth = c.depth; c1 = c.c1; c2 = c.c2; d1 = c.d1; d2 = c.d2; least_distance = c.least_distance } };
 }
 
 impl Config {
     /// The settings of member `me` in a roster of the members below `members`, 1 to 32: the session's number, the rate of
     /// what it sends in bytes a second, 1 to 100,000,000, the depth of its bucket in bytes, 1,051 to 1,000,000, and the
     /// four timer settings, 0 to 16 each. A request waits from `c1` to `c1 + c2` distances, a repair from `d1` to
-    /// `d1 + d2`.
+    /// `d1 + d2`. No floor stands under distances: [`Config::with`] takes one.
     ///
     /// None where one of them is out of its range, or `me` isn't in the roster.
     pub fn new(
@@ -56,55 +57,45 @@ impl Config {
         d1: u8,
         d2: u8,
     ) -> Option<Config>
-        ensures known { IsSome result ↔ IsConfig (record { me = me; members = members; session = session; rate = rate; depth = depth; c1 = c1; c2 = c2; d1 = d1; d2 = d2 }) }
-        ensures value { IfSome result (λ config. config ≡ record { me = me; members = members; session = session; rate = rate; depth = depth; c1 = c1; c2 = c2; d1 = d1; d2 = d2 }) }
+        ensures known { IsSome result ↔ IsConfig (record { me = me; members = members; session = session; rate = rate; depth = depth; c1 = c1; c2 = c2; d1 = d1; d2 = d2; least_distance = SHORTEST_DISTANCE }) }
+        ensures value { IfSome result (λ config. config ≡ record { me = me; members = members; session = session; rate = rate; depth = depth; c1 = c1; c2 = c2; d1 = d1; d2 = d2; least_distance = SHORTEST_DISTANCE }) }
     {
-        if me.number() < members
-            && members <= MEMBERS
-            && LEAST_RATE <= rate
-            && rate <= GREATEST_RATE
-            && LEAST_DEPTH <= depth
-            && depth <= GREATEST_DEPTH
-            && c1 <= GREATEST_TIMER_SETTING
-            && c2 <= GREATEST_TIMER_SETTING
-            && d1 <= GREATEST_TIMER_SETTING
-            && d2 <= GREATEST_TIMER_SETTING
-        {
-            Some(Config {
-                me,
-                members,
-                session,
-                rate,
-                depth,
-                c1,
-                c2,
-                d1,
-                d2,
-            })
-        } else {
-            None
-        }
+        let settings = Settings {
+            rate,
+            depth,
+            c1,
+            c2,
+            d1,
+            d2,
+            least_distance: SHORTEST_DISTANCE,
+        };
+        Config::with(me, members, session, settings)
     }
 
     /// The settings of member `me` in a roster of the members below `members`, 1 to 32, in the session with this number, and for
     /// all else these by name. With [`Settings::default`] this is what most members need.
     ///
-    /// None where [`Config::new`] has none: where a setting is out of its range, or `me` isn't in the roster.
+    /// None where a setting is out of its range, or `me` isn't in the roster.
     pub fn with(me: Member, members: u8, session: u32, settings: Settings) -> Option<Config>
         ensures known { IsSome result ↔ IsConfig (config_with me members session settings) }
         ensures value { IfSome result (λ config. config ≡ config_with me members session settings) }
     {
-        Config::new(
-            me,
-            members,
-            session,
-            settings.rate,
-            settings.depth,
-            settings.c1,
-            settings.c2,
-            settings.d1,
-            settings.d2,
-        )
+        if me.number() < members && members <= MEMBERS && settings.are_in_range() {
+            Some(Config {
+                me,
+                members,
+                session,
+                rate: settings.rate,
+                depth: settings.depth,
+                c1: settings.c1,
+                c2: settings.c2,
+                d1: settings.d1,
+                d2: settings.d2,
+                least_distance: settings.least_distance,
+            })
+        } else {
+            None
+        }
     }
 
     /// The member that these settings are for.
@@ -177,5 +168,14 @@ impl Config {
         ensures range { result ≤ GREATEST_TIMER_SETTING }
     {
         self.d2
+    }
+
+    /// A distance to another member counts as at least so many microseconds: from 1, which is no floor, to 10,000,000.
+    pub fn least_distance(&self) -> u64
+        ensures value { result ≡ self.now.least_distance }
+        ensures shortest { SHORTEST_DISTANCE ≤ result }
+        ensures longest { result ≤ LONGEST_DISTANCE }
+    {
+        self.least_distance
     }
 }

@@ -1,9 +1,13 @@
 //! The settings that most members leave as they are.
 
-ghost use Rattle.std.specs.Prelude.{◌≡◌};
-ghost use Rattle.srm_entries.specs.Configs.{default_settings};
+ghost use Rattle.std.specs.Prelude.{◌≡◌, ◌↔◌, true};
+ghost use Rattle.srm_entries.specs.Configs.{AreInRange, default_settings};
 
 use crate::limits::{DEFAULT_DEPTH, DEFAULT_RATE};
+use srm_bucket::{GREATEST_DEPTH, GREATEST_RATE, LEAST_DEPTH, LEAST_RATE};
+use srm_distance::SHORTEST_DISTANCE;
+use srm_names::LONGEST_DISTANCE;
+use srm_timers::GREATEST_TIMER_SETTING;
 
 /// What a member may send and how long it waits, by name. Most members take [`Settings::default`], or all but one of it, as in
 /// `Settings { rate: 100_000, ..Settings::default() }`.
@@ -21,6 +25,29 @@ pub struct Settings {
     pub d1: u8,
     /// And so many more at most, 0 to 16; by default 1.
     pub d2: u8,
+    /// A distance to another member counts as at least so many microseconds, 1 to 10,000,000; by default 1, which is no floor.
+    ///
+    /// Timers wait for a multiple of a distance. Where members are a few microseconds apart, one that misses much would ask each
+    /// millisecond, and its own strokes would wait behind its requests; 5,000 ends that, and delays a repair by a few milliseconds.
+    pub least_distance: u64,
+}
+
+impl Settings {
+    /// Whether each setting is in its range.
+    pub(crate) fn are_in_range(&self) -> bool
+        ensures { (result ≡ true) ↔ AreInRange self.now }
+    {
+        LEAST_RATE <= self.rate
+            && self.rate <= GREATEST_RATE
+            && LEAST_DEPTH <= self.depth
+            && self.depth <= GREATEST_DEPTH
+            && self.c1 <= GREATEST_TIMER_SETTING
+            && self.c2 <= GREATEST_TIMER_SETTING
+            && self.d1 <= GREATEST_TIMER_SETTING
+            && self.d2 <= GREATEST_TIMER_SETTING
+            && SHORTEST_DISTANCE <= self.least_distance
+            && self.least_distance <= LONGEST_DISTANCE
+    }
 }
 
 impl Default for Settings {
@@ -34,6 +61,7 @@ impl Default for Settings {
             c2: 2,
             d1: 1,
             d2: 1,
+            least_distance: SHORTEST_DISTANCE,
         }
     }
 }

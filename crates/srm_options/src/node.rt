@@ -173,6 +173,7 @@ fn settings_in<'a>(matches: &ArgMatches<'a>) -> Result<Settings, Mistake<'a>> {
         c2,
         d1,
         d2,
+        ..usual
     })
 }
 

@@ -1,9 +1,10 @@
 //! An agent that keeps its journal.
 
 ghost use Rattle.std.specs.Prelude.{◌≡◌, ◌≤◌, ◌<◌, [], map, Some, None, IfOk};
-ghost use Rattle.srm_names.specs.declared.limits.TheConstants.{LATEST_MOMENT, PAGES};
+ghost use Rattle.srm_names.specs.declared.limits.TheConstants.{LATEST_MOMENT, LONGEST_DISTANCE, PAGES};
 ghost use Rattle.srm_agent.specs.Noting.{IsDrawnName, IsTicked};
 ghost use Rattle.srm_entries.specs.Promises.{page_to_come, IsNextDue};
+ghost use Rattle.srm_entries.specs.Distances.{distance};
 ghost use Rattle.srm_entries.specs.Entries.{state};
 ghost use Rattle.srm_entries.specs.Admitting.{AdmitsDraw, AdmitsDrawFrom};
 ghost use Rattle.srm_world.specs.Claims.{IsLawfulJournal};
@@ -16,7 +17,7 @@ use crate::past::Past;
 use crate::start::Start;
 use bytes::Bytes;
 use srm_agent::{Agent, AgentFault, AgentState, Config, Entry, Heard, Input, Noted, Ticked};
-use srm_names::{Name, Page, PageMsg};
+use srm_names::{Member, Name, Page, PageMsg};
 use srm_timers::Words;
 use std::alloc::{AllocError, Global};
 use std::marker::Model;
@@ -106,6 +107,14 @@ impl<W: Words + Drop, P: Past<Entry> + Drop> Recorder<W, P> {
         ensures { IsNextDue self.now.journal.start.config self.now.journal.start.made self.now.journal.entries result }
     {
         self.agent.next_due()
+    }
+
+    /// [`Agent::distance`]. It has no entry.
+    pub fn distance(&self, member: Member) -> u64
+        ensures value { result ≡ distance self.now.journal.start.config self.now.journal.entries member }
+        ensures longest { result ≤ LONGEST_DISTANCE }
+    {
+        self.agent.distance(member)
     }
 
     /// [`Agent::state`]. It has no entry.

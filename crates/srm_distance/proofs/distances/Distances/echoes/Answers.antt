@@ -26,6 +26,6 @@ loop-number-preserved c =
     ]
 
 pub returns-clause-value : goal.returns-clause-value
-returns-clause-value c = λ me calls fits.
+returns-clause-value c = λ least me calls fits.
     let whole : c.loop-number.number ≡ 32 = omega arith in
-    c.loop-number.invariant.value me calls fits ∙ ap (λ k. filter_map (echo_to calls me c.args.now) (count_up 0 k)) whole
+    c.loop-number.invariant.value least me calls fits ∙ ap (λ k. filter_map (echo_to calls me c.args.now) (count_up 0 k)) whole
