@@ -55,6 +55,8 @@ impl<T: Drop> Past<T> for Forgotten<T> {
 
     ghost has_room = { λ _. Unit {0} };
 
+    ghost is_refused = { λ _. ⊥ };
+
     fn empty(_alloc: Global) -> Forgotten<T> {
         Forgotten::new()
     }
