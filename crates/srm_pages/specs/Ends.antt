@@ -1,5 +1,5 @@
 -- What contracts see of the ends of lanes and of the well.
-use Rattle.std.specs.Prelude.{◌≡◌, ℕ, ◌-◌, Bool, false, List, [], ◌∷◌, ◌++◌, length, slice_get, Some, Result, Ok, Err}
+use Rattle.std.specs.Prelude.{◌≡◌, ℕ, ◌-◌, nat_lt, Bool, true, false, List, [], ◌∷◌, ◌++◌, length, slice_get, Option, Some, None, Result, Ok, Err}
 use Rattle.std.specs.List.{All}
 use Rattle.atomic_table.specs.Seated.{TableId}
 use Rattle.atomic_table.specs.declared.badge.Badge.{Badge}
@@ -7,6 +7,7 @@ use Rattle.crossbeam_channel.specs.declared.flavors.array.Key.{Key}
 use Rattle.crossbeam_channel.specs.Claims.{Pass}
 use Rattle.srm_names.specs.declared.limits.TheConstants.{LANE_MESSAGES, PAGES, WELL_STROKES}
 use Rattle.srm_names.specs.declared.page_msg.PageMsg.{PageMsg}
+use Rattle.srm_names.specs.PageFeeds.{is_close}
 use Rattle.srm_pages.specs.declared.lane.LaneView.{LaneView}
 use Rattle.srm_pages.specs.declared.stroke.Stroke.{Stroke}
 use Rattle.srm_pages.specs.declared.tap.Ended.{Ended}
@@ -35,9 +36,11 @@ pub record FeedView : Type 0 where
 abbrev pub credit_of : FeedView → ℕ
 credit_of f = LANE_MESSAGES - (length f.put - f.seen)
 
--- what the tap has taken, what its seat at the board has in each register, the slot, the lane and the board
+-- what the tap has taken, whether its lane is known to be at its end, what its seat at the board has in each register, the slot, the lane and the
+-- board
 pub record TapView : Type 0 where
   pub taken : List PageMsg
+  pub closed : Bool
   pub seat : List ℕ
   pub slot : ℕ
   pub lane : LaneId
@@ -52,7 +55,7 @@ abbrev pub IsNewFeed : TableId → ℕ → FeedView → Type 0
 IsNewFeed board slot f = (f.put ≡ []) × (f.seen ≡ 0) × (f.disconnected ≡ false) × (f.slot ≡ slot) × (f.board ≡ board) × (f.lane.capacity ≡ LANE_MESSAGES)
 
 abbrev pub IsNewTap : TableId → ℕ → TapView → Type 0
-IsNewTap board slot t = (t.taken ≡ []) × (t.slot ≡ slot) × (t.board ≡ board) × CountsTaken t.seat slot []
+IsNewTap board slot t = (t.taken ≡ []) × (t.closed ≡ false) × (t.slot ≡ slot) × (t.board ≡ board) × CountsTaken t.seat slot []
 
 -- two new ends of the lane of a slot
 abbrev pub AreNewEnds : TableId → ℕ → FeedView → TapView → Type 0
@@ -68,21 +71,38 @@ AreLanes asked feeds taps viewers =
     (board : TableId) × (length feeds ≡ PAGES) × (length taps ≡ PAGES) × AreNewLanes board feeds taps
     × (length viewers ≡ asked) × All (λ v. v ≡ new_lookout board) viewers
 
--- at Ok the message stands behind those taken, at Err nothing changed, and the lane is at its end
+-- At Ok the message stands behind those taken, and if it is a close, the lane is known to be at its end. At Err it is known too, and nothing else
+-- changed.
 abbrev pub TookOrEnded : Result PageMsg Ended → TapView → TapView → Type 0
-TookOrEnded (Ok x) old new = new ≡ record old { taken = old.taken ++ x ∷ []; seat = new.seat }
-TookOrEnded (Err e) old new = (e ≡ Closed) × (new ≡ old)
+TookOrEnded (Ok x) old new = new ≡ record old { taken = old.taken ++ x ∷ []; closed = is_close x; seat = new.seat }
+TookOrEnded (Err e) old new = (e ≡ Closed) × (new ≡ record old { closed = true })
 
--- what the well's reader received, how often it found none, which well it is, and how many strokes it holds at most
+-- what the well's reader received, how often it found none, how often it had when it last looked at the pens and all said that they are done, which
+-- well it is, and how many strokes it holds at most
 pub record WellView : Type 0 where
   pub received : List Stroke
   pub nones : ℕ
+  pub done_at : Option ℕ
   pub well : TableId
   pub capacity : ℕ
 
 -- the well with nothing received
 abbrev pub new_well : TableId → WellView
-new_well well = record { received = []; nones = 0; well = well; capacity = WELL_STROKES }
+new_well well = record { received = []; nones = 0; done_at = None; well = well; capacity = WELL_STROKES }
+
+-- what a look at the pens notes: how often none had been found, where all said that they are done
+abbrev pub looked_at : Bool → ℕ → Option ℕ
+looked_at true nones = Some nones
+looked_at false nones = None
+
+-- none was found since so often
+abbrev pub found_none_since : Option ℕ → ℕ → Bool
+found_none_since None nones = false
+found_none_since (Some before) nones = nat_lt before nones
+
+-- all pens said that they are done, and none was found after that look: nothing more comes
+abbrev pub is_drained : WellView → Bool
+is_drained w = found_none_since w.done_at w.nones
 
 -- the pen's number among all, what it sent, and into which well
 pub record PenView : Type 0 where

@@ -1,6 +1,6 @@
 -- The definitions at worked examples.
-use Rattle.std.specs.Prelude.{◌≡◌, ℕ, false, List, [], ◌∷◌, ◌++◌, length, replicate, slice_index, Ok, Err, refl}
-use Rattle.std.proofs.Common.{lit≤}
+use Rattle.std.specs.Prelude.{◌≡◌, ℕ, Bool, true, false, List, [], ◌∷◌, ◌++◌, length, replicate, slice_index, Ok, Err, refl}
+use Rattle.std.proofs.Common.{lit≤, ap}
 use Rattle.std.proofs.Math.Nat.{not-suc-le_self}
 use Rattle.atomic_table.specs.Seated.{TableId}
 use Rattle.srm_names.specs.declared.drawop.Drawop.{Drawop}
@@ -12,7 +12,7 @@ use Rattle.srm_pages.specs.declared.stroke.Stroke.{Stroke}
 use Rattle.srm_pages.specs.declared.tap.Ended.TheVariants.{Closed, Broken}
 use Rattle.srm_pages.specs.declared.board.TheConstants.{BOARD_REGISTERS}
 use Rattle.srm_pages.specs.Board.{count_register, number_register, drawops_posted, CountsPosted}
-use Rattle.srm_pages.specs.Ends.{FeedView, TapView, LaneId, TookOrEnded, credit_of}
+use Rattle.srm_pages.specs.Ends.{FeedView, TapView, LaneId, TookOrEnded, credit_of, looked_at, found_none_since}
 use Rattle.srm_pages.specs.Ink.{strokes_of, SentIs}
 
 -- The board has a register for each slot's count and one for each slot and member.
@@ -143,22 +143,36 @@ module _ (lane : LaneId) (board : TableId) where
   more_seen : credit_of (feed 3 5) ≡ 64
   more_seen = refl
 
--- A take adds its message and may raise registers of its seat. At the end, which is always Closed, nothing changes.
+-- A take adds its message and may raise registers of its seat. At the end, which is always Closed, nothing changes but that it is known.
 module _ (lane : LaneId) (board : TableId) where
-  abbrev tap : List PageMsg → List ℕ → TapView
-  tap taken words = record { taken = taken; seat = words; slot = 0; lane = lane; board = board }
+  abbrev tap : List PageMsg → Bool → List ℕ → TapView
+  tap taken closed words = record { taken = taken; closed = closed; seat = words; slot = 0; lane = lane; board = board }
 
-  takes_close : TookOrEnded (Ok Close) (tap (two_drawn 1) seat) (tap (two_drawn 1 ++ Close ∷ []) (4 ∷ 0 ∷ 2 ∷ replicate 261 0))
+  takes_close : TookOrEnded (Ok Close) (tap (two_drawn 1) false seat) (tap (two_drawn 1 ++ Close ∷ []) true (4 ∷ 0 ∷ 2 ∷ replicate 261 0))
   takes_close = refl
 
-  ends : TookOrEnded (Err Closed) (tap (two_drawn 1) seat) (tap (two_drawn 1) seat)
+  ends : TookOrEnded (Err Closed) (tap (two_drawn 1) false seat) (tap (two_drawn 1) true seat)
   ends = (refl, refl)
 
-  ended_changes_nothing : (old new : TapView) → TookOrEnded (Err Closed) old new → new ≡ old
-  ended_changes_nothing old new end = end.1
+  -- an end that isn't known behind it is none
+  not_forgotten : TookOrEnded (Err Closed) (tap (two_drawn 1) false seat) (tap (two_drawn 1) false seat) → ⊥
+  not_forgotten end = let known : false ≡ true = ap (λ (t : TapView). t.closed) end.1 in cc
+
+  ended_takes_nothing : (old new : TapView) → TookOrEnded (Err Closed) old new → new.taken ≡ old.taken
+  ended_takes_nothing old new end = ap (λ (t : TapView). t.taken) end.1
 
   never_broken : (old new : TapView) → TookOrEnded (Err Broken) old new → Broken ≡ Closed
   never_broken old new end = end.0
+
+-- The pens said that they are done when two nones had been found: a third one says that the well is empty for good.
+done_before_the_third : found_none_since (looked_at true 2) 3 ≡ true
+done_before_the_third = refl
+
+not_done_by_a_none_before_the_look : found_none_since (looked_at true 3) 3 ≡ false
+not_done_by_a_none_before_the_look = refl
+
+not_done_where_a_pen_goes_on : found_none_since (looked_at false 2) 3 ≡ false
+not_done_where_a_pen_goes_on = refl
 
 -- The part of a pen keeps its order.
 abbrev stroke : ℕ → ℕ → Stroke

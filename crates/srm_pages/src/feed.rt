@@ -70,35 +70,31 @@ impl Feed {
     }
 
     /// Puts a message, which is to continue the page feed. It comes back if the tap is gone, and the feed is then marked as disconnected.
+    /// So it does where as many messages were put as a `u64` counts.
     pub fn put<R: Wait>(&mut self, rt: &R, msg: PageMsg) -> Result<(), PageMsg>
         requires credit { 0 < credit_of self.old }
         requires feed { is_page_feed (self.old.put ++ msg ∷ []) ≡ true }
         ensures ok { OnOk result (self.new ≡ record self.old { put = self.old.put ++ msg ∷ [] }) }
         ensures err { IfErr result (λ back. (back ≡ msg) × (self.new ≡ record self.old { disconnected = true })) }
     {
-        let count = next_count(rt, self.count);
+        let Some(count) = self.count.checked_add(1) else {
+            return Err(self.disconnect(msg));
+        };
         match self.sender.send_as::<Putting, R>(rt, &mut self.pass, msg) {
             Ok(()) => {
                 self.count = count;
                 Ok(())
             }
-            Err(failed) => {
-                self.disconnected = true;
-                Err(failed.into_inner())
-            }
+            Err(failed) => Err(self.disconnect(failed.into_inner())),
         }
     }
-}
 
-// The count after one more. It waits for ever where there is none: nothing happens so often.
-pub(crate) fn next_count<R: Wait>(rt: &R, count: u64) -> u64
-    ensures { result ≡ count + 1 }
-{
-    match count.checked_add(1) {
-        Some(next) => next,
-        None => {
-            for _ in rt.forever() {}
-            unreachable!()
-        }
+    // Marks the feed as disconnected. The message that comes back.
+    fn disconnect(&mut self, back: PageMsg) -> PageMsg
+        ensures back { result ≡ back }
+        ensures marked { self.new ≡ record self.old { disconnected = true } }
+    {
+        self.disconnected = true;
+        back
     }
 }

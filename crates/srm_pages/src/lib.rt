@@ -21,6 +21,7 @@
 #![tactic(auto)]
 
 mod board;
+mod closing;
 mod dealer;
 pub mod ends;
 mod feed;
@@ -36,6 +37,7 @@ mod stroke;
 mod tap;
 mod viewer;
 
+pub use closing::is_close;
 pub use feed::Feed;
 pub use laws::{board_keeps_its_rule, lane_keeps_its_rule, well_keeps_its_rule};
 pub use making::{lanes, well};

@@ -1,11 +1,11 @@
 //! The tap's end of a lane.
 
-ghost use Rattle.std.specs.Prelude.{◌≡◌, true};
+ghost use Rattle.std.specs.Prelude.{◌≡◌, true, IsErr};
 ghost use Rattle.srm_names.specs.PageFeeds.{is_page_feed};
 ghost use Rattle.srm_pages.specs.Ends.{TookOrEnded};
 ghost use Rattle.srm_pages.specs.Seats.{CountsTaken};
 
-use crate::feed::next_count;
+use crate::closing::is_close;
 use crate::lane::{LanePass, Receiver, Taking};
 use crate::marker::Marker;
 use srm_names::PageMsg;
@@ -47,6 +47,7 @@ impl Model for Tap {
 
     ghost view = { λ t. record {
       taken = (knows t.pass).taken;
+      closed = t.closed;
       seat = t.marker.seat;
       slot = t.marker.slot;
       lane = lane_of t.pass (ruled_capacity (receives_on t.receiver));
@@ -64,26 +65,35 @@ impl Tap {
         self.marker.slot()
     }
 
-    /// Takes the next message, and then stores at the board how many were taken, and for a drawop its number. Ended changes nothing.
+    /// Takes the next message, and then stores at the board how many were taken, and for a drawop its number. After `Close` was taken or a take
+    /// ended, each one ends, and nothing else changes.
     #[tactic(auto, using(crate::proofs::Taps::counts_order, crate::proofs::Taps::next_shown))]
     pub fn take<R: Wait>(&mut self, rt: &R) -> Result<PageMsg, Ended>
         ensures taken { TookOrEnded result self.old self.new }
+        ensures closed { self.old.closed ≡ true → IsErr result }
         ensures feed { is_page_feed self.new.taken ≡ true }
         ensures counted { CountsTaken self.new.seat self.new.slot self.new.taken }
     {
         if self.closed {
             return Err(Ended::Closed);
         }
-        let count = next_count(rt, self.count);
+        // No feed puts more than a u64 counts.
+        let Some(count) = self.count.checked_add(1) else {
+            self.closed = true;
+            return Err(Ended::Closed);
+        };
         match self.receiver.recv_as::<Taking, R>(rt, &mut self.pass) {
             Ok(msg) => {
                 self.marker.count(&self.pass, count);
                 self.marker.post(&msg);
                 self.count = count;
-                self.closed = matches!(msg, PageMsg::Close);
+                self.closed = is_close(&msg);
                 Ok(msg)
             }
-            Err(_) => Err(Ended::Closed),
+            Err(_) => {
+                self.closed = true;
+                Err(Ended::Closed)
+            }
         }
     }
 }

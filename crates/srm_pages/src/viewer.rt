@@ -24,8 +24,9 @@ impl Model for Viewer {
 }
 
 impl Viewer {
-    /// The number of the last drawop of the member that was taken in the slot, 0 where there is none. It never falls. It neither
-    /// waits nor takes memory.
+    /// The number of the last drawop of the member that the slot's tap posted, as far as this viewer sees, 0 before the first. It never falls,
+    /// and neither waits nor takes memory. No clause of this call ties it to the tap, whose seat stands in another thread: that nobody sees
+    /// more than the tap posted is the law [`board_keeps_its_rule`](crate::board_keeps_its_rule).
     pub fn look(&mut self, slot: u8, member: Member) -> u32
         requires { slot < PAGES }
         ensures seen { self.new ≡ record self.old { seen = slice_set self.old.seen (number_register slot member) result } }

@@ -2,10 +2,10 @@
 
 ghost use Rattle.std.specs.Prelude.{◌≡◌, ◌+◌, [], ◌∷◌, ◌++◌, true, List, MatchOption};
 ghost use Rattle.srm_pages.specs.declared.stroke.Stroke.{Stroke};
+ghost use Rattle.srm_pages.specs.Ends.{is_drained, looked_at};
 ghost use Rattle.srm_pages.specs.Ink.{KnowsPart, SentIs};
 ghost use Rattle.crossbeam_queue.specs.Passes.{view as knows, IsPassOf};
 
-use crate::feed::next_count;
 use crate::ink::{Beside, Ink, InkPass, PartOfPen, Reading, StrokeQueue};
 use crate::pen::Inked;
 use crate::stroke::Stroke;
@@ -14,12 +14,14 @@ use std::marker::Model;
 use std::sync::atomic::Ordering;
 use std::sync::{Arc, Wait};
 
-/// The reader's end of the well, with the pass that has what was received. Contracts see that list, and how often it found none.
+/// The reader's end of the well, with the pass that has what was received. Contracts see that list, how often it found none, and how often it had when
+/// its pens last said that they are done.
 #[derive(Drop)]
 pub struct Well {
     pub(crate) ink: Arc<Ink, Global>,
     pub(crate) pass: InkPass,
     pub(crate) nones: u64,
+    pub(crate) done_at: Option<u64>,
 }
 
 impl Model for Well {
@@ -31,7 +33,7 @@ impl Model for Well {
     ghost use Rattle.std.specs.Arc.{arc_value};
     ghost use Rattle.crossbeam_queue.specs.Passes.{view as knows, ruled_capacity, IsPassOf};
 
-    ghost view = { λ w. record { received = (knows w.pass).received; nones = w.nones; well = w.pass.table_id; capacity = ruled_capacity (arc_value w.ink).queue } };
+    ghost view = { λ w. record { received = (knows w.pass).received; nones = w.nones; done_at = w.done_at; well = w.pass.table_id; capacity = ruled_capacity (arc_value w.ink).queue } };
 
     ghost invariant = { λ w. IsPassOf (arc_value w.ink).queue w.pass × ((knows w.pass).reads ≡ true) };
 }
@@ -66,9 +68,37 @@ impl Well {
         Inked { pass, number }
     }
 
-    /// Whether all pens said that they are done. A plain count, on which no contract rests.
-    pub fn is_done(&self) -> bool {
-        self.ink.open.load(Ordering::SeqCst) == 0
+    /// Whether all pens said that they are done. That they said so is a plain count, on which no contract rests; that the well was looked at is
+    /// noted, so that a caller can tell whether [`next`](Well::next) found none after it: a pen sends nothing once it is done.
+    pub fn is_done(&mut self) -> bool
+        ensures { self.new ≡ record self.old { done_at = looked_at result self.old.nones } }
+    {
+        let done = self.ink.open.load(Ordering::SeqCst) == 0;
+        self.done_at = if done { Some(self.nones) } else { None };
+        done
+    }
+
+    /// Whether none was found after the last look at the pens, by which all were done: then nothing more comes.
+    pub fn is_drained(&self) -> bool
+        ensures { result ≡ is_drained self.now }
+    {
+        match self.done_at {
+            Some(before) => before < self.nones,
+            None => false,
+        }
+    }
+}
+
+// The count after one more None. It waits for ever where there is none: nobody asks so often.
+fn next_count<R: Wait>(rt: &R, count: u64) -> u64
+    ensures { result ≡ count + 1 }
+{
+    match count.checked_add(1) {
+        Some(next) => next,
+        None => {
+            for _ in rt.forever() {}
+            unreachable!()
+        }
     }
 }
 

@@ -34,6 +34,7 @@ pub fn well(alloc: Global) -> Result<(ends::Well, Vec<Pen>), AllocError>
             ink,
             pass,
             nones: 0,
+            done_at: None,
         },
         pens,
     ))

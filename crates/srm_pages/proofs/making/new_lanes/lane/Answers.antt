@@ -37,6 +37,6 @@ returns c =
         ap (λ (s : LookoutView). s.board) sight,
         e.1,
       ),
-      (ap (λ (v : LaneView). v.taken) a.rule.1 ∙ ap (λ (v : LaneView). v.taken) e.3, refl, refl, subst (λ (l : List ℕ). CountsTaken l c.args.marker.slot []) (sym c.requires.0) (record { all = zeros_at _; of_member = λ member small. zeros_at _ })),
+      (ap (λ (v : LaneView). v.taken) a.rule.1 ∙ ap (λ (v : LaneView). v.taken) e.3, refl, refl, refl, subst (λ (l : List ℕ). CountsTaken l c.args.marker.slot []) (sym c.requires.0) (record { all = zeros_at _; of_member = λ member small. zeros_at _ })),
       λ i. record { board = (a.channel.0.0 ∙ sym a.channel.2.0) i; messages = (a.channel.0.1 ∙ sym a.channel.2.1) i; capacity = ap ruled_capacity (sym e.0) i },
     )

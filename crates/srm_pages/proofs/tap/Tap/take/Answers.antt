@@ -13,22 +13,22 @@ pub post-requires : goal.post-requires
 post-requires g c = search (rules, next_shown)
 
 -- what the take and both stores made
-counted : (g : _) → (c : goal.After-self-in-Ok-1 g) → CountsTaken c.post.new.self.seat c.post.new.self.slot c.recv_as.new.pass.me.0.client.taken
+counted : (g : _) → (c : goal.After-self-in-Ok-2-1 g) → CountsTaken c.post.new.self.seat c.post.new.self.slot c.recv_as.new.pass.me.0.client.taken
 counted g c =
     let i = c.self.invariant in
     let took = c.in-Ok.ensures.rule in
-    next_counts _ _ _ _ _ _ _ i.4 took.1 (c.next_count-count.ensures ∙ ap (λ n. n + 1) i.2) c.count.ensures.seat c.count.ensures.there c.post.ensures (ap (λ (v : LaneView). v.taken) took.0)
+    next_counts _ _ _ _ _ _ _ i.4 took.1 (c.in-Some.ensures.1 ∙ ap (λ n. n + 1) i.2) c.count.ensures.seat c.count.ensures.there c.post.ensures (ap (λ (v : LaneView). v.taken) took.0)
 
-pub invariant_of-self : goal.invariant_of-self
-invariant_of-self g c =
+pub invariant_of-self-in-Ok : goal.invariant_of-self-in-Ok
+invariant_of-self-in-Ok g c =
     let i = c.self.invariant in
     let took = c.in-Ok.ensures.rule in (
       c.in-Ok.ensures.channel.0,
       ap (λ (v : LaneView). v.takes) took.0 ∙ i.1,
-      c.next_count-count.ensures ∙ ap (λ n. n + 1) i.2 ∙ sym (ap (λ (v : LaneView). length v.taken) took.0 ∙ length-append _ (c.in-Ok.msg ∷ [])),
+      c.in-Some.ensures.1 ∙ ap (λ n. n + 1) i.2 ∙ sym (ap (λ (v : LaneView). length v.taken) took.0 ∙ length-append _ (c.in-Ok.msg ∷ [])),
       subst (λ (v : LaneView). is_page_feed v.taken ≡ true) (sym took.0) took.1,
       counted g c,
     )
 
-pub returns-after-matches-clause-counted : goal.returns-after-matches-clause-counted
-returns-after-matches-clause-counted g c = counted g c
+pub returns-in-Ok-clause-counted : goal.returns-in-Ok-clause-counted
+returns-in-Ok-clause-counted g c = counted g c
