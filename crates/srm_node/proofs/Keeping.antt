@@ -1,6 +1,6 @@
 -- A node's lists hang together after each part of a turn.
 use Rattle.std.proofs.Common.{◌≡◌, ℕ, Bool, true, false, List, [], ◌∷◌, ◌++◌, refl, ap, sym, ◌∙◌, subst, append_assoc, arith}
-use Rattle.std.specs.Prelude.{Option, Some, None, Result, Ok, Err, MatchResult, map, option_to_list, if◌then◌else◌}
+use Rattle.std.specs.Prelude.{Option, None, Result, Ok, Err, MatchResult, map, option_to_list, if◌then◌else◌}
 use Rattle.std.specs.List.{AllByRecursion, cons_option}
 use Rattle.std.proofs.lemmas.List.{append-nil, map-append}
 use Rattle.std.proofs.lemmas.List.Elements.{filter_map-append}
@@ -32,7 +32,7 @@ use Rattle.srm_world.specs.Claims.{IsLawfulJournal}
 use Rattle.srm_world.specs.Recording.{with_entry, with_entries, HearsEach}
 use Rattle.srm_world.proofs.Lawful.{lawful_journal}
 use Rattle.srm_node.specs.declared.fault.OutOfMemory.{OutOfMemory}
-use Rattle.srm_wire.specs.Wires.{Told}
+use Rattle.srm_wire.specs.Wires.{Told, answered_with}
 use Rattle.srm_node.specs.Carrying.{Carries, CarriesEach, drew, draw_inputs, drawing, DrawsReceived, KeepsLists}
 use Rattle.srm_node.specs.Parts.{Listens, Listened, ListenedCut, DrawsStrokes, DrewStrokes, DrewStrokesCut, Leaves, Ticks, GivesUpTo, GaveSome, is_give}
 use Rattle.srm_node.specs.Nodes.{NodeView, IsNode, AreNewFeeds, has_closed}
@@ -105,19 +105,36 @@ quiet_heard now j [] (e ∷ es) h = absurd h
 quiet_heard now j (b ∷ bs) [] h = absurd h
 quiet_heard now j (b ∷ bs) (e ∷ es) h = (subst Quiet (sym (ap (λ (p : Input × Verdict). p.0) h.0.heard)) (quiet_bytes j.start.config j.entries b), quiet_heard now (with_entry j e) bs es h.1)
 
-node_hears : (now : ℕ) (n : NodeView) (k : Journal) (failures : ℕ) (told : Option Told) (config : Config) (room : ℕ) (closed : List Bool) (count : ℕ) (ended : List (Option (List ℕ))) → IsNode n config room closed → IsLawfulJournal k → Listens now count ended n.journal k n.told told
-    → IsNode (record n { journal = k; failures = failures; told = told }) config room closed
-node_hears now n k failures told config room closed count ended h lawful l = record {
+node_hears : {X C : Type 0} (R : X → ℕ → List (Option (List ℕ)) → X → Type 0) (now : ℕ) (n : NodeView X C) (k : Journal) (failures : ℕ) (told : Option Told) (wire : X) (config : Config) (room : ℕ) (closed : List Bool) (count : ℕ) (last : List (List (Option (List ℕ)))) → IsNode n config room closed → IsLawfulJournal k
+    → Listens R now count last n.journal k n.told told n.wire wire → IsNode (record n { journal = k; failures = failures; told = told; wire = wire }) config room closed
+node_hears R now n k failures told wire config room closed count last h lawful l = record {
   lists = keeps_quiet n.journal k l.entries n.feeds n.well.received n.hand h.lists lawful l.grown (quiet_heard now n.journal l.came l.entries l.each);
   settings = settings_of n.journal k l.entries l.grown ∙ h.settings;
   room_is = h.room_is;
   closed_are = h.closed_are;
 }
 
-pub node_listened : (now : ℕ) (n : NodeView) (k : Journal) (failures : ℕ) (told : Option Told) (config : Config) (room : ℕ) (closed : List Bool) (r : Result Listening OutOfMemory) → IsNode n config room closed → IsLawfulJournal k
-    → MatchResult r (λ l. Listened now l.failed n.journal k n.told told) (λ _. ListenedCut now n.journal k n.told told) → IsNode (record n { journal = k; failures = failures; told = told }) config room closed
-node_listened now n k failures told config room closed (Ok l) h lawful x = node_hears now n k failures told config room closed x.count x.ended h lawful x.listens
-node_listened now n k failures told config room closed (Err e) h lawful x = node_hears now n k failures told config room closed x.count (Some x.lost ∷ []) h lawful x.listens
+pub node_listened : {X C : Type 0} (R : X → ℕ → List (Option (List ℕ)) → X → Type 0) (now : ℕ) (n : NodeView X C) (k : Journal) (failures : ℕ) (told : Option Told) (wire : X) (config : Config) (room : ℕ) (closed : List Bool) (r : Result Listening OutOfMemory) → IsNode n config room closed → IsLawfulJournal k
+    → MatchResult r (λ l. Listened R now l.failed n.journal k n.told told n.wire wire) (λ _. ListenedCut R now n.journal k n.told told n.wire wire) → IsNode (record n { journal = k; failures = failures; told = told; wire = wire }) config room closed
+node_listened R now n k failures told wire config room closed (Ok l) h lawful x = node_hears R now n k failures told wire config room closed x.count x.last h lawful x.listens
+node_listened R now n k failures told wire config room closed (Err e) h lawful x = node_hears R now n k failures told wire config room closed x.count (answered_with x.lost ∷ []) h lawful x.listens
+
+-- READING THE CLOCK, AND WAITING
+
+-- of the wire and the clock a node keeps nothing but what it sees of them
+pub node_waited : {X C : Type 0} (n : NodeView X C) (failures : ℕ) (told : Option Told) (wire : X) (clock : C) (config : Config) (room : ℕ) (closed : List Bool) → IsNode n config room closed → IsNode (record n { failures = failures; told = told; wire = wire; clock = clock }) config room closed
+node_waited n failures told wire clock config room closed h = record { lists = h.lists; settings = h.settings; room_is = h.room_is; closed_are = h.closed_are }
+
+-- LOOKING AT THE PENS
+
+-- what the well has received stays
+pub node_looked : {X C : Type 0} (n : NodeView X C) (well : WellView) (config : Config) (room : ℕ) (closed : List Bool) → IsNode n config room closed → well.received ≡ n.well.received → IsNode (record n { well = well }) config room closed
+node_looked n well config room closed h same = record {
+  lists = record { lawful = h.lists.lawful; slots = h.lists.slots; carries = h.lists.carries; puts = h.lists.puts; draws_are = subst (λ received. DrawsReceived n.journal received n.hand) (sym same) h.lists.draws_are };
+  settings = h.settings;
+  room_is = h.room_is;
+  closed_are = h.closed_are;
+}
 
 -- DRAWING
 
@@ -151,7 +168,7 @@ received_more now count none_found j k from to hand kept d h =
     ∙ sym (append_assoc (draw_inputs j.entries) (map drawing x.strokes) (map drawing keeps))
     ∙ ap (λ is. is ++ map drawing keeps) (ap (λ is. draw_inputs j.entries ++ is) (sym (drawn_draws x.entries x.strokes (inputs_drawn now j x.strokes x.entries x.each))) ∙ sym (draws_grown j k x.entries x.grown))
 
-node_drawn : (now count : ℕ) (none_found : Bool) (n : NodeView) (k : Journal) (well : WellView) (from hand : Option Stroke) (config : Config) (room : ℕ) (closed : List Bool) → IsNode n config room closed → IsLawfulJournal k → from ≡ n.hand → DrawsStrokes now count none_found n.journal k n.well well from hand
+node_drawn : {X C : Type 0} (now count : ℕ) (none_found : Bool) (n : NodeView X C) (k : Journal) (well : WellView) (from hand : Option Stroke) (config : Config) (room : ℕ) (closed : List Bool) → IsNode n config room closed → IsLawfulJournal k → from ≡ n.hand → DrawsStrokes now count none_found n.journal k n.well well from hand
     → IsNode (record n { journal = k; well = well; hand = hand }) config room closed
 node_drawn now count none_found n k well from hand config room closed h lawful same d =
     let e : DrawsStrokes now count none_found n.journal k n.well well n.hand hand = subst (λ x. DrawsStrokes now count none_found n.journal k n.well well x hand) same d in
@@ -170,7 +187,7 @@ node_drawn now count none_found n k well from hand config room closed h lawful s
       closed_are = h.closed_are;
     }
 
-pub node_drew : (now : ℕ) (n : NodeView) (k : Journal) (well : WellView) (from hand : Option Stroke) (config : Config) (room : ℕ) (closed : List Bool) (r : Result Drawn OutOfMemory) → IsNode n config room closed → IsLawfulJournal k → from ≡ n.hand
+pub node_drew : {X C : Type 0} (now : ℕ) (n : NodeView X C) (k : Journal) (well : WellView) (from hand : Option Stroke) (config : Config) (room : ℕ) (closed : List Bool) (r : Result Drawn OutOfMemory) → IsNode n config room closed → IsLawfulJournal k → from ≡ n.hand
     → MatchResult r (λ drawn. DrewStrokes now drawn.none_left n.journal k n.well well from hand) (λ _. DrewStrokesCut now n.journal k n.well well from hand) → IsNode (record n { journal = k; well = well; hand = hand }) config room closed
 node_drew now n k well from hand config room closed (Ok drawn) h lawful same x = node_drawn now x.count drawn.none_left n k well from hand config room closed h lawful same x.draws
 node_drew now n k well from hand config room closed (Err e) h lawful same x = node_drawn now x.count false n k well from hand config room closed h lawful same x.draws
@@ -183,7 +200,7 @@ quiet_leaves true (e ∷ []) h = let is : e.input ≡ AskedLeave = cc in (subst 
 quiet_leaves true (e ∷ f ∷ es) h = absurd (cc)
 quiet_leaves false (e ∷ es) h = absurd (cc)
 
-node_left : (now : ℕ) (leaves : Bool) (n : NodeView) (k : Journal) (asked : Option ℕ) (config : Config) (room : ℕ) (closed : List Bool) → IsNode n config room closed → IsLawfulJournal k → Leaves now leaves n.journal k → IsNode (record n { journal = k; asked = asked }) config room closed
+node_left : {X C : Type 0} (now : ℕ) (leaves : Bool) (n : NodeView X C) (k : Journal) (asked : Option ℕ) (config : Config) (room : ℕ) (closed : List Bool) → IsNode n config room closed → IsLawfulJournal k → Leaves now leaves n.journal k → IsNode (record n { journal = k; asked = asked }) config room closed
 node_left now leaves n k asked config room closed h lawful l = record {
   lists = keeps_quiet n.journal k l.entries n.feeds n.well.received n.hand h.lists lawful l.grown (quiet_leaves leaves l.entries l.inputs);
   settings = settings_of n.journal k l.entries l.grown ∙ h.settings;
@@ -191,14 +208,14 @@ node_left now leaves n k asked config room closed h lawful l = record {
   closed_are = h.closed_are;
 }
 
-pub node_leaves : (now : ℕ) (leaves : Bool) (n : NodeView) (k : Journal) (asked : Option ℕ) (config : Config) (room : ℕ) (closed : List Bool) (r : Result (Unit {0}) OutOfMemory) → IsNode n config room closed → IsLawfulJournal k → MatchResult r (λ _. Leaves now leaves n.journal k) (λ _. k ≡ n.journal)
+pub node_leaves : {X C : Type 0} (now : ℕ) (leaves : Bool) (n : NodeView X C) (k : Journal) (asked : Option ℕ) (config : Config) (room : ℕ) (closed : List Bool) (r : Result (Unit {0}) OutOfMemory) → IsNode n config room closed → IsLawfulJournal k → MatchResult r (λ _. Leaves now leaves n.journal k) (λ _. k ≡ n.journal)
     → IsNode (record n { journal = k; asked = asked }) config room closed
 node_leaves now leaves n k asked config room closed (Ok u) h lawful l = node_left now leaves n k asked config room closed h lawful l
 node_leaves now leaves n k asked config room closed (Err e) h lawful same = subst (λ x. IsNode (record n { journal = x; asked = asked }) config room closed) (sym same) (record { lists = h.lists; settings = h.settings; room_is = h.room_is; closed_are = h.closed_are })
 
-pub node_ticked : (now : ℕ) (n : NodeView) (k : Journal) (failures : ℕ) (told : Option Told) (config : Config) (room : ℕ) (closed : List Bool) (outs : List Out) → IsNode n config room closed → IsLawfulJournal k → Ticks now outs n.journal k
-    → IsNode (record n { journal = k; failures = failures; told = told }) config room closed
-node_ticked now n k failures told config room closed outs h lawful t = record {
+pub node_ticked : {X C : Type 0} (now : ℕ) (n : NodeView X C) (k : Journal) (failures : ℕ) (told : Option Told) (wire : X) (config : Config) (room : ℕ) (closed : List Bool) (outs : List Out) → IsNode n config room closed → IsLawfulJournal k → Ticks now outs n.journal k
+    → IsNode (record n { journal = k; failures = failures; told = told; wire = wire }) config room closed
+node_ticked now n k failures told wire config room closed outs h lawful t = record {
   lists = keeps_quiet n.journal k (t.entry ∷ []) n.feeds n.well.received n.hand h.lists lawful t.grown (subst Quiet (sym t.is_tick.input) (refl, λ slot m. refl), tt);
   settings = settings_of n.journal k (t.entry ∷ []) t.grown ∙ h.settings;
   room_is = h.room_is;
@@ -221,7 +238,7 @@ gives_draw_nothing : (es : List Entry) → AllByRecursion (λ (e : Entry). is_gi
 gives_draw_nothing [] h = refl
 gives_draw_nothing (e ∷ es) h = ap (λ o. cons_option o (draw_inputs es)) (none_drawn e.input h.0) ∙ gives_draw_nothing es h.1
 
-pub node_given : (n : NodeView) (k : Journal) (feeds : List FeedView) (config : Config) (room below : ℕ) (closed after : List Bool) → IsNode n config room closed → GivesUpTo below n.journal k n.feeds feeds → after ≡ map has_closed feeds → IsNode (record n { journal = k; feeds = feeds }) config room after
+pub node_given : {X C : Type 0} (n : NodeView X C) (k : Journal) (feeds : List FeedView) (config : Config) (room below : ℕ) (closed after : List Bool) → IsNode n config room closed → GivesUpTo below n.journal k n.feeds feeds → after ≡ map has_closed feeds → IsNode (record n { journal = k; feeds = feeds }) config room after
 node_given n k feeds config room below closed after h g closes = record {
   lists = record {
     lawful = g.lawful;
@@ -235,7 +252,7 @@ node_given n k feeds config room below closed after h g closes = record {
   closed_are = closes;
 }
 
-pub node_gave : (n : NodeView) (k : Journal) (feeds : List FeedView) (config : Config) (room : ℕ) (closed after : List Bool) (r : Result (Unit {0}) OutOfMemory) → IsNode n config room closed
+pub node_gave : {X C : Type 0} (n : NodeView X C) (k : Journal) (feeds : List FeedView) (config : Config) (room : ℕ) (closed after : List Bool) (r : Result (Unit {0}) OutOfMemory) → IsNode n config room closed
     → MatchResult r (λ _. GivesUpTo PAGES n.journal k n.feeds feeds) (λ _. GaveSome n.journal k n.feeds feeds) → after ≡ map has_closed feeds → IsNode (record n { journal = k; feeds = feeds }) config room after
 node_gave n k feeds config room closed after (Ok u) h g closes = node_given n k feeds config room PAGES closed after h g closes
 node_gave n k feeds config room closed after (Err e) h g closes = node_given n k feeds config room g.slot closed after h g.gives closes

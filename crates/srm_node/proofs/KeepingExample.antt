@@ -6,13 +6,12 @@ use Rattle.srm_pages.specs.Ends.{WellView, LaneId}
 use Rattle.srm_node.specs.declared.fault.NodeFault.TheVariants.{Memory}
 use Rattle.srm_node.specs.declared.hosting.Hosted.{Hosted}
 use Rattle.srm_node.specs.declared.working.Worked.{Worked}
-use Rattle.srm_node.specs.declared.working.WorkEnd.TheVariants.{Closed}
 use Rattle.srm_node.specs.Carrying.{DrawsReceived}
 use Rattle.srm_node.specs.Nodes.{NodeKeepsLists, IsNode}
-use Rattle.srm_node.specs.Hosting.{WorkedEach, HostFails, Hosts}
-use Rattle.srm_node.specs.TurnSample.{journal}
+use Rattle.srm_node.specs.Hosting.{WorkedAs, WorkedEach, HostFails, Hosts}
+use Rattle.srm_node.specs.TurnSample.{calls, journal}
 use Rattle.srm_node.specs.WholeTurnExamples.{before, after, put, feeds, entries, stroke, lawful, carries, new_feeds}
-use Rattle.srm_node.specs.HostExamples.{tap, worked_so}
+use Rattle.srm_node.specs.HostExamples.{tap, counting, one_start}
 use Rattle.srm_node.specs.PartingExamples as parting
 use Rattle.srm_node.proofs.Keeping.{keeps_new}
 use Rattle.srm_node.proofs.Releasing.{puts_released}
@@ -40,10 +39,10 @@ keeps_parted lane well none = record {
   draws_are = subst (λ received. DrawsReceived (journal parting.entries) received None) (sym none) refl;
 }
 
--- The member left in the node's one turn, and the worker of slot 0 took what was put.
-hosted : {P L : Type 0} (entries_of : L → List PageMsg) (lane : LaneId) (well : WellView) (w : Worked L) (h : Hosted P L) → well.received ≡ [] → w.tap ≡ tap 0 parting.put lane → entries_of w.list ≡ parting.put → w.end ≡ Closed
-    → h.journal ≡ (parting.ended lane well).journal → h.feeds.items ≡ (parting.ended lane well).feeds → h.worked.items ≡ w ∷ [] → Hosts entries_of (parting.asked_before lane well) (tap 0 [] lane ∷ []) 5 h
-hosted entries_of lane well w h none is list end journal_is feeds_are worked_is = record {
+-- The member left in the node's one turn, and the worker of slot 0 took what was put, which its sink saw.
+hosted : {P L : Type 0} (entries_of : L → List PageMsg) (lane : LaneId) (well : WellView) (w : Worked L) (h : Hosted P L) → well.received ≡ [] → WorkedAs (counting entries_of) (tap 0 [] lane, 0) w → h.journal ≡ (parting.ended lane well).journal → h.feeds.items ≡ (parting.ended lane well).feeds → h.worked.items ≡ w ∷ []
+    → Hosts calls (counting entries_of) (parting.first_of_all lane well) (one_start lane) 5 h
+hosted entries_of lane well w h none worked journal_is feeds_are worked_is = record {
   last = parting.ended lane well;
   runs = parting.runs_to_end lane well;
   keeps = keeps_parted lane well none;
@@ -51,21 +50,21 @@ hosted entries_of lane well w h none is list end journal_is feeds_are worked_is 
   feeds = feeds_are;
   slots = refl;
   lanes = (parting.gives_all lane well).gives.same;
-  workers = subst (WorkedEach entries_of (tap 0 [] lane ∷ [])) (sym worked_is) (worked_so entries_of w (tap 0 [] lane) (tap 0 parting.put lane) parting.put is list end (record { is = refl }), tt);
+  workers = subst (WorkedEach (counting entries_of) (one_start lane)) (sym worked_is) (worked, tt);
 }
 
 -- No worker could be started: the node wasn't turned, and its feeds were let go.
 not_started : {P L : Type 0} (entries_of : L → List PageMsg) (lane : LaneId) (well : WellView) (h : Hosted P L) → well.received ≡ [] → h.journal ≡ (before lane well).journal → h.feeds.items ≡ [] → h.worked.items ≡ []
-    → HostFails entries_of false (before lane well) (tap 0 [] lane ∷ []) 5 Memory h
+    → HostFails calls (counting entries_of) false (before lane well) (one_start lane) 5 Memory h
 not_started entries_of lane well h none journal_is feeds_are worked_are = record {
   last = before lane well;
   runs = inr (refl, refl, refl);
   keeps = keeps_new (journal []) (feeds [] lane) well.received refl (new_feeds lane) none;
   journal = journal_is;
   feeds = feeds_are;
-  joined = [];
-  rest = tap 0 [] lane ∷ [];
+  started = [];
+  rest = one_start lane;
   split = refl;
   whole = tt;
-  workers = subst (WorkedEach entries_of []) (sym worked_are) tt;
+  workers = subst (WorkedEach (counting entries_of) []) (sym worked_are) tt;
 }

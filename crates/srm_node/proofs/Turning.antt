@@ -3,100 +3,116 @@ use Rattle.std.proofs.Common.{◌≡◌, ℕ, ◌+◌, ◌<◌, ◌||◌, Bool, 
 use Rattle.std.specs.Prelude.{Option, Result, Ok, Err, MatchResult, IsErrAnd, ◌&&◌, is_ok}
 use Rattle.std.specs.Bool.{OnTrue}
 use Rattle.srm_names.specs.declared.limits.TheConstants.{PAGES}
+use Rattle.srm_pages.specs.Ends.{is_drained}
 use Rattle.srm_world.specs.Traces.{Journal}
 use Rattle.srm_node.specs.declared.fault.NodeFault.{NodeFault}
 use Rattle.srm_node.specs.declared.fault.NodeFault.TheVariants.{Wire, Memory, Turns}
 use Rattle.srm_node.specs.declared.fault.OutOfMemory.{OutOfMemory}
 use Rattle.srm_wire.specs.Wires.{CountsIf, RoseOrFull}
 use Rattle.srm_names.specs.Moments.{has_come}
+use Rattle.srm_node.specs.Calls.{Calls}
 use Rattle.srm_node.specs.Parts.{is_to_leave, still_asked, Leaves}
 use Rattle.srm_node.specs.Nodes.{NodeView, has_ended}
-use Rattle.srm_node.specs.Turns.{HearsNow, DrawsNow, LeavesNow, TicksNow, GivesNow, HearsCut, DrawsCut, GivesCut, IsCut, TurnToTick, Turned, TurnedDeaf, TurnEnds, Paused, RunsOf, WholeTurns, RunEnds}
+use Rattle.srm_node.specs.Turns.{ReadsNow, HearsNow, LooksNow, DrawsNow, LeavesNow, TicksNow, GivesNow, HearsCut, DrawsCut, GivesCut, IsCut, TurnToLeaving, TurnToTick, Turned, TurnedDeaf, TurnEnds, Paused, RunsOf, WholeTurns, RunEnds}
 use Rattle.srm_wire.proofs.Telling.{counts_on}
 
 -- a node that leaves isn't to leave again, unless memory ran out
-pub leaves_now : (now : ℕ) (none_left pens_done is_due_now leaves ok : Bool) (n : NodeView) (k : Journal) (asked : Option ℕ) (r : Result (Unit {0}) OutOfMemory)
-    → is_due_now ≡ has_come now n.asked → leaves ≡ (none_left && (pens_done && is_due_now)) → ok ≡ is_ok r → asked ≡ still_asked (leaves && ok) n.asked → MatchResult r (λ _. Leaves now leaves n.journal k) (λ _. k ≡ n.journal)
-    → MatchResult r (λ _. LeavesNow now none_left n (record n { journal = k; asked = asked })) (λ _. record n { journal = k; asked = asked } ≡ n)
-leaves_now now none_left pens_done is_due_now leaves ok n k asked (Ok u) due is left still leave = record {
-  pens_done = pens_done;
+pub leaves_now : {X C : Type 0} (now : ℕ) (none_left drained is_due_now leaves ok : Bool) (n : NodeView X C) (k : Journal) (asked : Option ℕ) (r : Result (Unit {0}) OutOfMemory)
+    → drained ≡ is_drained n.well → is_due_now ≡ has_come now n.asked → leaves ≡ (none_left && (drained && is_due_now)) → ok ≡ is_ok r → asked ≡ still_asked (leaves && ok) n.asked
+    → MatchResult r (λ _. Leaves now leaves n.journal k) (λ _. k ≡ n.journal) → MatchResult r (λ _. LeavesNow now none_left n (record n { journal = k; asked = asked })) (λ _. record n { journal = k; asked = asked } ≡ n)
+leaves_now now none_left drained is_due_now leaves ok n k asked (Ok u) empty due is left still leave = record {
   leaves = subst (λ b. Leaves now b n.journal k) to_leave leave;
   same = ap (λ a. record n { journal = k; asked = a }) (still ∙ ap (λ b. still_asked (leaves && b) n.asked) left ∙ ap (λ b. still_asked b n.asked) (whole leaves ∙ to_leave));
 }
   where
-    to_leave : leaves ≡ is_to_leave none_left pens_done n.asked now
-    to_leave = is ∙ ap (λ b. none_left && (pens_done && b)) due
+    to_leave : leaves ≡ is_to_leave none_left (is_drained n.well) n.asked now
+    to_leave = is ∙ ap (λ b. none_left && (drained && b)) due ∙ ap (λ b. none_left && (b && has_come now n.asked)) empty
 
     whole : (b : Bool) → (b && true) ≡ b
     whole true = refl
     whole false = refl
-leaves_now now none_left pens_done is_due_now leaves ok n k asked (Err e) due is left still same =
+leaves_now now none_left drained is_due_now leaves ok n k asked (Err e) empty due is left still same =
     ap (λ a. record n { journal = k; asked = a }) (still ∙ ap (λ b. still_asked (leaves && b) n.asked) left ∙ ap (λ b. still_asked b n.asked) (none leaves)) ∙ ap (λ j. record n { journal = j }) same
   where
     none : (b : Bool) → (b && false) ≡ false
     none true = refl
     none false = refl
 
-ends_cut : (r : Result (Unit {0}) NodeFault) (a b : NodeView) → IsErrAnd r (λ fault. fault ≡ Memory) → IsCut a b → TurnEnds r a b
-ends_cut (Ok _) a b is cut = absurd is
-ends_cut (Err fault) a b is cut = subst (λ f. TurnEnds (Err f) a b) (sym is) cut
+ends_cut : {X C : Type 0} (calls : Calls X C) (r : Result (Unit {0}) NodeFault) (a b : NodeView X C) → IsErrAnd r (λ fault. fault ≡ Memory) → IsCut calls a b → TurnEnds calls r a b
+ends_cut calls (Ok _) a b is cut = absurd is
+ends_cut calls (Err fault) a b is cut = subst (λ f. TurnEnds calls (Err f) a b) (sym is) cut
 
 -- The turn was cut in one of its parts. The fault is what the code made of want of memory.
-pub cut_hearing : (now : ℕ) (a b : NodeView) (r : Result (Unit {0}) NodeFault) → IsErrAnd r (λ fault. fault ≡ Memory) → HearsCut now a b → TurnEnds r a b
-cut_hearing now a b r is h = ends_cut r a b is (inl (record { now = now; hears = h }))
+pub cut_hearing : {X C : Type 0} (calls : Calls X C) (now : ℕ) (a r b : NodeView X C) (x : Result (Unit {0}) NodeFault) → IsErrAnd x (λ fault. fault ≡ Memory) → ReadsNow calls.reads now a r → HearsCut calls.receives now r b → TurnEnds calls x a b
+cut_hearing calls now a r b x is c h = ends_cut calls x a b is (inl (record { now = now; read = r; reads = c; hears = h }))
 
-pub cut_drawing : (now : ℕ) (u : Bool) (a b c : NodeView) (r : Result (Unit {0}) NodeFault) → IsErrAnd r (λ fault. fault ≡ Memory) → HearsNow now u a b → DrawsCut now b c → TurnEnds r a c
-cut_drawing now u a b c r is h d = ends_cut r a c is (inr (inl (record { now = now; unheard = u; heard = b; hears = h; draws = d })))
+pub cut_drawing : {X C : Type 0} (calls : Calls X C) (now : ℕ) (u : Bool) (a r b l c : NodeView X C) (x : Result (Unit {0}) NodeFault) → IsErrAnd x (λ fault. fault ≡ Memory) → ReadsNow calls.reads now a r → HearsNow calls.receives now u r b → LooksNow b l → DrawsCut now l c → TurnEnds calls x a c
+cut_drawing calls now u a r b l c x is t h k d = ends_cut calls x a c is (inr (inl (record { now = now; unheard = u; read = r; heard = b; looked = l; reads = t; hears = h; looks = k; draws = d })))
 
-pub cut_leaving : (now : ℕ) (u w : Bool) (a b c d : NodeView) (r : Result (Unit {0}) NodeFault) → IsErrAnd r (λ fault. fault ≡ Memory) → HearsNow now u a b → DrawsNow now w b c → d ≡ c → TurnEnds r a d
-cut_leaving now u w a b c d r is h x same = ends_cut r a d is (inr (inr (inl (record { now = now; none_left = w; unheard = u; heard = b; hears = h; draws = subst (λ n. DrawsNow now w b n) (sym same) x }))))
+pub cut_leaving : {X C : Type 0} (calls : Calls X C) (now : ℕ) (u w : Bool) (a r b l c d : NodeView X C) (x : Result (Unit {0}) NodeFault) → IsErrAnd x (λ fault. fault ≡ Memory) → ReadsNow calls.reads now a r → HearsNow calls.receives now u r b → LooksNow b l → DrawsNow now w l c → d ≡ c → TurnEnds calls x a d
+cut_leaving calls now u w a r b l c d x is t h k y same =
+    ends_cut calls x a d is (inr (inr (inl (record { now = now; none_left = w; unheard = u; read = r; heard = b; looked = l; reads = t; hears = h; looks = k; draws = subst (λ n. DrawsNow now w l n) (sym same) y }))))
 
-pub cut_ticking : (now : ℕ) (u w : Bool) (a b c d e : NodeView) (r : Result (Unit {0}) NodeFault) → IsErrAnd r (λ fault. fault ≡ Memory) → HearsNow now u a b → DrawsNow now w b c → LeavesNow now w c d → e ≡ d → TurnEnds r a e
-cut_ticking now u w a b c d e r is h x l same = ends_cut r a e is (inr (inr (inr (inl (record { now = now; none_left = w; unheard = u; heard = b; drawn = c; hears = h; draws = x; leaves = subst (λ n. LeavesNow now w c n) (sym same) l })))))
+turned_to_leaving : {X C : Type 0} (calls : Calls X C) (now : ℕ) (u w : Bool) (a r b l c d : NodeView X C) → ReadsNow calls.reads now a r → HearsNow calls.receives now u r b → LooksNow b l → DrawsNow now w l c → LeavesNow now w c d → TurnToLeaving calls now u a d
+turned_to_leaving calls now u w a r b l c d t h k y q = record { none_left = w; read = r; heard = b; looked = l; drawn = c; reads = t; hears = h; looks = k; draws = y; leaves = q }
 
-pub turned_to_tick : (now : ℕ) (u v w : Bool) (a b c d e : NodeView) → HearsNow now u a b → DrawsNow now w b c → LeavesNow now w c d → TicksNow now v d e → TurnToTick u v a e
-turned_to_tick now u v w a b c d e h x l t = record { now = now; none_left = w; heard = b; drawn = c; left = d; hears = h; draws = x; leaves = l; ticks = t }
+pub cut_ticking : {X C : Type 0} (calls : Calls X C) (now : ℕ) (u w : Bool) (a r b l c d e : NodeView X C) (x : Result (Unit {0}) NodeFault) → IsErrAnd x (λ fault. fault ≡ Memory) → ReadsNow calls.reads now a r → HearsNow calls.receives now u r b → LooksNow b l → DrawsNow now w l c → LeavesNow now w c d → e ≡ d
+    → TurnEnds calls x a e
+cut_ticking calls now u w a r b l c d e x is t h k y q same = ends_cut calls x a e is (inr (inr (inr (inl (record { now = now; unheard = u; to_leaving = subst (λ n. TurnToLeaving calls now u a n) (sym same) (turned_to_leaving calls now u w a r b l c d t h k y q) })))))
 
-pub cut_giving : (now : ℕ) (u v w : Bool) (a b c d e f : NodeView) (r : Result (Unit {0}) NodeFault) → IsErrAnd r (λ fault. fault ≡ Memory) → HearsNow now u a b → DrawsNow now w b c → LeavesNow now w c d → TicksNow now v d e → GivesCut e f → TurnEnds r a f
-cut_giving now u v w a b c d e f r is h x l t g = ends_cut r a f is (inr (inr (inr (inr (record { unheard = u; unsent = v; ticked = e; to_tick = turned_to_tick now u v w a b c d e h x l t; gives = g })))))
+turned_to_tick : {X C : Type 0} (calls : Calls X C) (now : ℕ) (u v w : Bool) (a r b l c d e : NodeView X C) → ReadsNow calls.reads now a r → HearsNow calls.receives now u r b → LooksNow b l → DrawsNow now w l c → LeavesNow now w c d → TicksNow calls.sends now v d e → TurnToTick calls u v a e
+turned_to_tick calls now u v w a r b l c d e t h k y q s = record { now = now; left = d; to_leaving = turned_to_leaving calls now u w a r b l c d t h k y q; ticks = s }
 
-pub turned : (now : ℕ) (u v w : Bool) (a b c d e f : NodeView) → HearsNow now u a b → DrawsNow now w b c → LeavesNow now w c d → TicksNow now v d e → GivesNow PAGES e f → Turned u v a f
-turned now u v w a b c d e f h x l t g = record { ticked = e; to_tick = turned_to_tick now u v w a b c d e h x l t; gives = g }
+pub cut_giving : {X C : Type 0} (calls : Calls X C) (now : ℕ) (u v w : Bool) (a r b l c d e f : NodeView X C) (x : Result (Unit {0}) NodeFault) → IsErrAnd x (λ fault. fault ≡ Memory) → ReadsNow calls.reads now a r → HearsNow calls.receives now u r b → LooksNow b l → DrawsNow now w l c → LeavesNow now w c d
+    → TicksNow calls.sends now v d e → GivesCut e f → TurnEnds calls x a f
+cut_giving calls now u v w a r b l c d e f x is t h k y q s g = ends_cut calls x a f is (inr (inr (inr (inr (record { unheard = u; unsent = v; ticked = e; to_tick = turned_to_tick calls now u v w a r b l c d e t h k y q s; gives = g })))))
 
-pub turned_whole : (now : ℕ) (u v w : Bool) (a b c d e f : NodeView) → HearsNow now u a b → DrawsNow now w b c → LeavesNow now w c d → TicksNow now v d e → GivesNow PAGES e f → (u || v) ≡ false → Turned false false a f
-turned_whole now true v w a b c d e f h x l t g none = cc
-turned_whole now false true w a b c d e f h x l t g none = cc
-turned_whole now false false w a b c d e f h x l t g none = turned now false false w a b c d e f h x l t g
+turned : {X C : Type 0} (calls : Calls X C) (now : ℕ) (u v w : Bool) (a r b l c d e f : NodeView X C) → ReadsNow calls.reads now a r → HearsNow calls.receives now u r b → LooksNow b l → DrawsNow now w l c → LeavesNow now w c d → TicksNow calls.sends now v d e → GivesNow PAGES e f → Turned calls u v a f
+turned calls now u v w a r b l c d e f t h k y q s g = record { ticked = e; to_tick = turned_to_tick calls now u v w a r b l c d e t h k y q s; gives = g }
 
-pub turned_deaf : (now : ℕ) (u v w : Bool) (a b c d e f : NodeView) → HearsNow now u a b → DrawsNow now w b c → LeavesNow now w c d → TicksNow now v d e → GivesNow PAGES e f → (u || v) ≡ true → TurnedDeaf a f
-turned_deaf now u v w a b c d e f h x l t g some = record {
+pub turned_whole : {X C : Type 0} (calls : Calls X C) (now : ℕ) (u v w : Bool) (a r b l c d e f : NodeView X C) → ReadsNow calls.reads now a r → HearsNow calls.receives now u r b → LooksNow b l → DrawsNow now w l c → LeavesNow now w c d → TicksNow calls.sends now v d e → GivesNow PAGES e f → (u || v) ≡ false
+    → Turned calls false false a f
+turned_whole calls now true v w a r b l c d e f t h k y q s g none = cc
+turned_whole calls now false true w a r b l c d e f t h k y q s g none = cc
+turned_whole calls now false false w a r b l c d e f t h k y q s g none = turned calls now false false w a r b l c d e f t h k y q s g
+
+pub turned_deaf : {X C : Type 0} (calls : Calls X C) (now : ℕ) (u v w : Bool) (a r b l c d e f : NodeView X C) → ReadsNow calls.reads now a r → HearsNow calls.receives now u r b → LooksNow b l → DrawsNow now w l c → LeavesNow now w c d → TicksNow calls.sends now v d e → GivesNow PAGES e f → (u || v) ≡ true
+    → TurnedDeaf calls a f
+turned_deaf {X} {C} calls now u v w a r b l c d e f t h k y q s g some = record {
   unheard = u;
   unsent = v;
   some = some;
-  turned = turned now u v w a b c d e f h x l t g;
-  failed = rose (counts_on u v a.failures d.failures f.failures (subst (λ n. CountsIf u a.failures n) (sym same_before) h.failures) (subst (λ n. CountsIf v d.failures n) (sym same_after) t.sends.failures));
+  turned = turned calls now u v w a r b l c d e f t h k y q s g;
+  failed = rose (counts_on u v a.failures d.failures f.failures (subst (λ n. CountsIf u n d.failures) first (subst (λ n. CountsIf u r.failures n) (sym same_before) h.failures)) (subst (λ n. CountsIf v d.failures n) (sym same_after) s.sends.failures));
 }
   where
+    failures : NodeView X C → ℕ
+    failures n = n.failures
+
+    first : r.failures ≡ a.failures
+    first = ap failures t.same
+
     same_before : d.failures ≡ b.failures
-    same_before = ap (λ (n : NodeView). n.failures) l.same ∙ ap (λ (n : NodeView). n.failures) x.same
+    same_before = ap failures q.same ∙ ap failures y.same ∙ ap failures k.same
 
     same_after : f.failures ≡ e.failures
-    same_after = ap (λ (n : NodeView). n.failures) g.same
+    same_after = ap failures g.same
 
     rose : CountsIf (u || v) a.failures f.failures → RoseOrFull a.failures f.failures
     rose counts = subst (λ (y : Bool). OnTrue y (RoseOrFull a.failures f.failures)) some counts.1
 
 -- RUNS
 
-pub runs_more : (count : ℕ) (a b p c : NodeView) (ended : Bool) → WholeTurns count a b → ended ≡ has_ended b → ended ≡ false → Paused b p → Turned false false p c → WholeTurns (count + 1) a c
-runs_more count a b p c ended h is goes_on paused t = record { turns = subst (λ k. RunsOf k a c) (sym (add-one count)) (b, p, h.turns, sym is ∙ goes_on, paused, t) }
+pub runs_more : {X C : Type 0} (calls : Calls X C) (count : ℕ) (a b p c : NodeView X C) (ended : Bool) → WholeTurns calls count a b → ended ≡ has_ended b → ended ≡ false → Paused calls b p → Turned calls false false p c → WholeTurns calls (count + 1) a c
+runs_more calls count a b p c ended h is goes_on paused t = record { turns = subst (λ k. RunsOf calls k a c) (sym (add-one count)) (b, p, h.turns, sym is ∙ goes_on, paused, t) }
 
-pub runs_into : (fault : NodeFault) (count limit : ℕ) (a b p c : NodeView) (ended : Bool) → count < limit → WholeTurns count a b → ended ≡ has_ended b → ended ≡ false → Paused b p → TurnEnds (Err fault) p c → RunEnds (Err fault) limit a c
-runs_into Wire count limit a b p c ended few h is goes_on paused t = record { count = count; few = few; before = b; paused = p; runs = h; goes_on = sym is ∙ goes_on; pauses = paused; ends = t }
-runs_into Memory count limit a b p c ended few h is goes_on paused t = record { count = count; few = few; before = b; paused = p; runs = h; goes_on = sym is ∙ goes_on; pauses = paused; ends = t }
-runs_into Turns count limit a b p c ended few h is goes_on paused t = absurd t
+runs_into : {X C : Type 0} (calls : Calls X C) (fault : NodeFault) (count limit : ℕ) (a b p c : NodeView X C) (ended : Bool) → count < limit → WholeTurns calls count a b → ended ≡ has_ended b → ended ≡ false → Paused calls b p → TurnEnds calls (Err fault) p c → RunEnds calls (Err fault) limit a c
+runs_into calls Wire count limit a b p c ended few h is goes_on paused t = record { count = count; few = few; before = b; paused = p; runs = h; goes_on = sym is ∙ goes_on; pauses = paused; ends = t }
+runs_into calls Memory count limit a b p c ended few h is goes_on paused t = record { count = count; few = few; before = b; paused = p; runs = h; goes_on = sym is ∙ goes_on; pauses = paused; ends = t }
+runs_into calls Turns count limit a b p c ended few h is goes_on paused t = absurd t
 
 -- the same by what the run answered
-pub runs_ended : (r : Result (Unit {0}) NodeFault) (fault : NodeFault) (count limit : ℕ) (a b p c : NodeView) (ended : Bool) → IsErrAnd r (λ e. e ≡ fault) → count < limit → WholeTurns count a b → ended ≡ has_ended b → ended ≡ false → Paused b p → TurnEnds (Err fault) p c → RunEnds r limit a c
-runs_ended (Ok u) fault count limit a b p c ended is few h at goes_on paused t = absurd is
-runs_ended (Err e) fault count limit a b p c ended is few h at goes_on paused t = subst (λ f. RunEnds (Err f) limit a c) (sym is) (runs_into fault count limit a b p c ended few h at goes_on paused t)
+pub runs_ended : {X C : Type 0} (calls : Calls X C) (r : Result (Unit {0}) NodeFault) (fault : NodeFault) (count limit : ℕ) (a b p c : NodeView X C) (ended : Bool) → IsErrAnd r (λ e. e ≡ fault) → count < limit → WholeTurns calls count a b → ended ≡ has_ended b → ended ≡ false → Paused calls b p
+    → TurnEnds calls (Err fault) p c → RunEnds calls r limit a c
+runs_ended calls (Ok u) fault count limit a b p c ended is few h at goes_on paused t = absurd is
+runs_ended calls (Err e) fault count limit a b p c ended is few h at goes_on paused t = subst (λ f. RunEnds calls (Err f) limit a c) (sym is) (runs_into calls fault count limit a b p c ended few h at goes_on paused t)

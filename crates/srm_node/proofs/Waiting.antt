@@ -9,6 +9,7 @@ use Rattle.srm_world.specs.Recording.{RecordsHeard}
 use Rattle.srm_world.specs.WaitWords.{RecorderView, AreByWords, RecordsByWords}
 use Rattle.srm_world.proofs.Wording.{by_more, no_words_recorded}
 use Rattle.srm_node.specs.Nodes.{NodeView, NodeState, recorded_in}
+use Rattle.srm_node.specs.Calls.{Calls}
 use Rattle.srm_node.specs.Turns.{Paused}
 use Rattle.srm_node.specs.Waits.{WaitsByWords}
 
@@ -31,11 +32,11 @@ waits_heard next_word now bytes a b answer (inl (e, grows, hearing, answers)) wo
 waits_heard next_word now bytes a b answer (inr (wrong, same)) words = record { start = ap (λ (j : Journal). j.start) same; words = words }
 
 -- a pause draws none
-pub waits_paused : {W C : Type 0} (next_word : W → ℕ × W) (a b : NodeState W C) → Paused a.view b.view → b.words ≡ a.words → WaitsByWords next_word (recorded_in a) (recorded_in b)
-waits_paused next_word a b paused words = record {
+pub waits_paused : {W X C : Type 0} (next_word : W → ℕ × W) (calls : Calls X C) (a b : NodeState W X C) → Paused calls a.view b.view → b.words ≡ a.words → WaitsByWords next_word (recorded_in a) (recorded_in b)
+waits_paused {W} {X} {C} next_word calls a b paused words = record {
   start = ap (λ (j : Journal). j.start) journal;
   words = no_words_recorded next_word (recorded_in a) (recorded_in b) (ap (λ (j : Journal). record { journal = j; words = b.words }) journal ∙ ap (λ w. record { journal = a.view.journal; words = w }) words);
 }
   where
     journal : b.view.journal ≡ a.view.journal
-    journal = ap (λ (n : NodeView). n.journal) paused.same
+    journal = ap (λ (n : NodeView X C). n.journal) paused.same

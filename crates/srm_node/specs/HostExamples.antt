@@ -1,6 +1,6 @@
 -- Workers that are started and joined, and what a host hands back, at worked examples.
-use Rattle.std.specs.Prelude.{◌≡◌, ◌≢◌, ℕ, zero, suc, true, List, [], ◌∷◌, ◌++◌, refl}
-use Rattle.std.proofs.Common.{arith, ap, sym, ◌∙◌, subst, inl}
+use Rattle.std.specs.Prelude.{◌≡◌, ◌≢◌, ℕ, zero, suc, Bool, true, false, List, [], ◌∷◌, ◌++◌, None, refl, MatchBool}
+use Rattle.std.proofs.Common.{ap, sym, ◌∙◌, subst, inl}
 use Rattle.std.proofs.lemmas.Option.{same_Some}
 use Rattle.srm_names.specs.Names.{first_page}
 use Rattle.srm_names.specs.declared.page_msg.PageMsg.{PageMsg}
@@ -11,13 +11,13 @@ use Rattle.srm_node.specs.declared.hosting.Worker.{Worker}
 use Rattle.srm_node.specs.declared.hosting.Hosted.{Hosted}
 use Rattle.srm_node.specs.declared.working.Worked.{Worked}
 use Rattle.srm_node.specs.declared.working.WorkEnd.TheVariants.{Closed, Broken}
-use Rattle.srm_node.specs.Working.{Took, WorkedFrom}
-use Rattle.srm_node.specs.Hosting.{tap_of_worker, Starts, StopsBy, Joins, WorkedEach, AreEndsOfLanes, HostFails, Hosts}
-use Rattle.srm_node.specs.TurnSample.{feed}
+use Rattle.srm_node.specs.Working.{Took, SeesEach, EndsSo, is_stopped}
+use Rattle.srm_node.specs.Hosting.{Kinds, kinds_of, start_of, starts_of, Starts, StopsBy, Joins, WorkedAs, WorkedEach, AreEndsOfLanes, HostFails, Hosts}
+use Rattle.srm_node.specs.TurnSample.{calls, feed, unpaused, waits_once}
 use Rattle.srm_node.specs.WholeTurnExamples.{before, after, whole}
 
 abbrev pub tap : ℕ → List PageMsg → LaneId → TapView
-tap slot taken lane = record { taken = taken; seat = []; slot = slot; lane = lane; board = lane.board }
+tap slot taken lane = record { taken = taken; closed = false; seat = []; slot = slot; lane = lane; board = lane.board }
 
 -- LANES
 
@@ -33,46 +33,74 @@ not_swapped one other differ h = differ (h 0 (feed 0 [] one) (tap 1 [] other) re
 
 -- STARTING AND JOINING
 
--- of two taps the first one's worker was started
-started_first : {L : Type 0} (s t : TapView) (w : Worker L) → tap_of_worker w ≡ s → Starts (s ∷ t ∷ []) (t ∷ []) [] (w ∷ [])
-started_first s t w is = record { tap = s; taps_are = refl; started_are = ap (λ x. x ∷ []) is }
+-- sinks that count what they see, and never stop a worker
+abbrev Counts : ℕ → ℕ → PageMsg → Bool → ℕ → Type 0
+Counts old slot m goes_on new = (new ≡ suc old) × (goes_on ≡ true)
+
+abbrev pub counting : {L : Type 0} → (L → List PageMsg) → Kinds L ℕ
+counting entries = kinds_of entries (λ list. ⊥) Counts
+
+-- of two taps the first one's worker was started, with the first sink
+started_first : {L : Type 0} (s t : TapView) (w : Worker L ℕ) → start_of w ≡ (s, 0) → Starts (s ∷ t ∷ []) (t ∷ []) (0 ∷ 7 ∷ []) (7 ∷ []) [] (w ∷ [])
+started_first s t w is = record { tap = s; sink = 0; taps_are = refl; sinks_are = refl; started_are = ap (λ x. x ∷ []) is }
 
 -- it is the first's, and no other
-no_other_started : {L : Type 0} (s t : TapView) (w : Worker L) → Starts (s ∷ t ∷ []) (t ∷ []) [] (w ∷ []) → tap_of_worker w ≡ s
-no_other_started s t w h = let taps = h.taps_are in let starts = h.started_are in cc
+no_other_started : {L : Type 0} (s t : TapView) (w : Worker L ℕ) → Starts (s ∷ t ∷ []) (t ∷ []) (0 ∷ 7 ∷ []) (7 ∷ []) [] (w ∷ []) → start_of w ≡ (s, 0)
+no_other_started s t w h = let taps = h.taps_are in let sinks = h.sinks_are in let starts = h.started_are in cc
 
-pub worked_so : {L : Type 0} (entries : L → List PageMsg) (w : Worked L) (from to : TapView) (more : List PageMsg) → w.tap ≡ to → entries w.list ≡ more → w.end ≡ Closed → Took from to more → WorkedFrom entries from w
-worked_so entries w from to more is list end took = record {
+-- what a worker handed back whose tap took one message, which its sink saw, and found its lane at its end
+pub worked_so : {L : Type 0} (entries : L → List PageMsg) (w : Worked L) (from to : TapView) (m : PageMsg) → w.tap ≡ to → entries w.list ≡ m ∷ [] → w.end ≡ Closed → to.closed ≡ true → Took from to (m ∷ []) → WorkedAs (counting entries) (from, 0) w
+worked_so entries w from to m is list end closed took = record {
   took = subst (λ t. Took from t (entries w.list)) (sym is) (subst (λ ms. Took from to ms) (sym list) took);
-  end = λ broken. let f : Closed ≡ Broken = sym end ∙ broken in cc;
+  last = 1;
+  seen = subst (λ e. SeesEach Counts from.slot (is_stopped e) (entries w.list) 0 1) (sym end) (subst (λ ms. SeesEach Counts from.slot false ms 0 1) (sym list) (1, true, (refl, refl), (refl, refl)));
+  end = subst (λ e. EndsSo w.tap.closed ⊥ e) (sym end) (ap (λ (t : TapView). t.closed) is ∙ closed);
 }
 
 -- no worker hands back that its lane is broken
-never_broken : {L : Type 0} (entries : L → List PageMsg) (t : TapView) (w : Worked L) → w.end ≡ Broken → WorkedFrom entries t w → ⊥
-never_broken entries t w broken h = h.end broken
+never_broken : {L : Type 0} (entries : L → List PageMsg) (t : TapView) (w : Worked L) → w.end ≡ Broken → WorkedAs (counting entries) (t, 0) w → ⊥
+never_broken entries t w broken h = subst (λ e. EndsSo w.tap.closed ⊥ e) broken h.end
+
+-- nor that it took what its sink didn't see
+nothing_unseen : {L : Type 0} (entries : L → List PageMsg) (t : TapView) (w : Worked L) (m : PageMsg) → entries w.list ≡ m ∷ [] → (h : WorkedAs (counting entries) (t, 0) w) → h.last ≡ 0 → ⊥
+nothing_unseen entries t w m list h none = unseen (is_stopped w.end) (subst (λ ms. SeesEach Counts t.slot (is_stopped w.end) ms 0 h.last) list h.seen)
+  where
+    unseen : (stopped : Bool) → SeesEach Counts t.slot stopped (m ∷ []) 0 h.last → ⊥
+    unseen stopped (between, goes_on, saw, rest) = which goes_on [] saw.1 rest
+      where
+        which : (goes : Bool) (ms : List PageMsg) → goes ≡ true → MatchBool goes ((stopped ≡ false) × (h.last ≡ between)) ((stopped ≡ true) × (ms ≡ []) × (h.last ≡ between)) → ⊥
+        which true ms on end = let one : 0 ≡ 1 = sym none ∙ end.1 ∙ saw.0 in cc
+        which false ms on end = cc
+
+abbrev took_its_page : LaneId → TapView
+took_its_page lane = record (tap 0 (Open first_page ∷ []) lane) { closed = true }
 
 -- one that took its page was joined, and another not yet
-joined_one : {L : Type 0} (entries : L → List PageMsg) (lane : LaneId) (t : TapView) (v : Worker L) (w : Worked L) → tap_of_worker v ≡ t → w.tap ≡ tap 0 (Open first_page ∷ []) lane → entries w.list ≡ Open first_page ∷ [] → w.end ≡ Closed → Joins entries (tap 0 [] lane ∷ t ∷ []) (v ∷ []) (w ∷ [])
+joined_one : {L : Type 0} (entries : L → List PageMsg) (lane : LaneId) (t : TapView) (v : Worker L ℕ) (w : Worked L) → start_of v ≡ (t, 7) → w.tap ≡ took_its_page lane → entries w.list ≡ Open first_page ∷ [] → w.end ≡ Closed
+    → Joins (counting entries) ((tap 0 [] lane, 0) ∷ (t, 7) ∷ []) (v ∷ []) (w ∷ [])
 joined_one entries lane t v w of is list end = record {
-  joined = tap 0 [] lane ∷ [];
-  split = ap (λ x. tap 0 [] lane ∷ x ∷ []) (sym of);
-  each = (worked_so entries w (tap 0 [] lane) (tap 0 (Open first_page ∷ []) lane) (Open first_page ∷ []) is list end (record { is = refl }), tt);
+  joined = (tap 0 [] lane, 0) ∷ [];
+  split = ap (λ x. (tap 0 [] lane, 0) ∷ x ∷ []) (sym of);
+  each = (worked_so entries w (tap 0 [] lane) (took_its_page lane) (Open first_page) is list end refl (record { is = refl }), tt);
 }
 
 -- HOSTS
 
+abbrev pub one_start : LaneId → List (TapView × ℕ)
+one_start lane = starts_of (tap 0 [] lane ∷ []) (0 ∷ [])
+
 -- all turns were spent, one, behind a pause
-ran_once : (lane : LaneId) (well : WellView) → StopsBy true Turns 1 (before lane well) (after lane well)
-ran_once lane well = inl (refl, record { runs = record { turns = (before lane well, before lane well, refl, refl, record { failures = omega arith; same = refl }, whole lane well) }; goes_on = refl })
+ran_once : (lane : LaneId) (well : WellView) → StopsBy calls true Turns 1 (unpaused None lane well) (after lane well)
+ran_once lane well = inl (refl, record { runs = record { turns = (unpaused None lane well, before lane well, refl, refl, waits_once None lane well, whole lane well) }; goes_on = refl })
 
 -- a host without fault hands back a list for each tap
-one_for_each : {P L : Type 0} (entries : L → List PageMsg) (lane : LaneId) (well : WellView) (h : Hosted P L) → h.worked.items ≡ [] → Hosts entries (before lane well) (tap 0 [] lane ∷ []) 5 h → ⊥
-one_for_each entries lane well h none x = let workers : WorkedEach entries (tap 0 [] lane ∷ []) [] = subst (WorkedEach entries (tap 0 [] lane ∷ [])) none x.workers in workers
+one_for_each : {P L : Type 0} (entries : L → List PageMsg) (lane : LaneId) (well : WellView) (h : Hosted P L) → h.worked.items ≡ [] → Hosts calls (counting entries) (before lane well) (one_start lane) 5 h → ⊥
+one_for_each entries lane well h none x = let workers : WorkedEach (counting entries) (one_start lane) [] = subst (WorkedEach (counting entries) (one_start lane)) none x.workers in workers
 
-nobody : {L : Type 0} (entries : L → List PageMsg) (joined rest : List TapView) (t : TapView) → joined ++ rest ≡ t ∷ [] → rest ≡ [] → WorkedEach entries joined [] → ⊥
+nobody : {L : Type 0} (entries : L → List PageMsg) (started rest : List (TapView × ℕ)) (t : TapView × ℕ) → started ++ rest ≡ t ∷ [] → rest ≡ [] → WorkedEach (counting entries) started [] → ⊥
 nobody entries [] rest t split none each = cc
-nobody entries (s ∷ joined) rest t split none each = each
+nobody entries (s ∷ started) rest t split none each = each
 
 -- with all workers started each of them is joined
-all_joined : {P L : Type 0} (entries : L → List PageMsg) (lane : LaneId) (well : WellView) (h : Hosted P L) → h.worked.items ≡ [] → HostFails entries true (before lane well) (tap 0 [] lane ∷ []) 5 Memory h → ⊥
-all_joined entries lane well h none x = nobody entries x.joined x.rest (tap 0 [] lane) x.split x.whole (subst (WorkedEach entries x.joined) none x.workers)
+all_joined : {P L : Type 0} (entries : L → List PageMsg) (lane : LaneId) (well : WellView) (h : Hosted P L) → h.worked.items ≡ [] → HostFails calls (counting entries) true (before lane well) (one_start lane) 5 Memory h → ⊥
+all_joined entries lane well h none x = nobody entries x.started x.rest (tap 0 [] lane, 0) x.split x.whole (subst (WorkedEach (counting entries) x.started) none x.workers)

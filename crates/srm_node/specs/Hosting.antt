@@ -1,74 +1,94 @@
 -- A node and its page workers in threads.
 use Rattle.std.specs.Prelude.{◌≡◌, ◌⊎◌, ℕ, Bool, true, false, List, [], ◌∷◌, ◌++◌, map, length, slice_get, Some, Err}
 use Rattle.std.specs.Bool.{OnTrue}
+use Rattle.std.specs.List.{zip}
 use Rattle.srm_names.specs.declared.page_msg.PageMsg.{PageMsg}
 use Rattle.srm_pages.specs.Ends.{FeedView, TapView}
 use Rattle.srm_node.specs.declared.hosting.Worker.{Worker}
 use Rattle.srm_node.specs.declared.hosting.Hosted.{Hosted}
 use Rattle.srm_node.specs.declared.working.Worked.{Worked}
 use Rattle.srm_node.specs.Working.{WorkedFrom}
+use Rattle.srm_node.specs.Calls.{Calls}
 use Rattle.srm_node.specs.Parts.{SameFeeds}
 use Rattle.srm_node.specs.Nodes.{NodeView, NodeKeepsLists}
 use Rattle.srm_node.specs.declared.fault.NodeFault.{NodeFault}
 use Rattle.srm_node.specs.declared.fault.NodeFault.TheVariants.{Memory}
 use Rattle.srm_node.specs.Turns.{RunsToEnd, RunEnds}
 
--- the tap that a worker was started with
-abbrev pub tap_of_worker : {L : Type 0} → Worker L → TapView
-tap_of_worker w = w.handle.promise.0.value
+-- the tap and the sink that a worker was started with
+abbrev pub start_of : {L S : Type 0} → Worker L S → TapView × S
+start_of w = (w.handle.promise.0.value, w.handle.promise.1.value)
 
--- one tap less is left, and the last worker was started with it
-pub record Starts {L : Type 0} (taps left : List TapView) (workers more : List (Worker L)) : Type 0 where
+-- the k-th worker is started with the k-th tap and the k-th sink
+abbrev pub starts_of : {S : Type 0} → List TapView → List S → List (TapView × S)
+starts_of taps sinks = zip taps sinks
+
+-- one tap and one sink less are left, and the last worker was started with them
+pub record Starts {L S : Type 0} (taps left : List TapView) (sinks less : List S) (workers more : List (Worker L S)) : Type 0 where
   pub tap : TapView
+  pub sink : S
   pub taps_are : taps ≡ tap ∷ left
-  pub started_are : map tap_of_worker more ≡ map tap_of_worker workers ++ tap ∷ []
+  pub sinks_are : sinks ≡ sink ∷ less
+  pub started_are : map start_of more ≡ map start_of workers ++ (tap, sink) ∷ []
 
--- each worker handed back its own lane's tap, and as its list what that tap took
-abbrev pub WorkedEach : {L : Type 0} → (L → List PageMsg) → List TapView → List (Worked L) → Type 0
-WorkedEach entries [] [] = Unit {0}
-WorkedEach entries (t ∷ ts) (w ∷ ws) = WorkedFrom entries t w × WorkedEach entries ts ws
-WorkedEach entries _ _ = ⊥
+-- What a worker hands back, as `WorkedFrom` says, given what its list has, what is known of a list that was refused room, and what its sink sees.
+pub record Kinds (L S : Type 0) : Type 1 where
+  pub entries : L → List PageMsg
+  pub is_refused : L → Type 0
+  pub sees : S → ℕ → PageMsg → Bool → S → Type 0
+
+abbrev pub kinds_of : {L S : Type 0} → (L → List PageMsg) → (L → Type 0) → (S → ℕ → PageMsg → Bool → S → Type 0) → Kinds L S
+kinds_of entries is_refused sees = record { entries = entries; is_refused = is_refused; sees = sees }
+
+abbrev pub WorkedAs : {L S : Type 0} → Kinds L S → TapView × S → Worked L → Type 0
+WorkedAs kinds start w = WorkedFrom kinds.entries kinds.is_refused kinds.sees start.0 start.1 w
+
+-- each worker handed back its own lane's tap, as its list what that tap took, which its own sink saw, and why it ended
+abbrev pub WorkedEach : {L S : Type 0} → Kinds L S → List (TapView × S) → List (Worked L) → Type 0
+WorkedEach kinds [] [] = Unit {0}
+WorkedEach kinds (s ∷ ss) (w ∷ ws) = WorkedAs kinds s w × WorkedEach kinds ss ws
+WorkedEach kinds _ _ = ⊥
 
 -- of all these some were joined, and the others not yet
-pub record Joins {L : Type 0} (entries : L → List PageMsg) (all : List TapView) (left : List (Worker L)) (worked : List (Worked L)) : Type 0 where
-  pub joined : List TapView
-  pub split : all ≡ joined ++ map tap_of_worker left
-  pub each : WorkedEach entries joined worked
+pub record Joins {L S : Type 0} (kinds : Kinds L S) (all : List (TapView × S)) (left : List (Worker L S)) (worked : List (Worked L)) : Type 0 where
+  pub joined : List (TapView × S)
+  pub split : all ≡ joined ++ map start_of left
+  pub each : WorkedEach kinds joined worked
 
--- workers were started with the first of these taps
-pub record StartsSome {L : Type 0} (taps : List TapView) (workers : List (Worker L)) : Type 0 where
-  pub rest : List TapView
-  pub split : map tap_of_worker workers ++ rest ≡ taps
+-- workers were started with the first of these taps and sinks
+pub record StartsSome {L S : Type 0} (starts : List (TapView × S)) (workers : List (Worker L S)) : Type 0 where
+  pub rest : List (TapView × S)
+  pub split : map start_of workers ++ rest ≡ starts
 
 -- with all workers started the node ran into this fault; or it was not turned, since a worker couldn't be started
-abbrev pub StopsBy : Bool → NodeFault → ℕ → NodeView → NodeView → Type 0
-StopsBy all fault turns old new = ((all ≡ true) × RunEnds (Err fault) turns old new) ⊎ ((all ≡ false) × (fault ≡ Memory) × (new ≡ old))
+abbrev pub StopsBy : {X C : Type 0} → Calls X C → Bool → NodeFault → ℕ → NodeView X C → NodeView X C → Type 0
+StopsBy calls all fault turns old new = ((all ≡ true) × RunEnds calls (Err fault) turns old new) ⊎ ((all ≡ false) × (fault ≡ Memory) × (new ≡ old))
 
--- After a fault: the feeds were let go. The node's journal is handed back, and the tap and list of each worker that was started: of all, or
--- of some.
-pub record HostFails {P L : Type 0} (entries : L → List PageMsg) (all : Bool) (node : NodeView) (taps : List TapView) (turns : ℕ) (fault : NodeFault) (h : Hosted P L) : Type 0 where
-  pub last : NodeView
-  pub runs : StopsBy all fault turns node last
+-- After a fault: the feeds were let go. The node's journal is handed back, and the tap and list of each worker that was started, by the order of the taps:
+-- of all, or of fewer.
+pub record HostFails {P L S X C : Type 0} (calls : Calls X C) (kinds : Kinds L S) (all : Bool) (node : NodeView X C) (starts : List (TapView × S)) (turns : ℕ) (fault : NodeFault) (h : Hosted P L) : Type 0 where
+  pub last : NodeView X C
+  pub runs : StopsBy calls all fault turns node last
   pub keeps : NodeKeepsLists last
   pub journal : h.journal ≡ last.journal
   pub feeds : h.feeds.items ≡ []
-  pub joined : List TapView
-  pub rest : List TapView
-  pub split : joined ++ rest ≡ taps
+  pub started : List (TapView × S)
+  pub rest : List (TapView × S)
+  pub split : started ++ rest ≡ starts
   pub whole : OnTrue all (rest ≡ [])
-  pub workers : WorkedEach entries joined h.worked.items
+  pub workers : WorkedEach kinds started h.worked.items
 
 -- the feed and the tap of a slot are the ends of one lane
 abbrev pub AreEndsOfLanes : List FeedView → List TapView → Type 0
 AreEndsOfLanes feeds taps = (k : ℕ) (f : FeedView) (t : TapView) → slice_get feeds k ≡ Some f → slice_get taps k ≡ Some t → f.lane ≡ t.lane
 
 -- Without fault: the node ran to its end, its journal and its feeds are handed back, of the same lanes, and each worker's tap and list.
-pub record Hosts {P L : Type 0} (entries : L → List PageMsg) (node : NodeView) (taps : List TapView) (turns : ℕ) (h : Hosted P L) : Type 0 where
-  pub last : NodeView
-  pub runs : RunsToEnd turns node last
+pub record Hosts {P L S X C : Type 0} (calls : Calls X C) (kinds : Kinds L S) (node : NodeView X C) (starts : List (TapView × S)) (turns : ℕ) (h : Hosted P L) : Type 0 where
+  pub last : NodeView X C
+  pub runs : RunsToEnd calls turns node last
   pub keeps : NodeKeepsLists last
   pub journal : h.journal ≡ last.journal
   pub feeds : h.feeds.items ≡ last.feeds
   pub slots : length last.feeds ≡ length node.feeds
   pub lanes : SameFeeds node.feeds last.feeds
-  pub workers : WorkedEach entries taps h.worked.items
+  pub workers : WorkedEach kinds starts h.worked.items

@@ -1,3 +1,4 @@
+pub mod Calls
 pub mod Carrying
 pub mod Counting
 pub mod Parts

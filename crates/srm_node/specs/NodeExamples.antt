@@ -16,31 +16,39 @@ use Rattle.srm_entries.specs.declared.state.AgentState.TheVariants.{Active, Leav
 use Rattle.srm_entries.specs.Entries.{released}
 use Rattle.srm_entries.specs.Giving.{given}
 use Rattle.srm_entries.specs.Sample.{first_drawop, second_drawop, entry, quiet, draws, gives}
-use Rattle.srm_node.specs.declared.fault.NodeFault.TheVariants.{Memory, Turns}
+use Rattle.srm_node.specs.declared.fault.NodeFault.TheVariants.{Turns}
+use Rattle.srm_node.specs.declared.fault.NodeFault.TheVariants as faults
+use Rattle.srm_node.specs.declared.working.WorkEnd.TheVariants.{Closed, Memory}
 use Rattle.srm_node.specs.Counting.{counts_of}
 use Rattle.srm_node.specs.Carrying.{Carries, PutsReleased}
 use Rattle.srm_node.specs.Parts.{HearingEnds}
-use Rattle.srm_node.specs.Nodes.{NodeView, has_ended}
+use Rattle.srm_node.specs.Nodes.{has_ended}
 use Rattle.srm_node.specs.Turns.{Paused, RunEnds, TurnEnds}
-use Rattle.srm_node.specs.Working.{Took, SeesEach, TakesAndHands}
-use Rattle.srm_node.specs.Hosting.{StopsBy, WorkedEach}
+use Rattle.srm_node.specs.TurnSample.{Node, calls}
+use Rattle.srm_node.specs.Working.{Took, SeesEach, TakesAndHands, EndsSo, StepEndsSo}
+use Rattle.srm_node.specs.Hosting.{Kinds, StopsBy, WorkedEach}
+use Rattle.srm_wire.specs.Wires.{none_there, it_failed}
 
 -- HEARING
 
--- None came after 3, which the wire tells: without a failed receive that is the end.
-none_after_3 : HearingEnds false 3 (None ∷ [])
+-- None was there after 3: without a failed receive that is the end.
+none_after_3 : HearingEnds false 3 (none_there ∷ [])
 none_after_3 = inr (omega arith, refl)
 
--- so it is after 64, and no None is told
+-- so it is after 64, and none is asked for more
 full_turn : HearingEnds false 64 []
 full_turn = inl (refl, refl)
 
--- a receive that failed was one of the 64, and nothing more is told
-failed_after_63 : HearingEnds true 63 []
+-- the receive that failed was one of the 64, and the last
+failed_after_63 : HearingEnds true 63 (it_failed ∷ [])
 failed_after_63 = (omega arith, refl)
 
-not_failed_after_64 : HearingEnds true 64 [] → ⊥
+not_failed_after_64 : HearingEnds true 64 (it_failed ∷ []) → ⊥
 not_failed_after_64 h = omega (arith, h.0)
+
+-- a node that goes on to hear behind it
+not_gone_on : HearingEnds true 3 (it_failed ∷ none_there ∷ []) → ⊥
+not_gone_on h = let last : it_failed ∷ none_there ∷ [] ≡ it_failed ∷ [] = h.1 in cc
 
 -- LANES
 
@@ -83,24 +91,24 @@ counted = refl
 -- RUNS
 
 -- no turn, no change
-no_turns : (n : NodeView) → has_ended n ≡ false → RunEnds (Err Turns) 0 n n
+no_turns : (n : Node) → has_ended n ≡ false → RunEnds calls (Err Turns) 0 n n
 no_turns n goes_on = record { runs = record { turns = refl }; goes_on = goes_on }
 
 -- a run that came to its end needn't have spent its turns
-ends_at_once : (n : NodeView) → has_ended n ≡ true → RunEnds (Ok tt) 5 n n
+ends_at_once : (n : Node) → has_ended n ≡ true → RunEnds calls (Ok tt) 5 n n
 ends_at_once n ended = record { count = 0; few = omega arith; runs = record { turns = refl }; ended = ended }
 
 -- no turn ends by fault 3
-no_turn_is_spent : (old new : NodeView) → TurnEnds (Err Turns) old new ≡ ⊥
+no_turn_is_spent : (old new : Node) → TurnEnds calls (Err Turns) old new ≡ ⊥
 no_turn_is_spent old new = refl
 
 -- a pause in which two calls of the wire failed
-paused : (n : NodeView) → Paused n (record n { failures = n.failures + 2 })
-paused n = record { failures = omega arith; same = refl }
+paused : (n : Node) → Paused calls n (record n { failures = n.failures + 2; wire = suc n.wire; clock = suc n.clock })
+paused n = record { told = 1; reads = (refl, refl); micros = 0; pauses = refl; failures = omega arith; same = refl }
 
 -- none takes a stroke in hand
-takes_no_stroke : (n : NodeView) (s : Stroke) → Paused n (record n { hand = Some s }) → n.hand ≡ Some s
-takes_no_stroke n s h = sym (ap (λ (x : NodeView). x.hand) h.same)
+takes_no_stroke : (n : Node) (s : Stroke) → Paused calls n (record n { hand = Some s }) → n.hand ≡ Some s
+takes_no_stroke n s h = sym (ap (λ (x : Node). x.hand) h.same)
 
 -- THE END
 
@@ -108,24 +116,24 @@ takes_no_stroke n s h = sym (ap (λ (x : NodeView). x.hand) h.same)
 abbrev both_done : LaneId → List FeedView
 both_done lane = feed false (Open first_page ∷ Draw first_drawop ∷ Close ∷ []) lane ∷ feed true (Open first_page ∷ []) lane ∷ []
 
-abbrev ended : NodeView → LaneId → NodeView
+abbrev ended : Node → LaneId → Node
 ended n lane = record n { journal = record n.journal { entries = entry 0 4 Ticked (quiet Leaving) ∷ entry 0 5 Ticked (quiet Gone) ∷ [] }; feeds = both_done lane }
 
-gone_and_done : (n : NodeView) (lane : LaneId) → has_ended (ended n lane) ≡ true
+gone_and_done : (n : Node) (lane : LaneId) → has_ended (ended n lane) ≡ true
 gone_and_done n lane = refl
 
 -- not while a feed that isn't disconnected has no close
-not_while_open : (n : NodeView) (lane : LaneId) → has_ended (record (ended n lane) { feeds = feed false (Open first_page ∷ Draw first_drawop ∷ []) lane ∷ both_done lane }) ≡ false
+not_while_open : (n : Node) (lane : LaneId) → has_ended (record (ended n lane) { feeds = feed false (Open first_page ∷ Draw first_drawop ∷ []) lane ∷ both_done lane }) ≡ false
 not_while_open n lane = refl
 
 -- nor while the member is leaving
-not_while_leaving : (n : NodeView) (lane : LaneId) → has_ended (record (ended n lane) { journal = record n.journal { entries = entry 0 4 Ticked (quiet Leaving) ∷ [] } }) ≡ false
+not_while_leaving : (n : Node) (lane : LaneId) → has_ended (record (ended n lane) { journal = record n.journal { entries = entry 0 4 Ticked (quiet Leaving) ∷ [] } }) ≡ false
 not_while_leaving n lane = refl
 
 -- WORKERS
 
 abbrev tap : List PageMsg → LaneId → TapView
-tap taken lane = record { taken = taken; seat = []; slot = 3; lane = lane; board = lane.board }
+tap taken lane = record { taken = taken; closed = false; seat = []; slot = 3; lane = lane; board = lane.board }
 
 took_two : (lane : LaneId) → Took (tap (Open first_page ∷ []) lane) (tap (Open first_page ∷ Draw first_drawop ∷ Close ∷ []) lane) (Draw first_drawop ∷ Close ∷ [])
 took_two lane = record { is = refl }
@@ -146,15 +154,33 @@ took_the_second : (lane : LaneId) → TakesAndHands Stops true (tap (Open first_
 took_the_second lane = record { more = Draw first_drawop ∷ []; took = record { is = refl }; grew = refl; seen = (2, false, (refl, refl, refl), (refl, refl, refl)) }
 
 -- a step that took nothing, where the lane was at its end
-took_nothing : (lane : LaneId) → TakesAndHands Stops false (tap (Open first_page ∷ []) lane) (tap (Open first_page ∷ []) lane) (Open first_page ∷ []) (Open first_page ∷ []) 1 1
+took_nothing : (lane : LaneId) → TakesAndHands Stops false (tap (Open first_page ∷ []) lane) (record (tap (Open first_page ∷ []) lane) { closed = true }) (Open first_page ∷ []) (Open first_page ∷ []) 1 1
 took_nothing lane = record { more = []; took = record { is = refl }; grew = refl; seen = (refl, refl) }
 
 -- HOSTS
 
 -- where a worker couldn't be started the node wasn't turned, and that is want of memory
-not_turned : (n : NodeView) → StopsBy false Memory 5 n n
+not_turned : (n : Node) → StopsBy calls false faults.Memory 5 n n
 not_turned n = inr (refl, refl, refl)
 
 -- a worker that is left out, or one too many, is no host's end
-one_left_out : {L : Type 0} (entries : L → List PageMsg) (t : TapView) → WorkedEach entries (t ∷ []) [] ≡ ⊥
-one_left_out entries t = refl
+one_left_out : {L S : Type 0} (kinds : Kinds L S) (start : TapView × S) → WorkedEach kinds (start ∷ []) [] ≡ ⊥
+one_left_out kinds start = refl
+
+-- HOW A WORKER ENDS
+
+-- Closed where a take found the lane at its end, and Memory where the list was refused room
+closed_at_the_end : EndsSo true ⊥ Closed
+closed_at_the_end = refl
+
+-- want of memory isn't told as Closed, by which the list would be cut short and nobody would know
+memory_is_not_closed : EndsSo false (Unit {0}) Closed → ⊥
+memory_is_not_closed h = cc
+
+-- nor Memory where no room was refused
+no_memory_without_a_refusal : EndsSo true ⊥ Memory → ⊥
+no_memory_without_a_refusal h = h
+
+-- a step that goes on ended nothing
+goes_on : StepEndsSo false ⊥ None
+goes_on = tt

@@ -1,7 +1,7 @@
 -- What contracts see of a node.
-use Rattle.std.specs.Prelude.{◌≡◌, ℕ, List, [], Bool, false, ◌&&◌, ◌||◌, map, Option, Some, None, length, slice_get}
+use Rattle.std.specs.Prelude.{◌≡◌, ℕ, List, [], Bool, false, ◌&&◌, ◌||◌, map, min, Option, Some, None, length, slice_get}
 use Rattle.std.specs.List.{list_any, list_all}
-use Rattle.srm_names.specs.declared.limits.TheConstants.{PAGES}
+use Rattle.srm_names.specs.declared.limits.TheConstants.{PAGES, LATEST_MOMENT}
 use Rattle.srm_names.specs.PageFeeds.{is_close}
 use Rattle.srm_pages.specs.declared.stroke.Stroke.{Stroke}
 use Rattle.srm_pages.specs.Ends.{FeedView, WellView}
@@ -13,9 +13,13 @@ use Rattle.srm_node.specs.declared.limits.TheConstants.{BUFFER_BYTES}
 use Rattle.srm_wire.specs.Wires.{Told}
 use Rattle.srm_node.specs.Carrying.{KeepsLists}
 
+-- the moment that a reading counts as: one past the greatest counts as that
+abbrev pub moment_of : ℕ → ℕ
+moment_of told = min told LATEST_MOMENT
+
 -- the journal, the feeds by slot, the well, the stroke in hand, the moment from which it is to leave if it was asked to, how many calls of the wire
--- failed, and what the wire told if it tells
-pub record NodeView : Type 0 where
+-- failed, what the wire told if it tells, and the wire and the clock as they stand
+pub record NodeView (X C : Type 0) : Type 0 where
   pub journal : Journal
   pub feeds : List FeedView
   pub well : WellView
@@ -23,19 +27,20 @@ pub record NodeView : Type 0 where
   pub asked : Option ℕ
   pub failures : ℕ
   pub told : Option Told
-
--- what contracts see of a node: this, and its words and its clock as they stand
-pub record NodeState (W C : Type 0) : Type 0 where
-  pub view : NodeView
-  pub words : W
+  pub wire : X
   pub clock : C
 
+-- what contracts see of a node: this, and its words as they stand
+pub record NodeState (W X C : Type 0) : Type 0 where
+  pub view : NodeView X C
+  pub words : W
+
 -- what they see of the recorder in it
-abbrev pub recorded_in : {W C : Type 0} → NodeState W C → RecorderView W
+abbrev pub recorded_in : {W X C : Type 0} → NodeState W X C → RecorderView W
 recorded_in n = record { journal = n.view.journal; words = n.words }
 
 -- what always holds of a node
-abbrev pub NodeKeepsLists : NodeView → Type 0
+abbrev pub NodeKeepsLists : {X C : Type 0} → NodeView X C → Type 0
 NodeKeepsLists n = KeepsLists n.journal n.feeds n.well.received n.hand
 
 -- whether a feed put its close, which in a page feed is the last message
@@ -47,12 +52,12 @@ abbrev pub has_nothing_more : FeedView → Bool
 has_nothing_more f = f.disconnected || has_closed f
 
 -- whether the member is gone by its journal, and nothing more comes of any feed
-abbrev pub has_ended : NodeView → Bool
+abbrev pub has_ended : {X C : Type 0} → NodeView X C → Bool
 has_ended n = is_gone (state n.journal.entries) && list_all has_nothing_more n.feeds
 
 -- what a node keeps: its lists hang together, its settings are those of its journal, its buffer has its length, and it knows which feeds put
 -- their close
-pub record IsNode (n : NodeView) (config : Config) (room : ℕ) (closed : List Bool) : Type 0 where
+pub record IsNode {X C : Type 0} (n : NodeView X C) (config : Config) (room : ℕ) (closed : List Bool) : Type 0 where
   pub lists : NodeKeepsLists n
   pub settings : n.journal.start.config ≡ config
   pub room_is : room ≡ BUFFER_BYTES
@@ -68,7 +73,13 @@ pub record IsNewJournal (config : Config) (j : Journal) : Type 0 where
   pub made : ℕ
   pub is : j ≡ record { start = record { config = config; made = made }; entries = [] }
 
--- a node with these settings that did nothing yet
-pub record IsNewNode (config : Config) (feeds : List FeedView) (well : WellView) (failures : ℕ) (told : Option Told) (n : NodeView) : Type 0 where
+-- a node with these settings that did nothing yet, over this wire
+pub record IsNewNode {X C : Type 0} (config : Config) (feeds : List FeedView) (well : WellView) (failures : ℕ) (told : Option Told) (wire : X) (n : NodeView X C) : Type 0 where
   pub made : ℕ
-  pub is : n ≡ record { journal = record { start = record { config = config; made = made }; entries = [] }; feeds = feeds; well = well; hand = None; asked = None; failures = failures; told = told }
+  pub is : n ≡ record { journal = record { start = record { config = config; made = made }; entries = [] }; feeds = feeds; well = well; hand = None; asked = None; failures = failures; told = told; wire = wire; clock = n.clock }
+
+-- the node was made at the moment of one reading of this clock
+pub record IsMadeNow {X C : Type 0} (Reads : C → ℕ → C → Type 0) (clock : C) (n : NodeView X C) : Type 0 where
+  pub told : ℕ
+  pub reads : Reads clock told n.clock
+  pub counts : n.journal.start.made ≡ moment_of told

@@ -1,5 +1,5 @@
 -- A node's turn in which its member leaves and each lane has its close, and the run that ends by it, at worked examples.
-use Rattle.std.specs.Prelude.{◌≡◌, ◌+◌, ℕ, ◌==◌, true, false, List, [], ◌∷◌, ◌++◌, map, take, Option, Some, None, Ok, Err, refl}
+use Rattle.std.specs.Prelude.{◌≡◌, ℕ, ◌==◌, true, false, List, [], ◌∷◌, ◌++◌, map, take, Option, Some, None, Ok, Err, refl}
 use Rattle.std.specs.List.{AllByRecursion}
 use Rattle.std.proofs.Common.{arith, inl, sym, ◌∙◌, ap, lit≤, lit<}
 use Rattle.std.proofs.lemmas.List.{append-nil}
@@ -13,7 +13,7 @@ use Rattle.srm_codec.specs.declared.datagram.Datagram.{Datagram}
 use Rattle.srm_codec.specs.declared.datagram.Datagram.TheVariants.{Session}
 use Rattle.srm_codec.specs.Spelling.{IsSpellable, head, page_bytes, name_bytes, echo_bytes, spelling}
 use Rattle.srm_bucket.specs.Law.{BucketLaw}
-use Rattle.srm_pages.specs.Ends.{FeedView, WellView, LaneId}
+use Rattle.srm_pages.specs.Ends.{FeedView, WellView, LaneId, is_drained}
 use Rattle.srm_entries.specs.declared.entry.Entry.{Entry}
 use Rattle.srm_entries.specs.declared.entry.Input.TheVariants.{AskedLeave, Ticked, Gave}
 use Rattle.srm_entries.specs.declared.state.AgentState.TheVariants.{Leaving, Gone}
@@ -31,9 +31,9 @@ use Rattle.srm_world.proofs.Lawful.{lawful_journal}
 use Rattle.srm_wire.specs.Wires.{bytes_to}
 use Rattle.srm_node.specs.declared.fault.NodeFault.TheVariants.{Turns}
 use Rattle.srm_node.specs.Carrying.{Carries, CarriesEach}
-use Rattle.srm_node.specs.Nodes.{NodeView, has_ended}
+use Rattle.srm_node.specs.Nodes.{has_ended}
 use Rattle.srm_node.specs.Turns.{DrawsNow, LeavesNow, TicksNow, GivesNow, Turned, RunEnds}
-use Rattle.srm_node.specs.TurnSample.{at_each, eight, journal, unturned, heard_nothing, hears_nothing, gives_as, opens_as, give_right, gives_up_to}
+use Rattle.srm_node.specs.TurnSample.{Node, at_each, eight, journal, calls, unturned, unpaused, waits_once, read_once, reads_once, heard_nothing, hears_nothing, looked, looks_once, gives_as, opens_as, give_right, gives_up_to}
 
 -- WHAT THE TURN WRITES
 
@@ -164,21 +164,25 @@ lawful = lawful_journal (journal entries) (record {
 -- THE TURN
 
 -- the node was asked to leave at once
-abbrev pub asked_before : LaneId → WellView → NodeView
-asked_before lane well = unturned (Some 0) lane well
+abbrev pub asked_before : LaneId → WellView → Node
+asked_before lane well = unturned (Some 0) lane (record well { nones = 0 })
 
-abbrev heard : LaneId → WellView → NodeView
-heard lane well = heard_nothing (Some 0) lane well
+abbrev heard : LaneId → WellView → Node
+heard lane well = heard_nothing (Some 0) lane (record well { nones = 0 })
 
--- the well has no stroke
-abbrev drawn : LaneId → WellView → NodeView
-drawn lane well = record (heard lane well) { well = record well { nones = well.nones + 1 } }
+-- the pens said that they are done
+abbrev seen : LaneId → WellView → Node
+seen lane well = looked (Some 0) lane (record well { nones = 0 })
 
-abbrev left : LaneId → WellView → NodeView
+-- and then the well was found to have no stroke
+abbrev drawn : LaneId → WellView → Node
+drawn lane well = record (seen lane well) { well = record well { nones = 1; done_at = Some 0 } }
+
+abbrev left : LaneId → WellView → Node
 left lane well = record (drawn lane well) { journal = journal (first 1); asked = None }
 
-abbrev ticked : LaneId → WellView → NodeView
-ticked lane well = record (left lane well) { journal = journal (first 2); told = Some (record { came = None ∷ []; went = bytes_to 1 farewell_bytes ∷ [] }) }
+abbrev ticked : LaneId → WellView → Node
+ticked lane well = record (left lane well) { journal = journal (first 2); told = Some (record { came = None ∷ []; went = bytes_to 1 farewell_bytes ∷ [] }); wire = 3 }
 
 abbrev pub put : List PageMsg
 put = Open first_page ∷ Close ∷ []
@@ -188,18 +192,18 @@ abbrev closed : LaneId → List FeedView
 closed lane = eight put (Close ∷ []) lane
 
 -- the node after its turn
-abbrev pub ended : LaneId → WellView → NodeView
+abbrev pub ended : LaneId → WellView → Node
 ended lane well = record (ticked lane well) { journal = journal entries; feeds = closed lane }
 
 -- no stroke is there
-draws_none : (lane : LaneId) (well : WellView) → DrawsNow 1 true (heard lane well) (drawn lane well)
+draws_none : (lane : LaneId) (well : WellView) → DrawsNow 1 true (seen lane well) (drawn lane well)
 draws_none lane well = record {
   drew = record {
     count = 0;
     few = omega arith;
     draws = record {
       all = [];
-      pops = record { popped = []; received = ap (λ ss. record well { received = ss; nones = well.nones + 1 }) (sym (append-nil well.received)); all_is = refl };
+      pops = record { popped = []; received = ap (λ ss. record well { received = ss; nones = 1; done_at = Some 0 }) (sym (append-nil well.received)); all_is = refl };
       draws = record { strokes = []; entries = []; counted = refl; grown = refl; each = tt; all_is = refl };
     };
     ends = omega arith;
@@ -207,14 +211,19 @@ draws_none lane well = record {
   same = refl;
 }
 
-leaves : (lane : LaneId) (well : WellView) → LeavesNow 1 true (drawn lane well) (left lane well)
-leaves lane well = record { pens_done = true; leaves = record { entries = asks ∷ []; grown = refl; moments = (refl, tt); inputs = refl }; same = refl }
+-- A look that came behind the last time that none was found says nothing of what a pen sent in between.
+not_by_a_later_look : (well : WellView) → is_drained (record well { nones = 1; done_at = Some 1 }) ≡ false
+not_by_a_later_look well = refl
 
-ticks_once : (lane : LaneId) (well : WellView) → TicksNow 1 false (left lane well) (ticked lane well)
+leaves : (lane : LaneId) (well : WellView) → LeavesNow 1 true (drawn lane well) (left lane well)
+leaves lane well = record { leaves = record { entries = asks ∷ []; grown = refl; moments = (refl, tt); inputs = refl }; same = refl }
+
+ticks_once : (lane : LaneId) (well : WellView) → TicksNow calls.sends 1 false (left lane well) (ticked lane well)
 ticks_once lane well = record {
   outs = out ∷ [];
   ticks = record { entry = parts; grown = refl; moment = refl; is_tick = record { input = refl; sends = record { same = refl; spelled = (record { spelled = record { spellable = farewell_spelled; text = spelled_so } }, tt) } } };
   sends = record { failures = (omega arith, tt); went = bytes_to 1 farewell_bytes ∷ []; some = inl (refl, tt); whole = refl; tells = record { told = refl } };
+  tried = (3, false, false, refl, (refl, refl), (refl, refl));
   same = refl;
 }
 
@@ -227,18 +236,24 @@ gives_all lane well = record {
   same = refl;
 }
 
-pub turned : (lane : LaneId) (well : WellView) → Turned false false (asked_before lane well) (ended lane well)
+pub turned : (lane : LaneId) (well : WellView) → Turned calls false false (asked_before lane well) (ended lane well)
 turned lane well = record {
   ticked = ticked lane well;
   to_tick = record {
     now = 1;
-    none_left = true;
-    heard = heard lane well;
-    drawn = drawn lane well;
     left = left lane well;
-    hears = hears_nothing (Some 0) lane well;
-    draws = draws_none lane well;
-    leaves = leaves lane well;
+    to_leaving = record {
+      none_left = true;
+      read = read_once (Some 0) lane (record well { nones = 0 });
+      heard = heard lane well;
+      looked = seen lane well;
+      drawn = drawn lane well;
+      reads = reads_once (Some 0) lane (record well { nones = 0 });
+      hears = hears_nothing (Some 0) lane (record well { nones = 0 });
+      looks = looks_once (Some 0) lane (record well { nones = 0 });
+      draws = draws_none lane well;
+      leaves = leaves lane well;
+    };
     ticks = ticks_once lane well;
   };
   gives = gives_all lane well;
@@ -246,18 +261,22 @@ turned lane well = record {
 
 -- THE RUN
 
+-- before the pause
+abbrev pub first_of_all : LaneId → WellView → Node
+first_of_all lane well = unpaused (Some 0) lane (record well { nones = 0 })
+
 has_ended_so : (lane : LaneId) (well : WellView) → has_ended (ended lane well) ≡ true
 has_ended_so lane well = refl
 
 -- behind a pause it did this turn, and then it has ended, though five were asked for
-pub runs_to_end : (lane : LaneId) (well : WellView) → RunEnds (Ok tt) 5 (asked_before lane well) (ended lane well)
+pub runs_to_end : (lane : LaneId) (well : WellView) → RunEnds calls (Ok tt) 5 (first_of_all lane well) (ended lane well)
 runs_to_end lane well = record {
   count = 1;
   few = omega arith;
-  runs = record { turns = (asked_before lane well, asked_before lane well, refl, refl, record { failures = omega arith; same = refl }, turned lane well) };
+  runs = record { turns = (first_of_all lane well, asked_before lane well, refl, refl, waits_once (Some 0) lane (record well { nones = 0 }), turned lane well) };
   ended = refl;
 }
 
 -- a node that has ended does no turn more
-no_turn_more : (lane : LaneId) (well : WellView) (n : NodeView) → RunEnds (Err Turns) 1 (ended lane well) n → ⊥
-no_turn_more lane well n h = let (node, paused, same, goes_on, waits, turn) = h.runs.turns in let open_yet : true ≡ false = sym (ap has_ended same) ∙ goes_on in cc
+no_turn_more : (lane : LaneId) (well : WellView) (n : Node) → RunEnds calls (Err Turns) 1 (ended lane well) n → ⊥
+no_turn_more lane well n h = let (node, waited, same, goes_on, waits, turn) = h.runs.turns in let open_yet : true ≡ false = sym (ap has_ended same) ∙ goes_on in cc

@@ -16,43 +16,45 @@ use Rattle.srm_outbox.specs.Outs.{AreOutsOf}
 use Rattle.srm_world.specs.Traces.{Journal}
 use Rattle.srm_world.specs.Claims.{IsLawfulJournal}
 use Rattle.srm_world.specs.Recording.{with_entry, with_entries, IsAt, EntersEach, HearsEach}
-use Rattle.srm_node.specs.declared.limits.TheConstants.{DATAGRAMS_A_TURN, STROKES_A_TURN}
-use Rattle.srm_wire.specs.Wires.{Told, TellsMore}
+use Rattle.srm_node.specs.declared.limits.TheConstants.{BUFFER_BYTES, DATAGRAMS_A_TURN, STROKES_A_TURN}
+use Rattle.srm_wire.specs.Wires.{Told, TellsMore, ReceivesEach, all_told, answered_with, none_there, it_failed}
 use Rattle.srm_node.specs.Carrying.{Carries, CarriesEach, drawing}
 
 -- LISTENING
 
--- So many datagrams came, and each has its entry. A wire that tells has told of them, and then of so much more.
-pub record Listens (now count : ℕ) (ended : List (Option (List ℕ))) (old new : Journal) (was is : Option Told) : Type 0 where
+-- So many datagrams came, and each has its entry; and then receive answered this, if anything. Each receive was one of the wire, and a wire that tells
+-- has told of them.
+pub record Listens {X : Type 0} (Receives : X → ℕ → List (Option (List ℕ)) → X → Type 0) (now count : ℕ) (last : List (List (Option (List ℕ)))) (old new : Journal) (was is : Option Told) (before after : X) : Type 0 where
   pub came : List (List ℕ)
   pub entries : List Entry
   pub counted : length came ≡ count
   pub grown : new ≡ with_entries old entries
   pub each : HearsEach now old came entries
-  pub told : TellsMore (map (λ b. Some b) came ++ ended) [] was is
+  pub told : TellsMore (map (λ b. Some b) came ++ all_told last) [] was is
+  pub receives : ReceivesEach Receives BUFFER_BYTES (map answered_with came ++ last) before after
 
 -- as many came as a turn receives, or fewer and then none was there
-abbrev pub HearingIsWhole : ℕ → List (Option (List ℕ)) → Type 0
-HearingIsWhole count ended = ((count ≡ DATAGRAMS_A_TURN) × (ended ≡ [])) ⊎ ((count < DATAGRAMS_A_TURN) × (ended ≡ None ∷ []))
+abbrev pub HearingIsWhole : ℕ → List (List (Option (List ℕ))) → Type 0
+HearingIsWhole count last = ((count ≡ DATAGRAMS_A_TURN) × (last ≡ [])) ⊎ ((count < DATAGRAMS_A_TURN) × (last ≡ none_there ∷ []))
 
--- How hearing ends: where a receive failed, before as many came as a turn receives, and nothing more is told of; else all was heard.
-abbrev pub HearingEnds : Bool → ℕ → List (Option (List ℕ)) → Type 0
-HearingEnds true count ended = (count < DATAGRAMS_A_TURN) × (ended ≡ [])
-HearingEnds false count ended = HearingIsWhole count ended
+-- How hearing ends: with a receive that failed, before as many came as a turn receives; else all was heard.
+abbrev pub HearingEnds : Bool → ℕ → List (List (Option (List ℕ))) → Type 0
+HearingEnds true count last = (count < DATAGRAMS_A_TURN) × (last ≡ it_failed ∷ [])
+HearingEnds false count last = HearingIsWhole count last
 
 -- what came was heard, and all of it unless a call failed
-pub record Listened (now : ℕ) (failed : Bool) (old new : Journal) (was is : Option Told) : Type 0 where
+pub record Listened {X : Type 0} (Receives : X → ℕ → List (Option (List ℕ)) → X → Type 0) (now : ℕ) (failed : Bool) (old new : Journal) (was is : Option Told) (before after : X) : Type 0 where
   pub count : ℕ
-  pub ended : List (Option (List ℕ))
-  pub listens : Listens now count ended old new was is
-  pub ends : HearingEnds failed count ended
+  pub last : List (List (Option (List ℕ)))
+  pub listens : Listens Receives now count last old new was is before after
+  pub ends : HearingEnds failed count last
 
 -- Memory ran out: what came was heard, but for the last of it, which is lost.
-pub record ListenedCut (now : ℕ) (old new : Journal) (was is : Option Told) : Type 0 where
+pub record ListenedCut {X : Type 0} (Receives : X → ℕ → List (Option (List ℕ)) → X → Type 0) (now : ℕ) (old new : Journal) (was is : Option Told) (before after : X) : Type 0 where
   pub count : ℕ
   pub lost : List ℕ
   pub few : count < DATAGRAMS_A_TURN
-  pub listens : Listens now count (Some lost ∷ []) old new was is
+  pub listens : Listens Receives now count (answered_with lost ∷ []) old new was is before after
 
 -- DRAWING
 
@@ -124,9 +126,9 @@ pub record DrewStrokesCut (now : ℕ) (old new : Journal) (from to : WellView) (
 
 -- LEAVING
 
--- it leaves where no stroke is left, its pens are done, and it is to by now
-abbrev pub is_to_leave : (none_left pens_done : Bool) → Option ℕ → ℕ → Bool
-is_to_leave none_left pens_done asked now = none_left && (pens_done && has_come now asked)
+-- it leaves where no stroke is left, nothing more comes of its pens, and it is to by now
+abbrev pub is_to_leave : (none_left drained : Bool) → Option ℕ → ℕ → Bool
+is_to_leave none_left drained asked now = none_left && (drained && has_come now asked)
 
 -- one that left isn't to leave again
 abbrev pub still_asked : Bool → Option ℕ → Option ℕ

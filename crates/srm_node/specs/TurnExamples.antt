@@ -1,7 +1,6 @@
 -- The drawing, the leaving and the waits of a turn, at worked examples.
-use Rattle.std.specs.Prelude.{◌≡◌, ◌+◌, ◌<◌, ℕ, true, false, List, [], ◌∷◌, ◌++◌, map, min, Some, None, replicate, refl}
-use Rattle.std.proofs.Common.{arith, ap, inl, inr, ◌∙◌}
-use Rattle.srm_names.specs.declared.limits.TheConstants.{LATEST_MOMENT}
+use Rattle.std.specs.Prelude.{◌≡◌, ◌+◌, ◌<◌, ℕ, true, false, List, [], ◌∷◌, ◌++◌, map, Some, None, replicate, refl}
+use Rattle.std.proofs.Common.{arith, ap, inl, inr}
 use Rattle.srm_names.specs.Names.{first_page}
 use Rattle.srm_codec.specs.declared.datagram.Datagram.TheVariants.{Data}
 use Rattle.srm_timers.specs.ListedWords.{next_listed}
@@ -17,7 +16,8 @@ use Rattle.srm_world.specs.Recording.{IsAt}
 use Rattle.srm_world.specs.WaitWords.{RecorderView}
 use Rattle.srm_node.specs.Parts.{IsAdmitted, DrawsStrokes, DrawingEnds, is_to_leave, Leaves}
 use Rattle.srm_node.specs.Waits.{WaitsByWords}
-use Rattle.srm_node.specs.Moments.{IsTold, IsMadeAt, GrowsAt}
+use Rattle.srm_node.specs.Moments.{IsMadeAt, GrowsAt}
+use Rattle.srm_node.specs.Nodes.{moment_of}
 
 -- a member with a bucket of 1,051 bytes, which is one full datagram
 abbrev journal : List Entry → Journal
@@ -100,21 +100,19 @@ waits_by_one_word = record { start = refl; words = record { added = first_drawn 
 
 -- THE CLOCK
 
-abbrev stands_at : ℕ → ℕ → Type 0
-stands_at n told = told ≡ n
+-- at 5 the draw was made
+made_at_5 : GrowsAt 5 (journal []) (journal (first_drawn ∷ []))
+made_at_5 = record { entries = first_drawn ∷ []; grown = refl; made = (inr refl, tt) }
 
--- a clock that stands at 5 told the moment of the draw
-told_5 : GrowsAt (IsTold (stands_at 5)) (journal []) (journal (first_drawn ∷ []))
-told_5 = record { entries = first_drawn ∷ []; grown = refl; made = (inr (5, record { told = 5; tells = refl; counts = refl }, refl), tt) }
+-- at 2 what comes behind the draw, where 2 counts as 5
+made_at_2 : GrowsAt 2 (journal (first_drawn ∷ [])) (journal (first_drawn ∷ asked ∷ []))
+made_at_2 = record { entries = asked ∷ []; grown = refl; made = (inr refl, tt) }
 
--- one that stands at 2 told it of what comes behind the draw, where 2 counts as 5
-told_2 : GrowsAt (IsTold (stands_at 2)) (journal (first_drawn ∷ [])) (journal (first_drawn ∷ asked ∷ []))
-told_2 = record { entries = asked ∷ []; grown = refl; made = (inr (2, record { told = 2; tells = refl; counts = refl }, refl), tt) }
+-- and not the draw
+not_made_at_2 : IsMadeAt 2 (journal []) first_drawn → ⊥
+not_made_at_2 (inl is) = cc
+not_made_at_2 (inr at) = let same : 5 ≡ moment_that_counts (Some 2) 3 = at in cc
 
--- and not of the draw
-not_told_2 : IsMadeAt (IsTold (stands_at 2)) (journal []) first_drawn → ⊥
-not_told_2 (inl is) = cc
-not_told_2 (inr (now, told, at)) =
-    let is : now ≡ 2 = told.counts ∙ ap (λ n. min n LATEST_MOMENT) told.tells in
-    let same : 5 ≡ moment_that_counts (Some 2) 3 = at ∙ ap (λ n. moment_that_counts (Some n) 3) is in
-    cc
+-- what a clock tells past 2^48 counts as 2^48
+a_late_reading : moment_of 281474976710657 ≡ 281474976710656
+a_late_reading = refl

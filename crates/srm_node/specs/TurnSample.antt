@@ -20,7 +20,8 @@ use Rattle.srm_world.specs.Claims.{IsLawfulJournal}
 use Rattle.srm_node.specs.Carrying.{CarriesEach}
 use Rattle.srm_node.specs.Parts.{GivesUpTo, SameFeed, is_give, is_served}
 use Rattle.srm_node.specs.Nodes.{NodeView}
-use Rattle.srm_node.specs.Turns.{HearsNow}
+use Rattle.srm_node.specs.Calls.{Calls}
+use Rattle.srm_node.specs.Turns.{ReadsNow, HearsNow, LooksNow, Paused}
 use Rattle.srm_entries.specs.Sample.{config}
 use Rattle.srm_entries.proofs.Plain.{plain, right}
 
@@ -47,25 +48,59 @@ eight put rest lane = feed 0 put lane ∷ feed 1 rest lane ∷ feed 2 rest lane 
 abbrev pub journal : List Entry → Journal
 journal es = record { start = record { config = config 0; made = 0 }; entries = es }
 
--- member 0 of two over a wire that tells, which did no turn yet, and is to leave at this moment, if at any
-abbrev pub unturned : Option ℕ → LaneId → WellView → NodeView
-unturned asked lane well = record { journal = journal []; feeds = eight [] [] lane; well = well; hand = None; asked = asked; failures = 0; told = Some (record { came = []; went = [] }) }
+-- a node whose wire and clock are the numbers of their calls
+abbrev pub Node : Type 0
+Node = NodeView ℕ ℕ
 
--- nothing came
-abbrev pub heard_nothing : Option ℕ → LaneId → WellView → NodeView
-heard_nothing asked lane well = record (unturned asked lane well) { told = Some (record { came = None ∷ []; went = [] }) }
+-- each call counts, no send fails, and each reading tells 1
+abbrev pub calls : Calls ℕ ℕ
+calls = record {
+  reads = λ old told new. (told ≡ 1) × (new ≡ suc old);
+  receives = λ old room answer new. (room ≡ 4096) × (new ≡ suc old);
+  sends = λ old sent failed new. (failed ≡ false) × (new ≡ suc old);
+  pauses = λ old micros new. new ≡ suc old;
+}
 
-pub hears_nothing : (asked : Option ℕ) (lane : LaneId) (well : WellView) → HearsNow 1 false (unturned asked lane well) (heard_nothing asked lane well)
+-- member 0 of two over a wire that tells, which did no turn yet, waited once, and is to leave at this moment, if at any
+abbrev pub unturned : Option ℕ → LaneId → WellView → Node
+unturned asked lane well = record { journal = journal []; feeds = eight [] [] lane; well = well; hand = None; asked = asked; failures = 0; told = Some (record { came = []; went = [] }); wire = 1; clock = 1 }
+
+-- before it waited, by one call of its wire and one reading of its clock
+abbrev pub unpaused : Option ℕ → LaneId → WellView → Node
+unpaused asked lane well = record (unturned asked lane well) { wire = 0; clock = 0 }
+
+pub waits_once : (asked : Option ℕ) (lane : LaneId) (well : WellView) → Paused calls (unpaused asked lane well) (unturned asked lane well)
+waits_once asked lane well = record { told = 1; reads = (refl, refl); micros = 0; pauses = refl; failures = omega arith; same = refl }
+
+-- the clock was read once more
+abbrev pub read_once : Option ℕ → LaneId → WellView → Node
+read_once asked lane well = record (unturned asked lane well) { clock = 2 }
+
+pub reads_once : (asked : Option ℕ) (lane : LaneId) (well : WellView) → ReadsNow calls.reads 1 (unturned asked lane well) (read_once asked lane well)
+reads_once asked lane well = record { told = 1; reads = (refl, refl); counts = refl; same = refl }
+
+-- nothing came, which one receive told
+abbrev pub heard_nothing : Option ℕ → LaneId → WellView → Node
+heard_nothing asked lane well = record (read_once asked lane well) { told = Some (record { came = None ∷ []; went = [] }); wire = 2 }
+
+pub hears_nothing : (asked : Option ℕ) (lane : LaneId) (well : WellView) → HearsNow calls.receives 1 false (read_once asked lane well) (heard_nothing asked lane well)
 hears_nothing asked lane well = record {
   listened = record {
     count = 0;
-    ended = None ∷ [];
-    listens = record { came = []; entries = []; counted = refl; grown = refl; each = tt; told = record { told = refl } };
+    last = (None ∷ []) ∷ [];
+    listens = record { came = []; entries = []; counted = refl; grown = refl; each = tt; told = record { told = refl }; receives = (2, (refl, refl), refl) };
     ends = inr (omega arith, refl);
   };
   failures = (omega arith, tt);
   same = refl;
 }
+
+-- the pens said that they are done
+abbrev pub looked : Option ℕ → LaneId → WellView → Node
+looked asked lane well = record (heard_nothing asked lane well) { well = record well { done_at = Some well.nones } }
+
+pub looks_once : (asked : Option ℕ) (lane : LaneId) (well : WellView) → LooksNow (heard_nothing asked lane well) (looked asked lane well)
+looks_once asked lane well = record { pens_done = true; same = refl }
 
 -- GIVES
 

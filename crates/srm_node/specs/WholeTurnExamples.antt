@@ -1,7 +1,7 @@
 -- A node's first turn, in which it draws a stroke and gives it, whole and cut, at worked examples.
-use Rattle.std.specs.Prelude.{◌≡◌, ◌+◌, ℕ, true, false, List, [], ◌∷◌, ◌++◌, map, take, Some, None, Ok, refl}
+use Rattle.std.specs.Prelude.{◌≡◌, ◌+◌, ℕ, suc, Bool, true, false, List, [], ◌∷◌, ◌++◌, map, take, Some, None, Ok, refl, if◌then◌else◌}
 use Rattle.std.specs.List.{AllByRecursion}
-use Rattle.std.proofs.Common.{arith, inl, inr, ap, lit≤}
+use Rattle.std.proofs.Common.{arith, inl, inr, ap, sym, lit≤}
 use Rattle.srm_names.specs.Histories.{steps}
 use Rattle.srm_names.specs.Names.{first_page}
 use Rattle.srm_names.specs.declared.page_msg.PageMsg.{PageMsg}
@@ -11,9 +11,9 @@ use Rattle.srm_codec.specs.Spelling.{head, page_bytes, name_bytes, drawop_bytes,
 use Rattle.srm_bucket.specs.declared.class.Class.TheVariants.{New}
 use Rattle.srm_bucket.specs.Law.{BucketLaw}
 use Rattle.srm_pages.specs.declared.stroke.Stroke.{Stroke}
-use Rattle.srm_pages.specs.Ends.{FeedView, WellView, LaneId}
+use Rattle.srm_pages.specs.Ends.{FeedView, WellView, LaneId, is_drained}
 use Rattle.srm_entries.specs.declared.entry.Entry.{Entry}
-use Rattle.srm_entries.specs.declared.entry.Input.TheVariants.{Drew, Ticked}
+use Rattle.srm_entries.specs.declared.entry.Input.TheVariants.{Drew, Ticked, AskedLeave}
 use Rattle.srm_entries.specs.declared.state.AgentState.TheVariants.{Active}
 use Rattle.srm_entries.specs.Giving.{given}
 use Rattle.srm_entries.specs.Bucket.{Going, idle, GoesAsCharged, bucket_calls}
@@ -26,9 +26,9 @@ use Rattle.srm_world.specs.Claims.{IsLawfulJournal}
 use Rattle.srm_world.proofs.Lawful.{lawful_journal}
 use Rattle.srm_wire.specs.Wires.{bytes_to}
 use Rattle.srm_node.specs.Carrying.{Carries, CarriesEach, DrawsReceived}
-use Rattle.srm_node.specs.Parts.{IsAdmitted}
-use Rattle.srm_node.specs.TurnSample.{at_each, feed, eight, journal, unturned, heard_nothing, hears_nothing, gives_as, opens_as, give_right, gives_up_to}
-use Rattle.srm_node.specs.Nodes.{NodeView, AreNewFeeds, IsNewJournal, IsNewNode}
+use Rattle.srm_node.specs.Parts.{IsAdmitted, is_to_leave, still_asked}
+use Rattle.srm_node.specs.TurnSample.{Node, at_each, feed, eight, journal, calls, unturned, read_once, reads_once, heard_nothing, hears_nothing, looked, looks_once, gives_as, opens_as, give_right, gives_up_to}
+use Rattle.srm_node.specs.Nodes.{AreNewFeeds, IsNewJournal, IsNewNode, IsMadeNow}
 use Rattle.srm_node.specs.Turns.{DrawsNow, LeavesNow, TicksNow, GivesNow, DrawsCut, Turned, TurnEnds, IsCut}
 
 -- A NEW NODE
@@ -38,7 +38,7 @@ abbrev pub feeds : List PageMsg → LaneId → List FeedView
 feeds put lane = eight put [] lane
 
 -- member 0 of two over a wire that tells, which did nothing yet
-abbrev pub before : LaneId → WellView → NodeView
+abbrev pub before : LaneId → WellView → Node
 before lane well = unturned None lane well
 
 pub new_feeds : (lane : LaneId) → AreNewFeeds (feeds [] lane)
@@ -51,8 +51,16 @@ new_feeds lane = record {
 not_new : (lane : LaneId) → AreNewFeeds (feeds (Open first_page ∷ []) lane) → ⊥
 not_new lane h = let e : Open first_page ∷ [] ≡ [] = (h.each 0 (feed 0 (Open first_page ∷ []) lane) refl).0 in cc
 
-new_node : (lane : LaneId) (well : WellView) → IsNewNode (config 0) (feeds [] lane) well 0 (Some (record { came = []; went = [] })) (before lane well)
+new_node : (lane : LaneId) (well : WellView) → IsNewNode (config 0) (feeds [] lane) well 0 (Some (record { came = []; went = [] })) 1 (before lane well)
 new_node lane well = record { made = 0; is = refl }
+
+-- of a clock that told 0 at its one reading
+made_now : (lane : LaneId) (well : WellView) → IsMadeNow (λ old told new. (told ≡ 0) × (new ≡ suc old)) 0 (before lane well)
+made_now lane well = record { told = 0; reads = (refl, refl); counts = refl }
+
+-- and not of one that wasn't read
+not_unread : (lane : LaneId) (well : WellView) → IsMadeNow (λ old told new. (told ≡ 0) × (new ≡ suc old)) 1 (before lane well) → ⊥
+not_unread lane well h = let read : 1 ≡ 2 = h.reads.1 in cc
 
 new_journal : IsNewJournal (config 0) (journal [])
 new_journal = record { made = 0; is = refl }
@@ -161,30 +169,30 @@ lawful = lawful_journal (journal entries) (record {
 
 -- A WHOLE TURN
 
-abbrev heard : LaneId → WellView → NodeView
+abbrev heard : LaneId → WellView → Node
 heard lane well = heard_nothing None lane well
 
--- the stroke was received, and then none was there so often
+-- after the pens said that they are done the stroke was received, and then none was there so often
 abbrev popped : ℕ → WellView → WellView
-popped nones well = record well { received = well.received ++ stroke ∷ []; nones = well.nones + nones }
+popped nones well = record well { received = well.received ++ stroke ∷ []; nones = well.nones + nones; done_at = Some well.nones }
 
-abbrev drawn : LaneId → WellView → NodeView
+abbrev drawn : LaneId → WellView → Node
 drawn lane well = record (heard lane well) { journal = journal (draws_one ∷ []); well = popped 1 well }
 
-abbrev ticked : LaneId → WellView → NodeView
-ticked lane well = record (drawn lane well) { journal = journal (draws_one ∷ sends ∷ []); told = Some (record { came = None ∷ []; went = bytes_to 1 one_bytes ∷ [] }) }
+abbrev ticked : LaneId → WellView → Node
+ticked lane well = record (drawn lane well) { journal = journal (draws_one ∷ sends ∷ []); told = Some (record { came = None ∷ []; went = bytes_to 1 one_bytes ∷ [] }); wire = 3 }
 
 abbrev pub put : List PageMsg
 put = Open first_page ∷ Draw first_drawop ∷ []
 
 -- the node after its turn
-abbrev pub after : LaneId → WellView → NodeView
+abbrev pub after : LaneId → WellView → Node
 after lane well = record (ticked lane well) { journal = journal entries; feeds = feeds put lane }
 
 admitted : IsAdmitted 1 (journal []) stroke true
 admitted = record { goings = ([], refl, tt, tt); is = refl }
 
-draws_it : (lane : LaneId) (well : WellView) → DrawsNow 1 true (heard lane well) (drawn lane well)
+draws_it : (lane : LaneId) (well : WellView) → DrawsNow 1 true (looked None lane well) (drawn lane well)
 draws_it lane well = record {
   drew = record {
     count = 1;
@@ -201,13 +209,22 @@ draws_it lane well = record {
 
 -- nobody asked to leave
 stays : (lane : LaneId) (well : WellView) → LeavesNow 1 true (drawn lane well) (drawn lane well)
-stays lane well = record { pens_done = true; leaves = record { entries = []; grown = refl; moments = tt; inputs = refl }; same = refl }
+stays lane well = record { leaves = record { entries = []; grown = refl; moments = tt; inputs = stays_so (is_drained (drawn lane well).well) }; same = ap (λ a. record (drawn lane well) { asked = a }) (sym (asked_still (is_drained (drawn lane well).well))) }
+  where
+    stays_so : (drained : Bool) → [] ≡ (if is_to_leave true drained None 1 then AskedLeave ∷ [] else [])
+    stays_so true = refl
+    stays_so false = refl
 
-ticks_once : (lane : LaneId) (well : WellView) → TicksNow 1 false (drawn lane well) (ticked lane well)
+    asked_still : (drained : Bool) → still_asked (is_to_leave true drained None 1) None ≡ None
+    asked_still true = refl
+    asked_still false = refl
+
+ticks_once : (lane : LaneId) (well : WellView) → TicksNow calls.sends 1 false (drawn lane well) (ticked lane well)
 ticks_once lane well = record {
   outs = out ∷ [];
   ticks = record { entry = sends; grown = refl; moment = refl; is_tick = record { input = refl; sends = record { same = refl; spelled = (record { spelled = record { spellable = one_spelled; text = spelled_so } }, tt) } } };
   sends = record { failures = (omega arith, tt); went = bytes_to 1 one_bytes ∷ []; some = inl (refl, tt); whole = refl; tells = record { told = refl } };
+  tried = (3, false, false, refl, (refl, refl), (refl, refl));
   same = refl;
 }
 
@@ -220,25 +237,31 @@ gives_all lane well = record {
   same = refl;
 }
 
-pub whole : (lane : LaneId) (well : WellView) → Turned false false (before lane well) (after lane well)
+pub whole : (lane : LaneId) (well : WellView) → Turned calls false false (before lane well) (after lane well)
 whole lane well = record {
   ticked = ticked lane well;
   to_tick = record {
     now = 1;
-    none_left = true;
-    heard = heard lane well;
-    drawn = drawn lane well;
     left = drawn lane well;
-    hears = hears_nothing None lane well;
-    draws = draws_it lane well;
-    leaves = stays lane well;
+    to_leaving = record {
+      none_left = true;
+      read = read_once None lane well;
+      heard = heard lane well;
+      looked = looked None lane well;
+      drawn = drawn lane well;
+      reads = reads_once None lane well;
+      hears = hears_nothing None lane well;
+      looks = looks_once None lane well;
+      draws = draws_it lane well;
+      leaves = stays lane well;
+    };
     ticks = ticks_once lane well;
   };
   gives = gives_all lane well;
 }
 
 -- what such a turn answers is no fault
-ends_well : (lane : LaneId) (well : WellView) → TurnEnds (Ok tt) (before lane well) (after lane well) ≡ Turned false false (before lane well) (after lane well)
+ends_well : (lane : LaneId) (well : WellView) → TurnEnds calls (Ok tt) (before lane well) (after lane well) ≡ Turned calls false false (before lane well) (after lane well)
 ends_well lane well = refl
 
 -- WHAT THE WELL GAVE
@@ -257,10 +280,10 @@ keeps_it = refl
 -- A TURN THAT IS CUT
 
 -- Memory ran out for the stroke, which is in hand then.
-abbrev cut : LaneId → WellView → NodeView
+abbrev cut : LaneId → WellView → Node
 cut lane well = record (heard lane well) { well = popped 0 well; hand = Some stroke }
 
-draws_none : (lane : LaneId) (well : WellView) → DrawsCut 1 (heard lane well) (cut lane well)
+draws_none : (lane : LaneId) (well : WellView) → DrawsCut 1 (looked None lane well) (cut lane well)
 draws_none lane well = record {
   drew = record {
     count = 0;
@@ -275,9 +298,9 @@ draws_none lane well = record {
   same = refl;
 }
 
-cut_drawing : (lane : LaneId) (well : WellView) → IsCut (before lane well) (cut lane well)
-cut_drawing lane well = inr (inl (record { now = 1; unheard = false; heard = heard lane well; hears = hears_nothing None lane well; draws = draws_none lane well }))
+cut_drawing : (lane : LaneId) (well : WellView) → IsCut calls (before lane well) (cut lane well)
+cut_drawing lane well = inr (inl (record { now = 1; unheard = false; read = read_once None lane well; heard = heard lane well; looked = looked None lane well; reads = reads_once None lane well; hears = hears_nothing None lane well; looks = looks_once None lane well; draws = draws_none lane well }))
 
 -- where the stroke isn't in hand the turn isn't cut so
-not_lost : (lane : LaneId) (well : WellView) → DrawsCut 1 (heard lane well) (record (cut lane well) { hand = None }) → ⊥
+not_lost : (lane : LaneId) (well : WellView) → DrawsCut 1 (looked None lane well) (record (cut lane well) { hand = None }) → ⊥
 not_lost lane well h = let some : false ≡ true = h.drew.in_hand in cc

@@ -2,7 +2,6 @@
 
 ghost use Rattle.std.specs.Prelude.{◌≡◌, ◌<◌, true, false, map, length, MatchResult};
 ghost use Rattle.srm_names.specs.declared.limits.TheConstants.{PAGES};
-ghost use Rattle.srm_names.specs.PageFeeds.{is_close};
 ghost use Rattle.srm_pages.specs.Ends.{credit_of};
 ghost use Rattle.srm_entries.specs.Giving.{given};
 ghost use Rattle.srm_world.specs.Claims.{IsLawfulJournal};
@@ -13,8 +12,8 @@ ghost use Rattle.srm_node.specs.Waits.{WaitsByWords};
 
 use crate::fault::OutOfMemory;
 use srm_agent::Entry;
-use srm_names::{PAGES, PageMsg};
-use srm_pages::Feed;
+use srm_names::PAGES;
+use srm_pages::{Feed, is_close};
 use srm_timers::Words;
 use srm_world::{Past, Recorder};
 use std::sync::Wait;
@@ -101,16 +100,10 @@ fn give_next<R: Wait, W: Words + Drop, P: Past<Entry> + Drop>(
     let Some(message) = given else {
         return Ok(true);
     };
-    let closing = closes(&message);
+    let closing = is_close(&message);
     let Ok(()) = feed.put(rt, message) else {
         return Ok(true);
     };
     *closed |= closing;
     Ok(false)
-}
-
-fn closes(message: &PageMsg) -> bool
-    ensures { result ≡ is_close message.now }
-{
-    matches!(message, PageMsg::Close)
 }

@@ -3,10 +3,10 @@
 ghost use Rattle.std.specs.Prelude.{◌≡◌, ◌+◌, ◌<◌, ◌≤◌, Bool, true, [], ◌∷◌, ◌++◌, map, length, vec_len, vec_capacity, IfOk, IfSome, MatchResult};
 ghost use Rattle.std.specs.Bool.{OnTrue, OnFalse};
 ghost use Rattle.srm_names.specs.declared.limits.TheConstants.{PAGES};
+ghost use Rattle.srm_node.specs.Calls.{calls_of};
 ghost use Rattle.srm_node.specs.Nodes.{NodeKeepsLists};
 ghost use Rattle.srm_node.specs.Turns.{RunsToEnd};
-ghost use Rattle.srm_node.specs.Working.{WorkedFrom};
-ghost use Rattle.srm_node.specs.Hosting.{tap_of_worker, Starts, StartsSome, StopsBy, WorkedEach, Hosts, HostFails, AreEndsOfLanes};
+ghost use Rattle.srm_node.specs.Hosting.{start_of, starts_of, kinds_of, Starts, StartsSome, StopsBy, WorkedAs, WorkedEach, Hosts, HostFails, AreEndsOfLanes};
 
 use crate::fault::NodeFault;
 use crate::node::Node;
@@ -25,20 +25,20 @@ use std::sync::Wait;
 use std::thread;
 use std::thread::{Promise, PromisedHandle, Threads};
 
-/// A worker's promise: its tap is of the lane of this one, it took what its list has, and its end is no broken lane.
+/// A worker's promise: its tap is of the lane of this one, it took what its list has, this sink saw each of these messages, and it ended as it says.
 #[derive(Drop)]
-pub struct WorksOn(Snapshot<Tap>);
+pub struct WorksOn<S: PageSink>(Snapshot<Tap>, Snapshot<S>);
 
-impl<L: Past<PageMsg> + Drop> Promise<Worked<L>> for WorksOn {
+impl<S: PageSink, L: Past<PageMsg> + Drop> Promise<Worked<L>> for WorksOn<S> {
     ghost use Rattle.srm_node.specs.Working.{WorkedFrom};
 
-    ghost kept_by = { λ p w. WorkedFrom L.appended p.0.value w };
+    ghost kept_by = { λ p w. WorkedFrom L.appended L.is_refused S.sees p.0.value p.1.value w };
 }
 
 /// A worker in its thread.
 #[derive(Drop)]
-pub struct Worker<L: Past<PageMsg> + Drop = Vec<PageMsg>> {
-    handle: PromisedHandle<Worked<L>, WorksOn>,
+pub struct Worker<L: Past<PageMsg> + Drop, S: PageSink> {
+    handle: PromisedHandle<Worked<L>, WorksOn<S>>,
 }
 
 /// What became of a node and its workers. The node keeps its entries, and each worker what it took, unless other pasts are named.
@@ -52,8 +52,8 @@ pub struct Hosted<P: Past<Entry> + Drop = Vec<Entry>, L: Past<PageMsg> + Drop = 
 }
 
 #[tactic(auto, using(crate::proofs::Hosts::host_ends, crate::proofs::Hosts::host_lanes))]
-/// Runs a node in this thread, and in threads of their own eight page workers, one for each tap and its sink. After a fault the feeds are
-/// let go, so that the workers end. Where a worker can't be started, the end is fault 2, the node isn't turned, and those that were started
+/// Runs a node in this thread, and in threads of their own eight page workers, one for each tap and its sink, which sees what that tap takes. After a
+/// fault the feeds are let go, so that the workers end. Where a worker can't be started, the end is fault 2, the node isn't turned, and those that were started
 /// are handed back. Only want of memory before any worker is started refuses it. The type that the caller names for the workers' lists says how they
 /// are kept, as with [`work`].
 pub fn host<
@@ -74,7 +74,8 @@ pub fn host<
 ) -> Result<Hosted<P, L>, AllocError>
     requires taps { vec_len taps ≡ PAGES }
     requires sinks { vec_len sinks ≡ PAGES }
-    ensures hosts { IfOk result (λ h. MatchResult h.end (λ _. Hosts L.appended node.view taps.items turns h) (λ fault. (all : Bool) × HostFails L.appended all node.view taps.items turns fault h)) }
+    ensures hosts { IfOk result (λ h. MatchResult h.end (λ _. Hosts (calls_of C.reads X.receives X.sends X.pauses) (kinds_of L.appended L.is_refused S.sees) node.view (starts_of taps.items sinks.items) turns h)
+        (λ fault. (all : Bool) × HostFails (calls_of C.reads X.receives X.sends X.pauses) (kinds_of L.appended L.is_refused S.sees) all node.view (starts_of taps.items sinks.items) turns fault h)) }
     ensures lanes { IfOk result (λ h. IfOk h.end (λ _. AreEndsOfLanes node.view.feeds taps.items → AreEndsOfLanes h.feeds.items (map (λ w. w.tap) h.worked.items))) }
 {
     let (mut workers, mut worked) = places(alloc)?;
@@ -83,9 +84,9 @@ pub fn host<
 }
 
 // No workers yet, and nothing that they handed back.
-fn places<L: Past<PageMsg> + Drop>(
+fn places<L: Past<PageMsg> + Drop, S: PageSink>(
     alloc: Global,
-) -> Result<(VecDeque<Worker<L>>, Vec<Worked<L>>), AllocError>
+) -> Result<(VecDeque<Worker<L, S>>, Vec<Worked<L>>), AllocError>
     ensures { IfOk result (λ p. (p.0.items ≡ []) × (p.1.items ≡ [])) }
 {
     let mut workers = VecDeque::new(alloc);
@@ -102,6 +103,7 @@ fn go<
     X: Wire + Drop,
     C: Clock + Drop,
     P: Past<Entry> + Drop,
+    S: PageSink,
     L: Past<PageMsg> + Drop,
 >(
     rt: &R,
@@ -109,12 +111,13 @@ fn go<
     node: Node<W, X, C, P>,
     all: bool,
     turns: u64,
-    workers: VecDeque<Worker<L>>,
+    workers: VecDeque<Worker<L, S>>,
     worked: Vec<Worked<L>>,
 ) -> Hosted<P, L>
     requires room { vec_len worked + length workers.items ≤ vec_capacity worked }
     requires none { worked.items ≡ [] }
-    ensures { MatchResult result.end (λ _. (all ≡ true) × Hosts L.appended node.view (map tap_of_worker workers.items) turns result) (λ fault. HostFails L.appended all node.view (map tap_of_worker workers.items) turns fault result) }
+    ensures { MatchResult result.end (λ _. (all ≡ true) × Hosts (calls_of C.reads X.receives X.sends X.pauses) (kinds_of L.appended L.is_refused S.sees) node.view (map start_of workers.items) turns result)
+        (λ fault. HostFails (calls_of C.reads X.receives X.sends X.pauses) (kinds_of L.appended L.is_refused S.sees) all node.view (map start_of workers.items) turns fault result) }
 {
     let mut node = node;
     let end = run_if(rt, &mut node, all, turns);
@@ -139,15 +142,16 @@ fn begin<
     alloc: Global,
     taps: Vec<Tap>,
     sinks: Vec<S>,
-    workers: &mut VecDeque<Worker<L>>,
+    workers: &mut VecDeque<Worker<L, S>>,
     worked: &mut Vec<Worked<L>>,
 ) -> bool
     requires taps { vec_len taps ≡ PAGES }
+    requires sinks { vec_len sinks ≡ PAGES }
     requires none { (workers.old.items ≡ []) × (worked.old.items ≡ []) }
     ensures room { vec_len worked.new + length workers.new.items ≤ vec_capacity worked.new }
     ensures none { worked.new.items ≡ [] }
-    ensures all { OnTrue result (map tap_of_worker workers.new.items ≡ taps.items) }
-    ensures some { StartsSome taps.items workers.new.items }
+    ensures all { OnTrue result (map start_of workers.new.items ≡ starts_of taps.items sinks.items) }
+    ensures some { StartsSome (starts_of taps.items sinks.items) workers.new.items }
 {
     let mut taps = VecDeque::from(taps);
     let mut sinks = VecDeque::from(sinks);
@@ -161,7 +165,7 @@ fn run_if<R: Wait, W: Words + Drop, X: Wire + Drop, C: Clock + Drop, P: Past<Ent
     all: bool,
     turns: u64,
 ) -> Result<(), NodeFault>
-    ensures { MatchResult result (λ _. (all ≡ true) × NodeKeepsLists node.new.view × RunsToEnd turns node.old.view node.new.view) (λ fault. StopsBy all fault turns node.old.view node.new.view) }
+    ensures { MatchResult result (λ _. (all ≡ true) × NodeKeepsLists node.new.view × RunsToEnd (calls_of C.reads X.receives X.sends X.pauses) turns node.old.view node.new.view) (λ fault. StopsBy (calls_of C.reads X.receives X.sends X.pauses) all fault turns node.old.view node.new.view) }
 {
     if !all {
         return Err(NodeFault::Memory);
@@ -187,15 +191,16 @@ fn start_all<
     alloc: Global,
     taps: &mut VecDeque<Tap>,
     sinks: &mut VecDeque<S>,
-    workers: &mut VecDeque<Worker<L>>,
+    workers: &mut VecDeque<Worker<L, S>>,
     worked: &mut Vec<Worked<L>>,
 ) -> bool
     requires taps { length taps.old.items ≡ PAGES }
+    requires sinks { length sinks.old.items ≡ PAGES }
     requires none { (workers.old.items ≡ []) × (worked.old.items ≡ []) }
     ensures room { vec_len worked.new + length workers.new.items ≤ vec_capacity worked.new }
     ensures none { worked.new.items ≡ [] }
-    ensures all { OnTrue result (map tap_of_worker workers.new.items ≡ taps.old.items) }
-    ensures some { StartsSome taps.old.items workers.new.items }
+    ensures all { OnTrue result (map start_of workers.new.items ≡ starts_of taps.old.items sinks.old.items) }
+    ensures some { StartsSome (starts_of taps.old.items sinks.old.items) workers.new.items }
 {
     for done in 0..PAGES {
         if !start_next(rt, alloc, taps, sinks, workers, worked) {
@@ -215,14 +220,14 @@ fn start_next<
     alloc: Global,
     taps: &mut VecDeque<Tap>,
     sinks: &mut VecDeque<S>,
-    workers: &mut VecDeque<Worker<L>>,
+    workers: &mut VecDeque<Worker<L, S>>,
     worked: &mut Vec<Worked<L>>,
 ) -> bool
     requires room { vec_len worked.old + length workers.old.items ≤ vec_capacity worked.old }
     ensures room { vec_len worked.new + length workers.new.items ≤ vec_capacity worked.new }
     ensures none { worked.new.items ≡ worked.old.items }
-    ensures next { OnTrue result (Starts taps.old.items taps.new.items workers.old.items workers.new.items) }
-    ensures same { OnFalse result (map tap_of_worker workers.new.items ≡ map tap_of_worker workers.old.items) }
+    ensures next { OnTrue result (Starts taps.old.items taps.new.items sinks.old.items sinks.new.items workers.old.items workers.new.items) }
+    ensures same { OnFalse result (map start_of workers.new.items ≡ map start_of workers.old.items) }
 {
     let Some(tap) = taps.pop_front() else {
         return false;
@@ -243,14 +248,14 @@ fn start_one<
     alloc: Global,
     tap: Tap,
     sink: S,
-    workers: &mut VecDeque<Worker<L>>,
+    workers: &mut VecDeque<Worker<L, S>>,
     worked: &mut Vec<Worked<L>>,
 ) -> bool
     requires room { vec_len worked.old + length workers.old.items ≤ vec_capacity worked.old }
     ensures room { vec_len worked.new + length workers.new.items ≤ vec_capacity worked.new }
     ensures none { worked.new.items ≡ worked.old.items }
-    ensures one { OnTrue result (map tap_of_worker workers.new.items ≡ map tap_of_worker workers.old.items ++ tap ∷ []) }
-    ensures same { OnFalse result (map tap_of_worker workers.new.items ≡ map tap_of_worker workers.old.items) }
+    ensures one { OnTrue result (map start_of workers.new.items ≡ map start_of workers.old.items ++ (tap, sink) ∷ []) }
+    ensures same { OnFalse result (map start_of workers.new.items ≡ map start_of workers.old.items) }
 {
     if workers.reserve(1).is_err() {
         return false;
@@ -269,11 +274,11 @@ fn start<
     R: Threads + Wait + Copy + Send + 'static,
     S: PageSink + Send + Drop + 'static,
     L: Past<PageMsg> + Send + Drop + 'static,
->(rt: &R, alloc: Global, tap: Tap, sink: S) -> Option<Worker<L>>
-    ensures { IfSome result (λ w. tap_of_worker w ≡ tap) }
+>(rt: &R, alloc: Global, tap: Tap, sink: S) -> Option<Worker<L, S>>
+    ensures { IfSome result (λ w. start_of w ≡ (tap, sink)) }
 {
     let own = *rt;
-    let promise = WorksOn(Snapshot::of(&tap));
+    let promise = WorksOn(Snapshot::of(&tap), Snapshot::of(&sink));
     let spawned = thread::spawn_with(rt, promise, move || {
         let mut sink = sink;
         work(&own, alloc, tap, &mut sink)
@@ -285,14 +290,14 @@ fn start<
 }
 
 // Waits for all workers.
-fn join_all<R: Threads, L: Past<PageMsg> + Drop>(
+fn join_all<R: Threads, S: PageSink, L: Past<PageMsg> + Drop>(
     rt: &R,
-    workers: VecDeque<Worker<L>>,
+    workers: VecDeque<Worker<L, S>>,
     worked: Vec<Worked<L>>,
 ) -> Vec<Worked<L>>
     requires room { vec_len worked + length workers.items ≤ vec_capacity worked }
     requires none { worked.items ≡ [] }
-    ensures { WorkedEach L.appended (map tap_of_worker workers.items) result.items }
+    ensures { WorkedEach (kinds_of L.appended L.is_refused S.sees) (map start_of workers.items) result.items }
 {
     let mut left = workers;
     let mut worked = worked;
@@ -306,8 +311,11 @@ fn join_all<R: Threads, L: Past<PageMsg> + Drop>(
     worked
 }
 
-fn join_one<R: Threads, L: Past<PageMsg> + Drop>(rt: &R, worker: Worker<L>) -> Worked<L>
-    ensures { WorkedFrom L.appended (tap_of_worker worker) result }
+fn join_one<R: Threads, S: PageSink, L: Past<PageMsg> + Drop>(
+    rt: &R,
+    worker: Worker<L, S>,
+) -> Worked<L>
+    ensures { WorkedAs (kinds_of L.appended L.is_refused S.sees) (start_of worker) result }
 {
     let Worker { handle } = worker;
     handle.join(rt)

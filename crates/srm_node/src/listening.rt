@@ -1,9 +1,10 @@
 //! Hearing what came.
 
-ghost use Rattle.std.specs.Prelude.{◌≤◌, true, false, length, MatchResult};
+ghost use Rattle.std.specs.Prelude.{◌≡◌, ◌≤◌, true, false, length, MatchResult};
 ghost use Rattle.srm_names.specs.declared.limits.TheConstants.{LATEST_MOMENT};
 ghost use Rattle.srm_world.specs.Claims.{IsLawfulJournal};
 ghost use Rattle.srm_wire.specs.Wires.{CountsIf};
+ghost use Rattle.srm_node.specs.declared.limits.TheConstants.{BUFFER_BYTES};
 ghost use Rattle.srm_node.specs.Parts.{Listened, ListenedCut};
 ghost use Rattle.srm_node.specs.Waits.{WaitsByWords};
 
@@ -31,11 +32,12 @@ pub fn listen<W: Words + Drop, P: Past<Entry> + Drop, X: Wire>(
 ) -> Result<Listening, OutOfMemory>
     requires moment { now ≤ LATEST_MOMENT }
     requires lawful { IsLawfulJournal recorder.old.journal }
+    requires room { length buffer.old ≡ BUFFER_BYTES }
     ensures lawful { IsLawfulJournal recorder.new.journal }
     ensures words { WaitsByWords W.next_word recorder.old recorder.new }
     ensures failures { MatchResult result (λ heard. CountsIf heard.failed (X.failure_count wire.old) (X.failure_count wire.new)) (λ _. CountsIf false (X.failure_count wire.old) (X.failure_count wire.new)) }
-    ensures hears { MatchResult result (λ heard. Listened now heard.failed recorder.old.journal recorder.new.journal (X.told wire.old) (X.told wire.new))
-        (λ _. ListenedCut now recorder.old.journal recorder.new.journal (X.told wire.old) (X.told wire.new)) }
+    ensures hears { MatchResult result (λ heard. Listened X.receives now heard.failed recorder.old.journal recorder.new.journal (X.told wire.old) (X.told wire.new) wire.old wire.new)
+        (λ _. ListenedCut X.receives now recorder.old.journal recorder.new.journal (X.told wire.old) (X.told wire.new) wire.old wire.new) }
 {
     for count in 0..DATAGRAMS_A_TURN {
         match wire.receive(buffer) {

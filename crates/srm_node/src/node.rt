@@ -4,11 +4,12 @@ ghost use Rattle.std.specs.Prelude.{◌≡◌, ◌≤◌, [], Some, None, IfOk, 
 ghost use Rattle.srm_names.specs.declared.limits.TheConstants.{LATEST_MOMENT, PAGES};
 ghost use Rattle.srm_names.specs.Moments.{has_come};
 ghost use Rattle.srm_node.specs.Counting.{counts_of};
-ghost use Rattle.srm_node.specs.Nodes.{NodeKeepsLists, AreNewFeeds, IsNewJournal, IsNewNode, has_ended, recorded_in};
+ghost use Rattle.srm_node.specs.Calls.{calls_of};
+ghost use Rattle.srm_node.specs.Nodes.{NodeKeepsLists, AreNewFeeds, IsNewJournal, IsNewNode, IsMadeNow, has_ended, recorded_in};
 ghost use Rattle.srm_node.specs.Parts.{still_asked};
 ghost use Rattle.srm_node.specs.Waits.{WaitsByWords};
-ghost use Rattle.srm_node.specs.Moments.{IsTold, GrowsAtTold};
-ghost use Rattle.srm_node.specs.Turns.{HearsNow, DrawsNow, LeavesNow, TicksNow, GivesNow, HearsCut, DrawsCut, GivesCut, TurnEnds, Paused, RunEnds};
+ghost use Rattle.srm_node.specs.Moments.{GrowsNow};
+ghost use Rattle.srm_node.specs.Turns.{ReadsNow, HearsNow, LooksNow, DrawsNow, LeavesNow, TicksNow, GivesNow, HearsCut, DrawsCut, GivesCut, TurnEnds, Paused, RunEnds};
 
 use crate::counting::{Counts, counts_in};
 use crate::drawing::draw_strokes;
@@ -34,7 +35,7 @@ use std::marker::Model;
 use std::sync::Wait;
 
 /// A member that takes part in a session: its agent over a wire and a clock, the feeds of its page workers, and the well of its pens.
-/// Contracts see it as a record, and its words and its clock as they stand.
+/// Contracts see it as a record, with its wire and its clock as they stand, and its words.
 #[derive(Drop)]
 pub struct Node<
     W: Words + Drop,
@@ -64,7 +65,7 @@ impl<W: Words + Drop, X: Wire + Drop, C: Clock + Drop, P: Past<Entry> + Drop> Mo
     ghost use Rattle.std.specs.Prelude.{vec_len};
     ghost use Rattle.srm_node.specs.Nodes.{NodeState, IsNode};
 
-    ghost Value = { NodeState W C };
+    ghost Value = { NodeState W X C };
 
     ghost view = { λ n. record {
       view = record {
@@ -75,9 +76,10 @@ impl<W: Words + Drop, X: Wire + Drop, C: Clock + Drop, P: Past<Entry> + Drop> Mo
         asked = n.asked;
         failures = X.failure_count n.wire;
         told = X.told n.wire;
+        wire = n.wire;
+        clock = n.clock;
       };
       words = n.recorder.words;
-      clock = n.clock;
     } };
 
     ghost invariant = { λ n. IsNode (record {
@@ -88,11 +90,13 @@ impl<W: Words + Drop, X: Wire + Drop, C: Clock + Drop, P: Past<Entry> + Drop> Mo
       asked = n.asked;
       failures = X.failure_count n.wire;
       told = X.told n.wire;
+      wire = n.wire;
+      clock = n.clock;
     }) n.config (vec_len n.buffer) n.closed.items };
 }
 
 impl<W: Words + Drop, X: Wire + Drop, C: Clock + Drop> Node<W, X, C> {
-    /// A node that did nothing yet. The feeds are eight that put nothing and aren't disconnected, and nothing was received of the well. Only
+    /// A node that did nothing yet; its clock is read once. The feeds are eight that put nothing and aren't disconnected, and nothing was received of the well. Only
     /// want of memory refuses it.
     pub fn new(
         alloc: Global,
@@ -105,10 +109,9 @@ impl<W: Words + Drop, X: Wire + Drop, C: Clock + Drop> Node<W, X, C> {
     ) -> Result<Node<W, X, C>, AllocError>
         requires feeds { AreNewFeeds feeds.items }
         requires well { well.received ≡ [] }
-        ensures value { IfOk result (λ node. IsNewNode config feeds.items well (X.failure_count wire) (X.told wire) node.view) }
+        ensures value { IfOk result (λ node. IsNewNode config feeds.items well (X.failure_count wire) (X.told wire) wire node.view) }
         ensures words { IfOk result (λ node. node.words ≡ words) }
-        ensures clock { IfOk result (λ node. node.clock ≡ clock) }
-        ensures made { IfOk result (λ node. IsTold (C.tells clock) node.view.journal.start.made) }
+        ensures made { IfOk result (λ node. IsMadeNow C.reads clock node.view) }
     {
         let past = Vec::new(alloc);
         Node::with_past(alloc, config, words, wire, clock, feeds, well, past)
@@ -135,10 +138,9 @@ impl<W: Words + Drop, X: Wire + Drop, C: Clock + Drop> Node<W, X, C, Forgotten<E
     ) -> Result<Node<W, X, C, Forgotten<Entry>>, AllocError>
         requires feeds { AreNewFeeds feeds.items }
         requires well { well.received ≡ [] }
-        ensures value { IfOk result (λ node. IsNewNode config feeds.items well (X.failure_count wire) (X.told wire) node.view) }
+        ensures value { IfOk result (λ node. IsNewNode config feeds.items well (X.failure_count wire) (X.told wire) wire node.view) }
         ensures words { IfOk result (λ node. node.words ≡ words) }
-        ensures clock { IfOk result (λ node. node.clock ≡ clock) }
-        ensures made { IfOk result (λ node. IsTold (C.tells clock) node.view.journal.start.made) }
+        ensures made { IfOk result (λ node. IsMadeNow C.reads clock node.view) }
     {
         let past = Forgotten::new();
         Node::with_past(alloc, config, words, wire, clock, feeds, well, past)
@@ -160,11 +162,11 @@ impl<W: Words + Drop, X: Wire + Drop, C: Clock + Drop, P: Past<Entry> + Drop> No
         requires feeds { AreNewFeeds feeds.items }
         requires well { well.received ≡ [] }
         requires past { P.appended past ≡ [] }
-        ensures value { IfOk result (λ node. IsNewNode config feeds.items well (X.failure_count wire) (X.told wire) node.view) }
+        ensures value { IfOk result (λ node. IsNewNode config feeds.items well (X.failure_count wire) (X.told wire) wire node.view) }
         ensures words { IfOk result (λ node. node.words ≡ words) }
-        ensures clock { IfOk result (λ node. node.clock ≡ clock) }
-        ensures made { IfOk result (λ node. IsTold (C.tells clock) node.view.journal.start.made) }
+        ensures made { IfOk result (λ node. IsMadeNow C.reads clock node.view) }
     {
+        let mut clock = clock;
         let now = clock.now().min(LATEST_MOMENT);
         let recorder = Recorder::with_past(alloc, config, words, now, past)?;
         Node::over(alloc, config, recorder, wire, clock, feeds, well)
@@ -183,9 +185,9 @@ impl<W: Words + Drop, X: Wire + Drop, C: Clock + Drop, P: Past<Entry> + Drop> No
         requires recorder { IsNewJournal config recorder.journal }
         requires feeds { AreNewFeeds feeds.items }
         requires well { well.received ≡ [] }
-        ensures value { IfOk result (λ node. IsNewNode config feeds.items well (X.failure_count wire) (X.told wire) node.view) }
+        ensures value { IfOk result (λ node. IsNewNode config feeds.items well (X.failure_count wire) (X.told wire) wire node.view) }
         ensures words { IfOk result (λ node. node.words ≡ recorder.words) }
-        ensures clock { IfOk result (λ node. node.clock ≡ clock) }
+        ensures clock { IfOk result (λ node. node.view.clock ≡ clock) }
         ensures journal { IfOk result (λ node. node.view.journal ≡ recorder.journal) }
     {
         let Spare { buffer, closed } = make_spare(alloc)?;
@@ -206,7 +208,8 @@ impl<W: Words + Drop, X: Wire + Drop, C: Clock + Drop, P: Past<Entry> + Drop> No
         })
     }
 
-    /// The node leaves at the first turn at or after this moment, in microseconds, that leaves no stroke in the well or in hand, and whose pens are done.
+    /// The node leaves at the first turn at or after this moment, in microseconds, that finds no stroke in the well or in hand after its pens said that
+    /// they are done.
     /// One that was asked before is asked for this moment instead. A clock that is past 2^48 counts as 2^48, so a later moment never comes.
     pub fn ask_leave(&mut self, at: u64)
         ensures { self.new ≡ record self.old { view = record self.old.view { asked = Some at } } }
@@ -214,25 +217,27 @@ impl<W: Words + Drop, X: Wire + Drop, C: Clock + Drop, P: Past<Entry> + Drop> No
         self.asked = Some(at);
     }
 
-    /// One turn: the clock is read; what came is heard, up to 64 datagrams; up to 64 strokes are drawn, as long as the rate lets their datagrams
-    /// go at once; the member leaves if that is due and no stroke is left; it ticks once, and what the tick sends goes to every other member,
-    /// rising; and each slot is given while there is credit. A stroke that the rate keeps back is in hand for the next turn.
+    /// One turn: the clock is read once; what came is heard, up to 64 datagrams; up to 64 strokes are drawn, as long as the rate lets their datagrams
+    /// go at once; the member leaves if that is due, no stroke is left, and the well was found empty after its pens said that they are done; it ticks
+    /// once, and what the tick sends is sent to every other member, rising; and each slot is given while there is credit. A stroke that the rate
+    /// keeps back is in hand for the next turn.
     ///
-    /// After fault 1, by which a call of the wire failed, the turn was done to its end, and what couldn't be sent counts as lost. After
+    /// After fault 1, by which a call of the wire failed, the turn was done to its end: a receive that failed ended the hearing, each datagram of
+    /// the tick was tried to each other member all the same, and what couldn't be sent counts as lost. After
     /// fault 2 it was cut in one of its parts, and the parts before were done: a stroke in hand is kept for the next turn, a datagram in
     /// hand counts as lost. Fault 2 is the answer too where fault 1 would have come in that turn.
     pub fn turn<R: Wait>(&mut self, rt: &R) -> Result<(), NodeFault>
         ensures keeps { NodeKeepsLists self.new.view }
-        ensures turns { TurnEnds result self.old.view self.new.view }
-        ensures moments { GrowsAtTold (C.tells self.old.clock) self.old.view self.new.view }
+        ensures turns { TurnEnds (calls_of C.reads X.receives X.sends X.pauses) result self.old.view self.new.view }
+        ensures moments { GrowsNow C.reads self.old.view self.new.view }
         ensures words { WaitsByWords W.next_word (recorded_in self.old) (recorded_in self.new) }
-        ensures clock { self.new.clock ≡ self.old.clock }
     {
-        let now = self.clock.now().min(LATEST_MOMENT);
+        let now = self.read_clock();
         let unheard = self.listen_now(now)?;
-        let done = self.well.is_done();
+        // Before the well is drained: a pen that ends in between has sent all that it sends.
+        self.look_at_pens();
         let none_left = self.draw_now(rt, now)?;
-        self.leave_now(done, none_left, now)?;
+        self.leave_now(none_left, now)?;
         let unsent = self.tick_now(now)?;
         self.give_now(rt)?;
         if unheard | unsent {
@@ -259,14 +264,12 @@ impl<W: Words + Drop, X: Wire + Drop, C: Clock + Drop, P: Past<Entry> + Drop> No
 
     /// Turns, with a pause before each but a node's first, until the member is gone and each lane had its close or is disconnected. A pause lasts until something is due
     /// or the rate lets the stroke in hand go, at most 10,000 microseconds; after a turn that neither heard nor drew anything it takes at
-    /// least 1,000, and after one that heard or drew 64 there is none. It stops at the first fault, and may be called again. Fault 3:
+    /// least 1,000, and after one that heard or drew 64 there is none. The clock is read once for a pause and once for a turn. It stops at the first fault, and may be called again. Fault 3:
     /// the turns are spent.
     pub fn run<R: Wait>(&mut self, rt: &R, turns: u64) -> Result<(), NodeFault>
         ensures keeps { NodeKeepsLists self.new.view }
-        ensures runs { RunEnds result turns self.old.view self.new.view }
-        ensures moments { GrowsAtTold (C.tells self.old.clock) self.old.view self.new.view }
+        ensures runs { RunEnds (calls_of C.reads X.receives X.sends X.pauses) result turns self.old.view self.new.view }
         ensures words { WaitsByWords W.next_word (recorded_in self.old) (recorded_in self.new) }
-        ensures clock { self.new.clock ≡ self.old.clock }
     {
         let _ = &self.feeds;
         for done in 0..turns {
@@ -297,9 +300,8 @@ impl<W: Words + Drop, X: Wire + Drop, C: Clock + Drop, P: Past<Entry> + Drop> No
     // Waits until something is due or the stroke in hand may go, but not long.
     fn pause(&mut self)
         ensures keeps { NodeKeepsLists self.new.view }
-        ensures paused { Paused self.old.view self.new.view }
+        ensures paused { Paused (calls_of C.reads X.receives X.sends X.pauses) self.old.view self.new.view }
         ensures words { self.new.words ≡ self.old.words }
-        ensures clock { self.new.clock ≡ self.old.clock }
     {
         let now = self.clock.now().min(LATEST_MOMENT);
         let due = lesser(self.recorder.next_due(), self.hand_due());
@@ -315,13 +317,22 @@ impl<W: Words + Drop, X: Wire + Drop, C: Clock + Drop, P: Past<Entry> + Drop> No
         }
     }
 
+    // Reads the clock. A moment past 2^48 counts as 2^48.
+    fn read_clock(&mut self) -> u64
+        ensures range { result ≤ LATEST_MOMENT }
+        ensures keeps { NodeKeepsLists self.new.view }
+        ensures reads { ReadsNow C.reads result self.old.view self.new.view }
+        ensures words { WaitsByWords W.next_word (recorded_in self.old) (recorded_in self.new) }
+    {
+        self.clock.now().min(LATEST_MOMENT)
+    }
+
     // Hears what came. Whether a call failed.
     fn listen_now(&mut self, now: u64) -> Result<bool, OutOfMemory>
         requires { now ≤ LATEST_MOMENT }
         ensures keeps { NodeKeepsLists self.new.view }
-        ensures hears { MatchResult result (λ unheard. HearsNow now unheard self.old.view self.new.view) (λ _. HearsCut now self.old.view self.new.view) }
+        ensures hears { MatchResult result (λ unheard. HearsNow X.receives now unheard self.old.view self.new.view) (λ _. HearsCut X.receives now self.old.view self.new.view) }
         ensures words { WaitsByWords W.next_word (recorded_in self.old) (recorded_in self.new) }
-        ensures clock { self.new.clock ≡ self.old.clock }
     {
         let listened = listen(
             &mut self.recorder,
@@ -334,13 +345,21 @@ impl<W: Words + Drop, X: Wire + Drop, C: Clock + Drop, P: Past<Entry> + Drop> No
         Ok(listening.failed)
     }
 
+    // Notes whether the pens say that they are done.
+    fn look_at_pens(&mut self)
+        ensures keeps { NodeKeepsLists self.new.view }
+        ensures looks { LooksNow self.old.view self.new.view }
+        ensures words { WaitsByWords W.next_word (recorded_in self.old) (recorded_in self.new) }
+    {
+        let _ = self.well.is_done();
+    }
+
     // Draws strokes, as far as the rate lets them go. Whether none is left.
     fn draw_now<R: Wait>(&mut self, rt: &R, now: u64) -> Result<bool, OutOfMemory>
         requires { now ≤ LATEST_MOMENT }
         ensures keeps { NodeKeepsLists self.new.view }
         ensures draws { MatchResult result (λ none_left. DrawsNow now none_left self.old.view self.new.view) (λ _. DrawsCut now self.old.view self.new.view) }
         ensures words { WaitsByWords W.next_word (recorded_in self.old) (recorded_in self.new) }
-        ensures clock { self.new.clock ≡ self.old.clock }
     {
         let hand = self.hand.take();
         let (kept, drew) = draw_strokes(rt, &mut self.recorder, &mut self.well, hand, now);
@@ -350,15 +369,14 @@ impl<W: Words + Drop, X: Wire + Drop, C: Clock + Drop, P: Past<Entry> + Drop> No
         Ok(drawn.none_left)
     }
 
-    // Leaves if the node was asked to by now, its pens are done, and no stroke is left.
-    fn leave_now(&mut self, done: bool, none_left: bool, now: u64) -> Result<(), OutOfMemory>
+    // Leaves if the node was asked to by now, nothing more comes of its pens, and no stroke is left.
+    fn leave_now(&mut self, none_left: bool, now: u64) -> Result<(), OutOfMemory>
         requires { now ≤ LATEST_MOMENT }
         ensures keeps { NodeKeepsLists self.new.view }
         ensures leaves { MatchResult result (λ _. LeavesNow now none_left self.old.view self.new.view) (λ _. self.new.view ≡ self.old.view) }
         ensures words { WaitsByWords W.next_word (recorded_in self.old) (recorded_in self.new) }
-        ensures clock { self.new.clock ≡ self.old.clock }
     {
-        let due = done & has_come(self.asked, now);
+        let due = self.well.is_drained() & has_come(self.asked, now);
         let leaves = none_left & due;
         let left = leave(&mut self.recorder, leaves, now);
         self.asked = still_asked(leaves & left.is_ok(), self.asked);
@@ -369,9 +387,8 @@ impl<W: Words + Drop, X: Wire + Drop, C: Clock + Drop, P: Past<Entry> + Drop> No
     fn tick_now(&mut self, now: u64) -> Result<bool, OutOfMemory>
         requires { now ≤ LATEST_MOMENT }
         ensures keeps { NodeKeepsLists self.new.view }
-        ensures ticks { MatchResult result (λ unsent. TicksNow now unsent self.old.view self.new.view) (λ _. self.new.view ≡ self.old.view) }
+        ensures ticks { MatchResult result (λ unsent. TicksNow X.sends now unsent self.old.view self.new.view) (λ _. self.new.view ≡ self.old.view) }
         ensures words { WaitsByWords W.next_word (recorded_in self.old) (recorded_in self.new) }
-        ensures clock { self.new.clock ≡ self.old.clock }
     {
         let ticked = tick(&mut self.recorder, now)?;
         Ok(send_all(
@@ -387,7 +404,6 @@ impl<W: Words + Drop, X: Wire + Drop, C: Clock + Drop, P: Past<Entry> + Drop> No
         ensures keeps { NodeKeepsLists self.new.view }
         ensures gives { MatchResult result (λ _. GivesNow PAGES self.old.view self.new.view) (λ _. GivesCut self.old.view self.new.view) }
         ensures words { WaitsByWords W.next_word (recorded_in self.old) (recorded_in self.new) }
-        ensures clock { self.new.clock ≡ self.old.clock }
     {
         give_all(rt, &mut self.recorder, &mut self.feeds, &mut self.closed)
     }

@@ -3,7 +3,7 @@
 ghost use Rattle.std.specs.Prelude.{◌≤◌, map};
 ghost use Rattle.srm_names.specs.declared.limits.TheConstants.{MEMBERS};
 ghost use Rattle.srm_outbox.specs.declared.out.Out.{Out as SentOut};
-ghost use Rattle.srm_wire.specs.Wires.{Sends, dispatched};
+ghost use Rattle.srm_wire.specs.Wires.{Sends, SendsEach, dispatched};
 
 use srm_agent::Out;
 use srm_names::Member;
@@ -12,7 +12,8 @@ use srm_wire::{Wire, send_to_others};
 /// Sends each of these to every other member, rising, whatever fails. Whether a send failed.
 pub fn send_all<X: Wire>(wire: &mut X, me: Member, members: u8, outs: &[Out]) -> bool
     requires { members ≤ MEMBERS }
-    ensures { Sends result (dispatched me members (map (λ (o : SentOut). o.bytes) outs.now)) (X.failure_count wire.old) (X.failure_count wire.new) (X.told wire.old) (X.told wire.new) }
+    ensures sends { Sends result (dispatched me members (map (λ (o : SentOut). o.bytes) outs.now)) (X.failure_count wire.old) (X.failure_count wire.new) (X.told wire.old) (X.told wire.new) }
+    ensures each { SendsEach X.sends result (dispatched me members (map (λ (o : SentOut). o.bytes) outs.now)) wire.old wire.new }
 {
     let mut failed = false;
     for out in outs {

@@ -7,7 +7,11 @@ use srm_node::Clock;
 pub struct Still;
 
 impl Clock for Still {
-    fn now(&self) -> u64 {
+    ghost use Rattle.std.specs.Prelude.{◌≡◌};
+
+    ghost reads = { λ old told new. told ≡ 5 };
+
+    fn now(&mut self) -> u64 {
         5
     }
 }

@@ -19,7 +19,11 @@ pub(crate) struct TestClock {
 }
 
 impl Clock for TestClock {
-    fn now(&self) -> u64 {
+    ghost use Rattle.std.specs.Prelude.{◌≡◌};
+
+    ghost reads = { λ old told new. new ≡ old };
+
+    fn now(&mut self) -> u64 {
         self.now.fetch_add(self.step, Ordering::SeqCst)
     }
 }

@@ -29,6 +29,20 @@ abbrev pub sent_by : {T E : Type 0} → ℕ → List ℕ → Result T E → List
 sent_by to bytes (Ok _) = record { to = to; bytes = bytes } ∷ []
 sent_by to bytes (Err _) = []
 
+-- the three answers of a receive, as they are told: bytes came, none was there, or it failed
+abbrev pub answered_with : List ℕ → List (Option (List ℕ))
+answered_with bytes = Some bytes ∷ []
+
+abbrev pub none_there : List (Option (List ℕ))
+none_there = None ∷ []
+
+abbrev pub it_failed : List (Option (List ℕ))
+it_failed = []
+
+-- what is told of several answers, in order
+abbrev pub all_told : List (List (Option (List ℕ))) → List (Option (List ℕ))
+all_told answers = flat_map (λ told. told) answers
+
 -- bytes to a member
 abbrev pub bytes_to : ℕ → List ℕ → Sent
 bytes_to to bytes = record { to = to; bytes = bytes }
@@ -88,6 +102,11 @@ pub record Sends (failed : Bool) (all : List Sent) (count counted : ℕ) (old ne
 abbrev pub SendsEach : {W : Type 0} → (W → Sent → Bool → W → Type 0) → Bool → List Sent → W → W → Type 0
 SendsEach Sends failed [] old new = (failed ≡ false) × (new ≡ old)
 SendsEach {W} Sends failed (sent ∷ more) old new = (between : W) × (lost : Bool) × (later : Bool) × (failed ≡ (lost || later)) × Sends old sent lost between × SendsEach Sends later more between new
+
+-- Each of these was answered, one receive after another into a buffer of this length, failed ones too, each as the wire's own relation has it.
+abbrev pub ReceivesEach : {W : Type 0} → (W → ℕ → List (Option (List ℕ)) → W → Type 0) → ℕ → List (List (Option (List ℕ))) → W → W → Type 0
+ReceivesEach Receives room [] old new = new ≡ old
+ReceivesEach {W} Receives room (answer ∷ more) old new = (between : W) × Receives old room answer between × ReceivesEach Receives room more between new
 
 -- the failures of a wire and some more, up to the greatest there is
 abbrev pub counted_with : ℕ → ℕ → ℕ

@@ -49,6 +49,7 @@ fn fails(remaining: &mut u64) -> bool
 }
 
 impl<X: Wire + Drop> Wire for Flaky<X> {
+    ghost use Rattle.std.specs.Prelude.{◌≡◌};
     ghost use Rattle.srm_wire.specs.Wires.{is_failed};
     ghost use Rattle.srm_wire.specs.Flakiness.{FailsOnce};
 
@@ -59,6 +60,8 @@ impl<X: Wire + Drop> Wire for Flaky<X> {
     ghost sends = { λ f sent failed g. FailsOnce (λ v w. X.sends v sent failed w) failed f g };
 
     ghost receives = { λ f room answer g. FailsOnce (λ v w. X.receives v room answer w) (is_failed answer) f g };
+
+    ghost pauses = { λ f micros g. (g ≡ record f { wire = g.wire }) × X.pauses f.wire micros g.wire };
 
     #[tactic(auto, using(crate::proofs::Telling::counts_below, crate::proofs::Telling::counts_own, crate::proofs::Telling::tells_nothing))]
     fn send(&mut self, to: Member, datagram: &[u8]) -> Result<(), WireFault> {

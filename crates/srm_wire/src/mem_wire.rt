@@ -53,6 +53,7 @@ impl<R: Wait + Drop> Model for MemWire<R> {
 }
 
 impl<R: Wait + Drop> Wire for MemWire<R> {
+    ghost use Rattle.std.specs.Prelude.{◌≡◌};
     ghost use Rattle.srm_wire.specs.Networks.{SendsByFate, KeepsAnswer};
 
     ghost failure_count = { λ w. w.failures };
@@ -62,6 +63,8 @@ impl<R: Wait + Drop> Wire for MemWire<R> {
     ghost sends = { SendsByFate };
 
     ghost receives = { λ w room answer v. KeepsAnswer w answer v };
+
+    ghost pauses = { λ w micros v. v ≡ w };
 
     #[tactic(auto, using(crate::proofs::Fating::puts_more, crate::proofs::Fating::comes_more))]
     fn send(&mut self, to: Member, datagram: &[u8]) -> Result<(), WireFault> {

@@ -29,7 +29,9 @@ pub fn count_failure(failures: &mut u64) -> WireFault
 /// A wire may tell: contracts then see what `receive` answered and what `send` took. One that doesn't has `told` at None for ever.
 ///
 /// It may also say what its calls do: `sends` of the wire before, what was to be sent, whether it failed, and the wire after; `receives` of the
-/// wire before, the buffer's length, the answer (none where it failed), and the wire after. One that says nothing leaves them out.
+/// wire before, the buffer's length, the answer (none where it failed), and the wire after; `pauses` of the wire before, how long, and the wire
+/// after. One that says nothing leaves them out. Failed calls have them too: so a contract that has one for each call says what was tried, and in
+/// which order, which no list could that a wire has to find memory for.
 pub trait Wire {
     ghost failure_count: { Self → ℕ };
 
@@ -38,6 +40,8 @@ pub trait Wire {
     ghost sends: { Self → Sent → Bool → Self → Type 0 } = { λ old sent failed new. Unit {0} };
 
     ghost receives: { Self → ℕ → List (Option (List ℕ)) → Self → Type 0 } = { λ old room answer new. Unit {0} };
+
+    ghost pauses: { Self → ℕ → Self → Type 0 } = { λ old micros new. Unit {0} };
 
     /// Sends bytes to a member.
     fn send(&mut self, to: Member, datagram: &[u8]) -> Result<(), WireFault>
@@ -55,7 +59,8 @@ pub trait Wire {
     /// Waits until a datagram may be there, or so many microseconds went by.
     fn pause(&mut self, micros: u64)
         ensures failures { failure_count self.old ≤ failure_count self.new }
-        ensures tells { told self.new ≡ told self.old };
+        ensures tells { told self.new ≡ told self.old }
+        ensures pauses { pauses self.old micros self.new };
 
     /// How many calls failed, up to the greatest u64.
     fn failures(&self) -> u64
