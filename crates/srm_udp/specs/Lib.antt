@@ -1,3 +1,4 @@
+pub mod Clocks
 pub mod Losses
 pub mod Udp
 pub mod Examples

@@ -2,6 +2,7 @@
 //!
 //! ```
 //! let wire = UdpWire::bind(&rt, alloc, me, addresses)?; // the members' addresses, by number
+//! let waker = wire.waker()?; // for a thread that asks something of the node: `waker.wake()` ends its pause
 //! let clock = SystemClock::new(rt)?;
 //! ```
 //!
@@ -14,7 +15,9 @@ mod system_clock;
 #[cfg(test)]
 mod tests;
 mod udp_wire;
+mod wire_waker;
 
 pub use loss::is_loss;
 pub use system_clock::SystemClock;
 pub use udp_wire::UdpWire;
+pub use wire_waker::WireWaker;

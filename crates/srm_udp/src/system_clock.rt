@@ -1,30 +1,46 @@
 //! The system's monotonic clock.
 
 use srm_wire::Clock;
+use std::marker::Model;
 use std::time::Instant;
 use std::{io, time};
 
-/// Microseconds since this clock was made, by the system's monotonic clock: they never fall.
+/// Microseconds since this clock was made, by the system's monotonic clock: they never fall. Contracts see the moment that it told last.
 #[derive(Drop)]
 pub struct SystemClock<R: time::Clock + Drop> {
     rt: R,
     start: Instant,
+    last: u64,
+}
+
+impl<R: time::Clock + Drop> Model for SystemClock<R> {
+    ghost use Rattle.srm_udp.specs.Clocks.{ClockView};
+
+    ghost Value = { ClockView };
+
+    ghost view = { λ c. record { last = c.last } };
 }
 
 impl<R: time::Clock + Drop> SystemClock<R> {
     /// A clock that starts now. Refused is what the system refuses.
     pub fn new(rt: R) -> io::Result<SystemClock<R>> {
         let start = Instant::now(&rt)?;
-        Ok(SystemClock { rt, start })
+        Ok(SystemClock { rt, start, last: 0 })
     }
 }
 
 impl<R: time::Clock + Drop> Clock for SystemClock<R> {
-    /// A clock that the system can't read tells 0: an agent never goes back behind a moment that it was handed, so its time stands still then.
-    fn now(&self) -> u64 {
-        match self.start.elapsed(&self.rt) {
+    ghost use Rattle.srm_udp.specs.Clocks.{NeverFalls};
+
+    ghost reads = { NeverFalls };
+
+    /// Where the system can't be read it tells the last moment again: time stands still then.
+    fn now(&mut self) -> u64 {
+        let told = match self.start.elapsed(&self.rt) {
             Ok(time) => u64::try_from(time.as_micros()).unwrap_or(u64::MAX),
             Err(_) => 0,
-        }
+        };
+        self.last = told.max(self.last);
+        self.last
     }
 }

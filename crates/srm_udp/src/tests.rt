@@ -1,5 +1,7 @@
 //! Wires over loopback, and the clock.
 
+mod five;
+
 use crate::{SystemClock, UdpWire, is_loss};
 use mio::net::UdpSocket;
 use srm_names::Member;
@@ -9,6 +11,7 @@ use std::io::ErrorKind;
 use std::net::{Ipv4Addr, Net, SocketAddr};
 use std::process::Abort;
 use std::test::Fail;
+use std::thread::{JoinHandle, Threads};
 use std::time::Duration;
 use std::{io, thread, time};
 
@@ -59,14 +62,14 @@ fn assert_nothing<R: Abort>(rt: &R, wire: &mut UdpWire) {
 }
 
 /// How many microseconds a pause took.
-fn time_of_pause<C: Clock>(wire: &mut UdpWire, clock: &C, micros: u64) -> u64 {
+fn time_of_pause<C: Clock>(wire: &mut UdpWire, clock: &mut C, micros: u64) -> u64 {
     let before = clock.now();
     wire.pause(micros);
     clock.now().saturating_sub(before)
 }
 
 /// How many microseconds the shortest of five pauses took: the machine may be busy in some.
-fn shortest_pause<C: Clock>(wire: &mut UdpWire, clock: &C, micros: u64) -> u64 {
+fn shortest_pause<C: Clock>(wire: &mut UdpWire, clock: &mut C, micros: u64) -> u64 {
     let mut shortest = u64::MAX;
     for _ in 0..5u8 {
         shortest = shortest.min(time_of_pause(wire, clock, micros));
@@ -119,20 +122,20 @@ fn what_fills_the_buffer_is_cut_to_it(rt: HostRuntime) -> Result<(), Fail> {
 #[test]
 fn a_pause_waits_where_nothing_comes(rt: HostRuntime) -> Result<(), Fail> {
     let (_near, mut far) = pair(&rt, rt.alloc())?;
-    let clock = SystemClock::new(rt)?;
+    let mut clock = SystemClock::new(rt)?;
     assert_nothing(&rt, &mut far);
-    assert!(rt; time_of_pause(&mut far, &clock, 20_000) >= 20_000);
-    assert!(rt; time_of_pause(&mut far, &clock, 20_000) >= 20_000);
-    assert!(rt; time_of_pause(&mut far, &clock, 0) < 5_000_000);
+    assert!(rt; time_of_pause(&mut far, &mut clock, 20_000) >= 20_000);
+    assert!(rt; time_of_pause(&mut far, &mut clock, 20_000) >= 20_000);
+    assert!(rt; time_of_pause(&mut far, &mut clock, 0) < 5_000_000);
     Ok(())
 }
 
 #[test]
 fn a_pause_is_no_longer_than_asked_for(rt: HostRuntime) -> Result<(), Fail> {
     let (_near, mut far) = pair(&rt, rt.alloc())?;
-    let clock = SystemClock::new(rt)?;
+    let mut clock = SystemClock::new(rt)?;
     assert_nothing(&rt, &mut far);
-    assert!(rt; shortest_pause(&mut far, &clock, 20_000) < 100_000);
+    assert!(rt; shortest_pause(&mut far, &mut clock, 20_000) < 100_000);
     Ok(())
 }
 
@@ -140,17 +143,17 @@ fn a_pause_is_no_longer_than_asked_for(rt: HostRuntime) -> Result<(), Fail> {
 #[test]
 fn a_pause_ends_at_once_where_something_is_left(rt: HostRuntime) -> Result<(), Fail> {
     let (mut near, mut far) = pair(&rt, rt.alloc())?;
-    let clock = SystemClock::new(rt)?;
+    let mut clock = SystemClock::new(rt)?;
     assert_nothing(&rt, &mut far);
     assert_sends(&rt, &mut near, 1, b"one");
     assert_sends(&rt, &mut near, 1, b"two");
-    assert!(rt; time_of_pause(&mut far, &clock, 10_000_000) < 5_000_000);
-    assert!(rt; time_of_pause(&mut far, &clock, 10_000_000) < 5_000_000);
+    assert!(rt; time_of_pause(&mut far, &mut clock, 10_000_000) < 5_000_000);
+    assert!(rt; time_of_pause(&mut far, &mut clock, 10_000_000) < 5_000_000);
     assert_comes(&rt, &mut far, b"one");
-    assert!(rt; time_of_pause(&mut far, &clock, 10_000_000) < 5_000_000);
+    assert!(rt; time_of_pause(&mut far, &mut clock, 10_000_000) < 5_000_000);
     assert_comes(&rt, &mut far, b"two");
     assert_nothing(&rt, &mut far);
-    assert!(rt; time_of_pause(&mut far, &clock, 20_000) >= 20_000);
+    assert!(rt; time_of_pause(&mut far, &mut clock, 20_000) >= 20_000);
     Ok(())
 }
 
@@ -163,27 +166,36 @@ fn send_later<R: time::Clock>(rt: &R, wire: UdpWire) -> Result<(), WireFault> {
 #[test]
 fn what_comes_from_another_thread_ends_a_pause(rt: HostRuntime) -> Result<(), Fail> {
     let (near, mut far) = pair(&rt, rt.alloc())?;
-    let clock = SystemClock::new(rt)?;
+    let mut clock = SystemClock::new(rt)?;
     assert_nothing(&rt, &mut far);
     let child = thread::spawn(&rt, move || send_later(&rt, near))?;
-    assert!(rt; time_of_pause(&mut far, &clock, 20_000_000) < 15_000_000);
+    assert!(rt; time_of_pause(&mut far, &mut clock, 20_000_000) < 15_000_000);
     assert_comes(&rt, &mut far, b"late");
     assert_eq!(rt; child.join(&rt), Ok(()));
     Ok(())
 }
 
 #[test]
-fn what_the_system_refuses_is_a_failure(rt: HostRuntime) -> Result<(), Fail> {
+fn a_member_without_an_address_is_a_failure(rt: HostRuntime) -> Result<(), Fail> {
     let alloc = rt.alloc();
     let (mut near, _far) = pair(&rt, alloc)?;
     assert_eq!(rt; send(&mut near, 2, b"nobody"), Err(WireFault));
     assert_eq!(rt; near.failures(), 1);
-    // No datagram of UDP is so long.
-    let long = vec![in alloc; 0; 70_000]?;
-    assert_eq!(rt; send(&mut near, 1, long.as_slice()), Err(WireFault));
-    assert_eq!(rt; near.failures(), 2);
     assert_nothing(&rt, &mut near);
-    assert_eq!(rt; near.failures(), 2);
+    assert_eq!(rt; near.failures(), 1);
+    Ok(())
+}
+
+// No datagram of UDP has 70,000 bytes.
+#[test]
+fn a_datagram_that_is_too_long_for_its_way_is_lost(rt: HostRuntime) -> Result<(), Fail> {
+    let alloc = rt.alloc();
+    let (mut near, mut far) = pair(&rt, alloc)?;
+    let long = vec![in alloc; 0; 70_000]?;
+    assert_eq!(rt; send(&mut near, 1, long.as_slice()), Ok(()));
+    assert_eq!(rt; near.failures(), 0);
+    assert_sends(&rt, &mut near, 1, b"short");
+    assert_comes(&rt, &mut far, b"short");
     Ok(())
 }
 
@@ -264,23 +276,84 @@ fn a_member_is_bound_to_its_own_address(rt: HostRuntime) -> Result<(), Fail> {
     Ok(())
 }
 
+// The numbers are those of Linux: EPERM, EACCES, EMSGSIZE, ENETDOWN, ENETUNREACH, ENOBUFS, EHOSTDOWN, EHOSTUNREACH, and two that others stand for.
+/// Wakes the pauses of a wire after so many microseconds, from a thread of its own.
+fn wake_after<R>(rt: &R, wire: &UdpWire, micros: u64) -> Result<JoinHandle<bool>, Fail>
+where
+    R: time::Clock + Threads + Copy + Send + Drop + 'static,
+{
+    let waker = wire.waker()?;
+    let own = *rt;
+    let thread = thread::spawn(rt, move || {
+        thread::sleep(&own, Duration::from_micros(micros));
+        waker.wake();
+        true
+    })?;
+    Ok(thread)
+}
+
 #[test]
-fn losses_by_kind(rt: HostRuntime) {
-    for (kind, wanted) in [
-        (ErrorKind::WouldBlock, true),
-        (ErrorKind::ConnectionRefused, true),
-        (ErrorKind::NetworkUnreachable, false),
-        (ErrorKind::PermissionDenied, false),
-        (ErrorKind::OutOfMemory, false),
-        (ErrorKind::Uncategorized, false),
-    ] {
-        assert_eq!(rt; is_loss(kind), wanted);
+fn a_wake_ends_the_pause_that_is_under_way(rt: HostRuntime) -> Result<(), Fail> {
+    let (mut near, _far) = pair(&rt, rt.alloc())?;
+    let mut clock = SystemClock::new(rt)?;
+    assert_nothing(&rt, &mut near);
+    let waking = wake_after(&rt, &near, 20_000)?;
+    assert!(rt; time_of_pause(&mut near, &mut clock, 20_000_000) < 10_000_000);
+    assert!(rt; waking.join(&rt));
+    Ok(())
+}
+
+// The system may tell of the wake once more, so the pause behind the one that was woken isn't asked for its time.
+#[test]
+fn a_wake_before_a_pause_ends_it_at_its_beginning(rt: HostRuntime) -> Result<(), Fail> {
+    let (mut near, _far) = pair(&rt, rt.alloc())?;
+    let mut clock = SystemClock::new(rt)?;
+    assert_nothing(&rt, &mut near);
+    let waker = near.waker()?;
+    for _ in 0..3u8 {
+        waker.wake();
+        waker.wake();
+        assert!(rt; time_of_pause(&mut near, &mut clock, 20_000_000) < 10_000_000);
+        near.pause(1_000);
+        assert!(rt; time_of_pause(&mut near, &mut clock, 20_000) >= 20_000);
     }
+    Ok(())
+}
+
+#[test]
+fn a_wake_takes_no_datagram_away(rt: HostRuntime) -> Result<(), Fail> {
+    let (mut near, mut far) = pair(&rt, rt.alloc())?;
+    let mut clock = SystemClock::new(rt)?;
+    assert_nothing(&rt, &mut near);
+    let waker = near.waker()?;
+    waker.wake();
+    near.pause(20_000_000);
+    assert_sends(&rt, &mut far, 0, b"hi");
+    assert!(rt; time_of_pause(&mut near, &mut clock, 20_000_000) < 10_000_000);
+    waker.wake();
+    near.pause(20_000_000);
+    assert_comes(&rt, &mut near, b"hi");
+    assert_nothing(&rt, &mut near);
+    Ok(())
+}
+
+#[test]
+fn losses_by_number(rt: HostRuntime) {
+    for number in [1, 11, 13, 90, 100, 101, 105, 111, 112, 113] {
+        assert!(rt; is_loss(&io::Error::from_raw_os_error(number)), "{number}");
+    }
+    // EBADF, ENOMEM, EFAULT, EINVAL, EMFILE, EPIPE, EAFNOSUPPORT, EADDRNOTAVAIL, ENOTCONN, and numbers beside those above.
+    for number in [
+        9, 12, 14, 22, 24, 32, 97, 99, 107, -1, 0, 2, 89, 91, 102, 104, 114,
+    ] {
+        assert!(rt; !is_loss(&io::Error::from_raw_os_error(number)), "{number}");
+    }
+    assert!(rt; !is_loss(&io::Error::from(ErrorKind::OutOfMemory)));
 }
 
 #[test]
 fn the_clock_starts_with_itself(rt: HostRuntime) -> Result<(), Fail> {
-    let clock = SystemClock::new(rt)?;
+    let mut clock = SystemClock::new(rt)?;
     let first = clock.now();
     thread::sleep(&rt, Duration::from_micros(1_500));
     let second = clock.now();
@@ -291,7 +364,7 @@ fn the_clock_starts_with_itself(rt: HostRuntime) -> Result<(), Fail> {
 
 #[test]
 fn the_clock_tells_microseconds(rt: HostRuntime) -> Result<(), Fail> {
-    let clock = SystemClock::new(rt)?;
+    let mut clock = SystemClock::new(rt)?;
     let first = clock.now();
     thread::sleep(&rt, Duration::from_millis(200));
     let passed = clock.now().saturating_sub(first);

@@ -5,25 +5,33 @@ ghost use Rattle.srm_wire.specs.Wires.{CountsIf, TellsMore, answered, sent_by};
 ghost use Rattle.srm_udp.specs.Udp.{CountsEach, new_wire, one_more_failure};
 
 use crate::loss::is_loss;
+use crate::wire_waker::WireWaker;
 use mio::net::UdpSocket;
 use mio::{Events, Interest, Poll, Token};
 use srm_names::Member;
 use srm_wire::{Wire, WireFault, count_failure};
-use std::alloc::Global;
+use std::alloc::{AllocError, Global};
 use std::io;
 use std::io::ErrorKind;
 use std::marker::Model;
 use std::net::{Net, SocketAddr};
+use std::sync::Arc;
 use std::time::Duration;
 
-/// A member's wire over UDP: a socket that is bound once and never waits, but in a pause. Where a datagram comes from isn't looked at.
-/// It doesn't tell.
+// What the poll calls the socket, and the waker.
+const SOCKET: Token = Token(0);
+
+const WAKER: Token = Token(1);
+
+/// A member's wire over UDP: a socket that is bound once and never waits, but in a pause, which another thread may end. Where a datagram comes from isn't
+/// looked at. It doesn't tell.
 #[derive(Drop)]
 pub struct UdpWire {
     socket: UdpSocket,
     addresses: Vec<SocketAddr>,
     poll: Poll,
     events: Events<Global>,
+    waker: Arc<WireWaker, Global>,
     // Whether the last `receive` found nothing, and no pause found more since. The poll reports once what comes after that.
     drained: bool,
     failures: u64,
@@ -68,17 +76,24 @@ impl UdpWire {
     {
         let mut socket = socket;
         let poll = Poll::new(rt)?;
-        let events = Events::with_capacity(alloc, 1)?;
+        let events = Events::with_capacity(alloc, 2)?;
         poll.registry()
-            .register(&mut socket, Token(0), Interest::READABLE)?;
+            .register(&mut socket, SOCKET, Interest::READABLE)?;
+        let waker = Arc::new(alloc, WireWaker::new(poll.registry(), WAKER)?)?;
         Ok(UdpWire {
             socket,
             addresses,
             poll,
             events,
+            waker,
             drained: false,
             failures: 0,
         })
+    }
+
+    /// What ends this wire's pauses from another thread. Only want of memory refuses it.
+    pub fn waker(&self) -> Result<Arc<WireWaker, Global>, AllocError> {
+        Arc::try_clone(&self.waker)
     }
 
     // Counts a failure.
@@ -108,7 +123,7 @@ impl Wire for UdpWire {
         };
         match self.socket.send_to(datagram, *address) {
             Ok(count) if count == datagram.len() => Ok(()),
-            Err(error) if is_loss(error.kind()) => Ok(()),
+            Err(error) if is_loss(&error) => Ok(()),
             _ => Err(self.fail()),
         }
     }
@@ -124,24 +139,26 @@ impl Wire for UdpWire {
         self.drained = finds_nothing(&answer);
         match answer {
             Ok((count, _)) => Ok(Some(count)),
-            Err(error) if is_loss(error.kind()) => Ok(None),
+            Err(error) if is_loss(&error) => Ok(None),
             Err(_) => Err(self.fail()),
         }
     }
 
-    /// Waits until a datagram came, or so many microseconds went by, rounded up to whole milliseconds. It waits only behind a `receive` that
-    /// found nothing: what is there already is no news to the system.
+    /// Waits until a datagram came, its waker was called, or so many microseconds went by, rounded up to whole milliseconds. It waits only behind a `receive`
+    /// that found nothing, what is there already being no news to the system, and only where no wake came since the last pause.
     fn pause(&mut self, micros: u64)
         ensures { self.new ≡ self.old }
     {
-        if micros == 0 || !self.drained {
+        let woken = self.waker.take();
+        if micros == 0 || woken || !self.drained {
             return;
         }
         // A wait that the system refuses ends at once: the next `receive` tells why.
         let _ = self
             .poll
             .poll(&mut self.events, Some(Duration::from_micros(micros)));
-        self.drained = self.events.is_empty();
+        self.waker.take();
+        self.drained = !self.events.iter().any(|event| event.token() == SOCKET);
     }
 
     fn failures(&self) -> u64 {
