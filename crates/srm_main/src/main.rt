@@ -5,7 +5,7 @@ use srm_live::{PolledInput, run_live};
 use srm_member::{print_reply, run_node};
 use srm_options::{read_node, read_picture, read_world};
 use srm_played::run_picture;
-use srm_script::{ScriptFault, WRONG_USAGE, run_script};
+use srm_script::{Dialect, ScriptFault, WRONG_USAGE, run_script_in};
 use std::alloc::{AllocError, Global};
 use std::io::{ErrorKind, Write, writer};
 use std::os::fd::RawFd;
@@ -40,7 +40,14 @@ fn main(rt: HostRuntime) -> ExitCode {
             Err(reply) => print_reply(&reply, &mut writer(&rt), &mut err),
         },
         arguments => match read_world(alloc, arguments) {
-            Ok(()) => run_script(alloc, &mut rt.stdin(), &mut writer(&rt), &mut err),
+            Ok(options) => {
+                let dialect = if options.extended {
+                    Dialect::Extended
+                } else {
+                    Dialect::Plain
+                };
+                run_script_in(alloc, dialect, &mut rt.stdin(), &mut writer(&rt), &mut err)
+            }
             Err(reply) => print_reply(&reply, &mut writer(&rt), &mut err),
         },
     };

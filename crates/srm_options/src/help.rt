@@ -50,6 +50,7 @@ where the socket fails; 4 for want of memory, or where all turns were spent.";
 
 /// What `srm world --help` prints.
 pub const WORLD_HELP: &str = "usage: srm world < SCRIPT
+       srm world --extended < SCRIPT
 
 Plays a script of several members of one session, and prints what happens.
 
@@ -61,6 +62,8 @@ The first lines of a script, in this order; the first is needed:
   words M W ..        the words, below 2^64, that waits of member M, below N, are
                       drawn by, and then 0; at most one line a member, by rising M
   timers              timers are printed too
+  distance L          only with --extended: a distance to another member counts as
+                      at least L microseconds, 1 to 10000000; 1 without this line
 
 Then a line for each event, at a moment T in microseconds, 0 to 281474976710656
 (2^48), where it has one:

@@ -23,4 +23,4 @@ pub use node::read_node;
 pub use node_options::NodeOptions;
 pub use picture::read_picture;
 pub use reply::{Reply, Text};
-pub use world::read_world;
+pub use world::{WorldOptions, read_world};

@@ -11,13 +11,17 @@ use clap::error::ErrorKind;
 use clap::{Arg, ArgAction, ArgMatches, Command, value_parser};
 use srm_bucket::{GREATEST_DEPTH, GREATEST_RATE, LEAST_DEPTH, LEAST_RATE};
 use srm_entries::{Config, Settings};
-use srm_names::{LATEST_MOMENT, MEMBERS, Member};
+use srm_names::{LATEST_MOMENT, LONGEST_DISTANCE, MEMBERS, Member};
 use srm_timers::GREATEST_TIMER_SETTING;
 use std::alloc::{AllocError, Global};
 use std::net::{SocketAddr, SocketAddrV4};
 
 /// Without `--stay` a node leaves after so many microseconds.
 const STAY: u64 = 5_000_000;
+
+/// Without `--least-distance` a live member takes a distance as at least so many microseconds. Where members are a few microseconds apart, one that misses
+/// much would else ask each millisecond, and its own strokes would wait behind its requests.
+const LIVE_LEAST_DISTANCE: u64 = 5_000;
 
 /// Without `--turns` it turns so often, at most.
 const TURNS: u64 = 1_000_000;
@@ -114,6 +118,13 @@ fn with_limits<'a>(alloc: Global, command: Command<'a>) -> Result<Command<'a>, A
         "c1,c2,d1,d2",
         "a request waits c1 to c1+c2 distances, a repair d1 to d1+d2; each 0 to 16; else 2,2,1,1",
     );
+    let least_distance = option(
+        alloc,
+        "least-distance",
+        "L",
+        "a distance counts as at least so many microseconds, 1 to 10000000; else 1, or 5000 with --live",
+    )
+    .value_parser(value_parser!(u64).range(1..=LONGEST_DISTANCE as i64));
     let live = Arg::new(alloc, "live")
         .long("live")
         .help("draws each line as it is typed, and prints what is taken as it is")
@@ -124,6 +135,7 @@ fn with_limits<'a>(alloc: Global, command: Command<'a>) -> Result<Command<'a>, A
         .arg(rate)?
         .arg(depth)?
         .arg(waits)?
+        .arg(least_distance)?
         .arg(live)
 }
 
@@ -162,6 +174,7 @@ fn options_in<'a>(alloc: Global, matches: &ArgMatches<'a>) -> Result<NodeOptions
 /// What the member may send and how long it waits.
 fn settings_in<'a>(matches: &ArgMatches<'a>) -> Result<Settings, Mistake<'a>> {
     let usual = Settings::default();
+    let live = matches.get_flag("live");
     let [c1, c2, d1, d2] = match matches.get_str("waits") {
         Some(text) => waits_in(text).ok_or(Mistake::Waits(text))?,
         None => [usual.c1, usual.c2, usual.d1, usual.d2],
@@ -173,7 +186,11 @@ fn settings_in<'a>(matches: &ArgMatches<'a>) -> Result<Settings, Mistake<'a>> {
         c2,
         d1,
         d2,
-        ..usual
+        least_distance: matches.get_one::<u64>("least-distance").unwrap_or(if live {
+            LIVE_LEAST_DISTANCE
+        } else {
+            usual.least_distance
+        }),
     })
 }
 

@@ -4,25 +4,38 @@ use crate::help::{ABOUT, WORLD, WORLD_HELP};
 use crate::node::node_command;
 use crate::picture::picture_command;
 use crate::reply::Reply;
-use clap::Command;
 use clap::error::ErrorKind;
+use clap::{Arg, ArgAction, Command};
 use std::alloc::{AllocError, Global};
 
+/// What a command line of `srm world` says.
+#[derive(Clone, Copy, Debug, PartialEq, Eq)]
+pub struct WorldOptions {
+    /// Whether the script may have lines that not every script may have.
+    pub extended: bool,
+}
+
 /// Reads the arguments behind `srm`, of which the first isn't `node` or `picture`: Ok where they ask for `srm world`.
-pub fn read_world<'a>(alloc: Global, arguments: &'a [&'a str]) -> Result<(), Reply> {
+pub fn read_world<'a>(alloc: Global, arguments: &'a [&'a str]) -> Result<WorldOptions, Reply> {
     let mut command = srm_command(alloc)?;
     let matches = command.try_get_matches_from_mut(arguments)?;
-    match matches.subcommand_name() {
-        Some("world") => Ok(()),
-        Some("picture") => Err(told(&mut command, "'picture' has to be the first word")),
+    match matches.subcommand() {
+        Some(("world", matches)) => Ok(WorldOptions {
+            extended: matches.get_flag("extended"),
+        }),
+        Some(("picture", _)) => Err(told(&mut command, "'picture' has to be the first word")),
         _ => Err(told(&mut command, "'node' has to be the first word")),
     }
 }
 
 fn srm_command<'a>(alloc: Global) -> Result<Command<'a>, AllocError> {
+    let extended = Arg::new(alloc, "extended")
+        .long("extended")
+        .action(ArgAction::SetTrue);
     let world = Command::new(alloc, "world")
         .about(WORLD)
-        .override_help(WORLD_HELP);
+        .override_help(WORLD_HELP)
+        .arg(extended)?;
     Command::new(alloc, "srm")
         .bin_name("srm")?
         .no_binary_name(true)

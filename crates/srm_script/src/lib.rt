@@ -20,7 +20,7 @@ mod status;
 
 pub use fault::{ScriptFault, print_fault};
 pub use input::read_input;
-pub use play::{print_newest, run_event, run_script};
+pub use play::{print_newest, run_event, run_script, run_script_in};
 pub use printer::{EntryPrinter, PrintedGone, PrintedTake};
-pub use script::{Script, read_script};
+pub use script::{Dialect, Script, read_script, read_script_in};
 pub use status::{FAILED, RAN_OUT, WIRE_FAILED, WRONG_USAGE};

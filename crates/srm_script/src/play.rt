@@ -6,7 +6,7 @@ ghost use Rattle.srm_world.specs.Events.{IsTimely};
 use crate::fault::ScriptFault;
 use crate::input::read_input;
 use crate::printer::EntryPrinter;
-use crate::script::{Script, read_script};
+use crate::script::{Dialect, Script, read_script_in};
 use srm_timers::Listed;
 use srm_world::{Event, World};
 use std::alloc::Global;
@@ -24,20 +24,36 @@ pub fn run_script<I: Read, O: Write, E: Write>(
     out: &mut O,
     err: &mut E,
 ) -> u8 {
-    match run(alloc, reader, out) {
+    run_script_in(alloc, Dialect::Plain, reader, out, err)
+}
+
+/// The same of a script that may have the lines of this dialect.
+pub fn run_script_in<I: Read, O: Write, E: Write>(
+    alloc: Global,
+    dialect: Dialect,
+    reader: &mut I,
+    out: &mut O,
+    err: &mut E,
+) -> u8 {
+    match run(alloc, dialect, reader, out) {
         Ok(()) => 0,
         Err(fault) => fault.print(err),
     }
 }
 
-fn run<I: Read, O: Write>(alloc: Global, reader: &mut I, out: &mut O) -> Result<(), ScriptFault> {
+fn run<I: Read, O: Write>(
+    alloc: Global,
+    dialect: Dialect,
+    reader: &mut I,
+    out: &mut O,
+) -> Result<(), ScriptFault> {
     let input = read_input(alloc, reader)?;
     let Script {
         configs,
         words,
         timers,
         events,
-    } = read_script(alloc, input.as_slice())?;
+    } = read_script_in(alloc, dialect, input.as_slice())?;
     let mut world = World::new(alloc, configs, words)?;
     let mut out = BufWriter::new(alloc, out).map_err(ScriptFault::of_output)?;
     let ran = run_events(&mut world, events, &mut EntryPrinter::new(timers), &mut out);

@@ -4,6 +4,7 @@ ghost use Rattle.std.specs.Prelude.{◌≡◌, length, All, IfOk};
 ghost use Rattle.srm_world.specs.Traces.{IsRoster, started};
 ghost use Rattle.srm_world.specs.Events.{IsTimely};
 
+mod dialect;
 mod event;
 mod header;
 mod line;
@@ -12,6 +13,7 @@ mod number;
 mod roster;
 
 use crate::fault::ScriptFault;
+pub use dialect::Dialect;
 use header::Header;
 use line::{read_line, read_members};
 use srm_agent::Config;
@@ -29,8 +31,17 @@ pub struct Script {
     pub events: Vec<Event>,
 }
 
-/// Reads a whole script, however long, and runs nothing of it. Refused is its first bad line, and want of memory.
+/// Reads a whole script of plain lines, however long, and runs nothing of it. Refused is its first bad line, and want of memory.
 pub fn read_script(alloc: Global, text: &[u8]) -> Result<Script, ScriptFault>
+    ensures roster { IfOk result (λ script. IsRoster (started script.configs.items)) }
+    ensures words { IfOk result (λ script. length script.words.items ≡ length script.configs.items) }
+    ensures timely { IfOk result (λ script. All IsTimely script.events.items) }
+{
+    read_script_in(alloc, Dialect::Plain, text)
+}
+
+/// The same of a script that may have the lines of this dialect.
+pub fn read_script_in(alloc: Global, dialect: Dialect, text: &[u8]) -> Result<Script, ScriptFault>
     ensures roster { IfOk result (λ script. IsRoster (started script.configs.items)) }
     ensures words { IfOk result (λ script. length script.words.items ≡ length script.configs.items) }
     ensures timely { IfOk result (λ script. All IsTimely script.events.items) }
@@ -44,7 +55,9 @@ pub fn read_script(alloc: Global, text: &[u8]) -> Result<Script, ScriptFault>
     let mut header = Header::new(alloc, members);
     let mut events = Vec::new(alloc);
     for (number, line) in (2..=u64::MAX).zip(lines) {
-        read_line(alloc, line, &mut header, &mut events).map_err(|fault| fault.at(number))?;
+        read_line(alloc, dialect, line, &mut header, &mut events).map_err(|fault| fault.at(
+            number,
+        ))?;
     }
     let configs = header.configs(alloc)?;
     let timers = header.has_timers();

@@ -9,6 +9,8 @@ mod admitting;
 #[cfg(test)]
 mod bodies;
 #[cfg(test)]
+mod dialects;
+#[cfg(test)]
 mod faults;
 #[cfg(test)]
 mod forgetting;

@@ -1,7 +1,8 @@
 //! The first lines of a script.
 
 ghost use Rattle.std.specs.Prelude.{◌≡◌, ◌≤◌, ◌<◌, length, IfOk, OnOk};
-ghost use Rattle.srm_names.specs.declared.limits.TheConstants.{MEMBERS};
+ghost use Rattle.srm_names.specs.declared.limits.TheConstants.{MEMBERS, LONGEST_DISTANCE};
+ghost use Rattle.srm_distance.specs.declared.limits.TheConstants.{SHORTEST_DISTANCE};
 ghost use Rattle.srm_bucket.specs.declared.limits.TheConstants.{LEAST_RATE, GREATEST_RATE, LEAST_DEPTH, GREATEST_DEPTH};
 ghost use Rattle.srm_world.specs.Traces.{IsRoster, started};
 
@@ -10,6 +11,7 @@ use super::number::read_number;
 use super::roster::roster;
 use srm_agent::{Config, Settings};
 use srm_bucket::{GREATEST_DEPTH, GREATEST_RATE, LEAST_DEPTH, LEAST_RATE};
+use srm_names::LONGEST_DISTANCE;
 use srm_timers::Listed;
 use std::alloc::{AllocError, Global};
 
@@ -20,6 +22,7 @@ enum Kind {
     Bucket,
     Words,
     Timers,
+    Distance,
     Event,
 }
 
@@ -29,6 +32,7 @@ pub struct Header {
     members: u8,
     rate: u32,
     depth: u32,
+    least_distance: u64,
     /// The words of the members from 0 on, as far as lines spoke of them.
     words: Vec<Listed>,
     timers: bool,
@@ -39,6 +43,8 @@ pub struct Header {
     ghost greatest_rate: { rate ≤ GREATEST_RATE },
     ghost least_depth: { LEAST_DEPTH ≤ depth },
     ghost greatest_depth: { depth ≤ GREATEST_DEPTH },
+    ghost shortest_distance: { SHORTEST_DISTANCE ≤ least_distance },
+    ghost longest_distance: { least_distance ≤ LONGEST_DISTANCE },
     ghost told: { length words.items ≤ members },
 }
 
@@ -53,6 +59,7 @@ impl Header {
             members,
             rate: usual.rate,
             depth: usual.depth,
+            least_distance: usual.least_distance,
             words: Vec::new(alloc),
             timers: false,
             last: Kind::Members,
@@ -79,7 +86,7 @@ impl Header {
         alloc: Global,
         mut reader: LineReader<'_>,
     ) -> Result<(), LineFault> {
-        if matches!(self.last, Kind::Timers | Kind::Event) {
+        if matches!(self.last, Kind::Timers | Kind::Distance | Kind::Event) {
             return Err(LineFault::Bad);
         }
         let member = reader.member()?;
@@ -97,12 +104,24 @@ impl Header {
 
     /// Nothing more.
     pub fn read_timers(&mut self, reader: LineReader<'_>) -> Result<(), LineFault> {
-        if matches!(self.last, Kind::Timers | Kind::Event) {
+        if matches!(self.last, Kind::Timers | Kind::Distance | Kind::Event) {
             return Err(LineFault::Bad);
         }
         reader.end()?;
         self.timers = true;
         self.last = Kind::Timers;
+        Ok(())
+    }
+
+    /// `L`.
+    pub fn read_distance(&mut self, mut reader: LineReader<'_>) -> Result<(), LineFault> {
+        if matches!(self.last, Kind::Distance | Kind::Event) {
+            return Err(LineFault::Bad);
+        }
+        let least = reader.number_from(1, LONGEST_DISTANCE as u32)?;
+        reader.end()?;
+        self.least_distance = u64::from(least);
+        self.last = Kind::Distance;
         Ok(())
     }
 
@@ -121,7 +140,13 @@ impl Header {
         ensures roster { IfOk result (λ configs. IsRoster (started configs.items)) }
         ensures count { IfOk result (λ configs. length configs.items ≡ self.now.members) }
     {
-        roster(alloc, self.members, self.rate, self.depth)
+        roster(
+            alloc,
+            self.members,
+            self.rate,
+            self.depth,
+            self.least_distance,
+        )
     }
 
     /// The words of all members.

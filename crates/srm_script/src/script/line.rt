@@ -4,6 +4,7 @@ ghost use Rattle.std.specs.Prelude.{◌≤◌, ◌<◌, All, IfOk};
 ghost use Rattle.srm_names.specs.declared.limits.TheConstants.{MEMBERS};
 ghost use Rattle.srm_world.specs.Events.{IsTimely};
 
+use super::dialect::Dialect;
 use super::event::read_event;
 use super::header::Header;
 use super::line_reader::{LineFault, LineReader};
@@ -28,6 +29,7 @@ pub fn read_members(line: &[u8]) -> Result<u8, LineFault>
 /// Reads one of the lines after the first: one more of the first lines, or an event.
 pub fn read_line(
     alloc: Global,
+    dialect: Dialect,
     line: &[u8],
     header: &mut Header,
     events: &mut Vec<Event>,
@@ -40,6 +42,7 @@ pub fn read_line(
         "bucket" => header.read_bucket(reader),
         "words" => header.read_words(alloc, reader),
         "timers" => header.read_timers(reader),
+        "distance" if dialect == Dialect::Extended => header.read_distance(reader),
         kind => {
             let event = read_event(alloc, kind, reader)?;
             header.end();
