@@ -49,6 +49,8 @@ impl<X: Wire + Drop> Wire for CountedWire<X> {
 
     ghost receives = { λ old room answer new. X.receives old.wire room answer new.wire };
 
+    ghost pauses = { λ old micros new. X.pauses old.wire micros new.wire };
+
     fn send(&mut self, to: Member, datagram: &[u8]) -> Result<(), WireFault> {
         let sent = self.wire.send(to, datagram);
         if let Some(tally) = &self.tally {

@@ -6,7 +6,7 @@ ghost use Rattle.srm_names.specs.declared.limits.TheConstants.{PAGES};
 use crate::desk::Desk;
 use crate::typing::draw_typed;
 use srm_agent::Entry;
-use srm_member::{MemberFault, Station, host_if};
+use srm_member::{MemberFault, Station, Waking, host_if};
 use srm_names::PageMsg;
 use srm_node::{Hosted, PageSink};
 use srm_pages::{Inked, Pen};
@@ -43,8 +43,13 @@ where
     requires taps { vec_len station.taps ≡ PAGES }
     requires sinks { vec_len sinks ≡ PAGES }
 {
-    let Station { node, taps, pens } = station;
-    let typing = start_typing(rt, alloc, pens, reader, stay, desk);
+    let Station {
+        node,
+        taps,
+        pens,
+        waker,
+    } = station;
+    let typing = start_typing(rt, alloc, pens, reader, stay, desk, waker);
     let hosted = host_if(rt, alloc, typing.is_some(), node, taps, sinks, turns);
     desk.end();
     join_if(rt, typing);
@@ -67,6 +72,7 @@ fn start_typing<R, I, O, E>(
     reader: I,
     stay: u64,
     desk: &Arc<Desk<O, E>, Global>,
+    waker: Waking,
 ) -> Option<JoinHandle<Inked>>
 where
     R: time::Clock + Threads + Wait + Copy + Send + Drop + 'static,
@@ -75,7 +81,7 @@ where
     E: Write + Send + Drop + 'static,
 {
     match (first_of(pens), Arc::try_clone(desk)) {
-        (Some(pen), Ok(desk)) => spawn_typing(rt, alloc, pen, reader, stay, desk),
+        (Some(pen), Ok(desk)) => spawn_typing(rt, alloc, pen, reader, stay, desk, waker),
         _ => None,
     }
 }
@@ -87,6 +93,7 @@ fn spawn_typing<R, I, O, E>(
     reader: I,
     stay: u64,
     desk: Arc<Desk<O, E>, Global>,
+    waker: Waking,
 ) -> Option<JoinHandle<Inked>>
 where
     R: time::Clock + Threads + Wait + Copy + Send + Drop + 'static,
@@ -97,7 +104,7 @@ where
     let own = *rt;
     match thread::spawn(
         rt,
-        move || draw_typed(&own, alloc, reader, pen, stay, &desk),
+        move || draw_typed(&own, alloc, reader, pen, stay, &desk, &waker),
     ) {
         Ok(typing) => Some(typing),
         Err(_) => None,

@@ -147,9 +147,10 @@ where
     let addresses = mem::replace(&mut options.addresses, Vec::new(alloc));
     match UdpWire::bind(rt, alloc, options.config.me(), addresses) {
         Ok(wire) => {
+            let waker = wire.waker().ok();
             let wire = CountedWire::new(wire, alloc, options.config, share(tally));
             let past = Watched::new(alloc, share(tally));
-            Station::with_past(rt, alloc, &options, wire, past)
+            Station::with_past(rt, alloc, &options, wire, waker, past)
         }
         Err(error) => Err(MemberFault::of_binding(error)),
     }

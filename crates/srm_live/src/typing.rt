@@ -8,7 +8,7 @@ use crate::cut::ReadingEnd;
 use crate::desk::Desk;
 use crate::remaining::remain;
 use crate::typed::{Line, Typed};
-use srm_member::send_stroke;
+use srm_member::{Waking, send_stroke, wake};
 use srm_pages::{Inked, Pen};
 use srm_script::ScriptFault;
 use std::alloc::Global;
@@ -32,16 +32,26 @@ pub fn draw_typed<R: Clock + Wait, I: Read + Drop, O: Write, E: Write>(
     pen: Pen,
     stay: u64,
     desk: &Desk<O, E>,
+    waker: &Waking,
 ) -> Inked
     ensures { PenSentPrefixOf (I.remaining reader) pen result }
 {
     let mut reader = reader;
     let mut pen = pen;
-    if let Err(ReadingEnd::Fault(fault)) = draw_lines(rt, alloc, &mut reader, &mut pen, desk) {
+    if let Err(ReadingEnd::Fault(fault)) = draw_lines(
+        rt,
+        alloc,
+        &mut reader,
+        &mut pen,
+        desk,
+        waker,
+    ) {
         desk.note(&fault);
     }
     remain(rt, Duration::from_micros(stay), desk.ended());
-    pen.done()
+    let inked = pen.done();
+    wake(waker);
+    inked
 }
 
 // Draws each line of a reader, until it ends.
@@ -52,13 +62,22 @@ fn draw_lines<R: Clock + Wait, I: Read, O: Write, E: Write>(
     reader: &mut I,
     pen: &mut Pen,
     desk: &Desk<O, E>,
+    waker: &Waking,
 ) -> Result<(), ReadingEnd>
     ensures all { OnOk result (PenSentAllOf (I.remaining reader.old) pen.old pen.new) }
     ensures prefix { PenSentPrefixOf (I.remaining reader.old) pen.old pen.new }
 {
     let mut line = Line::new(alloc);
     let mut buffer = vec![in alloc; 0; READ]?;
-    draw_read(rt, reader, buffer.as_mut_slice(), &mut line, pen, desk)
+    draw_read(
+        rt,
+        reader,
+        buffer.as_mut_slice(),
+        &mut line,
+        pen,
+        desk,
+        waker,
+    )
 }
 
 // Draws each line of a reader that is read by this buffer.
@@ -70,6 +89,7 @@ fn draw_read<R: Clock + Wait, I: Read, O: Write, E: Write>(
     line: &mut Line,
     pen: &mut Pen,
     desk: &Desk<O, E>,
+    waker: &Waking,
 ) -> Result<(), ReadingEnd>
     requires room { 0 < length buffer.old }
     requires none { line.old.kept ≡ [] }
@@ -82,8 +102,8 @@ fn draw_read<R: Clock + Wait, I: Read, O: Write, E: Write>(
         }
         match read_next(rt, reader, buffer)? {
             None => {}
-            Some(0) => return draw_last(rt, pen, line, desk),
-            Some(count) => draw_bytes(rt, pen, line, &buffer[..count], desk)?,
+            Some(0) => return draw_last(rt, pen, line, desk, waker),
+            Some(count) => draw_bytes(rt, pen, line, &buffer[..count], desk, waker)?,
         }
     }
     unreachable!()
@@ -123,12 +143,13 @@ fn draw_bytes<R: Clock + Wait, O: Write, E: Write>(
     line: &mut Line,
     bytes: &[u8],
     desk: &Desk<O, E>,
+    waker: &Waking,
 ) -> Result<(), ReadingEnd>
     ensures all { OnOk result (DrawsTyped bytes.now line.old.kept pen.old line.new.kept pen.new) }
     ensures some { DrawsSome bytes.now line.old.kept pen.old pen.new }
 {
     for byte in bytes {
-        draw_byte(rt, pen, line, *byte, desk)?;
+        draw_byte(rt, pen, line, *byte, desk, waker)?;
     }
     Ok(())
 }
@@ -141,6 +162,7 @@ fn draw_byte<R: Clock + Wait, O: Write, E: Write>(
     line: &mut Line,
     byte: u8,
     desk: &Desk<O, E>,
+    waker: &Waking,
 ) -> Result<(), ReadingEnd>
     ensures drawn { OnOk result (DrawsTyped (byte ∷ []) line.old.kept pen.old line.new.kept pen.new) }
     ensures none { OnErr result (pen.new ≡ pen.old) }
@@ -150,7 +172,7 @@ fn draw_byte<R: Clock + Wait, O: Write, E: Write>(
         return Ok(());
     }
     let typed = line.end()?;
-    draw_line(rt, pen, typed, desk)
+    draw_line(rt, pen, typed, desk, waker)
 }
 
 // Draws the last line, which lacks its end, unless it is empty.
@@ -160,6 +182,7 @@ fn draw_last<R: Clock + Wait, O: Write, E: Write>(
     pen: &mut Pen,
     line: &mut Line,
     desk: &Desk<O, E>,
+    waker: &Waking,
 ) -> Result<(), ReadingEnd>
     ensures drawn { OnOk result (DrawsLast line.old.kept pen.old pen.new) }
     ensures none { OnErr result (pen.new ≡ pen.old) }
@@ -168,7 +191,7 @@ fn draw_last<R: Clock + Wait, O: Write, E: Write>(
         return Ok(());
     }
     let typed = line.end()?;
-    draw_line(rt, pen, typed, desk)
+    draw_line(rt, pen, typed, desk, waker)
 }
 
 // Draws a line that ended, or tells of one that is too long.
@@ -177,6 +200,7 @@ fn draw_line<R: Clock + Wait, O: Write, E: Write>(
     pen: &mut Pen,
     typed: Typed,
     desk: &Desk<O, E>,
+    waker: &Waking,
 ) -> Result<(), ReadingEnd>
     ensures drawn { OnOk result (PenSent (bodies_in typed) pen.old pen.new) }
     ensures none { OnErr result (pen.new ≡ pen.old) }
@@ -186,7 +210,7 @@ fn draw_line<R: Clock + Wait, O: Write, E: Write>(
     }
     match typed {
         Typed::Stroke(body) => {
-            if !send_stroke(rt, pen, body, desk.ended()) {
+            if !send_stroke(rt, pen, body, desk.ended(), waker) {
                 return Err(ReadingEnd::Closed);
             }
         }

@@ -39,6 +39,8 @@ impl Past<Entry> for Watched {
 
     ghost has_room = { λ _. Unit {0} };
 
+    ghost is_refused = { λ _. ⊥ };
+
     fn empty(alloc: Global) -> Watched {
         Watched::new(alloc, None)
     }

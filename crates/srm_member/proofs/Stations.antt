@@ -1,7 +1,7 @@
 -- A new station, whose node was asked to leave.
 use Rattle.std.proofs.Common.{◌≡◌, ℕ, List, length, refl, sym, subst}
 use Rattle.std.specs.Prelude.{Option, Some}
-use Rattle.srm_names.specs.declared.limits.TheConstants.{PAGES}
+use Rattle.srm_names.specs.declared.limits.TheConstants.{PAGES, PENS}
 use Rattle.srm_pages.specs.Ends.{FeedView, WellView, TapView, PenView, AreNewPens}
 use Rattle.srm_entries.specs.Configs.{Config}
 use Rattle.srm_wire.specs.Wires.{Told}
@@ -9,13 +9,14 @@ use Rattle.srm_node.specs.Nodes.{NodeState, IsNewNode}
 use Rattle.srm_node.specs.Hosting.{AreEndsOfLanes}
 use Rattle.srm_member.specs.Stations.{IsNewStation}
 
-pub new_station : {W C : Type 0} (config : Config) (stay : ℕ) (feeds : List FeedView) (well : WellView) (failures : ℕ) (told : Option Told) (old new : NodeState W C) (taps : List TapView) (pens : List PenView)
-    → IsNewNode config feeds well failures told old.view → failures ≡ 0 → new ≡ record old { view = record old.view { asked = Some stay } } → length taps ≡ PAGES → AreEndsOfLanes feeds taps → AreNewPens well.well pens → IsNewStation config stay told new.view taps pens
-new_station {W} {C} config stay feeds well failures told old new taps pens made none asked slots lanes pens_are =
-    subst (λ (s : NodeState W C). IsNewStation config stay told s.view taps pens) (sym asked) (rw made.is (record {
+pub new_station : {W X C : Type 0} (config : Config) (stay : ℕ) (feeds : List FeedView) (well : WellView) (failures : ℕ) (told : Option Told) (wire : X) (old new : NodeState W X C) (taps : List TapView) (pens : List PenView)
+    → IsNewNode config feeds well failures told wire old.view → failures ≡ 0 → new ≡ record old { view = record old.view { asked = Some stay } } → length taps ≡ PAGES → AreEndsOfLanes feeds taps → length pens ≡ PENS → AreNewPens well.well pens → IsNewStation config stay told wire new.view taps pens
+new_station {W} {X} {C} config stay feeds well failures told wire old new taps pens made none asked slots lanes count pens_are =
+    subst (λ (s : NodeState W X C). IsNewStation config stay told wire s.view taps pens) (sym asked) (rw made.is (record {
       new = record { made = made.made; is = rw none refl };
       asked = refl;
       slots = slots;
       lanes = lanes;
+      count = count;
       well = pens_are;
     }))

@@ -3,3 +3,4 @@ pub mod Examples
 pub mod Lines
 pub mod Stations
 pub mod Strokes
+pub mod Sinks

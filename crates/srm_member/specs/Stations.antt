@@ -1,17 +1,18 @@
 -- A member's station, as its options say.
 use Rattle.std.specs.Prelude.{◌≡◌, ℕ, List, length, Option, Some, None}
-use Rattle.srm_names.specs.declared.limits.TheConstants.{PAGES}
+use Rattle.srm_names.specs.declared.limits.TheConstants.{PAGES, PENS}
 use Rattle.srm_pages.specs.Ends.{TapView, PenView, AreNewPens}
 use Rattle.srm_entries.specs.Configs.{Config}
 use Rattle.srm_wire.specs.Wires.{Told}
 use Rattle.srm_node.specs.Nodes.{NodeView, IsNewNode}
 use Rattle.srm_node.specs.Hosting.{AreEndsOfLanes}
 
--- A node with these settings that did nothing yet and is to leave from a moment on, of whose wire no call failed and which told so much, the tap of each of
--- its lanes, and the pens of its well.
-pub record IsNewStation (config : Config) (stay : ℕ) (told : Option Told) (node : NodeView) (taps : List TapView) (pens : List PenView) : Type 0 where
-  pub new : IsNewNode config node.feeds node.well 0 told (record node { asked = None })
+-- A node with these settings that did nothing yet and is to leave from a moment on, over this wire, of which no call failed and which told so much, the tap
+-- of each of its lanes, and the pens of its well.
+pub record IsNewStation {X C : Type 0} (config : Config) (stay : ℕ) (told : Option Told) (wire : X) (node : NodeView X C) (taps : List TapView) (pens : List PenView) : Type 0 where
+  pub new : IsNewNode config node.feeds node.well 0 told wire (record node { asked = None })
   pub asked : node.asked ≡ Some stay
   pub slots : length taps ≡ PAGES
   pub lanes : AreEndsOfLanes node.feeds taps
+  pub count : length pens ≡ PENS
   pub well : AreNewPens node.well.well pens

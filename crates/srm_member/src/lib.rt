@@ -26,7 +26,7 @@ mod station;
 
 pub use dealing::deal;
 pub use fault::MemberFault;
-pub use pens::send_stroke;
+pub use pens::{Waking, send_stroke, wake};
 pub use replying::print_reply;
 pub use running::run_node;
 pub use station::{Station, host_if};

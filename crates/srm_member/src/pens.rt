@@ -7,6 +7,7 @@ ghost use Rattle.srm_member.specs.Strokes.{stroke_of, PenSentPrefix};
 use bytes::Bytes;
 use srm_names::Page;
 use srm_pages::{Inked, Pen, Stroke};
+use srm_udp::WireWaker;
 use std::alloc::{AllocError, Global};
 use std::collections::VecDeque;
 use std::sync::atomic::{AtomicBool, Ordering};
@@ -24,14 +25,27 @@ const WAIT: u64 = 1_000;
 pub struct PenThreads {
     threads: VecDeque<JoinHandle<Inked>>,
     ended: Arc<AtomicBool, Global>,
+    waker: Waking,
+}
+
+/// What ends the pauses of the node's wire, if it has such.
+pub type Waking = Option<Arc<WireWaker, Global>>;
+
+/// The same for one more thread. None where there is none, or no memory for it: the node then wakes by itself, a few milliseconds later.
+pub fn share_waker(waker: &Waking) -> Waking {
+    match waker {
+        Some(waker) => Arc::try_clone(waker).ok(),
+        None => None,
+    }
 }
 
 impl PenThreads {
     /// No thread yet. Only want of memory refuses it.
-    pub fn new(alloc: Global) -> Result<PenThreads, AllocError> {
+    pub fn new(alloc: Global, waker: Waking) -> Result<PenThreads, AllocError> {
         Ok(PenThreads {
             threads: VecDeque::new(alloc),
             ended: Arc::new(alloc, AtomicBool::new(false))?,
+            waker,
         })
     }
 
@@ -69,7 +83,8 @@ impl PenThreads {
             return false;
         };
         let own = *rt;
-        match thread::spawn(rt, move || draw_all(&own, pen, bodies, &ended)) {
+        let waker = share_waker(&self.waker);
+        match thread::spawn(rt, move || draw_all(&own, pen, bodies, &ended, &waker)) {
             Ok(thread) => self.threads.push_back(thread).is_ok(),
             Err(_) => false,
         }
@@ -77,7 +92,7 @@ impl PenThreads {
 
     /// Tells the threads that the node has ended, and waits for them.
     pub fn end<R: Threads>(self, rt: &R) {
-        let PenThreads { threads, ended } = self;
+        let PenThreads { threads, ended, .. } = self;
         ended.store(true, Ordering::SeqCst);
         for thread in threads {
             thread.join(rt);
@@ -92,25 +107,30 @@ fn draw_all<R: time::Clock + Wait>(
     pen: Pen,
     bodies: Vec<Bytes>,
     ended: &AtomicBool,
+    waker: &Waking,
 ) -> Inked
     ensures { PenSentPrefix bodies.items pen result }
 {
     let mut pen = pen;
     for body in bodies {
-        if !send_stroke(rt, &mut pen, body, ended) {
+        if !send_stroke(rt, &mut pen, body, ended, waker) {
             break;
         }
     }
-    pen.done()
+    let inked = pen.done();
+    // A node that is to leave once its pens are done needn't wait for it.
+    wake(waker);
+    inked
 }
 
 /// Sends a stroke with this body on the first page, and each millisecond again while it comes back from a full well, until the flag says that the node
-/// has ended. Whether it was sent.
+/// has ended. A node that pauses is woken for it. Whether it was sent.
 pub fn send_stroke<R: time::Clock + Wait>(
     rt: &R,
     pen: &mut Pen,
     body: Bytes,
     ended: &AtomicBool,
+    waker: &Waking,
 ) -> bool
     ensures sent { OnTrue result (pen.new ≡ record pen.old { sent = pen.old.sent ++ stroke_of pen.old.number body ∷ [] }) }
     ensures ended { OnFalse result (pen.new ≡ pen.old) }
@@ -122,6 +142,7 @@ pub fn send_stroke<R: time::Clock + Wait>(
     };
     for _ in rt.forever() {
         let Err(back) = pen.stroke(rt, stroke) else {
+            wake(waker);
             return true;
         };
         if ended.load(Ordering::SeqCst) {
@@ -131,4 +152,11 @@ pub fn send_stroke<R: time::Clock + Wait>(
         thread::sleep(rt, Duration::from_micros(WAIT));
     }
     unreachable!()
+}
+
+/// Ends the node's pause, if its wire has what ends it.
+pub fn wake(waker: &Waking) {
+    if let Some(waker) = waker {
+        waker.wake();
+    }
 }

@@ -7,11 +7,15 @@ use srm_names::{PAGES, PageMsg};
 use srm_node::PageSink;
 use std::alloc::{AllocError, Global};
 
-/// Shows nothing while the member runs: what was taken is printed at its end.
+/// Shows nothing while the member runs, and never stops its worker: what was taken is printed at its end.
 #[derive(Clone, Copy, Debug)]
 pub struct Unseen;
 
 impl PageSink for Unseen {
+    ghost use Rattle.srm_member.specs.Sinks.{NeverStops};
+
+    ghost sees = { NeverStops };
+
     fn message(&mut self, _slot: u8, _message: &PageMsg) -> bool {
         true
     }

@@ -1,15 +1,19 @@
 //! A member's station: its node, the taps for its page workers, and its pens.
 
-ghost use Rattle.std.specs.Prelude.{◌≡◌, Bool, false, None, [], length, vec_len, map, IfOk, IfSome, MatchResult};
-ghost use Rattle.srm_names.specs.declared.limits.TheConstants.{PAGES};
+ghost use Rattle.std.specs.Prelude.{◌≡◌, Bool, List, false, None, [], length, vec_len, map, IfOk, IfSome, MatchResult};
+ghost use Rattle.srm_names.specs.declared.limits.TheConstants.{PAGES, PENS};
 ghost use Rattle.srm_pages.specs.Ends.{AreNewPens};
 ghost use Rattle.srm_node.specs.Nodes.{AreNewFeeds};
-ghost use Rattle.srm_node.specs.Hosting.{Hosts, HostFails, AreEndsOfLanes};
+ghost use Rattle.srm_node.specs.Calls.{calls_of};
+ghost use Rattle.srm_node.specs.Hosting.{kinds_of, starts_of, Hosts, HostFails, AreEndsOfLanes};
+ghost use Rattle.srm_udp.specs.Clocks.{NeverFalls};
+ghost use Rattle.srm_member.specs.Sinks.{NeverStops};
+ghost use Rattle.srm_member.specs.declared.sink.Unseen.{Unseen};
 ghost use Rattle.srm_timers.specs.Seeds.{words_of};
 ghost use Rattle.srm_member.specs.Stations.{IsNewStation};
 
 use crate::fault::MemberFault;
-use crate::pens::PenThreads;
+use crate::pens::{PenThreads, Waking, share_waker};
 use crate::sink::{Unseen, sinks};
 use bytes::Bytes;
 use srm_agent::{Config, Entry};
@@ -40,6 +44,8 @@ pub struct Station<
     pub node: Node<Pcg, X, SystemClock<R>, P>,
     pub taps: Vec<Tap>,
     pub pens: Vec<Pen>,
+    /// What ends the pauses of the node's wire, for who puts a stroke into its well; None where the wire has no such.
+    pub waker: Waking,
 }
 
 impl<R: time::Clock + Copy + Drop> Station<R> {
@@ -48,7 +54,7 @@ impl<R: time::Clock + Copy + Drop> Station<R> {
     pub fn bind(rt: &R, alloc: Global, options: NodeOptions) -> Result<Station<R>, MemberFault>
     where
         R: Net,
-        ensures new { IfOk result (λ s. IsNewStation options.config options.stay None s.node.view s.taps.items s.pens.items) }
+        ensures new { IfOk result (λ s. IsNewStation options.config options.stay None s.node.view.wire s.node.view s.taps.items s.pens.items) }
         ensures words { IfOk result (λ s. s.node.words ≡ words_of options.seed) }
     {
         let NodeOptions {
@@ -59,7 +65,10 @@ impl<R: time::Clock + Copy + Drop> Station<R> {
             ..
         } = options;
         match UdpWire::bind(rt, alloc, config.me(), addresses) {
-            Ok(wire) => Station::new(rt, alloc, config, seed, stay, wire),
+            Ok(wire) => {
+                let waker = wire.waker().ok();
+                Station::new(rt, alloc, config, seed, stay, wire, waker)
+            }
             Err(error) => Err(MemberFault::of_binding(error)),
         }
     }
@@ -75,10 +84,18 @@ impl<R: time::Clock + Copy + Drop, X: Wire + Drop> Station<R, X> {
         wire: X,
     ) -> Result<Station<R, X>, MemberFault>
         requires { X.failure_count wire ≡ 0 }
-        ensures new { IfOk result (λ s. IsNewStation options.now.config options.now.stay (X.told wire) s.node.view s.taps.items s.pens.items) }
+        ensures new { IfOk result (λ s. IsNewStation options.now.config options.now.stay (X.told wire) wire s.node.view s.taps.items s.pens.items) }
         ensures words { IfOk result (λ s. s.node.words ≡ words_of options.now.seed) }
     {
-        Station::new(rt, alloc, options.config, options.seed, options.stay, wire)
+        Station::new(
+            rt,
+            alloc,
+            options.config,
+            options.seed,
+            options.stay,
+            wire,
+            None,
+        )
     }
 
     fn new(
@@ -88,12 +105,13 @@ impl<R: time::Clock + Copy + Drop, X: Wire + Drop> Station<R, X> {
         seed: u64,
         stay: u64,
         wire: X,
+        waker: Waking,
     ) -> Result<Station<R, X>, MemberFault>
         requires { X.failure_count wire ≡ 0 }
-        ensures new { IfOk result (λ s. IsNewStation config stay (X.told wire) s.node.view s.taps.items s.pens.items) }
+        ensures new { IfOk result (λ s. IsNewStation config stay (X.told wire) wire s.node.view s.taps.items s.pens.items) }
         ensures words { IfOk result (λ s. s.node.words ≡ words_of seed) }
     {
-        Station::make(rt, alloc, config, seed, stay, wire, Vec::new(alloc))
+        Station::make(rt, alloc, config, seed, stay, wire, waker, Vec::new(alloc))
     }
 
     /// Runs the node in this thread, and its page workers and its pens, in threads of their own, until all have ended. The k-th pen draws the k-th list of bodies; more lists than
@@ -109,10 +127,11 @@ impl<R: time::Clock + Copy + Drop, X: Wire + Drop> Station<R, X> {
     where
         R: Threads + Wait + Send + 'static,
         requires { vec_len self.taps ≡ PAGES }
-        ensures hosts { IfOk result (λ h. MatchResult h.end (λ _. Hosts L.appended self.node.view self.taps.items turns h) (λ fault. (all : Bool) × HostFails L.appended all self.node.view self.taps.items turns fault h)) }
+        ensures hosts { IfOk result (λ h. (sinks : List Unseen) × (length sinks ≡ PAGES) × MatchResult h.end (λ _. Hosts (calls_of NeverFalls X.receives X.sends X.pauses) (kinds_of L.appended L.is_refused NeverStops) self.node.view (starts_of self.taps.items sinks) turns h)
+            (λ fault. (all : Bool) × HostFails (calls_of NeverFalls X.receives X.sends X.pauses) (kinds_of L.appended L.is_refused NeverStops) all self.node.view (starts_of self.taps.items sinks) turns fault h)) }
         ensures lanes { IfOk result (λ h. IfOk h.end (λ _. AreEndsOfLanes self.node.view.feeds self.taps.items → AreEndsOfLanes h.feeds.items (map (λ w. w.tap) h.worked.items))) }
     {
-        match Crew::new(alloc) {
+        match Crew::new(alloc, share_waker(&self.waker)) {
             Ok(crew) => self.run_with(rt, alloc, crew, dealt, turns),
             Err(_) => Err(MemberFault::Script(ScriptFault::Memory)),
         }
@@ -132,10 +151,16 @@ impl<R: time::Clock + Copy + Drop, X: Wire + Drop> Station<R, X> {
         R: Threads + Wait + Send + 'static,
         requires taps { vec_len self.taps ≡ PAGES }
         requires sinks { vec_len crew.sinks ≡ PAGES }
-        ensures hosts { IfOk result (λ h. MatchResult h.end (λ _. Hosts L.appended self.node.view self.taps.items turns h) (λ fault. (all : Bool) × HostFails L.appended all self.node.view self.taps.items turns fault h)) }
+        ensures hosts { IfOk result (λ h. MatchResult h.end (λ _. Hosts (calls_of NeverFalls X.receives X.sends X.pauses) (kinds_of L.appended L.is_refused NeverStops) self.node.view (starts_of self.taps.items crew.sinks.items) turns h)
+            (λ fault. (all : Bool) × HostFails (calls_of NeverFalls X.receives X.sends X.pauses) (kinds_of L.appended L.is_refused NeverStops) all self.node.view (starts_of self.taps.items crew.sinks.items) turns fault h)) }
         ensures lanes { IfOk result (λ h. IfOk h.end (λ _. AreEndsOfLanes self.node.view.feeds self.taps.items → AreEndsOfLanes h.feeds.items (map (λ w. w.tap) h.worked.items))) }
     {
-        let Station { node, taps, pens } = self;
+        let Station {
+            node,
+            taps,
+            pens,
+            ..
+        } = self;
         let Crew { sinks, mut threads } = crew;
         let all = threads.start(rt, pens, dealt);
         let hosted = host_if(rt, alloc, all, node, taps, sinks, turns);
@@ -148,17 +173,18 @@ impl<R: time::Clock + Copy + Drop, X: Wire + Drop> Station<R, X> {
 }
 
 impl<R: time::Clock + Copy + Drop, X: Wire + Drop, P: Past<Entry> + Drop> Station<R, X, P> {
-    /// The same as [`over`](Station::over), of a node with a past of the caller's, which has no entry yet.
+    /// The same as [`over`](Station::over), of a node with a past of the caller's, which has no entry yet, and with what ends the pauses of its wire.
     pub fn with_past(
         rt: &R,
         alloc: Global,
         options: &NodeOptions,
         wire: X,
+        waker: Waking,
         past: P,
     ) -> Result<Station<R, X, P>, MemberFault>
         requires wire { X.failure_count wire ≡ 0 }
         requires past { P.appended past ≡ [] }
-        ensures new { IfOk result (λ s. IsNewStation options.now.config options.now.stay (X.told wire) s.node.view s.taps.items s.pens.items) }
+        ensures new { IfOk result (λ s. IsNewStation options.now.config options.now.stay (X.told wire) wire s.node.view s.taps.items s.pens.items) }
         ensures words { IfOk result (λ s. s.node.words ≡ words_of options.now.seed) }
     {
         Station::make(
@@ -168,6 +194,7 @@ impl<R: time::Clock + Copy + Drop, X: Wire + Drop, P: Past<Entry> + Drop> Statio
             options.seed,
             options.stay,
             wire,
+            waker,
             past,
         )
     }
@@ -180,11 +207,12 @@ impl<R: time::Clock + Copy + Drop, X: Wire + Drop, P: Past<Entry> + Drop> Statio
         seed: u64,
         stay: u64,
         wire: X,
+        waker: Waking,
         past: P,
     ) -> Result<Station<R, X, P>, MemberFault>
         requires wire { X.failure_count wire ≡ 0 }
         requires past { P.appended past ≡ [] }
-        ensures new { IfOk result (λ s. IsNewStation config stay (X.told wire) s.node.view s.taps.items s.pens.items) }
+        ensures new { IfOk result (λ s. IsNewStation config stay (X.told wire) wire s.node.view s.taps.items s.pens.items) }
         ensures words { IfOk result (λ s. s.node.words ≡ words_of seed) }
     {
         let Parts {
@@ -197,7 +225,12 @@ impl<R: time::Clock + Copy + Drop, X: Wire + Drop, P: Past<Entry> + Drop> Statio
         let words = Pcg::new(seed);
         let mut node = Node::with_past(alloc, config, words, wire, clock, feeds, well, past)?;
         node.ask_leave(stay);
-        Ok(Station { node, taps, pens })
+        Ok(Station {
+            node,
+            taps,
+            pens,
+            waker,
+        })
     }
 }
 
@@ -217,7 +250,7 @@ fn make_parts<R: time::Clock + Copy + Drop>(rt: &R, alloc: Global) -> Result<Par
     ensures taps { IfOk result (λ e. length e.taps.items ≡ PAGES) }
     ensures lanes { IfOk result (λ e. AreEndsOfLanes e.feeds.items e.taps.items) }
     ensures well { IfOk result (λ e. e.well.received ≡ []) }
-    ensures pens { IfOk result (λ e. AreNewPens e.well.well e.pens.items) }
+    ensures pens { IfOk result (λ e. (length e.pens.items ≡ PENS) × AreNewPens e.well.well e.pens.items) }
 {
     let clock = match SystemClock::new(*rt) {
         Ok(clock) => clock,
@@ -243,12 +276,12 @@ struct Crew {
 
 impl Crew {
     /// No thread is started yet. Only want of memory refuses it.
-    fn new(alloc: Global) -> Result<Crew, AllocError>
+    fn new(alloc: Global, waker: Waking) -> Result<Crew, AllocError>
         ensures { IfOk result (λ crew. vec_len crew.sinks ≡ PAGES) }
     {
         Ok(Crew {
             sinks: sinks(alloc)?,
-            threads: PenThreads::new(alloc)?,
+            threads: PenThreads::new(alloc, waker)?,
         })
     }
 }
@@ -272,7 +305,8 @@ where
     requires taps { vec_len taps ≡ PAGES }
     requires sinks { vec_len sinks ≡ PAGES }
     ensures refused { started ≡ false → result ≡ None }
-    ensures hosts { IfSome result (λ h. MatchResult h.end (λ _. Hosts L.appended node.view taps.items turns h) (λ fault. (all : Bool) × HostFails L.appended all node.view taps.items turns fault h)) }
+    ensures hosts { IfSome result (λ h. MatchResult h.end (λ _. Hosts (calls_of NeverFalls X.receives X.sends X.pauses) (kinds_of L.appended L.is_refused S.sees) node.view (starts_of taps.items sinks.items) turns h)
+        (λ fault. (all : Bool) × HostFails (calls_of NeverFalls X.receives X.sends X.pauses) (kinds_of L.appended L.is_refused S.sees) all node.view (starts_of taps.items sinks.items) turns fault h)) }
     ensures lanes { IfSome result (λ h. IfOk h.end (λ _. AreEndsOfLanes node.view.feeds taps.items → AreEndsOfLanes h.feeds.items (map (λ w. w.tap) h.worked.items))) }
 {
     if !started {
