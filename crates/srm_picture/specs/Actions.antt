@@ -1,51 +1,65 @@
 -- What happens at a member by itself.
-use Rattle.std.specs.Prelude.{ℕ, List, length, Option, Some, None, option_map, option_to_list, if◌then◌else◌}
+use Rattle.std.specs.Prelude.{◌≡◌, ◌↔◌, ℕ, nat_lt, Bool, true, false, List, ◌++◌, length, map, slice_get, Contains, Option, Some, option_map, option_to_list}
+use Rattle.srm_names.specs.declared.page.Page.{Page}
+use Rattle.srm_names.specs.declared.drawop.Drawop.{Drawop}
 use Rattle.srm_names.specs.declared.page_msg.PageMsg.{PageMsg}
 use Rattle.srm_names.specs.declared.page_msg.PageMsg.TheVariants.{Draw}
+use Rattle.srm_names.specs.Names.{ascending}
 use Rattle.srm_entries.specs.declared.entry.Entry.{Entry}
-use Rattle.srm_entries.specs.declared.entry.Effects.{Effects}
-use Rattle.srm_entries.specs.declared.entry.Input.{Input}
 use Rattle.srm_entries.specs.declared.entry.Input.TheVariants.{Drew as Draws, Ticked, Showed, AskedLeave, Gave as Gives, Took as Takes}
-use Rattle.srm_entries.specs.declared.entry.Verdict.{Verdict}
-use Rattle.srm_entries.specs.declared.entry.Verdict.TheVariants.{Done, Refused}
+use Rattle.srm_entries.specs.declared.entry.Verdict.TheVariants.{Refused}
+use Rattle.srm_entries.specs.declared.fault.AgentFault.{AgentFault}
+use Rattle.srm_entries.specs.Entries.{done}
 use Rattle.srm_entries.specs.Effects.{becomes_gone}
 use Rattle.srm_picture.specs.declared.action.LocalActionKind.{LocalActionKind}
 use Rattle.srm_picture.specs.declared.action.LocalActionKind.TheVariants.{Drew, Gave, Took, Other, Gone}
 use Rattle.srm_picture.specs.declared.action.LocalAction.{LocalAction}
-use Rattle.srm_picture.specs.ByEntry.{by_entry, point_of}
+use Rattle.srm_picture.specs.ByEntry.{point_of}
+use Rattle.srm_picture.specs.OneThat.{IsOneThat}
 
--- a message of a slot, which may be no drawop
-abbrev pub message_kind : LocalActionKind → Option PageMsg → Option LocalActionKind
-message_kind kind None = None
-message_kind kind (Some (Draw drawop)) = Some kind
-message_kind kind (Some message) = Some Other
+abbrev pub is_drawop : PageMsg → Bool
+is_drawop (Draw drawop) = true
+is_drawop _ = false
 
-abbrev pub farewell_kind : Effects → Option LocalActionKind
-farewell_kind f = if becomes_gone f then Some Gone else None
+-- a message that is given or taken: of this kind where it is a drawop
+abbrev pub message_kind : LocalActionKind → PageMsg → LocalActionKind
+message_kind kind (Draw drawop) = kind
+message_kind kind _ = Other
 
-abbrev pub done_kind : Input → Effects → Option LocalActionKind
-done_kind (Draws page body) f = Some Drew
-done_kind (Gives slot) f = message_kind Gave f.message
-done_kind (Takes slot) f = message_kind Took f.message
-done_kind (Showed page) f = Some Other
-done_kind AskedLeave f = Some Other
-done_kind Ticked f = farewell_kind f
-done_kind _ f = None
+-- What an entry has for its member's lifeline: a drawop was drawn, given or taken; the member is gone, by its farewell; another message was
+-- given or taken, a page was shown, the member asked to leave, or it refused.
+pub data Shows (e : Entry) : LocalActionKind → Type 0 where
+  drew : (page : Page) (body : List ℕ) → done e ≡ Some (Draws page body) → Shows e Drew
+  gave : (slot : ℕ) (drawop : Drawop) → done e ≡ Some (Gives slot) → e.effects.message ≡ Some (Draw drawop) → Shows e Gave
+  took : (slot : ℕ) (drawop : Drawop) → done e ≡ Some (Takes slot) → e.effects.message ≡ Some (Draw drawop) → Shows e Took
+  went : done e ≡ Some Ticked → becomes_gone e.effects ≡ true → Shows e Gone
+  gave_other : (slot : ℕ) (message : PageMsg) → done e ≡ Some (Gives slot) → e.effects.message ≡ Some message → is_drawop message ≡ false → Shows e Other
+  took_other : (slot : ℕ) (message : PageMsg) → done e ≡ Some (Takes slot) → e.effects.message ≡ Some message → is_drawop message ≡ false → Shows e Other
+  showed : (page : Page) → done e ≡ Some (Showed page) → Shows e Other
+  asked : done e ≡ Some AskedLeave → Shows e Other
+  refused : (fault : AgentFault) → e.verdict ≡ Refused fault → Shows e Other
 
-abbrev pub kind_for : Verdict → Input → Effects → Option LocalActionKind
-kind_for Done input f = done_kind input f
-kind_for (Refused fault) input f = Some Other
-kind_for _ input f = None
-
-abbrev pub action_kind : Entry → Option LocalActionKind
-action_kind e = kind_for e.verdict e.input e.effects
-
+-- the action of this kind, behind all datagrams that its entry sent
 abbrev pub action : ℕ × Entry → LocalActionKind → LocalAction
 action r kind = record { at = point_of r; nth = length r.1.effects.outs; kind = kind }
 
-abbrev pub actions_at : ℕ × Entry → List LocalAction
-actions_at r = option_to_list (option_map (action r) (action_kind r.1))
+-- it is of an entry that shows its kind
+pub record IsAction (es : List Entry) (a : LocalAction) : Type 0 where
+  pub entry : Entry
+  pub there : slice_get es a.at.entry ≡ Some entry
+  pub shows : Shows entry a.kind
+  pub is : a ≡ action (a.at.entry, entry) a.kind
 
--- each local action of the entries, in order
-abbrev pub actions_in : List Entry → List LocalAction
-actions_in es = by_entry actions_at es
+-- the actions with that of one more entry, if it shows a kind
+pub record AddsAction (index : ℕ) (e : Entry) (old new : List LocalAction) : Type 0 where
+  pub kind : Option LocalActionKind
+  pub shown : IsOneThat (Shows e) kind
+  pub new_are : new ≡ old ++ option_to_list (option_map (action (index, e)) kind)
+
+abbrev pub index_of : LocalAction → ℕ
+index_of a = a.at.entry
+
+-- all actions of the entries and no others, in order of the entries, of each one at most
+pub record AreActions (es : List Entry) (actions : List LocalAction) : Type 0 where
+  pub in_order : ascending nat_lt (map index_of actions) ≡ true
+  pub exact : (a : LocalAction) → Contains actions a ↔ IsAction es a

@@ -1,11 +1,10 @@
 -- Timers, from the entry that sets them to the one that ends them.
-use Rattle.std.specs.Prelude.{ℕ, ◌==◌, nat_lt, Bool, not, ◌||◌, ◌&&◌, List, map, Option, Some, None, option_map, if◌then◌else◌}
-use Rattle.std.specs.List.{enumerate_from, list_any}
+use Rattle.std.specs.Prelude.{◌≡◌, ◌⊎◌, ℕ, ◌<◌, Bool, true, false, ◌||◌, ◌&&◌, List, map, length, slice_get, Option, Some, MatchOption}
+use Rattle.std.specs.List.{enumerate_from, list_any, AllByRecursion}
 use Rattle.srm_names.specs.FullName.{FullName}
-use Rattle.srm_codec.specs.declared.datagram.Datagram.{Datagram}
 use Rattle.srm_names.specs.declared.drawop.Drawop.{Drawop}
-use Rattle.srm_names.specs.Histories.{first_of}
 use Rattle.srm_names.specs.Names.{same_name, among}
+use Rattle.srm_codec.specs.declared.datagram.Datagram.{Datagram}
 use Rattle.srm_timers.specs.declared.arm.Arm.{Arm}
 use Rattle.srm_timers.specs.declared.arm.ArmKind.{ArmKind}
 use Rattle.srm_timers.specs.declared.arm.ArmKind.TheVariants.{Ask, Fix}
@@ -20,56 +19,92 @@ use Rattle.srm_picture.specs.declared.bracket.Bracket.{Bracket}
 use Rattle.srm_picture.specs.declared.point.Point.{Point}
 use Rattle.srm_picture.specs.ByEntry.{by_entry, point_of}
 
+-- a timer, and the entry that set it
+pub record Timer : Type 0 where
+  pub from : Point
+  pub kind : ArmKind
+  pub name : FullName
+
 -- the names that the entry hands out as requests, or as repairs
 abbrev pub handed_out : ArmKind → Entry → List FullName
 handed_out Ask e = e.effects.asks
 handed_out Fix e = e.effects.fixes
 
--- the entry sets a timer of the same kind and name
-abbrev pub sets_anew : Arm → Entry → Bool
-sets_anew a e = list_any (λ (b : Arm). same_kind a.kind b.kind && same_name a.name b.name) e.effects.arms
+abbrev pub hands_out : ArmKind → FullName → Entry → Bool
+hands_out kind n e = among (handed_out kind e) n
 
--- the entry accepts the drawop that was to be asked for, or a repair like the one that was to be made
+-- the entry sets a timer of the same kind and name
+abbrev pub sets_anew : ArmKind → FullName → Entry → Bool
+sets_anew kind n e = list_any (λ (b : Arm). same_kind kind b.kind && same_name n b.name) e.effects.arms
+
+-- the drawop that was to be asked for came, or a repair like the one that was to be made
 abbrev pub cancelled_by : ArmKind → FullName → Option Datagram → Bool
 cancelled_by Ask n accepted = list_any (λ (d : Drawop). same_name n d.name) (drawops_in accepted)
 cancelled_by Fix n accepted = repairs_in n accepted
 
+-- the entry accepts that, or the member goes
 abbrev pub cancels : ArmKind → FullName → Entry → Bool
-cancels kind n e = cancelled_by kind n (accepted e)
+cancels kind n e = is_gone e.effects.state || cancelled_by kind n (accepted e)
 
--- how a later entry of the member ends a timer, if it does
-abbrev pub ends_later : Arm → Entry → Option TimerEnd
-ends_later a e =
-    if among (handed_out a.kind e) a.name then Some RanOut
-    else if sets_anew a e then Some BackedOff
-    else if is_gone e.effects.state || cancels a.kind a.name e then Some Cancelled
-    else None
+-- How a later entry of the member ends a timer: it ran out where the entry hands its name out; it backed off where the entry sets it anew and
+-- doesn't hand its name out; it was cancelled where the entry cancels it and does neither of these.
+abbrev pub EndsLater : ArmKind → FullName → Entry → TimerEnd → Type 0
+EndsLater kind n e RanOut = hands_out kind n e ≡ true
+EndsLater kind n e BackedOff = (hands_out kind n e ≡ false) × (sets_anew kind n e ≡ true)
+EndsLater kind n e Cancelled = (hands_out kind n e ≡ false) × (sets_anew kind n e ≡ false) × (cancels kind n e ≡ true)
 
--- the entry that sets it ends it only as the member goes
-abbrev pub ends_itself : Entry → Option TimerEnd
-ends_itself e = if is_gone e.effects.state then Some Cancelled else None
+-- the entry that sets a timer ends it only as the member goes
+abbrev pub EndsItself : Entry → TimerEnd → Type 0
+EndsItself e how = (is_gone e.effects.state ≡ true) × (how ≡ Cancelled)
 
-abbrev pub ending_in : Bool → Arm → Entry → Option TimerEnd
-ending_in itself a e = if itself then ends_itself e else ends_later a e
+-- the entry at this index is of the timer's member, and ends the timer so
+pub record EndsIn (t : Timer) (index : ℕ) (e : Entry) (how : TimerEnd) : Type 0 where
+  pub member : e.member ≡ t.from.member
+  pub so : ((t.from.entry < index) × EndsLater t.kind t.name e how) ⊎ ((index ≡ t.from.entry) × EndsItself e how)
 
-abbrev pub ended_at : ℕ → TimerEnd → BracketEnd
-ended_at index ending = record { entry = index; ending = ending }
+-- none of the first n entries ends the timer in any way
+abbrev pub NoneEnds : List Entry → Timer → ℕ → Type 0
+NoneEnds es t n = (index : ℕ) (e : Entry) (how : TimerEnd) → index < n → slice_get es index ≡ Some e → ¬ (EndsIn t index e how)
 
-abbrev pub ended_in : Point → Arm → ℕ × Entry → Option BracketEnd
-ended_in place a r =
-    if nat_lt r.0 place.entry || not (r.1.member == place.member) then None
-    else option_map (ended_at r.0) (ending_in (r.0 == place.entry) a r.1)
+-- the first entry that ends the timer, and how
+pub record Ends (es : List Entry) (t : Timer) (end : BracketEnd) : Type 0 where
+  pub entry : Entry
+  pub at : slice_get es end.entry ≡ Some entry
+  pub so : EndsIn t end.entry entry end.ending
+  pub first : NoneEnds es t end.entry
 
--- the first entry of its member that ends a timer
-abbrev pub bracket_end : List Entry → Point → Arm → Option BracketEnd
-bracket_end es place a = first_of (ended_in place a) (enumerate_from 0 es)
+-- the timer ends there and so, or None where no entry ends it
+abbrev pub EndIs : List Entry → Timer → Option BracketEnd → Type 0
+EndIs es t end = MatchOption end (NoneEnds es t (length es)) (Ends es t)
 
-abbrev pub bracket : List Entry → Point → ℕ × Arm → Bracket
-bracket es place p = record { from = place; nth = p.0; kind = p.1.kind; name = p.1.name; end = bracket_end es place p.1 }
+abbrev pub timer : Point → Arm → Timer
+timer place a = record { from = place; kind = a.kind; name = a.name }
 
-abbrev pub brackets_from : List Entry → ℕ × Entry → List Bracket
-brackets_from es r = map (bracket es (point_of r)) (enumerate_from 0 r.1.effects.arms)
+-- with its place among those that its entry sets
+abbrev pub numbered_timer : Point → ℕ × Arm → ℕ × Timer
+numbered_timer place p = (p.0, timer place p.1)
 
--- each timer that the entries set, in order
-abbrev pub brackets_in : List Entry → List Bracket
-brackets_in es = by_entry (brackets_from es) es
+abbrev pub timers_of : Point → List Arm → List (ℕ × Timer)
+timers_of place arms = map (numbered_timer place) (enumerate_from 0 arms)
+
+abbrev pub timers_in : ℕ × Entry → List (ℕ × Timer)
+timers_in r = timers_of (point_of r) r.1.effects.arms
+
+abbrev pub timer_of : Bracket → Timer
+timer_of b = record { from = b.from; kind = b.kind; name = b.name }
+
+abbrev pub numbered : Bracket → ℕ × Timer
+numbered b = (b.nth, timer_of b)
+
+-- the bracket ends where, and as, its timer does
+abbrev pub EndsRight : List Entry → Bracket → Type 0
+EndsRight es b = EndIs es (timer_of b) b.end
+
+-- one bracket for each of these timers, in their order
+pub record AreBracketsOf (es : List Entry) (timers : List (ℕ × Timer)) (bs : List Bracket) : Type 0 where
+  pub are : map numbered bs ≡ timers
+  pub ends : AllByRecursion (EndsRight es) bs
+
+-- one for each timer that the entries set, in order
+abbrev pub AreBrackets : List Entry → List Bracket → Type 0
+AreBrackets es bs = AreBracketsOf es (by_entry timers_in es) bs

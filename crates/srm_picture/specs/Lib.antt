@@ -2,6 +2,8 @@ pub mod Arrows
 pub mod Brackets
 pub mod Escaping
 pub mod Examples
+pub mod Laws
+pub mod OneThat
 pub mod Pictures
 pub mod ByEntry
 pub mod Actions

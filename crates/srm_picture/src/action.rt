@@ -1,7 +1,11 @@
 //! What happens at a member by itself.
 
-ghost use Rattle.std.specs.Prelude.{◌≡◌, ◌++◌, IfOk, OnOk};
-ghost use Rattle.srm_picture.specs.Actions.{done_kind, farewell_kind, message_kind, action_kind, actions_at, actions_in};
+ghost use Rattle.std.specs.Prelude.{◌≡◌, if◌then◌else◌, Some, None, option_map, IfOk, OnOk};
+ghost use Rattle.srm_entries.specs.declared.entry.Verdict.TheVariants.{Done};
+ghost use Rattle.srm_entries.specs.Effects.{becomes_gone};
+ghost use Rattle.srm_picture.specs.declared.action.LocalActionKind.TheVariants.{Gone};
+ghost use Rattle.srm_picture.specs.OneThat.{IsOneThat};
+ghost use Rattle.srm_picture.specs.Actions.{AddsAction, AreActions, Shows, message_kind};
 
 use crate::point::Point;
 use srm_entries::{Effects, Entry, Input, Verdict};
@@ -34,7 +38,7 @@ pub struct LocalAction {
 
 /// The notches of a trace, in order.
 pub(crate) fn actions(alloc: Global, entries: &[Entry]) -> Result<Vec<LocalAction>, AllocError>
-    ensures { IfOk result (λ actions. actions.items ≡ actions_in entries.now) }
+    ensures { IfOk result (λ actions. AreActions entries.now actions.items) }
 {
     let mut actions = Vec::new(alloc);
     for (index, entry) in entries.iter().enumerate() {
@@ -49,7 +53,7 @@ fn push_action(
     index: usize,
     entry: &Entry,
 ) -> Result<(), AllocError>
-    ensures { OnOk result (actions.new.items ≡ actions.old.items ++ actions_at (index, entry.now)) }
+    ensures { OnOk result (AddsAction index entry.now actions.old.items actions.new.items) }
 {
     match kind_in(entry) {
         None => Ok(()),
@@ -66,30 +70,31 @@ fn push_action(
 
 /// What an entry has for its lifeline, if there is something.
 fn kind_in(entry: &Entry) -> Option<LocalActionKind>
-    ensures { result ≡ action_kind entry.now }
+    ensures { IsOneThat (Shows entry.now) result }
 {
     match entry.verdict {
-        Verdict::Done => kind_done(&entry.input, &entry.effects),
+        Verdict::Done => kind_done(entry),
         Verdict::Ignored(_) => None,
         Verdict::Refused(_) => Some(LocalActionKind::Other),
     }
 }
 
-fn kind_done(input: &Input, effects: &Effects) -> Option<LocalActionKind>
-    ensures { result ≡ done_kind input.now effects.now }
+fn kind_done(entry: &Entry) -> Option<LocalActionKind>
+    requires { entry.now.verdict ≡ Done }
+    ensures { IsOneThat (Shows entry.now) result }
 {
-    match input {
+    match entry.input {
         Input::Drew(_, _) => Some(LocalActionKind::Drew),
-        Input::Gave(_) => kind_of(&effects.message, LocalActionKind::Gave),
-        Input::Took(_) => kind_of(&effects.message, LocalActionKind::Took),
+        Input::Gave(_) => kind_of(&entry.effects.message, LocalActionKind::Gave),
+        Input::Took(_) => kind_of(&entry.effects.message, LocalActionKind::Took),
         Input::Showed(_) | Input::AskedLeave => Some(LocalActionKind::Other),
-        Input::Ticked => farewell_kind(effects),
+        Input::Ticked => farewell_kind(&entry.effects),
         Input::Heard(_) | Input::Noise => None,
     }
 }
 
 fn kind_of(message: &Option<PageMsg>, drawop: LocalActionKind) -> Option<LocalActionKind>
-    ensures { result ≡ message_kind drawop message.now }
+    ensures { result ≡ option_map (message_kind drawop) message.now }
 {
     match message {
         None => None,
@@ -99,7 +104,7 @@ fn kind_of(message: &Option<PageMsg>, drawop: LocalActionKind) -> Option<LocalAc
 }
 
 fn farewell_kind(effects: &Effects) -> Option<LocalActionKind>
-    ensures { result ≡ farewell_kind effects.now }
+    ensures { result ≡ (if becomes_gone effects.now then Some Gone else None) }
 {
     if effects.becomes_gone() {
         Some(LocalActionKind::Gone)

@@ -1,19 +1,21 @@
 //! The timers of a trace.
 
-ghost use Rattle.std.specs.Prelude.{◌≡◌, map, Some, IfOk};
-ghost use Rattle.std.specs.List.{enumerate_from};
-ghost use Rattle.srm_picture.specs.Brackets.{cancels, cancelled_by, bracket, brackets_in, bracket_end as end_in, ended_in as how_ended_in, ending_in as how_ended, ends_later as how_ended_later, handed_out, sets_anew};
+ghost use Rattle.std.specs.Prelude.{◌≡◌, Some, IfOk};
 ghost use Rattle.srm_names.specs.Names.{among};
+ghost use Rattle.srm_picture.specs.OneThat.{IsOneThat};
+ghost use Rattle.srm_picture.specs.Brackets.{AreBrackets, AreBracketsOf, EndIs, EndsIn, EndsItself, EndsLater, EndsRight, cancelled_by, handed_out, numbered, numbered_timer, sets_anew, timer, timers_of};
+ghost use Rattle.srm_entries.specs.Entries.{accepted};
 
 use crate::bracket::{Bracket, BracketEnd, TimerEnd};
 use crate::point::Point;
 use srm_codec::Datagram;
 use srm_entries::{Arm, ArmKind, Entry};
 use std::alloc::{AllocError, Global};
+use std::cmp::Ordering;
 
 /// Each timer that was set, in order.
 pub(crate) fn brackets(alloc: Global, entries: &[Entry]) -> Result<Vec<Bracket>, AllocError>
-    ensures { IfOk result (λ brackets. brackets.items ≡ brackets_in entries.now) }
+    ensures { IfOk result (λ brackets. AreBrackets entries.now brackets.items) }
 {
     let mut brackets = Vec::new(alloc);
     for (index, entry) in entries.iter().enumerate() {
@@ -33,7 +35,7 @@ fn brackets_from(
     from: &Point,
     arms: &[Arm],
 ) -> Result<Vec<Bracket>, AllocError>
-    ensures { IfOk result (λ brackets. brackets.items ≡ map (bracket entries.now from.now) (enumerate_from 0 arms.now)) }
+    ensures { IfOk result (λ brackets. AreBracketsOf entries.now (timers_of from.now arms.now) brackets.items) }
 {
     let mut brackets = Vec::new(alloc);
     for (nth, arm) in arms.iter().enumerate() {
@@ -43,7 +45,8 @@ fn brackets_from(
 }
 
 fn bracket_of(entries: &[Entry], from: &Point, nth: usize, arm: &Arm) -> Bracket
-    ensures { result ≡ bracket entries.now from.now (nth, arm.now) }
+    ensures is { numbered result ≡ numbered_timer from.now (nth, arm.now) }
+    ensures ends { EndsRight entries.now result }
 {
     Bracket {
         from: *from,
@@ -56,52 +59,53 @@ fn bracket_of(entries: &[Entry], from: &Point, nth: usize, arm: &Arm) -> Bracket
 
 /// The first entry of its member that ends a timer. One that is set as its member goes ends at once.
 fn end_of(entries: &[Entry], from: &Point, arm: &Arm) -> Option<BracketEnd>
-    ensures { result ≡ end_in entries.now from.now arm.now }
+    ensures { EndIs entries.now (timer from.now arm.now) result }
 {
-    for (index, entry) in entries.iter().enumerate() {
-        if let Some(ended) = ended_in(index, entry, from, arm) {
-            return Some(ended);
+    for (index, later) in entries.iter().enumerate() {
+        if let Some(ending) = ending_in(index, later, from, arm) {
+            return Some(BracketEnd {
+                entry: index,
+                ending,
+            });
         }
     }
     None
 }
 
-/// That the entry of this index ends a timer, if it does.
-fn ended_in(index: usize, entry: &Entry, from: &Point, arm: &Arm) -> Option<BracketEnd>
-    ensures { result ≡ how_ended_in from.now arm.now (index, entry.now) }
+/// How the entry of this index ends a timer, if it does. The one that sets it ends it only as the member goes.
+fn ending_in(index: usize, entry: &Entry, from: &Point, arm: &Arm) -> Option<TimerEnd>
+    ensures { IsOneThat (EndsIn (timer from.now arm.now) index entry.now) result }
 {
-    if index < from.entry || entry.member != from.member {
+    if entry.member != from.member {
         return None;
     }
-    let ending = ending_in(entry, arm, index == from.entry)?;
-    Some(BracketEnd {
-        entry: index,
-        ending,
-    })
-}
-
-/// How an entry ends a timer, if it does. The one that sets it ends it only as the member goes.
-fn ending_in(entry: &Entry, arm: &Arm, itself: bool) -> Option<TimerEnd>
-    ensures { result ≡ how_ended itself arm.now entry.now }
-{
-    if !itself {
-        ends_later(entry, arm)
-    } else if entry.effects.state.is_gone() {
-        Some(TimerEnd::Cancelled)
-    } else {
-        None
+    match index.cmp(&from.entry) {
+        Ordering::Less => None,
+        Ordering::Equal => ends_itself(entry),
+        Ordering::Greater => ends_later(entry, arm),
     }
 }
 
 /// How a later entry of the member ends a timer, if it does.
 fn ends_later(entry: &Entry, arm: &Arm) -> Option<TimerEnd>
-    ensures { result ≡ how_ended_later arm.now entry.now }
+    ensures { IsOneThat (EndsLater arm.now.kind arm.now.name entry.now) result }
 {
     if is_handed_out(entry, arm) {
         Some(TimerEnd::RanOut)
     } else if is_set(entry, arm) {
         Some(TimerEnd::BackedOff)
     } else if entry.effects.state.is_gone() || is_answered(entry, arm) {
+        Some(TimerEnd::Cancelled)
+    } else {
+        None
+    }
+}
+
+/// How the entry that sets a timer ends it, if it does.
+fn ends_itself(entry: &Entry) -> Option<TimerEnd>
+    ensures { IsOneThat (EndsItself entry.now) result }
+{
+    if entry.effects.state.is_gone() {
         Some(TimerEnd::Cancelled)
     } else {
         None
@@ -121,7 +125,7 @@ fn is_handed_out(entry: &Entry, arm: &Arm) -> bool
 
 /// Whether the entry sets a timer of the same kind and name.
 fn is_set(entry: &Entry, arm: &Arm) -> bool
-    ensures { result ≡ sets_anew arm.now entry.now }
+    ensures { result ≡ sets_anew arm.now.kind arm.now.name entry.now }
 {
     entry
         .effects
@@ -133,7 +137,7 @@ fn is_set(entry: &Entry, arm: &Arm) -> bool
 
 /// Whether the entry takes what the timer was to ask for, or a repair like the one that it was to make.
 fn is_answered(entry: &Entry, arm: &Arm) -> bool
-    ensures { result ≡ cancels arm.now.kind arm.now.name entry.now }
+    ensures { result ≡ cancelled_by arm.now.kind arm.now.name (accepted entry.now) }
 {
     match entry.accepted() {
         Some(datagram) => is_answer(datagram, arm),

@@ -1,8 +1,6 @@
-use Rattle.std.proofs.Common.{◌≡◌, take}
-use Rattle.std.specs.Prelude.{map}
-use Rattle.std.specs.List.{enumerate_from}
-use Rattle.srm_picture.specs.Brackets.{bracket}
+use Rattle.std.proofs.Common.{take}
+use Rattle.srm_picture.specs.Brackets.{AreBracketsOf, timers_of}
 use Rattle.srm_picture.proofs.brackets.brackets_from.Given as goal
 
 abbrev pub invariant-loop-nth : goal.invariant-loop-nth
-invariant-loop-nth l = l.brackets.items ≡ map (bracket l.entries l.from) (enumerate_from 0 (take l.nth l.arms))
+invariant-loop-nth l = AreBracketsOf l.entries (timers_of l.from (take l.nth l.arms)) l.brackets.items
