@@ -8,7 +8,6 @@ mod fault_words;
 mod hearing;
 mod noting;
 mod printed;
-mod session_fields;
 mod settings;
 mod spelled;
 mod telling;

@@ -5,15 +5,14 @@ ghost use Rattle.srm_names.specs.declared.limits.TheConstants.{LATEST_MOMENT, LO
 ghost use Rattle.srm_timers.specs.declared.limits.TheConstants.{GREATEST_EXPONENT};
 
 use crate::answers::Maybe;
-use crate::distances::DistanceTable;
 use crate::fault::{LineFault, PlayFault};
 use crate::lines::{Player, play_lines};
 use crate::names::are_rising;
 use crate::numbered::tell_names;
-use crate::timers::{read_listed, tell_arm, tell_arms};
+use crate::timers::{Choosing, read_waits, tell_arm, tell_arms};
 use crate::words::Words;
 use srm_names::{LONGEST_DISTANCE, Name};
-use srm_timers::{Arm, Asks, GREATEST_EXPONENT, GREATEST_TIMER_SETTING, Listed, Tree};
+use srm_timers::{Arm, Asks, GREATEST_EXPONENT, Tree};
 use std::alloc::{AllocError, Global};
 use std::io::Write;
 
@@ -22,8 +21,7 @@ pub fn play<O: Write>(alloc: Global, input: &[u8], out: &mut O) -> Result<(), Pl
     let mut calls = Calls {
         alloc,
         asks: Asks::new(alloc, Tree::new(alloc), 2, 2),
-        distances: DistanceTable::new(),
-        words: Listed::new(Vec::new(alloc)),
+        by: Choosing::new(alloc),
     };
     play_lines(&mut calls, input, out)
 }
@@ -32,19 +30,17 @@ pub fn play<O: Write>(alloc: Global, input: &[u8], out: &mut O) -> Result<(), Pl
 struct Calls {
     alloc: Global,
     asks: Asks<Tree>,
-    distances: DistanceTable,
-    words: Listed,
+    by: Choosing,
 }
 
 impl Player for Calls {
     fn play<O: Write>(&mut self, mut words: Words<'_>, out: &mut O) -> Result<(), LineFault> {
-        match words.word()? {
+        let word = words.word()?;
+        if self.by.read(self.alloc, word, &mut words)? {
+            return words.end();
+        }
+        match word {
             "waits" => self.make(words),
-            "words" => {
-                self.words = read_listed(self.alloc, &mut words)?;
-                Ok(())
-            }
-            "distance" => self.distances.read(words),
             "room" => self.room(words),
             "detect" => self.detect(words, out),
             "heard-request" => self.heard_request(words, out),
@@ -57,11 +53,9 @@ impl Player for Calls {
 }
 
 impl Calls {
-    /// `C1 C2`: timers of which none runs.
-    fn make(&mut self, mut words: Words<'_>) -> Result<(), LineFault> {
-        let c1 = words.number(u64::from(GREATEST_TIMER_SETTING))? as u8;
-        let c2 = words.number(u64::from(GREATEST_TIMER_SETTING))? as u8;
-        words.end()?;
+    /// `c1 c2`: timers of which none runs.
+    fn make(&mut self, words: Words<'_>) -> Result<(), LineFault> {
+        let (c1, c2) = read_waits(words)?;
         self.asks = Asks::new(self.alloc, Tree::new(self.alloc), c1, c2);
         Ok(())
     }
@@ -83,14 +77,14 @@ impl Calls {
         if !are_rising(&names) {
             return Err(LineFault::Bad);
         }
-        let distances = self.distances.as_slice();
+        let distances = self.by.distances.as_slice();
         let arms = match self
             .asks
-            .detect(&names, &asked, distances, now, &mut self.words)
+            .detect(&names, &asked, distances, now, &mut self.by.words)
         {
             Err(_) => self
                 .asks
-                .detect(&names, &asked, distances, now, &mut self.words)?,
+                .detect(&names, &asked, distances, now, &mut self.by.words)?,
             Ok(arms) => arms,
         };
         Ok(tell_arms(out, &arms)?)
@@ -103,30 +97,27 @@ impl Calls {
         out: &mut O,
     ) -> Result<(), LineFault> {
         let now = words.moment()?;
-        let name = words.name()?;
-        words.end()?;
-        let distances = self.distances.as_slice();
+        let name = words.last_name()?;
+        let distances = self.by.distances.as_slice();
         let arm = self
             .asks
-            .heard_request(name, distances, now, &mut self.words);
+            .heard_request(name, distances, now, &mut self.by.words);
         Ok(tell_arm(out, arm)?)
     }
 
     /// `S C.P N`.
     fn gained(&mut self, mut words: Words<'_>) -> Result<(), LineFault> {
-        let name = words.name()?;
-        words.end()?;
+        let name = words.last_name()?;
         self.asks.gained(name);
         Ok(())
     }
 
     /// `T`: the timers that have run out are set again.
     fn due<O: Write>(&mut self, mut words: Words<'_>, out: &mut O) -> Result<(), LineFault> {
-        let now = words.moment()?;
-        words.end()?;
-        let distances = self.distances.as_slice();
-        let arms = match self.asks.due(now, distances, &mut self.words) {
-            Err(_) => self.asks.due(now, distances, &mut self.words)?,
+        let now = words.last_moment()?;
+        let distances = self.by.distances.as_slice();
+        let arms = match self.asks.due(now, distances, &mut self.by.words) {
+            Err(_) => self.asks.due(now, distances, &mut self.by.words)?,
             Ok(arms) => arms,
         };
         Ok(tell_arms(out, &arms)?)
@@ -158,7 +149,7 @@ impl Calls {
         requires distance { distance ≤ LONGEST_DISTANCE }
     {
         self.asks.room(&[name])?;
-        let arms = [self.asks.arm(name, exponent, distance, &mut self.words)];
+        let arms = [self.asks.arm(name, exponent, distance, &mut self.by.words)];
         self.asks.set_all(now, &arms);
         let [arm] = arms;
         Ok(arm)
@@ -178,15 +169,13 @@ impl Calls {
                 writeln!(out, "due {}", Maybe(self.asks.next()))?;
             }
             "exponent-when-due" => {
-                let name = words.name()?;
-                words.end()?;
+                let name = words.last_name()?;
                 let exponent = self.asks.exponent_when_due(name);
                 writeln!(out, "exponent {}", Maybe(exponent))?;
             }
             "exponent-when-heard" => {
                 let now = words.moment()?;
-                let name = words.name()?;
-                words.end()?;
+                let name = words.last_name()?;
                 let exponent = self.asks.exponent_when_heard(name, now);
                 writeln!(out, "exponent {}", Maybe(exponent))?;
             }
@@ -197,8 +186,7 @@ impl Calls {
 
     /// `T`: the names whose timers have run out.
     fn pending<O: Write>(&self, mut words: Words<'_>, out: &mut O) -> Result<(), LineFault> {
-        let now = words.moment()?;
-        words.end()?;
+        let now = words.last_moment()?;
         let names = match self.asks.pending(now, Vec::new(self.alloc)) {
             Err(_) => self.asks.pending(now, Vec::new(self.alloc))?,
             Ok(names) => names,

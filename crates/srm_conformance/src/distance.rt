@@ -1,10 +1,14 @@
 //! Calls of a member's distances.
 
+ghost use Rattle.std.specs.Prelude.{◌≤◌, IfOk};
+ghost use Rattle.srm_names.specs.declared.limits.TheConstants.{LONGEST_DISTANCE};
+ghost use Rattle.srm_distance.specs.declared.limits.TheConstants.{SHORTEST_DISTANCE};
+
 use crate::fault::{LineFault, PlayFault};
 use crate::lines::{Player, play_lines};
 use crate::words::Words;
-use srm_distance::Distances;
-use srm_names::Member;
+use srm_distance::{Distances, SHORTEST_DISTANCE};
+use srm_names::{LONGEST_DISTANCE, Member};
 use std::alloc::Global;
 use std::io::Write;
 
@@ -37,15 +41,15 @@ impl Player for Calls {
 }
 
 impl Calls {
-    /// `M`: what this member knows before it hears anything.
+    /// `M`, or `M L` with a floor under the distances: what this member knows before it hears anything.
     fn make(&mut self, mut words: Words<'_>) -> Result<(), LineFault> {
         let me = words.member()?;
-        words.end()?;
-        self.distances = Distances::new(me);
+        let least = read_least(words)?;
+        self.distances = Distances::with_least(me, least);
         Ok(())
     }
 
-    /// `T M SENT`, and behind it `T1 DELAY` where the message has an echo.
+    /// `T M SENT`, and behind it `t1 DELAY` where the message has an echo.
     fn heard_session(&mut self, mut words: Words<'_>) -> Result<(), LineFault> {
         let now = words.moment()?;
         let from = words.member()?;
@@ -106,4 +110,17 @@ impl Calls {
         }
         Ok(())
     }
+}
+
+/// The floor under distances, with which the line ends: the lowest where it is left out.
+fn read_least(mut words: Words<'_>) -> Result<u64, LineFault>
+    ensures shortest { IfOk result (λ least. SHORTEST_DISTANCE ≤ least) }
+    ensures longest { IfOk result (λ least. least ≤ LONGEST_DISTANCE) }
+{
+    if words.is_empty() {
+        return Ok(SHORTEST_DISTANCE);
+    }
+    let least = words.number_from(SHORTEST_DISTANCE, LONGEST_DISTANCE)?;
+    words.end()?;
+    Ok(least)
 }

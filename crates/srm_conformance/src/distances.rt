@@ -37,7 +37,7 @@ impl DistanceTable {
     }
 
     /// `D` for all members, or `M D` for one.
-    pub fn read(&mut self, mut words: Words<'_>) -> Result<(), LineFault> {
+    pub fn read(&mut self, words: &mut Words<'_>) -> Result<(), LineFault> {
         let first = words.number(LONGEST_DISTANCE)?;
         if words.is_empty() {
             self.set_all(first);

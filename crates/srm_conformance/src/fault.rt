@@ -27,6 +27,11 @@ impl PlayFault {
     pub fn print<E: Write>(&self, err: &mut E) -> u8 {
         // Where this can't be written there is nobody left to tell.
         let _ = writeln!(err, "{self}");
+        self.status()
+    }
+
+    /// The status that the program ends with.
+    pub fn status(&self) -> u8 {
         match self {
             PlayFault::Usage => 2,
             PlayFault::BadLine(_) | PlayFault::Memory | PlayFault::Stream => 1,

@@ -4,14 +4,13 @@ ghost use Rattle.std.specs.Prelude.{◌≤◌};
 ghost use Rattle.srm_names.specs.declared.limits.TheConstants.{LATEST_MOMENT, LONGEST_DISTANCE};
 
 use crate::answers::{Maybe, yes_or_no};
-use crate::distances::DistanceTable;
 use crate::fault::{LineFault, PlayFault};
 use crate::lines::{Player, play_lines};
 use crate::numbered::tell_names;
-use crate::timers::{read_listed, tell_arm};
+use crate::timers::{Choosing, read_waits, tell_arm};
 use crate::words::Words;
 use srm_names::{LONGEST_DISTANCE, Member, Name};
-use srm_timers::{Arm, Fixes, GREATEST_TIMER_SETTING, Listed, Tree};
+use srm_timers::{Arm, Fixes, Tree};
 use std::alloc::{AllocError, Global};
 use std::io::Write;
 
@@ -20,8 +19,7 @@ pub fn play<O: Write>(alloc: Global, input: &[u8], out: &mut O) -> Result<(), Pl
     let mut calls = Calls {
         alloc,
         fixes: Fixes::new(alloc, Tree::new(alloc), 1, 1),
-        distances: DistanceTable::new(),
-        words: Listed::new(Vec::new(alloc)),
+        by: Choosing::new(alloc),
     };
     play_lines(&mut calls, input, out)
 }
@@ -30,19 +28,17 @@ pub fn play<O: Write>(alloc: Global, input: &[u8], out: &mut O) -> Result<(), Pl
 struct Calls {
     alloc: Global,
     fixes: Fixes<Tree>,
-    distances: DistanceTable,
-    words: Listed,
+    by: Choosing,
 }
 
 impl Player for Calls {
     fn play<O: Write>(&mut self, mut words: Words<'_>, out: &mut O) -> Result<(), LineFault> {
-        match words.word()? {
+        let word = words.word()?;
+        if self.by.read(self.alloc, word, &mut words)? {
+            return words.end();
+        }
+        match word {
             "waits" => self.make(words),
-            "words" => {
-                self.words = read_listed(self.alloc, &mut words)?;
-                Ok(())
-            }
-            "distance" => self.distances.read(words),
             "room" => self.room(words),
             "heard-request" => self.heard_request(words, out),
             "heard-repair" => self.heard_repair(words),
@@ -56,11 +52,9 @@ impl Player for Calls {
 }
 
 impl Calls {
-    /// `D1 D2`: timers of which none runs.
-    fn make(&mut self, mut words: Words<'_>) -> Result<(), LineFault> {
-        let d1 = words.number(u64::from(GREATEST_TIMER_SETTING))? as u8;
-        let d2 = words.number(u64::from(GREATEST_TIMER_SETTING))? as u8;
-        words.end()?;
+    /// `d1 d2`: timers of which none runs.
+    fn make(&mut self, words: Words<'_>) -> Result<(), LineFault> {
+        let (d1, d2) = read_waits(words)?;
         self.fixes = Fixes::new(self.alloc, Tree::new(self.alloc), d1, d2);
         Ok(())
     }
@@ -83,12 +77,11 @@ impl Calls {
         let now = words.moment()?;
         let from = words.member()?;
         let held = read_held(words.word()?)?;
-        let name = words.name()?;
-        words.end()?;
-        let distances = self.distances.as_slice();
+        let name = words.last_name()?;
+        let distances = self.by.distances.as_slice();
         let fixes = &mut self.fixes;
-        let arm = match fixes.heard_request(name, from, held, distances, now, &mut self.words) {
-            Err(_) => fixes.heard_request(name, from, held, distances, now, &mut self.words)?,
+        let arm = match fixes.heard_request(name, from, held, distances, now, &mut self.by.words) {
+            Err(_) => fixes.heard_request(name, from, held, distances, now, &mut self.by.words)?,
             Ok(arm) => arm,
         };
         Ok(tell_arm(out, arm)?)
@@ -97,9 +90,8 @@ impl Calls {
     /// `T S C.P N`: a repair of another is heard.
     fn heard_repair(&mut self, mut words: Words<'_>) -> Result<(), LineFault> {
         let now = words.moment()?;
-        let name = words.name()?;
-        words.end()?;
-        let distances = self.distances.as_slice();
+        let name = words.last_name()?;
+        let distances = self.by.distances.as_slice();
         if self.fixes.heard_repair(name, distances, now).is_err() {
             self.fixes.heard_repair(name, distances, now)?;
         }
@@ -108,9 +100,8 @@ impl Calls {
 
     /// `T`: the names whose timers have run out are to be repaired.
     fn due<O: Write>(&mut self, mut words: Words<'_>, out: &mut O) -> Result<(), LineFault> {
-        let now = words.moment()?;
-        words.end()?;
-        let distances = self.distances.as_slice();
+        let now = words.last_moment()?;
+        let distances = self.by.distances.as_slice();
         let names = match self.fixes.due(now, distances) {
             Err(_) => self.fixes.due(now, distances)?,
             Ok(names) => names,
@@ -136,7 +127,7 @@ impl Calls {
         requires distance { distance ≤ LONGEST_DISTANCE }
     {
         self.fixes.room(&[name])?;
-        let arms = [self.fixes.arm(name, distance, &mut self.words)];
+        let arms = [self.fixes.arm(name, distance, &mut self.by.words)];
         self.fixes.set_all(now, &arms);
         let [arm] = arms;
         Ok(arm)
@@ -145,8 +136,7 @@ impl Calls {
     /// `M S C.P N`: a member asked for a name.
     fn note_asker(&mut self, mut words: Words<'_>) -> Result<(), LineFault> {
         let from = words.member()?;
-        let name = words.name()?;
-        words.end()?;
+        let name = words.last_name()?;
         if self.fixes.make_place(name).is_err() {
             self.fixes.make_place(name)?;
         }
@@ -182,13 +172,11 @@ impl Calls {
             }
             "free" => {
                 let now = words.moment()?;
-                let name = words.name()?;
-                words.end()?;
+                let name = words.last_name()?;
                 writeln!(out, "free {}", yes_or_no(self.fixes.is_free(name, now)))?;
             }
             "first-asker" => {
-                let name = words.name()?;
-                words.end()?;
+                let name = words.last_name()?;
                 let asker = self.fixes.first_asker(name);
                 writeln!(out, "first-asker {}", asker.number())?;
             }
@@ -199,8 +187,7 @@ impl Calls {
 
     /// `T`: the names whose timers have run out.
     fn pending<O: Write>(&self, mut words: Words<'_>, out: &mut O) -> Result<(), LineFault> {
-        let now = words.moment()?;
-        words.end()?;
+        let now = words.last_moment()?;
         let names = match self.fixes.pending(now, Vec::new(self.alloc)) {
             Err(_) => self.fixes.pending(now, Vec::new(self.alloc))?,
             Ok(names) => names,

@@ -25,6 +25,13 @@ impl Words<'_> {
         self.name_of(stream)
     }
 
+    /// `S C.P N`, with which the line ends.
+    pub fn last_name(&mut self) -> Result<Name, LineFault> {
+        let name = self.name()?;
+        self.end()?;
+        Ok(name)
+    }
+
     /// All names up to the end of the line.
     pub fn names(&mut self, alloc: Global) -> Result<Vec<Name>, LineFault> {
         self.names_before(alloc, None)

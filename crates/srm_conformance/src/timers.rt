@@ -1,25 +1,63 @@
 //! What the calls of request timers and of repair timers have in common.
 
+ghost use Rattle.std.specs.Prelude.{◌≤◌, IfOk};
+ghost use Rattle.srm_timers.specs.declared.limits.TheConstants.{GREATEST_TIMER_SETTING};
+
+use crate::distances::DistanceTable;
 use crate::fault::LineFault;
-use crate::memory::push;
 use crate::numbered::Numbered;
 use crate::words::Words;
-use srm_timers::{Arm, Listed};
+use srm_timers::{Arm, GREATEST_TIMER_SETTING, Listed};
 use std::alloc::Global;
 use std::io;
 use std::io::Write;
 
+/// By what waits are chosen: the distances to all members, and the random numbers.
+#[derive(Drop)]
+pub struct Choosing {
+    pub distances: DistanceTable,
+    pub words: Listed,
+}
+
+impl Choosing {
+    /// Every member is as far away as one of which nothing is known, and each random number is 0.
+    pub fn new(alloc: Global) -> Choosing {
+        Choosing {
+            distances: DistanceTable::new(),
+            words: Listed::new(Vec::new(alloc)),
+        }
+    }
+
+    /// Reads the setting with this word, up to the end of its line. Whether there is one.
+    pub fn read(
+        &mut self,
+        alloc: Global,
+        word: &str,
+        words: &mut Words<'_>,
+    ) -> Result<bool, LineFault> {
+        match word {
+            "words" => self.words = read_listed(alloc, words)?,
+            "distance" => self.distances.read(words)?,
+            _ => return Ok(false),
+        }
+        Ok(true)
+    }
+}
+
+/// Two settings of timers, with which the line ends: a wait is at least so many distances, and so many more at most.
+pub fn read_waits(mut words: Words<'_>) -> Result<(u8, u8), LineFault>
+    ensures least { IfOk result (λ waits. waits.0 ≤ GREATEST_TIMER_SETTING) }
+    ensures more { IfOk result (λ waits. waits.1 ≤ GREATEST_TIMER_SETTING) }
+{
+    let least = words.number(u64::from(GREATEST_TIMER_SETTING))? as u8;
+    let more = words.number(u64::from(GREATEST_TIMER_SETTING))? as u8;
+    words.end()?;
+    Ok((least, more))
+}
+
 /// Reads all numbers up to the end of the line: the words by which waits are chosen. Behind them come zeros.
 pub fn read_listed(alloc: Global, words: &mut Words<'_>) -> Result<Listed, LineFault> {
-    let mut listed = Vec::new(alloc);
-    // A line ends, but a loop is to show it.
-    for _ in 0..u64::MAX {
-        if words.is_empty() {
-            break;
-        }
-        push(&mut listed, words.number(u64::MAX)?)?;
-    }
-    Ok(Listed::new(listed))
+    Ok(Listed::new(words.numbers_left(alloc)?))
 }
 
 /// Prints a line for each timer that was set: what for, the name, the exponent, the wait, and the distance by which it was chosen.

@@ -5,6 +5,7 @@ ghost use Rattle.srm_names.specs.declared.limits.TheConstants.{LATEST_MOMENT};
 
 use crate::fault::LineFault;
 use crate::hex::read_hex;
+use crate::memory::push;
 use srm_names::{LATEST_MOMENT, MEMBERS, Member, PAGE_NUMBERS, Page};
 use std::alloc::Global;
 
@@ -79,11 +80,33 @@ impl<'a> Words<'a> {
         Ok(number)
     }
 
+    /// All numbers up to the end of the line.
+    pub fn numbers_left(&mut self, alloc: Global) -> Result<Vec<u64>, LineFault> {
+        let mut numbers = Vec::new(alloc);
+        // A line ends, but a loop is to show it.
+        for _ in 0..u64::MAX {
+            if self.is_empty() {
+                break;
+            }
+            push(&mut numbers, self.number(u64::MAX)?)?;
+        }
+        Ok(numbers)
+    }
+
     /// A moment in microseconds.
     pub fn moment(&mut self) -> Result<u64, LineFault>
         ensures { IfOk result (λ now. now ≤ LATEST_MOMENT) }
     {
         self.number(LATEST_MOMENT)
+    }
+
+    /// A moment in microseconds, with which the line ends.
+    pub fn last_moment(&mut self) -> Result<u64, LineFault>
+        ensures { IfOk result (λ now. now ≤ LATEST_MOMENT) }
+    {
+        let now = self.moment()?;
+        self.end()?;
+        Ok(now)
     }
 
     /// The number of a member.
@@ -106,7 +129,7 @@ impl<'a> Words<'a> {
 }
 
 /// The page that is written so.
-pub fn read_page(text: &str) -> Option<Page> {
+fn read_page(text: &str) -> Option<Page> {
     let (creator, number) = text.split_once('.')?;
     let creator = read_number(creator, u64::from(MEMBERS) - 1)?;
     let number = read_number(number, u64::from(PAGE_NUMBERS) - 1)?;

@@ -1,4 +1,5 @@
-//! The program at worked command lines and inputs, over streams in memory and sockets of this machine.
+//! What the cases of `tests/program` can't show of the program: how command lines are read, streams that fail, what is printed while it runs, and members in
+//! threads over sockets of this machine.
 //!
 //! The tests stand in a crate of their own: what they call is proved once, and not a second time with them.
 #![tactic(auto)]
@@ -6,13 +7,17 @@
 #[cfg(test)]
 mod activity_line;
 #[cfg(test)]
+mod alone;
+#[cfg(test)]
 mod backlog;
+#[cfg(test)]
+mod dealing;
 #[cfg(test)]
 mod ends;
 #[cfg(test)]
 mod example;
 #[cfg(test)]
-mod inputs;
+mod floors;
 #[cfg(test)]
 mod judging;
 #[cfg(test)]
@@ -22,7 +27,7 @@ mod lives;
 #[cfg(test)]
 mod lossy;
 #[cfg(test)]
-mod options;
+mod pictures;
 #[cfg(test)]
 mod polling;
 #[cfg(test)]
@@ -32,8 +37,6 @@ mod relay;
 #[cfg(test)]
 mod rig;
 #[cfg(test)]
-mod rows;
-#[cfg(test)]
 mod staying;
 #[cfg(test)]
 mod streams;
@@ -41,5 +44,3 @@ mod streams;
 mod three;
 #[cfg(test)]
 mod waiting;
-#[cfg(test)]
-mod world_options;

@@ -12,7 +12,6 @@ use std::alloc::{AllocError, Global};
 use std::io;
 use std::io::{ErrorKind, Read, Write};
 use std::net::{Ipv4Addr, Net, SocketAddr};
-use std::process::Abort;
 use std::sync::Wait;
 use std::thread::Threads;
 use std::time::Clock;
@@ -139,18 +138,4 @@ where
     let port = free_port(rt)?;
     let line = format!(in rt.alloc(); "--session 7 --me 0 --stay 0 127.0.0.1:{port}")?;
     Ok(run(rt, line.as_str(), input)?)
-}
-
-/// The program ended with this status, and wrote this on each stream.
-pub(crate) fn assert_ran<R: Abort>(rt: &R, ran: &Ran, status: u8, out: &str, err: &str) {
-    assert_eq!(rt; str::from_utf8(ran.err.as_slice()), Ok(err));
-    assert_eq!(rt; str::from_utf8(ran.out.as_slice()), Ok(out));
-    assert_eq!(rt; ran.status, status);
-}
-
-/// A stream was told a text that has this in it, or nothing where this is nothing.
-pub(crate) fn assert_has<R: Abort>(rt: &R, line: &str, told: &[u8], text: &str) {
-    let told = str::from_utf8(told).unwrap_or("");
-    assert_eq!(rt; told.is_empty(), text.is_empty(), "{line}: {told}");
-    assert!(rt; told.contains(text), "{line}: {told}");
 }

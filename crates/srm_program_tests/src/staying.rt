@@ -27,6 +27,7 @@ fn turn_once<R: Clock + Wait + Copy + Drop>(rt: &R, station: Station<R>) -> Opti
         mut node,
         taps,
         pens,
+        ..
     } = station;
     for pen in pens {
         pen.done();

@@ -26,6 +26,7 @@ fn wait_of<R: Clock + Wait + Copy + Drop>(rt: &R, station: Station<R>) -> Option
         mut node,
         taps,
         pens,
+        ..
     } = station;
     let turned = node.turn(rt);
     drop(taps);

@@ -42,6 +42,7 @@ pub fn ask<O: Write>(
     match word {
         "admits" => tell_admits(agent, words, out),
         "admits-from" => tell_admits_from(agent, words, out),
+        "distance" => tell_distance(agent, words, out),
         _ => {
             words.end()?;
             tell_now(agent, word, out)
@@ -95,4 +96,16 @@ fn tell_admits_from<O: Write>(
     words.end()?;
     let from = PrintedMoment(agent.admits_draw_from(length as usize));
     Ok(writeln!(out, "admits-from {from}")?)
+}
+
+/// `M`: the distance to a member, by which timers wait.
+fn tell_distance<O: Write>(
+    agent: &Agent<Listed>,
+    mut words: Words<'_>,
+    out: &mut O,
+) -> Result<(), LineFault> {
+    let member = words.member()?;
+    words.end()?;
+    let distance = agent.distance(member);
+    Ok(writeln!(out, "distance {} {distance}", member.number())?)
 }

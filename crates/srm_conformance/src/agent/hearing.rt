@@ -5,13 +5,13 @@ ghost use Rattle.srm_names.specs.declared.limits.TheConstants.{LATEST_MOMENT};
 
 use super::again;
 use super::bodies::read_body;
-use super::session_fields::read_session;
 use super::spelled::{Copied, Unnumbered, spelled};
 use super::telling::{HeardAlike, tell_heard};
 use crate::fault::LineFault;
 use crate::hex::read_hex;
 use crate::memory::append;
 use crate::ranges::Range;
+use crate::session_messages::read_session;
 use crate::words::{Words, read_number};
 use srm_agent::Agent;
 use srm_names::{DRAWOPS, LATEST_MOMENT, Member};
@@ -123,7 +123,8 @@ fn read_session_bytes(
     farewell: bool,
     mut words: Words<'_>,
 ) -> Result<Said, LineFault> {
-    let datagram = read_session(alloc, farewell, &mut words)?;
+    let sender = words.member()?;
+    let datagram = read_session(alloc, sender, farewell, &mut words)?;
     Ok(Said::One(spelled(alloc, session, &datagram)?))
 }
 

@@ -1,7 +1,6 @@
 //! The settings of a member, as lines say them.
 
 use crate::fault::LineFault;
-use crate::memory::push;
 use crate::words::Words;
 use srm_agent::Config;
 use srm_names::Member;
@@ -43,7 +42,8 @@ impl Settings {
             "session" => self.session = read_four_bytes(words)?,
             "bucket" => self.read_bucket(words)?,
             "waits" => self.read_waits(words)?,
-            "words" => self.words = read_list(alloc, words)?,
+            "least-distance" => self.rate_and_more.least_distance = words.number(u64::MAX)?,
+            "words" => self.words = words.numbers_left(alloc)?,
             _ => return Ok(false),
         }
         Ok(true)
@@ -56,7 +56,7 @@ impl Settings {
         Ok(())
     }
 
-    /// `C1 C2 D1 D2`.
+    /// `c1 c2 d1 d2`.
     fn read_waits(&mut self, words: &mut Words<'_>) -> Result<(), LineFault> {
         self.rate_and_more.c1 = read_byte(words)?;
         self.rate_and_more.c2 = read_byte(words)?;
@@ -88,17 +88,4 @@ fn read_byte(words: &mut Words<'_>) -> Result<u8, LineFault> {
 fn read_four_bytes(words: &mut Words<'_>) -> Result<u32, LineFault> {
     let number = words.number(u64::from(u32::MAX))?;
     Ok(number as u32)
-}
-
-/// All numbers up to the end of the line.
-fn read_list(alloc: Global, words: &mut Words<'_>) -> Result<Vec<u64>, LineFault> {
-    let mut listed = Vec::new(alloc);
-    // A line ends, but a loop is to show it.
-    for _ in 0..u64::MAX {
-        if words.is_empty() {
-            break;
-        }
-        push(&mut listed, words.number(u64::MAX)?)?;
-    }
-    Ok(listed)
 }

@@ -2,11 +2,11 @@
 
 use crate::fault::LineFault;
 use crate::hex::Hex;
-use crate::memory::push;
-use crate::words::{Words, read_number, read_page};
+use crate::session_messages::read_session;
+use crate::words::Words;
 use bytes::Bytes;
 use srm_codec::Datagram;
-use srm_names::{DRAWOPS, Drawop, Echo, Items, MEMBERS, Member, Name, Page};
+use srm_names::{DRAWOPS, Drawop, Echo, Member, Name, Page};
 use std::alloc::Global;
 use std::fmt;
 use std::fmt::{Display, Formatter};
@@ -25,8 +25,8 @@ pub fn read_datagram(alloc: Global, mut words: Words<'_>) -> Result<Datagram, Li
             let drawop = read_drawop(alloc, source, words)?;
             Ok(Datagram::Repair { sender, drawop })
         }
-        "session" => read_session(alloc, sender, false, words),
-        "farewell" => read_session(alloc, sender, true, words),
+        "session" => read_session(alloc, sender, false, &mut words),
+        "farewell" => read_session(alloc, sender, true, &mut words),
         _ => Err(LineFault::Bad),
     }
 }
@@ -57,8 +57,7 @@ fn read_request(
     sender: Member,
     mut words: Words<'_>,
 ) -> Result<Datagram, LineFault> {
-    let source = words.member()?;
-    let name = read_name(source, &mut words)?;
+    let name = words.name()?;
     let mask = words.bytes(alloc)?;
     words.end()?;
     match mask.as_slice() {
@@ -69,81 +68,6 @@ fn read_request(
         }),
         _ => Err(LineFault::Bad),
     }
-}
-
-/// `SENT C.P rows ROW .. echoes ECHO ..`.
-fn read_session(
-    alloc: Global,
-    sender: Member,
-    farewell: bool,
-    mut words: Words<'_>,
-) -> Result<Datagram, LineFault> {
-    let sent = words.number(u64::MAX)?;
-    let shown = words.page()?;
-    if words.word()? != "rows" {
-        return Err(LineFault::Bad);
-    }
-    let rows = read_rows(alloc, &mut words)?;
-    let echoes = read_echoes(alloc, &mut words)?;
-    Ok(Datagram::Session {
-        sender,
-        sent,
-        farewell,
-        shown,
-        rows: Items::new(rows),
-        echoes: Items::new(echoes),
-    })
-}
-
-/// Rows up to the word `echoes`.
-fn read_rows(alloc: Global, words: &mut Words<'_>) -> Result<Vec<Name>, LineFault> {
-    let mut rows = Vec::new(alloc);
-    // A line has an end.
-    for _ in 0..u64::MAX {
-        let word = words.word()?;
-        if word == "echoes" {
-            break;
-        }
-        push(&mut rows, read_row(word).ok_or(LineFault::Bad)?)?;
-    }
-    Ok(rows)
-}
-
-/// Echoes up to the end of the line.
-fn read_echoes(alloc: Global, words: &mut Words<'_>) -> Result<Vec<Echo>, LineFault> {
-    let mut echoes = Vec::new(alloc);
-    for _ in 0..u64::MAX {
-        if words.is_empty() {
-            break;
-        }
-        let word = words.word()?;
-        push(&mut echoes, read_echo(word).ok_or(LineFault::Bad)?)?;
-    }
-    Ok(echoes)
-}
-
-/// `SOURCE:C.P:NUMBER`.
-fn read_row(word: &str) -> Option<Name> {
-    let (source, name) = word.split_once(':')?;
-    let (page, number) = name.split_once(':')?;
-    let number = read_number(number, u64::from(DRAWOPS))? as u32;
-    Name::new(read_member(source)?, read_page(page)?, number)
-}
-
-/// `MEMBER:T1:DELAY`.
-fn read_echo(word: &str) -> Option<Echo> {
-    let (member, moments) = word.split_once(':')?;
-    let (t1, delay) = moments.split_once(':')?;
-    Some(Echo {
-        member: read_member(member)?,
-        t1: read_number(t1, u64::MAX)?,
-        delay: read_number(delay, u64::MAX)?,
-    })
-}
-
-fn read_member(word: &str) -> Option<Member> {
-    let number = read_number(word, u64::from(MEMBERS) - 1)?;
-    Member::new(number as u8)
 }
 
 /// A datagram as it is printed: its sender, its kind and its fields.

@@ -1,21 +1,22 @@
-//! Session messages by their fields.
+//! Session messages by their fields, as lines say them.
 
 use crate::fault::LineFault;
 use crate::memory::push;
 use crate::ranges::Range;
 use crate::words::{Words, read_number};
 use srm_codec::Datagram;
-use srm_names::{DRAWOPS, Echo, Items, LATEST_MOMENT, MEMBERS, Member, Name, PAGE_NUMBERS, Page};
+use srm_names::{DRAWOPS, Echo, Items, MEMBERS, Member, Name, PAGE_NUMBERS, Page};
 use std::alloc::Global;
 
-/// `M SENT C.P`, and behind it, where there are any, `rows S:C.P:N ..` and `echoes M:T1:DELAY ..`.
+/// `SENT C.P`, and behind it, where there are any, `rows S:C.P:N ..` and `echoes M:t1:DELAY ..`: a session message of this member, or its farewell. Whether
+/// it can be spelled isn't looked at.
 pub fn read_session(
     alloc: Global,
+    sender: Member,
     farewell: bool,
     words: &mut Words<'_>,
 ) -> Result<Datagram, LineFault> {
-    let sender = words.member()?;
-    let sent = words.moment()?;
+    let sent = words.number(u64::MAX)?;
     let shown = words.page()?;
     let mut lists = Lists {
         rows: Vec::new(alloc),
@@ -107,14 +108,14 @@ impl Lists {
         Ok(push(&mut self.rows, row)?)
     }
 
-    /// `M:T1:DELAY`.
+    /// `M:t1:DELAY`.
     fn read_echo(&mut self, word: &str) -> Result<(), LineFault> {
         let (member, t1, delay) = split_in_three(word)?;
         let member = read_number(member, u64::from(MEMBERS) - 1).ok_or(LineFault::Bad)?;
         let echo = Echo {
             member: Member::new(member as u8).ok_or(LineFault::Bad)?,
-            t1: read_number(t1, LATEST_MOMENT).ok_or(LineFault::Bad)?,
-            delay: read_number(delay, LATEST_MOMENT).ok_or(LineFault::Bad)?,
+            t1: read_number(t1, u64::MAX).ok_or(LineFault::Bad)?,
+            delay: read_number(delay, u64::MAX).ok_or(LineFault::Bad)?,
         };
         Ok(push(&mut self.echoes, echo)?)
     }
