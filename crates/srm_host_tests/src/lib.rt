@@ -3,6 +3,8 @@
 #![tactic(auto)]
 
 #[cfg(test)]
+mod ending;
+#[cfg(test)]
 mod hosted;
 #[cfg(test)]
 mod hosting;

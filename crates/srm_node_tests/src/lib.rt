@@ -20,6 +20,8 @@ mod forgetting;
 #[cfg(test)]
 mod giving;
 #[cfg(test)]
+mod midway;
+#[cfg(test)]
 mod noting;
 #[cfg(test)]
 mod pairs;

@@ -1,5 +1,5 @@
 -- A page feed of one page and one member's drawops, as tests put it.
-use Rattle.std.specs.Prelude.{◌≡◌, ℕ, true, false, List, length, Some}
+use Rattle.std.specs.Prelude.{◌≡◌, ◌≢◌, ℕ, true, false, List, length, Some}
 use Rattle.std.specs.List.{list_any}
 use Rattle.srm_names.specs.declared.page.Page.{Page}
 use Rattle.srm_names.specs.declared.page_msg.PageMsg.{PageMsg}
@@ -12,3 +12,7 @@ pub record IsDrawing (page : Page) (member n : ℕ) (l : List PageMsg) : Type 0 
   pub count : length (drawops_of member l) ≡ n
   pub stays : list_any (leaves member) l ≡ false
   pub is_open : list_any is_close l ≡ false
+
+-- what any other member drew on the page is drawn there still, and no more
+pub record KeepsOthers (page : Page) (member : ℕ) (old new : List PageMsg) : Type 0 where
+  pub each : (other n : ℕ) → other ≢ member → IsDrawing page other n old → IsDrawing page other n new

@@ -9,4 +9,8 @@ mod drawing;
 #[cfg(test)]
 mod lanes;
 #[cfg(test)]
+mod long;
+#[cfg(test)]
+mod many;
+#[cfg(test)]
 mod well;

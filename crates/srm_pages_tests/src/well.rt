@@ -16,7 +16,7 @@ use std::thread::{JoinHandle, Threads};
 const STROKES: u16 = 100;
 
 /// A stroke of this pen on the page with this number. One on a page with an even number has a body, one on another page has none.
-fn stroke_of(pen: u8, number: u16) -> Option<Stroke>
+pub(crate) fn stroke_of(pen: u8, number: u16) -> Option<Stroke>
     ensures { IfSome result (λ s. s.pen ≡ pen) }
 {
     let creator = Member::new(0)?;
@@ -231,7 +231,7 @@ fn the_well_goes_on_after_settling(rt: HostRuntime) -> Result<(), Fail> {
 
 /// Whether all pens are done, as the well says at first and after each of them.
 fn said_of_each(alloc: Global) -> Result<Vec<bool>, AllocError> {
-    let (well, pens) = well(alloc)?;
+    let (mut well, pens) = well(alloc)?;
     let mut said = Vec::new(alloc);
     said.push(well.is_done())?;
     for pen in pens {
