@@ -1,4 +1,4 @@
-//! Thirty-two nodes over a network in memory, of whose copies three in ten are lost and three in ten come twice.
+//! Many nodes over a network in memory, of whose copies three in ten are lost and three in ten come twice.
 
 use crate::checks::{check_prefixes, check_reconciles};
 use crate::member::{config, make_station};
@@ -35,25 +35,32 @@ fn some_fates(rt: &impl Abort, alloc: Global, words: &mut Pcg) -> Vec<Fate> {
     fates
 }
 
-fn wires<R: Wait + Abort + Copy + Drop>(rt: R, alloc: Global, seed: u64) -> Vec<MemWire<R>> {
+/// The wires of so many members, with the losses of which a number is the seed.
+fn wires<R: Wait + Abort + Copy + Drop>(
+    rt: R,
+    alloc: Global,
+    members: u8,
+    seed: u64,
+) -> Vec<MemWire<R>> {
     let mut words = Pcg::new(seed);
     let mut fates = Vec::new(alloc);
-    for _ in 0..MEMBERS {
+    for _ in 0..members {
         let own = some_fates(&rt, alloc, &mut words);
         fates.push(own).expect(&rt, "memory");
     }
-    hub(rt, alloc, MEMBERS, fates).expect(&rt, "memory")
+    hub(rt, alloc, members, fates).expect(&rt, "memory")
 }
 
-/// The node of a member that has four strokes and leaves after a second.
+/// The node of a member of so many that has four strokes and leaves after a second.
 fn node<R: Wait + Abort + Copy + Drop>(
     rt: R,
     alloc: Global,
+    members: u8,
     me: u8,
     wire: Option<MemWire<R>>,
 ) -> Station<Pcg, MemWire<R>, StepClock> {
     let wire = wire.expect(&rt, "a wire");
-    let settings = config(&rt, me, MEMBERS);
+    let settings = config(&rt, me, members);
     let clock = StepClock::new(5, 50_000);
     make_station(
         &rt,
@@ -70,12 +77,13 @@ fn node<R: Wait + Abort + Copy + Drop>(
 fn nodes<R: Wait + Abort + Copy + Drop>(
     rt: R,
     alloc: Global,
+    members: u8,
     wires: Vec<MemWire<R>>,
 ) -> Vec<Station<Pcg, MemWire<R>, StepClock>> {
     let mut wires = VecDeque::from(wires);
     let mut stations = Vec::new(alloc);
-    for me in 0..MEMBERS {
-        let station = node(rt, alloc, me, wires.pop_front());
+    for me in 0..members {
+        let station = node(rt, alloc, members, me, wires.pop_front());
         stations.push(station).expect(&rt, "memory");
     }
     stations
@@ -101,38 +109,39 @@ fn keep_next<R: Wait + Abort + Copy + Drop>(
     }
 }
 
-/// What became of the members after all their turns.
-fn crowd<R: Wait + Abort + Copy + Drop>(rt: R, alloc: Global, seed: u64) -> Kept {
-    let mut stations = nodes(rt, alloc, wires(rt, alloc, seed));
+/// What became of so many members after all their turns.
+fn crowd<R: Wait + Abort + Copy + Drop>(rt: R, alloc: Global, members: u8, seed: u64) -> Kept {
+    let mut stations = nodes(rt, alloc, members, wires(rt, alloc, members, seed));
     for _ in 0..TURNS {
         turn_each(&rt, &mut stations);
     }
     let mut kept = Kept::new(alloc);
     let mut stations = VecDeque::from(stations);
-    for _ in 0..MEMBERS {
+    for _ in 0..members {
         keep_next(&rt, alloc, &mut kept, &mut stations);
     }
     kept
 }
 
 // Each member takes at least its page and its own four drawops.
-fn check_crowd<R: Wait + Abort + Copy + Drop>(rt: R, alloc: Global, seed: u64) {
-    let kept = crowd(rt, alloc, seed);
+fn check_crowd<R: Wait + Abort + Copy + Drop>(rt: R, alloc: Global, members: u8, seed: u64) {
+    let kept = crowd(rt, alloc, members, seed);
     check_prefixes(&rt, kept.lists.as_slice(), 0, 0);
-    check_reconciles(&rt, alloc, kept, 32, 160);
+    let count = usize::from(members);
+    check_reconciles(&rt, alloc, kept, count, 5 * count);
 }
 
 #[test]
 fn thirty_two_nodes_reconcile_whatever_is_lost(rt: HostRuntime) {
-    check_crowd(rt, rt.alloc(), 1);
+    check_crowd(rt, rt.alloc(), MEMBERS, 1);
 }
 
 #[test]
-fn thirty_two_nodes_reconcile_whatever_else_is_lost(rt: HostRuntime) {
-    check_crowd(rt, rt.alloc(), 2);
+fn eight_nodes_reconcile_whatever_is_lost(rt: HostRuntime) {
+    check_crowd(rt, rt.alloc(), 8, 2);
 }
 
 #[test]
-fn thirty_two_nodes_reconcile_whatever_is_lost_besides(rt: HostRuntime) {
-    check_crowd(rt, rt.alloc(), 3);
+fn eight_nodes_reconcile_whatever_else_is_lost(rt: HostRuntime) {
+    check_crowd(rt, rt.alloc(), 8, 3);
 }

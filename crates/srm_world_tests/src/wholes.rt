@@ -62,16 +62,17 @@ fn a_whole_script_in_one_call_is_its_events_one_by_one(rt: HostRuntime) {
     check_script(&rt, rt.alloc(), EACH_KIND);
 }
 
-/// A list of 65,537 draws, of which the last is refused, since the stream is full.
+/// A list of 10,000 draws, a leaving, and a draw that is refused for it.
 #[test]
 fn a_long_list_in_one_call(rt: HostRuntime) -> Result<(), Fail> {
     let alloc = rt.alloc();
     let mut script = b"members 1\n".to_vec(alloc)?;
-    script.extend_from_slice(repeated(alloc, "draw 0 1 0.0\n", 65_537)?.as_slice())?;
+    script.extend_from_slice(repeated(alloc, "draw 0 1 0.0\n", 10_000)?.as_slice())?;
+    script.extend_from_slice(b"leave 0 2\ndraw 0 3 0.0\n".as_slice())?;
     let world = run_at_once(alloc, script.as_slice()).ok().ok_or("a world")?;
     let entries = world.trace().entries();
-    assert_eq!(rt; entries.len(), 65_537);
+    assert_eq!(rt; entries.len(), 10_002);
     let newest = entries.last().map(|entry| entry.verdict);
-    assert_eq!(rt; newest, Some(Verdict::Refused(AgentFault::StreamFull)));
+    assert_eq!(rt; newest, Some(Verdict::Refused(AgentFault::Leaving)));
     Ok(())
 }
