@@ -1,0 +1,88 @@
+"""What calls take and return."""
+
+from enum import IntEnum
+from typing import NamedTuple, Union
+
+
+class Page(NamedTuple):
+    """A page: who began it, 0 to 31, and its number among that member's pages."""
+
+    creator: int
+    number: int
+
+
+FIRST_PAGE = Page(0, 0)
+"""The page that each member has from the start, in slot 0."""
+
+
+class Name(NamedTuple):
+    """The name of a stroke, which is never given to another: its page, who drew it, and its number there, from 1."""
+
+    page: Page
+    source: int
+    number: int
+
+
+class Open(NamedTuple):
+    """The slot's page. It comes first."""
+
+    page: Page
+
+
+class Draw(NamedTuple):
+    """The next stroke of its source, and the moment at which it was drawn, by its source's clock."""
+
+    name: Name
+    stamp: int
+    body: bytes
+
+
+class Left(NamedTuple):
+    """This member left, and all that it drew on the page was given."""
+
+    source: int
+
+
+class Close(NamedTuple):
+    """Nothing more comes."""
+
+
+Message = Union[Open, Draw, Left, Close]
+
+
+class State(IntEnum):
+    """Whether a member takes part. It never goes back."""
+
+    ACTIVE = 1
+    LEAVING = 2
+    GONE = 3
+
+
+class Cause(IntEnum):
+    """Why a datagram was ignored. Nothing but the last moment changed then."""
+
+    OWN = 1
+    GONE = 2
+    CONFLICT = 3
+    PAGE_LIMIT = 4
+    BEYOND_FINAL = 5
+    DECODE = 6
+    STRANGER = 7
+
+
+class Heard(NamedTuple):
+    """What became of a datagram: why it was ignored, or None; by which fault, 1 to 11, where it is no datagram of the session, else 0; and how
+    many timers it set."""
+
+    ignored: Cause | None
+    fault: int
+    timers: int
+
+
+class Ticked(NamedTuple):
+    """What a tick did: how many strokes it asked for and repaired, how many datagrams are to be sent, and whether the member takes part after it."""
+
+    requests: int
+    repairs: int
+    datagrams: int
+    state: State

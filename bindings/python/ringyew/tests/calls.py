@@ -1,0 +1,82 @@
+"""The package's calls, at worked values: `python3 -m unittest tests/calls.py`."""
+
+import unittest
+
+import ringyew
+from ringyew import FIRST_PAGE, Agent, Cause, Close, Draw, Name, Open, Page, State
+
+
+def agent(me: int = 0) -> Agent:
+    return Agent(me=me, members=2, session=7, seed=me, now=0)
+
+
+class Calls(unittest.TestCase):
+    def test_settings_out_of_range_are_refused(self) -> None:
+        for bad in ({"rate": 0}, {"rate": 2**32}, {"depth": 1050}, {"c1": 17}, {"c1": 256}, {"d2": -1}, {"least_distance": 0}, {"least_distance": 10_000_001}):
+            with self.subTest(bad), self.assertRaises(ringyew.ConfigError):
+                Agent(me=0, members=2, session=7, seed=0, now=0, **bad)
+        for me, members in ((2, 2), (0, 33), (0, 256), (-1, 2)):
+            with self.subTest((me, members)), self.assertRaises(ringyew.ConfigError):
+                Agent(me=me, members=members, session=7, seed=0, now=0)
+        with self.assertRaises(ringyew.MomentError):
+            Agent(me=0, members=2, session=7, seed=0, now=2**64)
+
+    def test_calls_that_break_a_rule_are_refused(self) -> None:
+        with agent() as a:
+            for late in (ringyew.MOMENT_MAX + 1, 2**64, -1):
+                for call in (lambda: a.draw(b"", late), lambda: a.hear(b"", late), lambda: a.tick(late), lambda: a.leave(late), lambda: a.show(FIRST_PAGE, late)):
+                    self.assertRaises(ringyew.MomentError, call)
+            for page in (Page(32, 0), Page(256, 0), Page(0, 65536)):
+                self.assertRaises(ringyew.PageError, a.draw, b"", 0, page)
+                self.assertRaises(ringyew.PageError, a.show, page, 0)
+            for slot in (8, 256, 2**32, -1):
+                self.assertRaises(ringyew.SlotError, a.give, slot)
+            for member in (32, 256, 2**32, -1):
+                self.assertRaises(ringyew.MemberError, a.distance, member)
+            with self.assertRaises(ringyew.BodyLongError) as refused:
+                a.draw(bytes(ringyew.BODY_MAX + 1), 0)
+            self.assertEqual((refused.exception.code, str(refused.exception)), (5, "the body is too long"))
+
+    def test_strokes_are_given_in_order(self) -> None:
+        with agent(0) as drawer, agent(1) as listener:
+            self.assertEqual(drawer.draw(b"a line", 5), Name(FIRST_PAGE, 0, 1))
+            drawer.draw(b"", 6)
+            self.assertEqual(drawer.tick(6), (0, 0, 2, State.ACTIVE))
+            sent = list(drawer.datagrams())
+            for datagram in reversed(sent):
+                self.assertIsNone(listener.hear(datagram, 9).ignored)
+                self.assertEqual(drawer.hear(datagram, 9).ignored, Cause.OWN)
+            self.assertEqual(listener.hear(b"noise", 9), (Cause.DECODE, 2, 0))
+            given = list(listener.messages(0))
+            self.assertEqual(given, [Open(FIRST_PAGE), Draw(Name(FIRST_PAGE, 0, 1), 5, b"a line"), Draw(Name(FIRST_PAGE, 0, 2), 6, b"")])
+            self.assertIsInstance(given[1], Draw)
+            self.assertEqual((listener.distance(1), listener.distance(0)), (0, 100_000))
+
+    def test_the_rate_says_from_when_on_it_admits(self) -> None:
+        with agent() as a:
+            self.assertTrue(a.admits(ringyew.BODY_MAX, 0))
+            for _ in range(5):
+                a.draw(bytes(ringyew.BODY_MAX), 0)
+            self.assertIsNone(a.admits_from(13))
+            a.tick(0)
+            self.assertEqual(a.admits_from(13), 136_375)
+
+    def test_a_member_leaves(self) -> None:
+        with agent() as a:
+            self.assertEqual(a.new_page(), Page(0, 1))
+            a.leave(5)
+            self.assertRaises(ringyew.LeavingError, a.leave, 5)
+            self.assertEqual(a.tick(5).state, State.GONE)
+            self.assertEqual(len(list(a.datagrams())), 1)
+            self.assertIsNone(a.next_due)
+            self.assertRaises(ringyew.GoneError, a.draw, b"", 5)
+            self.assertEqual(list(a.messages(1)), [Close()])
+        self.assertRaises(ValueError, a.tick, 5)
+        a.close()
+
+    def test_the_library_has_the_version_of_the_package(self) -> None:
+        self.assertEqual(ringyew.library_version(), "0.1.0")
+
+
+if __name__ == "__main__":
+    unittest.main()

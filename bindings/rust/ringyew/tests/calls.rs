@@ -1,0 +1,131 @@
+//! The crate's calls, at worked values.
+
+use ringyew::{Agent, BODY_MAX, Cause, Config, DATAGRAM_MAX, Error, MOMENT_MAX, Message, Name, Page, State};
+
+fn agent(me: u8) -> Agent {
+    Agent::new(&Config::new(me, 2, 7), me.into(), 0).unwrap()
+}
+
+#[test]
+fn settings_that_are_out_of_range_are_refused() {
+    let config = Config::new(0, 2, 7);
+    for bad in [
+        Config { me: 2, ..config },
+        Config { members: 33, ..config },
+        Config { rate: 0, ..config },
+        Config { depth: 1_050, ..config },
+        Config { c1: 17, ..config },
+        Config { least_distance: 0, ..config },
+        Config { least_distance: 10_000_001, ..config },
+    ] {
+        assert_eq!(Agent::new(&bad, 0, 0).unwrap_err(), Error::Config, "{bad:?}");
+    }
+    assert_eq!(Agent::new(&config, 0, MOMENT_MAX + 1).unwrap_err(), Error::Moment);
+}
+
+#[test]
+fn calls_that_break_a_rule_are_refused() {
+    let mut agent = agent(0);
+    let far = Page { creator: 32, number: 0 };
+    assert_eq!(agent.draw(far, b"", 0), Err(Error::Page));
+    assert_eq!(agent.show(far, 0), Err(Error::Page));
+    assert_eq!(agent.draw(Page::FIRST, &[0; BODY_MAX + 1], 0), Err(Error::BodyLong));
+    assert_eq!(agent.draw(Page::FIRST, b"", MOMENT_MAX + 1), Err(Error::Moment));
+    assert_eq!(agent.hear(b"", MOMENT_MAX + 1), Err(Error::Moment));
+    assert_eq!(agent.tick(MOMENT_MAX + 1), Err(Error::Moment));
+    assert_eq!(agent.leave(MOMENT_MAX + 1), Err(Error::Moment));
+    assert_eq!(agent.give(8), Err(Error::Slot));
+    assert_eq!(agent.distance(32), Err(Error::Member));
+    assert_eq!(agent.messages(8).next(), Some(Err(Error::Slot)));
+}
+
+#[test]
+fn pages_run_out() {
+    let mut agent = agent(0);
+    assert_eq!(agent.new_page(), Some(Page { creator: 0, number: 1 }));
+    for number in 1..8 {
+        agent.show(Page { creator: 1, number }, 0).unwrap();
+    }
+    assert_eq!(agent.new_page(), None);
+    assert_eq!(agent.show(Page { creator: 1, number: 8 }, 0), Err(Error::PageLimit));
+}
+
+#[test]
+fn a_room_that_is_too_short_loses_nothing() {
+    let mut agent = agent(0);
+    agent.draw(Page::FIRST, b"a line", 0).unwrap();
+    agent.tick(0).unwrap();
+    let mut room = [0; DATAGRAM_MAX];
+    assert_eq!(agent.next_datagram(&mut room[..5]), Err(Error::Room(33)));
+    assert_eq!(agent.next_datagram(&mut room), Ok(Some(33)));
+    assert!(room[..33].ends_with(b"a line"));
+    assert_eq!(agent.next_datagram(&mut room), Ok(None));
+}
+
+#[test]
+fn strokes_are_given_in_order() {
+    let (mut drawer, mut listener) = (agent(0), agent(1));
+    let name = drawer.draw(Page::FIRST, b"a line", 5).unwrap();
+    assert_eq!(name, Name { page: Page::FIRST, source: 0, number: 1 });
+    drawer.draw(Page::FIRST, b"", 6).unwrap();
+    let ticked = drawer.tick(6).unwrap();
+    assert_eq!((ticked.datagrams, ticked.requests, ticked.repairs, ticked.state), (2, 0, 0, State::Active));
+    let mut sent: Vec<_> = drawer.datagrams().collect();
+    sent.reverse();
+    for datagram in &sent {
+        assert_eq!(listener.hear(datagram, 9).unwrap().ignored, None);
+        assert_eq!(drawer.hear(datagram, 9).unwrap().ignored, Some(Cause::Own));
+    }
+    assert_eq!(listener.hear(b"noise", 9).unwrap().ignored, Some(Cause::Decode(2)));
+    let given: Result<Vec<_>, _> = listener.messages(0).collect();
+    let draw = |number, stamp, body: &[u8]| Message::Draw { name: Name { page: Page::FIRST, source: 0, number }, stamp, body: body.to_vec() };
+    assert_eq!(given.unwrap(), [Message::Open(Page::FIRST), draw(1, 5, b"a line"), draw(2, 6, b"")]);
+    assert_eq!(listener.distance(1), Ok(0));
+    assert_eq!(listener.distance(0), Ok(100_000));
+}
+
+#[test]
+fn the_rate_says_from_when_on_it_admits() {
+    let mut agent = agent(0);
+    assert!(agent.admits(BODY_MAX, 0));
+    for _ in 0..5 {
+        agent.draw(Page::FIRST, &[0; BODY_MAX], 0).unwrap();
+    }
+    assert_eq!(agent.admits_from(13), None);
+    agent.tick(0).unwrap();
+    assert_eq!(agent.admits_from(13), Some(136_375));
+    assert!(!agent.admits(13, 136_374) && agent.admits(13, 136_375));
+}
+
+#[test]
+fn an_agent_leaves_in_another_thread() {
+    let mut agent = agent(0);
+    let mut agent = std::thread::spawn(move || {
+        agent.leave(5).unwrap();
+        agent
+    })
+    .join()
+    .unwrap();
+    assert_eq!(agent.state(), State::Leaving);
+    assert_eq!(agent.leave(5), Err(Error::Leaving));
+    let ticked = agent.tick(5).unwrap();
+    assert_eq!((ticked.state, ticked.datagrams), (State::Gone, 1));
+    assert_eq!(agent.next_due(), None);
+    assert_eq!(agent.wait(5), None);
+    assert_eq!(agent.draw(Page::FIRST, b"", 5), Err(Error::Gone));
+}
+
+#[test]
+fn errors_tell_their_code_and_cause() {
+    for (error, code, text) in [
+        (Error::Leaving, 1, "the member is leaving"),
+        (Error::BodyLong, 5, "the body is too long"),
+        (Error::Memory, 6, "out of memory"),
+        (Error::Room(33), 20, "the room is too short"),
+        (Error::Member, 26, "a member is past 31"),
+        (Error::Other(99), 99, "an unknown code"),
+    ] {
+        assert_eq!((error.code(), error.to_string().as_str()), (code, text));
+    }
+    assert_eq!(ringyew::library_version(), env!("CARGO_PKG_VERSION"));
+}

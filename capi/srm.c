@@ -1,0 +1,239 @@
+/* The calls of srm.h over those that crates/srm_ffi exports, whose references may not be null. It has no state. */
+#include "srm.h"
+
+#include <stdlib.h>
+#include <string.h>
+
+/* As crates/srm_seat/src/handle.rt and crates/srm_ffi/src/shapes.rt lay them out. All zeroes is an empty handle. */
+typedef struct srm_handle {
+    void *at;
+    bool is_full;
+} srm_handle;
+
+typedef struct srm_raw_message {
+    uint64_t stamp;
+    size_t length;
+    srm_name name;
+    uint8_t kind;
+} srm_raw_message;
+
+struct srm_agent {
+    srm_handle handle;
+};
+
+/* A slice is passed as a pointer, never null, and a length; the allocator as nothing. */
+void srm_raw_defaults(srm_config *);
+uint32_t srm_raw_open(srm_handle *, const srm_config *, uint64_t, uint64_t);
+void srm_raw_close(srm_handle *);
+uint32_t srm_raw_draw(srm_handle *, uint8_t, uint16_t, const uint8_t *, size_t, uint64_t, srm_name *);
+uint32_t srm_raw_show(srm_handle *, uint8_t, uint16_t, uint64_t);
+uint32_t srm_raw_leave(srm_handle *, uint64_t);
+uint32_t srm_raw_hear(srm_handle *, const uint8_t *, size_t, uint64_t, srm_heard *);
+uint32_t srm_raw_tick(srm_handle *, uint64_t, srm_ticked *);
+uint32_t srm_raw_request(srm_handle *, srm_name *);
+uint32_t srm_raw_repair(srm_handle *, srm_name *);
+uint32_t srm_raw_datagram(srm_handle *, uint8_t *, size_t, size_t *);
+uint32_t srm_raw_give(srm_handle *, uint8_t, uint8_t *, size_t, srm_raw_message *);
+uint64_t srm_raw_next_due(srm_handle *);
+uint8_t srm_raw_state(srm_handle *);
+uint32_t srm_raw_new_page(srm_handle *, srm_page *);
+uint32_t srm_raw_distance(srm_handle *, uint8_t, uint64_t *);
+bool srm_raw_admits(srm_handle *, size_t, uint64_t);
+uint64_t srm_raw_admits_from(srm_handle *, size_t);
+
+/* What an empty slice points to. */
+static uint8_t nowhere;
+
+_Static_assert(sizeof(size_t) == 8, "Rattle's usize has 64 bits");
+_Static_assert(sizeof(srm_handle) == 2 * sizeof(void *), "a handle");
+_Static_assert(sizeof(srm_page) == 4 && sizeof(srm_name) == 12, "names");
+_Static_assert(offsetof(srm_config, least_distance) == SRM_CONFIG_SIZE_MIN && sizeof(srm_config) == 32, "settings");
+_Static_assert(sizeof(srm_heard) == 16 && sizeof(srm_ticked) == 32, "answers");
+_Static_assert(sizeof(srm_raw_message) == 32 && offsetof(srm_message, kind) == offsetof(srm_raw_message, kind), "a message");
+
+int srm_version(void) { return SRM_VERSION; }
+
+#define TEXT(number) #number
+#define VERSION(major, minor, patch) TEXT(major) "." TEXT(minor) "." TEXT(patch)
+
+const char *srm_version_string(void) { return VERSION(SRM_VERSION_MAJOR, SRM_VERSION_MINOR, SRM_VERSION_PATCH); }
+
+const char *srm_strerror(int code)
+{
+    switch (code) {
+    case SRM_OK: return "done";
+    case SRM_ERROR_LEAVING: return "the member is leaving";
+    case SRM_ERROR_GONE: return "the member has left";
+    case SRM_ERROR_PAGE_LIMIT: return "the table has no slot for another page";
+    case SRM_ERROR_STREAM_FULL: return "the stream is full";
+    case SRM_ERROR_BODY_LONG: return "the body is too long";
+    case SRM_ERROR_MEMORY: return "out of memory";
+    case SRM_ERROR_NULL: return "a pointer is NULL";
+    case SRM_ERROR_MOMENT: return "a moment is past 2^48 microseconds";
+    case SRM_ERROR_SLOT: return "a slot is past 7";
+    case SRM_ERROR_CONFIG: return "a setting is out of its range";
+    case SRM_ERROR_ROOM: return "the room is too short";
+    case SRM_ERROR_EMPTY: return "there is no agent";
+    case SRM_ERROR_PAGE: return "there is no such page";
+    case SRM_NOTHING: return "there is nothing more";
+    case SRM_ERROR_FULL: return "there is an agent already";
+    case SRM_ERROR_LENGTH: return "a length is past PTRDIFF_MAX";
+    case SRM_ERROR_MEMBER: return "a member is past 31";
+    default: return "an unknown code";
+    }
+}
+
+void srm_config_init(srm_config *config, size_t size)
+{
+    if (!config || size < SRM_CONFIG_SIZE_MIN)
+        return;
+    srm_config full = {.members = 1};
+    srm_raw_defaults(&full);
+    /* A header that is newer than the library has fields of which this knows nothing. */
+    size_t known = size < sizeof full ? SRM_CONFIG_SIZE_MIN : sizeof full;
+    full.size = (uint32_t)known;
+    memset(config, 0, size);
+    memcpy(config, &full, known);
+}
+
+/* The settings with defaults for the fields that the caller's header doesn't have. False where the size is no version's. */
+static bool read_config(srm_config *full, const srm_config *config)
+{
+    if (config->size != SRM_CONFIG_SIZE_MIN && config->size != sizeof *full)
+        return false;
+    srm_config_init(full, sizeof *full);
+    memcpy(full, config, config->size);
+    return true;
+}
+
+int srm_agent_new(srm_agent **agent, const srm_config *config, uint64_t seed, uint64_t now)
+{
+    srm_config full;
+    if (!agent)
+        return SRM_ERROR_NULL;
+    *agent = NULL;
+    if (!config)
+        return SRM_ERROR_NULL;
+    if (!read_config(&full, config))
+        return SRM_ERROR_CONFIG;
+    srm_agent *made = calloc(1, sizeof *made);
+    if (!made)
+        return SRM_ERROR_MEMORY;
+    int code = (int)srm_raw_open(&made->handle, &full, seed, now);
+    if (code == SRM_OK)
+        *agent = made;
+    else
+        free(made);
+    return code;
+}
+
+void srm_agent_free(srm_agent *agent)
+{
+    if (!agent)
+        return;
+    srm_raw_close(&agent->handle);
+    free(agent);
+}
+
+int srm_agent_draw(srm_agent *agent, srm_page page, const void *body, size_t length, uint64_t now, srm_name *name)
+{
+    srm_name unread = {0};
+    if (!agent || (!body && length))
+        return SRM_ERROR_NULL;
+    if (length > PTRDIFF_MAX)
+        return SRM_ERROR_LENGTH;
+    if (length > SRM_BODY_MAX)
+        length = SRM_BODY_MAX + 1; /* still too long, and no more is copied */
+    return (int)srm_raw_draw(&agent->handle, page.creator, page.number, body ? body : &nowhere, length, now, name ? name : &unread);
+}
+
+bool srm_agent_admits(srm_agent *agent, size_t length, uint64_t now)
+{
+    return agent && srm_raw_admits(&agent->handle, length, now);
+}
+
+uint64_t srm_agent_admits_from(srm_agent *agent, size_t length)
+{
+    return agent ? srm_raw_admits_from(&agent->handle, length) : SRM_NEVER;
+}
+
+int srm_agent_new_page(srm_agent *agent, srm_page *page)
+{
+    return agent && page ? (int)srm_raw_new_page(&agent->handle, page) : SRM_ERROR_NULL;
+}
+
+int srm_agent_show(srm_agent *agent, srm_page page, uint64_t now)
+{
+    return agent ? (int)srm_raw_show(&agent->handle, page.creator, page.number, now) : SRM_ERROR_NULL;
+}
+
+int srm_agent_leave(srm_agent *agent, uint64_t now)
+{
+    return agent ? (int)srm_raw_leave(&agent->handle, now) : SRM_ERROR_NULL;
+}
+
+int srm_agent_hear(srm_agent *agent, const void *bytes, size_t length, uint64_t now, srm_heard *heard)
+{
+    srm_heard unread = {0};
+    if (!agent || (!bytes && length))
+        return SRM_ERROR_NULL;
+    if (length > PTRDIFF_MAX)
+        return SRM_ERROR_LENGTH;
+    return (int)srm_raw_hear(&agent->handle, bytes ? bytes : &nowhere, length, now, heard ? heard : &unread);
+}
+
+int srm_agent_tick(srm_agent *agent, uint64_t now, srm_ticked *ticked)
+{
+    srm_ticked unread = {0};
+    return agent ? (int)srm_raw_tick(&agent->handle, now, ticked ? ticked : &unread) : SRM_ERROR_NULL;
+}
+
+int srm_agent_next_datagram(srm_agent *agent, void *room, size_t size, size_t *length)
+{
+    if (!agent || !length || (!room && size))
+        return SRM_ERROR_NULL;
+    /* No datagram is longer, and a slice may not be past PTRDIFF_MAX. */
+    if (size > SRM_DATAGRAM_MAX)
+        size = SRM_DATAGRAM_MAX;
+    return (int)srm_raw_datagram(&agent->handle, room ? room : &nowhere, size, length);
+}
+
+int srm_agent_next_request(srm_agent *agent, srm_name *name)
+{
+    return agent && name ? (int)srm_raw_request(&agent->handle, name) : SRM_ERROR_NULL;
+}
+
+int srm_agent_next_repair(srm_agent *agent, srm_name *name)
+{
+    return agent && name ? (int)srm_raw_repair(&agent->handle, name) : SRM_ERROR_NULL;
+}
+
+uint64_t srm_agent_next_due(srm_agent *agent) { return agent ? srm_raw_next_due(&agent->handle) : SRM_NEVER; }
+
+int srm_agent_state(srm_agent *agent) { return agent ? srm_raw_state(&agent->handle) : 0; }
+
+int srm_agent_distance(srm_agent *agent, unsigned member, uint64_t *distance)
+{
+    if (!agent || !distance)
+        return SRM_ERROR_NULL;
+    if (member >= SRM_MEMBERS_MAX)
+        return SRM_ERROR_MEMBER;
+    return (int)srm_raw_distance(&agent->handle, (uint8_t)member, distance);
+}
+
+int srm_agent_give(srm_agent *agent, unsigned slot, srm_message *message)
+{
+    srm_raw_message raw = {0};
+    if (!agent || !message)
+        return SRM_ERROR_NULL;
+    if (slot >= SRM_SLOTS)
+        return SRM_ERROR_SLOT;
+    int code = (int)srm_raw_give(&agent->handle, (uint8_t)slot, message->body, sizeof message->body, &raw);
+    if (code == SRM_OK) {
+        message->stamp = raw.stamp;
+        message->length = raw.length;
+        message->name = raw.name;
+        message->kind = raw.kind;
+    }
+    return code;
+}

@@ -1,0 +1,389 @@
+/**
+ * @file srm.h
+ * @brief libsrm: one member of a session of Scalable Reliable Multicast.
+ *
+ * An agent is a state machine: it has no clock, socket, thread or global state, and calls nothing of yours. You hand in
+ * strokes, datagrams and moments; it returns datagrams to send and messages to show. The agent behind this header is proved;
+ * docs/EMBEDDING.md says what is proved and where the proof ends.
+ *
+ * @code
+ *     srm_config config;
+ *     srm_config_default(&config);
+ *     config.me = 0;
+ *     config.members = 2;
+ *     config.session = 7;
+ *
+ *     srm_agent *agent;
+ *     if (srm_agent_new(&agent, &config, seed, now) != SRM_OK) ..
+ *     if (srm_agent_draw(agent, SRM_FIRST_PAGE, "a line", 6, now, NULL) != SRM_OK) ..
+ *
+ *     // One timer, set to srm_agent_next_due(agent) after each call. When it expires:
+ *     if (srm_agent_tick(agent, now, NULL) != SRM_OK) ..
+ *     while (srm_agent_next_datagram(agent, room, sizeof room, &length) == SRM_OK)
+ *         send_to_all_others(room, length);
+ *     // When a datagram comes:
+ *     if (srm_agent_hear(agent, bytes, length, now, NULL) != SRM_OK) ..
+ *     // After each of these calls, for each slot from 0 to 7:
+ *     while (srm_agent_give(agent, slot, &message) == SRM_OK) ..
+ * @endcode
+ *
+ * @par Units
+ * A moment is microseconds of the caller's own clock, from any beginning, at most ::SRM_MOMENT_MAX. Members' clocks need not
+ * agree. A moment below the last one that counted counts as the last, so a clock that steps back does no harm.
+ *
+ * @par What calls return
+ * ::SRM_OK, or another value of ::srm_code. A call that returns anything else changed nothing: neither the agent nor what it
+ * would have written, unless the call says otherwise. What other members send is never an error.
+ *
+ * @par Ownership
+ * srm_agent_new() makes an agent, srm_agent_free() ends it, and in between it belongs to the caller. No call keeps a pointer that it
+ * was passed, and none returns a pointer into the agent: what comes out is copied into memory of the caller's.
+ *
+ * @par Threads
+ * An agent may move from thread to thread, but one call of it runs at a time: use a lock where several threads share it.
+ * srm_agent_next_due(), srm_agent_state() and the other calls that only ask count as calls too. Different agents share nothing and
+ * may be used at once. No call may come from a signal handler, or from the child of a fork in a process with threads.
+ *
+ * @par Rules that a caller may break
+ * A NULL pointer, a moment past ::SRM_MOMENT_MAX, a slot past 7, a member past 31, a page that is not there, a room that is too
+ * short and a length past PTRDIFF_MAX are refused with a code. C cannot see, and so no call tests: a pointer to something else, an agent
+ * after srm_agent_free(), memory that is shorter than the length says, pointers of one call that overlap, two calls of one agent at once.
+ *
+ * @par Memory
+ * comes from malloc, realloc and free. Where it is refused the call returns ::SRM_ERROR_MEMORY. Make the same call again later, or let
+ * it be: a datagram that is not heard counts as lost, a tick stays due, and a message is still to be given.
+ */
+#ifndef SRM_H
+#define SRM_H
+
+#include <stdbool.h>
+#include <stddef.h>
+#include <stdint.h>
+
+#ifdef __cplusplus
+extern "C" {
+#endif
+
+#ifndef SRM_API
+#if defined(__GNUC__)
+#define SRM_API __attribute__((visibility("default")))
+#else
+#define SRM_API
+#endif
+#endif
+
+#if defined(__GNUC__)
+#define SRM_CHECKED __attribute__((warn_unused_result))
+#else
+#define SRM_CHECKED
+#endif
+
+/** @name Version of this header. srm_version() has that of the library that is linked.
+ * @{ */
+#define SRM_VERSION_MAJOR 0
+#define SRM_VERSION_MINOR 1
+#define SRM_VERSION_PATCH 0
+#define SRM_VERSION (SRM_VERSION_MAJOR * 10000 + SRM_VERSION_MINOR * 100 + SRM_VERSION_PATCH)
+/** @} */
+
+/** @name Limits of a session, which the format of datagrams fixes
+ * @{ */
+#define SRM_MEMBERS_MAX 32                      /**< Members of a session, numbered from 0. */
+#define SRM_SLOTS 8                             /**< Pages that a member holds, in slots 0 to 7. */
+#define SRM_BODY_MAX 1024                       /**< Bytes of a stroke. */
+#define SRM_STROKES_MAX 65536                   /**< Strokes of one member on one page, numbered from 1. */
+#define SRM_DATAGRAM_MAX 6398                   /**< Bytes of a datagram. All but session messages have at most 1,051. */
+#define SRM_MOMENT_MAX UINT64_C(281474976710656) /**< The greatest moment, in microseconds: 2^48. */
+#define SRM_DISTANCE_MAX UINT64_C(10000000)     /**< The longest distance to a member, in microseconds. */
+#define SRM_NEVER UINT64_MAX                    /**< In place of a moment: there is none. */
+/** @} */
+
+/** @name Ranges of settings
+ * @{ */
+#define SRM_RATE_MIN 1
+#define SRM_RATE_MAX 100000000
+#define SRM_DEPTH_MIN 1051
+#define SRM_DEPTH_MAX 1000000
+#define SRM_WAIT_MAX 16      /**< The greatest of the four timer settings. */
+#define SRM_DISTANCE_MIN 1   /**< The least floor under distances, which is none. */
+/** @} */
+
+/** What a call returns. 1 to 6 are the agent's faults, by their numbers; from 16 on they are of this interface. */
+enum srm_code {
+    SRM_OK = 0,
+    SRM_ERROR_LEAVING = 1,     /**< The member is leaving: it draws nothing new. */
+    SRM_ERROR_GONE = 2,        /**< The member has left. */
+    SRM_ERROR_PAGE_LIMIT = 3,  /**< The page is not in the table, and the table has no slot for another. */
+    SRM_ERROR_STREAM_FULL = 4, /**< The member drew ::SRM_STROKES_MAX strokes on the page. */
+    SRM_ERROR_BODY_LONG = 5,   /**< The stroke has more than ::SRM_BODY_MAX bytes. */
+    SRM_ERROR_MEMORY = 6,      /**< Out of memory. */
+    SRM_ERROR_NULL = 16,       /**< A pointer that is needed is NULL. */
+    SRM_ERROR_MOMENT = 17,     /**< A moment is past ::SRM_MOMENT_MAX. */
+    SRM_ERROR_SLOT = 18,       /**< A slot is past 7. */
+    SRM_ERROR_CONFIG = 19,     /**< A setting is out of its range, or `me` is not below `members`. */
+    SRM_ERROR_ROOM = 20,       /**< The room is too short. */
+    SRM_ERROR_EMPTY = 21,      /**< There is no agent: its memory is all zeroes, which no agent's is between new and free. */
+    SRM_ERROR_PAGE = 22,       /**< A page's creator is past 31, or this member has no page left to begin. */
+    SRM_NOTHING = 23,          /**< No error: there is nothing (more) to be taken. */
+    SRM_ERROR_FULL = 24,       /**< The memory of an agent is in use. No call of this header leads to it. */
+    SRM_ERROR_LENGTH = 25,     /**< A length is past PTRDIFF_MAX. */
+    SRM_ERROR_MEMBER = 26      /**< A member is past 31. */
+};
+
+/** Returns ::SRM_VERSION of the library. */
+SRM_API int srm_version(void);
+
+/** Returns the version of the library as text, as `0.1.0`. It is static. */
+SRM_API const char *srm_version_string(void);
+
+/** Returns one line of English for a code of ::srm_code, and for any other number one that says so. It is static, and never NULL. */
+SRM_API const char *srm_strerror(int code);
+
+/** A page: who began it, and its number among that member's pages. */
+typedef struct srm_page {
+    uint8_t creator; /**< 0 to 31. */
+    uint16_t number;
+} srm_page;
+
+/** The page that each member has from the start, in slot 0. */
+#ifdef __cplusplus
+#define SRM_FIRST_PAGE (srm_page{0, 0})
+#else
+#define SRM_FIRST_PAGE ((srm_page){0, 0})
+#endif
+
+/** The name of a stroke, which is never given to another. */
+typedef struct srm_name {
+    srm_page page;
+    uint8_t source;  /**< Who drew it, 0 to 31. */
+    uint32_t number; /**< Its number among the source's strokes on the page, from 1. */
+} srm_name;
+
+/**
+ * The settings of a member. Fill it with srm_config_default(), then set `me`, `members` and `session`, and what else is to differ.
+ *
+ * A later version may add fields at the end. `size` says which fields the caller's header has: the library takes defaults for
+ * those behind it.
+ */
+typedef struct srm_config {
+    uint32_t size;           /**< sizeof(srm_config), as srm_config_default() writes it. */
+    uint32_t session;        /**< The session's number, which all its datagrams carry. */
+    uint32_t rate;           /**< Bytes a second that may be sent, ::SRM_RATE_MIN to ::SRM_RATE_MAX; by default 8,000. */
+    uint32_t depth;          /**< Bytes of the token bucket, ::SRM_DEPTH_MIN to ::SRM_DEPTH_MAX; by default 4,204. */
+    uint8_t me;              /**< This member, below `members`; by default 0. */
+    uint8_t members;         /**< How many members there are, 1 to ::SRM_MEMBERS_MAX; by default 1. */
+    uint8_t c1;              /**< A request waits at least so many distances, 0 to ::SRM_WAIT_MAX; by default 2. */
+    uint8_t c2;              /**< And so many more at most, 0 to ::SRM_WAIT_MAX; by default 2. */
+    uint8_t d1;              /**< A repair waits at least so many distances, 0 to ::SRM_WAIT_MAX; by default 1. */
+    uint8_t d2;              /**< And so many more at most, 0 to ::SRM_WAIT_MAX; by default 1. */
+    uint64_t least_distance; /**< A distance to another member counts as at least so many microseconds, ::SRM_DISTANCE_MIN to
+                                  ::SRM_DISTANCE_MAX; by default 1, which is no floor. 5,000 suits members on one machine. */
+} srm_config;
+
+/** The size of an srm_config that ends before `least_distance`. `size` is this or sizeof(srm_config). */
+#define SRM_CONFIG_SIZE_MIN 24
+
+/** Writes the defaults into `size` bytes: member 0 of 1 in session 0. `config->size` becomes how many of them the library knows; bytes
+ * behind those become 0. NULL is passed over, and so is a `size` below ::SRM_CONFIG_SIZE_MIN. */
+SRM_API void srm_config_init(srm_config *config, size_t size);
+
+/** Writes the defaults into an srm_config. NULL is passed over. */
+#define srm_config_default(config) srm_config_init((config), sizeof(srm_config))
+
+/** One member of a session. Its memory belongs to the library. */
+typedef struct srm_agent srm_agent;
+
+/**
+ * Makes an agent at a moment, and writes it to `*agent`; on an error that is NULL. It shows the first page, which it has in slot 0.
+ *
+ * Members choose their waits by their seeds. Give each another, or they ask and answer all at once.
+ *
+ * @param[out] agent  the agent, which the caller ends with srm_agent_free()
+ * @param config      the settings, which are copied
+ * @param seed        any number
+ * @param now         the moment, in microseconds
+ * @return ::SRM_OK; ::SRM_ERROR_NULL where `agent` or `config` is NULL; ::SRM_ERROR_CONFIG where `size`, or a setting, is out of its
+ *         range, or `me` is not below `members`; ::SRM_ERROR_MOMENT; ::SRM_ERROR_MEMORY
+ */
+SRM_CHECKED SRM_API int srm_agent_new(srm_agent **agent, const srm_config *config, uint64_t seed, uint64_t now);
+
+/** Ends an agent, whatever its state, and frees all that it holds. It sends nothing: to take leave of the others call srm_agent_leave() and tick
+ * until srm_agent_state() is ::SRM_GONE. NULL is passed over. */
+SRM_API void srm_agent_free(srm_agent *agent);
+
+/**
+ * Draws a stroke on a page, which enters the page table if it is not there. A later tick sends it, when the rate lets it go.
+ *
+ * @param agent      the agent
+ * @param page       the page
+ * @param body       the stroke's bytes, which are copied; may be NULL where `length` is 0
+ * @param length     how many there are, at most ::SRM_BODY_MAX
+ * @param now        the moment, in microseconds
+ * @param[out] name  the stroke's name; may be NULL
+ * @return ::SRM_OK, or the first of these that holds: ::SRM_ERROR_NULL; ::SRM_ERROR_LENGTH; ::SRM_ERROR_MOMENT; ::SRM_ERROR_PAGE where the
+ *         page's creator is past 31; ::SRM_ERROR_EMPTY; ::SRM_ERROR_GONE; ::SRM_ERROR_LEAVING; ::SRM_ERROR_BODY_LONG; ::SRM_ERROR_PAGE_LIMIT;
+ *         ::SRM_ERROR_STREAM_FULL; ::SRM_ERROR_MEMORY, which may also come in place of any of the five before it
+ */
+SRM_CHECKED SRM_API int srm_agent_draw(srm_agent *agent, srm_page page, const void *body, size_t length, uint64_t now, srm_name *name);
+
+/** Returns whether a stroke of `length` bytes, drawn at this moment, would have to wait for no other: nothing waits that goes before it, or the
+ * bucket covers all of that and the stroke. False where `agent` is NULL. It does not say whether the draw is refused. More than ::SRM_BODY_MAX
+ * bytes count as so many. */
+SRM_API bool srm_agent_admits(srm_agent *agent, size_t length, uint64_t now);
+
+/** Returns from which moment on srm_agent_admits() is true for a stroke of `length` bytes, if no other call comes before. It may be past
+ * ::SRM_MOMENT_MAX. ::SRM_NEVER where something else has to go first, of which srm_agent_next_due() tells when, or `agent` is NULL. */
+SRM_API uint64_t srm_agent_admits_from(srm_agent *agent, size_t length);
+
+/**
+ * Writes the page of this member's own that it would begin next. The page enters the table when it is drawn on or shown.
+ *
+ * @return ::SRM_OK; ::SRM_ERROR_NULL; ::SRM_ERROR_EMPTY; ::SRM_ERROR_PAGE where the table is full or the member began 65,536 pages
+ */
+SRM_CHECKED SRM_API int srm_agent_new_page(srm_agent *agent, srm_page *page);
+
+/**
+ * Shows a page, which enters the page table if it is not there. Repairs and requests for the page shown go first.
+ *
+ * @return ::SRM_OK, or the first of these that holds: ::SRM_ERROR_NULL; ::SRM_ERROR_MOMENT; ::SRM_ERROR_PAGE where the page's creator is past
+ *         31; ::SRM_ERROR_EMPTY; ::SRM_ERROR_GONE; ::SRM_ERROR_PAGE_LIMIT; ::SRM_ERROR_MEMORY
+ */
+SRM_CHECKED SRM_API int srm_agent_show(srm_agent *agent, srm_page page, uint64_t now);
+
+/**
+ * Begins to leave: the member draws nothing new, and once all that it drew was sent, a tick sends its farewell and it is gone.
+ *
+ * @return ::SRM_OK, or the first of these that holds: ::SRM_ERROR_NULL; ::SRM_ERROR_MOMENT; ::SRM_ERROR_EMPTY; ::SRM_ERROR_GONE;
+ *         ::SRM_ERROR_LEAVING
+ */
+SRM_CHECKED SRM_API int srm_agent_leave(srm_agent *agent, uint64_t now);
+
+/** Why a datagram was ignored. Nothing but the last moment changed then. */
+enum srm_cause {
+    SRM_TAKEN = 0,              /**< It was taken. */
+    SRM_CAUSE_OWN = 1,          /**< This member sent it. */
+    SRM_CAUSE_GONE = 2,         /**< This member has left. */
+    SRM_CAUSE_CONFLICT = 3,     /**< It has another stroke under a name that is held. */
+    SRM_CAUSE_PAGE_LIMIT = 4,   /**< It names more pages than the table has slots left. */
+    SRM_CAUSE_BEYOND_FINAL = 5, /**< It names a stroke past the last of a member that left, or of this member's own. */
+    SRM_CAUSE_DECODE = 6,       /**< It is no datagram of this session. */
+    SRM_CAUSE_STRANGER = 7      /**< Its sender, or a source that it names, is not below `members`. */
+};
+
+/** What became of a datagram. */
+typedef struct srm_heard {
+    size_t timers; /**< How many timers it set. */
+    uint8_t cause; /**< One of ::srm_cause. */
+    uint8_t fault; /**< Where `cause` is ::SRM_CAUSE_DECODE, what is wrong with the bytes, 1 to 11 as in docs/PROFILE.md; else 0. */
+} srm_heard;
+
+/**
+ * Hears bytes that came from the network, whatever they are.
+ *
+ * @param agent       the agent
+ * @param bytes       a datagram, which may be any bytes; may be NULL where `length` is 0
+ * @param length      how many there are
+ * @param now         the moment, in microseconds
+ * @param[out] heard  what became of it; may be NULL
+ * @return ::SRM_OK, also where it is ignored; ::SRM_ERROR_NULL; ::SRM_ERROR_LENGTH; ::SRM_ERROR_MOMENT; ::SRM_ERROR_EMPTY; ::SRM_ERROR_MEMORY, which
+ *         only a datagram of this session can meet
+ */
+SRM_CHECKED SRM_API int srm_agent_hear(srm_agent *agent, const void *bytes, size_t length, uint64_t now, srm_heard *heard);
+
+/** Whether a member takes part. It never goes back. */
+enum srm_state {
+    SRM_ACTIVE = 1,  /**< It draws, asks and repairs. */
+    SRM_LEAVING = 2, /**< It draws nothing new, but asks, repairs and sends what waits. */
+    SRM_GONE = 3     /**< It sent its farewell. It hears and sends nothing. */
+};
+
+/** What a tick did. */
+typedef struct srm_ticked {
+    size_t requests;  /**< Strokes that it asked for, which srm_agent_next_request() names. */
+    size_t repairs;   /**< Strokes that it repaired, which srm_agent_next_repair() names. */
+    size_t datagrams; /**< Datagrams to send, which srm_agent_next_datagram() copies. */
+    uint8_t state;    /**< One of ::srm_state, after the tick. */
+} srm_ticked;
+
+/**
+ * Does what is due. A tick that is early does nothing, and one that is late does all that is due by then.
+ *
+ * What an earlier tick left and was not taken is dropped, as if lost on its way: take all datagrams before the next tick. Where this tick
+ * is refused, it stays.
+ *
+ * @param agent        the agent
+ * @param now          the moment, in microseconds
+ * @param[out] ticked  what it did; may be NULL
+ * @return ::SRM_OK; ::SRM_ERROR_NULL; ::SRM_ERROR_MOMENT; ::SRM_ERROR_EMPTY; ::SRM_ERROR_MEMORY, which only a tick with something to do can meet
+ */
+SRM_CHECKED SRM_API int srm_agent_tick(srm_agent *agent, uint64_t now, srm_ticked *ticked);
+
+/**
+ * Takes the next datagram that the last tick left to be sent, and copies it to the front of `room`. Send it to all other members, once.
+ *
+ * Where it does not fit, nothing is copied, it stays the next, and `*length` says how many bytes it takes. A room of
+ * ::SRM_DATAGRAM_MAX bytes always does.
+ *
+ * @param agent        the agent
+ * @param[out] room    where it goes; may be NULL where `size` is 0
+ * @param size         bytes of `room`
+ * @param[out] length  how many bytes the datagram has
+ * @return ::SRM_OK; ::SRM_ERROR_NULL; ::SRM_ERROR_EMPTY; ::SRM_NOTHING; ::SRM_ERROR_ROOM, and then `*length` is written too
+ */
+SRM_CHECKED SRM_API int srm_agent_next_datagram(srm_agent *agent, void *room, size_t size, size_t *length);
+
+/** Takes the next name that the last tick asked for, in order; for logs alone.
+ * @return ::SRM_OK; ::SRM_ERROR_NULL; ::SRM_ERROR_EMPTY; ::SRM_NOTHING */
+SRM_CHECKED SRM_API int srm_agent_next_request(srm_agent *agent, srm_name *name);
+
+/** Takes the next name that the last tick repaired, in order; for logs alone.
+ * @return ::SRM_OK; ::SRM_ERROR_NULL; ::SRM_ERROR_EMPTY; ::SRM_NOTHING */
+SRM_CHECKED SRM_API int srm_agent_next_repair(srm_agent *agent, srm_name *name);
+
+/** Returns the next moment at which a tick does something. Ask again after each other call, since any may change it. It may be past
+ * ::SRM_MOMENT_MAX: then no tick comes to it. ::SRM_NEVER where the member is gone, or `agent` is NULL. */
+SRM_API uint64_t srm_agent_next_due(srm_agent *agent);
+
+/** Returns whether the member takes part, one of ::srm_state; 0 where `agent` is NULL. */
+SRM_API int srm_agent_state(srm_agent *agent);
+
+/**
+ * Writes the one-way distance to a member in microseconds, by which timers wait: 0 to this member itself, to another from the floor to
+ * ::SRM_DISTANCE_MAX. Before an echo from a member was heard it is 100,000, or the floor where that is more.
+ *
+ * @return ::SRM_OK; ::SRM_ERROR_NULL; ::SRM_ERROR_MEMBER where `member` is past 31; ::SRM_ERROR_EMPTY
+ */
+SRM_CHECKED SRM_API int srm_agent_distance(srm_agent *agent, unsigned member, uint64_t *distance);
+
+/** What a message of a page's feed is. */
+enum srm_message_kind {
+    SRM_MESSAGE_OPEN = 1, /**< `name.page` is the slot's page. It comes first. */
+    SRM_MESSAGE_DRAW = 2, /**< The next stroke of its source: `name`, `stamp`, `length`, `body`. */
+    SRM_MESSAGE_LEFT = 3, /**< `name.source` left, and all that it drew on the page was given. */
+    SRM_MESSAGE_CLOSE = 4 /**< Nothing more comes. */
+};
+
+/** A message of a page's feed. Fields that its kind does not speak of are 0; of `body` only the first `length` bytes are written. */
+typedef struct srm_message {
+    uint64_t stamp; /**< The moment at which the stroke was drawn, by its source's clock. */
+    size_t length;  /**< Bytes of the stroke. */
+    srm_name name;
+    uint8_t kind; /**< One of ::srm_message_kind. */
+    uint8_t body[SRM_BODY_MAX];
+} srm_message;
+
+/**
+ * Takes the next message of a slot. Of each source the strokes come in order, each once.
+ *
+ * @param agent         the agent
+ * @param slot          0 to 7
+ * @param[out] message  the message
+ * @return ::SRM_OK; ::SRM_ERROR_NULL; ::SRM_ERROR_SLOT; ::SRM_ERROR_EMPTY; ::SRM_NOTHING; ::SRM_ERROR_MEMORY, and then the message is still to come
+ */
+SRM_CHECKED SRM_API int srm_agent_give(srm_agent *agent, unsigned slot, srm_message *message);
+
+#ifdef __cplusplus
+}
+#endif
+
+#endif /* SRM_H */

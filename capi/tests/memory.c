@@ -1,0 +1,150 @@
+/* A session of two members with the Nth allocation refused, for each N: the call that meets it returns SRM_ERROR_MEMORY and changes nothing, so
+ * made again it goes on, and at the end the same was sent and given as undisturbed; nothing is leaked. Linked with --wrap for each of
+ * malloc, calloc, realloc and free. */
+#include "check.h"
+
+/* How many allocations go well before one is refused (below 0: none is), and how many blocks are held. */
+static long before_refusal = -1, held;
+
+void *__real_malloc(size_t);
+void *__real_calloc(size_t, size_t);
+void *__real_realloc(void *, size_t);
+void __real_free(void *);
+
+static int refuses(void) { return before_refusal >= 0 && before_refusal-- == 0; }
+
+void *__wrap_malloc(size_t size)
+{
+    void *at = refuses() ? NULL : __real_malloc(size);
+    held += at != NULL;
+    return at;
+}
+
+void *__wrap_calloc(size_t count, size_t size)
+{
+    void *at = refuses() ? NULL : __real_calloc(count, size);
+    held += at != NULL;
+    return at;
+}
+
+void *__wrap_realloc(void *old, size_t size)
+{
+    void *at = refuses() ? NULL : __real_realloc(old, size);
+    held += !old && at;
+    return at;
+}
+
+void __wrap_free(void *at)
+{
+    held -= at != NULL;
+    __real_free(at);
+}
+
+static long refusals;
+static uint64_t told;
+
+static void tell(const void *bytes, size_t length)
+{
+    for (size_t i = 0; i < length; i++)
+        told = told * 31 + ((const unsigned char *)bytes)[i];
+}
+
+/* What a call returns that is made until memory isn't refused. */
+#define AGAIN(code, call)                         \
+    do {                                          \
+        while ((code = (call)) == SRM_ERROR_MEMORY) \
+            refusals++;                           \
+    } while (0)
+
+static void must(int code, const char *what)
+{
+    if (code != SRM_OK) {
+        printf("memory: %s: %s\n", what, srm_strerror(code));
+        exit(1);
+    }
+}
+
+static void give_all(srm_agent *agent)
+{
+    srm_message message;
+    int code;
+    for (unsigned slot = 0; slot < SRM_SLOTS; slot++) {
+        for (;;) {
+            AGAIN(code, srm_agent_give(agent, slot, &message));
+            if (code != SRM_OK)
+                break;
+            tell(&message.kind, 1);
+            tell(&message.name.number, sizeof message.name.number);
+            tell(message.body, message.length);
+        }
+        if (code != SRM_NOTHING)
+            must(code, "give");
+    }
+}
+
+/* Two members draw, lose, ask, repair and leave; what they send and give is told. */
+static void play(void)
+{
+    srm_agent *members[2];
+    int code, lost = 0;
+    for (uint8_t me = 0; me < 2; me++) {
+        srm_config config = config_of(me, 2);
+        AGAIN(code, srm_agent_new(&members[me], &config, me, 0));
+        must(code, "join");
+    }
+    for (int stroke = 0; stroke < 6; stroke++) {
+        char body[40];
+        int length = snprintf(body, sizeof body, "stroke %d of a longer text", stroke);
+        AGAIN(code, srm_agent_draw(members[stroke % 2], (srm_page){0, (uint16_t)(stroke / 4)}, body, (size_t)length, 0, NULL));
+        must(code, "draw");
+    }
+    AGAIN(code, srm_agent_show(members[1], (srm_page){0, 1}, 0));
+    must(code, "show");
+    uint64_t now = 0;
+    while (now < 4000000) {
+        for (int from = 0; from < 2; from++) {
+            uint8_t room[SRM_DATAGRAM_MAX];
+            size_t length;
+            AGAIN(code, srm_agent_tick(members[from], now, NULL));
+            must(code, "tick");
+            while (srm_agent_next_datagram(members[from], room, sizeof room, &length) == SRM_OK) {
+                tell(room, length);
+                if (lost++ % 3 == 1)
+                    continue;
+                AGAIN(code, srm_agent_hear(members[!from], room, length, now, NULL));
+                must(code, "hear");
+            }
+            give_all(members[from]);
+        }
+        if (now >= 3000000 && srm_agent_state(members[0]) == SRM_ACTIVE) {
+            AGAIN(code, srm_agent_leave(members[0], now));
+            must(code, "leave");
+        }
+        uint64_t a = srm_agent_next_due(members[0]), b = srm_agent_next_due(members[1]);
+        now = a < b ? a : b;
+    }
+    give_all(members[0]);
+    give_all(members[1]);
+    srm_agent_free(members[0]);
+    srm_agent_free(members[1]);
+}
+
+int main(void)
+{
+    long before = held;
+    play();
+    uint64_t wanted = told;
+    WANT(held, before);
+    long count = 0;
+    for (;; count++) {
+        told = 0;
+        before_refusal = count;
+        play();
+        if (told != wanted || held != before)
+            printf("memory: with allocation %ld refused: %s, %ld blocks left\n", count, told == wanted ? "the same" : "something else", held - before), failures++;
+        if (before_refusal >= 0)
+            break;
+    }
+    printf("%ld allocations refused in turn, %ld calls made again\n", count, refusals);
+    return failures != 0 || !refusals;
+}

@@ -1,0 +1,4 @@
+pub mod Codes
+pub mod Shapes
+pub mod Calls
+pub mod Examples

@@ -1,0 +1,71 @@
+//! Giving the messages of a slot.
+
+ghost use Rattle.std.specs.Prelude.{◌≡◌, ◌≤◌, ◌<◌, length};
+ghost use Rattle.srm_names.specs.declared.limits.TheConstants.{LONGEST_BODY, PAGES};
+ghost use Rattle.srm_seat.specs.Calls.{laid_over};
+ghost use Rattle.srm_ffi.specs.declared.codes.TheConstants.{ROOM, SLOT};
+ghost use Rattle.srm_ffi.specs.Shapes.{body_of};
+ghost use Rattle.srm_ffi.specs.Calls.{GiveCall, IsRefused, TellsMessage};
+
+use crate::codes::{DONE, EMPTY, NOTHING, ROOM, SLOT, of_fault};
+use crate::shapes::RawMessage;
+use srm_agent::AgentFault;
+use srm_names::{LONGEST_BODY, PAGES, PageMsg};
+use srm_seat::{Handle, lay_over};
+use std::alloc::Global;
+
+/// Takes the next message of a slot, 0 to 7, writes it, and copies its body, if it has one, to the front of the room, which is to hold the longest
+/// body.
+#[unsafe(no_mangle)]
+pub extern "C" fn srm_raw_give(
+    alloc: Global,
+    handle: &mut Handle,
+    slot: u8,
+    room: &mut [u8],
+    message: &mut RawMessage,
+) -> u32
+    ensures no_slot { PAGES ≤ slot → IsRefused SLOT result handle.old.value handle.new.value × (room.new ≡ room.old) × (message.new ≡ message.old) }
+    ensures short { slot < PAGES → length room.old < LONGEST_BODY → IsRefused ROOM result handle.old.value handle.new.value × (room.new ≡ room.old) × (message.new ≡ message.old) }
+    ensures gives { slot < PAGES → LONGEST_BODY ≤ length room.old → GiveCall slot result room.old room.new message.old message.new handle.old.value handle.new.value }
+{
+    if slot >= PAGES {
+        return SLOT;
+    }
+    if room.len() < usize::from(LONGEST_BODY) {
+        return ROOM;
+    }
+    let Some(mut seat) = handle.take(alloc) else {
+        return EMPTY;
+    };
+    let answer = seat.give(slot);
+    handle.put(seat);
+    tell_message(&answer, room, message)
+}
+
+fn tell_message(
+    answer: &Result<Option<PageMsg>, AgentFault>,
+    room: &mut [u8],
+    to: &mut RawMessage,
+) -> u32
+    ensures { TellsMessage answer.now result room.old room.new to.old to.new }
+{
+    match answer {
+        Ok(Some(message)) => {
+            *to = RawMessage::of(message);
+            copy_body(message, room);
+            DONE
+        }
+        Ok(None) => NOTHING,
+        Err(fault) => of_fault(*fault),
+    }
+}
+
+/// Copies the body of a message to the front of the room, if it has one and that fits. Every body of a session does.
+fn copy_body(message: &PageMsg, room: &mut [u8])
+    ensures { room.new ≡ laid_over (body_of message.now) room.old }
+{
+    match message {
+        PageMsg::Draw(drawop) => lay_over(drawop.body.as_slice(), room),
+        _ => {}
+    }
+}

@@ -1,0 +1,176 @@
+//! What crosses to C, in C's layout: `capi/srm.h` says the same, and `capi/srm.c` compares sizes and places.
+
+ghost use Rattle.std.specs.Prelude.{◌≡◌, ◌↔◌, IfSome, IsSome};
+ghost use Rattle.srm_entries.specs.Configs.{IsConfig};
+ghost use Rattle.srm_ffi.specs.Shapes.{config_of, raw_heard, raw_message, raw_name, raw_page, raw_ticked};
+
+use crate::codes::{cause_of, decode_fault_of, of_state};
+use srm_agent::{Config, Heard, Settings};
+use srm_names::{Member, Name, Page, PageMsg};
+use srm_seat::TickCounts;
+
+/// A page.
+#[repr(C)]
+#[derive(Clone, Copy)]
+pub struct RawPage {
+    pub creator: u8,
+    pub number: u16,
+}
+
+/// The name of a drawop.
+#[repr(C)]
+#[derive(Clone, Copy)]
+pub struct RawName {
+    pub page: RawPage,
+    pub source: u8,
+    pub number: u32,
+}
+
+/// The settings of a member. C says in `size` how many bytes of it there are, and fills the rest with defaults.
+#[repr(C)]
+#[derive(Clone, Copy)]
+pub struct RawConfig {
+    pub size: u32,
+    pub session: u32,
+    pub rate: u32,
+    pub depth: u32,
+    pub me: u8,
+    pub members: u8,
+    pub c1: u8,
+    pub c2: u8,
+    pub d1: u8,
+    pub d2: u8,
+    pub least_distance: u64,
+}
+
+/// What became of bytes that were heard.
+#[repr(C)]
+#[derive(Clone, Copy)]
+pub struct RawHeard {
+    pub timers: usize,
+    pub cause: u8,
+    pub fault: u8,
+}
+
+/// What a tick left to be taken.
+#[repr(C)]
+#[derive(Clone, Copy)]
+pub struct RawTicked {
+    pub requests: usize,
+    pub repairs: usize,
+    pub datagrams: usize,
+    pub state: u8,
+}
+
+/// A message of a page feed, but for its body.
+#[repr(C)]
+#[derive(Clone, Copy)]
+pub struct RawMessage {
+    pub stamp: u64,
+    pub length: usize,
+    pub name: RawName,
+    pub kind: u8,
+}
+
+impl RawConfig {
+    /// The settings, if each is in its range and the member in the roster.
+    pub fn config(&self) -> Option<Config>
+        ensures known { IsSome result ↔ IsConfig (config_of self.now) }
+        ensures value { IfSome result (λ config. config ≡ config_of self.now) }
+    {
+        let me = Member::new(self.me)?;
+        let settings = Settings {
+            rate: self.rate,
+            depth: self.depth,
+            c1: self.c1,
+            c2: self.c2,
+            d1: self.d1,
+            d2: self.d2,
+            least_distance: self.least_distance,
+        };
+        Config::with(me, self.members, self.session, settings)
+    }
+}
+
+impl RawPage {
+    pub fn of(page: Page) -> RawPage
+        ensures { result ≡ raw_page page }
+    {
+        RawPage {
+            creator: page.creator.number(),
+            number: page.number,
+        }
+    }
+}
+
+impl RawName {
+    pub fn of(name: Name) -> RawName
+        ensures { result ≡ raw_name name }
+    {
+        RawName {
+            page: RawPage::of(name.stream().page),
+            source: name.source().number(),
+            number: name.number(),
+        }
+    }
+}
+
+impl RawHeard {
+    pub fn of(heard: &Heard) -> RawHeard
+        ensures { result ≡ raw_heard heard.now }
+    {
+        RawHeard {
+            timers: heard.arms.as_slice().len(),
+            cause: cause_of(heard.outcome),
+            fault: decode_fault_of(heard.outcome),
+        }
+    }
+}
+
+impl RawTicked {
+    pub fn of(counts: &TickCounts) -> RawTicked
+        ensures { result ≡ raw_ticked counts.now }
+    {
+        RawTicked {
+            requests: counts.requests,
+            repairs: counts.repairs,
+            datagrams: counts.datagrams,
+            state: of_state(counts.state),
+        }
+    }
+}
+
+impl RawMessage {
+    pub fn of(message: &PageMsg) -> RawMessage
+        ensures { result ≡ raw_message message.now }
+    {
+        match message {
+            PageMsg::Open(page) => RawMessage::without_body(1, RawPage::of(*page), 0),
+            PageMsg::Draw(drawop) => RawMessage {
+                stamp: drawop.stamp,
+                length: drawop.body.len(),
+                name: RawName::of(drawop.name),
+                kind: 2,
+            },
+            PageMsg::Left(source) => {
+                RawMessage::without_body(3, RawPage::of(Page::first()), source.number())
+            }
+            PageMsg::Close => RawMessage::without_body(4, RawPage::of(Page::first()), 0),
+        }
+    }
+
+    fn without_body(kind: u8, page: RawPage, source: u8) -> RawMessage
+        ensures { result ≡ record { stamp = 0; length = 0; name = record { page = page; source = source; number = 0 }; kind = kind } }
+    {
+        RawMessage {
+            stamp: 0,
+            length: 0,
+            name: RawName {
+                page,
+                source,
+                number: 0,
+            },
+            kind,
+        }
+    }
+}

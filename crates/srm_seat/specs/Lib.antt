@@ -1,0 +1,5 @@
+pub mod Held
+pub mod Seats
+pub mod Asking
+pub mod Calls
+pub mod Examples
