@@ -1,6 +1,7 @@
 /* A session of two members with the Nth allocation refused, for each N: the call that meets it returns SRM_ERROR_MEMORY and changes nothing, so
- * made again it goes on, and at the end the same was sent and given as undisturbed; nothing is leaked. Linked with --wrap for each of
- * malloc, calloc, realloc and free. */
+ * made again it goes on, and at the end the same was sent and given as undisturbed; nothing is leaked. One refusal no call tells of: a list
+ * that is collected asks for all its room at first, and where that is refused grows by its elements. Linked with --wrap for each of malloc,
+ * calloc, realloc and free. */
 #include "check.h"
 
 /* How many allocations go well before one is refused (below 0: none is), and how many blocks are held. */
