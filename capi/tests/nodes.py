@@ -44,7 +44,7 @@ class Relay(threading.Thread):
 
 
 def taken(told):
-    """The strokes that a member took, by source and number, and of which sources it took that they left."""
+    """The strokes that a member took, by source and number, and the sources whose leaving it took."""
     strokes = {(int(source), int(number)): text for source, number, text in re.findall(r"^took \d 0 draw (\d) (\d+) (.*)$", told, re.M)}
     return strokes, "gone" in told
 
