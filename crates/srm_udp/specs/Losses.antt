@@ -1,20 +1,57 @@
--- Which answers of the system are loss and no failure.
-use Rattle.std.specs.Prelude.{◌≡◌, ◌⊎◌, ℤ, pos, true, false, Bool, List, [], ◌∷◌, Option, Some, None}
+-- Which answers of the system are loss and no failure, and how many there were of each kind.
+use Rattle.std.specs.Prelude.{◌≡◌, ℤ, pos, if◌then◌else◌, Bool, List, [], ◌∷◌, Option, Some, None}
 use Rattle.std.specs.List.{list_any}
 use Rattle.std.specs.IoError.{error_kind, raw_os_error}
 use Rattle.std.specs.Ordering.{int_eq}
 use Rattle.std.specs.declared.io.Error.{Error}
+use Rattle.std.specs.declared.io.ErrorKind.{ErrorKind}
 use Rattle.std.specs.declared.io.ErrorKind.TheVariants.{WouldBlock, ConnectionRefused}
+use Rattle.srm_wire.specs.Wires.{one_more}
+use Rattle.srm_udp.specs.declared.loss.Loss.{Loss}
+use Rattle.srm_udp.specs.declared.loss.Loss.TheVariants.{NoWay, Denied, TooLong, NoRoom, PortClosed}
+use Rattle.srm_udp.specs.declared.loss.Losses.{Losses}
 
--- By these numbers Linux says that a datagram didn't go its way: it isn't allowed to, as a firewall has it (1, 13), it is too long for the way (90), the
--- network or the host is down, or there is no way to it (100, 101, 112, 113), or there is no room for it (105).
-abbrev pub numbers_of_loss : List ℤ
-numbers_of_loss = pos 1 ∷ pos 13 ∷ pos 90 ∷ pos 100 ∷ pos 101 ∷ pos 105 ∷ pos 112 ∷ pos 113 ∷ []
+-- By these numbers Linux says that a datagram didn't go its way: the network or the host is down, or there is no way to it (100, 101, 112, 113), it isn't allowed
+-- to go, as a firewall has it (1, 13), it is too long for the way (90), or there is no room for it (105).
+abbrev pub numbers_of_no_way : List ℤ
+numbers_of_no_way = pos 100 ∷ pos 101 ∷ pos 112 ∷ pos 113 ∷ []
 
-abbrev pub is_number_of_loss : Option ℤ → Bool
-is_number_of_loss None = false
-is_number_of_loss (Some number) = list_any (int_eq number) numbers_of_loss
+abbrev pub numbers_of_denial : List ℤ
+numbers_of_denial = pos 1 ∷ pos 13 ∷ []
 
--- the socket has no room for a datagram, nobody is at the port that one went to, or one of these
+abbrev pub is_one_of : List ℤ → ℤ → Bool
+is_one_of numbers number = list_any (int_eq number) numbers
+
+abbrev pub loss_by_number : Option ℤ → Option Loss
+loss_by_number None = None
+loss_by_number (Some number) =
+    if is_one_of numbers_of_no_way number then Some NoWay
+    else if is_one_of numbers_of_denial number then Some Denied
+    else if int_eq number (pos 90) then Some TooLong
+    else if int_eq number (pos 105) then Some NoRoom
+    else None
+
+-- the socket has no room for a datagram, nobody is at the port that one went to, or what a number says
+abbrev pub loss_by : ErrorKind → Option ℤ → Option Loss
+loss_by WouldBlock _ = Some NoRoom
+loss_by ConnectionRefused _ = Some PortClosed
+loss_by _ number = loss_by_number number
+
+abbrev pub loss_of : Error → Option Loss
+loss_of e = loss_by (error_kind e) (raw_os_error e)
+
+-- the error tells a loss of some kind
 abbrev pub IsLoss : Error → Type 0
-IsLoss e = (error_kind e ≡ WouldBlock) ⊎ (error_kind e ≡ ConnectionRefused) ⊎ (is_number_of_loss (raw_os_error e) ≡ true)
+IsLoss e = (kind : Loss) × (loss_of e ≡ Some kind)
+
+-- nothing was lost yet
+abbrev pub no_losses : Losses
+no_losses = record { no_way = 0; denied = 0; too_long = 0; no_room = 0; port_closed = 0 }
+
+-- one more of a kind, up to the greatest number of 64 bits
+abbrev pub with_loss : Loss → Losses → Losses
+with_loss NoWay l = record l { no_way = one_more l.no_way }
+with_loss Denied l = record l { denied = one_more l.denied }
+with_loss TooLong l = record l { too_long = one_more l.too_long }
+with_loss NoRoom l = record l { no_room = one_more l.no_room }
+with_loss PortClosed l = record l { port_closed = one_more l.port_closed }

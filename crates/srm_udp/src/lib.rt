@@ -6,8 +6,8 @@
 //! let clock = SystemClock::new(rt)?;
 //! ```
 //!
-//! **What fails.** A `send` or `receive` for which the system answers an error, but for those of [`is_loss`]: what these lose is lost as on
-//! any way, and is requested again. So a member that ends, and whose port is closed then, ends no other.
+//! **What fails.** A `send` or `receive` that the system answers with an error, but for those of [`loss_of`]: what these lose is lost as on
+//! any way, and is requested again. So a member that ends, and whose port is closed then, ends no other. [`UdpWire::losses`] has how many there were of each kind.
 #![tactic(auto)]
 
 mod loss;
@@ -17,7 +17,7 @@ mod tests;
 mod udp_wire;
 mod wire_waker;
 
-pub use loss::is_loss;
+pub use loss::{Loss, Losses, is_loss, loss_of};
 pub use system_clock::SystemClock;
 pub use udp_wire::UdpWire;
 pub use wire_waker::WireWaker;

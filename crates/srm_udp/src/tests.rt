@@ -2,7 +2,7 @@
 
 mod five;
 
-use crate::{SystemClock, UdpWire, is_loss};
+use crate::{Loss, Losses, SystemClock, UdpWire, is_loss, loss_of};
 use mio::net::UdpSocket;
 use srm_names::Member;
 use srm_wire::{Clock, Wire, WireFault};
@@ -186,6 +186,35 @@ fn a_member_without_an_address_is_a_failure(rt: HostRuntime) -> Result<(), Fail>
     Ok(())
 }
 
+/// So many were lost: no way there, denied, too long, no room, port closed. Nothing failed.
+fn assert_lost<R: Abort>(rt: &R, wire: &UdpWire, lost: [u64; 5]) {
+    assert_eq!(rt; wire.failures(), 0);
+    assert_eq!(rt; wire.losses(), losses_of(lost));
+}
+
+fn losses_of(counts: [u64; 5]) -> Losses {
+    Losses {
+        no_way: counts[0],
+        denied: counts[1],
+        too_long: counts[2],
+        no_room: counts[3],
+        port_closed: counts[4],
+    }
+}
+
+// A socket that didn't ask for it may not send to all members of a network.
+#[test]
+fn what_may_not_go_is_counted_as_denied(rt: HostRuntime) -> Result<(), Fail> {
+    let all = SocketAddr::from((Ipv4Addr::new(127, 255, 255, 255), 9));
+    let mut near = wire_to(&rt, rt.alloc(), all)?;
+    assert_lost(&rt, &near, [0, 0, 0, 0, 0]);
+    assert_sends(&rt, &mut near, 0, b"one");
+    assert_sends(&rt, &mut near, 0, b"two");
+    assert_nothing(&rt, &mut near);
+    assert_lost(&rt, &near, [0, 2, 0, 0, 0]);
+    Ok(())
+}
+
 // No datagram of UDP has 70,000 bytes.
 #[test]
 fn a_datagram_that_is_too_long_for_its_way_is_lost(rt: HostRuntime) -> Result<(), Fail> {
@@ -193,7 +222,7 @@ fn a_datagram_that_is_too_long_for_its_way_is_lost(rt: HostRuntime) -> Result<()
     let (mut near, mut far) = pair(&rt, alloc)?;
     let long = vec![in alloc; 0; 70_000]?;
     assert_eq!(rt; send(&mut near, 1, long.as_slice()), Ok(()));
-    assert_eq!(rt; near.failures(), 0);
+    assert_lost(&rt, &near, [0, 0, 1, 0, 0]);
     assert_sends(&rt, &mut near, 1, b"short");
     assert_comes(&rt, &mut far, b"short");
     Ok(())
@@ -276,7 +305,6 @@ fn a_member_is_bound_to_its_own_address(rt: HostRuntime) -> Result<(), Fail> {
     Ok(())
 }
 
-// The numbers are those of Linux: EPERM, EACCES, EMSGSIZE, ENETDOWN, ENETUNREACH, ENOBUFS, EHOSTDOWN, EHOSTUNREACH, and two that others stand for.
 /// Wakes the pauses of a wire after so many microseconds, from a thread of its own.
 fn wake_after<R>(rt: &R, wire: &UdpWire, micros: u64) -> Result<JoinHandle<bool>, Fail>
 where
@@ -337,18 +365,58 @@ fn a_wake_takes_no_datagram_away(rt: HostRuntime) -> Result<(), Fail> {
     Ok(())
 }
 
+/// The kind of loss that Linux tells by a number.
+fn loss_by(number: i32) -> Option<Loss> {
+    loss_of(&io::Error::from_raw_os_error(number))
+}
+
+// ENETDOWN, ENETUNREACH, EHOSTDOWN, EHOSTUNREACH; EPERM, EACCES; EMSGSIZE; ENOBUFS, EAGAIN; ECONNREFUSED.
 #[test]
 fn losses_by_number(rt: HostRuntime) {
-    for number in [1, 11, 13, 90, 100, 101, 105, 111, 112, 113] {
+    for (number, loss) in [
+        (100, Loss::NoWay),
+        (101, Loss::NoWay),
+        (112, Loss::NoWay),
+        (113, Loss::NoWay),
+        (1, Loss::Denied),
+        (13, Loss::Denied),
+        (90, Loss::TooLong),
+        (105, Loss::NoRoom),
+        (11, Loss::NoRoom),
+        (111, Loss::PortClosed),
+    ] {
+        assert_eq!(rt; loss_by(number), Some(loss), "{number}");
         assert!(rt; is_loss(&io::Error::from_raw_os_error(number)), "{number}");
     }
-    // EBADF, ENOMEM, EFAULT, EINVAL, EMFILE, EPIPE, EAFNOSUPPORT, EADDRNOTAVAIL, ENOTCONN, and numbers beside those above.
+}
+
+// EBADF, ENOMEM, EFAULT, EINVAL, EMFILE, EPIPE, EAFNOSUPPORT, EADDRNOTAVAIL, ENOTCONN, and numbers beside those of losses.
+#[test]
+fn failures_by_number(rt: HostRuntime) {
     for number in [
         9, 12, 14, 22, 24, 32, 97, 99, 107, -1, 0, 2, 89, 91, 102, 104, 114,
     ] {
-        assert!(rt; !is_loss(&io::Error::from_raw_os_error(number)), "{number}");
+        assert_eq!(rt; loss_by(number), None, "{number}");
     }
     assert!(rt; !is_loss(&io::Error::from(ErrorKind::OutOfMemory)));
+}
+
+#[test]
+fn losses_are_counted_by_kind(rt: HostRuntime) {
+    let mut losses = Losses::none();
+    assert_eq!(rt; losses, losses_of([0, 0, 0, 0, 0]));
+    for (loss, times) in [
+        (Loss::NoWay, 1),
+        (Loss::Denied, 2),
+        (Loss::TooLong, 3),
+        (Loss::NoRoom, 4),
+        (Loss::PortClosed, 5),
+    ] {
+        for _ in 0..times {
+            losses.count(loss);
+        }
+    }
+    assert_eq!(rt; losses, losses_of([1, 2, 3, 4, 5]));
 }
 
 #[test]

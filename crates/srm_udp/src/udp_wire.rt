@@ -1,10 +1,10 @@
 //! A wire over UDP.
 
-ghost use Rattle.std.specs.Prelude.{◌≡◌, ◌<◌, ◌≤◌, [], None, length, vec_len, true, is_err, IfOk, IfSome, IsErr};
+ghost use Rattle.std.specs.Prelude.{◌≡◌, ◌<◌, ◌≤◌, [], None, length, vec_len, true, is_err, is_none, Ok, IfOk, IfSome, IsErr};
 ghost use Rattle.srm_wire.specs.Wires.{CountsIf, TellsMore, answered, sent_by};
-ghost use Rattle.srm_udp.specs.Udp.{CountsEach, new_wire, one_more_failure};
+ghost use Rattle.srm_udp.specs.Udp.{CountsEach, CountsReceive, after_error, after_receive, after_send, answer_of, new_wire, one_more_failure, received, send_fails};
 
-use crate::loss::is_loss;
+use crate::loss::{Loss, Losses, loss_of};
 use crate::wire_waker::WireWaker;
 use mio::net::UdpSocket;
 use mio::{Events, Interest, Poll, Token};
@@ -24,7 +24,7 @@ const SOCKET: Token = Token(0);
 const WAKER: Token = Token(1);
 
 /// A member's wire over UDP: a socket that is bound once and never waits, but in a pause, which another thread may end. Where a datagram comes from isn't
-/// looked at. It doesn't tell.
+/// looked at. It counts its failures, and by kind what the system says was lost. It doesn't tell.
 #[derive(Drop)]
 pub struct UdpWire {
     socket: UdpSocket,
@@ -35,6 +35,7 @@ pub struct UdpWire {
     // Whether the last `receive` found nothing, and no pause found more since. The poll reports once what comes after that.
     drained: bool,
     failures: u64,
+    losses: Losses,
 }
 
 impl Model for UdpWire {
@@ -43,7 +44,7 @@ impl Model for UdpWire {
 
     ghost Value = { UdpView };
 
-    ghost view = { λ w. record { members = vec_len w.addresses; failures = w.failures } };
+    ghost view = { λ w. record { members = vec_len w.addresses; failures = w.failures; losses = w.losses } };
 }
 
 impl UdpWire {
@@ -88,12 +89,20 @@ impl UdpWire {
             waker,
             drained: false,
             failures: 0,
+            losses: Losses::none(),
         })
     }
 
     /// What ends this wire's pauses from another thread. Only want of memory refuses it.
     pub fn waker(&self) -> Result<Arc<WireWaker, Global>, AllocError> {
         Arc::try_clone(&self.waker)
+    }
+
+    /// How many datagrams were lost so far, as far as the system told, by kind.
+    pub fn losses(&self) -> Losses
+        ensures { result ≡ self.now.losses }
+    {
+        self.losses
     }
 
     // Counts a failure.
@@ -103,6 +112,54 @@ impl UdpWire {
     {
         count_failure(&mut self.failures)
     }
+
+    // Counts a loss of this kind, or else a failure.
+    fn count(&mut self, loss: Option<Loss>) -> Result<(), WireFault>
+        ensures one { self.new ≡ after_error loss self.old }
+        ensures failed { is_err result ≡ is_none loss }
+        ensures failures { CountsIf (is_err result) self.old.failures self.new.failures }
+        ensures each { CountsEach result self.old self.new }
+    {
+        match loss {
+            Some(loss) => {
+                self.losses.count(loss);
+                Ok(())
+            }
+            None => Err(self.fail()),
+        }
+    }
+
+    // Counts what the system answers to a send of so many bytes.
+    fn settle_send(&mut self, length: usize, answer: io::Result<usize>) -> Result<(), WireFault>
+        ensures one { self.new ≡ after_send length answer self.old }
+        ensures failed { is_err result ≡ send_fails length answer }
+        ensures failures { CountsIf (is_err result) self.old.failures self.new.failures }
+        ensures each { CountsEach result self.old self.new }
+    {
+        match answer {
+            Ok(count) if count == length => Ok(()),
+            Ok(_) => Err(self.fail()),
+            Err(error) => self.count(loss_of(&error)),
+        }
+    }
+
+    // Counts what the system answers to a receive.
+    fn settle_receive(&mut self, answer: io::Result<usize>) -> Result<Option<usize>, WireFault>
+        ensures one { self.new ≡ after_receive answer self.old }
+        ensures answer { answer_of result ≡ received answer }
+        ensures came { IfOk result (λ some. IfSome some (λ count. answer ≡ Ok count)) }
+        ensures failures { CountsIf (is_err result) self.old.failures self.new.failures }
+        ensures each { CountsReceive result self.old self.new }
+    {
+        match answer {
+            Ok(count) => Ok(Some(count)),
+            Err(error) if error.kind() == ErrorKind::WouldBlock => Ok(None),
+            Err(error) => {
+                self.count(loss_of(&error))?;
+                Ok(None)
+            }
+        }
+    }
 }
 
 impl Wire for UdpWire {
@@ -111,7 +168,7 @@ impl Wire for UdpWire {
     ghost told = { λ w. None };
 
     /// One call of the system, which copies the bytes from where they lie. A member without an address is a failure, and a datagram that the
-    /// system cuts.
+    /// system cuts. What the system says was lost is counted by its kind.
     fn send(&mut self, to: Member, datagram: &[u8]) -> Result<(), WireFault>
         ensures failures { CountsIf (is_err result) self.old.failures self.new.failures }
         ensures each { CountsEach result self.old self.new }
@@ -121,27 +178,24 @@ impl Wire for UdpWire {
         let Some(address) = self.addresses.get(to.index()) else {
             return Err(self.fail());
         };
-        match self.socket.send_to(datagram, *address) {
-            Ok(count) if count == datagram.len() => Ok(()),
-            Err(error) if is_loss(&error) => Ok(()),
-            _ => Err(self.fail()),
-        }
+        let answer = self.socket.send_to(datagram, *address);
+        self.settle_send(datagram.len(), answer)
     }
 
-    /// One call of the system, which copies the bytes to where they stay. What is longer than the buffer is cut to it.
+    /// One call of the system, which copies the bytes to where they stay. What is longer than the buffer is cut to it. A word on an earlier send is counted as a loss of its
+    /// kind, and nothing came then.
     fn receive(&mut self, buffer: &mut [u8]) -> Result<Option<usize>, WireFault>
         ensures within { IfOk result (λ some. IfSome some (λ count. count ≤ length buffer.new)) }
         ensures failures { CountsIf (is_err result) self.old.failures self.new.failures }
-        ensures each { CountsEach result self.old self.new }
+        ensures each { CountsReceive result self.old self.new }
         ensures tells { TellsMore (answered buffer.new result) [] None None }
     {
-        let answer = self.socket.recv_from(buffer);
+        let answer = match self.socket.recv_from(buffer) {
+            Ok((count, _)) => Ok(count),
+            Err(error) => Err(error),
+        };
         self.drained = finds_nothing(&answer);
-        match answer {
-            Ok((count, _)) => Ok(Some(count)),
-            Err(error) if is_loss(&error) => Ok(None),
-            Err(_) => Err(self.fail()),
-        }
+        self.settle_receive(answer)
     }
 
     /// Waits until a datagram came, its waker was called, or so many microseconds went by, rounded up to whole milliseconds. It waits only behind a `receive`
