@@ -1,6 +1,6 @@
 -- Workers that are joined one after another, and the lanes of a node that ran.
 use Rattle.std.proofs.Common.{◌≡◌, ℕ, zero, suc, ◌+◌, ◌≤◌, Bool, true, false, List, [], ◌∷◌, ◌++◌, length, map, refl, ap, sym, ◌∙◌, subst, append_assoc, arith, add-one}
-use Rattle.std.specs.Prelude.{Some, slice_get, Result, Ok, Err, IfOk, MatchResult, is_ok}
+use Rattle.std.specs.Prelude.{Option, Some, slice_get, Result, Ok, Err, IfOk, MatchResult, is_ok}
 use Rattle.std.specs.Bool.{OnTrue, OnFalse}
 use Rattle.std.specs.List.{zip}
 use Rattle.srm_node.specs.declared.fault.NodeFault.{NodeFault}
@@ -8,14 +8,15 @@ use Rattle.srm_node.specs.declared.hosting.Hosted.{Hosted}
 use Rattle.std.proofs.lemmas.List.{append-nil, length-append}
 use Rattle.std.proofs.lemmas.Option.{same_Some, slice_get_within}
 use Rattle.srm_names.proofs.Lists.{at_place}
-use Rattle.srm_pages.specs.Ends.{FeedView, TapView}
+use Rattle.srm_pages.specs.Ends.{FeedView, TapView, WellView}
+use Rattle.srm_pages.specs.declared.stroke.Stroke.{Stroke}
 use Rattle.srm_node.specs.declared.hosting.Worker.{Worker}
 use Rattle.srm_node.specs.declared.working.Worked.{Worked}
 use Rattle.srm_node.specs.Parts.{SameFeed, SameFeeds}
 use Rattle.srm_node.specs.Nodes.{NodeView, NodeKeepsLists}
-use Rattle.srm_node.specs.Turns.{TurnToLeaving, Turned, RunsOf, RunsToEnd}
+use Rattle.srm_node.specs.Turns.{TurnToLeaving, TurnToTick, Turned, RunsOf, RunsToEnd}
 use Rattle.srm_node.specs.Calls.{Calls}
-use Rattle.srm_node.specs.Hosting.{Kinds, start_of, StartsSome, StopsBy, WorkedAs, WorkedEach, Joins, Hosts, HostFails, AreEndsOfLanes}
+use Rattle.srm_node.specs.Hosting.{Kinds, start_of, StartsSome, StopsBy, WorkedAs, WorkedEach, Joins, Hosts, HostsWith, HostFails, HostFailsWith, SameWell, AreEndsOfLanes}
 use Rattle.srm_node.proofs.Gives.{same_on}
 
 each-snoc : {L S : Type 0} (kinds : Kinds L S) (ts : List (TapView × S)) (ws : List (Worked L)) (t : TapView × S) (w : Worked L) → WorkedEach kinds ts ws → WorkedAs kinds t w → WorkedEach kinds (ts ++ t ∷ []) (ws ++ w ∷ [])
@@ -78,36 +79,73 @@ lanes_of_turns {X} {C} calls (suc n) a b (before, paused, runs, goes_on, waits, 
 lanes_of_run : {X C : Type 0} (calls : Calls X C) (limit : ℕ) (a b : NodeView X C) → RunsToEnd calls limit a b → SameLanes a b
 lanes_of_run calls limit a b h = lanes_of_turns calls h.count a b h.runs.turns
 
+-- THE WELL OF A NODE THAT RAN
+
+well_with : (w v : WellView) (received : List Stroke) (nones : ℕ) (done_at : Option ℕ) → v ≡ record w { received = received; nones = nones; done_at = done_at } → SameWell w v
+well_with w v received nones done_at is = subst (λ (x : WellView). SameWell w x) (sym is) refl
+
+well_on : (a b c : WellView) → SameWell a b → SameWell b c → SameWell a c
+well_on a b c h k = k ∙ ap (λ (x : WellView). record x { received = c.received; nones = c.nones; done_at = c.done_at }) h
+
+well_kept : {X C : Type 0} (a b : NodeView X C) → b.well ≡ a.well → SameWell a.well b.well
+well_kept a b is = well_with a.well b.well a.well.received a.well.nones a.well.done_at is
+
+well_left : {X C : Type 0} (calls : Calls X C) (now : ℕ) (unheard : Bool) (a b : NodeView X C) → TurnToLeaving calls now unheard a b → SameWell a.well b.well
+well_left {X} {C} calls now unheard a b t =
+    let pops = t.draws.drew.draws.pops in
+    let heard : t.heard.well ≡ a.well = ap (λ (n : NodeView X C). n.well) t.hears.same ∙ ap (λ (n : NodeView X C). n.well) t.reads.same in
+    let looked = well_with t.heard.well t.looked.well t.heard.well.received t.heard.well.nones _ (ap (λ (n : NodeView X C). n.well) t.looks.same) in
+    let drawn = well_with t.looked.well t.drawn.well _ _ t.looked.well.done_at pops.received in
+    well_on a.well t.heard.well b.well (well_kept a t.heard heard) (well_on t.heard.well t.looked.well b.well looked
+    (well_on t.looked.well t.drawn.well b.well drawn (well_kept t.drawn b (ap (λ (n : NodeView X C). n.well) t.leaves.same))))
+
+well_of_turn : {X C : Type 0} (calls : Calls X C) (a b : NodeView X C) → Turned calls false false a b → SameWell a.well b.well
+well_of_turn {X} {C} calls a b t = let p = t.to_tick in
+    let ticked : b.well ≡ p.left.well = ap (λ (n : NodeView X C). n.well) t.gives.same ∙ ap (λ (n : NodeView X C). n.well) p.ticks.same in
+    well_on a.well p.left.well b.well (well_left calls p.now false a p.left p.to_leaving) (well_kept p.left b ticked)
+
+well_of_turns : {X C : Type 0} (calls : Calls X C) (count : ℕ) (a b : NodeView X C) → RunsOf calls count a b → SameWell a.well b.well
+well_of_turns {X} {C} calls zero a b h = well_kept a b (ap (λ (n : NodeView X C). n.well) h)
+well_of_turns {X} {C} calls (suc n) a b (before, paused, runs, goes_on, waits, turned) =
+    well_on a.well before.well b.well (well_of_turns calls n a before runs)
+    (well_on before.well paused.well b.well (well_kept before paused (ap (λ (n : NodeView X C). n.well) waits.same)) (well_of_turn calls paused b turned))
+
 -- what is handed out of a node that ran, and of its workers
-pub hosted : {P L S X C : Type 0} (calls : Calls X C) (kinds : Kinds L S) (r : Result (Unit {0}) NodeFault) (node last : NodeView X C) (starts : List (TapView × S)) (turns : ℕ) (all : Bool) (h : Hosted P L) (feeds : List FeedView) (keeps : Bool)
+pub hosted : {P L S X C : Type 0} (calls : Calls X C) (kinds : Kinds L S) (r : Result (Unit {0}) NodeFault) (node last : NodeView X C) (starts : List (TapView × S)) (turns : ℕ) (all : Bool) (well : WellView) (h : Hosted P L) (feeds : List FeedView) (keeps : Bool)
     → MatchResult r (λ _. (all ≡ true) × NodeKeepsLists last × RunsToEnd calls turns node last) (λ fault. StopsBy calls all fault turns node last) → NodeKeepsLists last
-    → h.journal ≡ last.journal → feeds ≡ last.feeds → OnTrue keeps (h.feeds.items ≡ feeds) → OnFalse keeps (h.feeds.items ≡ []) → keeps ≡ is_ok r → WorkedEach kinds starts h.worked.items
-    → MatchResult r (λ _. (all ≡ true) × Hosts calls kinds node starts turns h) (λ fault. HostFails calls kinds all node starts turns fault h)
-hosted calls kinds (Ok u) node last starts turns all h feeds keeps ran lists journal same kept none ok workers = (
+    → h.journal ≡ last.journal → feeds ≡ last.feeds → well ≡ last.well → OnTrue keeps (h.feeds.items ≡ feeds) → OnFalse keeps (h.feeds.items ≡ []) → keeps ≡ is_ok r → WorkedEach kinds starts h.worked.items
+    → MatchResult r (λ _. (all ≡ true) × HostsWith calls kinds node starts turns well h) (λ fault. HostFailsWith calls kinds all node starts turns fault well h)
+hosted calls kinds (Ok u) node last starts turns all well h feeds keeps ran lists journal same well_is kept none ok workers = (
   ran.0,
+  (
+    record {
+      last = last;
+      runs = ran.2;
+      keeps = ran.1;
+      journal = journal;
+      feeds = (let k : h.feeds.items ≡ feeds = subst (λ b. OnTrue b (h.feeds.items ≡ feeds)) ok kept in k) ∙ same;
+      slots = (lanes_of_run calls turns node last ran.2).slots;
+      lanes = (lanes_of_run calls turns node last ran.2).same;
+      workers = workers;
+    },
+    well_is,
+  ),
+)
+hosted {P} {L} {S} {X} {C} calls kinds (Err e) node last starts turns all well h feeds keeps ran lists journal same well_is kept none ok workers = (
   record {
     last = last;
-    runs = ran.2;
-    keeps = ran.1;
+    runs = ran;
+    keeps = lists;
     journal = journal;
-    feeds = (let k : h.feeds.items ≡ feeds = subst (λ b. OnTrue b (h.feeds.items ≡ feeds)) ok kept in k) ∙ same;
-    slots = (lanes_of_run calls turns node last ran.2).slots;
-    lanes = (lanes_of_run calls turns node last ran.2).same;
+    feeds = (let k : h.feeds.items ≡ [] = subst (λ b. OnFalse b (h.feeds.items ≡ [])) ok none in k);
+    started = starts;
+    rest = [];
+    split = append-nil starts;
+    whole = no_more all [];
     workers = workers;
   },
+  well_is,
 )
-hosted {P} {L} {S} {X} {C} calls kinds (Err e) node last starts turns all h feeds keeps ran lists journal same kept none ok workers = record {
-  last = last;
-  runs = ran;
-  keeps = lists;
-  journal = journal;
-  feeds = (let k : h.feeds.items ≡ [] = subst (λ b. OnFalse b (h.feeds.items ≡ [])) ok none in k);
-  started = starts;
-  rest = [];
-  split = append-nil starts;
-  whole = no_more all [];
-  workers = workers;
-}
   where
     no_more : (b : Bool) (ts : List (TapView × S)) → OnTrue b (ts ≡ ts)
     no_more true ts = refl
@@ -119,23 +157,27 @@ none_behind xs [] all split whole = refl
 none_behind xs (y ∷ ys) all split whole = absurd (omega (arith, ap length split, ap length whole, length-append xs (y ∷ ys)))
 
 -- what is handed out of the taps and sinks handed in
-pub host_ends : {P L S X C : Type 0} (calls : Calls X C) (kinds : Kinds L S) (r : Result (Unit {0}) NodeFault) (node : NodeView X C) (starts : List (TapView × S)) (workers : List (Worker L S)) (turns : ℕ) (all : Bool) (h : Hosted P L) → StartsSome starts workers → OnTrue all (map start_of workers ≡ starts)
-    → MatchResult r (λ _. (all ≡ true) × Hosts calls kinds node (map start_of workers) turns h) (λ fault. HostFails calls kinds all node (map start_of workers) turns fault h) → MatchResult r (λ _. Hosts calls kinds node starts turns h) (λ fault. (all : Bool) × HostFails calls kinds all node starts turns fault h)
-host_ends calls kinds (Ok u) node starts workers turns all h some whole ran = subst (λ ts. Hosts calls kinds node ts turns h) (let w : map start_of workers ≡ starts = subst (λ b. OnTrue b (map start_of workers ≡ starts)) ran.0 whole in w) ran.1
-host_ends calls kinds (Err fault) node starts workers turns all h some whole f = (
+pub host_ends : {P L S X C : Type 0} (calls : Calls X C) (kinds : Kinds L S) (r : Result (Unit {0}) NodeFault) (node : NodeView X C) (starts : List (TapView × S)) (workers : List (Worker L S)) (turns : ℕ) (all : Bool) (well : WellView) (h : Hosted P L) → StartsSome starts workers → OnTrue all (map start_of workers ≡ starts)
+    → MatchResult r (λ _. (all ≡ true) × HostsWith calls kinds node (map start_of workers) turns well h) (λ fault. HostFailsWith calls kinds all node (map start_of workers) turns fault well h)
+    → MatchResult r (λ _. HostsWith calls kinds node starts turns well h) (λ fault. (all : Bool) × HostFailsWith calls kinds all node starts turns fault well h)
+host_ends calls kinds (Ok u) node starts workers turns all well h some whole ran = subst (λ ts. HostsWith calls kinds node ts turns well h) (let w : map start_of workers ≡ starts = subst (λ b. OnTrue b (map start_of workers ≡ starts)) ran.0 whole in w) ran.1
+host_ends calls kinds (Err fault) node starts workers turns all well h some whole (f, well_is) = (
   all,
-  record {
-    last = f.last;
-    runs = f.runs;
-    keeps = f.keeps;
-    journal = f.journal;
-    feeds = f.feeds;
-    started = f.started;
-    rest = f.rest ++ some.rest;
-    split = sym (append_assoc f.started f.rest some.rest) ∙ ap (λ ts. ts ++ some.rest) f.split ∙ some.split;
-    whole = no_rest all whole f.whole;
-    workers = f.workers;
-  },
+  (
+    record {
+      last = f.last;
+      runs = f.runs;
+      keeps = f.keeps;
+      journal = f.journal;
+      feeds = f.feeds;
+      started = f.started;
+      rest = f.rest ++ some.rest;
+      split = sym (append_assoc f.started f.rest some.rest) ∙ ap (λ ts. ts ++ some.rest) f.split ∙ some.split;
+      whole = no_rest all whole f.whole;
+      workers = f.workers;
+    },
+    well_is,
+  ),
 )
   where
     no_rest : (b : Bool) → OnTrue b (map start_of workers ≡ starts) → OnTrue b (f.rest ≡ []) → OnTrue b (f.rest ++ some.rest ≡ [])
@@ -159,7 +201,21 @@ still_ends calls kinds node taps sinks turns h x ends k f t at_f at_t =
     let (s, at_s, lane) = worked_at kinds taps sinks h.worked.items k t x.workers at_t in
     ap (λ (y : FeedView). y.lane) (x.lanes k g f at_g at_last) ∙ ends k g s at_g at_s ∙ sym lane
 
-pub host_lanes : {P L S X C : Type 0} (calls : Calls X C) (kinds : Kinds L S) (r : Result (Unit {0}) NodeFault) (node : NodeView X C) (taps : List TapView) (sinks : List S) (turns : ℕ) (h : Hosted P L) → MatchResult r (λ _. Hosts calls kinds node (zip taps sinks) turns h) (λ fault. (all : Bool) × HostFails calls kinds all node (zip taps sinks) turns fault h)
+pub host_lanes : {P L S X C : Type 0} (calls : Calls X C) (kinds : Kinds L S) (r : Result (Unit {0}) NodeFault) (node : NodeView X C) (taps : List TapView) (sinks : List S) (turns : ℕ) (well : WellView) (h : Hosted P L)
+    → MatchResult r (λ _. HostsWith calls kinds node (zip taps sinks) turns well h) (λ fault. (all : Bool) × HostFailsWith calls kinds all node (zip taps sinks) turns fault well h)
     → IfOk r (λ _. AreEndsOfLanes node.feeds taps → AreEndsOfLanes h.feeds.items (map (λ (w : Worked L). w.tap) h.worked.items))
-host_lanes calls kinds (Ok u) node taps sinks turns h x = still_ends calls kinds node taps sinks turns h x
-host_lanes calls kinds (Err e) node taps sinks turns h x = tt
+host_lanes calls kinds (Ok u) node taps sinks turns well h x = still_ends calls kinds node taps sinks turns h x.0
+host_lanes calls kinds (Err e) node taps sinks turns well h x = tt
+
+pub host_well : {P L S X C : Type 0} (calls : Calls X C) (kinds : Kinds L S) (r : Result (Unit {0}) NodeFault) (node : NodeView X C) (starts : List (TapView × S)) (turns : ℕ) (well : WellView) (h : Hosted P L)
+    → MatchResult r (λ _. HostsWith calls kinds node starts turns well h) (λ fault. (all : Bool) × HostFailsWith calls kinds all node starts turns fault well h)
+    → IfOk r (λ _. SameWell node.well well)
+host_well calls kinds (Ok u) node starts turns well h (x, is) = subst (λ (w : WellView). SameWell node.well w) (sym is) (well_of_turns calls x.runs.count node x.last x.runs.runs.turns)
+host_well calls kinds (Err e) node starts turns well h x = tt
+
+-- what is known of the node of a host, without its well
+pub without_well : {P L S X C : Type 0} (calls : Calls X C) (kinds : Kinds L S) (r : Result (Unit {0}) NodeFault) (node : NodeView X C) (starts : List (TapView × S)) (turns : ℕ) (well : WellView) (h : Hosted P L)
+    → MatchResult r (λ _. HostsWith calls kinds node starts turns well h) (λ fault. (all : Bool) × HostFailsWith calls kinds all node starts turns fault well h)
+    → MatchResult r (λ _. Hosts calls kinds node starts turns h) (λ fault. (all : Bool) × HostFails calls kinds all node starts turns fault h)
+without_well calls kinds (Ok u) node starts turns well h x = x.0
+without_well calls kinds (Err e) node starts turns well h (all, (x, is)) = (all, x)

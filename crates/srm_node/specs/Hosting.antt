@@ -3,7 +3,7 @@ use Rattle.std.specs.Prelude.{◌≡◌, ◌⊎◌, ℕ, Bool, true, false, List
 use Rattle.std.specs.Bool.{OnTrue}
 use Rattle.std.specs.List.{zip}
 use Rattle.srm_names.specs.declared.page_msg.PageMsg.{PageMsg}
-use Rattle.srm_pages.specs.Ends.{FeedView, TapView}
+use Rattle.srm_pages.specs.Ends.{FeedView, TapView, WellView}
 use Rattle.srm_node.specs.declared.hosting.Worker.{Worker}
 use Rattle.srm_node.specs.declared.hosting.Hosted.{Hosted}
 use Rattle.srm_node.specs.declared.working.Worked.{Worked}
@@ -92,3 +92,14 @@ pub record Hosts {P L S X C : Type 0} (calls : Calls X C) (kinds : Kinds L S) (n
   pub slots : length last.feeds ≡ length node.feeds
   pub lanes : SameFeeds node.feeds last.feeds
   pub workers : WorkedEach kinds starts h.worked.items
+
+-- Without fault, and this is the well that the node had at its end; and the same after a fault.
+abbrev pub HostsWith : {P L S X C : Type 0} → Calls X C → Kinds L S → NodeView X C → List (TapView × S) → ℕ → WellView → Hosted P L → Type 0
+HostsWith calls kinds node starts turns well h = (host : Hosts calls kinds node starts turns h) × (well ≡ host.last.well)
+
+abbrev pub HostFailsWith : {P L S X C : Type 0} → Calls X C → Kinds L S → Bool → NodeView X C → List (TapView × S) → ℕ → NodeFault → WellView → Hosted P L → Type 0
+HostFailsWith calls kinds all node starts turns fault well h = (host : HostFails calls kinds all node starts turns fault h) × (well ≡ host.last.well)
+
+-- what a well received, how often it found none and what it was told of its pens may change, and no more
+abbrev pub SameWell : WellView → WellView → Type 0
+SameWell w v = v ≡ record w { received = v.received; nones = v.nones; done_at = v.done_at }

@@ -6,7 +6,7 @@ ghost use Rattle.srm_names.specs.declared.limits.TheConstants.{PAGES};
 ghost use Rattle.srm_node.specs.Calls.{calls_of};
 ghost use Rattle.srm_node.specs.Nodes.{NodeKeepsLists};
 ghost use Rattle.srm_node.specs.Turns.{RunsToEnd};
-ghost use Rattle.srm_node.specs.Hosting.{start_of, starts_of, kinds_of, Starts, StartsSome, StopsBy, WorkedAs, WorkedEach, Hosts, HostFails, AreEndsOfLanes};
+ghost use Rattle.srm_node.specs.Hosting.{start_of, starts_of, kinds_of, Starts, StartsSome, StopsBy, WorkedAs, WorkedEach, SameWell, Hosts, HostsWith, HostFails, HostFailsWith, AreEndsOfLanes};
 
 use crate::fault::NodeFault;
 use crate::node::Node;
@@ -14,6 +14,7 @@ use crate::sink::PageSink;
 use crate::working::{Worked, work};
 use srm_agent::Entry;
 use srm_names::{PAGES, PageMsg};
+use srm_pages::ends::Well;
 use srm_pages::{Feed, Tap};
 use srm_timers::Words;
 use srm_wire::{Clock, Wire};
@@ -51,7 +52,6 @@ pub struct Hosted<P: Past<Entry> + Drop = Vec<Entry>, L: Past<PageMsg> + Drop = 
     pub end: Result<(), NodeFault>,
 }
 
-#[tactic(auto, using(crate::proofs::Hosts::host_ends, crate::proofs::Hosts::host_lanes))]
 /// Runs a node in this thread, and in threads of their own eight page workers, one for each tap and its sink, which sees what that tap takes. After a
 /// fault the feeds are let go, so that the workers end. Where a worker can't be started, the end is fault 2, the node isn't turned, and those that were started
 /// are handed back. Only want of memory before any worker is started refuses it. The type that the caller names for the workers' lists says how they
@@ -77,6 +77,35 @@ pub fn host<
     ensures hosts { IfOk result (λ h. MatchResult h.end (λ _. Hosts (calls_of C.reads X.receives X.sends X.pauses) (kinds_of L.appended L.is_refused S.sees) node.view (starts_of taps.items sinks.items) turns h)
         (λ fault. (all : Bool) × HostFails (calls_of C.reads X.receives X.sends X.pauses) (kinds_of L.appended L.is_refused S.sees) all node.view (starts_of taps.items sinks.items) turns fault h)) }
     ensures lanes { IfOk result (λ h. IfOk h.end (λ _. AreEndsOfLanes node.view.feeds taps.items → AreEndsOfLanes h.feeds.items (map (λ w. w.tap) h.worked.items))) }
+{
+    let (hosted, _) = host_with_well(rt, alloc, node, taps, sinks, turns)?;
+    Ok(hosted)
+}
+
+/// The same, and hands the node's well back too, so that its pens can be put beside what it received ([`Well::join_pen`]).
+#[tactic(auto, using(crate::proofs::Hosts::host_ends, crate::proofs::Hosts::host_lanes))]
+pub fn host_with_well<
+    R: Threads + Wait + Copy + Send + 'static,
+    W: Words + Drop,
+    X: Wire + Drop,
+    C: Clock + Drop,
+    P: Past<Entry> + Drop,
+    S: PageSink + Send + Drop + 'static,
+    L: Past<PageMsg> + Send + Drop + 'static,
+>(
+    rt: &R,
+    alloc: Global,
+    node: Node<W, X, C, P>,
+    taps: Vec<Tap>,
+    sinks: Vec<S>,
+    turns: u64,
+) -> Result<(Hosted<P, L>, Well), AllocError>
+    requires taps { vec_len taps ≡ PAGES }
+    requires sinks { vec_len sinks ≡ PAGES }
+    ensures hosts { IfOk result (λ r. MatchResult r.0.end (λ _. HostsWith (calls_of C.reads X.receives X.sends X.pauses) (kinds_of L.appended L.is_refused S.sees) node.view (starts_of taps.items sinks.items) turns r.1 r.0)
+        (λ fault. (all : Bool) × HostFailsWith (calls_of C.reads X.receives X.sends X.pauses) (kinds_of L.appended L.is_refused S.sees) all node.view (starts_of taps.items sinks.items) turns fault r.1 r.0)) }
+    ensures lanes { IfOk result (λ r. IfOk r.0.end (λ _. AreEndsOfLanes node.view.feeds taps.items → AreEndsOfLanes r.0.feeds.items (map (λ w. w.tap) r.0.worked.items))) }
+    ensures well { IfOk result (λ r. IfOk r.0.end (λ _. SameWell node.view.well r.1)) }
 {
     let (mut workers, mut worked) = places(alloc)?;
     let all = begin(rt, alloc, taps, sinks, &mut workers, &mut worked);
@@ -113,23 +142,24 @@ fn go<
     turns: u64,
     workers: VecDeque<Worker<L, S>>,
     worked: Vec<Worked<L>>,
-) -> Hosted<P, L>
+) -> (Hosted<P, L>, Well)
     requires room { vec_len worked + length workers.items ≤ vec_capacity worked }
     requires none { worked.items ≡ [] }
-    ensures { MatchResult result.end (λ _. (all ≡ true) × Hosts (calls_of C.reads X.receives X.sends X.pauses) (kinds_of L.appended L.is_refused S.sees) node.view (map start_of workers.items) turns result)
-        (λ fault. HostFails (calls_of C.reads X.receives X.sends X.pauses) (kinds_of L.appended L.is_refused S.sees) all node.view (map start_of workers.items) turns fault result) }
+    ensures { MatchResult result.0.end (λ _. (all ≡ true) × HostsWith (calls_of C.reads X.receives X.sends X.pauses) (kinds_of L.appended L.is_refused S.sees) node.view (map start_of workers.items) turns result.1 result.0)
+        (λ fault. HostFailsWith (calls_of C.reads X.receives X.sends X.pauses) (kinds_of L.appended L.is_refused S.sees) all node.view (map start_of workers.items) turns fault result.1 result.0) }
 {
     let mut node = node;
     let end = run_if(rt, &mut node, all, turns);
-    let (journal, feeds) = node.finish();
+    let (journal, feeds, well) = node.into_parts();
     let feeds = kept(alloc, feeds, end.is_ok());
     let worked = join_all(rt, workers, worked);
-    Hosted {
+    let hosted = Hosted {
         journal,
         feeds,
         worked,
         end,
-    }
+    };
+    (hosted, well)
 }
 
 // Starts the workers. Whether all were started.

@@ -19,7 +19,7 @@ mod working;
 
 pub use counting::Counts;
 pub use fault::NodeFault;
-pub use hosting::{Hosted, Worker, WorksOn, host};
+pub use hosting::{Hosted, Worker, WorksOn, host, host_with_well};
 pub use node::Node;
 pub use sink::PageSink;
 pub use srm_wire::{Clock, Fate, Flaky, MemWire, Sent, Wire, WireFault, hub};

@@ -262,6 +262,16 @@ impl<W: Words + Drop, X: Wire + Drop, C: Clock + Drop, P: Past<Entry> + Drop> No
         (self.recorder.finish(), self.feeds)
     }
 
+    /// The same, and for its well, beside which a pen that is done can be put ([`Well::join_pen`]).
+    pub fn into_parts(self) -> (Journal<P>, Vec<Feed>, Well)
+        ensures journal { result.0 ≡ self.view.journal }
+        ensures feeds { result.1.items ≡ self.view.feeds }
+        ensures well { result.2 ≡ self.view.well }
+        ensures keeps { NodeKeepsLists self.view }
+    {
+        (self.recorder.finish(), self.feeds, self.well)
+    }
+
     /// Turns, with a pause before each but a node's first, until the member is gone and each lane had its close or is disconnected. A pause lasts until something is due
     /// or the rate lets the stroke in hand go, at most 10,000 microseconds; after a turn that neither heard nor drew anything it takes at
     /// least 1,000, and after one that heard or drew 64 there is none. The clock is read once for a pause and once for a turn. It stops at the first fault, and may be called again. Fault 3:

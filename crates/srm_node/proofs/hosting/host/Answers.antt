@@ -1,10 +1,7 @@
 use Rattle.srm_node.specs.Calls.{calls_of}
 use Rattle.srm_node.specs.Hosting.{kinds_of}
-use Rattle.srm_node.proofs.Hosts.{host_ends, host_lanes}
+use Rattle.srm_node.proofs.Hosts.{without_well}
 use Rattle.srm_node.proofs.hosting.host.Goals as goal
 
 pub returns-clause-hosts : goal.returns-clause-hosts
-returns-clause-hosts g c = host_ends (calls_of g.C.Clock.reads g.X.Wire.receives g.X.Wire.sends g.X.Wire.pauses) (kinds_of g.L.Past.appended g.L.Past.is_refused g.S.PageSink.sees) c.go.result.end c.args.node.view _ _ c.args.turns _ c.go.result (search depth 0) (search depth 0) c.go.ensures
-
-pub returns-clause-lanes : goal.returns-clause-lanes
-returns-clause-lanes g c = host_lanes (calls_of g.C.Clock.reads g.X.Wire.receives g.X.Wire.sends g.X.Wire.pauses) (kinds_of g.L.Past.appended g.L.Past.is_refused g.S.PageSink.sees) c.go.result.end c.args.node.view c.args.taps.items c.args.sinks.items c.args.turns c.go.result (returns-clause-hosts g c)
+returns-clause-hosts g c = without_well (calls_of g.C.Clock.reads g.X.Wire.receives g.X.Wire.sends g.X.Wire.pauses) (kinds_of g.L.Past.appended g.L.Past.is_refused g.S.PageSink.sees) _ c.args.node.view _ c.args.turns _ _ c.in_ok-hosted.ensures.hosts
