@@ -1,3 +1,4 @@
 pub mod Decimals
 pub mod Newest
 pub mod Rosters
+pub mod Shown

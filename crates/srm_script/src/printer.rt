@@ -70,7 +70,7 @@ impl EntryPrinter {
             Input::Took(slot) => {
                 let take = PrintedTake {
                     member: by,
-                    slot: *slot,
+                    slot: usize::from(*slot),
                     message: effects.message.as_ref(),
                 };
                 writeln!(out, "{take}")

@@ -1,5 +1,9 @@
 //! How pages, names, timers, messages and bodies are printed.
 
+ghost use Rattle.std.specs.Prelude.{◌≡◌, ◌≤◌, Some, length, take, option_map};
+ghost use Rattle.srm_script.specs.TookLines as spec;
+ghost use Rattle.srm_script.specs.TookLines.{page_text, body_text, message_text, answer_text, took_text, gone_text};
+
 use srm_agent::Arm;
 use srm_names::{Member, Name, Page, PageMsg};
 use std::fmt;
@@ -9,6 +13,8 @@ use std::fmt;
 pub struct PrintedPage(pub Page);
 
 impl fmt::Display for PrintedPage {
+    ghost output = { λ page. Some (page_text page.0) };
+
     fn fmt<W: fmt::Write>(&self, f: &mut fmt::Formatter<W>) -> fmt::Result {
         let creator = self.0.creator.number();
         let number = self.0.number;
@@ -47,6 +53,8 @@ impl fmt::Display for PrintedArm<'_> {
 pub struct PrintedAnswer<'a>(pub Option<&'a PageMsg>);
 
 impl fmt::Display for PrintedAnswer<'_> {
+    ghost output = { λ answer. Some (answer_text (option_map (λ message. message.now) answer.0)) };
+
     fn fmt<W: fmt::Write>(&self, f: &mut fmt::Formatter<W>) -> fmt::Result {
         match self.0 {
             None => write!(f, "none"),
@@ -59,11 +67,13 @@ impl fmt::Display for PrintedAnswer<'_> {
 #[derive(Drop)]
 pub struct PrintedTake<'a> {
     pub member: Member,
-    pub slot: u8,
+    pub slot: usize,
     pub message: Option<&'a PageMsg>,
 }
 
 impl fmt::Display for PrintedTake<'_> {
+    ghost output = { λ take. Some (took_text take.member take.slot (option_map (λ message. message.now) take.message)) };
+
     fn fmt<W: fmt::Write>(&self, f: &mut fmt::Formatter<W>) -> fmt::Result {
         let member = self.member.number();
         let slot = self.slot;
@@ -76,6 +86,8 @@ impl fmt::Display for PrintedTake<'_> {
 pub struct PrintedGone(pub Member);
 
 impl fmt::Display for PrintedGone {
+    ghost output = { λ gone. Some (gone_text gone.0) };
+
     fn fmt<W: fmt::Write>(&self, f: &mut fmt::Formatter<W>) -> fmt::Result {
         write!(f, "gone {}", self.0.number())
     }
@@ -86,6 +98,8 @@ impl fmt::Display for PrintedGone {
 struct PrintedMessage<'a>(&'a PageMsg);
 
 impl fmt::Display for PrintedMessage<'_> {
+    ghost output = { λ message. Some (message_text message.0.now) };
+
     fn fmt<W: fmt::Write>(&self, f: &mut fmt::Formatter<W>) -> fmt::Result {
         match self.0 {
             PageMsg::Open(page) => write!(f, "open {}", PrintedPage(*page)),
@@ -104,22 +118,42 @@ impl fmt::Display for PrintedMessage<'_> {
 #[derive(Drop)]
 struct PrintedBody<'a>(&'a [u8]);
 
+/// How many bytes of a body are shown at once, since a character by itself costs as much as many.
+const SHOWN_AT_ONCE: usize = 128;
+
 impl fmt::Display for PrintedBody<'_> {
+    ghost output = { λ body. Some (body_text body.0.now) };
+
     fn fmt<W: fmt::Write>(&self, f: &mut fmt::Formatter<W>) -> fmt::Result {
-        let mut runs = self.0.split(|byte| !matches!(byte, b' '..=b'~'));
-        if let Some(first) = runs.next() {
-            write_run(f, first)?;
-        }
-        for run in runs {
-            f.write_char('?')?;
-            write_run(f, run)?;
+        for bytes in self.0.chunks(SHOWN_AT_ONCE) {
+            let shown = shown(bytes);
+            let Ok(text) = str::from_utf8(&shown[..bytes.len()]) else {
+                return Err(fmt::Error);
+            };
+            f.write_str(text)?;
         }
         Ok(())
     }
 }
 
-/// Writes a run of printable ASCII at once, since a body is mostly text and a character by itself costs as much as many.
-fn write_run<W: fmt::Write>(f: &mut fmt::Formatter<W>, run: &[u8]) -> fmt::Result {
-    let text = str::from_utf8(run).map_err(|_| fmt::Error)?;
-    f.write_str(text)
+/// The bytes as they are shown, at the front.
+fn shown(bytes: &[u8]) -> [u8; SHOWN_AT_ONCE]
+    requires { length bytes.now ≤ SHOWN_AT_ONCE }
+    ensures { take (length bytes.now) result ≡ body_text bytes.now }
+{
+    let mut shown = [b'?'; SHOWN_AT_ONCE];
+    for at in 0..bytes.len() {
+        shown[at] = shown_byte(bytes[at]);
+    }
+    shown
+}
+
+/// A byte as it is shown.
+fn shown_byte(byte: u8) -> u8
+    ensures { result ≡ spec.shown_byte byte }
+{
+    match byte {
+        b' '..=b'~' => byte,
+        _ => b'?',
+    }
 }
