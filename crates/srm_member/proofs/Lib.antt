@@ -1,3 +1,8 @@
+pub mod PensJoined
+pub mod Together
+pub mod WholeRuns
+pub mod Elements
+pub mod Gathered
 pub mod Lanes
 pub mod Splitting
 pub mod Stations

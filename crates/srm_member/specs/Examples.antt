@@ -1,13 +1,16 @@
--- Texts and their lines, how a member ends, and the words of a number.
-use Rattle.std.specs.Prelude.{◌≡◌, true, false, [], ◌∷◌, map, refl, Some, None, Ok, Err}
+-- Texts and their lines, how a member ends, what it prints then, and the words of a number.
+use Rattle.std.specs.Prelude.{◌≡◌, true, false, [], ◌∷◌, ◌++◌, map, codes, refl, Some, None, Ok, Err}
+use Rattle.std.specs.Fmt.{digits}
 use Rattle.std.specs.declared.io.ErrorKind.TheVariants as kind
 use Rattle.rand_core.specs.Pcg32Seed.{pcg32_seed}
 use Rattle.rand_core.specs.Steps.{u32_at, word_bytes}
+use Rattle.srm_names.specs.declared.page_msg.PageMsg.TheVariants.{Open, Draw, Left, Close}
 use Rattle.srm_script.specs.declared.fault.ScriptFault.TheVariants.{StandardInput, Memory}
 use Rattle.srm_node.specs.declared.fault.NodeFault.TheVariants as node
 use Rattle.srm_member.specs.declared.fault.MemberFault.TheVariants.{Script, Wire, Turns}
 use Rattle.srm_member.specs.Lines.{lines_of, each_fourth, bad_line}
 use Rattle.srm_member.specs.Statuses.{fault_of, fault_of_live, fault_of_binding, status_of_member}
+use Rattle.srm_member.specs.TakenText.{taken_text}
 use Rattle.srm_timers.specs.Seeds.{words_of}
 
 no_lines : lines_of [] ≡ []
@@ -49,3 +52,12 @@ a_system_without_memory = refl
 the_words_that_7_starts : words_of 7 ≡ record { state = 75399758779710541671558023171123802774; increment = 83908065895571479823384977301799156541 }
 unfolding words_of u32_at pcg32_seed word_bytes
 the_words_that_7_starts = refl
+
+a_member_that_is_gone : taken_text 0 ([] ∷ [] ∷ []) ≡ codes "gone 0" ++ 10 ∷ []
+unfolding digits
+a_member_that_is_gone = refl
+
+what_two_workers_took : taken_text 1 ((Open (record { creator = 0; number = 0 }) ∷ Draw (record { name = record { stream = record { source = 0; page = record { creator = 0; number = 0 } }; number = 1 }; stamp = 5; body = codes "a door" }) ∷ Close ∷ []) ∷ (Left 0 ∷ []) ∷ [])
+    ≡ codes "took 1 0 open 0.0" ++ 10 ∷ codes "took 1 0 draw 0 1 a door" ++ 10 ∷ codes "took 1 0 close" ++ 10 ∷ codes "took 1 1 left 0" ++ 10 ∷ codes "gone 1" ++ 10 ∷ []
+unfolding digits
+what_two_workers_took = refl

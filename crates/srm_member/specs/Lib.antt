@@ -1,6 +1,9 @@
-pub mod Statuses
 pub mod Examples
 pub mod Lines
-pub mod Stations
-pub mod Strokes
 pub mod Sinks
+pub mod WholeRuns
+pub mod Stations
+pub mod Statuses
+pub mod Strokes
+pub mod TakenText
+pub mod Writing

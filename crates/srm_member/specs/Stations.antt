@@ -1,5 +1,5 @@
 -- A member's station, as its options say.
-use Rattle.std.specs.Prelude.{◌≡◌, ℕ, List, length, Option, Some, None}
+use Rattle.std.specs.Prelude.{◌≡◌, ℕ, List, [], length, slice_get, Option, Some, None}
 use Rattle.srm_names.specs.declared.limits.TheConstants.{PAGES, PENS}
 use Rattle.srm_pages.specs.Ends.{TapView, PenView, AreNewPens}
 use Rattle.srm_entries.specs.Configs.{Config}
@@ -7,12 +7,21 @@ use Rattle.srm_wire.specs.Wires.{Told}
 use Rattle.srm_node.specs.Nodes.{NodeView, IsNewNode}
 use Rattle.srm_node.specs.Hosting.{AreEndsOfLanes}
 
--- A node with these settings that did nothing yet and is to leave from a moment on, over this wire, of which no call failed and which told so much, the tap
--- of each of its lanes, and the pens of its well.
+-- taps that took nothing, by their slots
+abbrev pub AreNewTaps : List TapView → Type 0
+AreNewTaps taps = (slot : ℕ) (t : TapView) → slice_get taps slot ≡ Some t → (t.taken ≡ []) × (t.slot ≡ slot)
+
+-- The ends of a node that did nothing yet: the tap of each of its lanes, which took nothing, and the pens of its well, which sent nothing.
+pub record HasNewEnds {X C : Type 0} (node : NodeView X C) (taps : List TapView) (pens : List PenView) : Type 0 where
+  pub slots : length taps ≡ PAGES
+  pub lanes : AreEndsOfLanes node.feeds taps
+  pub new_taps : AreNewTaps taps
+  pub count : length pens ≡ PENS
+  pub new_pens : AreNewPens node.well.well pens
+
+-- A node with these settings that did nothing yet and is to leave from a moment on, over this wire, of which no call failed and which told so much, and
+-- its ends.
 pub record IsNewStation {X C : Type 0} (config : Config) (stay : ℕ) (told : Option Told) (wire : X) (node : NodeView X C) (taps : List TapView) (pens : List PenView) : Type 0 where
   pub new : IsNewNode config node.feeds node.well 0 told wire (record node { asked = None })
   pub asked : node.asked ≡ Some stay
-  pub slots : length taps ≡ PAGES
-  pub lanes : AreEndsOfLanes node.feeds taps
-  pub count : length pens ≡ PENS
-  pub well : AreNewPens node.well.well pens
+  pub ends : HasNewEnds node taps pens

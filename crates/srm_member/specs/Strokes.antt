@@ -1,8 +1,10 @@
 -- What a pen draws.
-use Rattle.std.specs.Prelude.{◌≡◌, ℕ, List, ◌++◌, map}
+use Rattle.std.specs.Prelude.{◌≡◌, ℕ, List, [], ◌∷◌, ◌++◌, map}
+use Rattle.std.specs.List.{zip}
 use Rattle.srm_names.specs.Names.{first_page}
 use Rattle.srm_pages.specs.declared.stroke.Stroke.{Stroke}
 use Rattle.srm_pages.specs.Ends.{PenView}
+use Rattle.srm_member.specs.declared.pens.PenThread.{PenThread}
 
 -- the stroke with this body, of the pen at this place, on the first page
 abbrev pub stroke_of : ℕ → List ℕ → Stroke
@@ -17,3 +19,27 @@ pub record PenSentAllBut (bodies left : List (List ℕ)) (old new : PenView) : T
 -- the pen sent a prefix of these bodies
 abbrev pub PenSentPrefix : List (List ℕ) → PenView → PenView → Type 0
 PenSentPrefix bodies old new = (left : List (List ℕ)) × PenSentAllBut bodies left old new
+
+-- a pen, and the bodies that it is to draw
+abbrev pub PenAndBodies : Type 0
+PenAndBodies = PenView × List (List ℕ)
+
+-- those that a thread was started with
+abbrev pub pen_and_bodies : PenThread → PenAndBodies
+pen_and_bodies t = (t.handle.promise.0.value, t.handle.promise.1.value.items)
+
+-- the k-th pen is to draw the k-th list of bodies
+abbrev pub pens_with : List PenView → List (List (List ℕ)) → List PenAndBodies
+pens_with pens dealt = zip pens dealt
+
+-- each of the pens sent a prefix of its own bodies
+abbrev pub PensDrew : List PenAndBodies → List PenView → Type 0
+PensDrew [] [] = Unit {0}
+PensDrew (s ∷ ss) (p ∷ ps) = PenSentPrefix s.1 s.0 p × PensDrew ss ps
+PensDrew _ _ = ⊥
+
+-- of all these some were joined, and the others not yet
+pub record JoinsPens (all : List PenAndBodies) (left : List PenThread) (inked : List PenView) : Type 0 where
+  pub joined : List PenAndBodies
+  pub split : all ≡ joined ++ map pen_and_bodies left
+  pub each : PensDrew joined inked

@@ -17,6 +17,7 @@
 
 mod dealing;
 mod fault;
+mod joining;
 mod pens;
 mod printing;
 mod replying;
@@ -26,7 +27,8 @@ mod station;
 
 pub use dealing::deal;
 pub use fault::MemberFault;
+pub use joining::{join_pens, settle_lanes};
 pub use pens::{Waking, send_stroke, wake};
 pub use replying::print_reply;
-pub use running::run_node;
-pub use station::{Station, host_if};
+pub use running::{run_node, run_station};
+pub use station::{Ran, Station, host_if};

@@ -1,8 +1,8 @@
 //! The pens, each in a thread of its own.
 
-ghost use Rattle.std.specs.Prelude.{◌≡◌, [], ◌∷◌, ◌++◌};
+ghost use Rattle.std.specs.Prelude.{◌≡◌, ◌+◌, ◌<◌, ◌≤◌, [], ◌∷◌, ◌++◌, map, length, vec_len, vec_capacity, IfOk, IfSome};
 ghost use Rattle.std.specs.Bool.{OnTrue, OnFalse};
-ghost use Rattle.srm_member.specs.Strokes.{stroke_of, PenSentPrefix};
+ghost use Rattle.srm_member.specs.Strokes.{stroke_of, PenSentPrefix, PensDrew, pens_with, pen_and_bodies};
 
 use bytes::Bytes;
 use srm_names::Page;
@@ -10,9 +10,11 @@ use srm_pages::{Inked, Pen, Stroke};
 use srm_udp::WireWaker;
 use std::alloc::{AllocError, Global};
 use std::collections::VecDeque;
+use std::marker::Model;
+use std::snapshot::Snapshot;
 use std::sync::atomic::{AtomicBool, Ordering};
 use std::sync::{Arc, Wait};
-use std::thread::{JoinHandle, Threads};
+use std::thread::{Promise, PromisedHandle, Threads};
 use std::time::Duration;
 use std::{thread, time};
 
@@ -20,12 +22,42 @@ use std::{thread, time};
 /// keeps strokes back.
 const WAIT: u64 = 1_000;
 
-/// The threads of the pens, and the flag that tells them that the node has ended.
+/// A pen's promise: this pen sends a prefix of these bodies.
+#[derive(Drop)]
+pub struct Draws(Snapshot<Pen>, Snapshot<Vec<Bytes>>);
+
+impl Promise<Inked> for Draws {
+    ghost use Rattle.srm_member.specs.Strokes.{PenSentPrefix};
+
+    ghost kept_by = { λ p inked. PenSentPrefix p.1.value.items p.0.value inked };
+}
+
+/// A pen in its thread.
+#[derive(Drop)]
+pub struct PenThread {
+    handle: PromisedHandle<Inked, Draws>,
+}
+
+/// The threads of the pens, and the flag that tells them that the node has ended. Contracts see the pens, each with the bodies that it is to draw.
 #[derive(Drop)]
 pub struct PenThreads {
-    threads: VecDeque<JoinHandle<Inked>>,
+    threads: VecDeque<PenThread>,
+    // Room for the pen of each thread, once it is done.
+    inked: Vec<Inked>,
     ended: Arc<AtomicBool, Global>,
     waker: Waking,
+}
+
+impl Model for PenThreads {
+    ghost use Rattle.std.specs.Prelude.{◌≡◌, ◌+◌, ◌≤◌, List, [], map, length, vec_len, vec_capacity};
+    ghost use Rattle.srm_pages.specs.Ends.{PenView};
+    ghost use Rattle.srm_member.specs.Strokes.{PenAndBodies, pen_and_bodies};
+
+    ghost Value = { List PenAndBodies };
+
+    ghost view = { λ t. map pen_and_bodies t.threads.items };
+
+    ghost invariant = { λ t. (t.inked.items ≡ []) × (vec_len t.inked + length t.threads.items ≤ vec_capacity t.inked) };
 }
 
 /// What ends the pauses of the node's wire, if it has such.
@@ -41,9 +73,12 @@ pub fn share_waker(waker: &Waking) -> Waking {
 
 impl PenThreads {
     /// No thread yet. Only want of memory refuses it.
-    pub fn new(alloc: Global, waker: Waking) -> Result<PenThreads, AllocError> {
+    pub fn new(alloc: Global, waker: Waking) -> Result<PenThreads, AllocError>
+        ensures { IfOk result (λ threads. threads ≡ []) }
+    {
         Ok(PenThreads {
             threads: VecDeque::new(alloc),
+            inked: Vec::new(alloc),
             ended: Arc::new(alloc, AtomicBool::new(false))?,
             waker,
         })
@@ -55,11 +90,16 @@ impl PenThreads {
         rt: &R,
         pens: Vec<Pen>,
         dealt: Vec<Vec<Bytes>>,
-    ) -> bool {
+    ) -> bool
+        ensures { OnTrue result (self.new ≡ self.old ++ pens_with pens.items (map (λ bodies. bodies.items) dealt.items)) }
+    {
         let mut pens = VecDeque::from(pens);
         let mut dealt = VecDeque::from(dealt);
         for _ in 0..pens.len() {
-            let (Some(pen), Some(bodies)) = (pens.pop_front(), dealt.pop_front()) else {
+            let Some(pen) = pens.pop_front() else {
+                return false;
+            };
+            let Some(bodies) = dealt.pop_front() else {
                 return false;
             };
             if !self.start_one(rt, pen, bodies) {
@@ -69,35 +109,104 @@ impl PenThreads {
         true
     }
 
-    /// Starts the thread of a pen. Whether it was started.
+    /// Starts the thread of a pen, once there is a place for the pen when it is done. Whether it was started.
     fn start_one<R: time::Clock + Threads + Wait + Copy + Send + 'static>(
         &mut self,
         rt: &R,
         pen: Pen,
         bodies: Vec<Bytes>,
-    ) -> bool {
+    ) -> bool
+        ensures started { OnTrue result (self.new ≡ self.old ++ (pen, bodies.items) ∷ []) }
+        ensures same { OnFalse result (self.new ≡ self.old) }
+    {
         if self.threads.reserve(1).is_err() {
+            return false;
+        }
+        if self
+            .inked
+            .reserve(self.threads.len().saturating_add(1))
+            .is_err()
+        {
             return false;
         }
         let Ok(ended) = Arc::try_clone(&self.ended) else {
             return false;
         };
-        let own = *rt;
         let waker = share_waker(&self.waker);
-        match thread::spawn(rt, move || draw_all(&own, pen, bodies, &ended, &waker)) {
-            Ok(thread) => self.threads.push_back(thread).is_ok(),
-            Err(_) => false,
+        match spawn_pen(rt, pen, bodies, ended, waker) {
+            Some(thread) => self.threads.push_back(thread).is_ok(),
+            None => false,
         }
     }
 
-    /// Tells the threads that the node has ended, and waits for them.
-    pub fn end<R: Threads>(self, rt: &R) {
-        let PenThreads { threads, ended, .. } = self;
+    /// Tells the threads that the node has ended, waits for them, and gives the pens back, in their order.
+    pub fn end<R: Threads>(self, rt: &R) -> Vec<Inked>
+        ensures { PensDrew self result.items }
+    {
+        let PenThreads {
+            threads,
+            inked,
+            ended,
+            ..
+        } = self;
         ended.store(true, Ordering::SeqCst);
-        for thread in threads {
-            thread.join(rt);
-        }
+        join_all(rt, threads, inked)
     }
+}
+
+/// Starts the thread of a pen. None where there is no thread for it.
+fn spawn_pen<R: time::Clock + Threads + Wait + Copy + Send + 'static>(
+    rt: &R,
+    pen: Pen,
+    bodies: Vec<Bytes>,
+    ended: Arc<AtomicBool, Global>,
+    waker: Waking,
+) -> Option<PenThread>
+    ensures { IfSome result (λ t. pen_and_bodies t ≡ (pen, bodies.items)) }
+{
+    let own = *rt;
+    let promise = Draws(Snapshot::of(&pen), Snapshot::of(&bodies));
+    let spawned = thread::spawn_with(rt, promise, move || {
+        draw_all(&own, pen, bodies, &ended, &waker)
+    });
+    match spawned {
+        Ok(handle) => Some(PenThread { handle }),
+        Err(_) => None,
+    }
+}
+
+/// Waits for the threads, and puts their pens into this list, which has room for them.
+fn join_all<R: Threads>(rt: &R, threads: VecDeque<PenThread>, inked: Vec<Inked>) -> Vec<Inked>
+    requires none { inked.items ≡ [] }
+    requires room { vec_len inked + length threads.items ≤ vec_capacity inked }
+    ensures { PensDrew (map pen_and_bodies threads.items) result.items }
+{
+    let mut left = threads;
+    let mut inked = inked;
+    for _ in 0..left.len() {
+        let Some(thread) = left.pop_front() else {
+            unreachable!()
+        };
+        let one = join_one(rt, thread);
+        put(&mut inked, one);
+    }
+    inked
+}
+
+fn join_one<R: Threads>(rt: &R, thread: PenThread) -> Inked
+    ensures { PenSentPrefix (pen_and_bodies thread).1 (pen_and_bodies thread).0 result }
+{
+    let PenThread { handle } = thread;
+    handle.join(rt)
+}
+
+/// Puts one where there is a place for it.
+fn put(inked: &mut Vec<Inked>, one: Inked)
+    requires { vec_len inked.old < vec_capacity inked.old }
+    ensures items { inked.new.items ≡ inked.old.items ++ one ∷ [] }
+    ensures room { (vec_len inked.new ≡ vec_len inked.old + 1) × (vec_capacity inked.old ≤ vec_capacity inked.new) }
+{
+    let _ = inked.push(one);
 }
 
 /// Draws these bodies on the first page, in order, until the node has ended. The pen is then done.

@@ -1,45 +1,148 @@
 //! What is printed at a member's end.
 
-use srm_names::Member;
+ghost use Rattle.std.specs.Prelude.{◌≡◌, ◌≤◌, [], ◌++◌, length, take, IfOk, OnOk, OnErr, Err, string_bytes};
+ghost use Rattle.std.specs.Io.KnownBytes.{Appends, Keeps};
+ghost use Rattle.srm_script.specs.declared.fault.ScriptFault.TheVariants.{Memory};
+ghost use Rattle.srm_member.specs.TakenText.{gone_line, lists_of, slot_lines, taken_text, took_line};
+ghost use Rattle.srm_member.specs.Writing.{AppendsAllBut, AppendsFront};
+
+use srm_names::{LONGEST_BODY, Member, PageMsg};
 use srm_node::Worked;
 use srm_script::{PrintedGone, PrintedTake, ScriptFault};
 use std::alloc::Global;
 use std::io;
-use std::io::{BufWriter, Write};
+use std::io::{ErrorKind, Write};
 
-/// Prints what the worker of each slot took, in order, and that the member is gone. Refused is an output that can't be written, and, before
-/// anything is, want of memory.
+/// How many bytes are gathered before they are written.
+const GATHERED: usize = 8_192;
+
+/// Prints what the worker of each slot took, in order, and that the member is gone. Refused is an output that can't be written, behind a front of
+/// these lines, and, before anything is, want of memory.
+#[tactic(auto, using(crate::proofs::Gathered::front_of_none))]
 pub fn print_taken<O: Write>(
     alloc: Global,
     out: &mut O,
     me: Member,
     worked: &[Worked],
-) -> Result<(), ScriptFault> {
-    let Ok(mut out) = BufWriter::new(alloc, out) else {
+) -> Result<(), ScriptFault>
+    ensures printed { OnOk result (Appends (O.contents out.old) (O.contents out.new) (taken_text me (lists_of worked.now))) }
+    ensures cut { OnErr result (AppendsFront (O.contents out.old) (O.contents out.new) (taken_text me (lists_of worked.now))) }
+    ensures nothing { result ≡ Err Memory → Keeps (O.contents out.old) (O.contents out.new) }
+{
+    // No line that a session prints asks for more.
+    let Ok(mut lines) = String::with_capacity(alloc, GATHERED + 2 * LONGEST_BODY as usize) else {
         return Err(ScriptFault::Memory);
     };
-    match print_all(&mut out, me, worked) {
+    match print_all(out, &mut lines, me, worked) {
         Ok(()) => Ok(()),
         Err(_) => Err(ScriptFault::Output),
     }
 }
 
-fn print_all<O: Write>(out: &mut O, me: Member, worked: &[Worked]) -> io::Result<()> {
-    for (slot, worked) in (0..u8::MAX).zip(worked) {
-        print_slot(out, me, slot, worked)?;
+fn print_all<O: Write>(
+    out: &mut O,
+    lines: &mut String,
+    me: Member,
+    worked: &[Worked],
+) -> io::Result<()>
+    ensures printed { OnOk result (Appends (O.contents out.old) (O.contents out.new) (string_bytes lines.old ++ taken_text me (lists_of worked.now))) }
+    ensures cut { OnErr result (AppendsFront (O.contents out.old) (O.contents out.new) (string_bytes lines.old ++ taken_text me (lists_of worked.now))) }
+{
+    for (slot, worker) in worked.iter().enumerate() {
+        print_slot(out, lines, me, slot, worker.list.as_slice())?;
     }
-    writeln!(out, "{}", PrintedGone(me))?;
+    print_gone(out, lines, me)
+}
+
+/// Writes what is gathered, and that the member is gone.
+#[tactic(auto, using(crate::proofs::Gathered::kept_on, crate::proofs::Gathered::front_of_none, crate::proofs::Gathered::front_of_some))]
+fn print_gone<O: Write>(out: &mut O, lines: &mut String, me: Member) -> io::Result<()>
+    ensures printed { OnOk result (AppendsAllBut (O.contents out.old) (O.contents out.new) (string_bytes lines.old ++ gone_line me) []) }
+    ensures cut { OnErr result (AppendsFront (O.contents out.old) (O.contents out.new) (string_bytes lines.old ++ gone_line me)) }
+{
+    writeln!(lines, "{}", PrintedGone(me))?;
+    write_lines(out, lines)?;
     out.flush()
 }
 
-fn print_slot<O: Write>(out: &mut O, me: Member, slot: u8, worked: &Worked) -> io::Result<()> {
-    for message in worked.list.as_slice() {
-        let take = PrintedTake {
-            member: me,
-            slot,
-            message: Some(message),
-        };
-        writeln!(out, "{take}")?;
+fn print_slot<O: Write>(
+    out: &mut O,
+    lines: &mut String,
+    me: Member,
+    slot: usize,
+    list: &[PageMsg],
+) -> io::Result<()>
+    ensures printed { OnOk result (AppendsAllBut (O.contents out.old) (O.contents out.new) (string_bytes lines.old ++ slot_lines me slot list.now) (string_bytes lines.new)) }
+    ensures cut { OnErr result (AppendsFront (O.contents out.old) (O.contents out.new) (string_bytes lines.old ++ slot_lines me slot list.now)) }
+{
+    for message in list {
+        print_message(out, lines, me, slot, message)?;
     }
     Ok(())
+}
+
+/// Gathers a line, and writes what is gathered once that is much.
+#[tactic(auto, using(crate::proofs::Gathered::none_of_all, crate::proofs::Gathered::front_of_none))]
+fn print_message<O: Write>(
+    out: &mut O,
+    lines: &mut String,
+    me: Member,
+    slot: usize,
+    message: &PageMsg,
+) -> io::Result<()>
+    ensures printed { OnOk result (AppendsAllBut (O.contents out.old) (O.contents out.new) (string_bytes lines.old ++ took_line me slot message.now) (string_bytes lines.new)) }
+    ensures cut { OnErr result (AppendsFront (O.contents out.old) (O.contents out.new) (string_bytes lines.old ++ took_line me slot message.now)) }
+{
+    let take = PrintedTake {
+        member: me,
+        slot,
+        message: Some(message),
+    };
+    writeln!(lines, "{take}")?;
+    if lines.len() < GATHERED {
+        return Ok(());
+    }
+    write_lines(out, lines)
+}
+
+/// Writes what is gathered.
+fn write_lines<O: Write>(out: &mut O, lines: &mut String) -> io::Result<()>
+    ensures printed { OnOk result (AppendsAllBut (O.contents out.old) (O.contents out.new) (string_bytes lines.old) (string_bytes lines.new)) }
+    ensures empty { OnOk result (string_bytes lines.new ≡ []) }
+    ensures cut { OnErr result (AppendsFront (O.contents out.old) (O.contents out.new) (string_bytes lines.old)) }
+{
+    write_bytes(out, lines.as_bytes())?;
+    lines.clear();
+    Ok(())
+}
+
+/// Writes bytes until all are written or the output refuses more.
+#[tactic(auto, using(crate::proofs::Gathered::written_more, crate::proofs::Gathered::front_still))]
+fn write_bytes<O: Write>(out: &mut O, bytes: &[u8]) -> io::Result<()>
+    ensures printed { OnOk result (AppendsAllBut (O.contents out.old) (O.contents out.new) bytes.now []) }
+    ensures cut { OnErr result (AppendsFront (O.contents out.old) (O.contents out.new) bytes.now) }
+{
+    let mut rest = bytes;
+    for _ in 0..u64::MAX {
+        if rest.is_empty() {
+            return Ok(());
+        }
+        let count = write_some(out, rest)?;
+        rest = rest.split_at(count).1;
+    }
+    Err(ErrorKind::Interrupted.into())
+}
+
+/// Writes some of the bytes, and answers how many: none where the call was interrupted.
+#[tactic(auto, using(crate::proofs::Gathered::kept_is_none))]
+fn write_some<O: Write>(out: &mut O, bytes: &[u8]) -> io::Result<usize>
+    ensures bound { IfOk result (λ count. count ≤ length bytes.now) }
+    ensures written { IfOk result (λ count. Appends (O.contents out.old) (O.contents out.new) (take count bytes.now)) }
+    ensures none { OnErr result (Appends (O.contents out.old) (O.contents out.new) []) }
+{
+    match out.write(bytes) {
+        Ok(0) => Err(ErrorKind::WriteZero.into()),
+        Err(error) if error.kind() == ErrorKind::Interrupted => Ok(0),
+        written => written,
+    }
 }

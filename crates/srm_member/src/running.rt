@@ -1,14 +1,23 @@
 //! A member from its options to its end.
 
-ghost use Rattle.std.specs.Prelude.{◌≤◌};
+ghost use Rattle.std.specs.Prelude.{◌≤◌, List, map, OnOk};
+ghost use Rattle.srm_names.specs.declared.page_msg.PageMsg.{PageMsg as AMessage};
+ghost use Rattle.srm_node.specs.Calls.{calls_of};
+ghost use Rattle.srm_udp.specs.Clocks.{NeverFalls};
 ghost use Rattle.srm_script.specs.declared.status.TheConstants.{RAN_OUT};
 ghost use Rattle.srm_member.specs.Statuses.{IsStatus};
+ghost use Rattle.srm_member.specs.Stations.{HasNewEnds};
+ghost use Rattle.std.specs.Io.KnownBytes.{Appends};
+ghost use Rattle.srm_member.specs.TakenText.{taken_text};
+ghost use Rattle.srm_member.specs.WholeRuns.{IsWholeRun};
 
 use crate::dealing::deal;
 use crate::fault::MemberFault;
+use crate::joining::{join_pens, settle_lanes};
 use crate::printing::print_taken;
-use crate::station::Station;
-use srm_node::Hosted;
+use crate::station::{Ran, Station};
+use bytes::Bytes;
+use srm_node::{Hosted, Wire};
 use srm_options::NodeOptions;
 use srm_script::read_input;
 use std::alloc::Global;
@@ -55,13 +64,50 @@ where
     let input = read_input(alloc, reader)?;
     let dealt = deal(alloc, input.as_slice())?;
     drop(input);
-    let me = options.config.me();
     let turns = options.turns;
     let station = Station::bind(rt, alloc, options)?;
-    let hosted: Hosted = station.run(rt, alloc, dealt, turns)?;
-    if let Some(fault) = MemberFault::of_run(hosted.end, hosted.worked.as_slice()) {
-        return Err(fault);
+    run_station(rt, alloc, station, dealt, turns, out)
+}
+
+/// Runs a new station to its end, its k-th pen drawing the k-th list of bodies, and prints what its page workers took. Refused is what
+/// [`Station::run`] refuses, what ends a run, and an output that can't be written; nothing is printed before the run was whole.
+///
+/// What was printed as taken in a slot is a prefix of what the node's journal gave there, and of each pen the strokes that the journal drew are a prefix of its
+/// bodies, in order.
+pub fn run_station<R, X, O>(
+    rt: &R,
+    alloc: Global,
+    station: Station<R, X>,
+    dealt: Vec<Vec<Bytes>>,
+    turns: u64,
+    out: &mut O,
+) -> Result<(), MemberFault>
+where
+    R: time::Clock + Threads + Wait + Copy + Send + Drop + 'static,
+    X: Wire + Drop,
+    O: Write,
+    requires { HasNewEnds station.node.view station.taps.items station.pens.items }
+    ensures { OnOk result ((took : List (List AMessage)) × (whole : IsWholeRun (calls_of NeverFalls X.receives X.sends X.pauses) turns (map (λ bodies. bodies.items) dealt.items) station.node.view took)
+        × Appends (O.contents out.old) (O.contents out.new) (taken_text whole.host.last.journal.start.config.me took)) }
+{
+    let Ran {
+        hosted,
+        mut well,
+        pens,
+    } = station.run_whole(rt, alloc, dealt, turns)?;
+    let Hosted {
+        journal,
+        feeds,
+        worked,
+        end,
+    } = hosted;
+    match MemberFault::of_run(end, worked.as_slice()) {
+        Some(fault) => Err(fault),
+        None => {
+            print_taken(alloc, out, journal.start().config.me(), worked.as_slice())?;
+            settle_lanes(feeds, worked);
+            join_pens(&mut well, pens);
+            Ok(())
+        }
     }
-    print_taken(alloc, out, me, hosted.worked.as_slice())?;
-    Ok(())
 }

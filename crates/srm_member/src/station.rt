@@ -5,12 +5,13 @@ ghost use Rattle.srm_names.specs.declared.limits.TheConstants.{PAGES, PENS};
 ghost use Rattle.srm_pages.specs.Ends.{AreNewPens};
 ghost use Rattle.srm_node.specs.Nodes.{AreNewFeeds};
 ghost use Rattle.srm_node.specs.Calls.{calls_of};
-ghost use Rattle.srm_node.specs.Hosting.{kinds_of, starts_of, Hosts, HostFails, AreEndsOfLanes};
+ghost use Rattle.srm_node.specs.Hosting.{kinds_of, starts_of, Hosts, HostsWith, HostFails, HostFailsWith, SameWell, AreEndsOfLanes};
 ghost use Rattle.srm_udp.specs.Clocks.{NeverFalls};
 ghost use Rattle.srm_member.specs.Sinks.{NeverStops};
 ghost use Rattle.srm_member.specs.declared.sink.Unseen.{Unseen};
 ghost use Rattle.srm_timers.specs.Seeds.{words_of};
-ghost use Rattle.srm_member.specs.Stations.{IsNewStation};
+ghost use Rattle.srm_member.specs.Stations.{AreNewTaps, IsNewStation};
+ghost use Rattle.srm_member.specs.Strokes.{PensDrew, pens_with};
 
 use crate::fault::MemberFault;
 use crate::pens::{PenThreads, Waking, share_waker};
@@ -18,10 +19,10 @@ use crate::sink::{Unseen, sinks};
 use bytes::Bytes;
 use srm_agent::{Config, Entry};
 use srm_names::PageMsg;
-use srm_node::{Hosted, Node, PageSink, host};
+use srm_node::{Hosted, Node, PageSink, host_with_well};
 use srm_options::NodeOptions;
 use srm_pages::ends::Well;
-use srm_pages::{Feed, Pen, Tap, lanes, well};
+use srm_pages::{Feed, Inked, Pen, Tap, lanes, well};
 use srm_script::ScriptFault;
 use srm_timers::Pcg;
 use srm_udp::{SystemClock, UdpWire};
@@ -131,6 +132,27 @@ impl<R: time::Clock + Copy + Drop, X: Wire + Drop> Station<R, X> {
             (λ fault. (all : Bool) × HostFails (calls_of NeverFalls X.receives X.sends X.pauses) (kinds_of L.appended L.is_refused NeverStops) all self.node.view (starts_of self.taps.items sinks) turns fault h)) }
         ensures lanes { IfOk result (λ h. IfOk h.end (λ _. AreEndsOfLanes self.node.view.feeds self.taps.items → AreEndsOfLanes h.feeds.items (map (λ w. w.tap) h.worked.items))) }
     {
+        let ran = self.run_whole(rt, alloc, dealt, turns)?;
+        Ok(ran.hosted)
+    }
+
+    /// The same, and hands back the node's well and the pens too, which sent a prefix of what was dealt to each.
+    pub fn run_whole<L: Past<PageMsg> + Send + Drop + 'static>(
+        self,
+        rt: &R,
+        alloc: Global,
+        dealt: Vec<Vec<Bytes>>,
+        turns: u64,
+    ) -> Result<Ran<L>, MemberFault>
+    where
+        R: Threads + Wait + Send + 'static,
+        requires { vec_len self.taps ≡ PAGES }
+        ensures hosts { IfOk result (λ r. (sinks : List Unseen) × (length sinks ≡ PAGES) × MatchResult r.hosted.end (λ _. HostsWith (calls_of NeverFalls X.receives X.sends X.pauses) (kinds_of L.appended L.is_refused NeverStops) self.node.view (starts_of self.taps.items sinks) turns r.well r.hosted)
+            (λ fault. (all : Bool) × HostFailsWith (calls_of NeverFalls X.receives X.sends X.pauses) (kinds_of L.appended L.is_refused NeverStops) all self.node.view (starts_of self.taps.items sinks) turns fault r.well r.hosted)) }
+        ensures lanes { IfOk result (λ r. IfOk r.hosted.end (λ _. AreEndsOfLanes self.node.view.feeds self.taps.items → AreEndsOfLanes r.hosted.feeds.items (map (λ w. w.tap) r.hosted.worked.items))) }
+        ensures well { IfOk result (λ r. IfOk r.hosted.end (λ _. SameWell self.node.view.well r.well)) }
+        ensures pens { IfOk result (λ r. PensDrew (pens_with self.pens.items (map (λ bodies. bodies.items) dealt.items)) r.pens.items) }
+    {
         match Crew::new(alloc, share_waker(&self.waker)) {
             Ok(crew) => self.run_with(rt, alloc, crew, dealt, turns),
             Err(_) => Err(MemberFault::Script(ScriptFault::Memory)),
@@ -146,14 +168,17 @@ impl<R: time::Clock + Copy + Drop, X: Wire + Drop> Station<R, X> {
         crew: Crew,
         dealt: Vec<Vec<Bytes>>,
         turns: u64,
-    ) -> Result<Hosted<Vec<Entry>, L>, MemberFault>
+    ) -> Result<Ran<L>, MemberFault>
     where
         R: Threads + Wait + Send + 'static,
         requires taps { vec_len self.taps ≡ PAGES }
         requires sinks { vec_len crew.sinks ≡ PAGES }
-        ensures hosts { IfOk result (λ h. MatchResult h.end (λ _. Hosts (calls_of NeverFalls X.receives X.sends X.pauses) (kinds_of L.appended L.is_refused NeverStops) self.node.view (starts_of self.taps.items crew.sinks.items) turns h)
-            (λ fault. (all : Bool) × HostFails (calls_of NeverFalls X.receives X.sends X.pauses) (kinds_of L.appended L.is_refused NeverStops) all self.node.view (starts_of self.taps.items crew.sinks.items) turns fault h)) }
-        ensures lanes { IfOk result (λ h. IfOk h.end (λ _. AreEndsOfLanes self.node.view.feeds self.taps.items → AreEndsOfLanes h.feeds.items (map (λ w. w.tap) h.worked.items))) }
+        requires threads { crew.threads ≡ [] }
+        ensures hosts { IfOk result (λ r. MatchResult r.hosted.end (λ _. HostsWith (calls_of NeverFalls X.receives X.sends X.pauses) (kinds_of L.appended L.is_refused NeverStops) self.node.view (starts_of self.taps.items crew.sinks.items) turns r.well r.hosted)
+            (λ fault. (all : Bool) × HostFailsWith (calls_of NeverFalls X.receives X.sends X.pauses) (kinds_of L.appended L.is_refused NeverStops) all self.node.view (starts_of self.taps.items crew.sinks.items) turns fault r.well r.hosted)) }
+        ensures lanes { IfOk result (λ r. IfOk r.hosted.end (λ _. AreEndsOfLanes self.node.view.feeds self.taps.items → AreEndsOfLanes r.hosted.feeds.items (map (λ w. w.tap) r.hosted.worked.items))) }
+        ensures well { IfOk result (λ r. IfOk r.hosted.end (λ _. SameWell self.node.view.well r.well)) }
+        ensures pens { IfOk result (λ r. PensDrew (pens_with self.pens.items (map (λ bodies. bodies.items) dealt.items)) r.pens.items) }
     {
         let Station {
             node,
@@ -164,12 +189,20 @@ impl<R: time::Clock + Copy + Drop, X: Wire + Drop> Station<R, X> {
         let Crew { sinks, mut threads } = crew;
         let all = threads.start(rt, pens, dealt);
         let hosted = host_if(rt, alloc, all, node, taps, sinks, turns);
-        threads.end(rt);
+        let pens = threads.end(rt);
         match hosted {
-            Some(hosted) => Ok(hosted),
+            Some((hosted, well)) => Ok(Ran { hosted, well, pens }),
             None => Err(MemberFault::Script(ScriptFault::Memory)),
         }
     }
+}
+
+/// What became of a station's run: its node with its workers, the node's well, and its pens, which are done.
+#[derive(Drop)]
+pub struct Ran<L: Past<PageMsg> + Drop = Vec<PageMsg>> {
+    pub hosted: Hosted<Vec<Entry>, L>,
+    pub well: Well,
+    pub pens: Vec<Inked>,
 }
 
 impl<R: time::Clock + Copy + Drop, X: Wire + Drop, P: Past<Entry> + Drop> Station<R, X, P> {
@@ -249,6 +282,7 @@ fn make_parts<R: time::Clock + Copy + Drop>(rt: &R, alloc: Global) -> Result<Par
     ensures feeds { IfOk result (λ e. AreNewFeeds e.feeds.items) }
     ensures taps { IfOk result (λ e. length e.taps.items ≡ PAGES) }
     ensures lanes { IfOk result (λ e. AreEndsOfLanes e.feeds.items e.taps.items) }
+    ensures new { IfOk result (λ e. AreNewTaps e.taps.items) }
     ensures well { IfOk result (λ e. e.well.received ≡ []) }
     ensures pens { IfOk result (λ e. (length e.pens.items ≡ PENS) × AreNewPens e.well.well e.pens.items) }
 {
@@ -277,7 +311,8 @@ struct Crew {
 impl Crew {
     /// No thread is started yet. Only want of memory refuses it.
     fn new(alloc: Global, waker: Waking) -> Result<Crew, AllocError>
-        ensures { IfOk result (λ crew. vec_len crew.sinks ≡ PAGES) }
+        ensures sinks { IfOk result (λ crew. vec_len crew.sinks ≡ PAGES) }
+        ensures threads { IfOk result (λ crew. crew.threads ≡ []) }
     {
         Ok(Crew {
             sinks: sinks(alloc)?,
@@ -286,7 +321,8 @@ impl Crew {
     }
 }
 
-/// Runs the node with its workers, if each thread that draws for it was started. Else, and for want of memory before any worker is started, there is none.
+/// Runs the node with its workers, if each thread that draws for it was started, and hands its well back too. Else, and for want of memory before any worker is
+/// started, there is none.
 pub fn host_if<R, X, P, S, L>(
     rt: &R,
     alloc: Global,
@@ -295,7 +331,7 @@ pub fn host_if<R, X, P, S, L>(
     taps: Vec<Tap>,
     sinks: Vec<S>,
     turns: u64,
-) -> Option<Hosted<P, L>>
+) -> Option<(Hosted<P, L>, Well)>
 where
     R: time::Clock + Threads + Wait + Copy + Send + Drop + 'static,
     X: Wire + Drop,
@@ -305,14 +341,15 @@ where
     requires taps { vec_len taps ≡ PAGES }
     requires sinks { vec_len sinks ≡ PAGES }
     ensures refused { started ≡ false → result ≡ None }
-    ensures hosts { IfSome result (λ h. MatchResult h.end (λ _. Hosts (calls_of NeverFalls X.receives X.sends X.pauses) (kinds_of L.appended L.is_refused S.sees) node.view (starts_of taps.items sinks.items) turns h)
-        (λ fault. (all : Bool) × HostFails (calls_of NeverFalls X.receives X.sends X.pauses) (kinds_of L.appended L.is_refused S.sees) all node.view (starts_of taps.items sinks.items) turns fault h)) }
-    ensures lanes { IfSome result (λ h. IfOk h.end (λ _. AreEndsOfLanes node.view.feeds taps.items → AreEndsOfLanes h.feeds.items (map (λ w. w.tap) h.worked.items))) }
+    ensures hosts { IfSome result (λ r. MatchResult r.0.end (λ _. HostsWith (calls_of NeverFalls X.receives X.sends X.pauses) (kinds_of L.appended L.is_refused S.sees) node.view (starts_of taps.items sinks.items) turns r.1 r.0)
+        (λ fault. (all : Bool) × HostFailsWith (calls_of NeverFalls X.receives X.sends X.pauses) (kinds_of L.appended L.is_refused S.sees) all node.view (starts_of taps.items sinks.items) turns fault r.1 r.0)) }
+    ensures lanes { IfSome result (λ r. IfOk r.0.end (λ _. AreEndsOfLanes node.view.feeds taps.items → AreEndsOfLanes r.0.feeds.items (map (λ w. w.tap) r.0.worked.items))) }
+    ensures well { IfSome result (λ r. IfOk r.0.end (λ _. SameWell node.view.well r.1)) }
 {
     if !started {
         return None;
     }
-    match host(rt, alloc, node, taps, sinks, turns) {
+    match host_with_well(rt, alloc, node, taps, sinks, turns) {
         Ok(hosted) => Some(hosted),
         Err(_) => None,
     }
@@ -323,6 +360,7 @@ fn slots(alloc: Global) -> Result<(Vec<Feed>, Vec<Tap>), AllocError>
     ensures feeds { IfOk result (λ e. AreNewFeeds e.0.items) }
     ensures taps { IfOk result (λ e. vec_len e.1 ≡ PAGES) }
     ensures lanes { IfOk result (λ e. AreEndsOfLanes e.0.items e.1.items) }
+    ensures new { IfOk result (λ e. AreNewTaps e.1.items) }
 {
     let ends = lanes(alloc, 0)?;
     Ok((ends.feeds, ends.taps))

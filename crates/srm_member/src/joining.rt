@@ -1,0 +1,38 @@
+//! What the ends of lanes and of a well tell once they are put together again, when their threads have ended.
+
+ghost use Rattle.std.specs.Prelude.{◌≡◌, map};
+ghost use Rattle.std.specs.List.{AllByRecursion};
+ghost use Rattle.srm_node.specs.Hosting.{AreEndsOfLanes};
+ghost use Rattle.srm_member.specs.WholeRuns.{TakePrefixes, IsReceivedOf};
+
+use srm_node::Worked;
+use srm_pages::ends::Well;
+use srm_pages::{Feed, Inked, settle};
+use std::collections::VecDeque;
+
+/// Puts pens that are done beside their well: what was received of each is a prefix of what it sent.
+pub fn join_pens(well: &mut Well, pens: Vec<Inked>)
+    requires { AllByRecursion (λ p. p.well ≡ well.old.well) pens.items }
+    ensures same { well.new ≡ well.old }
+    ensures parts { AllByRecursion (IsReceivedOf well.new.received) pens.items }
+{
+    for pen in pens {
+        well.join_pen(pen);
+    }
+}
+
+/// Puts the two ends of each lane together, by slot: what was taken is a prefix of what was put.
+pub fn settle_lanes(feeds: Vec<Feed>, workers: Vec<Worked>)
+    requires { AreEndsOfLanes feeds.items (map (λ w. w.tap) workers.items) }
+    ensures { TakePrefixes feeds.items (map (λ w. w.tap) workers.items) }
+{
+    let mut feeds = VecDeque::from(feeds);
+    let mut left = VecDeque::from(workers);
+    while let Some(worked) = left.pop_front() {
+        let Some(feed) = feeds.pop_front() else {
+            return;
+        };
+        let Worked { tap, .. } = worked;
+        settle(feed, tap);
+    }
+}
