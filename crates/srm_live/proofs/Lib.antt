@@ -1,1 +1,2 @@
 pub mod TypedLines
+pub mod LiveRuns

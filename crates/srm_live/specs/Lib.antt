@@ -1,2 +1,4 @@
+pub mod Earlier
 pub mod Examples
+pub mod LiveStatuses
 pub mod Typing

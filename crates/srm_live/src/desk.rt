@@ -1,10 +1,11 @@
 //! What the threads of a live member share: where it prints, and what befell it.
 
 ghost use Rattle.std.specs.Prelude.{◌≡◌, ◌≤◌};
-ghost use Rattle.srm_script.specs.declared.status.TheConstants.{RAN_OUT};
-ghost use Rattle.srm_member.specs.Statuses.{status_of_member};
+ghost use Rattle.srm_live.specs.declared.live_fault.TheConstants.{WAS_BEFORE};
+ghost use Rattle.srm_live.specs.LiveStatuses.{status_of_live};
 
 use crate::error_stream::ErrorStream;
+use crate::live_fault::LiveFault;
 use srm_member::MemberFault;
 use srm_names::{Member, PageMsg};
 use srm_script::{PrintedGone, PrintedTake, ScriptFault};
@@ -51,7 +52,7 @@ impl<O: Write, E: Write> Desk<O, E> {
     pub fn print_taken<R: Wait>(&self, rt: &R, alloc: Global, slot: u8, message: &PageMsg) {
         let take = PrintedTake {
             member: self.me,
-            slot,
+            slot: usize::from(slot),
             message: Some(message),
         };
         match format!(in alloc; "{take}\n") {
@@ -96,15 +97,23 @@ impl<O: Write, E: Write> Desk<O, E> {
         }
     }
 
+    /// Tells a line, with its line end, on standard error.
+    pub fn tell<R: Wait>(&self, rt: &R, line: &str) {
+        self.err.lock(rt).tell(line);
+    }
+
     /// Tells that a line isn't drawn. The member goes on.
     pub fn refuse<R: Wait>(&self, rt: &R, number: u64) {
-        let _ = self.print_fault(rt, &MemberFault::Script(ScriptFault::BadLine(number)));
+        let _ = self.print_fault(
+            rt,
+            &LiveFault::Member(MemberFault::Script(ScriptFault::BadLine(number))),
+        );
     }
 
     /// Prints a fault, and answers its status.
-    pub fn print_fault<R: Wait>(&self, rt: &R, fault: &MemberFault) -> u8
-        ensures status { result ≡ status_of_member fault.now }
-        ensures greatest { result ≤ RAN_OUT }
+    pub fn print_fault<R: Wait>(&self, rt: &R, fault: &LiveFault) -> u8
+        ensures status { result ≡ status_of_live fault.now }
+        ensures greatest { result ≤ WAS_BEFORE }
     {
         let mut err = self.err.lock(rt);
         err.print(fault)

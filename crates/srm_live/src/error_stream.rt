@@ -1,10 +1,10 @@
 //! Standard error of a live member: what is told, and on a terminal the line of its activity, which is written over in place.
 
 ghost use Rattle.std.specs.Prelude.{◌≡◌, ◌≤◌};
-ghost use Rattle.srm_script.specs.declared.status.TheConstants.{RAN_OUT};
-ghost use Rattle.srm_member.specs.Statuses.{status_of_member};
+ghost use Rattle.srm_live.specs.declared.live_fault.TheConstants.{WAS_BEFORE};
+ghost use Rattle.srm_live.specs.LiveStatuses.{status_of_live};
 
-use srm_member::MemberFault;
+use crate::live_fault::LiveFault;
 use std::io::Write;
 
 /// To the front of the line, and then the line is empty, as terminals understand it.
@@ -42,10 +42,16 @@ impl<E: Write> ErrorStream<E> {
         self.has_activity = true;
     }
 
+    /// Prints a line, which has its line end.
+    pub fn tell(&mut self, line: &str) {
+        self.wipe();
+        self.write(line);
+    }
+
     /// Prints a fault on a line of its own, and answers its status.
-    pub fn print(&mut self, fault: &MemberFault) -> u8
-        ensures status { result ≡ status_of_member fault.now }
-        ensures greatest { result ≤ RAN_OUT }
+    pub fn print(&mut self, fault: &LiveFault) -> u8
+        ensures status { result ≡ status_of_live fault.now }
+        ensures greatest { result ≤ WAS_BEFORE }
     {
         self.wipe();
         fault.print(&mut self.stream)

@@ -1,12 +1,21 @@
 //! The node of a live member, its page workers, and the thread that draws what is typed.
 
-ghost use Rattle.std.specs.Prelude.{◌≡◌, vec_len, slice_get};
+ghost use Rattle.std.specs.Prelude.{◌≡◌, List, None, map, vec_len, slice_get, IfOk};
+ghost use Rattle.std.specs.List.{list_any};
 ghost use Rattle.srm_names.specs.declared.limits.TheConstants.{PAGES};
+ghost use Rattle.srm_names.specs.declared.page_msg.PageMsg.{PageMsg as AMessage};
+ghost use Rattle.srm_node.specs.Calls.{calls_of};
+ghost use Rattle.srm_node.specs.Hosting.{AreEndsOfLanes};
+ghost use Rattle.srm_udp.specs.Clocks.{NeverFalls};
+ghost use Rattle.srm_member.specs.Stations.{HasNewEnds};
+ghost use Rattle.srm_member.specs.Statuses.{fault_of, lacks_memory};
+ghost use Rattle.srm_member.specs.WholeRuns.{TakePrefixes, SawEach, IsWholeHost};
 
 use crate::desk::Desk;
+use crate::lingering::Staying;
 use crate::typing::draw_typed;
 use srm_agent::Entry;
-use srm_member::{MemberFault, Station, Waking, host_if};
+use srm_member::{MemberFault, Station, Waking, host_if, settle_lanes};
 use srm_names::PageMsg;
 use srm_node::{Hosted, PageSink};
 use srm_pages::{Inked, Pen};
@@ -21,14 +30,14 @@ use std::thread::{JoinHandle, Threads};
 use std::{thread, time};
 
 /// Runs the node in this thread, and its page workers and the pen that draws what is typed in threads of their own, until all have ended. Why it
-/// wasn't run to its end, if it wasn't.
+/// wasn't run to its end, if it wasn't. If it was, what each worker took, and its sink saw, is a prefix of what the node's journal gave in its slot.
 pub fn host_live<R, X, P, S, I, O, E>(
     rt: &R,
     alloc: Global,
     station: Station<R, X, P>,
     sinks: Vec<S>,
     reader: I,
-    stay: u64,
+    staying: Staying,
     turns: u64,
     desk: &Arc<Desk<O, E>, Global>,
 ) -> Option<MemberFault>
@@ -40,8 +49,9 @@ where
     I: Read + Send + Drop + 'static,
     O: Write + Send + Drop + 'static,
     E: Write + Send + Drop + 'static,
-    requires taps { vec_len station.taps ≡ PAGES }
+    requires new { HasNewEnds station.node.view station.taps.items station.pens.items }
     requires sinks { vec_len sinks ≡ PAGES }
+    ensures { result ≡ None → ((took : List (List AMessage)) × IsWholeHost (calls_of NeverFalls X.receives X.sends X.pauses) turns station.node.view took × SawEach S.sees sinks.items took) }
 {
     let Station {
         node,
@@ -49,19 +59,33 @@ where
         pens,
         waker,
     } = station;
-    let typing = start_typing(rt, alloc, pens, reader, stay, desk, waker);
+    let typing = start_typing(rt, alloc, pens, reader, staying, desk, waker);
     let hosted = host_if(rt, alloc, typing.is_some(), node, taps, sinks, turns);
     desk.end();
     join_if(rt, typing);
-    fault_of(hosted)
-}
-
-// Why the run was no whole one. Only for want of memory there is none.
-fn fault_of<P: Past<Entry> + Drop>(hosted: Option<Hosted<P, Vec<PageMsg>>>) -> Option<MemberFault> {
     match hosted {
-        Some(hosted) => MemberFault::of_run(hosted.end, hosted.worked.as_slice()),
+        Some((hosted, _)) => settle(hosted),
         None => Some(MemberFault::Script(ScriptFault::Memory)),
     }
+}
+
+// Why the run was no whole one; if it was, the two ends of each lane are put together.
+fn settle<P: Past<Entry> + Drop>(hosted: Hosted<P, Vec<PageMsg>>) -> Option<MemberFault>
+    requires { IfOk hosted.end (λ _. AreEndsOfLanes hosted.feeds.items (map (λ w. w.tap) hosted.worked.items)) }
+    ensures fault { result ≡ fault_of hosted.end (list_any lacks_memory hosted.worked.items) }
+    ensures takes { result ≡ None → TakePrefixes hosted.feeds.items (map (λ w. w.tap) hosted.worked.items) }
+{
+    let Hosted {
+        feeds,
+        worked,
+        end,
+        ..
+    } = hosted;
+    let fault = MemberFault::of_run(end, worked.as_slice());
+    if fault.is_none() {
+        settle_lanes(feeds, worked);
+    }
+    fault
 }
 
 // Starts the thread of the pen that draws what is typed; the others are done. None where there is no memory for it.
@@ -70,7 +94,7 @@ fn start_typing<R, I, O, E>(
     alloc: Global,
     pens: Vec<Pen>,
     reader: I,
-    stay: u64,
+    staying: Staying,
     desk: &Arc<Desk<O, E>, Global>,
     waker: Waking,
 ) -> Option<JoinHandle<Inked>>
@@ -81,7 +105,7 @@ where
     E: Write + Send + Drop + 'static,
 {
     match (first_of(pens), Arc::try_clone(desk)) {
-        (Some(pen), Ok(desk)) => spawn_typing(rt, alloc, pen, reader, stay, desk, waker),
+        (Some(pen), Ok(desk)) => spawn_typing(rt, alloc, pen, reader, staying, desk, waker),
         _ => None,
     }
 }
@@ -91,7 +115,7 @@ fn spawn_typing<R, I, O, E>(
     alloc: Global,
     pen: Pen,
     reader: I,
-    stay: u64,
+    staying: Staying,
     desk: Arc<Desk<O, E>, Global>,
     waker: Waking,
 ) -> Option<JoinHandle<Inked>>
@@ -104,7 +128,7 @@ where
     let own = *rt;
     match thread::spawn(
         rt,
-        move || draw_typed(&own, alloc, reader, pen, stay, &desk, &waker),
+        move || draw_typed(&own, alloc, reader, pen, &staying, &desk, &waker),
     ) {
         Ok(typing) => Some(typing),
         Err(_) => None,

@@ -10,17 +10,26 @@
 //!
 //! **What is refused**, in this order: an address that can't be bound, and what ends a run. It reads last, and goes on behind a line that is too long. Where several things
 //! befell a run, want of memory is told before all else, then what ended the node's run, an output that failed, and an input that did.
-//! [`MemberFault`](srm_member::MemberFault) has the text and the status of each.
+//! [`MemberFault`](srm_member::MemberFault) has the text and the status of each, but that an address which can't be bound is told with the cause: `srm: cannot bind 127.0.0.1:80: permission denied`. A
+//! member that was in the session before, under the same number, is told so once, goes on, and ends with the status [`WAS_BEFORE`].
 #![tactic(auto)]
 
 mod counted_wire;
 mod cut;
 mod desk;
+mod earlier;
 mod error_stream;
 mod hosting;
+mod lingering;
+mod live_fault;
 mod live_sink;
 mod living;
+mod lost;
+mod need;
+mod needed;
+mod news;
 mod polled_input;
+mod presence;
 mod remaining;
 mod tally;
 mod telling;
@@ -28,5 +37,6 @@ mod typed;
 mod typing;
 mod watched;
 
+pub use live_fault::WAS_BEFORE;
 pub use living::run_live;
 pub use polled_input::PolledInput;

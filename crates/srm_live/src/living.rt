@@ -2,29 +2,37 @@
 
 ghost use Rattle.std.specs.Prelude.{◌≡◌, ◌≤◌, vec_len, IfOk};
 ghost use Rattle.srm_names.specs.declared.limits.TheConstants.{PAGES};
-ghost use Rattle.srm_script.specs.declared.status.TheConstants.{RAN_OUT};
-ghost use Rattle.srm_member.specs.Statuses.{IsStatus};
+ghost use Rattle.srm_member.specs.Stations.{HasNewEnds};
+ghost use Rattle.srm_live.specs.declared.live_fault.TheConstants.{WAS_BEFORE};
+ghost use Rattle.srm_live.specs.LiveStatuses.{IsLiveStatus};
 
 use crate::counted_wire::CountedWire;
 use crate::desk::Desk;
-use crate::hosting::{host_live, join_if};
+use crate::hosting::host_live;
+use crate::lingering::Staying;
+use crate::live_fault::LiveFault;
 use crate::live_sink::{Printing, printing_sinks};
+use crate::lost::Lost;
+use crate::need::Need;
+use crate::needed::Needed;
+use crate::news::{Told, tell_news};
 use crate::tally::Tally;
 use crate::telling::start_telling;
 use crate::watched::Watched;
 use srm_member::{MemberFault, Station};
+use srm_names::Member;
 use srm_options::NodeOptions;
 use srm_script::ScriptFault;
-use srm_udp::UdpWire;
-use std::alloc::Global;
+use srm_udp::{Losses, UdpWire};
+use std::alloc::{AllocError, Global};
 use std::io::{IsTerminal, Read, Write};
 use std::net::Net;
 use std::sync::{Arc, Wait};
-use std::thread::Threads;
+use std::thread::{JoinHandle, Threads};
 use std::{mem, time};
 
 /// Runs a member with these options that draws each line of the input as it comes, by one pen, and prints what its page workers take as they
-/// do. It stays on for the options' time after the end of input, and then leaves. A line that is too long is told to `err` and not drawn. Where
+/// do. It stays on for the options' time after the end of input, and then as long as others need what it holds, and leaves. A line that is too long is told to `err` and not drawn. Where
 /// `err` is a terminal, a line there says each second what goes on.
 ///
 /// An output that fails ends reading, and so do an input that does and want of memory; the member then stays and leaves all the same, since others may need what it
@@ -32,21 +40,24 @@ use std::{mem, time};
 /// for. An input may answer `WouldBlock` where nothing is there yet, and is asked again: while it waits itself, the member
 /// can't end.
 ///
-/// Answers the program's status, which is that of [`run_node`](srm_member::run_node), but that a line which is too long is no fault. All threads that it
-/// started have ended then.
+/// Who of the others is here, falls silent for ten seconds or leaves is told to `err`, and so is, once, that the member was in the session before, what the network refused to take, and the cause
+/// for which its address can't be bound.
+///
+/// Answers the program's status, which is that of [`run_node`](srm_member::run_node), but that a line which is too long is no fault, and that a whole run of a member that was in the session
+/// before has the status [`WAS_BEFORE`](crate::WAS_BEFORE). All threads that it started have ended then.
 pub fn run_live<R, I, O, E>(rt: &R, options: NodeOptions, reader: I, out: O, err: E) -> u8
 where
     R: Net + time::Clock + Threads + Wait + AllocGlobal + Copy + Send + Drop + 'static,
     I: Read + Send + Drop + 'static,
     O: Write + Send + Drop + 'static,
     E: Write + IsTerminal + Send + Drop + 'static,
-    ensures ends { IsStatus result }
-    ensures greatest { result ≤ RAN_OUT }
+    ensures ends { IsLiveStatus result }
+    ensures greatest { result ≤ WAS_BEFORE }
 {
     let alloc = rt.alloc();
     match Arc::new(alloc, Desk::new(options.config.me(), out, err)) {
         Ok(desk) => run_at(rt, alloc, options, reader, &desk),
-        Err(failed) => print(rt, &failed.value, &MemberFault::Script(ScriptFault::Memory)),
+        Err(failed) => print(rt, &failed.value, &out_of_memory()),
     }
 }
 
@@ -63,12 +74,12 @@ where
     I: Read + Send + Drop + 'static,
     O: Write + Send + Drop + 'static,
     E: Write + Send + Drop + 'static,
-    ensures ends { IsStatus result }
-    ensures greatest { result ≤ RAN_OUT }
+    ensures ends { IsLiveStatus result }
+    ensures greatest { result ≤ WAS_BEFORE }
 {
     let run = match printing_sinks(rt, alloc, desk) {
         Ok(sinks) => run_printing(rt, alloc, options, reader, sinks, desk),
-        Err(_) => Some(MemberFault::Script(ScriptFault::Memory)),
+        Err(_) => Some(out_of_memory()),
     };
     match run {
         Some(fault) => print(rt, desk, &fault),
@@ -76,10 +87,14 @@ where
     }
 }
 
+fn out_of_memory() -> LiveFault {
+    LiveFault::Member(MemberFault::Script(ScriptFault::Memory))
+}
+
 // Tells why the member isn't run, or not to its end.
-fn print<R: Wait, O: Write, E: Write>(rt: &R, desk: &Desk<O, E>, fault: &MemberFault) -> u8
-    ensures ends { IsStatus result }
-    ensures greatest { result ≤ RAN_OUT }
+fn print<R: Wait, O: Write, E: Write>(rt: &R, desk: &Desk<O, E>, fault: &LiveFault) -> u8
+    ensures ends { IsLiveStatus result }
+    ensures greatest { result ≤ WAS_BEFORE }
 {
     desk.print_fault(rt, fault)
 }
@@ -92,7 +107,7 @@ fn run_printing<R, I, O, E>(
     reader: I,
     sinks: Vec<Printing<R, O, E>>,
     desk: &Arc<Desk<O, E>, Global>,
-) -> Option<MemberFault>
+) -> Option<LiveFault>
 where
     R: Net + time::Clock + Threads + Wait + Copy + Send + Drop + 'static,
     I: Read + Send + Drop + 'static,
@@ -100,28 +115,73 @@ where
     E: Write + Send + Drop + 'static,
     requires { vec_len sinks ≡ PAGES }
 {
-    let others = options.config.members().saturating_sub(1);
-    let stay = options.stay;
+    let config = options.config;
     let turns = options.turns;
-    let tally = tally_for(alloc, desk);
-    match bind(rt, alloc, options, &tally) {
+    let Ok(staying) = staying_of(alloc, &options) else {
+        return Some(out_of_memory());
+    };
+    // Without memory for it nothing is counted.
+    let tally = Arc::new(alloc, Tally::new()).ok();
+    match bind(rt, alloc, options, &tally, &staying, desk.has_terminal()) {
         Ok(station) => {
-            let telling = start_telling(rt, alloc, tally, others, desk);
-            let run = host_live(rt, alloc, station, sinks, reader, stay, turns, desk);
-            join_if(rt, telling);
-            end(rt, alloc, run, desk)
+            let telling = start_telling(rt, alloc, share(&tally), config, desk);
+            let run = host_live(rt, alloc, station, sinks, reader, staying, turns, desk);
+            let told = told_by(rt, telling);
+            let was_before = tell_last(rt, alloc, config.me(), &tally, told, desk);
+            end(rt, alloc, run, was_before, desk)
         }
         Err(fault) => Some(fault),
     }
 }
 
-// A count of what passes, for the line that says so. None where there is no such line, or no memory for it.
-fn tally_for<O: Write, E: Write>(alloc: Global, desk: &Desk<O, E>) -> Option<Arc<Tally, Global>> {
-    if desk.has_terminal() {
-        Arc::new(alloc, Tally::new()).ok()
-    } else {
-        None
+// What the thread told that tells what changes, if there was one.
+fn told_by<R: Threads>(rt: &R, telling: Option<JoinHandle<Told>>) -> Told {
+    match telling {
+        Some(telling) => telling.join(rt),
+        None => Told::nothing(),
     }
+}
+
+// Tells what wasn't told yet, and what was lost on its way out. Whether the member was in the session before.
+fn tell_last<R: Wait, O: Write, E: Write>(
+    rt: &R,
+    alloc: Global,
+    me: Member,
+    tally: &Option<Arc<Tally, Global>>,
+    told: Told,
+    desk: &Desk<O, E>,
+) -> bool {
+    let Some(tally) = tally else {
+        return false;
+    };
+    let _ = tell_news(rt, alloc, me, tally, told, desk);
+    tell_lost(rt, alloc, tally.losses(), desk);
+    tally.was_before()
+}
+
+// Tells what was lost on its way out, if anything was. Where there is no memory for the line it is left out.
+fn tell_lost<R: Wait, O: Write, E: Write>(
+    rt: &R,
+    alloc: Global,
+    losses: Losses,
+    desk: &Desk<O, E>,
+) {
+    if losses == Losses::none() {
+        return;
+    }
+    if let Ok(line) = format!(in alloc; "srm: lost on the way out: {}\n", Lost(losses)) {
+        desk.tell(rt, line.as_str());
+    }
+}
+
+// How long the member stays, by its options. Who is alone lingers for nobody.
+fn staying_of(alloc: Global, options: &NodeOptions) -> Result<Staying, AllocError> {
+    let is_alone = options.config.members() == 1;
+    Ok(Staying {
+        stay: options.stay,
+        linger: if is_alone { 0 } else { options.linger },
+        need: Arc::new(alloc, Need::new())?,
+    })
 }
 
 fn share(tally: &Option<Arc<Tally, Global>>) -> Option<Arc<Tally, Global>> {
@@ -137,34 +197,45 @@ fn bind<R>(
     alloc: Global,
     options: NodeOptions,
     tally: &Option<Arc<Tally, Global>>,
-) -> Result<Station<R, CountedWire<UdpWire>, Watched>, MemberFault>
+    staying: &Staying,
+    is_shown: bool,
+) -> Result<Station<R, CountedWire, Needed<Watched>>, LiveFault>
 where
     R: Net + time::Clock + Copy + Drop,
-    ensures { IfOk result (λ s. vec_len s.taps ≡ PAGES) }
+    ensures { IfOk result (λ s. HasNewEnds s.node.view s.taps.items s.pens.items) }
 {
     let mut options = options;
     options.stay = 0;
     let addresses = mem::replace(&mut options.addresses, Vec::new(alloc));
-    match UdpWire::bind(rt, alloc, options.config.me(), addresses) {
+    let me = options.config.me();
+    let Some(own) = addresses.get(me.index()).copied() else {
+        return Err(LiveFault::Member(MemberFault::Wire));
+    };
+    match UdpWire::bind(rt, alloc, me, addresses) {
         Ok(wire) => {
             let waker = wire.waker().ok();
-            let wire = CountedWire::new(wire, alloc, options.config, share(tally));
-            let past = Watched::new(alloc, share(tally));
-            Station::with_past(rt, alloc, &options, wire, waker, past)
+            let wire = CountedWire::new(wire, alloc, options.config, share(tally), is_shown);
+            let watched = Watched::new(alloc, options.config, share(tally));
+            let past = Needed::new(alloc, watched, Arc::try_clone(&staying.need).ok());
+            match Station::with_past(rt, alloc, &options, wire, waker, past) {
+                Ok(station) => Ok(station),
+                Err(fault) => Err(LiveFault::Member(fault)),
+            }
         }
-        Err(error) => Err(MemberFault::of_binding(error)),
+        Err(error) => Err(LiveFault::of_bind(own, error)),
     }
 }
 
-// Prints the end of a whole run. Why it was none, by why the node's run wasn't and what befell the streams.
+// Prints the end of a whole run. Why it was none, by why the node's run wasn't and what befell the streams, and whether the member was in the session before.
 fn end<R: Wait, O: Write, E: Write>(
     rt: &R,
     alloc: Global,
     run: Option<MemberFault>,
+    was_before: bool,
     desk: &Desk<O, E>,
-) -> Option<MemberFault> {
+) -> Option<LiveFault> {
     if run.is_none() {
         desk.print_gone(rt, alloc);
     }
-    MemberFault::of_live(run, desk.noted())
+    LiveFault::of_end(MemberFault::of_live(run, desk.noted()), was_before)
 }

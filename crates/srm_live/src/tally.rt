@@ -1,15 +1,20 @@
 //! What a member goes through, counted.
 
+use crate::lost::{Lost, LostCounts};
+use crate::presence::Presence;
 use srm_codec::Datagram;
-use srm_names::Member;
+use srm_udp::Losses;
 use std::fmt;
-use std::sync::atomic::{AtomicU32, AtomicU64, AtomicUsize, Ordering};
+use std::sync::atomic::{AtomicBool, AtomicU32, AtomicU64, AtomicUsize, Ordering};
 
 /// What passed a member's wire so far, and what its agent made of it. One thread counts, and any reads. Counts wrap at 2^64.
 #[derive(Drop)]
 pub struct Tally {
-    // A bit for each member that was heard.
+    // A bit for each member that was heard, of which nothing came for long, and that left.
     heard: AtomicU32,
+    silent: AtomicU32,
+    left: AtomicU32,
+    was_before: AtomicBool,
     missing: AtomicUsize,
     sent: AtomicU64,
     came: AtomicU64,
@@ -17,6 +22,7 @@ pub struct Tally {
     repairs: AtomicU64,
     ignored: AtomicU64,
     noise: AtomicU64,
+    lost: LostCounts,
 }
 
 impl Tally {
@@ -24,6 +30,9 @@ impl Tally {
     pub fn new() -> Tally {
         Tally {
             heard: AtomicU32::new(0),
+            silent: AtomicU32::new(0),
+            left: AtomicU32::new(0),
+            was_before: AtomicBool::new(false),
             missing: AtomicUsize::new(0),
             sent: AtomicU64::new(0),
             came: AtomicU64::new(0),
@@ -31,6 +40,7 @@ impl Tally {
             repairs: AtomicU64::new(0),
             ignored: AtomicU64::new(0),
             noise: AtomicU64::new(0),
+            lost: LostCounts::new(),
         }
     }
 
@@ -45,12 +55,34 @@ impl Tally {
     }
 
     /// Counts a datagram that came from another member.
-    pub fn count_came(&self, sender: Member) {
+    pub fn count_came(&self) {
         add_one(&self.came);
-        self.heard.fetch_or(
-            1_u32.wrapping_shl(u32::from(sender.number())),
-            Ordering::SeqCst,
-        );
+    }
+
+    /// So much is known of the others now.
+    pub fn show_presence(&self, presence: Presence) {
+        self.heard.store(presence.heard, Ordering::SeqCst);
+        self.silent.store(presence.silent, Ordering::SeqCst);
+        self.left.store(presence.left, Ordering::SeqCst);
+    }
+
+    /// What is known of the others by now.
+    pub fn presence(&self) -> Presence {
+        Presence {
+            heard: self.heard.load(Ordering::SeqCst),
+            silent: self.silent.load(Ordering::SeqCst),
+            left: self.left.load(Ordering::SeqCst),
+        }
+    }
+
+    /// Notes that the member was in this session before.
+    pub fn note_earlier(&self) {
+        self.was_before.store(true, Ordering::SeqCst);
+    }
+
+    /// Whether the member was in this session before, as far as it heard.
+    pub fn was_before(&self) -> bool {
+        self.was_before.load(Ordering::SeqCst)
     }
 
     /// So many drawops are missing now.
@@ -68,6 +100,16 @@ impl Tally {
         add_one(&self.noise);
     }
 
+    /// So many were lost on their way out by now.
+    pub fn show_lost(&self, losses: Losses) {
+        self.lost.show(losses);
+    }
+
+    /// What was lost on its way out by now.
+    pub fn losses(&self) -> Losses {
+        self.lost.losses()
+    }
+
     /// What goes on by now, in a session of so many others.
     pub fn activity(&self, others: u8) -> Activity {
         Activity {
@@ -80,6 +122,7 @@ impl Tally {
             repairs: self.repairs.load(Ordering::SeqCst),
             ignored: self.ignored.load(Ordering::SeqCst),
             noise: self.noise.load(Ordering::SeqCst),
+            losses: self.losses(),
         }
     }
 }
@@ -106,6 +149,8 @@ pub struct Activity {
     pub ignored: u64,
     /// What came and is no datagram of the session, or came to a member that is gone.
     pub noise: u64,
+    /// The datagrams that were lost on their way out, each once for each member that it was to go to.
+    pub losses: Losses,
 }
 
 impl fmt::Display for Activity {
@@ -114,6 +159,10 @@ impl fmt::Display for Activity {
         write!(f, "missing {}, ", self.missing)?;
         write!(f, "sent {}, came {}, ", self.sent, self.came)?;
         write!(f, "asked {}, repaired {}, ", self.requests, self.repairs)?;
-        write!(f, "ignored {}, noise {}", self.ignored, self.noise)
+        write!(f, "ignored {}, noise {}", self.ignored, self.noise)?;
+        if self.losses != Losses::none() {
+            write!(f, ", lost: {}", Lost(self.losses))?;
+        }
+        Ok(())
     }
 }

@@ -6,7 +6,7 @@ ghost use Rattle.srm_live.specs.Typing.{bodies_in, PenSent, DrawsTyped, DrawsSom
 
 use crate::cut::ReadingEnd;
 use crate::desk::Desk;
-use crate::remaining::remain;
+use crate::lingering::Staying;
 use crate::typed::{Line, Typed};
 use srm_member::{Waking, send_stroke, wake};
 use srm_pages::{Inked, Pen};
@@ -23,14 +23,14 @@ const READ: usize = 1_024;
 /// How long to wait before a reader that has nothing yet is asked again, in microseconds.
 const WAIT: u64 = 1_000;
 
-/// Draws each line of a reader with one pen, stays for so many microseconds once it ended, and then is done. Nothing more is drawn once the output
+/// Draws each line of a reader with one pen, stays once it ended, and then is done. Nothing more is drawn once the output
 /// is closed or the node has ended; then it is done after as long, or at once.
 pub fn draw_typed<R: Clock + Wait, I: Read + Drop, O: Write, E: Write>(
     rt: &R,
     alloc: Global,
     reader: I,
     pen: Pen,
-    stay: u64,
+    staying: &Staying,
     desk: &Desk<O, E>,
     waker: &Waking,
 ) -> Inked
@@ -48,7 +48,7 @@ pub fn draw_typed<R: Clock + Wait, I: Read + Drop, O: Write, E: Write>(
     ) {
         desk.note(&fault);
     }
-    remain(rt, Duration::from_micros(stay), desk.ended());
+    staying.remain(rt, desk.ended());
     let inked = pen.done();
     wake(waker);
     inked

@@ -1,6 +1,9 @@
 //! The program: a world of scripts, pictures of it, and a member over UDP.
 #![tactic(auto)]
 
+mod standard_streams;
+
+use crate::standard_streams::{STDIN, fill_standard_streams};
 use srm_live::{PolledInput, run_live};
 use srm_member::{print_reply, run_node};
 use srm_options::{read_node, read_picture, read_world};
@@ -8,15 +11,12 @@ use srm_played::run_picture;
 use srm_script::{Dialect, ScriptFault, WRONG_USAGE, run_script_in};
 use std::alloc::{AllocError, Global};
 use std::io::{ErrorKind, Write, writer};
-use std::os::fd::RawFd;
 use std::process::ExitCode;
 use std::rt::Env;
 use std::{env, io};
 
-/// The descriptor of standard input.
-const STDIN: RawFd = 0;
-
 fn main(rt: HostRuntime) -> ExitCode {
+    fill_standard_streams(&rt);
     let alloc = rt.alloc();
     let mut err = rt.stderr();
     let arguments = match read_arguments(&rt) {

@@ -39,14 +39,20 @@ The member leaves once its time is up and all strokes are drawn. Then it prints
 With --live each line is drawn as it is typed, by one pen and however many there
 are, and each line above is printed as it is taken. A line that is too long is
 told on standard error and not drawn. The member stays on at the end of input, and
-then leaves; so it does where its output is closed. On a terminal, standard error
-shows each second how many of the others were heard, how many drawops are missing,
-how many datagrams were sent and came, how many of those sent were requests and
-repairs, and how many of those that came were ignored or noise.
+then as long as others ask for what it holds, for 30 seconds at most, and leaves; so
+it does where its output is closed, and at a signal (INT, TERM, HUP) where ./srm
+started it; a second signal ends it at once. Standard error tells who of
+the others is here, was silent for 10 seconds or left, that the member was in the
+session before under its number, why its address can't be bound, and at the end how
+many datagrams the network refused to take, by cause. On a terminal it shows each
+second how many of the others were heard, how many drawops are missing, how many
+datagrams were sent and came, how many of those sent were requests and repairs, how
+many of those that came were ignored or noise, and what was refused.
 
 Status: 0; 1 for a line that is too long or an input of more than 1000000 bytes,
 but not with --live, or for a stream that fails; 2 for a wrong command line; 3
-where the socket fails; 4 for want of memory, or where all turns were spent.";
+where the socket fails; 4 for want of memory, or where all turns were spent; 5 with
+--live, where all went well but the member was in the session before.";
 
 /// What `srm world --help` prints.
 pub const WORLD_HELP: &str = "usage: srm world < SCRIPT

@@ -11,6 +11,7 @@
 //! one, what is wrong in it, or that memory ran out.
 #![tactic(auto)]
 
+mod apart;
 mod help;
 mod mistake;
 mod node;

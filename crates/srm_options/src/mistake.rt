@@ -15,6 +15,12 @@ pub enum Mistake<'a> {
     NoPlace,
     #[error("invalid value '{0}' for '--waits <c1,c2,d1,d2>': that isn't four numbers from 0 to {GREATEST_TIMER_SETTING} with commas between")]
     Waits(&'a str),
+    #[error("the address '{0}' stands there twice: each member has one of its own")]
+    Twice(&'a str),
+    #[error("invalid value '{0}' for '--{1}': that is no time from {2} to {3} microseconds, as 5s, 500ms or 5000000")]
+    Time(&'a str, &'a str, u64, u64),
+    #[error("'--linger <U>' is for '--live' alone")]
+    Linger,
     #[error("an option is missing or out of its range")]
     Range,
     #[error("out of memory")]

@@ -3,9 +3,10 @@
 ghost use Rattle.std.specs.Prelude.{IfOk};
 ghost use Rattle.srm_options.specs.Options.{AreInRange};
 
+use crate::apart::is_first_apart;
 use crate::help::{NODE, NODE_MORE};
 use crate::mistake::Mistake;
-use crate::node_options::NodeOptions;
+use crate::node_options::{LONGEST_LINGER, NodeOptions};
 use crate::reply::Reply;
 use clap::error::ErrorKind;
 use clap::{Arg, ArgAction, ArgMatches, Command, value_parser};
@@ -23,6 +24,9 @@ const STAY: u64 = 5_000_000;
 /// much would else ask each millisecond, and its own strokes would wait behind its requests.
 const LIVE_LEAST_DISTANCE: u64 = 5_000;
 
+/// Without `--linger` a live member leaves once nobody asked for what it holds for so many microseconds.
+const LIVE_LINGER: u64 = 2_000_000;
+
 /// Without `--turns` it turns so often, at most.
 const TURNS: u64 = 1_000_000;
 
@@ -30,7 +34,7 @@ const TURNS: u64 = 1_000_000;
 pub fn read_node<'a>(alloc: Global, arguments: &'a [&'a str]) -> Result<NodeOptions, Reply>
     ensures { IfOk result AreInRange }
 {
-    let mut command = node_command(alloc)?;
+    let mut command = node_command(alloc, is_live(arguments))?;
     let matches = command.try_get_matches_from_mut(arguments)?;
     let options = match options_in(alloc, &matches) {
         Ok(options) => options,
@@ -43,14 +47,22 @@ pub fn read_node<'a>(alloc: Global, arguments: &'a [&'a str]) -> Result<NodeOpti
     }
 }
 
-/// The command, for its own words and for the help on all commands.
-pub(crate) fn node_command<'a>(alloc: Global) -> Result<Command<'a>, AllocError> {
+// Whether these arguments ask for a live member, if they are a command line.
+fn is_live(arguments: &[&str]) -> bool {
+    arguments.iter().any(|word| *word == "--live")
+}
+
+/// The command, for its own words and for the help on all commands. A live member's takes times in seconds too.
+pub(crate) fn node_command<'a>(alloc: Global, live: bool) -> Result<Command<'a>, AllocError> {
     let command = Command::new(alloc, "node")
         .bin_name("srm node")?
         .no_binary_name(true)
         .about(NODE)
         .after_help(NODE_MORE);
-    with_addresses(alloc, with_limits(alloc, with_member(alloc, command)?)?)
+    with_addresses(
+        alloc,
+        with_limits(alloc, with_member(alloc, command)?, live)?,
+    )
 }
 
 fn option<'a>(alloc: Global, name: &'a str, value: &'a str, help: &'a str) -> Arg<'a> {
@@ -83,14 +95,39 @@ fn with_member<'a>(alloc: Global, command: Command<'a>) -> Result<Command<'a>, A
     command.arg(session)?.arg(me)?.arg(start)
 }
 
-fn with_limits<'a>(alloc: Global, command: Command<'a>) -> Result<Command<'a>, AllocError> {
+fn stay_option<'a>(alloc: Global, live: bool) -> Arg<'a> {
     let stay = option(
         alloc,
         "stay",
         "U",
-        "leaves after so many microseconds, at most 2^48; else 5000000; with --live, so long after the end of input",
-    )
-    .value_parser(value_parser!(u64).range(..=LATEST_MOMENT as i64));
+        "leaves after so many microseconds, at most 2^48; else 5000000; with --live, so long after the end of input, and 5s or 500ms will do",
+    );
+    if live {
+        stay
+    } else {
+        stay.value_parser(value_parser!(u64).range(..=LATEST_MOMENT as i64))
+    }
+}
+
+fn least_distance_option<'a>(alloc: Global, live: bool) -> Arg<'a> {
+    let least_distance = option(
+        alloc,
+        "least-distance",
+        "L",
+        "a distance counts as at least so many microseconds, 1 to 10000000; else 1, or 5000 with --live, where 5ms will do",
+    );
+    if live {
+        least_distance
+    } else {
+        least_distance.value_parser(value_parser!(u64).range(1..=LONGEST_DISTANCE as i64))
+    }
+}
+
+fn with_limits<'a>(
+    alloc: Global,
+    command: Command<'a>,
+    live: bool,
+) -> Result<Command<'a>, AllocError> {
     let turns = option(
         alloc,
         "turns",
@@ -118,25 +155,25 @@ fn with_limits<'a>(alloc: Global, command: Command<'a>) -> Result<Command<'a>, A
         "c1,c2,d1,d2",
         "a request waits c1 to c1+c2 distances, a repair d1 to d1+d2; each 0 to 16; else 2,2,1,1",
     );
-    let least_distance = option(
+    let linger = option(
         alloc,
-        "least-distance",
-        "L",
-        "a distance counts as at least so many microseconds, 1 to 10000000; else 1, or 5000 with --live",
-    )
-    .value_parser(value_parser!(u64).range(1..=LONGEST_DISTANCE as i64));
-    let live = Arg::new(alloc, "live")
+        "linger",
+        "U",
+        "with --live, leaves only once nobody asked for what it holds for so many microseconds, 0 to 30000000; else 2000000",
+    );
+    let flag = Arg::new(alloc, "live")
         .long("live")
         .help("draws each line as it is typed, and prints what is taken as it is")
         .action(ArgAction::SetTrue);
     command
-        .arg(stay)?
+        .arg(stay_option(alloc, live))?
         .arg(turns)?
         .arg(rate)?
         .arg(depth)?
         .arg(waits)?
-        .arg(least_distance)?
-        .arg(live)
+        .arg(least_distance_option(alloc, live))?
+        .arg(linger)?
+        .arg(flag)
 }
 
 fn with_addresses<'a>(alloc: Global, command: Command<'a>) -> Result<Command<'a>, AllocError> {
@@ -150,21 +187,28 @@ fn with_addresses<'a>(alloc: Global, command: Command<'a>) -> Result<Command<'a>
 
 /// What the arguments say.
 fn options_in<'a>(alloc: Global, matches: &ArgMatches<'a>) -> Result<NodeOptions, Mistake<'a>> {
-    let addresses = addresses_in(alloc, matches.get_strs("ADDR").unwrap_or(&[]))?;
+    let texts = matches.get_strs("ADDR").unwrap_or(&[]);
+    let addresses = addresses_in(alloc, texts)?;
     let me = member_in(matches, addresses.len()).ok_or(Mistake::NoPlace)?;
     let session = matches.get_one::<u32>("session").ok_or(Mistake::Range)?;
-    let settings = settings_in(matches)?;
+    let live = matches.get_flag("live");
+    let settings = settings_in(matches, live)?;
     let Ok(members) = u8::try_from(addresses.len()) else {
         return Err(Mistake::TooMany);
     };
+    if live {
+        find_twice(texts, addresses.as_slice())?;
+    }
     let config = Config::with(me, members, session, settings).ok_or(Mistake::Range)?;
-    let live = matches.get_flag("live");
+    let stay = micros_in(matches, "stay", live, 0, LATEST_MOMENT)?.unwrap_or(STAY);
     // How long a live member runs is for who types to say.
     let turns = if live { u64::MAX } else { TURNS };
+    let linger = linger_in(matches, live)?;
     Ok(NodeOptions {
         config,
         seed: matches.get_one::<u64>("start").unwrap_or(0),
-        stay: matches.get_one::<u64>("stay").unwrap_or(STAY),
+        stay,
+        linger,
         turns: matches.get_one::<u64>("turns").unwrap_or(turns),
         live,
         addresses,
@@ -172,13 +216,13 @@ fn options_in<'a>(alloc: Global, matches: &ArgMatches<'a>) -> Result<NodeOptions
 }
 
 /// What the member may send and how long it waits.
-fn settings_in<'a>(matches: &ArgMatches<'a>) -> Result<Settings, Mistake<'a>> {
+fn settings_in<'a>(matches: &ArgMatches<'a>, live: bool) -> Result<Settings, Mistake<'a>> {
     let usual = Settings::default();
-    let live = matches.get_flag("live");
     let [c1, c2, d1, d2] = match matches.get_str("waits") {
         Some(text) => waits_in(text).ok_or(Mistake::Waits(text))?,
         None => [usual.c1, usual.c2, usual.d1, usual.d2],
     };
+    let floor = micros_in(matches, "least-distance", live, 1, LONGEST_DISTANCE)?;
     Ok(Settings {
         rate: matches.get_one::<u32>("rate").unwrap_or(usual.rate),
         depth: matches.get_one::<u32>("depth").unwrap_or(usual.depth),
@@ -186,12 +230,55 @@ fn settings_in<'a>(matches: &ArgMatches<'a>) -> Result<Settings, Mistake<'a>> {
         c2,
         d1,
         d2,
-        least_distance: matches.get_one::<u64>("least-distance").unwrap_or(if live {
+        least_distance: floor.unwrap_or(if live {
             LIVE_LEAST_DISTANCE
         } else {
             usual.least_distance
         }),
     })
+}
+
+/// How many microseconds an option says, if it is given: of a live member a time from the least to the greatest, as `5s`, `500ms` or `5000000`.
+fn micros_in<'a>(
+    matches: &ArgMatches<'a>,
+    option: &'a str,
+    live: bool,
+    least: u64,
+    greatest: u64,
+) -> Result<Option<u64>, Mistake<'a>> {
+    if !live {
+        return Ok(matches.get_one::<u64>(option));
+    }
+    let Some(text) = matches.get_str(option) else {
+        return Ok(None);
+    };
+    match time_in(text) {
+        Some(micros) if least <= micros && micros <= greatest => Ok(Some(micros)),
+        _ => Err(Mistake::Time(text, option, least, greatest)),
+    }
+}
+
+/// For how many microseconds it lingers, which a live member alone does.
+fn linger_in<'a>(matches: &ArgMatches<'a>, live: bool) -> Result<u64, Mistake<'a>> {
+    if live {
+        return Ok(micros_in(matches, "linger", live, 0, LONGEST_LINGER)?.unwrap_or(LIVE_LINGER));
+    }
+    match matches.get_str("linger") {
+        Some(_) => Err(Mistake::Linger),
+        None => Ok(0),
+    }
+}
+
+/// A time in microseconds: a number of seconds with `s` behind it, of milliseconds with `ms`, or of microseconds.
+fn time_in(text: &str) -> Option<u64> {
+    let (number, unit) = if let Some(number) = text.strip_suffix("ms") {
+        (number, 1_000)
+    } else if let Some(number) = text.strip_suffix('s') {
+        (number, 1_000_000)
+    } else {
+        (text, 1)
+    };
+    number.parse::<u64>().ok()?.checked_mul(unit)
 }
 
 /// Four numbers of distances, with commas between.
@@ -233,6 +320,19 @@ fn addresses_in<'a>(alloc: Global, texts: &[&'a str]) -> Result<Vec<SocketAddr>,
         }
     }
     Ok(addresses)
+}
+
+/// Refuses an address that a live member's line has twice: what is sent there would come to one member only. Port 0 is one that the system chooses.
+fn find_twice<'a>(texts: &[&'a str], addresses: &[SocketAddr]) -> Result<(), Mistake<'a>> {
+    for (at, text) in texts.iter().enumerate() {
+        let Some(rest) = addresses.get(at..) else {
+            return Ok(());
+        };
+        if !is_first_apart(rest) {
+            return Err(Mistake::Twice(text));
+        }
+    }
+    Ok(())
 }
 
 /// The member, where it is one of so many.

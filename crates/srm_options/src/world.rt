@@ -44,7 +44,7 @@ fn srm_command<'a>(alloc: Global) -> Result<Command<'a>, AllocError> {
         .subcommand_required(true)
         .subcommand(world)?
         .subcommand(picture_command(alloc)?)?
-        .subcommand(node_command(alloc)?)
+        .subcommand(node_command(alloc, false)?)
 }
 
 /// That `node` or `picture` comes first, for a caller who reads it here.

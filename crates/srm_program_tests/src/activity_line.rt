@@ -55,6 +55,23 @@ fn a_line_on_a_terminal_stands_where_nothing_else_does(rt: HostRuntime) -> Resul
     Ok(())
 }
 
+// No socket that didn't ask for it may send to all members of a network. The second line comes once the terminal shows what the first one met.
+#[test]
+fn a_terminal_is_shown_what_was_lost(rt: HostRuntime) -> Result<(), Fail> {
+    let given = Given {
+        others: " 127.255.255.255:9",
+        awaited: "noise 0, lost: denied ",
+        is_terminal: true,
+        ..GIVEN
+    };
+    let (status, terminal, _) = run(&rt, given)?;
+    assert_eq!(rt; status, 0);
+    assert!(rt; has(&rt, &terminal, given.awaited));
+    assert!(rt; has(&rt, &terminal, "srm: lost on the way out: denied "));
+    assert!(rt; ends_with(&rt, &terminal, "gone 0\n"));
+    Ok(())
+}
+
 /// Data in a session of a source on page 0.0: this number, drawn at 0, with the body `hi`.
 fn data(session: u8, source: u8, number: u32) -> [u8; 29] {
     let mut bytes = word(Kind::Data, source, source, 0, number);

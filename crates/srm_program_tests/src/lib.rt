@@ -21,11 +21,15 @@ mod floors;
 #[cfg(test)]
 mod judging;
 #[cfg(test)]
+mod lingering;
+#[cfg(test)]
 mod live;
 #[cfg(test)]
 mod lives;
 #[cfg(test)]
 mod lossy;
+#[cfg(test)]
+mod news;
 #[cfg(test)]
 mod pictures;
 #[cfg(test)]

@@ -130,8 +130,24 @@ fn a_live_member_stays_however_its_streams_end(rt: HostRuntime) -> Result<(), Fa
     Ok(())
 }
 
-/// A member whose input fails at once ends with `srm: wire`, and wasn't whole.
-fn assert_lacks_wire<R>(rt: &R, words: &'static str) -> Result<(), Fail>
+// Whether standard error is a terminal or not, it is told what was lost, once. Whatever kinds there were none of aren't named.
+#[test]
+fn what_was_lost_is_told_at_the_end(rt: HostRuntime) -> Result<(), Fail> {
+    let given = Given {
+        others: " 127.255.255.255:9",
+        awaited: "",
+        ..GIVEN
+    };
+    let (status, out, err) = run(&rt, given)?;
+    assert_eq!(rt; status, 0);
+    assert!(rt; ends_with(&rt, &out, "gone 0\n"));
+    assert_eq!(rt; count_of(&rt, &err, "srm: lost on the way out: denied "), 1);
+    assert_eq!(rt; count_of(&rt, &err, ","), 0);
+    Ok(())
+}
+
+/// A member whose input fails at once ends with this text, and wasn't whole.
+fn assert_lacks_wire<R>(rt: &R, words: &'static str, text: &str) -> Result<(), Fail>
 where
     R: Net + Clock + Threads + Wait + AllocGlobal + Abort + Copy + Send + Drop + 'static,
 {
@@ -145,13 +161,17 @@ where
     let (status, out, err) = run(rt, given)?;
     assert_eq!(rt; status, 3);
     assert!(rt; !has(rt, &out, "gone"), "{words}");
-    assert!(rt; ends_with(rt, &err, "srm: wire\n"), "{words}");
+    assert!(rt; ends_with(rt, &err, text), "{words}");
     Ok(())
 }
 
 // No machine of ours has the second address, so it can't be bound; and from a socket of loopback no way leads to it.
 #[test]
 fn a_live_member_whose_socket_fails(rt: HostRuntime) -> Result<(), Fail> {
-    assert_lacks_wire(&rt, "--me 1 --stay 0")?;
-    assert_lacks_wire(&rt, "--me 0 --stay 5000000")
+    assert_lacks_wire(
+        &rt,
+        "--me 1 --stay 0",
+        "srm: cannot bind 192.0.2.1:9: address not available\n",
+    )?;
+    assert_lacks_wire(&rt, "--me 0 --stay 5000000", "srm: wire\n")
 }

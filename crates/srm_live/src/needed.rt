@@ -1,0 +1,127 @@
+//! Entries of which what others need of the member is noted.
+
+ghost use Rattle.std.specs.Prelude.{◌≡◌};
+
+use crate::need::Need;
+use indexmap::IndexSet;
+use srm_agent::{Effects, Entry, Input, Verdict};
+use srm_codec::Datagram;
+use srm_names::Name;
+use srm_timers::ArmKind;
+use srm_world::Past;
+use std::alloc::{AllocError, Global};
+use std::sync::Arc;
+
+/// The entries of a node as another past keeps them. What each says of the need of others is noted first, if that is asked for.
+#[derive(Drop)]
+pub struct Needed<P: Past<Entry> + Drop> {
+    past: P,
+    notes: Option<Notes>,
+}
+
+impl<P: Past<Entry> + Drop> Needed<P> {
+    /// The entries of this past, noted from now on, if there is where.
+    pub fn new(alloc: Global, past: P, need: Option<Arc<Need, Global>>) -> Needed<P>
+        ensures { result.past ≡ past }
+    {
+        Needed {
+            past,
+            notes: match need {
+                Some(need) => Some(Notes::new(alloc, need)),
+                None => None,
+            },
+        }
+    }
+}
+
+impl<P: Past<Entry> + Drop> Past<Entry> for Needed<P> {
+    ghost appended = { λ n. P.appended n.past };
+
+    ghost has_room = { λ n. P.has_room n.past };
+
+    ghost is_refused = { λ n. P.is_refused n.past };
+
+    fn empty(alloc: Global) -> Needed<P> {
+        Needed::new(alloc, P::empty(alloc), None)
+    }
+
+    fn make_room(&mut self) -> Result<(), AllocError> {
+        self.past.make_room()
+    }
+
+    fn append(&mut self, one: Entry) {
+        if let Some(notes) = &mut self.notes {
+            notes.see(&one);
+        }
+        self.past.append(one);
+    }
+}
+
+// What the member misses and which repair timers run, by its entries so far. A name for which memory is refused is left out: then the member may stay longer than it
+// needs to, or leave before a repair.
+#[derive(Drop)]
+struct Notes {
+    missing: IndexSet<Name>,
+    repairs: IndexSet<Name>,
+    need: Arc<Need, Global>,
+}
+
+impl Notes {
+    fn new(alloc: Global, need: Arc<Need, Global>) -> Notes {
+        Notes {
+            missing: IndexSet::new(alloc),
+            repairs: IndexSet::new(alloc),
+            need,
+        }
+    }
+
+    fn see(&mut self, entry: &Entry) {
+        self.arm(&entry.effects);
+        match (&entry.input, entry.verdict) {
+            (Input::Drew(..), Verdict::Done) => self.need.note_drawn(),
+            (Input::Heard(datagram), Verdict::Done) => self.hear(datagram),
+            (Input::Ticked, _) => self.tick(&entry.effects),
+            _ => {}
+        }
+        self.need.show_repairs(self.repairs.len());
+    }
+
+    fn arm(&mut self, effects: &Effects) {
+        for arm in effects.arms.as_slice() {
+            let _ = match arm.kind {
+                ArmKind::Ask => self.missing.insert(arm.name),
+                ArmKind::Fix => self.repairs.insert(arm.name),
+            };
+        }
+    }
+
+    // A request counts, unless the one name that it asks for is missing here too.
+    fn hear(&mut self, datagram: &Datagram) {
+        match datagram {
+            Datagram::Data(drawop) => {
+                self.missing.swap_remove(&drawop.name);
+            }
+            Datagram::Repair { drawop, .. } => {
+                self.missing.swap_remove(&drawop.name);
+                self.repairs.swap_remove(&drawop.name);
+            }
+            Datagram::Request { name, mask, .. } => {
+                if *mask != 0 || !self.missing.contains(name) {
+                    self.need.note_asked();
+                }
+            }
+            Datagram::Session { .. } => {}
+        }
+    }
+
+    fn tick(&mut self, effects: &Effects) {
+        for name in effects.fixes.as_slice() {
+            self.repairs.swap_remove(name);
+        }
+        for datagram in effects.outs.as_slice() {
+            if matches!(datagram, Datagram::Session { .. }) {
+                self.need.note_session();
+            }
+        }
+    }
+}

@@ -1,0 +1,87 @@
+//! What a live member tells of the others, and of itself, once each.
+
+use crate::desk::Desk;
+use crate::presence::{Presence, Standing};
+use crate::tally::Tally;
+use srm_names::{MEMBERS, Member};
+use std::alloc::Global;
+use std::io::Write;
+use std::sync::Wait;
+
+/// What was told so far.
+#[derive(Clone, Copy, Debug, PartialEq, Eq)]
+pub struct Told {
+    presence: Presence,
+    was_before: bool,
+}
+
+impl Told {
+    /// Nothing was told yet.
+    pub fn nothing() -> Told {
+        Told {
+            presence: Presence::none(),
+            was_before: false,
+        }
+    }
+}
+
+/// Tells what changed since: who of the others is here, fell silent or left, and that the member with this number was in the session before. A line for which there is no memory is
+/// left out.
+pub fn tell_news<R: Wait, O: Write, E: Write>(
+    rt: &R,
+    alloc: Global,
+    me: Member,
+    tally: &Tally,
+    told: Told,
+    desk: &Desk<O, E>,
+) -> Told {
+    let now = Told {
+        presence: tally.presence(),
+        was_before: tally.was_before(),
+    };
+    if now == told {
+        return now;
+    }
+    for number in 0..MEMBERS {
+        if let Some(member) = Member::new(number) {
+            let standing = now.presence.standing(member);
+            if let Some(news) = news_of(told.presence.standing(member), standing) {
+                tell(rt, alloc, desk, member, news);
+            }
+        }
+    }
+    if now.was_before && !told.was_before {
+        tell(
+            rt,
+            alloc,
+            desk,
+            me,
+            "was in this session before: use another number or another session",
+        );
+    }
+    now
+}
+
+fn tell<R: Wait, O: Write, E: Write>(
+    rt: &R,
+    alloc: Global,
+    desk: &Desk<O, E>,
+    member: Member,
+    news: &str,
+) {
+    let number = member.number();
+    if let Ok(line) = format!(in alloc; "srm: member {number} {news}\n") {
+        desk.tell(rt, line.as_str());
+    }
+}
+
+// What is told of a member of which this was known, and now this is.
+fn news_of(before: Standing, now: Standing) -> Option<&'static str> {
+    match (before, now) {
+        (Standing::Unheard, Standing::Here) => Some("is here"),
+        (Standing::Silent, Standing::Here) => Some("is here again"),
+        (Standing::Unheard | Standing::Here, Standing::Silent) => Some("was silent for 10 s"),
+        (Standing::Unheard | Standing::Here | Standing::Silent, Standing::Left) => Some("left"),
+        _ => None,
+    }
+}
