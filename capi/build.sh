@@ -17,7 +17,7 @@ if [ -z "${KIT_C:-}" ]; then
 fi
 mkdir -p out
 sed -n 's/^SRM_.*[ *]\(srm_[a-z_]*\)(.*/\1/p' srm.h | sort > out/names
-version=$(sed -n 's/^#define SRM_VERSION_[MP].* //p' srm.h | paste -sd .)
+version=$(sed -n 's/^#define SRM_VERSION_[MP][A-Z]* \([0-9]*\).*/\1/p' srm.h | paste -sd .)
 # shellcheck disable=SC2086
 $CC -std=c11 -O2 -Wall -Wextra -Wconversion -Wshadow -fPIC ${CFLAGS:-} -c srm.c -o out/srm.o
 # One object, of which only the header's names are seen: a program may link another Rattle library beside it.

@@ -64,6 +64,7 @@
 extern "C" {
 #endif
 
+/** Of a call that the shared library exports. */
 #ifndef SRM_API
 #if defined(__GNUC__)
 #define SRM_API __attribute__((visibility("default")))
@@ -72,6 +73,7 @@ extern "C" {
 #endif
 #endif
 
+/** Of a call whose code is not to be passed over. */
 #if defined(__GNUC__)
 #define SRM_CHECKED __attribute__((warn_unused_result))
 #else
@@ -80,10 +82,10 @@ extern "C" {
 
 /** @name Version of this header. srm_version() has that of the library that is linked.
  * @{ */
-#define SRM_VERSION_MAJOR 0
-#define SRM_VERSION_MINOR 1
-#define SRM_VERSION_PATCH 0
-#define SRM_VERSION (SRM_VERSION_MAJOR * 10000 + SRM_VERSION_MINOR * 100 + SRM_VERSION_PATCH)
+#define SRM_VERSION_MAJOR 0 /**< That of the soname, libsrm.so.0. */
+#define SRM_VERSION_MINOR 1 /**< It rises where something is added. */
+#define SRM_VERSION_PATCH 0 /**< It rises where nothing is added. */
+#define SRM_VERSION (SRM_VERSION_MAJOR * 10000 + SRM_VERSION_MINOR * 100 + SRM_VERSION_PATCH) /**< The three as one number. */
 /** @} */
 
 /** @name Limits of a session, which the format of datagrams fixes
@@ -100,17 +102,17 @@ extern "C" {
 
 /** @name Ranges of settings
  * @{ */
-#define SRM_RATE_MIN 1
-#define SRM_RATE_MAX 100000000
-#define SRM_DEPTH_MIN 1051
-#define SRM_DEPTH_MAX 1000000
-#define SRM_WAIT_MAX 16      /**< The greatest of the four timer settings. */
-#define SRM_DISTANCE_MIN 1   /**< The least floor under distances, which is none. */
+#define SRM_RATE_MIN 1         /**< Bytes a second, at least. */
+#define SRM_RATE_MAX 100000000 /**< Bytes a second, at most. */
+#define SRM_DEPTH_MIN 1051     /**< Bytes of the token bucket, at least: those of the longest datagram but session messages. */
+#define SRM_DEPTH_MAX 1000000  /**< Bytes of the token bucket, at most. */
+#define SRM_WAIT_MAX 16        /**< The greatest of the four timer settings. */
+#define SRM_DISTANCE_MIN 1     /**< The least floor under distances, which is none. */
 /** @} */
 
 /** What a call returns. 1 to 6 are the agent's faults, by their numbers; from 16 on they are of this interface. */
 enum srm_code {
-    SRM_OK = 0,
+    SRM_OK = 0,                /**< Done. */
     SRM_ERROR_LEAVING = 1,     /**< The member is leaving: it draws nothing new. */
     SRM_ERROR_GONE = 2,        /**< The member has left. */
     SRM_ERROR_PAGE_LIMIT = 3,  /**< The page is not in the table, and the table has no slot for another. */
@@ -141,8 +143,8 @@ SRM_API const char *srm_strerror(int code);
 
 /** A page: who began it, and its number among that member's pages. */
 typedef struct srm_page {
-    uint8_t creator; /**< 0 to 31. */
-    uint16_t number;
+    uint8_t creator; /**< Who began it, 0 to 31. */
+    uint16_t number; /**< Its number among that member's pages, from 0. */
 } srm_page;
 
 /** The page that each member has from the start, in slot 0. */
@@ -154,7 +156,7 @@ typedef struct srm_page {
 
 /** The name of a stroke, which is never given to another. */
 typedef struct srm_name {
-    srm_page page;
+    srm_page page;   /**< The page that it was drawn on. */
     uint8_t source;  /**< Who drew it, 0 to 31. */
     uint32_t number; /**< Its number among the source's strokes on the page, from 1. */
 } srm_name;
@@ -246,7 +248,7 @@ SRM_CHECKED SRM_API int srm_agent_new_page(srm_agent *agent, srm_page *page);
  * Shows a page, which enters the page table if it is not there. Repairs and requests for the page shown go first.
  *
  * @return ::SRM_OK, or the first of these that holds: ::SRM_ERROR_NULL; ::SRM_ERROR_MOMENT; ::SRM_ERROR_PAGE where the page's creator is past
- *         31; ::SRM_ERROR_EMPTY; ::SRM_ERROR_GONE; ::SRM_ERROR_PAGE_LIMIT; ::SRM_ERROR_MEMORY
+ *         31; ::SRM_ERROR_EMPTY; ::SRM_ERROR_GONE; ::SRM_ERROR_PAGE_LIMIT; ::SRM_ERROR_MEMORY, which this version never returns: showing takes no memory
  */
 SRM_CHECKED SRM_API int srm_agent_show(srm_agent *agent, srm_page page, uint64_t now);
 
@@ -367,9 +369,9 @@ enum srm_message_kind {
 typedef struct srm_message {
     uint64_t stamp; /**< The moment at which the stroke was drawn, by its source's clock. */
     size_t length;  /**< Bytes of the stroke. */
-    srm_name name;
-    uint8_t kind; /**< One of ::srm_message_kind. */
-    uint8_t body[SRM_BODY_MAX];
+    srm_name name;  /**< The page, the stroke or the source that it speaks of. */
+    uint8_t kind;   /**< One of ::srm_message_kind. */
+    uint8_t body[SRM_BODY_MAX]; /**< The stroke's bytes. */
 } srm_message;
 
 /**
@@ -378,7 +380,8 @@ typedef struct srm_message {
  * @param agent         the agent
  * @param slot          0 to 7
  * @param[out] message  the message
- * @return ::SRM_OK; ::SRM_ERROR_NULL; ::SRM_ERROR_SLOT; ::SRM_ERROR_EMPTY; ::SRM_NOTHING; ::SRM_ERROR_MEMORY, and then the message is still to come
+ * @return ::SRM_OK; ::SRM_ERROR_NULL; ::SRM_ERROR_SLOT; ::SRM_ERROR_EMPTY; ::SRM_NOTHING; ::SRM_ERROR_MEMORY, and then the message is still to come;
+ *         this version never returns it, as giving takes no memory
  */
 SRM_CHECKED SRM_API int srm_agent_give(srm_agent *agent, unsigned slot, srm_message *message);
 

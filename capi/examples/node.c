@@ -1,31 +1,25 @@
-/* A member over UDP: it draws each line of its input on the first page, and prints what it is given, as `srm node` does. One thread, one
- * socket, one timer.
+/* A member over UDP: it draws each line of its input on the first page, and prints what it is given, as `srm node` does.
  *
  *     cc node.c $(pkg-config --cflags --libs srm) -o node
- *     node SESSION ME STAY ADDRESS:PORT..     each member's address in order, its own too
+ *     ./node SESSION ME STAY ADDRESS:PORT..     each member's address in order, its own too
  *
  * It stays for STAY seconds after its input ended, so that others get what they miss, and then leaves. Whoever reaches its socket can make
  * it hold and ask for anything: docs/EMBEDDING.md says what to put in front of it on an open network. */
-#define _GNU_SOURCE
 #include <arpa/inet.h>
 #include <err.h>
-#include <inttypes.h>
 #include <poll.h>
+#include <srm.h>
 #include <stdio.h>
 #include <stdlib.h>
 #include <string.h>
 #include <time.h>
 #include <unistd.h>
 
-#include <srm.h>
-
-static struct sockaddr_in members[SRM_MEMBERS_MAX];
-static uint8_t count, me;
+static srm_config config;
 static srm_agent *agent;
+static struct sockaddr_in members[SRM_MEMBERS_MAX];
 static int udp;
-
-/* Input that is not drawn yet. A byte more than the longest line, which stands for all that a longer one has. */
-static char line[SRM_BODY_MAX + 1];
+static char line[SRM_BODY_MAX + 1]; /* input that is not drawn yet: a byte more than the longest line, so that a longer one is seen */
 static size_t have;
 
 static uint64_t now(void)
@@ -44,53 +38,62 @@ static void check(int code, const char *what)
 static void send_all(void)
 {
     uint8_t room[SRM_DATAGRAM_MAX];
-    size_t length;
-    while (srm_agent_next_datagram(agent, room, sizeof room, &length) == SRM_OK)
-        for (unsigned to = 0; to < count; to++)
-            if (to != me) /* what is lost, here too, is asked for again */
+    for (size_t length; srm_agent_next_datagram(agent, room, sizeof room, &length) == SRM_OK;)
+        for (unsigned to = 0; to < config.members; to++)
+            if (to != config.me) /* what is lost, here too, is asked for again */
                 (void)!sendto(udp, room, length, MSG_DONTWAIT, (struct sockaddr *)&members[to], sizeof members[to]);
 }
 
 static void receive_all(void)
 {
     uint8_t room[SRM_DATAGRAM_MAX + 1]; /* what is longer than the longest is no datagram */
-    ssize_t length;
-    while ((length = recv(udp, room, sizeof room, MSG_DONTWAIT)) >= 0)
-        if (srm_agent_hear(agent, room, (size_t)length, now(), NULL) != SRM_OK)
-            return; /* out of memory: it counts as lost */
+    for (ssize_t length; (length = recv(udp, room, sizeof room, MSG_DONTWAIT)) >= 0;)
+        (void)!srm_agent_hear(agent, room, (size_t)length, now(), NULL); /* out of memory: it counts as lost */
 }
 
 static void print_given(void)
 {
-    srm_message m;
     for (unsigned slot = 0; slot < SRM_SLOTS; slot++)
-        while (srm_agent_give(agent, slot, &m) == SRM_OK) {
-            printf("took %u %u ", me, slot);
-            if (m.kind == SRM_MESSAGE_OPEN)
-                printf("open %u.%u\n", m.name.page.creator, m.name.page.number);
-            else if (m.kind == SRM_MESSAGE_DRAW)
-                printf("draw %u %" PRIu32 " %.*s\n", m.name.source, m.name.number, (int)m.length, (const char *)m.body);
-            else if (m.kind == SRM_MESSAGE_LEFT)
-                printf("left %u\n", m.name.source);
-            else
-                printf("close\n");
+        for (srm_message m; srm_agent_give(agent, slot, &m) == SRM_OK;) {
+            printf("took %u %u ", config.me, slot);
+            switch (m.kind) {
+            case SRM_MESSAGE_OPEN: printf("open %u.%u\n", m.name.page.creator, m.name.page.number); break;
+            case SRM_MESSAGE_DRAW: printf("draw %u %u %.*s\n", m.name.source, m.name.number, (int)m.length, (char *)m.body); break;
+            case SRM_MESSAGE_LEFT: printf("left %u\n", m.name.source); break;
+            case SRM_MESSAGE_CLOSE: printf("close\n"); break;
+            }
         }
     fflush(stdout);
 }
 
-/* Draws the lines that are whole. True where one waits until the rate lets it go. */
-static bool draw_lines(void)
+/* Waits for a datagram, the agent's next moment, `wake`, or input if it is wanted, and does what is then to be done. True where input came. */
+static bool turn(uint64_t wake, bool reads)
+{
+    uint64_t due = srm_agent_next_due(agent), moment = now();
+    wake = due < wake ? due : wake;
+    uint64_t wait = wake <= moment ? 0 : wake - moment;
+    struct pollfd at[2] = {{udp, POLLIN, 0}, {reads ? STDIN_FILENO : -1, POLLIN, 0}};
+    poll(at, 2, wait > 60000000 ? 60000 : (int)((wait + 999) / 1000));
+    receive_all();
+    if (srm_agent_tick(agent, now(), NULL) == SRM_OK) /* out of memory: it stays due */
+        send_all();
+    print_given();
+    return at[1].revents;
+}
+
+/* Draws whole lines as the rate lets them go. Returns from when on the next one goes: never where there is none, or a tick comes first. */
+static uint64_t draw_lines(void)
 {
     for (char *end; (end = memchr(line, '\n', have)); memmove(line, end + 1, have)) {
         size_t length = (size_t)(end - line);
         if (!srm_agent_admits(agent, length, now()))
-            return true;
+            return srm_agent_admits_from(agent, length);
         check(srm_agent_draw(agent, SRM_FIRST_PAGE, line, length, now(), NULL), "draw");
         have -= length + 1;
     }
     if (have == sizeof line)
         errx(1, "a line has more than %d bytes", SRM_BODY_MAX);
-    return false;
+    return SRM_NEVER;
 }
 
 /* Reads more of the input, for which there is room. False at its end. */
@@ -99,31 +102,27 @@ static bool read_lines(void)
     ssize_t length = read(STDIN_FILENO, line + have, sizeof line - have);
     if (length > 0)
         have += (size_t)length;
-    else if (have)
+    else if (have && line[have - 1] != '\n')
         line[have++] = '\n'; /* a last line without its end */
     return length > 0;
 }
 
 static void read_address(struct sockaddr_in *to, char *text)
 {
-    char *colon = strrchr(text, ':');
+    char *host = strsep(&text, ":");
+    if (!text || inet_pton(AF_INET, host, &to->sin_addr) != 1)
+        errx(2, "%s: no IPv4 address and port", host);
     to->sin_family = AF_INET;
-    if (!colon || (*colon = 0, inet_pton(AF_INET, text, &to->sin_addr) != 1))
-        errx(2, "%s: no IPv4 address and port", text);
-    to->sin_port = htons((uint16_t)atoi(colon + 1));
+    to->sin_port = htons((uint16_t)atoi(text));
 }
 
-static void join(const char *session)
+static void join(char **addresses)
 {
-    srm_config config;
-    srm_config_default(&config);
-    config.session = (uint32_t)strtoul(session, NULL, 10);
-    config.me = me;
-    config.members = count;
-    config.least_distance = 5000; /* members on one machine are so near that they would ask each millisecond */
+    for (unsigned member = 0; member < config.members; member++)
+        read_address(&members[member], addresses[member]);
     check(srm_agent_new(&agent, &config, now() ^ (uint64_t)getpid() << 32, now()), "join");
     udp = socket(AF_INET, SOCK_DGRAM, 0);
-    if (udp < 0 || bind(udp, (struct sockaddr *)&members[me], sizeof members[me]))
+    if (udp < 0 || bind(udp, (struct sockaddr *)&members[config.me], sizeof members[config.me]))
         err(1, "bind");
 }
 
@@ -131,32 +130,21 @@ int main(int argc, char **argv)
 {
     if (argc < 5 || argc - 4 > SRM_MEMBERS_MAX || atoi(argv[2]) < 0 || atoi(argv[2]) >= argc - 4)
         errx(2, "usage: node SESSION ME STAY ADDRESS:PORT..");
-    me = (uint8_t)atoi(argv[2]);
-    while (count < argc - 4) {
-        read_address(&members[count], argv[count + 4]);
-        count++;
-    }
-    join(argv[1]);
-    uint64_t leaves = SRM_NEVER; /* when it begins to leave, once its input ended */
-    while (srm_agent_state(agent) != SRM_GONE) {
-        bool waits = draw_lines();
-        uint64_t wake = srm_agent_next_due(agent), admits = srm_agent_admits_from(agent, SRM_BODY_MAX), moment = now();
-        wake = waits && admits < wake ? admits : wake;
-        wake = leaves < wake ? leaves : wake;
-        uint64_t wait = wake <= moment ? 0 : wake - moment;
-        /* While a line waits, the input behind it does too. */
-        struct pollfd at[2] = {{udp, POLLIN, 0}, {waits || leaves != SRM_NEVER ? -1 : STDIN_FILENO, POLLIN, 0}};
-        poll(at, 2, wait > 60000000 ? 60000 : (int)((wait + 999) / 1000));
-        if (at[0].revents)
-            receive_all();
-        if (at[1].revents && !read_lines())
+    srm_config_default(&config);
+    config.session = (uint32_t)strtoul(argv[1], NULL, 10);
+    config.me = (uint8_t)atoi(argv[2]);
+    config.members = (uint8_t)(argc - 4);
+    config.least_distance = 5000; /* members on one machine are so near that they would ask each millisecond */
+    join(argv + 4);
+    uint64_t leaves = SRM_NEVER; /* when it leaves, once its input ended */
+    while (have || now() < leaves) {
+        uint64_t draws = draw_lines();
+        if (turn(have ? draws : leaves, leaves == SRM_NEVER && have < sizeof line) && !read_lines())
             leaves = now() + strtoul(argv[3], NULL, 10) * 1000000;
-        if (now() >= leaves && !have && srm_agent_state(agent) == SRM_ACTIVE)
-            check(srm_agent_leave(agent, now()), "leave");
-        if (srm_agent_tick(agent, now(), NULL) == SRM_OK) /* out of memory: it stays due */
-            send_all();
-        print_given();
     }
-    printf("gone %u\n", me);
+    check(srm_agent_leave(agent, now()), "leave");
+    while (srm_agent_state(agent) != SRM_GONE)
+        turn(SRM_NEVER, false);
+    printf("gone %u\n", config.me);
     srm_agent_free(agent);
 }

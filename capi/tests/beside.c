@@ -88,8 +88,9 @@ static void hear(struct member *m, uint64_t now)
     uint64_t place = below(KEPT);
     size_t length = lengths[place];
     memcpy(bytes, kept[place], length);
+    /* Its head or its last byte is spoiled. A spoiled number would make thousands of strokes missing: hostile.c does that. */
     if (length && below(8) == 0)
-        bytes[below(length)] ^= (uint8_t)(1 << below(8));
+        bytes[below(2) ? below(9) : length - 1] ^= (uint8_t)(1 << below(8));
     srm_heard heard;
     note(m, HEAR, 0, now, bytes, length);
     WANT(srm_agent_hear(m->agent, bytes, length, now, &heard), SRM_OK);
@@ -111,8 +112,8 @@ static void tick(struct member *m, uint64_t now)
     for (size_t i = 0; i < ticked.datagrams; i++) {
         uint64_t place = below(KEPT);
         size_t length;
-        /* A room that is too short first: nothing is lost by it. */
-        WANT(srm_agent_next_datagram(m->agent, kept[place], below(20), &length), SRM_ERROR_ROOM);
+        /* A room that is too short first: nothing is lost by it. The shortest datagram has 17 bytes. */
+        WANT(srm_agent_next_datagram(m->agent, kept[place], below(17), &length), SRM_ERROR_ROOM);
         WANT(srm_agent_next_datagram(m->agent, kept[place], length, &lengths[place]), SRM_OK);
         WANT(lengths[place], length);
         tell(m, UNTOLD);
@@ -180,7 +181,9 @@ static void call(struct member *m, uint64_t now, long n, long calls)
         if (n > calls - calls / 50) {
             note(m, LEAVE, 0, now, NULL, 0);
             tell(m, srm_agent_leave(m->agent, now) == SRM_OK);
+            break;
         }
+        hear(m, now);
         break;
     default:
         hear(m, now);

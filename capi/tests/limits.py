@@ -1,4 +1,5 @@
-"""Compares the constants of srm.h, of its declarations in Rust and Python, and of the codes, with those of the crates. Prints what differs."""
+"""Compares the constants of srm.h, of its declarations in Rust and Python, and the numbers of codes, causes, states and messages, with those of the crates. Prints
+what differs."""
 
 import pathlib
 import re
@@ -51,46 +52,64 @@ def variants(file, name):
     return {snake(word): int(number or place) for place, (word, number) in enumerate(words, 1)}
 
 
-def main():
-    defined = numbers(HEADER, r"^#define SRM_(\w+) (?:UINT64_C\()?(\d+)\)?(?=\s|$)")
-    coded = numbers(HEADER, r"^    SRM_(\w+) = (\d+),?")
-    wrong = []
+def numbered_in(file, pattern):
+    """The numbers and names that a pattern finds in a file."""
+    return re.findall(pattern, (TOP / file).read_text(), re.M)
 
-    def compare(name, one, other):
-        if one != other:
-            wrong.append(f"{name}: {one} and {other}")
 
-    for name, (file, theirs) in CRATES.items():
-        compare(f"SRM_{name} and {theirs}", defined[name], constants(file)[theirs])
-    compare("SRM_DATAGRAM_MAX and the format's longest", defined["DATAGRAM_MAX"], longest_datagram())
-    for name in set(defined) - set(CRATES) - {"DATAGRAM_MAX", "CONFIG_SIZE_MIN", "VERSION_MAJOR", "VERSION_MINOR", "VERSION_PATCH"}:
-        wrong.append(f"SRM_{name} is compared with nothing")
-    for name, number in variants("srm_entries/src/fault.rt", "AgentFault").items():
-        compare(f"SRM_ERROR_{name}", coded[f"ERROR_{name}"], number)
-    for name, number in variants("srm_entries/src/cause.rt", "Cause").items():
-        compare(f"SRM_CAUSE_{name}", coded[f"CAUSE_{name}"], number)
-    for name, number in variants("srm_entries/src/state.rt", "AgentState").items():
-        compare(f"SRM_{name}", coded[name], number)
-    for name, number in variants("srm_names/src/page_msg.rt", "PageMsg").items():
-        compare(f"SRM_MESSAGE_{name}", coded[f"MESSAGE_{name}"], number)
+def numbered():
+    """Where the bindings read numbers of srm.h: the file, what its names are called there, the names with their numbers, and how many there are at least."""
+    error, heard, message = (f"bindings/rust/ringyew/src/{name}.rs" for name in ("error", "heard", "message"))
+    errors, values, agent = (f"bindings/python/ringyew/src/ringyew/{name}.py" for name in ("_errors", "_values", "_agent"))
+    yield error, "ERROR_", numbered_in(error, r"^            (\d+) => Error::(\w+),"), 11
+    yield heard, "CAUSE_", numbered_in(heard, r"^            (\d+) => Some\(Cause::(\w+)"), 7
+    yield heard, "", numbered_in(heard, r"^            (\d+) => State::(\w+),"), 2
+    yield message, "MESSAGE_", numbered_in(message, r"^            (\d+) => Message::(\w+)"), 3
+    yield errors, "ERROR_", numbered_in(errors, r"^    (\d+): (\w+?)(?:Refused)?Error,"), 11
+    yield agent, "MESSAGE_", numbered_in(agent, r"^    if raw\.kind == (\d+):\n        return (\w+)\("), 3
+    for name, prefix, least in (("Cause", "CAUSE_", 7), ("State", "", 3)):
+        body = re.search(rf"^class {name}\(IntEnum\):(.*?)(?=^class|\Z)", (TOP / values).read_text(), re.M | re.S)[1]
+        yield values, prefix, [(number, word) for word, number in re.findall(r"^    (\w+) = (\d+)$", body, re.M)], least
+
+
+def of_crates(defined, coded):
+    """What is to be the same in srm.h and in the crates: a title and the two numbers."""
+    for name in set(defined) - {"CONFIG_SIZE_MIN", "VERSION_MAJOR", "VERSION_MINOR", "VERSION_PATCH", "DATAGRAM_MAX"}:
+        file, theirs = CRATES.get(name, (None, "nothing"))
+        yield f"SRM_{name} and {theirs}", defined[name], file and constants(file)[theirs]
+    yield "SRM_DATAGRAM_MAX and the format's longest", defined["DATAGRAM_MAX"], longest_datagram()
+    yield "SRM_NEVER and or_never", 2**64 - 1, numbers((TOP / "crates/srm_ffi/specs/Codes.antt").read_text(), r"^or_never (None) = (\d+)$")["None"]
+    for file, name, prefix in (
+        ("srm_entries/src/fault.rt", "AgentFault", "ERROR_"),
+        ("srm_entries/src/cause.rt", "Cause", "CAUSE_"),
+        ("srm_entries/src/state.rt", "AgentState", ""),
+        ("srm_names/src/page_msg.rt", "PageMsg", "MESSAGE_"),
+    ):
+        for variant, number in variants(file, name).items():
+            yield f"SRM_{prefix}{variant}", coded[prefix + variant], number
     for name, number in constants("srm_ffi/src/codes.rt").items():
         theirs = {"DONE": "OK", "NOTHING": "NOTHING"}.get(name, f"ERROR_{name}")
-        compare(f"SRM_{theirs} and {name} of srm_ffi", coded[theirs], number)
+        yield f"SRM_{theirs} and {name} of srm_ffi", coded[theirs], number
+
+
+def of_bindings(defined, coded):
+    """What is to be the same in srm.h and in the bindings."""
     for file, pattern in (
         ("bindings/rust/ringyew/src/sys.rs", r"^pub const (\w+): \w+ = ([\d_]+);"),
         ("bindings/python/ringyew/src/ringyew/_library.py", r"^(\w+) = (\d+)$"),
     ):
         for name, number in numbers((TOP / file).read_text(), pattern).items():
-            compare(f"{name} of {file}", number, defined.get(name, coded.get(name, coded.get(f"ERROR_{name}"))))
-    for file, pattern in (
-        ("bindings/rust/ringyew/src/error.rs", r"^            (\d+) => Error::(\w+),"),
-        ("bindings/python/ringyew/src/ringyew/_errors.py", r"^    (\d+): (\w+?)(?:Refused)?Error,"),
-    ):
-        found = re.findall(pattern, (TOP / file).read_text(), re.M)
-        if len(found) < 10:
-            wrong.append(f"{file}: too few codes are found")
+            yield f"{name} of {file}", number, defined.get(name, coded.get(name, coded.get(f"ERROR_{name}")))
+    for file, prefix, found, least in numbered():
+        yield f"numbers that are found in {file}", max(len(found), least), len(found)
         for number, name in found:
-            compare(f"{name} of {file}", int(number), coded[f"ERROR_{snake(name)}"])
+            yield f"{name} of {file}", int(number), coded[prefix + (name if name.isupper() else snake(name))]
+
+
+def main():
+    defined = numbers(HEADER, r"^#define SRM_(\w+) (?:UINT64_C\()?(\d+)\)?(?=\s|$)")
+    coded = numbers(HEADER, r"^    SRM_(\w+) = (\d+),?")
+    wrong = [f"{name}: {one} and {other}" for name, one, other in (*of_crates(defined, coded), *of_bindings(defined, coded)) if one != other]
     print("\n".join(wrong), end="\n" if wrong else "")
     return len(wrong) > 0
 

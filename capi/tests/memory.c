@@ -41,7 +41,10 @@ void __wrap_free(void *at)
     __real_free(at);
 }
 
-static long refusals;
+/* How often each call was refused for want of memory. Showing and giving take none, so they never are. */
+enum { NEW, DRAW, HEAR, TICK, SHOW, GIVE, CALLS };
+static const char *const names[CALLS] = {"new", "draw", "hear", "tick", "show", "give"};
+static long refusals[CALLS];
 static uint64_t told;
 
 static void tell(const void *bytes, size_t length)
@@ -51,10 +54,10 @@ static void tell(const void *bytes, size_t length)
 }
 
 /* What a call returns that is made until memory isn't refused. */
-#define AGAIN(code, call)                         \
-    do {                                          \
+#define AGAIN(of, code, call)                       \
+    do {                                            \
         while ((code = (call)) == SRM_ERROR_MEMORY) \
-            refusals++;                           \
+            refusals[of]++;                         \
     } while (0)
 
 static void must(int code, const char *what)
@@ -71,7 +74,7 @@ static void give_all(srm_agent *agent)
     int code;
     for (unsigned slot = 0; slot < SRM_SLOTS; slot++) {
         for (;;) {
-            AGAIN(code, srm_agent_give(agent, slot, &message));
+            AGAIN(GIVE, code, srm_agent_give(agent, slot, &message));
             if (code != SRM_OK)
                 break;
             tell(&message.kind, 1);
@@ -90,37 +93,35 @@ static void play(void)
     int code, lost = 0;
     for (uint8_t me = 0; me < 2; me++) {
         srm_config config = config_of(me, 2);
-        AGAIN(code, srm_agent_new(&members[me], &config, me, 0));
+        AGAIN(NEW, code, srm_agent_new(&members[me], &config, me, 0));
         must(code, "join");
     }
     for (int stroke = 0; stroke < 6; stroke++) {
         char body[40];
         int length = snprintf(body, sizeof body, "stroke %d of a longer text", stroke);
-        AGAIN(code, srm_agent_draw(members[stroke % 2], (srm_page){0, (uint16_t)(stroke / 4)}, body, (size_t)length, 0, NULL));
+        AGAIN(DRAW, code, srm_agent_draw(members[stroke % 2], (srm_page){0, (uint16_t)(stroke / 4)}, body, (size_t)length, 0, NULL));
         must(code, "draw");
     }
-    AGAIN(code, srm_agent_show(members[1], (srm_page){0, 1}, 0));
+    AGAIN(SHOW, code, srm_agent_show(members[1], (srm_page){1, 0}, 0));
     must(code, "show");
     uint64_t now = 0;
     while (now < 4000000) {
         for (int from = 0; from < 2; from++) {
             uint8_t room[SRM_DATAGRAM_MAX];
             size_t length;
-            AGAIN(code, srm_agent_tick(members[from], now, NULL));
+            AGAIN(TICK, code, srm_agent_tick(members[from], now, NULL));
             must(code, "tick");
             while (srm_agent_next_datagram(members[from], room, sizeof room, &length) == SRM_OK) {
                 tell(room, length);
                 if (lost++ % 3 == 1)
                     continue;
-                AGAIN(code, srm_agent_hear(members[!from], room, length, now, NULL));
+                AGAIN(HEAR, code, srm_agent_hear(members[!from], room, length, now, NULL));
                 must(code, "hear");
             }
             give_all(members[from]);
         }
-        if (now >= 3000000 && srm_agent_state(members[0]) == SRM_ACTIVE) {
-            AGAIN(code, srm_agent_leave(members[0], now));
-            must(code, "leave");
-        }
+        if (now >= 3000000 && srm_agent_state(members[0]) == SRM_ACTIVE)
+            must(srm_agent_leave(members[0], now), "leave");
         uint64_t a = srm_agent_next_due(members[0]), b = srm_agent_next_due(members[1]);
         now = a < b ? a : b;
     }
@@ -146,6 +147,11 @@ int main(void)
         if (before_refusal >= 0)
             break;
     }
-    printf("%ld allocations refused in turn, %ld calls made again\n", count, refusals);
-    return failures != 0 || !refusals;
+    printf("%ld allocations refused in turn; made again:", count);
+    for (int of = 0; of < CALLS; of++) {
+        printf(" %s %ld", names[of], refusals[of]);
+        failures += (refusals[of] == 0) != (of >= SHOW);
+    }
+    printf("\n");
+    return failures != 0;
 }

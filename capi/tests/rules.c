@@ -255,6 +255,52 @@ static void pages(void)
     srm_agent_free(a);
 }
 
+/* A page has one of 65,536 numbers. */
+static void last_page(void)
+{
+    srm_agent *a = agent_of(0, 2);
+    srm_page page;
+    WANT(srm_agent_show(a, (srm_page){0, 65534}, 0), SRM_OK);
+    WANT(srm_agent_new_page(a, &page), SRM_OK);
+    WANT(page.number, 65535);
+    WANT(srm_agent_show(a, page, 0), SRM_OK);
+    FILL(page);
+    WANT(srm_agent_new_page(a, &page), SRM_ERROR_PAGE);
+    STAYS(page);
+    srm_agent_free(a);
+}
+
+/* Where several codes hold, the first of the header's list is returned. */
+static void first_codes(void)
+{
+    static const uint8_t body[SRM_BODY_MAX + 1];
+    const srm_page none = {32, 0}, ninth = {1, 8};
+    const uint64_t late = SRM_MOMENT_MAX + 1;
+    uint64_t zeroes[4] = {0};
+    srm_agent *empty = (srm_agent *)zeroes, *a = agent_of(0, 2);
+    WANT(srm_agent_draw(NULL, none, body, SIZE_MAX, late, NULL), SRM_ERROR_NULL);
+    WANT(srm_agent_draw(empty, none, body, SIZE_MAX, late, NULL), SRM_ERROR_LENGTH);
+    WANT(srm_agent_draw(empty, none, body, sizeof body, late, NULL), SRM_ERROR_MOMENT);
+    WANT(srm_agent_draw(empty, none, body, sizeof body, 0, NULL), SRM_ERROR_PAGE);
+    WANT(srm_agent_draw(empty, ninth, body, sizeof body, 0, NULL), SRM_ERROR_EMPTY);
+    WANT(srm_agent_show(NULL, none, late), SRM_ERROR_NULL);
+    WANT(srm_agent_show(empty, none, late), SRM_ERROR_MOMENT);
+    WANT(srm_agent_show(empty, none, 0), SRM_ERROR_PAGE);
+    WANT(srm_agent_show(empty, ninth, 0), SRM_ERROR_EMPTY);
+    WANT(srm_agent_leave(NULL, late), SRM_ERROR_NULL);
+    WANT(srm_agent_leave(empty, late), SRM_ERROR_MOMENT);
+    for (uint16_t i = 1; i < SRM_SLOTS; i++)
+        WANT(srm_agent_show(a, (srm_page){1, i}, 0), SRM_OK);
+    WANT(srm_agent_draw(a, ninth, body, sizeof body, 0, NULL), SRM_ERROR_BODY_LONG);
+    WANT(srm_agent_draw(a, ninth, body, 0, 0, NULL), SRM_ERROR_PAGE_LIMIT);
+    WANT(srm_agent_leave(a, 0), SRM_OK);
+    WANT(srm_agent_draw(a, ninth, body, sizeof body, 0, NULL), SRM_ERROR_LEAVING);
+    WANT(srm_agent_tick(a, 0, NULL), SRM_OK);
+    WANT(srm_agent_draw(a, ninth, body, sizeof body, 0, NULL), SRM_ERROR_GONE);
+    WANT(srm_agent_show(a, ninth, 0), SRM_ERROR_GONE);
+    srm_agent_free(a);
+}
+
 /* A stream holds 65,536 strokes. */
 static void full_stream(void)
 {
@@ -552,6 +598,8 @@ int main(void)
     nobody();
     refusals();
     pages();
+    last_page();
+    first_codes();
     full_stream();
     short_rooms();
     left_by_ticks();

@@ -9,7 +9,7 @@ import zipfile
 HERE = pathlib.Path(__file__).parent
 
 
-def build_wheel(wheel_directory, config_settings=None, metadata_directory=None):
+def build_wheel(wheel_directory: str, config_settings: object = None, metadata_directory: str | None = None) -> str:
     """Writes the wheel into a folder, and returns its name."""
     project = tomllib.loads((HERE / "pyproject.toml").read_text())["project"]
     stem = f"{project['name']}-{project['version']}"
@@ -29,6 +29,6 @@ def build_wheel(wheel_directory, config_settings=None, metadata_directory=None):
     return wheel
 
 
-def digest(content):
+def digest(content: bytes) -> str:
     """A file's digest, as a wheel records it."""
     return base64.urlsafe_b64encode(hashlib.sha256(content).digest()).rstrip(b"=").decode()

@@ -1,15 +1,17 @@
 -- What a call does to what a handle holds, which code it answers, and what it writes.
-use Rattle.std.specs.Prelude.{◌≡◌, ℕ, Bool, false, List, Option, Some, None, Result, Ok, Err}
+use Rattle.std.specs.Prelude.{◌≡◌, ℕ, Bool, false, List, ◌++◌, length, drop, Option, Some, None, Result, Ok, Err, ⊤}
 use Rattle.srm_names.specs.declared.page.Page.{Page}
 use Rattle.srm_names.specs.declared.page_msg.PageMsg.{PageMsg}
 use Rattle.srm_names.specs.FullName.{FullName}
 use Rattle.srm_entries.specs.declared.fault.AgentFault.{AgentFault}
 use Rattle.srm_entries.specs.declared.fault.AgentFault.TheVariants.{Memory}
 use Rattle.srm_entries.specs.declared.state.AgentState.{AgentState}
+use Rattle.srm_entries.specs.declared.entry.Entry.{Entry}
 use Rattle.srm_entries.specs.Configs.{Config}
+use Rattle.srm_agent.specs.Fits.{AgentFits}
 use Rattle.srm_agent.specs.Waking.{NextDue}
 use Rattle.srm_agent.specs.Admitting.{DrawAdmitted, DrawAdmittedFrom}
-use Rattle.srm_seat.specs.Seats.{IsNewSeat, SeatContent}
+use Rattle.srm_seat.specs.Seats.{IsNewSeat, SeatContent, SeededAgent}
 use Rattle.srm_seat.specs.Asking.{IsDistance, IsPageToCome, IsState}
 use Rattle.srm_seat.specs.Calls.{Draws, Gives, HearsBytes, laid_over, Leaves, Shows, TakesDatagram, TakesRepair, TakesRequest, Ticks}
 use Rattle.srm_seat.specs.declared.seat.Handover.{Handover}
@@ -101,9 +103,15 @@ TellsMessage (Ok (Some message)) code room filled before after = (code ≡ DONE)
 TellsMessage (Ok None) code room filled before after = (code ≡ NOTHING) × (filled ≡ room) × (after ≡ before)
 TellsMessage (Err fault) code room filled before after = (code ≡ fault_number fault) × (filled ≡ room) × (after ≡ before)
 
+-- whatever run the agent fitted, the body of what is given is whole in front of the room
+abbrev pub BodyIsWhole : SeededAgent → Result (Option PageMsg) AgentFault → List ℕ → List ℕ → Type 0
+BodyIsWhole a (Ok (Some message)) room filled = (c : Config) (made : ℕ) (past : List Entry) → AgentFits c made past a → filled ≡ body_of message ++ drop (length (body_of message)) room
+BodyIsWhole a (Ok None) room filled = ⊤
+BodyIsWhole a (Err fault) room filled = ⊤
+
 abbrev pub GiveCall : ℕ → ℕ → List ℕ → List ℕ → RawMessage → RawMessage → Option SeatContent → Option SeatContent → Type 0
 GiveCall slot code room filled before after =
-    OnSeat (λ old new. (answer : Result (Option PageMsg) AgentFault) × Gives slot old new answer × TellsMessage answer code room filled before after)
+    OnSeat (λ old new. (answer : Result (Option PageMsg) AgentFault) × Gives slot old new answer × TellsMessage answer code room filled before after × BodyIsWhole old.agent answer room filled)
     ((code ≡ EMPTY) × (filled ≡ room) × (after ≡ before))
 
 -- ---- what is told of the agent, which changes nothing

@@ -1,15 +1,14 @@
 -- The definitions at worked examples.
 use Rattle.std.specs.Prelude.{◌≡◌, ℕ, [], ◌∷◌, map, Some, None, Ok, Err, refl}
-use Rattle.srm_names.specs.declared.page_msg.PageMsg.TheVariants.{Open, Draw, Left, Close}
+use Rattle.srm_names.specs.declared.page_msg.PageMsg.TheVariants.{Draw, Left, Close}
 use Rattle.srm_names.specs.declared.drawop.Drawop.{Drawop}
 use Rattle.srm_names.specs.FullName.{FullName}
 use Rattle.srm_codec.specs.declared.fault.DecodeFault.TheVariants.{Magic}
 use Rattle.srm_entries.specs.declared.fault.AgentFault.TheVariants.{BodyLong}
 use Rattle.srm_entries.specs.declared.cause.Cause.TheVariants.{Decode, Stranger}
 use Rattle.srm_entries.specs.declared.cause.Outcome.TheVariants.{Taken, Ignored}
-use Rattle.srm_ffi.specs.declared.shapes.RawMessage.{RawMessage}
 use Rattle.srm_ffi.specs.Codes.{cause_of, code_of, decode_fault_of, or_never}
-use Rattle.srm_ffi.specs.Shapes.{body_of, raw_message, raw_name}
+use Rattle.srm_ffi.specs.Shapes.{body_of, raw_message}
 use Rattle.srm_ffi.specs.Calls.{written}
 
 -- ---- codes: what is ignored has its cause, and noise its fault too

@@ -60,7 +60,7 @@ fn tell_message(
     }
 }
 
-/// Copies the body of a message to the front of the room, if it has one and that fits. Every body of a session does.
+/// Copies the body of a message to the front of the room, if it has one and that fits. Each that an agent gives does.
 fn copy_body(message: &PageMsg, room: &mut [u8])
     ensures { room.new ≡ laid_over (body_of message.now) room.old }
 {

@@ -41,8 +41,9 @@ class Agent:
         srm_config in srm.h, with its defaults."""
         config = RawConfig()
         library.srm_config_init(config, ctypes.sizeof(config))
-        settings = {"rate": rate, "depth": depth, "c1": c1, "c2": c2, "d1": d1, "d2": d2, "least_distance": least_distance}
-        for field, value in {"me": me, "members": members, "session": session, **settings}.items():
+        needed = {"me": me, "members": members, "session": session}
+        others = {"rate": rate, "depth": depth, "c1": c1, "c2": c2, "d1": d1, "d2": d2, "least_distance": least_distance}
+        for field, value in (*needed.items(), *others.items()):
             if value is not None:
                 _set(config, field, value)
         at = ctypes.c_void_p()
