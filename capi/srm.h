@@ -276,7 +276,7 @@ enum srm_cause {
 typedef struct srm_heard {
     size_t timers; /**< How many timers it set. */
     uint8_t cause; /**< One of ::srm_cause. */
-    uint8_t fault; /**< Where `cause` is ::SRM_CAUSE_DECODE, what is wrong with the bytes, 1 to 11 as in docs/PROFILE.md; else 0. */
+    uint8_t fault; /**< Where `cause` is ::SRM_CAUSE_DECODE, what is wrong with the bytes, 1 to 11 as in docs/PROTOCOL.md; else 0. */
 } srm_heard;
 
 /**

@@ -1,7 +1,7 @@
 -- Datagrams of a Ringyew session in Wireshark and tshark (README.md beside this file).
 --
 -- The upper half reads bytes into a table and needs no Wireshark: test.lua runs it by itself. The lower half shows that table in
--- Wireshark's tree and columns. The format, and which fault of it comes first, stand in docs/PROFILE.md and, field by field, in
+-- Wireshark's tree and columns. The format, and which fault of it comes first, stand in docs/PROTOCOL.md and, field by field, in
 -- crates/srm_codec/specs/Judging.antt.
 --
 -- It runs with Lua 5.1 to 5.4, whatever Wireshark was built with: so there are no bit operators and no integers in it. A moment is at most

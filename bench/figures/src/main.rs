@@ -50,5 +50,5 @@ fn main() -> ExitCode {
 
 /// The table of waits beside the page that has it.
 fn waits_of(top: &Path) -> Figure {
-    waits::figure(&std::fs::read_to_string(top.join("docs/PROFILE.md")).unwrap_or_default())
+    waits::figure(&std::fs::read_to_string(top.join("docs/PROTOCOL.md")).unwrap_or_default())
 }

@@ -1,4 +1,4 @@
-//! Figure 6: the table of waits, which docs/PROFILE.md has.
+//! Figure 6: the table of waits, which docs/PROTOCOL.md has.
 
 use crate::cost::Cost;
 use crate::figure::{Fact, Figure, spelled, waits};
@@ -72,10 +72,10 @@ pub fn figure(page: &str) -> Figure {
     let lines = lines(&rows);
     let lacking = lines.iter().filter(|line| !page.lines().any(|other| other == *line));
     let mut facts: Vec<Fact> =
-        lacking.map(|line| Fact { text: format!("docs/PROFILE.md lacks {line}"), holds: false }).collect();
+        lacking.map(|line| Fact { text: format!("docs/PROTOCOL.md lacks {line}"), holds: false }).collect();
     if facts.is_empty() {
         facts.push(Fact {
-            text: format!("docs/PROFILE.md has the {} rows of its tables of waits", lines.len()),
+            text: format!("docs/PROTOCOL.md has the {} rows of its tables of waits", lines.len()),
             holds: true,
         });
     }
