@@ -25,6 +25,7 @@ pub mod Taken
 pub mod Roomy
 pub mod Answered
 pub mod DueItems
+pub mod Spellable
 pub mod Evident
 pub mod Requested
 pub mod Joining

@@ -11,6 +11,7 @@ use Rattle.srm_agent.specs.declared.agent.Agent.TheInside.{Inside}
 use Rattle.srm_entries.specs.Configs.{Config}
 use Rattle.srm_agent_state.specs.Progress.{ProgressContent}
 use Rattle.srm_outbox.specs.Outs.{AreOwn}
+use Rattle.srm_outbox.specs.DueItems.{HoldsSpellable}
 use Rattle.srm_agent_state.specs.TimersKept.{TimersContent, HaveSettings}
 
 pub record AgentContent (W : Type 0) : Type 0 where
@@ -43,10 +44,11 @@ content_of a = record {
   due = a.due;
 }
 
--- each slot has its progress, whether it has a page or not; the timers have the agent's settings; what waits
--- for the bucket is the agent's own, and spelled in its session
+-- each slot has its progress, whether it has a page or not; what is held can be spelled; the timers have the agent's settings; what
+-- waits for the bucket is the agent's own, and spelled in its session
 pub record IsWhole {W : Type 0} (a : Inside W) : Type 0 where
   pub last : a.last ≤ LATEST_MOMENT
   pub progress : length a.progress.items ≡ PAGES
+  pub held : HoldsSpellable a.store
   pub settings : HaveSettings a.config a.timers
   pub waiting : AreOwn a.config.me a.config.session a.bucket.waiting

@@ -20,7 +20,7 @@ use Rattle.srm_bucket.specs.Waiting.{HasLength}
 use Rattle.srm_outbox.specs.declared.due_items.DueItem.{DueItem}
 use Rattle.srm_entries.specs.Bucket.{due_item}
 use Rattle.srm_outbox.specs.Outs.{datagram_of, IsOwn}
-use Rattle.srm_outbox.specs.DueItems.{MayHandIn, IsDueItem, AreDueItems, classed_of}
+use Rattle.srm_outbox.specs.DueItems.{HoldsSpellable, MayHandIn, IsDueItem, AreDueItems, classed_of}
 
 -- a held drawop can be spelled in a repair
 spellable_at : (held : List Drawop) (n : FullName) → AllByRecursion is_drawop held → IfSome (held_at held n) is_drawop
@@ -30,31 +30,33 @@ spellable_at held n all = go (held_at held n) refl
     go None e = tt
     go (Some d) e = All-Has is_drawop d held all (find-Has (has_name n) held d e).0
 
+-- what such a store gives under a name can be spelled
+pub gives_spellable : (s : StoreContent) (n : FullName) (here : Option Drawop) → HoldsSpellable s → ((held : List Drawop) (evidence : List FullName) (settled : List Settling) → StoreFits held evidence settled s → here ≡ held_at held n)
+    → IfSome here is_drawop
+gives_spellable s n here h there = subst (λ o. IfSome o is_drawop) (sym (there h.inserted h.evidence h.settled h.fits)) (spellable_at h.inserted n h.spellable)
+
 -- A loop has added the repairs of some of the names.
 pub record RepairedSoFar (me : ℕ) (s : StoreContent) (requests : List Datagram) (names : List FullName) (datagrams : List Datagram) : Type 0 where
-  pub value : (held : List Drawop) (evidence : List FullName) (settled : List Settling) → StoreFits held evidence settled s → AllByRecursion is_drawop held
+  pub value : (held : List Drawop) (evidence : List FullName) (settled : List Settling) → StoreFits held evidence settled s
       → datagrams ≡ requests ++ filter_map (λ n. option_map (Repair me) (held_at held n)) names
   pub each : AllByRecursion (MayHandIn me) datagrams
 
 pub repairing_begins : (me : ℕ) (s : StoreContent) (requests datagrams : List Datagram) → datagrams ≡ requests → AllByRecursion (MayHandIn me) datagrams → RepairedSoFar me s requests [] datagrams
-repairing_begins me s requests datagrams e all = record { value = λ held evidence settled fits spellable. e ∙ sym (append-nil requests); each = all }
+repairing_begins me s requests datagrams e all = record { value = λ held evidence settled fits. e ∙ sym (append-nil requests); each = all }
 
 pub repairing_goes_on : (me : ℕ) (s : StoreContent) (requests : List Datagram) (names : List FullName) (i : ℕ) (n : FullName) (datagrams : List Datagram) (here : Option Drawop) (o : Option Datagram) → i < length names → n ≡ get_or names i n
-    → ((held : List Drawop) (evidence : List FullName) (settled : List Settling) → StoreFits held evidence settled s → here ≡ held_at held n) → (IfSome here is_drawop → o ≡ option_map (Repair me) here) → IfSome o (MayHandIn me)
+    → ((held : List Drawop) (evidence : List FullName) (settled : List Settling) → StoreFits held evidence settled s → here ≡ held_at held n) → o ≡ option_map (Repair me) here → IfSome o (MayHandIn me)
     → RepairedSoFar me s requests (take i names) datagrams → RepairedSoFar me s requests (take (i + 1) names) (datagrams ++ option_to_list o)
 repairing_goes_on me s requests names i n datagrams here o lt at there is fine h = record {
-  value = λ held evidence settled fits spellable.
-      ap (λ xs. xs ++ option_to_list o) (h.value held evidence settled fits spellable)
+  value = λ held evidence settled fits.
+      ap (λ xs. xs ++ option_to_list o) (h.value held evidence settled fits)
       ∙ append_assoc requests (filter_map (λ n. option_map (Repair me) (held_at held n)) (take i names)) (option_to_list o)
-      ∙ ap (λ xs. requests ++ (filter_map (λ n. option_map (Repair me) (held_at held n)) (take i names) ++ xs)) (ap option_to_list (repaired held spellable (there held evidence settled fits)) ∙ as_list (option_map (Repair me) (held_at held n)))
+      ∙ ap (λ xs. requests ++ (filter_map (λ n. option_map (Repair me) (held_at held n)) (take i names) ++ xs)) (ap option_to_list (is ∙ ap (option_map (Repair me)) (there held evidence settled fits)) ∙ as_list (option_map (Repair me) (held_at held n)))
       ∙ ap (λ xs. requests ++ xs) (sym (ap (filter_map (λ n. option_map (Repair me) (held_at held n))) (take_more names i n lt ∙ ap (λ m. take i names ++ m ∷ []) (sym at))
       ∙ filter_map-append (λ n. option_map (Repair me) (held_at held n)) (take i names) (n ∷ [])));
   each = AllByRecursion-append (MayHandIn me) datagrams (option_to_list o) h.each (fine_list o fine);
 }
   where
-    repaired : (held : List Drawop) → AllByRecursion is_drawop held → here ≡ held_at held n → o ≡ option_map (Repair me) (held_at held n)
-    repaired held all e = is (subst (λ p. IfSome p is_drawop) (sym e) (spellable_at held n all)) ∙ ap (option_map (Repair me)) e
-
     as_list : (p : Option Datagram) → option_to_list p ≡ cons_option p []
     as_list None = refl
     as_list (Some g) = refl

@@ -2,8 +2,13 @@
 use Rattle.std.specs.Prelude.{◌≡◌, ℕ, false, List, map}
 use Rattle.std.specs.List.{AllByRecursion}
 use Rattle.srm_names.specs.declared.page.Page.{Page}
+use Rattle.srm_names.specs.declared.drawop.Drawop.{Drawop}
+use Rattle.srm_names.specs.FullName.{FullName}
 use Rattle.srm_codec.specs.declared.datagram.Datagram.{Datagram}
-use Rattle.srm_codec.specs.Spelling.{sender_of, IsSpellable, is_session}
+use Rattle.srm_codec.specs.Spelling.{sender_of, IsSpellable, is_drawop, is_session}
+use Rattle.srm_store.specs.Finals.{Settling}
+use Rattle.srm_store.specs.Fits.{StoreFits}
+use Rattle.srm_store.specs.Stores.{StoreContent}
 use Rattle.srm_bucket.specs.Calls.{Classed}
 use Rattle.srm_bucket.specs.Mapping.{read_classed}
 use Rattle.srm_bucket.specs.Waiting.{HasLength}
@@ -17,6 +22,14 @@ pub record MayHandIn (me : ℕ) (g : Datagram) : Type 0 where
   pub sender : sender_of g ≡ me
   pub charged : is_session g ≡ false
   pub spellable : IsSpellable g
+
+-- each drawop that was inserted into a store can be spelled
+pub record HoldsSpellable (s : StoreContent) : Type 0 where
+  pub inserted : List Drawop
+  pub evidence : List FullName
+  pub settled : List Settling
+  pub fits : StoreFits inserted evidence settled s
+  pub spellable : AllByRecursion is_drawop inserted
 
 -- as the bucket sees it
 abbrev pub classed_of : DueItem → Classed Outgoing

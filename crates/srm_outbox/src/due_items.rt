@@ -14,12 +14,12 @@ ghost use Rattle.srm_store.specs.Fits.{StoreFits};
 ghost use Rattle.srm_bucket.specs.Waiting.{IsLength};
 ghost use Rattle.srm_entries.specs.Bucket.{class_for, page_of};
 ghost use Rattle.srm_entries.specs.Packing.{packed};
-ghost use Rattle.srm_outbox.specs.DueItems.{MayHandIn, IsDueItem, AreDueItems};
+ghost use Rattle.srm_outbox.specs.DueItems.{HoldsSpellable, MayHandIn, IsDueItem, AreDueItems};
 
 use crate::out::Outgoing;
 use crate::packing::packed;
 use srm_bucket::{Class, Item};
-use srm_codec::{Datagram, encodable, length};
+use srm_codec::{Datagram, length};
 use srm_names::{Drawop, Member, Name, Page};
 use srm_store::Store;
 use std::alloc::{AllocError, Global};
@@ -32,8 +32,8 @@ pub struct DueItem {
     pub item: Item<Outgoing>,
 }
 
-/// The requests for names, and then the repairs of those names of the second list that are held. Only want of memory refuses
-/// them.
+/// Returns the requests for names, and then the repairs of those names of the second list that are held. What the store holds can
+/// be spelled, so that no repair is left out. Fails only when out of memory.
 pub fn requests_and_repairs(
     alloc: Global,
     me: Member,
@@ -41,8 +41,9 @@ pub fn requests_and_repairs(
     asks: &[Name],
     fixes: &[Name],
 ) -> Result<VecDeque<Datagram>, AllocError>
-    requires { ascending name_below asks.now ≡ true }
-    ensures value { IfOk result (λ datagrams. (held : List ADrawop) (evidence : List FullName) (settled : List Settling) → StoreFits held evidence settled store.now → AllByRecursion is_drawop held
+    requires rising { ascending name_below asks.now ≡ true }
+    requires spellable { HoldsSpellable store.now }
+    ensures value { IfOk result (λ datagrams. (held : List ADrawop) (evidence : List FullName) (settled : List Settling) → StoreFits held evidence settled store.now
         → datagrams.items ≡ packed me asks.now ++ filter_map (λ n. option_map (Repair me) (held_at held n)) fixes.now) }
     ensures each { IfOk result (λ datagrams. AllByRecursion (MayHandIn me) datagrams.items) }
 {
@@ -55,25 +56,20 @@ pub fn requests_and_repairs(
     Ok(datagrams)
 }
 
-/// The repair with the drawop that is held, where one is. Only want of memory refuses it.
+/// Returns the repair with the drawop that is held, where one is. Fails only when out of memory.
 fn repair(me: Member, held: Option<&Drawop>) -> Result<Option<Datagram>, AllocError>
-    ensures value { IfOk result (λ repair. IfSome (option_copied held.entry) is_drawop → repair ≡ option_map (Repair me) (option_copied held.entry)) }
+    requires { IfSome (option_copied held) is_drawop }
+    ensures value { IfOk result (λ repair. repair ≡ option_map (Repair me) (option_copied held.entry)) }
     ensures each { IfOk result (λ repair. IfSome repair (MayHandIn me)) }
 {
     let Some(drawop) = held else {
         return Ok(None);
     };
     let _ = me.number();
-    let repair = Datagram::Repair {
+    Ok(Some(Datagram::Repair {
         sender: me,
         drawop: drawop.copy()?,
-    };
-    // What an agent holds was drawn by it or read from bytes, and so has a spelling.
-    if encodable(&repair) {
-        Ok(Some(repair))
-    } else {
-        Ok(None)
-    }
+    }))
 }
 
 /// The datagrams spelled in a session, each with the class that it has while a page is shown. Only want of memory refuses them.

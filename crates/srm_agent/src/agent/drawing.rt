@@ -2,6 +2,7 @@
 
 ghost use Rattle.std.specs.Prelude.{◌≡◌, ◌≤◌, ◌<◌, ℕ, List, [], ◌∷◌, Some, Ok, Err, IfOk, OnErr, IfSome, false};
 ghost use Rattle.srm_names.specs.declared.limits.TheConstants.{LATEST_MOMENT, DRAWOPS};
+ghost use Rattle.srm_codec.specs.Spelling.{is_drawop};
 ghost use Rattle.srm_store.specs.Stores.{HavePlaces};
 ghost use Rattle.srm_bucket.specs.declared.class.Class.TheVariants.{New};
 ghost use Rattle.srm_bucket.specs.declared.limits.TheConstants.{LEAST_LENGTH, GREATEST_LENGTH};
@@ -130,6 +131,7 @@ impl<W: Words + Drop> Agent<W> {
     fn take_up(&mut self, page: &Page, moment: u64, drawop: Drawop, going: Item<Outgoing>)
         requires room { table_lacks_room self.old.pages page.now ≡ false }
         requires moment { moment ≤ LATEST_MOMENT }
+        requires spellable { is_drawop drawop }
         requires ready { HavePlaces (drawop.name ∷ []) self.old.store }
         requires waiting { 0 < self.old.bucket.waiting.room }
         requires least { LEAST_LENGTH ≤ going.length }

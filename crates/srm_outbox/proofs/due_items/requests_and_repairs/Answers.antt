@@ -3,12 +3,15 @@ use Rattle.std.specs.Prelude.{option_to_list}
 use Rattle.std.specs.Result.{is_ok}
 use Rattle.std.proofs.lemmas.List.{append-nil, take_all}
 use Rattle.srm_entries.specs.Packing.{packed}
-use Rattle.srm_outbox.proofs.Spelling.{RepairedSoFar, repairing_begins, repairing_goes_on}
+use Rattle.srm_outbox.proofs.Spelling.{RepairedSoFar, gives_spellable, repairing_begins, repairing_goes_on}
 use Rattle.srm_outbox.proofs.due_items.requests_and_repairs.Goals as goal
 use Rattle.srm_outbox.proofs.due_items.requests_and_repairs.Goals.{in-Some+in_ok-push_back, in_default}
 
 pub loop-name-init : goal.loop-name-init
 loop-name-init c = repairing_begins c.args.me c.args.store.now (packed c.args.me c.args.asks.now) c.in_ok-datagrams.datagrams.items c.in_ok-datagrams.ensures.value c.in_ok-datagrams.ensures.each
+
+pub repair-requires : goal.repair-requires
+repair-requires c = gives_spellable c.args.store.now c.name-item.result _ c.requires.spellable c.get.ensures
 
 pub loop-name-preserved : goal.loop-name-preserved
 loop-name-preserved c =

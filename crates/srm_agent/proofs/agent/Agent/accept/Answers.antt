@@ -5,6 +5,7 @@ use Rattle.srm_agent.specs.Noting.{verdict_of_outcome}
 use Rattle.srm_agent.proofs.Answered.{ignored_by}
 use Rattle.srm_agent.proofs.Ignoring.{if_one}
 use Rattle.srm_agent.proofs.Roomy.{may_roomy, enters_roomy, stays_on_roomy, stays_roomy, judged_accepted, unslotted_enters, unslotted_judged, with_moment, at_full}
+use Rattle.srm_agent.proofs.Spellable.{still_spellable}
 use Rattle.srm_agent.proofs.agent.Agent.accept.Goals as goal
 
 pub accept_ready-requires-clause-may : goal.accept_ready-requires-clause-may
@@ -31,3 +32,9 @@ returns-in-Err-PageLimit-clause-judged g c = rw (← c.self.view_is) (unslotted_
 
 pub returns-in-Err-Memory-clause-err : goal.returns-in-Err-Memory-clause-err
 returns-in-Err-Memory-clause-err g c = rw (← c.self.view_is) (stays_roomy _ _ c.room_to_learn.ensures.kept)
+
+pub invariant_of-self : goal.invariant_of-self
+invariant_of-self g c = record { last = c.self.invariant.last; progress = c.self.invariant.progress; held = still_spellable _ _ c.room_to_learn.ensures.kept c.self.invariant.held; settings = c.self.invariant.settings; waiting = c.self.invariant.waiting }
+
+pub invariant_of-self-in-Err-Memory : goal.invariant_of-self-in-Err-Memory
+invariant_of-self-in-Err-Memory g c = record { last = c.self.invariant.last; progress = c.self.invariant.progress; held = still_spellable _ _ c.room_to_learn.ensures.kept c.self.invariant.held; settings = c.self.invariant.settings; waiting = c.self.invariant.waiting }

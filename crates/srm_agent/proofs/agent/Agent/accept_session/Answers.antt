@@ -6,6 +6,7 @@ use Rattle.srm_agent.proofs.Taken.{stays}
 use Rattle.srm_store.proofs.Fitting.{still_fits}
 use Rattle.srm_agent.specs.Contents.{content_of}
 use Rattle.srm_agent.proofs.Answered.{taken_entry}
+use Rattle.srm_agent.proofs.Spellable.{told_spellable}
 use Rattle.srm_agent.proofs.agent.Agent.accept_session.Goals as goal
 
 pub newly_missing_by_rows-requires : goal.newly_missing_by_rows-requires
@@ -15,13 +16,13 @@ pub hear_rows-requires-clause-rising : goal.hear_rows-requires-clause-rising
 hear_rows-requires-clause-rising g c = rw c.deref-2.ensures.value c.in_ok-newly_missing.ensures.rising
 
 pub invariant_of-self : goal.invariant_of-self
-invariant_of-self g c = record { last = c.self.invariant.last; progress = c.self.invariant.progress; settings = c.room_for_rows.ensures.settings.each _ c.self.invariant.settings; waiting = c.self.invariant.waiting }
+invariant_of-self g c = record { last = c.self.invariant.last; progress = c.self.invariant.progress; held = c.self.invariant.held; settings = c.room_for_rows.ensures.settings.each _ c.self.invariant.settings; waiting = c.self.invariant.waiting }
 
 pub returns-in_err-room_for_rows-clause-err : goal.returns-in_err-room_for_rows-clause-err
 returns-in_err-room_for_rows-clause-err g c = rw (← c.self.view_is) (at_err c.from_residual-in_err-room_for_rows.result (stays _ _ _ _ (still_fits _) c.room_for_rows.ensures.kept refl))
 
 pub invariant_of-self-2 : goal.invariant_of-self-2
-invariant_of-self-2 g c = record { last = c.requires.may.in_range; progress = c.self.invariant.progress; settings = c.hear_rows.ensures.settings.each _ (c.room_for_rows.ensures.settings.each _ c.self.invariant.settings); waiting = c.self.invariant.waiting }
+invariant_of-self-2 g c = record { last = c.requires.may.in_range; progress = c.self.invariant.progress; held = told_spellable c.args.datagram _ _ c.learn_datagram.ensures c.self.invariant.held; settings = c.hear_rows.ensures.settings.each _ (c.room_for_rows.ensures.settings.each _ c.self.invariant.settings); waiting = c.self.invariant.waiting }
 
 pub returns-clause-ok : goal.returns-clause-ok
 returns-clause-ok g c = rw (← c.self.view_is) (session_enters g.W.Words.next_word _ _ c.args.moment c.args.datagram c.args.names.now c.in_ok-newly_missing.newly_missing.items c.distance_table-dist.result.now c.unwrap-arms.result.items

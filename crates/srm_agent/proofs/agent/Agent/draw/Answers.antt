@@ -7,6 +7,7 @@ use Rattle.srm_entries.specs.Verdicts.{first_cause}
 use Rattle.srm_agent.specs.Drawing.{verdict_of_refusal, refusals}
 use Rattle.srm_entries.specs.Still.{entry_without_effects}
 use Rattle.srm_agent.proofs.Drawn.{draw_refused, draw_full, draw_unslotted, roomy_stays, own_draft, draw_done, draw_allowed, draw_refuses, draw_names}
+use Rattle.srm_agent.proofs.Spellable.{drafted_spellable}
 use Rattle.srm_agent.proofs.agent.Agent.draw.Goals as goal
 
 pub returns-in-Some : goal.returns-in-Some
@@ -44,3 +45,6 @@ returns g c = inl (draw_names g.W.Words.next_word c.args.self.now c.draft.new.se
 
 pub take_up-requires-clause-own : goal.take_up-requires-clause-own
 take_up-requires-clause-own g c = own_draft c.args.self.now c.draft.new.self c.in-Some-next_name.name _ _ c.in-Ok.draft _ c.draft.ensures.rest c.in-Ok.ensures.made c.in-Some-next_name.is c.next_name.ensures.own
+
+pub take_up-requires-clause-spellable : goal.take_up-requires-clause-spellable
+take_up-requires-clause-spellable g c = drafted_spellable _ _ c.in-Ok.draft c.in-Ok.ensures.made c.in-Ok.ensures.spellable

@@ -5,6 +5,7 @@ use Rattle.srm_codec.specs.Spelling.{is_drawop}
 use Rattle.srm_agent.specs.Drawing.{verdict_of_refusal, refusals, drawn_entry, IsDraftOf}
 use Rattle.srm_names.proofs.Results.{at_err}
 use Rattle.srm_agent.proofs.Drawn.{draw_refused, draw_full, draw_unslotted, roomy_stays, own_draft, draw_done, draw_allowed}
+use Rattle.srm_agent.proofs.Spellable.{drafted_spellable}
 use Rattle.srm_agent.proofs.agent.Agent.draw_noted.Goals as goal
 
 pub returns-in-Some-clause-ok : goal.returns-in-Some-clause-ok
@@ -58,3 +59,6 @@ pub returns-in_err-noted-clause-allowed : goal.returns-in_err-noted-clause-allow
 returns-in_err-noted-clause-allowed g c =
     at_err c.from_residual-in_err-noted.result (draw_allowed c.args.self.now c.args.page c.args.body c.in-Some-next_name.name (ap verdict_of_refusal (sym c.in_default.is) ∙ c.refusal.ensures ∙ ap (λ k. first_cause (refusals c.args.self.now.state c.args.self.now.pages c.args.page k)) c.len.ensures.value)
     (λ s made past h. sym c.in-Some-next_name.is ∙ c.next_name.ensures.value s made past h))
+
+pub take_up-requires-clause-spellable : goal.take_up-requires-clause-spellable
+take_up-requires-clause-spellable g c = drafted_spellable _ _ c.in-Ok.draft c.in-Ok.ensures.made c.in-Ok.ensures.spellable
