@@ -350,8 +350,8 @@ SRM_API uint64_t srm_agent_next_due(srm_agent *agent);
 SRM_API int srm_agent_state(srm_agent *agent);
 
 /**
- * Writes the one-way distance to a member in microseconds, by which timers wait: 0 to this member itself, to another from the floor to
- * ::SRM_DISTANCE_MAX. Before an echo from a member was heard it is 100,000, or the floor where that is more.
+ * Writes the one-way distance to a member in microseconds: 0 to this member itself, to another from the floor to ::SRM_DISTANCE_MAX.
+ * Timers wait for multiples of it. Before an echo from a member was heard it is 100,000, or the floor where that is more.
  *
  * @return ::SRM_OK; ::SRM_ERROR_NULL; ::SRM_ERROR_MEMBER where `member` is past 31; ::SRM_ERROR_EMPTY
  */

@@ -55,7 +55,7 @@ pub extern "C" fn srm_raw_open(
     open_empty(alloc, handle, config, seed, now)
 }
 
-/// Makes an agent in a handle that holds none. Only want of memory refuses it.
+/// Makes an agent in a handle that holds none. Out of memory is its only error.
 fn open_empty(alloc: Global, handle: &mut Handle, config: Config, seed: u64, now: u64) -> u32
     requires moment { now ≤ LATEST_MOMENT }
     requires empty { handle.old.value ≡ None }

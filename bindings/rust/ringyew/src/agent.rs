@@ -94,7 +94,7 @@ impl Agent {
         self.handle.hear(bytes, now).map(Heard::of).map_err(Error::of)
     }
 
-    /// Does what is due. What an earlier tick left and wasn't taken is dropped, as if lost on its way.
+    /// Does what is due. It drops what an earlier tick left and nobody took, as if that were lost on its way.
     ///
     /// # Errors
     /// [`Error::Moment`], [`Error::Memory`]; what an earlier tick left stays then.
@@ -146,7 +146,7 @@ impl Agent {
         State::of(self.handle.state())
     }
 
-    /// The one-way distance to a member in microseconds, by which timers wait.
+    /// The one-way distance to a member in microseconds. Timers wait for multiples of it.
     ///
     /// # Errors
     /// [`Error::Member`].

@@ -106,7 +106,7 @@ class Agent:
         return Heard(Cause(heard.cause) if heard.cause else None, heard.fault, heard.timers)
 
     def tick(self, now: int) -> Ticked:
-        """Does what is due. What an earlier tick left and wasn't taken is dropped, as if lost on its way."""
+        """Does what is due. It drops what an earlier tick left and nobody took, as if that were lost on its way."""
         ticked = RawTicked()
         check(library.srm_agent_tick(self._agent, _moment(now), ticked))
         return Ticked(ticked.requests, ticked.repairs, ticked.datagrams, State(ticked.state))
@@ -141,7 +141,7 @@ class Agent:
         return State(library.srm_agent_state(self._agent))
 
     def distance(self, member: int) -> int:
-        """The one-way distance to a member in microseconds, by which timers wait."""
+        """The one-way distance to a member in microseconds. Timers wait for multiples of it."""
         distance = ctypes.c_uint64()
         if not 0 <= member < 2**32:
             raise MemberError(26)
