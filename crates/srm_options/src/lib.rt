@@ -13,6 +13,7 @@
 
 mod apart;
 mod help;
+mod live_defaults;
 mod mistake;
 mod node;
 mod node_options;

@@ -5,6 +5,7 @@ ghost use Rattle.srm_options.specs.Options.{AreInRange};
 
 use crate::apart::is_first_apart;
 use crate::help::{NODE, NODE_MORE};
+use crate::live_defaults::{LIVE_LINGER, live_settings};
 use crate::mistake::Mistake;
 use crate::node_options::{LONGEST_LINGER, NodeOptions};
 use crate::reply::Reply;
@@ -19,13 +20,6 @@ use std::net::{SocketAddr, SocketAddrV4};
 
 /// Without `--stay` a node leaves after so many microseconds.
 const STAY: u64 = 5_000_000;
-
-/// Without `--least-distance` a live member takes a distance as at least so many microseconds. Where members are a few microseconds apart, one that misses
-/// much would else ask each millisecond, and its own strokes would wait behind its requests.
-const LIVE_LEAST_DISTANCE: u64 = 5_000;
-
-/// Without `--linger` a live member leaves once nobody asked for what it holds for so many microseconds.
-const LIVE_LINGER: u64 = 2_000_000;
 
 /// Without `--turns` it turns so often, at most.
 const TURNS: u64 = 1_000_000;
@@ -59,12 +53,11 @@ pub(crate) fn node_command<'a>(alloc: Global, live: bool) -> Result<Command<'a>,
         .no_binary_name(true)
         .about(NODE)
         .after_help(NODE_MORE);
-    with_addresses(
-        alloc,
-        with_limits(alloc, with_member(alloc, command)?, live)?,
-    )
+    let command = with_limits(alloc, with_member(alloc, command)?, live)?;
+    with_addresses(alloc, command)
 }
 
+/// An option with a value.
 fn option<'a>(alloc: Global, name: &'a str, value: &'a str, help: &'a str) -> Arg<'a> {
     Arg::new(alloc, name)
         .long(name)
@@ -139,7 +132,7 @@ fn with_limits<'a>(
         alloc,
         "rate",
         "R",
-        "bytes a second, 1 to 100000000; else 8000",
+        "bytes a second, 1 to 100000000; else 8000, or 64000 with --live",
     )
     .value_parser(value_parser!(u32).range(i64::from(LEAST_RATE)..=i64::from(GREATEST_RATE)));
     let depth = option(
@@ -161,10 +154,6 @@ fn with_limits<'a>(
         "U",
         "with --live, leaves only once nobody asked for what it holds for so many microseconds, 0 to 30000000; else 2000000",
     );
-    let flag = Arg::new(alloc, "live")
-        .long("live")
-        .help("draws each line as it is typed, and prints what is taken as it is")
-        .action(ArgAction::SetTrue);
     command
         .arg(stay_option(alloc, live))?
         .arg(turns)?
@@ -173,7 +162,19 @@ fn with_limits<'a>(
         .arg(waits)?
         .arg(least_distance_option(alloc, live))?
         .arg(linger)?
-        .arg(flag)
+        .arg(flag(
+            alloc,
+            "live",
+            "draws each line as it is typed, and prints what is taken as it is",
+        ))
+}
+
+/// An option without a value.
+fn flag<'a>(alloc: Global, name: &'a str, help: &'a str) -> Arg<'a> {
+    Arg::new(alloc, name)
+        .long(name)
+        .help(help)
+        .action(ArgAction::SetTrue)
 }
 
 fn with_addresses<'a>(alloc: Global, command: Command<'a>) -> Result<Command<'a>, AllocError> {
@@ -203,12 +204,11 @@ fn options_in<'a>(alloc: Global, matches: &ArgMatches<'a>) -> Result<NodeOptions
     let stay = micros_in(matches, "stay", live, 0, LATEST_MOMENT)?.unwrap_or(STAY);
     // How long a live member runs is for who types to say.
     let turns = if live { u64::MAX } else { TURNS };
-    let linger = linger_in(matches, live)?;
     Ok(NodeOptions {
         config,
         seed: matches.get_one::<u64>("start").unwrap_or(0),
         stay,
-        linger,
+        linger: linger_in(matches, live)?,
         turns: matches.get_one::<u64>("turns").unwrap_or(turns),
         live,
         addresses,
@@ -217,7 +217,11 @@ fn options_in<'a>(alloc: Global, matches: &ArgMatches<'a>) -> Result<NodeOptions
 
 /// What the member may send and how long it waits.
 fn settings_in<'a>(matches: &ArgMatches<'a>, live: bool) -> Result<Settings, Mistake<'a>> {
-    let usual = Settings::default();
+    let usual = if live {
+        live_settings()
+    } else {
+        Settings::default()
+    };
     let [c1, c2, d1, d2] = match matches.get_str("waits") {
         Some(text) => waits_in(text).ok_or(Mistake::Waits(text))?,
         None => [usual.c1, usual.c2, usual.d1, usual.d2],
@@ -230,11 +234,7 @@ fn settings_in<'a>(matches: &ArgMatches<'a>, live: bool) -> Result<Settings, Mis
         c2,
         d1,
         d2,
-        least_distance: floor.unwrap_or(if live {
-            LIVE_LEAST_DISTANCE
-        } else {
-            usual.least_distance
-        }),
+        least_distance: floor.unwrap_or(usual.least_distance),
     })
 }
 

@@ -17,13 +17,13 @@ mod ends;
 #[cfg(test)]
 mod example;
 #[cfg(test)]
-mod floors;
-#[cfg(test)]
 mod judging;
 #[cfg(test)]
 mod lingering;
 #[cfg(test)]
 mod live;
+#[cfg(test)]
+mod live_settings;
 #[cfg(test)]
 mod lives;
 #[cfg(test)]

@@ -1,0 +1,22 @@
+//! What a live member does where its command line says nothing else.
+
+use srm_entries::Settings;
+
+/// Without `--least-distance` a live member takes a distance as at least so many microseconds. Where members are a few microseconds apart, one that misses
+/// much would else ask each millisecond, and its own strokes would wait behind its requests.
+const LEAST_DISTANCE: u64 = 5_000;
+
+/// Without `--rate` a live member sends so many bytes a second. A hand that draws makes one to three thousand, and what one who joins late asks for, and gets, goes at this rate too.
+const RATE: u32 = 64_000;
+
+/// Without `--linger` a live member leaves once nobody asked for what it holds for so many microseconds.
+pub const LIVE_LINGER: u64 = 2_000_000;
+
+/// What a live member may send and how long it waits.
+pub fn live_settings() -> Settings {
+    Settings {
+        rate: RATE,
+        least_distance: LEAST_DISTANCE,
+        ..Settings::default()
+    }
+}
