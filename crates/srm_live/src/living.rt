@@ -18,9 +18,10 @@ use crate::needed::Needed;
 use crate::news::{Told, tell_news};
 use crate::tally::Tally;
 use crate::telling::start_telling;
+use crate::unfinished::tell_unfinished;
 use crate::watched::Watched;
+use srm_agent::Config;
 use srm_member::{MemberFault, Station};
-use srm_names::Member;
 use srm_options::NodeOptions;
 use srm_script::ScriptFault;
 use srm_udp::{Losses, UdpWire};
@@ -40,8 +41,8 @@ use std::{mem, time};
 /// for. An input may answer `WouldBlock` where nothing is there yet, and is asked again: while it waits itself, the member
 /// can't end.
 ///
-/// Who of the others is here, falls silent for ten seconds or leaves is told to `err`, and so is, once, that the member was in the session before, what the network refused to take, and the cause
-/// for which its address can't be bound.
+/// Who of the others is here, falls silent for ten seconds or leaves is told to `err`, and so is, once, that the member was in the session before, and the cause for which its address can't be
+/// bound; at the end who wasn't heard leaving, of which streams drawops are missing, and what the network refused to take.
 ///
 /// Answers the program's status, which is that of [`run_node`](srm_member::run_node), but that a line which is too long is no fault, and that a whole run of a member that was in the session
 /// before has the status [`WAS_BEFORE`](crate::WAS_BEFORE). All threads that it started have ended then.
@@ -121,13 +122,13 @@ where
         return Some(out_of_memory());
     };
     // Without memory for it nothing is counted.
-    let tally = Arc::new(alloc, Tally::new()).ok();
+    let tally = make_tally(alloc);
     match bind(rt, alloc, options, &tally, &staying, desk.has_terminal()) {
         Ok(station) => {
             let telling = start_telling(rt, alloc, share(&tally), config, desk);
             let run = host_live(rt, alloc, station, sinks, reader, staying, turns, desk);
             let told = told_by(rt, telling);
-            let was_before = tell_last(rt, alloc, config.me(), &tally, told, desk);
+            let was_before = tell_last(rt, alloc, config, &tally, told, desk);
             end(rt, alloc, run, was_before, desk)
         }
         Err(fault) => Some(fault),
@@ -142,11 +143,11 @@ fn told_by<R: Threads>(rt: &R, telling: Option<JoinHandle<Told>>) -> Told {
     }
 }
 
-// Tells what wasn't told yet, and what was lost on its way out. Whether the member was in the session before.
+// Tells what wasn't told yet, what wasn't heard to its end, and what was lost on its way out. Whether the member was in the session before.
 fn tell_last<R: Wait, O: Write, E: Write>(
     rt: &R,
     alloc: Global,
-    me: Member,
+    config: Config,
     tally: &Option<Arc<Tally, Global>>,
     told: Told,
     desk: &Desk<O, E>,
@@ -154,7 +155,8 @@ fn tell_last<R: Wait, O: Write, E: Write>(
     let Some(tally) = tally else {
         return false;
     };
-    let _ = tell_news(rt, alloc, me, tally, told, desk);
+    let _ = tell_news(rt, alloc, config.me(), tally, told, desk);
+    tell_unfinished(rt, alloc, config, tally, desk);
     tell_lost(rt, alloc, tally.losses(), desk);
     tally.was_before()
 }
@@ -182,6 +184,11 @@ fn staying_of(alloc: Global, options: &NodeOptions) -> Result<Staying, AllocErro
         linger: if is_alone { 0 } else { options.linger },
         need: Arc::new(alloc, Need::new())?,
     })
+}
+
+// What the member's counts are kept in. None without memory for it.
+fn make_tally(alloc: Global) -> Option<Arc<Tally, Global>> {
+    Arc::new(alloc, Tally::new(alloc).ok()?).ok()
 }
 
 fn share(tally: &Option<Arc<Tally, Global>>) -> Option<Arc<Tally, Global>> {

@@ -1,9 +1,11 @@
 //! What a member goes through, counted.
 
+use crate::holes::Holes;
 use crate::lost::{Lost, LostCounts};
 use crate::presence::Presence;
 use srm_codec::Datagram;
 use srm_udp::Losses;
+use std::alloc::{AllocError, Global};
 use std::fmt;
 use std::sync::atomic::{AtomicBool, AtomicU32, AtomicU64, AtomicUsize, Ordering};
 
@@ -16,6 +18,7 @@ pub struct Tally {
     left: AtomicU32,
     was_before: AtomicBool,
     missing: AtomicUsize,
+    holes: Holes,
     sent: AtomicU64,
     came: AtomicU64,
     requests: AtomicU64,
@@ -26,14 +29,15 @@ pub struct Tally {
 }
 
 impl Tally {
-    /// Nothing passed yet.
-    pub fn new() -> Tally {
-        Tally {
+    /// Nothing passed yet. Only out of memory refuses it.
+    pub fn new(alloc: Global) -> Result<Tally, AllocError> {
+        Ok(Tally {
             heard: AtomicU32::new(0),
             silent: AtomicU32::new(0),
             left: AtomicU32::new(0),
             was_before: AtomicBool::new(false),
             missing: AtomicUsize::new(0),
+            holes: Holes::new(alloc)?,
             sent: AtomicU64::new(0),
             came: AtomicU64::new(0),
             requests: AtomicU64::new(0),
@@ -41,7 +45,7 @@ impl Tally {
             ignored: AtomicU64::new(0),
             noise: AtomicU64::new(0),
             lost: LostCounts::new(),
-        }
+        })
     }
 
     /// Counts a datagram that was sent.
@@ -88,6 +92,11 @@ impl Tally {
     /// So many drawops are missing now.
     pub fn show_missing(&self, count: usize) {
         self.missing.store(count, Ordering::SeqCst);
+    }
+
+    /// Which drawops are missing now, by stream.
+    pub fn holes(&self) -> &Holes {
+        &self.holes
     }
 
     /// Counts a datagram that the agent ignored.

@@ -172,7 +172,9 @@ impl Watch {
     // The drawop that a datagram brought isn't missing any more.
     fn gain(&mut self, datagram: &Datagram) {
         if let Datagram::Data(drawop) | Datagram::Repair { drawop, .. } = datagram {
-            self.missing.swap_remove(&drawop.name);
+            if self.missing.swap_remove(&drawop.name) {
+                self.tally.holes().note_came(drawop.name);
+            }
         }
     }
 
@@ -180,7 +182,9 @@ impl Watch {
     fn miss(&mut self, entry: &Entry) {
         for arm in entry.effects.arms.as_slice() {
             if arm.kind == ArmKind::Ask {
-                let _ = self.missing.insert(arm.name);
+                if let Ok(true) = self.missing.insert(arm.name) {
+                    self.tally.holes().note_missing(arm.name);
+                }
             }
         }
     }

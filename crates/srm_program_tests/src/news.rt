@@ -147,6 +147,11 @@ where
     Ok(())
 }
 
+const NEITHER_LEFT: &str = "srm: not heard leaving: 0, 2\n";
+
+/// What is told at the end where the five strokes of member 2 that a row told of never came.
+const FIVE_MISSING: &str = "srm: missing 5 of member 2 on page 0.0\n";
+
 const WAS_HERE: &str =
     "srm: member 1 was in this session before: use another number or another session\n";
 
@@ -171,11 +176,11 @@ fn a_member_that_was_here_before_is_told_so(rt: HostRuntime) -> Result<(), Fail>
         },
         Act::Type(b"two\n"),
     ];
-    let lines = ["srm: member 0 is here\n", WAS_HERE];
+    let lines = ["srm: member 0 is here\n", WAS_HERE, NEITHER_LEFT];
     assert_tells(&rt, acts, 5, &lines)
 }
 
-// The row is of another's stream, or of what it drew.
+// The row is of another's stream, or of what it drew. What it told of is missing at the end.
 #[test]
 fn a_member_that_is_new_is_told_nothing_of_itself(rt: HostRuntime) -> Result<(), Fail> {
     let acts = &[
@@ -190,14 +195,16 @@ fn a_member_that_is_new_is_told_nothing_of_itself(rt: HostRuntime) -> Result<(),
             number: 1,
         },
     ];
-    assert_tells(&rt, acts, 0, &["srm: member 0 is here\n"])
+    let lines = ["srm: member 0 is here\n", NEITHER_LEFT, FIVE_MISSING];
+    assert_tells(&rt, acts, 0, &lines)
 }
 
-// Member 2 was never heard, so nothing is said of it.
+// Member 2 was never heard, so nothing is said of it but that it didn't leave.
 #[test]
 fn who_comes_and_leaves_is_told(rt: HostRuntime) -> Result<(), Fail> {
     let acts = &[Act::Leave, Act::Await("member 0 left")];
-    assert_tells(&rt, acts, 0, &["srm: member 0 left\n"])
+    let lines = ["srm: member 0 left\n", "srm: not heard leaving: 2\n"];
+    assert_tells(&rt, acts, 0, &lines)
 }
 
 #[test]
@@ -218,6 +225,8 @@ fn who_is_silent_for_ten_seconds_is_told(rt: HostRuntime) -> Result<(), Fail> {
         "srm: member 0 is here\n",
         "srm: member 0 was silent for 10 s\n",
         "srm: member 0 is here again\n",
+        NEITHER_LEFT,
+        FIVE_MISSING,
     ];
     assert_tells(&rt, acts, 0, &lines)
 }

@@ -1,0 +1,140 @@
+//! Which drawops a member misses, counted by stream.
+
+use srm_names::{MEMBERS, Member, Name, PAGE_NUMBERS, PAGES, Page};
+use std::alloc::{AllocError, Global};
+use std::sync::atomic::{AtomicU64, AtomicUsize, Ordering};
+
+/// Pages of one member, at most.
+const NUMBERS: u64 = PAGE_NUMBERS as u64;
+
+/// How many drawops of each stream a member misses. One thread counts, and any reads. Counts wrap at 2^64.
+#[derive(Drop)]
+pub struct Holes {
+    pages: Vec<PageHoles>,
+}
+
+/// How many drawops of each source a member misses on a page.
+#[derive(Drop)]
+pub struct PageHoles {
+    // The page as `code_of` has it; 0 where no page stands here yet.
+    code: AtomicU64,
+    // By source.
+    counts: Vec<AtomicUsize>,
+}
+
+impl Holes {
+    /// Nothing is missing. Only out of memory refuses it.
+    pub fn new(alloc: Global) -> Result<Holes, AllocError> {
+        let mut pages = Vec::new(alloc);
+        for _ in 0..PAGES {
+            pages.push(PageHoles::new(alloc)?)?;
+        }
+        Ok(Holes { pages })
+    }
+
+    /// The pages on which something was missing, each once.
+    pub fn pages(&self) -> &[PageHoles] {
+        self.pages.as_slice()
+    }
+
+    /// How many drawops of a member are missing, on all pages.
+    pub fn of_member(&self, member: Member) -> usize {
+        let mut all: usize = 0;
+        for page in self.pages.as_slice() {
+            all = all.saturating_add(page.of_member(member));
+        }
+        all
+    }
+
+    /// One drawop more is missing. It isn't counted where drawops of eight other pages were missing before: no member has more pages.
+    pub fn note_missing(&self, name: Name) {
+        let stream = name.stream();
+        if let Some(slot) = self.slot_of(stream.page) {
+            if let Some(page) = self.pages.get(slot) {
+                page.note_missing(stream.source);
+            }
+        }
+    }
+
+    /// A drawop that was missing came.
+    pub fn note_came(&self, name: Name) {
+        let stream = name.stream();
+        if let Some(slot) = self.slot_of(stream.page) {
+            if let Some(page) = self.pages.get(slot) {
+                page.note_came(stream.source);
+            }
+        }
+    }
+
+    // The place of a page, which it has from now on if it had none.
+    fn slot_of(&self, page: Page) -> Option<usize> {
+        for (slot, one) in self.pages.iter().enumerate() {
+            if one.is_of(&page) {
+                return Some(slot);
+            }
+        }
+        None
+    }
+}
+
+impl PageHoles {
+    fn new(alloc: Global) -> Result<PageHoles, AllocError> {
+        let mut counts = Vec::new(alloc);
+        for _ in 0..MEMBERS {
+            counts.push(AtomicUsize::new(0))?;
+        }
+        Ok(PageHoles {
+            code: AtomicU64::new(0),
+            counts,
+        })
+    }
+
+    /// The page, if one stands here.
+    pub fn page(&self) -> Option<Page> {
+        page_of(self.code.load(Ordering::SeqCst))
+    }
+
+    /// How many drawops of a member are missing on the page.
+    pub fn of_member(&self, member: Member) -> usize {
+        match self.counts.get(member.index()) {
+            Some(count) => count.load(Ordering::SeqCst),
+            None => 0,
+        }
+    }
+
+    fn note_missing(&self, member: Member) {
+        if let Some(count) = self.counts.get(member.index()) {
+            count.fetch_add(1, Ordering::SeqCst);
+        }
+    }
+
+    fn note_came(&self, member: Member) {
+        if let Some(count) = self.counts.get(member.index()) {
+            count.fetch_sub(1, Ordering::SeqCst);
+        }
+    }
+
+    // Whether this page stands here, as it does from now on where none did.
+    fn is_of(&self, page: &Page) -> bool {
+        let code = code_of(*page);
+        let found = self.code.load(Ordering::SeqCst);
+        if found == 0 {
+            self.code.store(code, Ordering::SeqCst);
+        }
+        found == 0 || found == code
+    }
+}
+
+// A page as a number above 0.
+fn code_of(page: Page) -> u64 {
+    u64::from(page.creator.number()) * NUMBERS + u64::from(page.number) + 1
+}
+
+// The page of such a number.
+fn page_of(code: u64) -> Option<Page> {
+    let code = code.checked_sub(1)?;
+    Some(Page {
+        creator: Member::new(u8::try_from(code / NUMBERS).ok()?)?,
+        number: u16::try_from(code % NUMBERS).ok()?,
+    })
+}

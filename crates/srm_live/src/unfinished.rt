@@ -1,0 +1,111 @@
+//! What a member that ends didn't hear to its end.
+
+use crate::desk::Desk;
+use crate::holes::PageHoles;
+use crate::presence::{Presence, Standing};
+use crate::shown_page::ShownPage;
+use crate::tally::Tally;
+use srm_agent::Config;
+use srm_names::{MEMBERS, Member};
+use std::alloc::Global;
+use std::fmt;
+use std::io::Write;
+use std::sync::Wait;
+
+/// Tells which of the others weren't heard leaving, and of which streams drawops are missing. A line for which there is no memory is left out.
+pub fn tell_unfinished<R: Wait, O: Write, E: Write>(
+    rt: &R,
+    alloc: Global,
+    config: Config,
+    tally: &Tally,
+    desk: &Desk<O, E>,
+) {
+    let staying = Staying {
+        presence: tally.presence(),
+        config,
+    };
+    if staying.has_any() {
+        if let Ok(line) = format!(in alloc; "srm: not heard leaving: {staying}\n") {
+            desk.tell(rt, line.as_str());
+        }
+    }
+    for holes in tally.holes().pages() {
+        tell_holes(rt, alloc, holes, desk);
+    }
+}
+
+// Tells of which streams of a page drawops are missing.
+fn tell_holes<R: Wait, O: Write, E: Write>(
+    rt: &R,
+    alloc: Global,
+    holes: &PageHoles,
+    desk: &Desk<O, E>,
+) {
+    let Some(page) = holes.page() else {
+        return;
+    };
+    let shown = ShownPage(page);
+    for number in 0..MEMBERS {
+        if let Some(member) = Member::new(number) {
+            let count = holes.of_member(member);
+            if count > 0 {
+                tell_hole(rt, alloc, member, &shown, count, desk);
+            }
+        }
+    }
+}
+
+fn tell_hole<R: Wait, O: Write, E: Write>(
+    rt: &R,
+    alloc: Global,
+    member: Member,
+    page: &ShownPage,
+    count: usize,
+    desk: &Desk<O, E>,
+) {
+    let number = member.number();
+    if let Ok(line) = format!(in alloc; "srm: missing {count} of member {number} on page {page}\n") {
+        desk.tell(rt, line.as_str());
+    }
+}
+
+// The others that weren't heard leaving. Its text has their numbers, with commas between.
+#[derive(Clone, Copy)]
+struct Staying {
+    presence: Presence,
+    config: Config,
+}
+
+impl Staying {
+    fn has(&self, member: Member) -> bool {
+        member.number() < self.config.members()
+            && member.number() != self.config.me().number()
+            && self.presence.standing(member) != Standing::Left
+    }
+
+    fn has_any(&self) -> bool {
+        for number in 0..MEMBERS {
+            if let Some(member) = Member::new(number) {
+                if self.has(member) {
+                    return true;
+                }
+            }
+        }
+        false
+    }
+}
+
+impl fmt::Display for Staying {
+    fn fmt<W: fmt::Write>(&self, f: &mut fmt::Formatter<W>) -> fmt::Result {
+        let mut before = "";
+        for number in 0..MEMBERS {
+            if let Some(member) = Member::new(number) {
+                if self.has(member) {
+                    write!(f, "{before}{number}")?;
+                    before = ", ";
+                }
+            }
+        }
+        Ok(())
+    }
+}
