@@ -1,4 +1,5 @@
 pub mod Earlier
 pub mod Examples
 pub mod LiveStatuses
+pub mod Readable
 pub mod Typing

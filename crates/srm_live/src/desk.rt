@@ -6,10 +6,11 @@ ghost use Rattle.srm_live.specs.LiveStatuses.{status_of_live};
 
 use crate::error_stream::ErrorStream;
 use crate::live_fault::LiveFault;
+use crate::readable::readable;
 use srm_member::MemberFault;
 use srm_names::{Member, PageMsg};
 use srm_script::{PrintedGone, PrintedTake, ScriptFault};
-use std::alloc::Global;
+use std::alloc::{AllocError, Global};
 use std::io;
 use std::io::{IsTerminal, Write};
 use std::sync::atomic::{AtomicBool, Ordering};
@@ -50,15 +51,27 @@ impl<O: Write, E: Write> Desk<O, E> {
 
     /// Prints at once what the worker of a slot took, unless an earlier line couldn't be printed.
     pub fn print_taken<R: Wait>(&self, rt: &R, alloc: Global, slot: u8, message: &PageMsg) {
-        let take = PrintedTake {
-            member: self.me,
-            slot: usize::from(slot),
-            message: Some(message),
-        };
-        match format!(in alloc; "{take}\n") {
+        match self.line_of(alloc, slot, message) {
             Ok(line) => self.print(rt, line.as_str()),
             Err(_) => self.note(&ScriptFault::Memory),
         }
+    }
+
+    // The line that the worker of a slot took a message, with its end.
+    fn line_of(&self, alloc: Global, slot: u8, message: &PageMsg) -> Result<String, AllocError> {
+        let PageMsg::Draw(drawop) = message else {
+            let take = PrintedTake {
+                member: self.me,
+                slot: usize::from(slot),
+                message: Some(message),
+            };
+            return format!(in alloc; "{take}\n");
+        };
+        let me = self.me.number();
+        let source = drawop.name.source().number();
+        let number = drawop.name.number();
+        let body = readable(alloc, &drawop.body)?;
+        format!(in alloc; "took {me} {slot} draw {source} {number} {body}\n")
     }
 
     /// Prints that the member is gone, unless an earlier line couldn't be printed.

@@ -31,6 +31,7 @@ mod needed;
 mod news;
 mod polled_input;
 mod presence;
+mod readable;
 mod remaining;
 mod shown_page;
 mod tally;
