@@ -7,7 +7,8 @@ use Rattle.std.proofs.lemmas.List.{append-nil, append_assoc, map-append, length-
 use Rattle.srm_names.specs.declared.limits.TheConstants.{LONGEST_BODY}
 use Rattle.srm_pages.specs.Ends.{PenView}
 use Rattle.srm_live.specs.declared.typed.Typed.{Typed}
-use Rattle.srm_live.specs.declared.typed.Typed.TheVariants.{Stroke, TooLong}
+use Rattle.srm_live.specs.declared.typed.Typed.TheVariants.{TooLong}
+use Rattle.srm_live.specs.Commands.{said_of}
 use Rattle.srm_member.specs.Lines.{lines_of, before_first}
 use Rattle.srm_member.specs.Strokes.{stroke_of}
 use Rattle.srm_member.proofs.Splitting.{other}
@@ -84,7 +85,7 @@ draws_byte byte l new pen not_end is = subst (λ n. DrawsTyped (byte ∷ []) l.k
 first_strokes : (l : LineContent) (ls : List (List ℕ)) → short_lines (l.kept ∷ ls) ≡ bodies_in (typed_of l) ++ short_lines ls
 first_strokes l ls = go (nat_lt LONGEST_BODY (length l.kept))
   where
-    go : (b : Bool) → (if b then short_lines ls else l.kept ∷ short_lines ls) ≡ bodies_in (if b then TooLong l.number else Stroke l.kept) ++ short_lines ls
+    go : (b : Bool) → (if b then short_lines ls else bodies_in (said_of l.kept) ++ short_lines ls) ≡ bodies_in (if b then TooLong l.number else said_of l.kept) ++ short_lines ls
     go true = refl
     go false = refl
 

@@ -1,6 +1,8 @@
--- What is drawn of a text as it is typed.
-use Rattle.std.specs.Prelude.{◌≡◌, [], ◌∷◌, length, map, replicate, refl}
-use Rattle.srm_live.specs.declared.typed.Typed.TheVariants.{Stroke, TooLong}
+-- What is drawn of a text as it is typed, what its commands are, and what is printed of a body.
+use Rattle.std.specs.Prelude.{◌≡◌, [], ◌∷◌, ◌++◌, length, map, replicate, refl, codes, Some, None}
+use Rattle.srm_live.specs.declared.command.Command.TheVariants.{Who, Leave, Help}
+use Rattle.srm_live.specs.declared.typed.Typed.TheVariants.{Stroke, TooLong, Order}
+use Rattle.srm_live.specs.Commands.{said_of}
 use Rattle.srm_live.specs.Typing.{short_lines, strokes_in, with_byte, typed_of, line_after}
 
 what_is_drawn_of_a_text : strokes_in (97 ∷ 10 ∷ 10 ∷ 98 ∷ []) ≡ (97 ∷ []) ∷ [] ∷ (98 ∷ []) ∷ []
@@ -26,3 +28,16 @@ a_line_that_is_too_long_ends = refl
 
 the_next_line : line_after (record { number = 3; kept = 97 ∷ [] }) ≡ record { number = 4; kept = [] }
 the_next_line = refl
+
+a_command_is_not_drawn : strokes_in (codes "/who" ++ 10 ∷ codes "a") ≡ codes "a" ∷ []
+a_command_is_not_drawn = refl
+
+two_slashes_draw_one : said_of (codes "//who") ≡ Stroke (codes "/who")
+two_slashes_draw_one = refl
+
+commands_are_whole_words : map said_of (codes "/who" ∷ codes "/leave" ∷ codes "/help" ∷ codes "/whom" ∷ codes "/" ∷ codes "/ who" ∷ [])
+    ≡ Order (Some Who) ∷ Order (Some Leave) ∷ Order (Some Help) ∷ Order None ∷ Order None ∷ Order None ∷ []
+commands_are_whole_words = refl
+
+a_slash_elsewhere_is_drawn : said_of (codes "a/who") ≡ Stroke (codes "a/who")
+a_slash_elsewhere_is_drawn = refl

@@ -1,3 +1,4 @@
+pub mod Commands
 pub mod Earlier
 pub mod Examples
 pub mod LiveStatuses

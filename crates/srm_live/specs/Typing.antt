@@ -3,17 +3,24 @@ use Rattle.std.specs.Prelude.{◌≡◌, ◌≢◌, ℕ, nat_lt, List, [], ◌�
 use Rattle.srm_names.specs.declared.limits.TheConstants.{LONGEST_BODY}
 use Rattle.srm_pages.specs.Ends.{PenView}
 use Rattle.srm_live.specs.declared.typed.Typed.{Typed}
-use Rattle.srm_live.specs.declared.typed.Typed.TheVariants.{Stroke, TooLong}
+use Rattle.srm_live.specs.declared.typed.Typed.TheVariants.{Stroke, TooLong, Order}
+use Rattle.srm_live.specs.Commands.{said_of}
 use Rattle.srm_wire.specs.Wires.{one_more}
 use Rattle.srm_member.specs.Lines.{lines_of}
 use Rattle.srm_member.specs.Strokes.{stroke_of, PenSentAllBut, PenSentPrefix}
 
--- the lines that are short enough for a body, in order
+-- the bodies that are drawn of a line that ended
+abbrev pub bodies_in : Typed → List (List ℕ)
+bodies_in (Stroke body) = body ∷ []
+bodies_in (TooLong number) = []
+bodies_in (Order command) = []
+
+-- what is drawn of lines, in order: of each that is short enough for a body what it says to draw
 abbrev pub short_lines : List (List ℕ) → List (List ℕ)
 short_lines [] = []
-short_lines (l ∷ ls) = if nat_lt LONGEST_BODY (length l) then short_lines ls else l ∷ short_lines ls
+short_lines (l ∷ ls) = if nat_lt LONGEST_BODY (length l) then short_lines ls else bodies_in (said_of l) ++ short_lines ls
 
--- the strokes of a text that is drawn as it is typed: its lines in order, without those that are too long
+-- the strokes of a text that is drawn as it is typed: its lines in order, without those that are too long or commands
 abbrev pub strokes_in : List ℕ → List (List ℕ)
 strokes_in text = short_lines (lines_of text)
 
@@ -26,18 +33,13 @@ pub record LineContent : Type 0 where
 abbrev pub with_byte : ℕ → LineContent → LineContent
 with_byte byte l = if nat_lt LONGEST_BODY (length l.kept) then l else record l { kept = l.kept ++ byte ∷ [] }
 
--- what a line becomes as it ends: a stroke with its bytes, or one that isn't drawn
+-- what a line becomes as it ends: what it says, or one that is too long
 abbrev pub typed_of : LineContent → Typed
-typed_of l = if nat_lt LONGEST_BODY (length l.kept) then TooLong l.number else Stroke l.kept
+typed_of l = if nat_lt LONGEST_BODY (length l.kept) then TooLong l.number else said_of l.kept
 
 -- the line behind it, of which nothing is typed
 abbrev pub line_after : LineContent → LineContent
 line_after l = record { number = one_more l.number; kept = [] }
-
--- the bodies that are drawn of a line that ended
-abbrev pub bodies_in : Typed → List (List ℕ)
-bodies_in (Stroke body) = body ∷ []
-bodies_in (TooLong number) = []
 
 -- the pen sent these bodies more
 abbrev pub PenSent : List (List ℕ) → PenView → PenView → Type 0

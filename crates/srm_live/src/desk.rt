@@ -1,4 +1,4 @@
-//! What the threads of a live member share: where it prints, and what befell it.
+//! What the threads of a live member share: where it prints, what it counts, and what befell it.
 
 ghost use Rattle.std.specs.Prelude.{◌≡◌, ◌≤◌};
 ghost use Rattle.srm_live.specs.declared.live_fault.TheConstants.{WAS_BEFORE};
@@ -7,19 +7,23 @@ ghost use Rattle.srm_live.specs.LiveStatuses.{status_of_live};
 use crate::error_stream::ErrorStream;
 use crate::live_fault::LiveFault;
 use crate::readable::readable;
+use crate::tally::Tally;
+use srm_agent::Config;
 use srm_member::MemberFault;
-use srm_names::{Member, PageMsg};
+use srm_names::PageMsg;
 use srm_script::{PrintedGone, PrintedTake, ScriptFault};
 use std::alloc::{AllocError, Global};
 use std::io;
 use std::io::{IsTerminal, Write};
 use std::sync::atomic::{AtomicBool, Ordering};
-use std::sync::{Mutex, Wait};
+use std::sync::{Arc, Mutex, Wait};
 
-/// The streams that a live member prints to, and what befell it so far.
+/// The streams that a live member prints to, what it counts, and what befell it so far.
 #[derive(Drop)]
 pub struct Desk<O, E> {
-    me: Member,
+    alloc: Global,
+    config: Config,
+    tally: Option<Arc<Tally, Global>>,
     out: Mutex<O>,
     err: Mutex<ErrorStream<E>>,
     // Whether standard error is a terminal.
@@ -31,14 +35,16 @@ pub struct Desk<O, E> {
 }
 
 impl<O: Write, E: Write> Desk<O, E> {
-    /// The desk of a member that did nothing yet.
-    pub fn new(me: Member, out: O, err: E) -> Desk<O, E>
+    /// The desk of a member with these settings that did nothing yet. Without memory for it nothing is counted.
+    pub fn new(alloc: Global, config: Config, out: O, err: E) -> Desk<O, E>
     where
         E: IsTerminal,
     {
         let has_terminal = err.is_terminal();
         Desk {
-            me,
+            alloc,
+            config,
+            tally: make_tally(alloc),
             out: Mutex::new(out),
             err: Mutex::new(ErrorStream::new(err)),
             has_terminal,
@@ -50,33 +56,33 @@ impl<O: Write, E: Write> Desk<O, E> {
     }
 
     /// Prints at once what the worker of a slot took, unless an earlier line couldn't be printed.
-    pub fn print_taken<R: Wait>(&self, rt: &R, alloc: Global, slot: u8, message: &PageMsg) {
-        match self.line_of(alloc, slot, message) {
+    pub fn print_taken<R: Wait>(&self, rt: &R, slot: u8, message: &PageMsg) {
+        match self.line_of(slot, message) {
             Ok(line) => self.print(rt, line.as_str()),
             Err(_) => self.note(&ScriptFault::Memory),
         }
     }
 
     // The line that the worker of a slot took a message, with its end.
-    fn line_of(&self, alloc: Global, slot: u8, message: &PageMsg) -> Result<String, AllocError> {
+    fn line_of(&self, slot: u8, message: &PageMsg) -> Result<String, AllocError> {
         let PageMsg::Draw(drawop) = message else {
             let take = PrintedTake {
-                member: self.me,
+                member: self.config.me(),
                 slot: usize::from(slot),
                 message: Some(message),
             };
-            return format!(in alloc; "{take}\n");
+            return format!(in self.alloc; "{take}\n");
         };
-        let me = self.me.number();
+        let me = self.config.me().number();
         let source = drawop.name.source().number();
         let number = drawop.name.number();
-        let body = readable(alloc, &drawop.body)?;
-        format!(in alloc; "took {me} {slot} draw {source} {number} {body}\n")
+        let body = readable(self.alloc, &drawop.body)?;
+        format!(in self.alloc; "took {me} {slot} draw {source} {number} {body}\n")
     }
 
     /// Prints that the member is gone, unless an earlier line couldn't be printed.
-    pub fn print_gone<R: Wait>(&self, rt: &R, alloc: Global) {
-        match format!(in alloc; "{}\n", PrintedGone(self.me)) {
+    pub fn print_gone<R: Wait>(&self, rt: &R) {
+        match format!(in self.alloc; "{}\n", PrintedGone(self.config.me())) {
             Ok(line) => self.print(rt, line.as_str()),
             Err(_) => self.note(&ScriptFault::Memory),
         }
@@ -86,28 +92,22 @@ impl<O: Write, E: Write> Desk<O, E> {
         if self.is_closed() {
             return;
         }
-        if !self.has_terminal {
-            self.write(rt, line);
-            return;
-        }
-        // Both may be one terminal: no activity is shown until the line stands there.
-        let mut err = self.err.lock(rt);
-        err.wipe();
-        self.write(rt, line);
-    }
-
-    fn write<R: Wait>(&self, rt: &R, line: &str) {
         let mut out = self.out.lock(rt);
         if put(&mut *out, line).is_err() {
             self.note(&ScriptFault::Output);
         }
     }
 
-    /// Shows what goes on, where standard error is a terminal.
-    pub fn show_line<R: Wait>(&self, rt: &R, activity: &str) {
+    /// Makes a text the title of the window, where standard error is a terminal. What is typed stands in the same window, so no line of it would do.
+    pub fn show_title<R: Wait>(&self, rt: &R, title: &str) {
         if self.has_terminal {
-            self.err.lock(rt).show_line(activity);
+            self.err.lock(rt).show_title(title);
         }
+    }
+
+    /// Gives the window the title back that it had.
+    pub fn restore_title<R: Wait>(&self, rt: &R) {
+        self.err.lock(rt).restore_title();
     }
 
     /// Tells a line, with its line end, on standard error.
@@ -156,7 +156,38 @@ impl<O: Write, E: Write> Desk<O, E> {
         }
     }
 
-    /// Whether standard error is a terminal, on which its activity is shown.
+    /// The allocator for lines that are told.
+    pub fn alloc(&self) -> Global {
+        self.alloc
+    }
+
+    /// The member's settings.
+    pub fn config(&self) -> Config {
+        self.config
+    }
+
+    /// How many other members the session has.
+    pub fn others(&self) -> u8 {
+        self.config.members().saturating_sub(1)
+    }
+
+    /// What the member counts, if there was memory for it.
+    pub fn tally(&self) -> Option<&Tally> {
+        match &self.tally {
+            Some(tally) => Some(tally),
+            None => None,
+        }
+    }
+
+    /// The same for another thread. None without memory for it.
+    pub fn share_tally(&self) -> Option<Arc<Tally, Global>> {
+        match &self.tally {
+            Some(tally) => Arc::try_clone(tally).ok(),
+            None => None,
+        }
+    }
+
+    /// Whether standard error is a terminal, whose window's title shows what goes on.
     pub fn has_terminal(&self) -> bool {
         self.has_terminal
     }
@@ -180,6 +211,10 @@ impl<O: Write, E: Write> Desk<O, E> {
     pub fn ended(&self) -> &AtomicBool {
         &self.ended
     }
+}
+
+fn make_tally(alloc: Global) -> Option<Arc<Tally, Global>> {
+    Arc::new(alloc, Tally::new(alloc).ok()?).ok()
 }
 
 fn put<O: Write>(out: &mut O, line: &str) -> io::Result<()> {

@@ -1,4 +1,4 @@
-//! Standard error of a live member: what is told, and on a terminal the line of its activity, which is written over in place.
+//! Standard error of a live member: what is told, and on a terminal what goes on, as the title of its window.
 
 ghost use Rattle.std.specs.Prelude.{◌≡◌, ◌≤◌};
 ghost use Rattle.srm_live.specs.declared.live_fault.TheConstants.{WAS_BEFORE};
@@ -7,44 +7,54 @@ ghost use Rattle.srm_live.specs.LiveStatuses.{status_of_live};
 use crate::live_fault::LiveFault;
 use std::io::Write;
 
-/// To the front of the line, and then the line is empty, as terminals understand it.
-const WIPE: &str = "\r\x1b[K";
+/// The terminal keeps the title that its window has, and gives it back. One that can't ignores both.
+const KEEP_TITLE: &str = "\x1b[22;2t";
+
+const RESTORE_TITLE: &str = "\x1b[23;2t";
+
+/// What stands between them becomes the title.
+const BEGIN_TITLE: &str = "\x1b]2;";
+
+const END_TITLE: &str = "\x07";
 
 /// Standard error of a live member.
 #[derive(Drop)]
 pub struct ErrorStream<E> {
     stream: E,
-    // Whether the activity stands in the terminal's last line.
-    has_activity: bool,
+    // Whether the window has a title of the member's.
+    has_title: bool,
 }
 
 impl<E: Write> ErrorStream<E> {
-    /// A stream on which no activity stands.
+    /// A stream whose window has another's title.
     pub fn new(stream: E) -> ErrorStream<E> {
         ErrorStream {
             stream,
-            has_activity: false,
+            has_title: false,
         }
     }
 
-    /// Takes the activity off its line, so that another line can stand there.
-    pub fn wipe(&mut self) {
-        if self.has_activity {
-            self.write(WIPE);
-            self.has_activity = false;
+    /// Makes a text the title of the terminal's window.
+    pub fn show_title(&mut self, title: &str) {
+        if !self.has_title {
+            self.write(KEEP_TITLE);
+            self.has_title = true;
         }
+        self.write(BEGIN_TITLE);
+        self.write(title);
+        self.write(END_TITLE);
     }
 
-    /// Shows an activity in place of the one before.
-    pub fn show_line(&mut self, activity: &str) {
-        self.write(WIPE);
-        self.write(activity);
-        self.has_activity = true;
+    /// Gives the window the title back that it had.
+    pub fn restore_title(&mut self) {
+        if self.has_title {
+            self.write(RESTORE_TITLE);
+            self.has_title = false;
+        }
     }
 
     /// Prints a line, which has its line end.
     pub fn tell(&mut self, line: &str) {
-        self.wipe();
         self.write(line);
     }
 
@@ -53,7 +63,6 @@ impl<E: Write> ErrorStream<E> {
         ensures status { result ≡ status_of_live fault.now }
         ensures greatest { result ≤ WAS_BEFORE }
     {
-        self.wipe();
         fault.print(&mut self.stream)
     }
 

@@ -4,7 +4,7 @@
 //! let status = run_live(&rt, options, PolledInput::new(&rt, alloc, rt.stdin(), STDIN), rt.stdout(), rt.stderr());
 //! ```
 //!
-//! The member's node runs in the calling thread; its one pen, its eight page workers and, on a terminal, the line that says what goes on in threads of their own. [`run_live`] draws each line as it
+//! The member's node runs in the calling thread; its one pen, its eight page workers and what tells the news in threads of their own. [`run_live`] draws each line as it
 //! comes, and prints each message as it is taken. It owns its streams, since threads of its own read and write them, and wants
 //! of its input that it says where nothing is there yet, as [`PolledInput`] does.
 //!
@@ -14,6 +14,7 @@
 //! member that was in the session before, under the same number, is told so once, goes on, and ends with the status [`WAS_BEFORE`].
 #![tactic(auto)]
 
+mod command;
 mod counted_wire;
 mod cut;
 mod desk;
@@ -29,6 +30,7 @@ mod lost;
 mod need;
 mod needed;
 mod news;
+mod obeying;
 mod polled_input;
 mod presence;
 mod readable;
@@ -36,10 +38,12 @@ mod remaining;
 mod shown_page;
 mod tally;
 mod telling;
+mod title;
 mod typed;
 mod typing;
 mod unfinished;
 mod watched;
+mod who;
 
 pub use live_fault::WAS_BEFORE;
 pub use living::run_live;

@@ -14,13 +14,12 @@ use std::sync::{Arc, Wait};
 #[derive(Drop)]
 pub struct Printing<R: Wait + Drop, O: Drop, E: Drop> {
     rt: R,
-    alloc: Global,
     desk: Arc<Desk<O, E>, Global>,
 }
 
 impl<R: Wait + Drop, O: Write + Drop, E: Write + Drop> PageSink for Printing<R, O, E> {
     fn message(&mut self, slot: u8, message: &PageMsg) -> bool {
-        self.desk.print_taken(&self.rt, self.alloc, slot, message);
+        self.desk.print_taken(&self.rt, slot, message);
         true
     }
 }
@@ -37,7 +36,6 @@ pub fn printing_sinks<R: Wait + Copy + Drop, O: Drop, E: Drop>(
     for _ in 0..PAGES {
         sinks.push(Printing {
             rt: *rt,
-            alloc,
             desk: Arc::try_clone(desk)?,
         })?;
     }

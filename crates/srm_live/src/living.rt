@@ -16,11 +16,9 @@ use crate::lost::Lost;
 use crate::need::Need;
 use crate::needed::Needed;
 use crate::news::{Told, tell_news};
-use crate::tally::Tally;
 use crate::telling::start_telling;
 use crate::unfinished::tell_unfinished;
 use crate::watched::Watched;
-use srm_agent::Config;
 use srm_member::{MemberFault, Station};
 use srm_options::NodeOptions;
 use srm_script::ScriptFault;
@@ -33,8 +31,9 @@ use std::thread::{JoinHandle, Threads};
 use std::{mem, time};
 
 /// Runs a member with these options that draws each line of the input as it comes, by one pen, and prints what its page workers take as they
-/// do. It stays on for the options' time after the end of input, and then as long as others need what it holds, and leaves. A line that is too long is told to `err` and not drawn. Where
-/// `err` is a terminal, a line there says each second what goes on.
+/// do. It stays on for the options' time after the end of input, and then as long as others need what it holds, and leaves. A line that is too long is told to `err` and not drawn. One that
+/// begins with a slash is a command, `/who`, `/leave` or `/help`, and any other word is told to be none; with two slashes it is a stroke that has one. Where `err` is a terminal, the title of its window says each second
+/// what goes on.
 ///
 /// An output that fails ends reading, and so do an input that does and want of memory; the member then stays and leaves all the same, since others may need what it
 /// holds. What ended it goes to `err`: of several things want of memory, or else what ended the node's run, or else the output. The options' `live` isn't asked
@@ -56,7 +55,7 @@ where
     ensures greatest { result ≤ WAS_BEFORE }
 {
     let alloc = rt.alloc();
-    match Arc::new(alloc, Desk::new(options.config.me(), out, err)) {
+    match Arc::new(alloc, Desk::new(alloc, options.config, out, err)) {
         Ok(desk) => run_at(rt, alloc, options, reader, &desk),
         Err(failed) => print(rt, &failed.value, &out_of_memory()),
     }
@@ -116,20 +115,17 @@ where
     E: Write + Send + Drop + 'static,
     requires { vec_len sinks ≡ PAGES }
 {
-    let config = options.config;
     let turns = options.turns;
     let Ok(staying) = staying_of(alloc, &options) else {
         return Some(out_of_memory());
     };
-    // Without memory for it nothing is counted.
-    let tally = make_tally(alloc);
-    match bind(rt, alloc, options, &tally, &staying, desk.has_terminal()) {
+    match bind(rt, alloc, options, &staying, desk) {
         Ok(station) => {
-            let telling = start_telling(rt, alloc, share(&tally), config, desk);
+            let telling = start_telling(rt, desk);
             let run = host_live(rt, alloc, station, sinks, reader, staying, turns, desk);
             let told = told_by(rt, telling);
-            let was_before = tell_last(rt, alloc, config, &tally, told, desk);
-            end(rt, alloc, run, was_before, desk)
+            let was_before = tell_last(rt, told, desk);
+            end(rt, run, was_before, desk)
         }
         Err(fault) => Some(fault),
     }
@@ -144,34 +140,22 @@ fn told_by<R: Threads>(rt: &R, telling: Option<JoinHandle<Told>>) -> Told {
 }
 
 // Tells what wasn't told yet, what wasn't heard to its end, and what was lost on its way out. Whether the member was in the session before.
-fn tell_last<R: Wait, O: Write, E: Write>(
-    rt: &R,
-    alloc: Global,
-    config: Config,
-    tally: &Option<Arc<Tally, Global>>,
-    told: Told,
-    desk: &Desk<O, E>,
-) -> bool {
-    let Some(tally) = tally else {
+fn tell_last<R: Wait, O: Write, E: Write>(rt: &R, told: Told, desk: &Desk<O, E>) -> bool {
+    let Some(tally) = desk.tally() else {
         return false;
     };
-    let _ = tell_news(rt, alloc, config.me(), tally, told, desk);
-    tell_unfinished(rt, alloc, config, tally, desk);
-    tell_lost(rt, alloc, tally.losses(), desk);
+    let _ = tell_news(rt, tally, told, desk);
+    tell_unfinished(rt, tally, desk);
+    tell_lost(rt, tally.losses(), desk);
     tally.was_before()
 }
 
 // Tells what was lost on its way out, if anything was. Where there is no memory for the line it is left out.
-fn tell_lost<R: Wait, O: Write, E: Write>(
-    rt: &R,
-    alloc: Global,
-    losses: Losses,
-    desk: &Desk<O, E>,
-) {
+fn tell_lost<R: Wait, O: Write, E: Write>(rt: &R, losses: Losses, desk: &Desk<O, E>) {
     if losses == Losses::none() {
         return;
     }
-    if let Ok(line) = format!(in alloc; "srm: lost on the way out: {}\n", Lost(losses)) {
+    if let Ok(line) = format!(in desk.alloc(); "srm: lost on the way out: {}\n", Lost(losses)) {
         desk.tell(rt, line.as_str());
     }
 }
@@ -186,29 +170,18 @@ fn staying_of(alloc: Global, options: &NodeOptions) -> Result<Staying, AllocErro
     })
 }
 
-// What the member's counts are kept in. None without memory for it.
-fn make_tally(alloc: Global) -> Option<Arc<Tally, Global>> {
-    Arc::new(alloc, Tally::new(alloc).ok()?).ok()
-}
-
-fn share(tally: &Option<Arc<Tally, Global>>) -> Option<Arc<Tally, Global>> {
-    match tally {
-        Some(tally) => Arc::try_clone(tally).ok(),
-        None => None,
-    }
-}
-
 // A live member's station, which keeps no entry, so that it may run for days. It leaves as soon as its pens are done, which they are when it has stayed.
-fn bind<R>(
+fn bind<R, O, E>(
     rt: &R,
     alloc: Global,
     options: NodeOptions,
-    tally: &Option<Arc<Tally, Global>>,
     staying: &Staying,
-    is_shown: bool,
+    desk: &Desk<O, E>,
 ) -> Result<Station<R, CountedWire, Needed<Watched>>, LiveFault>
 where
     R: Net + time::Clock + Copy + Drop,
+    O: Write,
+    E: Write,
     ensures { IfOk result (λ s. HasNewEnds s.node.view s.taps.items s.pens.items) }
 {
     let mut options = options;
@@ -221,8 +194,8 @@ where
     match UdpWire::bind(rt, alloc, me, addresses) {
         Ok(wire) => {
             let waker = wire.waker().ok();
-            let wire = CountedWire::new(wire, alloc, options.config, share(tally), is_shown);
-            let watched = Watched::new(alloc, options.config, share(tally));
+            let wire = CountedWire::new(wire, desk.share_tally());
+            let watched = Watched::new(alloc, options.config, desk.share_tally());
             let past = Needed::new(alloc, watched, Arc::try_clone(&staying.need).ok());
             match Station::with_past(rt, alloc, &options, wire, waker, past) {
                 Ok(station) => Ok(station),
@@ -236,13 +209,12 @@ where
 // Prints the end of a whole run. Why it was none, by why the node's run wasn't and what befell the streams, and whether the member was in the session before.
 fn end<R: Wait, O: Write, E: Write>(
     rt: &R,
-    alloc: Global,
     run: Option<MemberFault>,
     was_before: bool,
     desk: &Desk<O, E>,
 ) -> Option<LiveFault> {
     if run.is_none() {
-        desk.print_gone(rt, alloc);
+        desk.print_gone(rt);
     }
     LiveFault::of_end(MemberFault::of_live(run, desk.noted()), was_before)
 }

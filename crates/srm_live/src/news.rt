@@ -4,7 +4,6 @@ use crate::desk::Desk;
 use crate::presence::{Presence, Standing};
 use crate::tally::Tally;
 use srm_names::{MEMBERS, Member};
-use std::alloc::Global;
 use std::io::Write;
 use std::sync::Wait;
 
@@ -29,8 +28,6 @@ impl Told {
 /// left out.
 pub fn tell_news<R: Wait, O: Write, E: Write>(
     rt: &R,
-    alloc: Global,
-    me: Member,
     tally: &Tally,
     told: Told,
     desk: &Desk<O, E>,
@@ -46,31 +43,24 @@ pub fn tell_news<R: Wait, O: Write, E: Write>(
         if let Some(member) = Member::new(number) {
             let standing = now.presence.standing(member);
             if let Some(news) = news_of(told.presence.standing(member), standing) {
-                tell(rt, alloc, desk, member, news);
+                tell(rt, desk, member, news);
             }
         }
     }
     if now.was_before && !told.was_before {
         tell(
             rt,
-            alloc,
             desk,
-            me,
+            desk.config().me(),
             "was in this session before: use another number or another session",
         );
     }
     now
 }
 
-fn tell<R: Wait, O: Write, E: Write>(
-    rt: &R,
-    alloc: Global,
-    desk: &Desk<O, E>,
-    member: Member,
-    news: &str,
-) {
+fn tell<R: Wait, O: Write, E: Write>(rt: &R, desk: &Desk<O, E>, member: Member, news: &str) {
     let number = member.number();
-    if let Ok(line) = format!(in alloc; "srm: member {number} {news}\n") {
+    if let Ok(line) = format!(in desk.alloc(); "srm: member {number} {news}\n") {
         desk.tell(rt, line.as_str());
     }
 }

@@ -1,8 +1,12 @@
-//! The line that is being typed.
+//! The line that is being typed, and what it says.
 
 ghost use Rattle.std.specs.Prelude.{◌≡◌, ◌↔◌, IsTrue, OnOk, OnErr, IfOk, []};
+ghost use Rattle.srm_live.specs.Commands as spec;
+ghost use Rattle.srm_live.specs.Commands.{said_of};
+ghost use Rattle.srm_live.specs.declared.typed.Typed.TheVariants.{Stroke};
 ghost use Rattle.srm_live.specs.Typing.{with_byte, typed_of, line_after};
 
+use crate::command::{Command, command_in};
 use bytes::Bytes;
 use srm_names::LONGEST_BODY;
 use std::alloc::{AllocError, Global};
@@ -15,6 +19,8 @@ pub enum Typed {
     Stroke(Bytes),
     /// It is too long for a stroke. Its number, from 1.
     TooLong(u64),
+    /// It is a command, or begins as one and is none.
+    Order(Option<Command>),
 }
 
 /// The line that is being typed. Of one that is too long a byte more is kept than a stroke holds.
@@ -65,7 +71,7 @@ impl Line {
         let typed = if self.kept.len() > usize::from(LONGEST_BODY) {
             Typed::TooLong(self.number)
         } else {
-            Typed::Stroke(Bytes::copy_from_slice(self.alloc, self.kept.as_slice())?)
+            said(self.alloc, self.kept.as_slice())?
         };
         self.kept.clear();
         self.number = self.number.saturating_add(1);
@@ -78,4 +84,43 @@ impl Line {
     {
         self.kept.is_empty()
     }
+}
+
+// What a line says that isn't too long. Only out of memory refuses it.
+fn said(alloc: Global, line: &[u8]) -> Result<Typed, AllocError>
+    ensures { IfOk result (λ typed. typed ≡ said_of line.now) }
+{
+    match line {
+        [] => stroke(alloc, line),
+        [first, rest @ ..] => {
+            if *first == b'/' {
+                said_behind_slash(alloc, rest)
+            } else {
+                stroke(alloc, line)
+            }
+        }
+    }
+}
+
+// What a line says, by what stands behind its first slash.
+fn said_behind_slash(alloc: Global, rest: &[u8]) -> Result<Typed, AllocError>
+    ensures { IfOk result (λ typed. typed ≡ spec.said_behind_slash rest.now) }
+{
+    match rest {
+        [] => Ok(Typed::Order(command_in(rest))),
+        [first, ..] => {
+            if *first == b'/' {
+                stroke(alloc, rest)
+            } else {
+                Ok(Typed::Order(command_in(rest)))
+            }
+        }
+    }
+}
+
+// A stroke with these bytes.
+fn stroke(alloc: Global, body: &[u8]) -> Result<Typed, AllocError>
+    ensures { IfOk result (λ typed. typed ≡ Stroke body.now) }
+{
+    Ok(Typed::Stroke(Bytes::copy_from_slice(alloc, body)?))
 }

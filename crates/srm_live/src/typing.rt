@@ -7,6 +7,7 @@ ghost use Rattle.srm_live.specs.Typing.{bodies_in, PenSent, DrawsTyped, DrawsSom
 use crate::cut::ReadingEnd;
 use crate::desk::Desk;
 use crate::lingering::Staying;
+use crate::obeying::obey;
 use crate::typed::{Line, Typed};
 use srm_member::{Waking, send_stroke, wake};
 use srm_pages::{Inked, Pen};
@@ -23,7 +24,7 @@ const READ: usize = 1_024;
 /// How long to wait before a reader that has nothing yet is asked again, in microseconds.
 const WAIT: u64 = 1_000;
 
-/// Draws each line of a reader with one pen, stays once it ended, and then is done. Nothing more is drawn once the output
+/// Draws each line of a reader with one pen, or does what it says, stays once the reader ended, and then is done. Nothing more is drawn once it is to leave, the output
 /// is closed or the node has ended; then it is done after as long, or at once.
 pub fn draw_typed<R: Clock + Wait, I: Read + Drop, O: Write, E: Write>(
     rt: &R,
@@ -194,7 +195,7 @@ fn draw_last<R: Clock + Wait, O: Write, E: Write>(
     draw_line(rt, pen, typed, desk, waker)
 }
 
-// Draws a line that ended, or tells of one that is too long.
+// Draws a line that ended, does what it says, or tells that it is too long.
 fn draw_line<R: Clock + Wait, O: Write, E: Write>(
     rt: &R,
     pen: &mut Pen,
@@ -215,6 +216,7 @@ fn draw_line<R: Clock + Wait, O: Write, E: Write>(
             }
         }
         Typed::TooLong(number) => desk.refuse(rt, number),
+        Typed::Order(command) => return obey(rt, command, desk),
     }
     Ok(())
 }

@@ -7,40 +7,28 @@ use crate::shown_page::ShownPage;
 use crate::tally::Tally;
 use srm_agent::Config;
 use srm_names::{MEMBERS, Member};
-use std::alloc::Global;
 use std::fmt;
 use std::io::Write;
 use std::sync::Wait;
 
 /// Tells which of the others weren't heard leaving, and of which streams drawops are missing. A line for which there is no memory is left out.
-pub fn tell_unfinished<R: Wait, O: Write, E: Write>(
-    rt: &R,
-    alloc: Global,
-    config: Config,
-    tally: &Tally,
-    desk: &Desk<O, E>,
-) {
+pub fn tell_unfinished<R: Wait, O: Write, E: Write>(rt: &R, tally: &Tally, desk: &Desk<O, E>) {
     let staying = Staying {
         presence: tally.presence(),
-        config,
+        config: desk.config(),
     };
     if staying.has_any() {
-        if let Ok(line) = format!(in alloc; "srm: not heard leaving: {staying}\n") {
+        if let Ok(line) = format!(in desk.alloc(); "srm: not heard leaving: {staying}\n") {
             desk.tell(rt, line.as_str());
         }
     }
     for holes in tally.holes().pages() {
-        tell_holes(rt, alloc, holes, desk);
+        tell_holes(rt, holes, desk);
     }
 }
 
 // Tells of which streams of a page drawops are missing.
-fn tell_holes<R: Wait, O: Write, E: Write>(
-    rt: &R,
-    alloc: Global,
-    holes: &PageHoles,
-    desk: &Desk<O, E>,
-) {
+fn tell_holes<R: Wait, O: Write, E: Write>(rt: &R, holes: &PageHoles, desk: &Desk<O, E>) {
     let Some(page) = holes.page() else {
         return;
     };
@@ -49,7 +37,7 @@ fn tell_holes<R: Wait, O: Write, E: Write>(
         if let Some(member) = Member::new(number) {
             let count = holes.of_member(member);
             if count > 0 {
-                tell_hole(rt, alloc, member, &shown, count, desk);
+                tell_hole(rt, member, &shown, count, desk);
             }
         }
     }
@@ -57,14 +45,15 @@ fn tell_holes<R: Wait, O: Write, E: Write>(
 
 fn tell_hole<R: Wait, O: Write, E: Write>(
     rt: &R,
-    alloc: Global,
     member: Member,
     page: &ShownPage,
     count: usize,
     desk: &Desk<O, E>,
 ) {
     let number = member.number();
-    if let Ok(line) = format!(in alloc; "srm: missing {count} of member {number} on page {page}\n") {
+    if let Ok(line) = format!(in desk.alloc();
+        "srm: missing {count} of member {number} on page {page}\n"
+    ) {
         desk.tell(rt, line.as_str());
     }
 }

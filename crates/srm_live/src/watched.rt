@@ -2,7 +2,6 @@
 
 ghost use Rattle.std.specs.Prelude.{◌≡◌, []};
 
-use crate::counted_wire::is_of_other;
 use crate::earlier::LastDrawn;
 use crate::presence::Presence;
 use crate::tally::Tally;
@@ -102,7 +101,7 @@ impl Watch {
         match &entry.input {
             Input::Noise => self.tally.count_noise(),
             Input::Heard(datagram) => self.hear(entry, datagram),
-            Input::Ticked => self.look_for_silence(entry.moment),
+            Input::Ticked => self.tick(entry),
             _ => {}
         }
         self.note_drawn(entry);
@@ -111,8 +110,19 @@ impl Watch {
         self.tally.show_presence(self.presence);
     }
 
+    fn tick(&mut self, entry: &Entry) {
+        self.look_for_silence(entry.moment);
+        // Who is alone sends to nobody.
+        if self.config.members() > 1 {
+            for datagram in entry.effects.outs.as_slice() {
+                self.tally.count_sent(datagram);
+            }
+        }
+    }
+
     fn hear(&mut self, entry: &Entry, datagram: &Datagram) {
         if is_of_other(self.config, datagram) {
+            self.tally.count_came();
             self.note_heard(datagram.sender(), entry.moment);
         }
         if matches!(entry.verdict, Verdict::Ignored(_)) {
@@ -188,4 +198,10 @@ impl Watch {
             }
         }
     }
+}
+
+// Whether another member of the session sent it.
+fn is_of_other(config: Config, datagram: &Datagram) -> bool {
+    let sender = datagram.sender().number();
+    sender != config.me().number() && sender < config.members()
 }

@@ -37,17 +37,19 @@ The member leaves once its time is up and all strokes are drawn. Then it prints
   gone M
 
 With --live each line is drawn as it is typed, by one pen and however many there
-are, and each line above is printed as it is taken. A line that is too long is
-told on standard error and not drawn. The member stays on at the end of input, and
-then as long as others ask for what it holds, for 30 seconds at most, and leaves; so
-it does where its output is closed, and at a signal (INT, TERM, HUP) where ./srm
-started it; a second signal ends it at once. Standard error tells who of
-the others is here, was silent for 10 seconds or left, that the member was in the
-session before under its number, why its address can't be bound, and at the end how
-many datagrams the network refused to take, by cause. On a terminal it shows each
-second how many of the others were heard, how many drawops are missing, how many
-datagrams were sent and came, how many of those sent were requests and repairs, how
-many of those that came were ignored or noise, and what was refused.
+are, and each line above is printed as it is taken, its TEXT in UTF-8. A line that
+begins with / is a command: /help names them, and //x draws /x. A line that is too
+long is told on standard error and not drawn. The member stays on at the end of
+input, and then as long as others ask for what it holds, for 30 seconds at most, and
+leaves; so it does at /leave, where its output is closed, and at a signal (INT, TERM,
+HUP) where ./srm started it; a second signal ends it at once. Standard error tells
+who of the others is here, was silent for 10 seconds or left, that the member was in
+the session before under its number, why its address can't be bound, and at the end
+who was not heard leaving, of which streams drawops are missing, and how many
+datagrams the network refused to take, by cause. On a terminal the title of the
+window shows each second how many of the others were heard, how many drawops are
+missing, how many datagrams came and were sent, how many of those sent were requests
+and repairs, and how many the network refused.
 
 Status: 0; 1 for a line that is too long or an input of more than 1000000 bytes,
 but not with --live, or for a stream that fails; 2 for a wrong command line; 3

@@ -5,8 +5,6 @@
 #![tactic(auto)]
 
 #[cfg(test)]
-mod activity_line;
-#[cfg(test)]
 mod alone;
 #[cfg(test)]
 mod backlog;
@@ -48,3 +46,5 @@ mod streams;
 mod three;
 #[cfg(test)]
 mod waiting;
+#[cfg(test)]
+mod what_goes_on;

@@ -47,6 +47,39 @@ fn the_longest_line_is_drawn(rt: HostRuntime) -> Result<(), Fail> {
     assert_lives(&rt, given, 0, &wanted, "")
 }
 
+// Two slashes draw one, and what stands behind the order to leave isn't drawn.
+#[test]
+fn what_is_typed_may_be_a_command(rt: HostRuntime) -> Result<(), Fail> {
+    let given = Given {
+        lines: [
+            b"//one\n/help\n",
+            b"/nothing\n/who\ntwo\n",
+            b"/leave\nthree\n",
+        ],
+        awaited: "took 0 0 draw ",
+        last: Last::Silence,
+        ..GIVEN
+    };
+    let (status, out, err) = run(&rt, given)?;
+    assert_eq!(rt; status, 0);
+    for (text, times) in [
+        ("took 0 0 draw 0 1 /one\n", 1),
+        ("took 0 0 draw 0 2 two\n", 1),
+        ("draw", 2),
+        ("gone 0\n", 1),
+    ] {
+        assert_eq!(rt; count_of(&rt, &out, text), times, "{text}");
+    }
+    for text in [
+        "srm: /leave ",
+        "srm: no such command: /help names them, and //x draws /x\n",
+        "srm: heard 0 of 0, missing 0, sent ",
+    ] {
+        assert_eq!(rt; count_of(&rt, &err, text), 1, "{text}");
+    }
+    Ok(())
+}
+
 #[test]
 fn an_output_that_closes_ends_it(rt: HostRuntime) -> Result<(), Fail> {
     let given = Given {

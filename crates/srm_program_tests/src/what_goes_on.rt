@@ -1,4 +1,4 @@
-//! The line for what goes on, on a terminal.
+//! What goes on, as the title of a terminal's window and where it is asked for.
 
 use crate::lives::*;
 use crate::rig::{bound, options_of};
@@ -15,16 +15,16 @@ use std::test::Fail;
 use std::thread::Threads;
 use std::time::{Clock, Duration, Instant};
 
-/// Lines that are typed on a terminal as soon as the line for what goes on was shown, and was shown again.
+/// Lines that are typed on a terminal as soon as its title was shown, and was shown again.
 const TYPED: Given = Given {
     words: "--me 0 --stay 300000",
     lines: [LONGEST, b"a\ntwo\n", b"three\n"],
-    awaited: "noise 0",
+    awaited: "\u{1b}]2;srm 0/0, missing 0, ",
     is_terminal: true,
     ..GIVEN
 };
 
-/// What stands on the terminal of a member by itself. The line for what goes on was shown once a second, at most.
+/// What stands on the terminal of a member by itself. The title was shown once a second, at most.
 fn typed_on_terminal<R>(rt: &R) -> Result<Written, Fail>
 where
     R: Net + Clock + Threads + Wait + AllocGlobal + Abort + Copy + Send + Drop + 'static,
@@ -35,21 +35,28 @@ where
     assert_eq!(rt; status, 0);
     // It stays from the last line on, which came behind the second of these.
     assert!(rt; passed >= Duration::from_micros(2_300_000));
-    let shown = u64::try_from(count_of(rt, &terminal, "srm: heard"))?;
+    let shown = u64::try_from(count_of(rt, &terminal, TYPED.awaited))?;
     assert!(rt; shown <= passed.as_secs(), "{shown}");
     Ok(terminal)
 }
 
-// Each time it is wiped before another line stands there, which is told or printed.
+// The terminal keeps its own title, and gets it back. No other line of the terminal is touched, since what is typed stands there.
 #[test]
-fn a_line_on_a_terminal_stands_where_nothing_else_does(rt: HostRuntime) -> Result<(), Fail> {
+fn a_terminal_s_title_shows_what_goes_on(rt: HostRuntime) -> Result<(), Fail> {
     let terminal = typed_on_terminal(&rt)?;
-    for text in [
-        "\r\u{1b}[Ksrm: heard 0 of 0, missing 0, sent 0, came 0, asked 0, repaired 0, ignored 0, noise 0\r\u{1b}[Kline 1: bad\n",
-        "took 0 0 draw 0 1 two\n",
-        "noise 0\r\u{1b}[Ktook 0 0 draw 0 2 three\n",
+    for (text, times) in [
+        (
+            "\u{1b}[22;2t\u{1b}]2;srm 0/0, missing 0, in 0, out 0, asked 0, repaired 0, lost 0\u{7}",
+            1,
+        ),
+        ("line 1: bad\n", 1),
+        ("took 0 0 draw 0 1 two\n", 1),
+        ("took 0 0 draw 0 2 three\n", 1),
+        ("\u{1b}[23;2t", 1),
+        ("\r", 0),
+        ("\u{1b}[K", 0),
     ] {
-        assert!(rt; has(&rt, &terminal, text), "{text}");
+        assert_eq!(rt; count_of(&rt, &terminal, text), times, "{text}");
     }
     assert!(rt; ends_with(&rt, &terminal, "gone 0\n"));
     Ok(())
@@ -57,16 +64,17 @@ fn a_line_on_a_terminal_stands_where_nothing_else_does(rt: HostRuntime) -> Resul
 
 // No socket that didn't ask for it may send to all members of a network. The second line comes once the terminal shows what the first one met.
 #[test]
-fn a_terminal_is_shown_what_was_lost(rt: HostRuntime) -> Result<(), Fail> {
+fn a_terminal_is_shown_that_something_was_lost(rt: HostRuntime) -> Result<(), Fail> {
     let given = Given {
         others: " 127.255.255.255:9",
-        awaited: "noise 0, lost: denied ",
+        awaited: "repaired 0, lost ",
         is_terminal: true,
         ..GIVEN
     };
     let (status, terminal, _) = run(&rt, given)?;
     assert_eq!(rt; status, 0);
     assert!(rt; has(&rt, &terminal, given.awaited));
+    assert!(rt; !has(&rt, &terminal, "lost 0"));
     assert!(rt; has(&rt, &terminal, "srm: lost on the way out: denied "));
     assert!(rt; ends_with(&rt, &terminal, "gone 0\n"));
     Ok(())
@@ -80,12 +88,12 @@ fn data(session: u8, source: u8, number: u32) -> [u8; 29] {
 }
 
 /// Member 0 of three, which is the input of member 1 too. It types two lines. Once it has them it asks for them again and sends its second drawop, beside noise and what is ignored;
-/// and its first once that was asked for and the terminal shows that it is missing. The input ends once the terminal shows all that came of it, or fails after 10,000 looks.
+/// and its first once that was asked for and member 1 told that it is missing. It types `/who` at each hundredth look. The input ends once all that came was told so, or fails after 10,000 looks.
 #[derive(Drop)]
 struct Peer<R: Wait + Drop> {
     rt: R,
     alloc: Global,
-    terminal: Written,
+    told: Written,
     socket: UdpSocket,
     to: SocketAddr,
     looks: u32,
@@ -130,9 +138,10 @@ impl<R: Wait + Drop> Peer<R> {
         Ok(())
     }
 
-    /// Sends the first drawop, if it was asked for and is shown as missing.
+    /// Sends the first drawop, if it was asked for and told as missing.
     fn repair(&mut self) -> io::Result<()> {
-        let is_missed = self.requests > 0 && has(&self.rt, &self.terminal, "missing 1, ");
+        let is_missed = self.requests > 0
+            && has(&self.rt, &self.told, "srm: member 0 is here, missing 1\n");
         if is_missed && !self.is_repaired {
             self.is_repaired = true;
             self.socket.send_to(&data(7, 0, 1), self.to)?;
@@ -152,14 +161,14 @@ impl<R: Wait + Drop> Peer<R> {
         Ok(())
     }
 
-    /// Whether the terminal shows what came so far: of this member alone, and four datagrams of it; as many requests as it heard, and two repairs.
-    fn is_shown(&self) -> io::Result<bool> {
+    /// Whether it was told what came so far: of this member alone, and four datagrams of it; as many requests as it heard, and two repairs.
+    fn is_told(&self) -> io::Result<bool> {
         let came = self.came;
         let asked = self.requests;
         let line = format!(in self.alloc;
-            "srm: heard 1 of 2, missing 0, sent {came}, came 4, asked {asked}, repaired 2, ignored 3, noise 2"
+            "srm: heard 1 of 2, missing 0, sent {came}, came 4, asked {asked}, repaired 2, ignored 3, noise 2\n"
         )?;
-        Ok(ends_with(&self.rt, &self.terminal, line.as_str()))
+        Ok(has(&self.rt, &self.told, line.as_str()))
     }
 }
 
@@ -172,8 +181,12 @@ impl<R: Wait + Drop> Read for Peer<R> {
         }
         self.hear()?;
         self.repair()?;
-        if self.is_shown()? {
+        if self.is_told()? {
             return Ok(0);
+        }
+        if self.looks % 100 == 0 {
+            let mut line: &[u8] = b"/who\n";
+            return line.read(buffer);
         }
         if self.looks > 10_000 {
             return Err(io::Error::from(ErrorKind::BrokenPipe));
@@ -182,8 +195,8 @@ impl<R: Wait + Drop> Read for Peer<R> {
     }
 }
 
-/// Runs member 1 of three on a terminal, beside member 0 and one that is silent. Its status, and what stands on the terminal.
-fn run_beside<R>(rt: &R) -> Result<(u8, Written), Fail>
+/// Runs member 1 of three, beside member 0 and one that is silent. Its status, what it printed, and what it told.
+fn run_beside<R>(rt: &R) -> Result<(u8, Written, Written), Fail>
 where
     R: Net + Clock + Threads + Wait + AllocGlobal + Copy + Send + Drop + 'static,
 {
@@ -194,11 +207,11 @@ where
     drop(own);
     let line = format!(in alloc; "--session 7 --me 1 --live --stay 0 {first} {to} {third}")?;
     let options = options_of(alloc, line.as_str()).ok_or("options")?;
-    let (out, err) = streams(alloc, true)?;
+    let (out, err) = streams(alloc, false)?;
     let input = Peer {
         rt: *rt,
         alloc,
-        terminal: Arc::try_clone(&out)?,
+        told: Arc::try_clone(&err)?,
         socket,
         to,
         looks: 0,
@@ -208,16 +221,18 @@ where
         is_repaired: false,
     };
     let to_out = output_in(rt, alloc, &out, GIVEN)?;
-    let to_err = keep_in(rt, &err, true)?;
+    let to_err = keep_in(rt, &err, false)?;
     let status = run_live(rt, options, input, to_out, to_err);
-    Ok((status, out))
+    Ok((status, out, err))
 }
 
 #[test]
-fn a_terminal_is_shown_what_passes_the_wire(rt: HostRuntime) -> Result<(), Fail> {
-    let (status, terminal) = run_beside(&rt)?;
+fn who_asks_is_told_what_goes_on(rt: HostRuntime) -> Result<(), Fail> {
+    let (status, out, told) = run_beside(&rt)?;
     assert_eq!(rt; status, 0);
-    assert!(rt; has(&rt, &terminal, "took 1 0 draw 1 1 one\n"));
-    assert!(rt; ends_with(&rt, &terminal, "gone 1\n"));
+    assert!(rt; has(&rt, &out, "took 1 0 draw 1 1 one\n"));
+    assert!(rt; ends_with(&rt, &out, "gone 1\n"));
+    assert!(rt; has(&rt, &told, "srm: member 0 is here, missing 0\n"));
+    assert!(rt; has(&rt, &told, "srm: member 2 was not heard, missing 0\n"));
     Ok(())
 }
