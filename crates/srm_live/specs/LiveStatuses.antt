@@ -1,22 +1,15 @@
 -- How a live member ends, and with which status.
 use Rattle.std.specs.Prelude.{ℕ, Bool, true, false, Option, Some, None}
-use Rattle.std.specs.declared.io.ErrorKind.{ErrorKind}
-use Rattle.std.specs.declared.io.ErrorKind.TheVariants as kind
-use Rattle.std.specs.declared.net.socket_addr.SocketAddr.{SocketAddr}
-use Rattle.srm_script.specs.declared.fault.ScriptFault.TheVariants.{Memory}
-use Rattle.srm_script.specs.declared.status.TheConstants.{WIRE_FAILED}
 use Rattle.srm_script.specs.Statuses.{IsStatusBy}
 use Rattle.srm_member.specs.declared.fault.MemberFault.{MemberFault}
-use Rattle.srm_member.specs.declared.fault.MemberFault.TheVariants.{Script}
 use Rattle.srm_member.specs.Statuses.{status_of_member}
 use Rattle.srm_live.specs.declared.live_fault.LiveFault.{LiveFault}
-use Rattle.srm_live.specs.declared.live_fault.LiveFault.TheVariants.{Member, Binding, WasBefore}
+use Rattle.srm_live.specs.declared.live_fault.LiveFault.TheVariants.{Member, WasBefore}
 use Rattle.srm_live.specs.declared.live_fault.TheConstants.{WAS_BEFORE}
 
 -- the status that the program ends with
 abbrev pub status_of_live : LiveFault → ℕ
 status_of_live (Member f) = status_of_member f
-status_of_live (Binding address kind) = WIRE_FAILED
 status_of_live WasBefore = WAS_BEFORE
 
 -- a whole run has status 0, and any other that of its fault
@@ -28,8 +21,3 @@ abbrev pub fault_of_end : Option MemberFault → Bool → Option LiveFault
 fault_of_end (Some f) _ = Some (Member f)
 fault_of_end None true = Some WasBefore
 fault_of_end None false = None
-
--- Why the socket can't be had, by what the system says: it lacks memory, or it refuses this address for this cause.
-abbrev pub fault_of_bind : SocketAddr → ErrorKind → LiveFault
-fault_of_bind address kind.OutOfMemory = Member (Script Memory)
-fault_of_bind address cause = Binding address cause

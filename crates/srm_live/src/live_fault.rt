@@ -1,15 +1,11 @@
 //! Why a live member isn't run, or not to its end, or not as it should be.
 
 ghost use Rattle.std.specs.Prelude.{◌≡◌, ◌≤◌};
-ghost use Rattle.std.specs.IoError.{error_kind};
 ghost use Rattle.srm_live.specs.declared.live_fault.TheConstants.{WAS_BEFORE};
-ghost use Rattle.srm_live.specs.LiveStatuses.{fault_of_bind, fault_of_end, status_of_live};
+ghost use Rattle.srm_live.specs.LiveStatuses.{fault_of_end, status_of_live};
 
 use srm_member::MemberFault;
-use srm_script::{ScriptFault, WIRE_FAILED, print_fault};
-use std::io;
-use std::io::{ErrorKind, Write};
-use std::net::SocketAddr;
+use std::io::Write;
 use thiserror::Error;
 
 /// The status of a member that was in its session before, under the same number. None is greater.
@@ -18,12 +14,9 @@ pub const WAS_BEFORE: u8 = 5;
 /// Why a live member isn't run, or not to its end, or not as it should be. Its text is the line that standard error gets.
 #[derive(Debug, Drop, Error)]
 pub enum LiveFault {
-    /// As of a member that isn't live.
+    /// As of a member that isn't live, with the cause where its address can't be bound.
     #[error("{0}")]
     Member(MemberFault),
-    /// Its address can't be bound, for this cause.
-    #[error("srm: cannot bind {0}: {1}")]
-    Binding(SocketAddr, ErrorKind),
     /// The run was whole, but the member was in the session before. That is told as it is heard.
     #[error("")]
     WasBefore,
@@ -41,16 +34,6 @@ impl LiveFault {
         }
     }
 
-    /// The fault where this address can't be bound.
-    pub fn of_bind(address: SocketAddr, error: io::Error) -> LiveFault
-        ensures { result ≡ fault_of_bind address (error_kind error) }
-    {
-        match error.kind() {
-            ErrorKind::OutOfMemory => LiveFault::Member(MemberFault::Script(ScriptFault::Memory)),
-            cause => LiveFault::Binding(address, cause),
-        }
-    }
-
     /// Prints the fault on standard error, unless it was told before, and answers the status that the program ends with.
     pub fn print<E: Write>(&self, err: &mut E) -> u8
         ensures status { result ≡ status_of_live self.now }
@@ -58,7 +41,6 @@ impl LiveFault {
     {
         match self {
             LiveFault::Member(fault) => fault.print(err),
-            LiveFault::Binding(..) => print_fault(self, err, WIRE_FAILED),
             LiveFault::WasBefore => WAS_BEFORE,
         }
     }

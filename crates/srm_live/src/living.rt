@@ -202,7 +202,7 @@ where
                 Err(fault) => Err(LiveFault::Member(fault)),
             }
         }
-        Err(error) => Err(LiveFault::of_bind(own, error)),
+        Err(error) => Err(LiveFault::Member(MemberFault::of_bind(own, error))),
     }
 }
 

@@ -2,6 +2,7 @@
 use Rattle.std.specs.Prelude.{◌≡◌, ◌⊎◌, ℕ, Bool, true, false, Option, Some, None, Result, Ok, Err}
 use Rattle.std.specs.declared.io.ErrorKind.{ErrorKind}
 use Rattle.std.specs.declared.io.ErrorKind.TheVariants as kind
+use Rattle.std.specs.declared.net.socket_addr.SocketAddr.{SocketAddr}
 use Rattle.srm_script.specs.declared.fault.ScriptFault.{ScriptFault}
 use Rattle.srm_script.specs.declared.fault.ScriptFault.TheVariants.{Memory as OutOfMemory}
 use Rattle.srm_script.specs.declared.status.TheConstants.{FAILED, WRONG_USAGE, WIRE_FAILED, RAN_OUT}
@@ -39,15 +40,26 @@ fault_of_live (Some f) _ = Some f
 fault_of_live None (Some f) = Some (fault.Script f)
 fault_of_live None None = None
 
+-- Why an address can't be bound, by what the system says: it lacks memory, or it refuses this address for this cause.
+abbrev pub fault_of_bind : SocketAddr → ErrorKind → MemberFault
+fault_of_bind address kind.OutOfMemory = fault.Script OutOfMemory
+fault_of_bind address cause = fault.Binding address cause
+
 -- Why a socket or a clock can't be had, by what the system says: it lacks memory, or it refuses for another cause.
 abbrev pub fault_of_binding : ErrorKind → MemberFault
 fault_of_binding kind.OutOfMemory = fault.Script OutOfMemory
 fault_of_binding _ = fault.Wire
 
+-- the address is told if it is to be told at all
+abbrev pub fault_of_binding_at : Option SocketAddr → ErrorKind → MemberFault
+fault_of_binding_at (Some address) cause = fault_of_bind address cause
+fault_of_binding_at None cause = fault_of_binding cause
+
 -- the status that the program ends with
 abbrev pub status_of_member : MemberFault → ℕ
 status_of_member (fault.Script f) = status_of f
 status_of_member fault.Wire = WIRE_FAILED
+status_of_member (fault.Binding address cause) = WIRE_FAILED
 status_of_member fault.Turns = RAN_OUT
 
 -- a whole run has status 0, and any other that of its fault

@@ -6,7 +6,7 @@ ghost use Rattle.std.specs.IoError.{error_kind};
 ghost use Rattle.srm_script.specs.declared.fault.ScriptFault.TheVariants.{Memory};
 ghost use Rattle.srm_script.specs.declared.status.TheConstants.{RAN_OUT};
 ghost use Rattle.srm_member.specs.declared.fault.MemberFault.TheVariants.{Script};
-ghost use Rattle.srm_member.specs.Statuses.{fault_of, fault_of_live, fault_of_binding, lacks_memory, status_of_member};
+ghost use Rattle.srm_member.specs.Statuses.{fault_of, fault_of_live, fault_of_bind, fault_of_binding, lacks_memory, status_of_member};
 
 use srm_names::PageMsg;
 use srm_node::{NodeFault, WorkEnd, Worked};
@@ -15,6 +15,7 @@ use srm_world::Past;
 use std::alloc::AllocError;
 use std::io;
 use std::io::{ErrorKind, Write};
+use std::net::SocketAddr;
 use thiserror::Error;
 
 /// Why a member isn't run, or not to its end. Its text is the line that standard error gets.
@@ -26,6 +27,9 @@ pub enum MemberFault {
     /// The address can't be bound, or the socket failed.
     #[error("srm: wire")]
     Wire,
+    /// Its address can't be bound, for this cause.
+    #[error("srm: cannot bind {0}: {1}")]
+    Binding(SocketAddr, ErrorKind),
     /// The turns were spent.
     #[error("srm: turns")]
     Turns,
@@ -73,8 +77,18 @@ impl MemberFault {
     {
         match self {
             MemberFault::Script(fault) => fault.print(err),
-            MemberFault::Wire => print_fault(self, err, WIRE_FAILED),
+            MemberFault::Wire | MemberFault::Binding(..) => print_fault(self, err, WIRE_FAILED),
             MemberFault::Turns => print_fault(self, err, RAN_OUT),
+        }
+    }
+
+    /// The fault where this address can't be bound, with the cause.
+    pub fn of_bind(address: SocketAddr, error: io::Error) -> MemberFault
+        ensures { result ≡ fault_of_bind address (error_kind error) }
+    {
+        match error.kind() {
+            ErrorKind::OutOfMemory => MemberFault::of_binding(error),
+            cause => MemberFault::Binding(address, cause),
         }
     }
 

@@ -4,6 +4,7 @@ ghost use Rattle.std.specs.Prelude.{◌≡◌, Bool, List, false, None, [], leng
 ghost use Rattle.srm_names.specs.declared.limits.TheConstants.{PAGES, PENS};
 ghost use Rattle.srm_pages.specs.Ends.{AreNewPens};
 ghost use Rattle.srm_node.specs.Nodes.{AreNewFeeds};
+ghost use Rattle.std.specs.IoError.{error_kind};
 ghost use Rattle.srm_node.specs.Calls.{calls_of};
 ghost use Rattle.srm_node.specs.Hosting.{kinds_of, starts_of, Hosts, HostsWith, HostFails, HostFailsWith, SameWell, AreEndsOfLanes};
 ghost use Rattle.srm_udp.specs.Clocks.{NeverFalls};
@@ -11,6 +12,7 @@ ghost use Rattle.srm_member.specs.Sinks.{NeverStops};
 ghost use Rattle.srm_member.specs.declared.sink.Unseen.{Unseen};
 ghost use Rattle.srm_timers.specs.Seeds.{words_of};
 ghost use Rattle.srm_member.specs.Stations.{AreNewTaps, IsNewStation};
+ghost use Rattle.srm_member.specs.Statuses.{fault_of_binding_at};
 ghost use Rattle.srm_member.specs.Strokes.{PensDrew, pens_with};
 
 use crate::fault::MemberFault;
@@ -29,7 +31,8 @@ use srm_udp::{SystemClock, UdpWire};
 use srm_wire::Wire;
 use srm_world::Past;
 use std::alloc::{AllocError, Global};
-use std::net::Net;
+use std::io;
+use std::net::{Net, SocketAddr};
 use std::sync::Wait;
 use std::thread::Threads;
 use std::time;
@@ -50,7 +53,7 @@ pub struct Station<
 }
 
 impl<R: time::Clock + Copy + Drop> Station<R> {
-    /// The station of a member that is bound to its own address. The node leaves as its options say. Refused is what can't be bound, and
+    /// The station of a member that is bound to its own address. The node leaves as its options say. Refused is what can't be bound, with the cause where the options ask for it, and
     /// want of memory.
     pub fn bind(rt: &R, alloc: Global, options: NodeOptions) -> Result<Station<R>, MemberFault>
     where
@@ -62,16 +65,33 @@ impl<R: time::Clock + Copy + Drop> Station<R> {
             config,
             seed,
             stay,
+            verbose,
             addresses,
             ..
         } = options;
-        match UdpWire::bind(rt, alloc, config.me(), addresses) {
+        let me = config.me();
+        let told = if verbose {
+            addresses.get(me.index()).copied()
+        } else {
+            None
+        };
+        match UdpWire::bind(rt, alloc, me, addresses) {
             Ok(wire) => {
                 let waker = wire.waker().ok();
                 Station::new(rt, alloc, config, seed, stay, wire, waker)
             }
-            Err(error) => Err(MemberFault::of_binding(error)),
+            Err(error) => Err(binding_fault(told, error)),
         }
+    }
+}
+
+// The fault where an address can't be bound, which is told with its cause if it is to be told at all.
+fn binding_fault(told: Option<SocketAddr>, error: io::Error) -> MemberFault
+    ensures { result ≡ fault_of_binding_at told (error_kind error) }
+{
+    match told {
+        Some(address) => MemberFault::of_bind(address, error),
+        None => MemberFault::of_binding(error),
     }
 }
 

@@ -166,6 +166,11 @@ fn with_limits<'a>(
             alloc,
             "live",
             "draws each line as it is typed, and prints what is taken as it is",
+        ))?
+        .arg(flag(
+            alloc,
+            "verbose",
+            "tells why the address can't be bound, as --live does in any case",
         ))
 }
 
@@ -211,6 +216,7 @@ fn options_in<'a>(alloc: Global, matches: &ArgMatches<'a>) -> Result<NodeOptions
         linger: linger_in(matches, live)?,
         turns: matches.get_one::<u64>("turns").unwrap_or(turns),
         live,
+        verbose: matches.get_flag("verbose"),
         addresses,
     })
 }

@@ -26,6 +26,8 @@ pub struct NodeOptions {
     pub turns: u64,
     /// Whether strokes are drawn as they are typed, and what is taken is printed as it is.
     pub live: bool,
+    /// Whether it is told why the member's address can't be bound.
+    pub verbose: bool,
     /// The members' addresses by number, one a member.
     pub addresses: Vec<SocketAddr>,
 }
