@@ -17,9 +17,11 @@ use crate::joining::{join_pens, settle_lanes};
 use crate::printing::print_taken;
 use crate::station::{Ran, Station};
 use bytes::Bytes;
+use srm_agent::Entry;
 use srm_node::{Hosted, Wire};
 use srm_options::NodeOptions;
 use srm_script::read_input;
+use srm_world::Past;
 use std::alloc::Global;
 use std::io::{Read, Write};
 use std::net::Net;
@@ -27,7 +29,7 @@ use std::sync::Wait;
 use std::thread::Threads;
 use std::time;
 
-/// Runs a member with these options, draws the lines of the input, and prints what its page workers took. A fault goes to
+/// Runs a member with these options, draws the lines of the input, and prints what its page workers took. It keeps no journal, since nobody reads one. A fault goes to
 /// `err`, and then nothing else is printed, but where the output fails.
 ///
 /// Answers the program's status: 0; 1 for an input that is refused or a stream that fails; 3 where the socket
@@ -74,10 +76,10 @@ where
 ///
 /// What was printed as taken in a slot is a prefix of what the node's journal gave there, and of each pen the strokes that the journal drew are a prefix of its
 /// bodies, in order.
-pub fn run_station<R, X, O>(
+pub fn run_station<R, X, P, O>(
     rt: &R,
     alloc: Global,
-    station: Station<R, X>,
+    station: Station<R, X, P>,
     dealt: Vec<Vec<Bytes>>,
     turns: u64,
     out: &mut O,
@@ -85,6 +87,7 @@ pub fn run_station<R, X, O>(
 where
     R: time::Clock + Threads + Wait + Copy + Send + Drop + 'static,
     X: Wire + Drop,
+    P: Past<Entry> + Drop,
     O: Write,
     requires { HasNewEnds station.node.view station.taps.items station.pens.items }
     ensures { OnOk result ((took : List (List AMessage)) × (whole : IsWholeRun (calls_of NeverFalls X.receives X.sends X.pauses) turns (map (λ bodies. bodies.items) dealt.items) station.node.view took)

@@ -29,13 +29,12 @@ use srm_script::ScriptFault;
 use srm_timers::Pcg;
 use srm_udp::{SystemClock, UdpWire};
 use srm_wire::Wire;
-use srm_world::Past;
+use srm_world::{Forgotten, Past};
 use std::alloc::{AllocError, Global};
-use std::io;
 use std::net::{Net, SocketAddr};
 use std::sync::Wait;
 use std::thread::Threads;
-use std::time;
+use std::{io, time};
 
 /// A member's station: its node over a wire, UDP if none is named, and the system's clock, the taps for its page workers, and its pens. The node keeps
 /// its entries unless another past is named.
@@ -52,10 +51,14 @@ pub struct Station<
     pub waker: Waking,
 }
 
-impl<R: time::Clock + Copy + Drop> Station<R> {
-    /// The station of a member that is bound to its own address. The node leaves as its options say. Refused is what can't be bound, with the cause where the options ask for it, and
-    /// want of memory.
-    pub fn bind(rt: &R, alloc: Global, options: NodeOptions) -> Result<Station<R>, MemberFault>
+impl<R: time::Clock + Copy + Drop> Station<R, UdpWire, Forgotten<Entry>> {
+    /// The station of a member that is bound to its own address, which keeps no entry. The node leaves as its options say. Refused is what can't be bound, with the cause where the options ask
+    /// for it, and want of memory.
+    pub fn bind(
+        rt: &R,
+        alloc: Global,
+        options: NodeOptions,
+    ) -> Result<Station<R, UdpWire, Forgotten<Entry>>, MemberFault>
     where
         R: Net,
         ensures new { IfOk result (λ s. IsNewStation options.config options.stay None s.node.view.wire s.node.view s.taps.items s.pens.items) }
@@ -78,7 +81,8 @@ impl<R: time::Clock + Copy + Drop> Station<R> {
         match UdpWire::bind(rt, alloc, me, addresses) {
             Ok(wire) => {
                 let waker = wire.waker().ok();
-                Station::new(rt, alloc, config, seed, stay, wire, waker)
+                let past = Forgotten::new();
+                Station::make(rt, alloc, config, seed, stay, wire, waker, past)
             }
             Err(error) => Err(binding_fault(told, error)),
         }
@@ -108,33 +112,12 @@ impl<R: time::Clock + Copy + Drop, X: Wire + Drop> Station<R, X> {
         ensures new { IfOk result (λ s. IsNewStation options.now.config options.now.stay (X.told wire) wire s.node.view s.taps.items s.pens.items) }
         ensures words { IfOk result (λ s. s.node.words ≡ words_of options.now.seed) }
     {
-        Station::new(
-            rt,
-            alloc,
-            options.config,
-            options.seed,
-            options.stay,
-            wire,
-            None,
-        )
+        let (config, seed, stay) = (options.config, options.seed, options.stay);
+        Station::make(rt, alloc, config, seed, stay, wire, None, Vec::new(alloc))
     }
+}
 
-    fn new(
-        rt: &R,
-        alloc: Global,
-        config: Config,
-        seed: u64,
-        stay: u64,
-        wire: X,
-        waker: Waking,
-    ) -> Result<Station<R, X>, MemberFault>
-        requires { X.failure_count wire ≡ 0 }
-        ensures new { IfOk result (λ s. IsNewStation config stay (X.told wire) wire s.node.view s.taps.items s.pens.items) }
-        ensures words { IfOk result (λ s. s.node.words ≡ words_of seed) }
-    {
-        Station::make(rt, alloc, config, seed, stay, wire, waker, Vec::new(alloc))
-    }
-
+impl<R: time::Clock + Copy + Drop, X: Wire + Drop, P: Past<Entry> + Drop> Station<R, X, P> {
     /// Runs the node in this thread, and its page workers and its pens, in threads of their own, until all have ended. The k-th pen draws the k-th list of bodies; more lists than
     /// pens are left out. Want of memory is answered for fewer lists than pens too, and where there is no thread for a pen; nothing else refuses it. The type that the caller names for the workers' lists says how they are kept,
     /// as with [`host`].
@@ -144,7 +127,7 @@ impl<R: time::Clock + Copy + Drop, X: Wire + Drop> Station<R, X> {
         alloc: Global,
         dealt: Vec<Vec<Bytes>>,
         turns: u64,
-    ) -> Result<Hosted<Vec<Entry>, L>, MemberFault>
+    ) -> Result<Hosted<P, L>, MemberFault>
     where
         R: Threads + Wait + Send + 'static,
         requires { vec_len self.taps ≡ PAGES }
@@ -163,7 +146,7 @@ impl<R: time::Clock + Copy + Drop, X: Wire + Drop> Station<R, X> {
         alloc: Global,
         dealt: Vec<Vec<Bytes>>,
         turns: u64,
-    ) -> Result<Ran<L>, MemberFault>
+    ) -> Result<Ran<P, L>, MemberFault>
     where
         R: Threads + Wait + Send + 'static,
         requires { vec_len self.taps ≡ PAGES }
@@ -188,7 +171,7 @@ impl<R: time::Clock + Copy + Drop, X: Wire + Drop> Station<R, X> {
         crew: Crew,
         dealt: Vec<Vec<Bytes>>,
         turns: u64,
-    ) -> Result<Ran<L>, MemberFault>
+    ) -> Result<Ran<P, L>, MemberFault>
     where
         R: Threads + Wait + Send + 'static,
         requires taps { vec_len self.taps ≡ PAGES }
@@ -219,8 +202,8 @@ impl<R: time::Clock + Copy + Drop, X: Wire + Drop> Station<R, X> {
 
 /// What became of a station's run: its node with its workers, the node's well, and its pens, which are done.
 #[derive(Drop)]
-pub struct Ran<L: Past<PageMsg> + Drop = Vec<PageMsg>> {
-    pub hosted: Hosted<Vec<Entry>, L>,
+pub struct Ran<P: Past<Entry> + Drop = Vec<Entry>, L: Past<PageMsg> + Drop = Vec<PageMsg>> {
+    pub hosted: Hosted<P, L>,
     pub well: Well,
     pub pens: Vec<Inked>,
 }

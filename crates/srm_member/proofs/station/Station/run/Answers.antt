@@ -3,7 +3,7 @@ use Rattle.srm_node.specs.Hosting.{kinds_of, starts_of}
 use Rattle.srm_node.proofs.Hosts.{without_well}
 use Rattle.srm_udp.specs.Clocks.{NeverFalls}
 use Rattle.srm_member.specs.Sinks.{NeverStops}
-use Rattle.srm_member.proofs.station.Station+R+X.run.Goals as goal
+use Rattle.srm_member.proofs.station.Station.run.Goals as goal
 
 pub returns-clause-hosts : goal.returns-clause-hosts
 returns-clause-hosts g c =
