@@ -12,8 +12,8 @@ if [ ! -e "$archive" ]; then
     exit 1
 fi
 if [ -z "${KIT_C:-}" ]; then
-    kit=$(command -v rt) || { echo "capi/build.sh: there is no rt on the path: set KIT_C to the c folder of the Rattle kit" >&2; exit 1; }
-    KIT_C=$(dirname "$(dirname "$(readlink -f "$kit")")")/c
+    page=$(rt doc) || { echo "capi/build.sh: there is no rt on the path: set KIT_C to the c folder of the Rattle kit" >&2; exit 1; }
+    KIT_C=$(dirname "$page")/c # the page stands at the kit's top
 fi
 mkdir -p out
 sed -n 's/^SRM_.*[ *]\(srm_[a-z_]*\)(.*/\1/p' srm.h | sort > out/names

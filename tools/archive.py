@@ -1,6 +1,9 @@
 """Static libraries that `rt lib` makes: whether one is there, and no older than what it is made from."""
 
+import os
 import pathlib
+import shutil
+import subprocess
 
 TOP = pathlib.Path(__file__).resolve().parent.parent
 
@@ -8,6 +11,18 @@ TOP = pathlib.Path(__file__).resolve().parent.parent
 def archive_of(crate):
     """The file of a static library."""
     return TOP / f"crates/{crate}/out/lib{crate}.a"
+
+
+def kit_c():
+    """The folder of the kit's two small C libraries: KIT_C names it, else rt does. None where there is neither."""
+    named = os.environ.get("KIT_C")
+    if named:
+        return pathlib.Path(named)
+    if shutil.which("rt") is None:
+        return None
+    # rt prints the path of a page that stands at the kit's top. The rt on the path may lie elsewhere.
+    page = subprocess.run(["rt", "doc"], capture_output=True, text=True, check=True).stdout.strip()
+    return pathlib.Path(page).parent / "c"
 
 
 def lack_of(crate):
