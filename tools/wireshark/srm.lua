@@ -10,6 +10,9 @@
 local KINDS = { [1] = "data", [2] = "request", [3] = "repair", [4] = "session" }
 local MEMBERS, DRAWOPS, BODY, MOMENT = 32, 65536, 1024, 2 ^ 48
 
+-- How many bytes the tag has that follows each datagram of members with a key.
+local TAG = 16
+
 -- Why bytes are no datagram, by the names that the codec has for it.
 local FAULTS = {
   Short = "a field is cut short",
@@ -252,6 +255,14 @@ local function read(bytes, session)
   return datagram
 end
 
+-- A datagram and the tag behind it. Bytes that are too few for a tag have none.
+local function split(bytes)
+  if #bytes < TAG then
+    return bytes, ""
+  end
+  return bytes:sub(1, #bytes - TAG), bytes:sub(#bytes - TAG + 1)
+end
+
 -- Whether bytes begin as a datagram does.
 local function is_likely(bytes)
   return bytes:find("^SR[\1\2]") ~= nil
@@ -350,7 +361,7 @@ local function line(datagram)
 end
 
 if not Proto then
-  return { read = read, line = line, is_likely = is_likely, is_text = is_text }
+  return { read = read, line = line, split = split, is_likely = is_likely, is_text = is_text }
 end
 
 -- ---- in Wireshark
@@ -387,6 +398,7 @@ local FIELDS = {
   ["echo.member"] = ProtoField.uint8("srm.echo.member", "Of member"),
   ["echo.t1"] = ProtoField.uint64("srm.echo.t1", "Its message was sent at"),
   ["echo.delay"] = ProtoField.uint64("srm.echo.delay", "It was heard before"),
+  tag = ProtoField.bytes("srm.tag", "Tag"),
   fault = ProtoField.string("srm.fault", "Fault"),
 }
 local UNITS = { stamp = microseconds, sent = microseconds, ["echo.t1"] = microseconds, ["echo.delay"] = microseconds }
@@ -399,6 +411,7 @@ local no_datagram = ProtoExpert.new("srm.no_datagram", "No datagram", expert.gro
 local cut = ProtoExpert.new("srm.cut", "Cut by the capture", expert.group.UNDECODED, expert.severity.NOTE)
 srm.experts = { no_datagram, cut }
 srm.prefs.session = Pref.string("Session", "", "The number of the only session that is known; any where this is empty")
+srm.prefs.tagged = Pref.bool("Tagged", false, "Whether the members have a key, so that a tag of 16 bytes follows each datagram")
 
 -- A range of so many bytes, which may be none.
 local function range(tvb, at, size)
@@ -434,13 +447,21 @@ local function show_fault(tree, tvb, fault)
 end
 
 function srm.dissector(tvb, pinfo, root)
-  local datagram = read(tvb:len() > 0 and tvb:raw() or "", tonumber(srm.prefs.session))
+  local bytes, tag = tvb:len() > 0 and tvb:raw() or "", ""
+  -- Where the capture cut the datagram, its tag isn't there.
+  if srm.prefs.tagged and tvb:len() == tvb:reported_len() then
+    bytes, tag = split(bytes)
+  end
+  local datagram = read(bytes, tonumber(srm.prefs.session))
   local is_cut = datagram.fault and datagram.fault.name == "Short" and tvb:len() < tvb:reported_len()
   local text = is_cut and "cut by the capture" or line(datagram)
   pinfo.cols.protocol = "SRM"
   pinfo.cols.info = text
   local tree = root:add(srm, tvb(), "Scalable Reliable Multicast, " .. text)
   show(tree, tvb, datagram.items)
+  if #tag > 0 then
+    tree:add(FIELDS.tag, range(tvb, #bytes, #tag))
+  end
   if is_cut then
     tree:add_proto_expert_info(cut)
   elseif datagram.fault then

@@ -36,6 +36,15 @@ check("no bytes", srm.read("", SESSION).fault.name, "Short")
 check("likely", srm.is_likely(vectors.data) and srm.is_likely(vectors.packed), true)
 check("unlikely", srm.is_likely("SR\3\2") or srm.is_likely("SR") or srm.is_likely("RS\1"), false)
 
+-- ---- tags
+
+local bytes, tag = srm.split(vectors.data .. ("t"):rep(16))
+check("before a tag", bytes, vectors.data)
+check("a tag", tag, ("t"):rep(16))
+check("a tag alone", srm.split(("t"):rep(16)), "")
+bytes, tag = srm.split(("t"):rep(15))
+check("too few for a tag", bytes .. "|" .. tag, ("t"):rep(15) .. "|")
+
 -- ---- text
 
 for _, text in ipairs({ "", "a line", "\195\169", "\226\130\172", "\240\159\150\141", "\244\143\191\191", "a\194\160b" }) do
