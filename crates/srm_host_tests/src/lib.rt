@@ -11,6 +11,8 @@ mod hosting;
 #[cfg(test)]
 mod sinks;
 #[cfg(test)]
+mod starting;
+#[cfg(test)]
 mod station;
 #[cfg(test)]
 mod three;
