@@ -1,0 +1,125 @@
+//! The key that the members of a session share.
+
+ghost use Rattle.std.specs.Prelude.{◌≡◌, ◌↔◌, ◌≤◌, ℕ, ◌++◌, List, length, take, vec_len, IsTrue, IsSome, IfSome, IfOk, MatchOption, Some};
+ghost use Rattle.srm_guard.specs.Tags.{HasNoTag, tag_of, tagged};
+
+use crate::hmac::Pads;
+use std::alloc::Global;
+use std::io;
+use std::io::{ErrorKind, Read};
+use std::marker::Model;
+use thiserror::Error;
+
+/// Bytes of a tag.
+pub const TAG_BYTES: usize = 16;
+
+/// Bytes of a key, at least and at most.
+const SHORTEST: usize = 16;
+
+const LONGEST: usize = 1_024;
+
+/// What stands before a datagram where its tag is made.
+const LABEL: [u8; 16] = *b"ringyew-datagram";
+
+/// The key that the members of a session share: 16 to 1,024 bytes, best 32 at random. A datagram that carries its tag was sent by who has the key.
+#[derive(Drop)]
+pub struct Key {
+    bytes: Vec<u8>,
+    pads: Pads,
+}
+
+impl Model for Key {
+    ghost use Rattle.std.specs.Prelude.{◌≡◌, List, ℕ};
+    ghost use Rattle.srm_guard.specs.Tags.{key_block, padded};
+
+    ghost Value = { List ℕ };
+
+    ghost view = { λ k. k.bytes.items };
+
+    ghost invariant = { λ k. (k.pads.inner ≡ padded (key_block k.bytes.items) 0x36) × (k.pads.outer ≡ padded (key_block k.bytes.items) 0x5c) };
+}
+
+impl Key {
+    /// A key of these bytes. None unless there are 16 to 1,024.
+    pub fn new(bytes: Vec<u8>) -> Option<Key>
+        ensures fits { IsSome result ↔ ((16 ≤ vec_len bytes) × (vec_len bytes ≤ 1024)) }
+        ensures value { IfSome result (λ key. key ≡ bytes.items) }
+    {
+        if bytes.len() < SHORTEST || bytes.len() > LONGEST {
+            return None;
+        }
+        let pads = Pads::new(bytes.as_slice());
+        Some(Key { bytes, pads })
+    }
+
+    /// The tag of a datagram.
+    pub fn tag(&self, datagram: &[u8]) -> [u8; 16]
+        ensures { result ≡ tag_of self.now datagram.now }
+    {
+        first_half(&self.pads.code(&LABEL, datagram))
+    }
+
+    /// How many bytes the datagram has that these are with its tag. None where they carry no right tag. All bytes of the tag are compared, whatever differs.
+    pub fn open(&self, bytes: &[u8]) -> Option<usize>
+        ensures { MatchOption result (HasNoTag (Some self.now) bytes.now) (λ count. (count ≤ length bytes.now) × (bytes.now ≡ tagged (Some self.now) (take count bytes.now))) }
+    {
+        if bytes.len() < TAG_BYTES {
+            return None;
+        }
+        let count = bytes.len() - TAG_BYTES;
+        let (datagram, tag) = bytes.split_at(count);
+        if is_same(&self.tag(datagram), tag) {
+            Some(count)
+        } else {
+            None
+        }
+    }
+}
+
+fn first_half(code: &[u8; 32]) -> [u8; 16]
+    ensures { result ≡ take 16 code.now }
+{
+    let mut tag = [0; 16];
+    tag.copy_from_slice(&code[..TAG_BYTES]);
+    tag
+}
+
+// Whether two lists of bytes are the same. It looks at each byte, so how long it takes tells nothing of where they differ.
+fn is_same(one: &[u8], other: &[u8]) -> bool
+    ensures { IsTrue result ↔ (one.now ≡ other.now) }
+{
+    if one.len() != other.len() {
+        return false;
+    }
+    let mut differing = 0;
+    for index in 0..one.len() {
+        differing |= one[index] ^ other[index];
+    }
+    differing == 0
+}
+
+/// Why a key can't be had.
+#[derive(Debug, Drop, Error)]
+pub enum KeyFault {
+    /// The file or stream that it stands in can't be read.
+    #[error("can't be read: {0}")]
+    Unreadable(io::Error),
+    /// It has fewer bytes than 16, or more than 1,024.
+    #[error("a key has 16 to 1,024 bytes")]
+    Length,
+    /// There is no memory for it.
+    #[error("out of memory")]
+    Memory,
+}
+
+impl Key {
+    /// Reads a key: all bytes that the reader has, a line end at their end too. At most 1,025 bytes are read.
+    pub fn read<I: Read>(alloc: Global, reader: &mut I) -> Result<Key, KeyFault> {
+        let mut bytes = Vec::new(alloc);
+        match reader.take(LONGEST as u64 + 1).read_to_end(&mut bytes) {
+            Ok(_) => Key::new(bytes).ok_or(KeyFault::Length),
+            Err(error) if error.kind() == ErrorKind::OutOfMemory => Err(KeyFault::Memory),
+            Err(error) => Err(KeyFault::Unreadable(error)),
+        }
+    }
+}
