@@ -17,6 +17,8 @@ mod hmac;
 mod key;
 mod known;
 mod limit;
+#[cfg(test)]
+mod tests;
 
 pub use dropped::Dropped;
 pub use guard::Guard;
