@@ -9,7 +9,9 @@ use crate::name::Name;
 use crate::stream::Stream;
 use std::alloc::{AllocError, Global};
 
-/// The names of a stream whose numbers are above one number and below another, in order. Only want of memory refuses it.
+/// Returns the names of a stream whose numbers are above `above` and below `below`, in order of number.
+///
+/// Fails only if out of memory. Costs one list of as many names.
 pub fn names_between(
     alloc: Global,
     stream: Stream,

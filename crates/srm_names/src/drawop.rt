@@ -15,7 +15,7 @@ pub struct Drawop {
 }
 
 impl Drawop {
-    /// An equal drawop, over the same bytes. Only want of memory refuses it.
+    /// Returns an equal drawop that shares the body's bytes. Fails only if out of memory.
     pub fn copy(&self) -> Result<Drawop, AllocError>
         ensures { IfOk result (λ copy. copy ≡ self.now) }
     {

@@ -2,7 +2,7 @@
 
 use crate::member::Member;
 
-/// Which session message of a member was heard, and how long ago, so that the member can tell its distance.
+/// Tells a member which of its session messages was heard and how long ago, so that it can measure the distance.
 #[derive(Clone, Copy, Debug, PartialEq, Eq)]
 pub struct Echo {
     /// The member whose message it was.

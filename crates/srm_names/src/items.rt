@@ -5,7 +5,7 @@ ghost use Rattle.std.specs.Cmp.Lexicographic.{pointwise, lists_per, lists_equiv}
 
 use std::marker::Model;
 
-/// Values in order, made from a `Vec` and given back as one. Neither takes memory.
+/// A list that contracts see as a list. It is made from a `Vec` and turned back into one without memory.
 #[derive(Debug, Drop)]
 pub struct Items<T> {
     items: Vec<T>,
@@ -20,18 +20,21 @@ impl<T> Model for Items<T> {
 }
 
 impl<T> Items<T> {
+    /// Wraps the values of a `Vec`.
     pub fn new(items: Vec<T>) -> Items<T>
         ensures { result ≡ items.items }
     {
         Items { items }
     }
 
+    /// Returns the values in order.
     pub fn as_slice(&self) -> &[T]
         ensures { result.now ≡ self.now }
     {
         self.items.as_slice()
     }
 
+    /// Returns the `Vec` that it was made from.
     pub fn into_vec(self) -> Vec<T>
         ensures { result.items ≡ self }
     {

@@ -1,6 +1,6 @@
 //! Members, pages, the names of drawops, what a page worker is given, and the limits of a session.
 //!
-//! A name belongs to one drawop for ever. So it is made whole or not at all, and copied where it is needed:
+//! A name belongs to one drawop for ever. A `Name` is within its range or doesn't exist, and is copied freely:
 //!
 //! ```
 //! let source = Member::new(0)?;
@@ -9,8 +9,8 @@
 //! assert!(Name::new(source, page, 0).is_none());
 //! ```
 //!
-//! **What is refused.** [`Member::new`] has none from [`MEMBERS`] on, [`Name::new`] and [`Stream::at`] none of number 0 or past
-//! [`DRAWOPS`]. Copies and lists are refused for want of memory alone.
+//! **Errors.** [`Member::new`] returns `None` from [`MEMBERS`] on, [`Name::new`] and [`Stream::at`] for number 0 and past
+//! [`DRAWOPS`]. Copies and lists fail only if out of memory.
 #![tactic(auto)]
 
 mod between;

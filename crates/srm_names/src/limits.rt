@@ -24,10 +24,10 @@ pub const LONGEST_DISTANCE: u64 = 10_000_000;
 /// Messages that a lane holds.
 pub const LANE_MESSAGES: u32 = 64;
 
-/// Strokes that the well holds.
+/// Strokes that the stroke queue (`Well`) holds.
 pub const WELL_STROKES: u32 = 64;
 
-/// Pens that write into the well.
+/// Producers (`Pen`) that write into the stroke queue.
 pub const PENS: u8 = 4;
 
 /// Viewers of the board, at most.

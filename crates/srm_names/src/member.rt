@@ -25,7 +25,7 @@ impl Model for Member {
 }
 
 impl Member {
-    /// The member with this number. None where the number isn't below [`MEMBERS`].
+    /// Returns the member with this number, or `None` from [`MEMBERS`] on.
     pub fn new(number: u8) -> Option<Member>
         ensures known { IsSome result ↔ (number < MEMBERS) }
         ensures value { IfSome result (λ member. member ≡ number) }
@@ -37,6 +37,7 @@ impl Member {
         }
     }
 
+    /// Returns its number, 0 to 31.
     pub fn number(self) -> u8
         ensures value { result ≡ self }
         ensures below { result < MEMBERS }
@@ -44,7 +45,7 @@ impl Member {
         self.number
     }
 
-    /// The member's place in a table by member.
+    /// Returns its number as the index of a table by member.
     pub fn index(self) -> usize
         ensures value { result ≡ self }
         ensures below { result < MEMBERS }

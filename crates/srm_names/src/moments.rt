@@ -1,9 +1,9 @@
-//! Moments that come.
+//! Deadlines that expire.
 
 ghost use Rattle.std.specs.Prelude.{◌≡◌};
 ghost use Rattle.srm_names.specs.Moments.{has_come};
 
-/// Whether a moment has come. Where there is none, none comes.
+/// Whether a deadline has expired at `now`. `None` never expires.
 pub fn has_come(moment: Option<u64>, now: u64) -> bool
     ensures { result ≡ has_come now moment }
 {

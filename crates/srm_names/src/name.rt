@@ -10,7 +10,7 @@ use crate::page::Page;
 use crate::stream::Stream;
 use std::marker::Model;
 
-/// The name of a drawop: its stream and its number there, from 1 to 65,536. A name is never given to another drawop.
+/// The name of a drawop: its stream and its number there, from 1 to 65,536. No other drawop ever gets it.
 ///
 /// Names are in order of source, page creator, page number and number; `<` and `cmp` are in this order.
 #[derive(Clone, Copy, Debug, PartialEq, Eq, PartialOrd, Ord, Hash)]
@@ -34,7 +34,7 @@ impl Model for Name {
 }
 
 impl Name {
-    /// The name with this number. None where the number isn't from 1 to [`DRAWOPS`].
+    /// Returns the name with this number, or `None` if the number isn't from 1 to [`DRAWOPS`].
     pub fn new(source: Member, page: Page, number: u32) -> Option<Name>
         ensures known { IsSome result ↔ ((1 ≤ number) × (number ≤ DRAWOPS)) }
         ensures value { IfSome result (λ name. name ≡ record {
@@ -52,18 +52,21 @@ impl Name {
         }
     }
 
+    /// Returns its stream.
     pub fn stream(self) -> Stream
         ensures { result ≡ self.stream }
     {
         self.stream
     }
 
+    /// Returns the member that drew it.
     pub fn source(self) -> Member
         ensures { result ≡ self.stream.source }
     {
         self.stream.source
     }
 
+    /// Returns its number in its stream, 1 to 65,536.
     pub fn number(self) -> u32
         ensures value { result ≡ self.number }
         ensures low { 1 ≤ result }
@@ -72,7 +75,7 @@ impl Name {
         self.number
     }
 
-    /// Whether this name comes before another, as `<` says.
+    /// Whether this name comes before `other`, as `<` says.
     pub fn is_before(self, other: Name) -> bool
         ensures { result ≡ name_below self other }
     {
@@ -81,7 +84,7 @@ impl Name {
 }
 
 impl Stream {
-    /// The name with this number in the stream. None where the number isn't from 1 to [`DRAWOPS`].
+    /// Returns the stream's name with this number, or `None` if the number isn't from 1 to [`DRAWOPS`].
     pub fn at(&self, number: u32) -> Option<Name>
         ensures known { IsSome result ↔ ((1 ≤ number) × (number ≤ DRAWOPS)) }
         ensures value { IfSome result (λ name. name ≡ named self.now number) }
@@ -90,8 +93,8 @@ impl Stream {
     }
 }
 
-/// The order of names is total: of two different names one is before the other, none is before itself, and what is
-/// before a name is before all that come after that name.
+/// The law that the order of names is total: of two different names one is before the other, no name is before itself, and a name
+/// that is before another is before all behind it.
 pub fn names_are_in_order()
     ensures { IsTotalOrderOfNames }
 {}

@@ -14,7 +14,7 @@ pub struct Page {
 impl Page {
     ghost use Rattle.srm_names.specs.Names.{first_page};
 
-    /// The page that each member has from the start.
+    /// Returns the page that each member has from the start: number 0 of member 0.
     pub fn first() -> Page
         ensures { result ≡ first_page }
     {

@@ -7,12 +7,12 @@ use crate::member::Member;
 use crate::page::Page;
 use std::alloc::AllocError;
 
-/// A message of a page feed.
+/// A message of a page feed: what a page worker gets of one page.
 #[derive(Debug, Drop, PartialEq, Eq)]
 pub enum PageMsg {
-    /// The page, first of all.
+    /// The page. It comes first, once.
     Open(Page),
-    /// The next drawop of its source.
+    /// The next drawop of its source, in order of number.
     Draw(Drawop),
     /// This source left, and all that it drew on the page was given.
     Left(Member),
@@ -21,7 +21,7 @@ pub enum PageMsg {
 }
 
 impl PageMsg {
-    /// An equal message, over the same bytes. Only want of memory refuses it.
+    /// Returns an equal message that shares a body's bytes. Fails only if out of memory.
     pub fn copy(&self) -> Result<PageMsg, AllocError>
         ensures { IfOk result (λ copy. copy ≡ self.now) }
     {
