@@ -49,7 +49,7 @@ fn repair(alloc: Global, sender: Member, reader: &mut Reader) -> Result<Datagram
     Ok(Datagram::Repair { sender, drawop })
 }
 
-/// A drawop, of the wanted source where there is one, and nothing more. It is judged before memory is taken for it.
+/// A drawop, of the wanted source if there is one, and nothing more. It is judged before memory is taken for it.
 #[tactic(auto, unfolding(crate::specs::Judging::drawop_at, crate::specs::Judging::only_drawop))]
 fn only_drawop(
     alloc: Global,
@@ -102,7 +102,7 @@ fn mask(name: Name, reader: &mut Reader) -> Result<u32, DecodeFault>
     }
 }
 
-/// A session message. It is read twice, since its rows and echoes have room made for them only once all is judged.
+/// A session message. It is read twice: room for rows and echoes is made only once all is judged.
 #[tactic(auto, unfolding(crate::specs::Judging::session_of))]
 fn session(alloc: Global, sender: Member, reader: &mut Reader) -> Result<Datagram, DecodeFault>
     ensures { IsJudged takes_memory result (session_of sender reader.old) }

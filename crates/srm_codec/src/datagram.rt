@@ -10,7 +10,7 @@ use std::alloc::{AllocError, Global};
 pub enum Datagram {
     /// A new drawop, from its source.
     Data(Drawop),
-    /// Asks for `name`, and for the number `1 + k` above it for each bit `k` of the mask.
+    /// Requests `name`, and for each bit `k` of the mask the name whose number is greater by `1 + k`.
     Request {
         sender: Member,
         name: Name,
@@ -21,7 +21,7 @@ pub enum Datagram {
         sender: Member,
         drawop: Drawop,
     },
-    /// What a member knows of the page it shows, and when it heard the others. A farewell is its last one.
+    /// Says what a member knows of the page that it shows, and when it heard the others. A farewell is its last one.
     Session {
         sender: Member,
         /// The moment in microseconds at which it was sent, by the sender's clock.
@@ -38,7 +38,7 @@ pub enum Datagram {
 impl Datagram {
     ghost use Rattle.srm_codec.specs.Spelling.{sender_of};
 
-    /// The member that sends it.
+    /// Returns the member that sends it.
     pub fn sender(&self) -> Member
         ensures { result ≡ sender_of self.now }
     {
@@ -50,7 +50,7 @@ impl Datagram {
         }
     }
 
-    /// An equal datagram, over the same bytes of a body. Only want of memory refuses it.
+    /// Returns an equal datagram that shares a body's bytes. Fails only if out of memory.
     pub fn copy(&self, alloc: Global) -> Result<Datagram, AllocError>
         ensures { IfOk result (λ copy. copy ≡ self.now) }
     {

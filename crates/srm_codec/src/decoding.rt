@@ -13,9 +13,11 @@ use crate::fault::DecodeFault;
 use crate::reader::Reader;
 use std::alloc::Global;
 
-/// The datagram that the bytes spell in this session, or their first fault. A fault takes no memory, nor does a request:
-/// [`DecodeFault::Memory`] can stand in place of data, a repair or a session message alone, and only where memory was
-/// refused for its body, its rows or its echoes.
+/// Returns the datagram that the bytes spell in this session.
+///
+/// Fails with the first fault of the bytes, in the order of their fields. Faults and requests take no memory:
+/// [`DecodeFault::Memory`] is returned only for valid data, repairs and session messages, if there is none for their body, rows or
+/// echoes. Costs a step for each byte; a session message is read twice.
 pub fn decode(alloc: Global, session: u32, bytes: &[u8]) -> Result<Datagram, DecodeFault>
     // What is read is spelled so, with nothing after it.
     ensures spelled { IfOk result (λ datagram. Spells session datagram bytes.now) }
@@ -24,7 +26,7 @@ pub fn decode(alloc: Global, session: u32, bytes: &[u8]) -> Result<Datagram, Dec
     ensures read { (datagram : Datagram) → Spells session datagram bytes.now
         → (result ≡ Ok datagram) ⊎ (result ≡ Err Memory) }
 
-    // Which fault it is; want of memory stands in place of no fault, and of no request.
+    // Which fault it is; `Memory` is returned only for a valid datagram that isn't a request.
     ensures judged { IsJudged takes_memory result (judge session bytes.now) }
     ensures memory { result ≡ Err Memory → IsOk (judge session bytes.now) }
 {

@@ -17,7 +17,9 @@ use crate::format::{
 use srm_names::{Drawop, Echo, Member, Name};
 use std::alloc::{AllocError, Global};
 
-/// The one spelling of the datagram in this session. Only want of memory refuses it.
+/// Returns the one spelling of the datagram in this session. The caller shows that it has one ([`encodable`](crate::encodable)).
+///
+/// Fails only if out of memory. Makes one list of as many bytes.
 pub fn encode(alloc: Global, session: u32, datagram: &Datagram) -> Result<Vec<u8>, AllocError>
     requires { IsSpellable datagram.now }
     ensures spelled { IfOk result (λ bytes. Spells session datagram.now bytes.items) }
@@ -31,7 +33,7 @@ pub fn encode(alloc: Global, session: u32, datagram: &Datagram) -> Result<Vec<u8
     Ok(out)
 }
 
-/// How many bytes the spelling of the datagram has, in any session. It takes no memory.
+/// Returns how many bytes the spelling of the datagram has, in any session, 17 or more. Takes no memory.
 pub fn length(datagram: &Datagram) -> usize
     requires { IsSpellable datagram.now }
     ensures value { result ≡ length_of datagram.now }

@@ -6,8 +6,8 @@ ghost use Rattle.srm_codec.specs.declared.fault.DecodeFault.TheVariants.{Memory}
 use std::alloc::AllocError;
 use thiserror::Error;
 
-/// The first fault of the bytes, in the order in which the fields are judged: as they stand, and of one field first that
-/// it is cut short, then its values.
+/// Why bytes are no datagram of the session: the first fault, in the order of the fields. Of one field it is first that bytes are
+/// missing, then its range, then its source or order. Users see the numbers.
 #[derive(Clone, Copy, Debug, PartialEq, Eq, Error)]
 pub enum DecodeFault {
     /// A field is not whole.
@@ -43,7 +43,7 @@ pub enum DecodeFault {
     /// The source of data or of a farewell's row isn't the sender.
     #[error("a source that isn't the sender")]
     Source,
-    /// The memory for a body, rows or echoes was refused. It says nothing about the bytes.
+    /// Out of memory for a body, rows or echoes of a valid datagram.
     #[error("out of memory")]
     Memory,
 }

@@ -30,7 +30,7 @@ pub const NAME_BYTES: usize = 8;
 /// Bytes of a mask.
 pub const MASK_BYTES: usize = 4;
 
-/// Bits of a mask: of so many names above the first it says whether they are asked for.
+/// Bits of a mask. Each says of one name above the first whether it is requested too.
 pub const MASK_BITS: u32 = 8 * MASK_BYTES as u32;
 
 /// Bytes of a drawop but its body: name, stamp and length.
@@ -39,7 +39,7 @@ pub const DRAWOP_BYTES: usize = 18;
 /// Bytes of a session message between its head and its rows and echoes: sent, flags, shown page and the two counts.
 pub const SESSION_MESSAGE_BYTES: usize = 14;
 
-/// Rows, or echoes, of a session message, at most, since a byte has their count.
+/// The most rows, or echoes, of a session message: a byte has their count.
 pub const LONGEST_LIST: u8 = u8::MAX;
 
 /// Bytes of an echo.

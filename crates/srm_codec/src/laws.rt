@@ -2,13 +2,14 @@
 
 ghost use Rattle.srm_codec.specs.Laws.{JudgingUndoesSpelling, SpellingsAreUnique};
 
-/// Of bytes, judging them in a session answers a datagram exactly where they spell it there: so each list of bytes
-/// spells one datagram or has one first fault.
+/// The law that judging bytes in a session finds a datagram exactly if they spell it there. So each list of bytes spells one
+/// datagram or has one first fault.
 pub fn judging_undoes_spelling()
     ensures { JudgingUndoesSpelling }
 {}
 
-/// No two datagrams share a spelling, whatever the sessions, and no datagram has one spelling in two sessions.
+/// The law that no two datagrams share a spelling, whatever their sessions, and that no datagram has the same spelling in two
+/// sessions.
 pub fn spellings_are_unique()
     ensures { SpellingsAreUnique }
 {}

@@ -6,9 +6,9 @@
 //! let again = decode(alloc, session, bytes.as_slice())?; // equal to the datagram
 //! ```
 //!
-//! **What is refused.** [`decode`] answers the first [`DecodeFault`] in the order in which fields are judged: of each field first
-//! whether all its bytes are there, then its range; last whether a byte is left. [`encode`] asks of its caller that the datagram
-//! has a spelling, as [`encodable`] tells, and is refused for want of memory alone.
+//! **Errors.** [`decode`] returns the first [`DecodeFault`] in the order of the fields: of each first whether all its bytes are
+//! there, then its range; last whether a byte is left over. The caller of [`encode`] shows that the datagram has a spelling, as
+//! [`encodable`] says; it fails only if out of memory.
 #![tactic(auto)]
 
 mod contents;

@@ -9,7 +9,8 @@ use crate::format::MASK_BITS;
 use srm_names::Name;
 use std::alloc::{AllocError, Global};
 
-/// The names that a datagram names, in order. Only want of memory refuses it.
+/// Returns the names that a datagram names, in order: one of data and repairs, up to 33 of a request, one for each row of a session
+/// message. Fails only if out of memory.
 pub fn names_in(alloc: Global, datagram: &Datagram) -> Result<Vec<Name>, AllocError>
     requires { IsSpellable datagram.now }
     ensures { IfOk result (λ names. names.items ≡ names_in datagram.now) }
@@ -21,7 +22,7 @@ pub fn names_in(alloc: Global, datagram: &Datagram) -> Result<Vec<Name>, AllocEr
     }
 }
 
-/// The name of data and of a repair, which have one alone. A request may have more, so it has none here, nor has a session message.
+/// Returns the name of data or a repair, which have exactly one; `None` for other datagrams. Takes no memory.
 pub fn only_name(datagram: &Datagram) -> Option<Name>
     ensures value { result ≡ sole_name datagram.now }
     ensures alone { IfSome result (λ name. names_in datagram.now ≡ name ∷ []) }

@@ -155,7 +155,7 @@ impl<'a> Reader<'a> {
         Ok(Page { creator, number })
     }
 
-    /// A source, which where one is wanted is that one.
+    /// A source; the wanted one, if there is one.
     #[tactic(auto, unfolding(crate::specs::Judging::source_at))]
     fn source(&mut self, wanted: Option<Member>) -> Result<Member, DecodeFault>
         ensures { IsRead result self.new (source_at wanted self.old) }
@@ -167,7 +167,7 @@ impl<'a> Reader<'a> {
         }
     }
 
-    /// A stream that comes after the one of the last row, where there is one.
+    /// A stream behind that of the last row, if there is one.
     #[tactic(auto, unfolding(crate::specs::Judging::any_stream_at, crate::specs::Judging::stream_at))]
     fn stream(&mut self, wanted: Option<Member>, last: Option<Name>) -> Result<Stream, DecodeFault>
         ensures { IsRead result self.new (stream_at wanted last self.old) }

@@ -11,10 +11,10 @@ use crate::format::LONGEST_LIST;
 use crate::mask::is_within;
 use srm_names::{DRAWOPS, Drawop, Echo, LATEST_MOMENT, LONGEST_BODY, MEMBERS, Member, Name, Page};
 
-/// Whether the datagram has a spelling, so that it can be encoded.
+/// Whether the datagram has a spelling, so that it can be encoded. Takes no memory.
 ///
-/// The types keep members and numbers in range, but not moments, the length of a body, a mask, or how many rows and
-/// echoes there are, whose they are and in which order they stand.
+/// The types keep members and numbers in range. This checks the rest: moments, a body's length, a mask, and of rows and echoes their
+/// count, their members and their order.
 pub fn encodable(datagram: &Datagram) -> bool
     ensures { IsTrue result ↔ IsSpellable datagram.now }
 {
