@@ -15,15 +15,16 @@ use srm_names::{Echo, LATEST_MOMENT, LONGEST_DISTANCE, MEMBERS, Member};
 use std::alloc::{AllocError, Global};
 use std::marker::Model;
 
-/// What a member knows of the others by their session messages. All moments, times and distances are in
-/// microseconds; a moment is that of this member's own clock, but for the moment at which another member sent.
+/// The distances from one member to the others, measured by their session messages.
+///
+/// All moments, times and distances are microseconds. Moments are by this member's clock, but for the moment at which another sent.
 #[derive(Debug, Drop)]
 pub struct Distances {
     me: Member,
     /// The floor: no distance to another member is shorter.
     least: u64,
     peers: [Peer; MEMBERS as usize],
-    /// The distance to each member, by its number: kept beside the peers, so that all of them are at hand at once.
+    /// The distance to each member, by its number. Kept beside the peers, so that a caller gets all at once without memory.
     table: [u64; MEMBERS as usize],
 }
 
@@ -38,18 +39,18 @@ impl Model for Distances {
 }
 
 impl Distances {
-    /// What this member knows before any session message, with the floor [`SHORTEST_DISTANCE`].
+    /// Makes the distances of a member that heard nothing yet, with the floor [`SHORTEST_DISTANCE`].
     pub fn new(me: Member) -> Distances
         ensures fits { DistancesFit SHORTEST_DISTANCE me [] result }
     {
         Distances::with_least(me, SHORTEST_DISTANCE)
     }
 
-    /// What this member knows before any session message, with a floor under its distances to others: `least` microseconds,
+    /// Makes the distances of a member that heard nothing yet, with a floor under its distances to others: `least` microseconds,
     /// from [`SHORTEST_DISTANCE`] to [`LONGEST_DISTANCE`].
     ///
-    /// Timers wait for a multiple of a distance. On a network of a few microseconds a floor keeps a member that misses much from
-    /// asking for it faster than its rate lets it ask.
+    /// Timers wait for a multiple of a distance. On a network of a few microseconds, a member that misses much would else ask faster
+    /// than its rate lets it.
     pub fn with_least(me: Member, least: u64) -> Distances
         requires shortest { SHORTEST_DISTANCE ≤ least }
         requires longest { least ≤ LONGEST_DISTANCE }
@@ -65,7 +66,7 @@ impl Distances {
         }
     }
 
-    /// What this member knows, once more. It takes no memory.
+    /// Returns a copy. Takes no memory.
     pub fn copy(&self) -> Distances
         ensures { result ≡ self.now }
     {
@@ -77,13 +78,11 @@ impl Distances {
         }
     }
 
-    /// A session message of `from` was heard at `now`. It was sent at `sent`, by its sender's clock, at most
-    /// [`LATEST_MOMENT`]. `echo` is its echo for this member, if it has one: when the echoed message was sent, and how long
-    /// `from` had it by then.
+    /// Notes a session message of `from`, heard at `now` and sent at `sent` by its sender's clock, at most [`LATEST_MOMENT`]. `echo` is
+    /// its echo for this member, if it has one: when the echoed message was sent, and how long `from` had it.
     ///
-    /// The echo counts, and the distance is then by it, where it is of a newer message than each that counted before
-    /// and not of a moment after `now`. The message is the one to echo where it is newer than each of `from` before. A
-    /// message that was sent at 0 is a message like any other.
+    /// The echo decides the distance if it is of a newer message than all echoes before that counted, and not of a moment after
+    /// `now`. The message is the one to echo if it is newer than all of `from` before. 0 is a moment like any other. Takes no memory.
     pub fn heard_session(&mut self, from: Member, sent: u64, echo: Option<(u64, u64)>, now: u64)
         requires { sent ≤ LATEST_MOMENT }
         ensures { DistancesAdd (Heard from sent echo now) self.old self.new }
@@ -92,7 +91,7 @@ impl Distances {
         self.keep(from, peer);
     }
 
-    /// A member left: no more echoes to it. The distance to it stays.
+    /// Notes that a member left: it gets no more echoes. The distance to it stays.
     pub fn forget(&mut self, member: Member)
         ensures { DistancesAdd (Forgot member) self.old self.new }
     {
@@ -111,9 +110,10 @@ impl Distances {
         self.table[place] = distance_by(self.least, self.me, member, peer);
     }
 
-    /// The echoes that are owed at a moment, in order of member: to each other member that was heard and isn't
-    /// forgotten that of its newest session message, with the time since this was heard, 0 where that is to come.
-    /// They are at most 31. Only want of memory refuses it.
+    /// Returns the echoes that are owed at `now`, in order of member, at most 31: to each other member that was heard and not
+    /// forgotten, its newest session message with the time since it was heard; 0 if that is after `now`.
+    ///
+    /// Fails only if out of memory.
     pub fn echoes(&self, alloc: Global, now: u64) -> Result<Vec<Echo>, AllocError>
         ensures value { IfOk result (λ echoes. (least me : ℕ) (calls : List DistanceCall) → DistancesFit least me calls self.now
             → echoes.items ≡ echoes_owed calls me now) }
@@ -146,8 +146,8 @@ impl Distances {
         self.peers[member.index()].echo(member, now)
     }
 
-    /// The distance to a member: 0 to this member itself, and to another from the floor to 10,000,000; before an echo of it counted
-    /// [`FIRST_DISTANCE`](crate::FIRST_DISTANCE), or the floor where that is more.
+    /// Returns the distance to a member in microseconds: 0 to this member, else from the floor to 10,000,000. Before an echo of it
+    /// counted it is [`FIRST_DISTANCE`](crate::FIRST_DISTANCE), or the floor if that is more.
     pub fn distance(&self, member: Member) -> u64
         ensures value { (least me : ℕ) (calls : List DistanceCall) → DistancesFit least me calls self.now → result ≡ distance least calls me member }
         ensures to_oneself { (result ≡ 0) ↔ (member ≡ self.now.me) }
@@ -156,7 +156,7 @@ impl Distances {
         self.table[member.index()]
     }
 
-    /// The distances to all members, by their numbers: [`distance`](Distances::distance) of each. It takes no memory.
+    /// Returns the [`distance`](Distances::distance) to each member, by its number. Takes no memory and one step.
     #[tactic(auto, using(crate::proofs::Table::is_table, crate::proofs::Table::longest))]
     pub fn all(&self) -> &[u64]
         ensures value { IsTableOf self.now result.now }

@@ -1,11 +1,10 @@
 //! One-way distances to the members of a session, and the echoes that are owed to them.
 //!
-//! A member sends a session message at a moment `t1` of its clock; another answers in a session message of its own
-//! with an echo: `t1`, and the time since it heard that message. What is left of the time on the way there and back,
-//! halved, is the distance.
+//! A member sends a session message at `t1` by its clock. Another one's next session message has an echo: `t1`, and the time since
+//! it heard that message. Half of the round trip less that time is the distance.
 //!
-//! Contracts speak of the calls so far: a value *fits* a list of calls where what it keeps of each member is what the
-//! definitions in `specs/` say of that list. It keeps no history.
+//! Contracts speak of the calls so far: a value *fits* a list of calls if all that it keeps is what the definitions in `specs/` say
+//! of that list. It keeps no history.
 //!
 //! ```
 //! let mut distances = Distances::new(me);
@@ -14,8 +13,8 @@
 //! assert_eq!(distances.distance(other), 2_000);
 //! ```
 //!
-//! All times are microseconds. **What is refused**: nothing but [`Distances::echoes`] for want of memory. An echo of a moment to
-//! come counts for nothing.
+//! All times are microseconds. **Errors**: only [`Distances::echoes`] can fail, if out of memory. An echo of a moment after the
+//! present doesn't count.
 #![tactic(auto)]
 
 mod distances;

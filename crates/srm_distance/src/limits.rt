@@ -1,7 +1,7 @@
 //! Distances, in microseconds.
 
-/// The distance to a member before an echo from it was heard, or the floor where that is more.
+/// The distance to a member before an echo of it counted, unless the floor is more.
 pub const FIRST_DISTANCE: u64 = 100_000;
 
-/// The shortest distance to another member, and the floor under distances where none is set.
+/// The shortest distance to another member, and the floor if none is set.
 pub const SHORTEST_DISTANCE: u64 = 1;
