@@ -53,7 +53,7 @@ impl Block {
         self.places[place] = Some(drawop);
     }
 
-    /// What is at a place: nothing, where there is no such place.
+    /// Returns what is at a place; `None` if there is no such place.
     pub fn get(&self, place: usize) -> Option<&Drawop>
         ensures { option_copied result ≡ slice_index_or self.now place None }
     {

@@ -6,13 +6,13 @@ ghost use Rattle.srm_store.specs.declared.fault.StoreFault.TheVariants.{Memory};
 use std::alloc::AllocError;
 use thiserror::Error;
 
-/// Why a call of the store is refused. What the store holds and knows is then as before.
+/// Why a call of the store fails. What the store holds and knows is then as before.
 #[derive(Clone, Copy, Debug, PartialEq, Eq, Error)]
 pub enum StoreFault {
-    /// The call names a page that isn't in the table, and the table has no slot left.
+    /// The call names a page without a slot, and no slot is left.
     #[error("the table has no slot for another page")]
     PageLimit = 1,
-    /// Memory ran out.
+    /// Out of memory.
     #[error("out of memory")]
     Memory = 2,
 }

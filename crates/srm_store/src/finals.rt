@@ -80,7 +80,7 @@ impl Finals {
     }
 }
 
-/// The number that rows have for a stream, and 0 where they have none.
+/// Returns the number that rows have for a stream, or 0 if they have none.
 pub fn row_number(rows: &[Name], stream: Stream) -> u32
     ensures value { result ≡ row_number rows.now stream }
     ensures last { result ≤ DRAWOPS }

@@ -12,7 +12,7 @@ pub enum Insert {
     Fresh,
     /// The same stamp and body.
     Known,
-    /// Another stamp or body, which stays.
+    /// Another stamp or body. It stays.
     Conflict,
 }
 

@@ -1,8 +1,7 @@
 //! What a member holds of each stream, what it knows to exist, what is missing, and how far each stream may be released.
 //!
-//! Contracts speak of the calls so far: a store *fits* the drawops that were inserted, the names that there was evidence
-//! of and the members that were settled where all that it holds and knows is what the definitions in `specs/` say of
-//! these lists. It keeps no history.
+//! Contracts speak of the calls so far: a store *fits* lists of drawops inserted, of names with evidence and of members settled, if
+//! all that it holds and knows is what the definitions in `specs/` say of these lists. It keeps no history.
 //!
 //! ```
 //! let mut store = Store::new(alloc)?;
@@ -11,10 +10,11 @@
 //! assert_eq!(store.released(stream), 1);
 //! ```
 //!
-//! A store's pages stand in a [`PageTable`], each in its slot. A member that shows pages which no stream names yet keeps one beside its store.
+//! A store keeps its pages in a [`PageTable`], each in its page slot. A member also shows pages that no stream names yet, so it keeps
+//! another one beside its store.
 //!
-//! **What is refused.** [`StoreFault::PageLimit`] where a ninth page would be needed, and [`StoreFault::Memory`]; what is held
-//! and known is then as before. A second drawop of a name isn't refused: [`Insert`] tells what was found, and the first stays.
+//! **Errors.** [`StoreFault::PageLimit`] if a ninth page would be needed, [`StoreFault::Memory`] if out of memory. What is held and
+//! known is then as before. A second drawop under a name is no error: [`Insert`] says what was found, and the first stays.
 #![tactic(auto)]
 
 mod block;

@@ -8,10 +8,10 @@ use srm_names::{Name, PAGES, Page};
 use std::alloc::{AllocError, Global};
 use std::marker::Model;
 
-/// At most eight pages, each once, by slot. Contracts see the list.
+/// Page slots: at most eight pages, each once. Contracts see the list.
 #[derive(Drop)]
 pub struct PageTable {
-    /// It has room for all eight from the start, so that no page is refused for memory.
+    /// It has room for all eight from the start, so that adding a page takes no memory.
     pages: Vec<Page>,
 }
 
@@ -28,7 +28,7 @@ impl Model for PageTable {
 }
 
 impl PageTable {
-    /// The table with the first page alone. Only want of memory refuses it.
+    /// Makes page slots with the first page alone. Fails only if out of memory.
     pub fn new(alloc: Global) -> Result<PageTable, AllocError>
         ensures { IfOk result (λ table. table ≡ first_page ∷ []) }
     {
@@ -37,7 +37,7 @@ impl PageTable {
         Ok(PageTable { pages })
     }
 
-    /// The pages, by slot.
+    /// Returns the pages, by slot.
     pub fn as_slice(&self) -> &[Page]
         ensures value { result.now ≡ self.now }
         ensures table { IsPageTable result.now }
@@ -45,14 +45,14 @@ impl PageTable {
         self.pages.as_slice()
     }
 
-    /// The page of a slot.
+    /// Returns the page of a slot, or `None` if the slot is free.
     pub fn get(&self, slot: u8) -> Option<Page>
         ensures { result ≡ slice_get self.now slot }
     {
         self.pages.get(usize::from(slot)).copied()
     }
 
-    /// The slot of a page: the one after the last, where it has none.
+    /// Returns the slot of a page, or the number of pages if it has none.
     pub fn slot_of(&self, page: &Page) -> usize
         ensures value { result ≡ slot_of self.now page.now }
         ensures last { result ≤ PAGES }
@@ -66,14 +66,14 @@ impl PageTable {
         self.pages.len()
     }
 
-    /// Whether a page is in the table, or finds room there.
+    /// Whether a page has a slot, or one is free.
     pub fn has_room(&self, page: &Page) -> bool
         ensures { result ≡ not (table_lacks_room self.now page.now) }
     {
         self.slot_of(page) < usize::from(PAGES)
     }
 
-    /// Adds a page, unless it is there. It takes no memory.
+    /// Gives a page the next slot, unless it has one. The caller shows that one is free. Takes no memory.
     pub fn add(&mut self, page: Page)
         requires { table_lacks_room self.old page ≡ false }
         ensures { self.new ≡ with_page self.old page }
@@ -83,12 +83,12 @@ impl PageTable {
         }
     }
 
-    /// Whether the pages of these names that aren't in the table find no room there. It takes no memory.
+    /// Whether too few slots are free for the pages of these names. Takes no memory.
     pub fn lacks_room_for(&self, names: &[Name]) -> bool
         ensures { result ≡ table_lacks_room_for self.now names.now }
     {
         let pages = self.as_slice();
-        // What would be added stands beside the table, so that it stays as it is and a page counts once.
+        // Beside the table, so that it stays as it is and a page counts once.
         let mut added = [Page::first(); PAGES as usize];
         let mut count = 0;
         for name in names {
@@ -105,7 +105,7 @@ impl PageTable {
         false
     }
 
-    /// Adds the pages of these names that aren't there. It takes no memory.
+    /// Gives each page of these names a slot, in order. The caller shows that there are enough. Takes no memory.
     pub fn add_all(&mut self, names: &[Name])
         requires { table_lacks_room_for self.old names.now ≡ false }
         ensures { self.new ≡ with_pages_of self.old names.now }

@@ -12,8 +12,8 @@ use std::marker::Model;
 /// Places in a block. One high number makes one block, and not all the places below it.
 const BLOCK: u32 = 256;
 
-/// Places by number, each empty or with a drawop. A place takes a fixed number of steps to find; making it takes one for
-/// each block and place that come to be, and each comes once.
+/// Places by number, each empty or with a drawop. Finding one takes a fixed number of steps; making one takes a step for each new
+/// block and place.
 #[derive(Drop)]
 pub struct Places {
     alloc: Global,

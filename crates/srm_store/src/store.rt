@@ -23,8 +23,8 @@ use srm_names::{DRAWOPS, Drawop, Member, Name, Stream};
 use std::alloc::{AllocError, Global};
 use std::marker::Model;
 
-/// What a member holds and knows: the first drawop of each name that was inserted, how far each stream is known to
-/// exist, and how far the streams of those that left go.
+/// What a member holds and knows: the first drawop inserted under each name, the greatest number of each stream with evidence, and
+/// how far the streams of members that left go.
 ///
 /// It has streams on at most eight pages: the first page from the start, each further one once it is named.
 #[derive(Drop)]
@@ -46,7 +46,7 @@ impl Model for Store {
 }
 
 impl Store {
-    /// An empty store. Only want of memory refuses it.
+    /// Makes an empty store. Fails only if out of memory.
     pub fn new(alloc: Global) -> Result<Store, AllocError>
         ensures { IfOk result (StoreFits [] [] []) }
     {
@@ -58,12 +58,13 @@ impl Store {
         })
     }
 
-    /// Makes room, so that one insert and one evidence of each of these names, and one settling with all of them, in any
-    /// order, aren't refused at all. Nothing that is held or known changes; the room of the call before is given up, but only
-    /// once there is this one.
+    /// Makes room: afterwards one insert and one evidence of each of these names, and one settling with all of them, succeed in any
+    /// order. It replaces the room of the call before. Nothing that is held or known changes.
     ///
-    /// [`StoreFault::PageLimit`] where the pages of the names don't all find slots, and then nothing changed;
-    /// [`StoreFault::Memory`], and then what was ready before is still ready.
+    /// # Errors
+    ///
+    /// [`StoreFault::PageLimit`] if the pages of the names don't all find slots: nothing has changed. [`StoreFault::Memory`]: the room
+    /// of the call before is still there.
     pub fn room(&mut self, names: &[Name]) -> Result<(), StoreFault>
         ensures kept { StoreStays self.old self.new }
         ensures before { StoreStays self.new self.old }
@@ -78,12 +79,13 @@ impl Store {
         Ok(())
     }
 
-    /// Makes room, so that one insert and one [`learn`](Store::learn) of each of these names, and one settling with all of them, in
-    /// any order, aren't refused at all. It makes less than [`room`](Store::room), since nothing is answered. Nothing that is held or
-    /// known changes, and no room that there was is given up.
+    /// Makes room: afterwards one insert and one [`learn`](Store::learn) of each of these names, and one settling with all of them,
+    /// succeed in any order. It makes less than [`room`](Store::room), since learning returns no list. Nothing that is held or known
+    /// changes, and earlier room stays.
     ///
-    /// [`StoreFault::PageLimit`] where the pages of the names don't all find slots, and then nothing changed;
-    /// [`StoreFault::Memory`].
+    /// # Errors
+    ///
+    /// [`StoreFault::PageLimit`] if the pages of the names don't all find slots: nothing has changed. [`StoreFault::Memory`].
     pub fn room_to_learn(&mut self, names: &[Name]) -> Result<(), StoreFault>
         ensures kept { StoreStays self.old self.new }
         ensures before { StoreStays self.new self.old }
@@ -98,7 +100,7 @@ impl Store {
         Ok(())
     }
 
-    /// Whether the pages of the names all find slots: [`StoreFault::PageLimit`] where they don't. It takes no memory.
+    /// [`StoreFault::PageLimit`] unless the pages of the names all find slots. Takes no memory.
     fn find_slots(&self, names: &[Name]) -> Result<(), StoreFault>
         ensures slots { OnOk result (HasSlots (map page_of_name names.now) self.now) }
         ensures limit { (inserted : List ADrawop) (evidence : List FullName) (settled : List Settling) → StoreFits inserted evidence settled self.now
@@ -140,8 +142,8 @@ impl Store {
         self.table.make_places(name)
     }
 
-    /// Makes room for one insert and one evidence of each of the names, and one settling with all of them. The room for
-    /// answers is made beside that of the call before, which goes once all is there.
+    /// Makes room for one insert and one evidence of each of the names, and one settling with all of them. The room of the call before
+    /// goes only once all is there.
     fn make_room(&mut self, names: &[Name]) -> Result<(), AllocError>
         ensures kept { StoreStays self.old self.new }
         ensures before { StoreStays self.new self.old }
@@ -174,9 +176,11 @@ impl Store {
         rooms.make(name, name.number().saturating_sub(known) as usize)
     }
 
-    /// Holds a drawop, unless one of its name is held, and says what it found. What is known to exist doesn't change.
+    /// Holds a drawop, unless one of its name is held, and returns what it found. What is known to exist doesn't change.
     ///
-    /// [`StoreFault::PageLimit`] where its page would be the ninth; [`StoreFault::Memory`].
+    /// # Errors
+    ///
+    /// [`StoreFault::PageLimit`] if its page would be the ninth; [`StoreFault::Memory`]. Nothing has changed then.
     pub fn insert(&mut self, drawop: Drawop) -> Result<Insert, StoreFault>
         ensures fits { OnOk result ((inserted : List ADrawop) (evidence : List FullName) (settled : List Settling) → StoreFits inserted evidence settled self.old
             → StoreFits (inserted ++ drawop ∷ []) evidence settled self.new) }
@@ -196,10 +200,12 @@ impl Store {
         self.table.insert(drawop)
     }
 
-    /// A name is known to exist, and all lower numbers of its stream. Answers the names that are newly missing, in order.
-    /// What is held doesn't change. It takes a step for each number that is newly known.
+    /// Notes that a name exists, and all lower numbers of its stream, and returns the names that are newly missing, in order. What is
+    /// held doesn't change. Costs a step for each number that is newly known.
     ///
-    /// [`StoreFault::PageLimit`] where its page would be the ninth; [`StoreFault::Memory`].
+    /// # Errors
+    ///
+    /// [`StoreFault::PageLimit`] if its page would be the ninth; [`StoreFault::Memory`]. Nothing has changed then.
     pub fn evidence(&mut self, name: Name) -> Result<Vec<Name>, StoreFault>
         ensures fits { OnOk result ((inserted : List ADrawop) (evidence : List FullName) (settled : List Settling) → StoreFits inserted evidence settled self.old
             → StoreFits inserted (evidence ++ name ∷ []) settled self.new) }
@@ -225,10 +231,12 @@ impl Store {
         Ok(names)
     }
 
-    /// A name is known to exist, and all lower numbers of its stream: [`evidence`](Store::evidence) without its answer. It takes no memory, and
-    /// as many steps for any number.
+    /// Notes that a name exists, and all lower numbers of its stream, as [`evidence`](Store::evidence) does, and returns no names. Takes
+    /// no memory, and as many steps for any number.
     ///
-    /// [`StoreFault::PageLimit`] alone, where its page would be the ninth.
+    /// # Errors
+    ///
+    /// Only [`StoreFault::PageLimit`], if its page would be the ninth.
     pub fn learn(&mut self, name: Name) -> Result<(), StoreFault>
         ensures fits { OnOk result ((inserted : List ADrawop) (evidence : List FullName) (settled : List Settling) → StoreFits inserted evidence settled self.old
             → StoreFits inserted (evidence ++ name ∷ []) settled self.new) }
@@ -247,8 +255,8 @@ impl Store {
         Ok(())
     }
 
-    /// The missing names of a stream, in order: those that are known to exist and aren't held. It takes a step for each
-    /// number that is known. Only want of memory refuses it.
+    /// Returns the missing names of a stream, in order: those that are known to exist and aren't held. Costs a step for each number that
+    /// is known. Fails only if out of memory.
     pub fn missing(&self, stream: Stream) -> Result<Vec<Name>, StoreFault>
         ensures value { IfOk result (λ names. (inserted : List ADrawop) (evidence : List FullName) (settled : List Settling) → StoreFits inserted evidence settled self.now
             → names.items ≡ missing inserted evidence stream) }
@@ -269,7 +277,7 @@ impl Store {
             .holds(name.number())
     }
 
-    /// The drawop that is held under this name. Takes no memory.
+    /// Returns the drawop that is held under this name. Takes no memory.
     pub fn get(&self, name: Name) -> Option<&Drawop>
         ensures { (inserted : List ADrawop) (evidence : List FullName) (settled : List Settling) → StoreFits inserted evidence settled self.now
             → option_copied result ≡ held_at inserted name }
@@ -279,7 +287,7 @@ impl Store {
             .get(name.number())
     }
 
-    /// The greatest number of a stream that is known to exist, or 0. Takes no memory.
+    /// Returns the greatest number of a stream that is known to exist, or 0. Takes no memory.
     pub fn known(&self, stream: Stream) -> u32
         ensures value { (inserted : List ADrawop) (evidence : List FullName) (settled : List Settling) → StoreFits inserted evidence settled self.now
             → result ≡ known evidence stream }
@@ -288,8 +296,7 @@ impl Store {
         self.table.places_of_stream(stream).known()
     }
 
-    /// How many drawops of a stream may be released: those from number 1 to the one in front of the first gap. Takes no
-    /// memory.
+    /// Returns how many drawops of a stream may be released: those from number 1 up to the first gap. Takes no memory, and as many steps for any number.
     pub fn released(&self, stream: Stream) -> u32
         ensures value { (inserted : List ADrawop) (evidence : List FullName) (settled : List Settling) → StoreFits inserted evidence settled self.now
             → result ≡ length (released inserted stream) }
@@ -298,8 +305,9 @@ impl Store {
         self.table.places_of_stream(stream).released()
     }
 
-    /// A member left, and its streams go as far as these rows say, which are rows of that member. A second settling of a
-    /// member keeps the first. Only want of memory refuses it, and then what was ready before is still ready.
+    /// Notes that a member left, and that its streams go as far as these rows of its streams say. The first settling of a member counts.
+    ///
+    /// Fails only if out of memory; earlier room stays.
     pub fn settle_final(&mut self, member: Member, rows: &[Name]) -> Result<(), StoreFault>
         ensures fits { OnOk result ((inserted : List ADrawop) (evidence : List FullName) (settled : List Settling) → StoreFits inserted evidence settled self.old
             → StoreFits inserted evidence (settled ++ record { member = member; rows = rows.now } ∷ []) self.new) }
@@ -314,7 +322,7 @@ impl Store {
         Ok(())
     }
 
-    /// The last number of a stream, where its source was settled: 0 where it has no row. Takes no memory.
+    /// Returns the last number of a stream if its source was settled, 0 if it has no row. Takes no memory.
     pub fn final_of(&self, stream: Stream) -> Option<u32>
         ensures value { (inserted : List ADrawop) (evidence : List FullName) (settled : List Settling) → StoreFits inserted evidence settled self.now
             → result ≡ final settled stream }

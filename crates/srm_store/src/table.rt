@@ -15,12 +15,11 @@ use srm_names::{DRAWOPS, Drawop, MEMBERS, Member, Name, PAGES, Page, Stream};
 use std::alloc::{AllocError, Global};
 use std::marker::Model;
 
-/// Streams in the table: one for each source in each slot, and one more of each, which are never written and answer for
-/// pages that have no slot.
+/// Streams in the table: one for each source in each slot, and one more for each source, which stays blank and answers for pages
+/// without a slot.
 const STREAMS: usize = (PAGES as usize + 1) * MEMBERS as usize;
 
-/// The places of all streams, by page slot and source. Those of a stream are found by looking through the pages, of which there are at
-/// most [`PAGES`], and by its source.
+/// The places of all streams, by page slot and source. Finding a stream looks through at most [`PAGES`] pages.
 #[derive(Drop)]
 pub struct Table {
     /// The pages by slot, in the order in which they were named.
@@ -42,7 +41,7 @@ impl Model for Table {
 }
 
 impl Table {
-    /// A table with the first page, in which nothing is held or known.
+    /// Makes a table with the first page, where nothing is held or known.
     pub fn new(alloc: Global) -> Result<Table, AllocError>
         ensures { IfOk result IsNewTable }
     {
@@ -134,7 +133,7 @@ impl Table {
         self.pages.add(stream.page);
     }
 
-    /// Whether the pages of these names don't all have slots, or find some together. It takes no memory.
+    /// Whether too few slots are free for the pages of these names. Takes no memory.
     pub fn lacks_room_for(&self, names: &[Name]) -> bool
         ensures { result ≡ table_lacks_room_for self.now.pages names.now }
     {
