@@ -18,8 +18,10 @@ use srm_names::LATEST_MOMENT;
 use std::alloc::{AllocError, Global};
 use std::marker::Model;
 
-/// What a member may send at a moment, by its rate, and the items that wait. Moments are in microseconds, at most
-/// [`LATEST_MOMENT`]; one below the last of [`refill`](Bucket::refill) and [`pop`](Bucket::pop) counts as the last.
+/// A token bucket with three classes of waiting items.
+///
+/// Moments are microseconds, at most [`LATEST_MOMENT`]; one below the last of [`refill`](Bucket::refill) and [`pop`](Bucket::pop)
+/// counts as the last.
 #[derive(Debug, Drop)]
 pub struct Bucket<T> {
     tokens: Tokens,
@@ -37,8 +39,8 @@ impl<T> Model for Bucket<T> {
 }
 
 impl<T> Bucket<T> {
-    /// A bucket that is full at moment 0, and in which nothing waits. The rate is in bytes a second, 1 to 100,000,000;
-    /// the depth in bytes, 1,051 to 1,000,000. It takes no memory.
+    /// Makes a bucket that is full at moment 0, with nothing waiting. `rate` is in bytes a second, 1 to 100,000,000, `depth` in bytes,
+    /// 1,051 to 1,000,000. Takes no memory.
     pub fn new(alloc: Global, rate: u32, depth: u32) -> Bucket<T>
         requires least_rate { LEAST_RATE ≤ rate }
         requires greatest_rate { rate ≤ GREATEST_RATE }
@@ -52,8 +54,9 @@ impl<T> Bucket<T> {
         }
     }
 
-    /// Makes room for more items, of whatever classes: after an `Ok` so many calls of [`hand`](Bucket::hand) are not
-    /// refused. What waits stays. Only want of memory refuses it, and not where there is room already.
+    /// Makes room: afterwards so many calls of [`hand`](Bucket::hand) succeed, of whatever classes. What waits stays.
+    ///
+    /// Fails only if out of memory, and not if there is room already.
     pub fn room(&mut self, items: usize) -> Result<(), AllocError>
         ensures stays { BucketStays self.old self.new }
         ensures queues { SameQueues self.old.waiting self.new.waiting }
@@ -64,8 +67,9 @@ impl<T> Bucket<T> {
         self.queues.reserve(items)
     }
 
-    /// Hands in an item, of 1 to 1,051 bytes: it waits behind those of its class. Only want of memory refuses it; what
-    /// waits then stays, and the item is dropped.
+    /// Adds an item of 1 to 1,051 bytes behind those of its class.
+    ///
+    /// Fails only if out of memory: what waits stays, and the item is dropped.
     pub fn hand(&mut self, class: Class, item: Item<T>) -> Result<(), AllocError>
     where
         T: Drop,
@@ -81,7 +85,7 @@ impl<T> Bucket<T> {
         self.queues.push(class, item)
     }
 
-    /// A moment has come: the time since the last one brings tokens, up to the depth.
+    /// Adds the tokens of the time since the last moment, up to the depth.
     pub fn refill(&mut self, now: u64)
         requires { now ≤ LATEST_MOMENT }
         ensures adds { BucketAdds (Refilled now) self.old self.new }
@@ -90,8 +94,8 @@ impl<T> Bucket<T> {
         self.tokens.refill(now);
     }
 
-    /// What goes at a moment, after a refill: the first item of the highest class that waits, where there are tokens
-    /// for it, and else nothing, even if an item of a lower class would fit. What goes costs its length.
+    /// Refills, and returns the first item of the highest class that waits, if the tokens cover its length, which it costs. Otherwise
+    /// returns `None`, even if an item of a lower class would fit.
     pub fn pop(&mut self, now: u64) -> Option<Item<T>>
         requires { now ≤ LATEST_MOMENT }
         ensures pops { Pops now self.old result self.new }
@@ -108,7 +112,7 @@ impl<T> Bucket<T> {
         self.queues.pop()
     }
 
-    /// The first moment, from the last one on, at which the next item can go; `None` where nothing waits.
+    /// Returns the first moment, from the last one on, at which the next item can go; `None` if nothing waits.
     pub fn wait_until(&self) -> Option<u64>
         ensures { IsNextDeparture self.now result }
     {
@@ -116,9 +120,10 @@ impl<T> Bucket<T> {
         Some(self.tokens.first_moment(length))
     }
 
-    /// Whether one more item of a class and so many bytes would go at once, if it were handed in at this moment: nothing
-    /// goes before it, or there are tokens for all that does and for it. What goes before it is what waits of its class and of
-    /// higher ones. It takes no memory, and looks at no more items than there are tokens for.
+    /// Whether one more item of a class and so many bytes would go at once if it were handed in at `now`: nothing waits of its class
+    /// and higher ones, or the tokens cover all of these and the item.
+    ///
+    /// Takes no memory, and looks at no more items than there are tokens for.
     #[tactic(auto, using(crate::proofs::Admitting::admits_clear, crate::proofs::Admitting::admits_paid, crate::proofs::Admitting::admits_short))]
     pub fn admits(&self, class: Class, bytes: u32, now: u64) -> bool
         ensures { Admits class bytes now self.now result }
@@ -132,10 +137,10 @@ impl<T> Bucket<T> {
         }
     }
 
-    /// The first moment, from the last one on, at which [`admits`](Bucket::admits) answers true for an item of a class and so
-    /// many bytes, if nothing is handed in or goes before: from then on it does, and before it doesn't. It may be past 2^48.
-    /// `None` where the item and what goes before it are more than the depth, so that something has to go first. It takes no
-    /// memory, and looks at no more items than a full bucket has tokens for.
+    /// Returns the moment from which on [`admits`](Bucket::admits) returns true for an item of a class and so many bytes, if nothing is
+    /// handed in or goes meanwhile. It may be past 2^48. `None` if the item and what waits before it are more than the depth.
+    ///
+    /// Takes no memory, and looks at no more items than a full bucket has tokens for.
     #[tactic(auto, using(crate::proofs::Admitting::from_clear, crate::proofs::Admitting::from_never, crate::proofs::Admitting::from_too_much, crate::proofs::Admitting::from_first))]
     pub fn admits_from(&self, class: Class, bytes: u32) -> Option<u64>
         ensures { AdmitsFrom class bytes self.now result }
@@ -152,7 +157,7 @@ impl<T> Bucket<T> {
         Some(self.tokens.moment_of(full - (rest - price)))
     }
 
-    /// How many items of a class wait.
+    /// Returns how many items of a class wait.
     pub fn waiting(&self, class: Class) -> usize
         ensures value { (rate depth : ℕ) (calls : List (BucketCall T)) → BucketFits rate depth calls self.now → result ≡ length (queued calls class) }
         ensures counts { result ≡ length (queue self.now.waiting class) }

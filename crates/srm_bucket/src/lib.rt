@@ -1,11 +1,10 @@
 //! What a member may send, and in which order, under its rate: a token bucket with three classes.
 //!
-//! What waits goes first in, first out within its class, and nothing of a lower class goes while a higher one waits,
-//! even if it would fit. Tokens are kept in millionths of a byte: a rate of so many bytes a second gives as many of
-//! them in a microsecond.
+//! Each class is first in, first out. Nothing of a lower class goes while a higher one waits, even if it would fit. Tokens are counted
+//! in millionths of a byte: a rate in bytes a second gives as many of them each microsecond.
 //!
-//! Contracts speak of the calls so far: a bucket *fits* a list of calls where what it keeps is what the definitions in
-//! `specs/` say of that list, and where the bucket law holds of it. It keeps no history.
+//! Contracts speak of the calls so far: a bucket *fits* a list of calls if all that it keeps is what the definitions in `specs/` say of
+//! that list, and the bucket law holds of it. It keeps no history.
 //!
 //! ```
 //! let mut bucket = Bucket::new(alloc, 8_000, 4_204); // bytes a second, bytes
@@ -14,8 +13,8 @@
 //! let next = bucket.wait_until(); // when the next one may go
 //! ```
 //!
-//! The caller shows that rates, depths and lengths are in the ranges that [`Bucket::new`] and [`Bucket::hand`] name. **What is
-//! refused**: [`Bucket::hand`] and [`Bucket::room`], for want of memory alone.
+//! The caller shows that rates, depths and lengths are in the ranges that [`Bucket::new`] and [`Bucket::hand`] name. **Errors**:
+//! [`Bucket::hand`] and [`Bucket::room`] fail only if out of memory.
 #![tactic(auto)]
 
 mod bucket;
