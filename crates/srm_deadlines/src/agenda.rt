@@ -112,7 +112,7 @@ impl Agenda {
         self.pairs.sort_unstable();
     }
 
-    /// Puts the names whose moment has come into a list, in order of name, where each stands there at most once.
+    /// Puts the names whose deadlines have expired into a list, in order of name, each at most once.
     pub(crate) fn due(&self, now: u64, names: &mut Vec<Name>) -> Result<(), AllocError>
         requires once { (n : FullName) → length (of_name n self.now.pairs) ≤ 1 }
         ensures names { OnOk result (AreExactly (λ n. list_any (is_due now) (of_name n self.now.pairs)) names.new.items) }
@@ -126,8 +126,8 @@ impl Agenda {
     }
 }
 
-/// Puts the names into a list, in the order in which they stand, in place of what it holds. Only want of memory refuses it, where
-/// the list has too little room; what it holds is then open.
+/// Puts the names into a list in their order, in place of what it holds. Fails only if the list has too little room and no memory is
+/// left; what it holds is then open.
 pub fn put_names(names: &mut Vec<Name>, pairs: &[Timed]) -> Result<(), AllocError>
     ensures names { OnOk result (names.new.items ≡ names_of pairs.now) }
     ensures capacity { vec_capacity names.old ≤ vec_capacity names.new }

@@ -36,7 +36,7 @@ impl<V> Model for ByName<V> {
 }
 
 impl<V: Copy> ByName<V> {
-    /// No name has a place.
+    /// Makes a table without places. Takes no memory.
     pub fn new(alloc: Global) -> Self
         ensures { result ≡ [] }
     {
@@ -45,7 +45,7 @@ impl<V: Copy> ByName<V> {
         }
     }
 
-    /// How many names have a place. Each has one.
+    /// Returns how many names have a place.
     pub fn len(&self) -> usize
         ensures value { result ≡ length self.now }
         ensures once { IsDistinct same_name (place_names self.now) }
@@ -54,7 +54,7 @@ impl<V: Copy> ByName<V> {
         self.places.len()
     }
 
-    /// The place at an index below [`len`](ByName::len), in an order that any changing call may change.
+    /// Returns the place at an index below [`len`](ByName::len). Any changing call may change the order.
     pub fn place(&self, index: usize) -> NamedValue<V>
         requires { index < length self.now }
         ensures place { result ≡ slice_index_or self.now index result }
@@ -74,14 +74,14 @@ impl<V: Copy> ByName<V> {
         self.places.contains_key(&name)
     }
 
-    /// The value of a name.
+    /// Returns the value of a name.
     pub fn get(&self, name: Name) -> Option<V>
         ensures { result ≡ value_at self.now name }
     {
         *self.places.get(&name)?
     }
 
-    /// Makes a place for a name, unless it has one. No value changes. Only want of memory refuses it.
+    /// Makes a place for a name, unless it has one. No value changes. Fails only if out of memory.
     pub fn make_place(&mut self, name: Name) -> Result<(), AllocError>
         ensures kept { KeepsValues self.old self.new }
         ensures keeps_places { KeepsPlaces self.old self.new }
@@ -98,7 +98,7 @@ impl<V: Copy> ByName<V> {
         Ok(())
     }
 
-    /// Makes places for names. No value changes. Only want of memory refuses it, and then some of the names may have got one.
+    /// Makes places for names. No value changes. Fails only if out of memory; some of the names may have a place then.
     pub fn room(&mut self, names: &[Name]) -> Result<(), AllocError>
         ensures kept { KeepsValues self.old self.new }
         ensures keeps_places { KeepsPlaces self.old self.new }
@@ -124,7 +124,7 @@ impl<V: Copy> ByName<V> {
         let _ = self.places.insert(name, value);
     }
 
-    /// Sets the value of a name that has a place, or takes it away, and answers the index of its place.
+    /// Sets the value of a name that has a place, or takes it away, and returns the index of its place.
     pub fn put(&mut self, name: Name, value: Option<V>) -> usize
         requires { has_place self.old name ≡ true }
         ensures sets { Sets name value self.old self.new }
@@ -150,7 +150,7 @@ impl<V: Copy> ByName<V> {
         }
     }
 
-    /// Takes the values of names away, where they have one.
+    /// Takes the values of names away, of those that have one.
     #[tactic(auto, using(crate::proofs::Tables::clears_more, crate::proofs::Tables::holds_on, crate::proofs::Tables::given_on))]
     pub fn clear_all(&mut self, names: &[Name])
         ensures sets { ClearsAll names.now self.old self.new }

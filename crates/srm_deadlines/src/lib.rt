@@ -1,9 +1,8 @@
-//! Moments by name, and which of them have come.
+//! Deadlines by name, and which of them have expired.
 //!
-//! [`Deadlines`] is the contract: a moment for each name that has one, the names whose moments have come, in order, and the first
-//! moment. [`Tree`] keeps the least moments of blocks, so that to set, to clear and to find the next cost the logarithm of the
-//! names; [`Ordered`] keeps the moments in order, and [`Scanned`] looks through them all. All three stand on [`ByName`], which has
-//! values of any kind by name.
+//! [`Deadlines`] is the contract of three implementations. [`Tree`] keeps the first deadline of each block, so that setting, clearing
+//! and finding the next cost the logarithm of the names. [`Ordered`] keeps deadlines in order, and [`Scanned`] looks through them all:
+//! tests compare with them. All three stand on [`ByName`], which has values of any kind by name.
 //!
 //! ```
 //! let mut deadlines = Tree::new(alloc);
@@ -13,8 +12,8 @@
 //! deadlines.due(1_000_000, &mut come)?; // the name
 //! ```
 //!
-//! Moments are microseconds. **What is refused**: `room` for want of memory, and `due` where the list that it is lent has too
-//! little room and there is no memory for more. To set takes none: the caller shows that the name has a place.
+//! Deadlines are moments in microseconds. **Errors**: `room` fails only if out of memory, and so does `due` if the list that it is lent
+//! has too little room. Setting takes no memory: the caller shows that the name has a place.
 #![tactic(auto)]
 
 mod agenda;

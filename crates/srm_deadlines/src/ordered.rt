@@ -15,10 +15,10 @@ use std::marker::Model;
 /// So many moments are set one by one rather than sorted in.
 const FEW: usize = 16;
 
-/// Moments by name, kept twice: by name, each found by a hash, and in order of moment and then of name.
+/// Deadlines kept twice: by name, each found by a hash, and in order of moment and then of name.
 ///
-/// The least moment is the first of the order, and what is due is its front. A moment is put in and taken out where a
-/// binary search finds its place; many are put in at the end and sorted in.
+/// The first deadline is the first of the order, and what has expired is its front. A binary search finds where one is put in or taken
+/// out; many are put in at the end and sorted.
 #[derive(Drop)]
 pub struct Ordered {
     agenda: Agenda,
@@ -38,7 +38,7 @@ impl Model for Ordered {
 }
 
 impl Ordered {
-    /// No name has a place.
+    /// Makes deadlines without places. Takes no memory.
     pub fn new(alloc: Global) -> Self
         ensures { result ≡ [] }
     {

@@ -15,7 +15,7 @@ use srm_names::{Name, has_come};
 use std::alloc::{AllocError, Global};
 use std::marker::Model;
 
-/// Moments by name, all looked through for what is due and for the least: the slow answer to compare with.
+/// Deadlines by name that are all looked through: a slow implementation to compare with.
 #[derive(Drop)]
 pub struct Scanned {
     moments: ByName<u64>,
@@ -31,7 +31,7 @@ impl Model for Scanned {
 }
 
 impl Scanned {
-    /// No name has a place.
+    /// Makes deadlines without places. Takes no memory.
     pub fn new(alloc: Global) -> Self
         ensures { result ≡ [] }
     {
@@ -40,7 +40,7 @@ impl Scanned {
         }
     }
 
-    /// Puts the names whose moment has come into a list, in order of name, in place of what it holds.
+    /// Puts the names whose deadlines have expired into a list, in order of name, in place of what it holds.
     fn look_through(&self, now: u64, names: &mut Vec<Name>) -> Result<(), AllocError>
         ensures names { OnOk result (AreExactly (λ n. has_come now (value_at self.now n)) names.new.items) }
         ensures capacity { vec_capacity names.old ≤ vec_capacity names.new }
@@ -98,7 +98,7 @@ impl Deadlines for Scanned {
     }
 }
 
-/// The lesser of two moments, where there are two.
+/// Returns the lesser of two moments, or the one that there is.
 pub fn lesser(a: Option<u64>, b: Option<u64>) -> Option<u64>
     ensures { result ≡ lesser a b }
 {
