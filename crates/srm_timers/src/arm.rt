@@ -5,14 +5,14 @@ use srm_names::Name;
 /// What a timer is for.
 #[derive(Clone, Copy, Debug, PartialEq, Eq)]
 pub enum ArmKind {
-    /// To ask for a drawop that is missing.
+    /// To request a drawop that is missing.
     Ask,
-    /// To repair what a request asks for.
+    /// To repair a drawop that a request named.
     Fix,
 }
 
 impl ArmKind {
-    /// Its word in what `srm world` prints.
+    /// Returns its word in what `srm world` prints.
     pub fn printed(self) -> &'static str {
         match self {
             ArmKind::Ask => "ask",
@@ -29,9 +29,9 @@ pub struct Arm {
     pub name: Name,
     /// How often the wait was doubled: 0 to 8, and 0 for a repair.
     pub exponent: u8,
-    /// The distance by which the wait is chosen, in microseconds.
+    /// The distance that bounds the wait, in microseconds.
     pub distance: u64,
-    /// Microseconds from when the timer was set until it runs out.
+    /// Microseconds from when the timer was set until it expires.
     pub wait: u64,
 }
 

@@ -1,4 +1,4 @@
-//! When a member asks for what it misses.
+//! Request timers: when a member asks for what it misses.
 
 ghost use Rattle.std.specs.Prelude.{◌≡◌, ℕ, ◌≤◌, List, [], ◌∷◌, true, map, length, option_map, option_to_list, vec_capacity, IfOk, OnOk, OnErr, IsOk, IfSome};
 ghost use Rattle.srm_names.specs.FullName.{FullName};
@@ -24,10 +24,10 @@ use std::alloc::{AllocError, Global};
 use std::marker::Model;
 use std::mem;
 
-/// The request timers that run: one for each name that is missing.
+/// The request timers of a member: one for each missing name.
 ///
-/// A call that is refused for memory has changed nothing and used no word. Moments are microseconds, at most
-/// 2^48, and distances microseconds, at most 10,000,000.
+/// Moments are microseconds, at most 2^48, and distances microseconds, at most 10,000,000. After an error nothing has changed, and no
+/// random number was consumed.
 #[derive(Drop)]
 pub struct Asks<D: Deadlines> {
     alloc: Global,
@@ -55,7 +55,8 @@ impl<D: Deadlines> Model for Asks<D> {
 }
 
 impl<D: Deadlines> Asks<D> {
-    /// No timers. The first wait for a name lies between `c1` and `c1 + c2` distances to its source.
+    /// Makes request timers. None runs. The first wait for a name lies between `c1` and `c1 + c2` distances to its source. Takes no
+    /// memory.
     pub fn new(alloc: Global, deadlines: D, c1: u8, c2: u8) -> Self
         requires empty { D.places deadlines ≡ [] }
         requires c1 { c1 ≤ GREATEST_TIMER_SETTING }
@@ -74,9 +75,10 @@ impl<D: Deadlines> Asks<D> {
         }
     }
 
-    /// Makes room, so that one `detect` of these names and one `due` at which no other names are due, in either order, aren't
-    /// refused, nor needs `set_all` memory for them. No timer changes. Only want of memory refuses it, and then the room
-    /// that the calls before made is still there.
+    /// Makes room: afterwards one `detect` of these names and one `due` with no other names due succeed in either order, and `set_all`
+    /// takes no memory for them. No timer changes.
+    ///
+    /// Fails only if out of memory; earlier room stays.
     pub fn room(&mut self, names: &[Name]) -> Result<(), AllocError>
         ensures kept { AskStays self.old self.new }
         ensures expiries { KeepsValues self.old.expiries.places self.new.expiries.places }
@@ -122,9 +124,10 @@ impl<D: Deadlines> Asks<D> {
         Ok(mem::replace(&mut self.detect_list, Vec::new(self.alloc)))
     }
 
-    /// Names were found missing, which rise: their timers are set. The exponent is 1 for a name among `asked`, those for
-    /// which a request was heard, and else 0. Only want of memory refuses it, and then for all of the names. The room that
-    /// was made for `due` stays.
+    /// Sets timers for names, which rise, that were found missing, and returns them in order of name. The exponent is 1 for a name among
+    /// `asked`, where a request was heard, else 0. Consumes one random number for each.
+    ///
+    /// Fails only if out of memory, and then sets none. Room for `due` stays.
     #[tactic(auto, using(crate::proofs::AskSteps::sets_after, crate::proofs::AskSteps::found_rise, crate::proofs::Fitting::as_many))]
     pub fn detect<W: Words>(
         &mut self,
@@ -182,8 +185,8 @@ impl<D: Deadlines> Asks<D> {
         arms
     }
 
-    /// A request for a name was heard: its timer is set again, one exponent higher, unless none runs, or its exponent isn't 0 and
-    /// the request comes before its ignore moment. Takes no memory.
+    /// Notes a request for a name that another sent: sets its timer again, one exponent higher, and returns it. Returns `None` if no
+    /// timer runs, or if its exponent isn't 0 and the request comes before its ignore moment. Takes no memory.
     pub fn heard_request<W: Words>(
         &mut self,
         name: Name,
@@ -207,7 +210,7 @@ impl<D: Deadlines> Asks<D> {
         Some(arm)
     }
 
-    /// A name was gained: its timer is gone. Takes no memory.
+    /// Notes that a name was gained: its timer is gone. Takes no memory.
     #[tactic(auto, using(crate::proofs::AskSteps::gained_adds))]
     pub fn gained(&mut self, name: Name)
         ensures fits { AskAdds (Gained name ∷ []) self.old self.new }
@@ -217,11 +220,11 @@ impl<D: Deadlines> Asks<D> {
         self.timers.clear(name);
     }
 
-    /// The names whose timers have run out, in order of name: those that `due` would set again.
+    /// Returns the names whose timers have expired, in order of name: those that `due` would set again. They come in the list that is
+    /// passed in, in place of what it holds.
     ///
-    /// They are answered in the list that is handed in, in place of what it holds. Only want of memory refuses it,
-    /// where that list has too little room for them: no [`room`](Asks::room) is needed, since a caller that makes room
-    /// for what is due asks here which names these are.
+    /// Fails only if that list has too little room and no memory is left. It needs no [`room`](Asks::room): a caller that makes room for
+    /// what is due asks here which names these are.
     #[tactic(auto, using(crate::proofs::AskSteps::due_is, crate::proofs::AskSteps::timers_run))]
     pub fn pending(&self, now: u64, names: Vec<Name>) -> Result<Vec<Name>, AllocError>
         ensures due { IfOk result (λ names. AskDue now self.now names.items) }
@@ -235,8 +238,10 @@ impl<D: Deadlines> Asks<D> {
         Ok(names)
     }
 
-    /// The timers that have run out are set again, each one exponent higher; their names are the ones to ask for now.
-    /// Only want of memory refuses it. The room that was made for `detect` stays.
+    /// Sets the timers that have expired again, each one exponent higher, and returns them: their names are the ones to request now.
+    /// Consumes one random number for each.
+    ///
+    /// Fails only if out of memory. Room for `detect` stays.
     #[tactic(auto, using(crate::proofs::AskSteps::asked_again, crate::proofs::AskSteps::stays_between, crate::proofs::AskSteps::adds_between))]
     pub fn due<W: Words>(
         &mut self,
@@ -265,7 +270,7 @@ impl<D: Deadlines> Asks<D> {
         Ok(arms?)
     }
 
-    /// The names whose timers have run out, in order of name, in the list that is kept for them.
+    /// The names whose timers have expired, in order of name, in the list that is kept for them.
     #[tactic(auto, using(crate::proofs::AskSteps::due_is, crate::proofs::AskSteps::timers_run, crate::proofs::Fitting::due_no_more))]
     fn take_due(&mut self, now: u64) -> Result<Vec<Name>, AllocError>
         ensures same { self.new ≡ record self.old { names_room = self.new.names_room } }
@@ -281,8 +286,8 @@ impl<D: Deadlines> Asks<D> {
         Ok(mem::replace(&mut self.names, Vec::new(self.alloc)))
     }
 
-    /// The timers of these names, which rise and have timers, are set again, each one exponent higher: what `due` does with the
-    /// names that [`pending`](Asks::pending) answers, where these are at hand. Only want of memory refuses it.
+    /// Sets the timers of these names, which rise and have timers, again, each one exponent higher: what `due` does with the names that
+    /// [`pending`](Asks::pending) returns, for a caller that has these. Fails only if out of memory.
     #[tactic(auto, using(crate::proofs::AskSteps::sets_then, crate::proofs::AskSteps::again_rise, crate::proofs::AskSteps::stays_kept, crate::proofs::AskSteps::keeps_self, crate::proofs::Fitting::as_many))]
     pub fn set_again<W: Words>(
         &mut self,
@@ -342,7 +347,7 @@ impl<D: Deadlines> Asks<D> {
         arms
     }
 
-    /// The least moment at which a timer runs out. Takes no memory.
+    /// Returns the first moment at which a timer expires; `None` if none runs. Takes no memory.
     #[tactic(auto, using(crate::proofs::AskSteps::next_is))]
     pub fn next(&self) -> Option<u64>
         ensures { AskNext self.now result }
@@ -350,7 +355,7 @@ impl<D: Deadlines> Asks<D> {
         self.expiries.next()
     }
 
-    /// The exponent with which a request for a name, heard now, arms it again: `None` where it is ignored, or no timer
+    /// Returns the exponent that a request for a name, heard now, sets its timer again with; `None` if it changes nothing, or no timer
     /// runs. Takes no memory.
     #[tactic(auto, using(crate::proofs::AskSteps::backs_off_is))]
     pub fn exponent_when_heard(&self, name: Name, now: u64) -> Option<u8>
@@ -361,7 +366,7 @@ impl<D: Deadlines> Asks<D> {
         backed_off(self.timers.get(name), now)
     }
 
-    /// The exponent with which a name is armed again whose timer ran out: `None` where no timer runs. Takes no memory.
+    /// Returns the exponent that an expired timer of a name is set again with; `None` if no timer runs. Takes no memory.
     #[tactic(auto, using(crate::proofs::AskSteps::runs_is))]
     pub fn exponent_when_due(&self, name: Name) -> Option<u8>
         ensures so_far { AskExponentWhenDue name self.now result }
@@ -371,7 +376,7 @@ impl<D: Deadlines> Asks<D> {
         exponent_after(self.timers.get(name))
     }
 
-    /// Chooses the wait of an arm, by one word. No timer is set.
+    /// Chooses the wait of a timer with one random number. Sets no timer.
     pub fn arm<W: Words>(&self, name: Name, exponent: u8, distance: u64, words: &mut W) -> Arm
         requires exponent { exponent ≤ GREATEST_EXPONENT }
         requires distance { distance ≤ LONGEST_DISTANCE }
@@ -390,7 +395,7 @@ impl<D: Deadlines> Asks<D> {
         }
     }
 
-    /// One timer runs from now on.
+    /// Sets one timer. The caller has made room. Takes no memory.
     #[tactic(auto, using(crate::proofs::AskSteps::set_adds))]
     fn set(&mut self, now: u64, arm: &Arm)
         requires timers { has_place self.old.timers arm.now.name ≡ true }
@@ -404,7 +409,7 @@ impl<D: Deadlines> Asks<D> {
         self.timers.set(arm.name, Some(arm_at(now, *arm)));
     }
 
-    /// These timers run from now on: arms of requests, whose names rise, with room for them. Takes no memory.
+    /// Sets these timers of requests, whose names rise and have room. Takes no memory.
     #[tactic(auto, using(crate::proofs::AskSteps::sets_adds))]
     pub fn set_all(&mut self, now: u64, arms: &[Arm])
         requires rising { ascending name_below (arm_names arms.now) ≡ true }

@@ -118,7 +118,7 @@ impl<D: Deadlines> Expiries<D> {
         self.deadlines.clear_all(names);
     }
 
-    /// Puts the names whose moment has come into a list, in order of name, in place of what it holds.
+    /// Puts the names whose deadlines have expired into a list, in order of name, in place of what it holds.
     pub fn due(&self, now: u64, names: &mut Vec<Name>) -> Result<(), AllocError>
         ensures names { OnOk result (AreExactly (λ n. has_come now (value_at self.now.places n)) names.new.items) }
         ensures capacity { vec_capacity names.old ≤ vec_capacity names.new }

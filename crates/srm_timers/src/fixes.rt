@@ -1,4 +1,4 @@
-//! When a member repairs what others ask for.
+//! Repair timers: when a member repairs what others request.
 
 ghost use Rattle.std.specs.Prelude.{◌≡◌, ◌≤◌, ◌+◌, List, [], ◌∷◌, true, not, ◌&&◌, option_to_list, vec_capacity, IfOk, OnOk, OnErr, IsOk, IfSome};
 ghost use Rattle.srm_names.specs.FullName.{FullName};
@@ -23,10 +23,10 @@ use std::alloc::{AllocError, Global};
 use std::marker::Model;
 use std::mem;
 
-/// The repair timers that run, who asked first for each name, and until when names are held off.
+/// The repair timers of a member, the first asker of each name, and until when names are held off.
 ///
-/// A call that is refused for memory has changed nothing and used no word. Moments are microseconds, at most
-/// 2^48, and distances microseconds, at most 10,000,000.
+/// Moments are microseconds, at most 2^48, and distances microseconds, at most 10,000,000. After an error nothing has changed, and no
+/// random number was consumed.
 #[derive(Drop)]
 pub struct Fixes<D: Deadlines> {
     alloc: Global,
@@ -50,7 +50,7 @@ impl<D: Deadlines> Model for Fixes<D> {
 }
 
 impl<D: Deadlines> Fixes<D> {
-    /// No timers. A wait lies between `d1` and `d1 + d2` distances to the member that asks.
+    /// Makes repair timers. None runs. A wait lies between `d1` and `d1 + d2` distances to the member that asks. Takes no memory.
     pub fn new(alloc: Global, deadlines: D, d1: u8, d2: u8) -> Self
         requires empty { D.places deadlines ≡ [] }
         requires d1 { d1 ≤ GREATEST_TIMER_SETTING }
@@ -67,8 +67,8 @@ impl<D: Deadlines> Fixes<D> {
         }
     }
 
-    /// Makes room, so that no call on one of these names is refused, nor needs `set_all` memory for them, nor is one `due`
-    /// refused at which no other names are due. Nothing else changes. Only want of memory refuses it.
+    /// Makes room: afterwards every call on one of these names succeeds, and one `due` with no other names due, and `set_all` takes no
+    /// memory for them. Nothing else changes. Fails only if out of memory.
     pub fn room(&mut self, names: &[Name]) -> Result<(), AllocError>
         ensures kept { FixStays self.old self.new }
         ensures expiries { KeepsValues self.old.expiries.places self.new.expiries.places }
@@ -81,7 +81,7 @@ impl<D: Deadlines> Fixes<D> {
         Ok(())
     }
 
-    /// Makes room, so that no call on this name alone is refused. Nothing else changes. Only want of memory refuses it.
+    /// Makes room: afterwards every call on this name alone succeeds. Nothing else changes. Fails only if out of memory.
     #[tactic(auto, using(crate::proofs::FixSteps::one_place, crate::proofs::FixSteps::one_placed))]
     pub fn make_place(&mut self, name: Name) -> Result<(), AllocError>
         ensures kept { FixStays self.old self.new }
@@ -94,7 +94,7 @@ impl<D: Deadlines> Fixes<D> {
         self.make_places(&[name])
     }
 
-    /// Makes room, so that no call on one of these names alone is refused. Nothing else changes. Only want of memory refuses it.
+    /// Makes room: afterwards every call on one of these names alone succeeds. Nothing else changes. Fails only if out of memory.
     #[tactic(auto, using(crate::proofs::FixSteps::fix_stays, crate::proofs::AskSteps::keeps_self))]
     pub fn make_places(&mut self, names: &[Name]) -> Result<(), AllocError>
         ensures kept { FixStays self.old self.new }
@@ -109,8 +109,10 @@ impl<D: Deadlines> Fixes<D> {
         self.marks.room(names)
     }
 
-    /// A request for a name was heard. The first member that asks for a name is noted, whether the name is held or not.
-    /// A timer is set where the name is held, no timer of it runs and it isn't held off. Only want of memory refuses it.
+    /// Notes a request for a name. The first member that asks counts as its first asker, whether the name is held or not. Sets a timer
+    /// and returns it if the name is held, none of its timers runs and it isn't held off.
+    ///
+    /// Fails only if out of memory.
     #[tactic(auto, using(crate::proofs::FixSteps::adds_after, crate::proofs::FixSteps::answers_after))]
     pub fn heard_request<W: Words>(
         &mut self,
@@ -136,7 +138,7 @@ impl<D: Deadlines> Fixes<D> {
         Ok(self.note_request(name, from, held, dist, now, words))
     }
 
-    /// The same for a name that has room. Takes no memory.
+    /// Does the same for a name that has room. Takes no memory.
     #[tactic(auto, using(crate::proofs::FixSteps::asks_then_sets, crate::proofs::FixSteps::answers_with, crate::proofs::FixSteps::answers_not))]
     pub fn note_request<W: Words>(
         &mut self,
@@ -167,8 +169,8 @@ impl<D: Deadlines> Fixes<D> {
         }
     }
 
-    /// A repair of a name was heard: its timer is gone, and it is held off for three distances to the member that asked
-    /// for it first, else to its source, unless a repair before holds it off for longer. Only want of memory refuses it.
+    /// Notes a repair by another: cancels the name's timer, and holds the name off for three distances to its first asker, or to its
+    /// source if nobody asked, unless it is held off for longer. Fails only if out of memory.
     #[tactic(auto, using(crate::proofs::FixSteps::repairs_after))]
     pub fn heard_repair(&mut self, name: Name, dist: &[u64], now: u64) -> Result<(), AllocError>
         requires distances { AreDistances dist.now }
@@ -183,11 +185,11 @@ impl<D: Deadlines> Fixes<D> {
         Ok(())
     }
 
-    /// The names whose timers have run out, in order of name: those that `due` would hand out.
+    /// Returns the names whose timers have expired, in order of name: those that `due` would return. They come in the list that is
+    /// passed in, in place of what it holds.
     ///
-    /// They are answered in the list that is handed in, in place of what it holds. Only want of memory refuses it,
-    /// where that list has too little room for them: no [`room`](Fixes::room) is needed, since a caller that makes room
-    /// for what is due asks here which names these are.
+    /// Fails only if that list has too little room and no memory is left. It needs no [`room`](Fixes::room): a caller that makes room for
+    /// what is due asks here which names these are.
     #[tactic(auto, using(crate::proofs::FixSteps::fix_due_is))]
     pub fn pending(&self, now: u64, names: Vec<Name>) -> Result<Vec<Name>, AllocError>
         ensures due { IfOk result (λ names. FixDue now self.now names.items) }
@@ -200,8 +202,8 @@ impl<D: Deadlines> Fixes<D> {
         Ok(names)
     }
 
-    /// The names whose timers have run out, in order of name, to be repaired now: their timers are gone, and they are
-    /// held off as where a repair of them was heard. Only want of memory refuses it.
+    /// Returns the names whose timers have expired, in order of name, to be repaired now. Their timers are gone, and they are held off as
+    /// if a repair had been heard. Fails only if out of memory.
     #[tactic(auto, using(crate::proofs::FixSteps::fix_due_is, crate::proofs::FixSteps::fix_stays, crate::proofs::AskSteps::keeps_self))]
     pub fn due(&mut self, now: u64, dist: &[u64]) -> Result<Vec<Name>, AllocError>
         requires distances { AreDistances dist.now }
@@ -220,7 +222,7 @@ impl<D: Deadlines> Fixes<D> {
         Ok(names)
     }
 
-    /// Makes room to hold these names off. Nothing else changes. Only want of memory refuses it.
+    /// Makes room to hold these names off. Nothing else changes. Fails only if out of memory.
     #[tactic(auto, using(crate::proofs::FixSteps::fix_stays, crate::proofs::AskSteps::keeps_self))]
     pub fn room_to_hold_off(&mut self, names: &[Name]) -> Result<(), AllocError>
         ensures kept { FixStays self.old self.new }
@@ -230,8 +232,8 @@ impl<D: Deadlines> Fixes<D> {
         self.marks.room(names)
     }
 
-    /// Names, which rise, are repaired now: what `due` does with the names that [`pending`](Fixes::pending) answers, where these are
-    /// at hand and have [room](Fixes::room_to_hold_off). Takes no memory.
+    /// Notes that names, which rise, are repaired now: what `due` does with the names that [`pending`](Fixes::pending) returns, for a
+    /// caller that has these and made [room](Fixes::room_to_hold_off). Takes no memory.
     #[tactic(auto, using(crate::proofs::FixSteps::repairs_all))]
     pub fn repair_all(&mut self, names: &[Name], dist: &[u64], now: u64)
         requires rising { ascending name_below names.now ≡ true }
@@ -245,7 +247,7 @@ impl<D: Deadlines> Fixes<D> {
         self.marks.hold_all_off(names, dist, now);
     }
 
-    /// A repair of a name that has room was heard, as in [`heard_repair`](Fixes::heard_repair). Takes no memory.
+    /// Does what [`heard_repair`](Fixes::heard_repair) does, for a name that has room. Takes no memory.
     pub fn note_repair(&mut self, name: Name, dist: &[u64], now: u64)
         requires place { FixPlace self.old name }
         requires distances { AreDistances dist.now }
@@ -256,7 +258,7 @@ impl<D: Deadlines> Fixes<D> {
         self.repair_all(&[name], dist, now);
     }
 
-    /// The least moment at which a timer runs out. Takes no memory.
+    /// Returns the first moment at which a timer expires; `None` if none runs. Takes no memory.
     #[tactic(auto, using(crate::proofs::FixSteps::fix_next_is))]
     pub fn next(&self) -> Option<u64>
         ensures { FixNext self.now result }
@@ -264,8 +266,7 @@ impl<D: Deadlines> Fixes<D> {
         self.expiries.next()
     }
 
-    /// Whether a request for a name that is held, heard now, sets its timer: none runs, and the name isn't held off.
-    /// Takes no memory.
+    /// Whether a request for a held name, heard now, sets its timer: none runs, and the name isn't held off. Takes no memory.
     #[tactic(auto, using(crate::proofs::FixSteps::is_free_is))]
     pub fn is_free(&self, name: Name, now: u64) -> bool
         ensures { FixIsFree name now self.now result }
@@ -275,7 +276,7 @@ impl<D: Deadlines> Fixes<D> {
         neither(runs, off)
     }
 
-    /// Who asked for a name first, else its source. Takes no memory.
+    /// Returns the first asker of a name, or its source if nobody asked. Takes no memory.
     #[tactic(auto, using(crate::proofs::FixSteps::first_is))]
     pub fn first_asker(&self, name: Name) -> Member
         ensures { FixFirstAsker name self.now result }
@@ -295,7 +296,7 @@ impl<D: Deadlines> Fixes<D> {
         self.marks.note(name, from);
     }
 
-    /// Chooses the wait of an arm, by one word. No timer is set.
+    /// Chooses the wait of a timer with one random number. Sets no timer.
     pub fn arm<W: Words>(&self, name: Name, distance: u64, words: &mut W) -> Arm
         requires { distance ≤ LONGEST_DISTANCE }
         ensures plan { plan_of result ≡ fix_plan name distance }
@@ -313,7 +314,7 @@ impl<D: Deadlines> Fixes<D> {
         }
     }
 
-    /// One timer runs from now on.
+    /// Sets one timer. The caller has made room. Takes no memory.
     #[tactic(auto, using(crate::proofs::FixSteps::set_adds_fix))]
     fn set(&mut self, now: u64, arm: &Arm)
         requires place { FixPlace self.old arm.now.name }
@@ -325,7 +326,7 @@ impl<D: Deadlines> Fixes<D> {
         self.expiries.set(arm.name, now + arm.wait);
     }
 
-    /// These timers run from now on: arms of repairs, whose names rise, with room for them. Takes no memory.
+    /// Sets these timers of repairs, whose names rise and have room. Takes no memory.
     #[tactic(auto, using(crate::proofs::FixSteps::sets_adds_fix))]
     pub fn set_all(&mut self, now: u64, arms: &[Arm])
         requires rising { ascending name_below (arm_names arms.now) ≡ true }
@@ -339,8 +340,8 @@ impl<D: Deadlines> Fixes<D> {
         self.expiries.set_all(now, arms);
     }
 
-    /// A repair of a name was heard or is handed out: its timer is gone, and it is held off for three of these
-    /// distances, unless a repair before holds it off for longer. Takes no memory.
+    /// Notes that a name was repaired, by this member or another: cancels its timer, and holds it off for three of these distances,
+    /// unless it is held off for longer. Takes no memory.
     #[tactic(auto, using(crate::proofs::FixSteps::repaired_adds))]
     pub fn repaired(&mut self, name: Name, distance: u64, now: u64)
         requires place { FixPlace self.old name }

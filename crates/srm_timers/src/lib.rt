@@ -1,20 +1,19 @@
-//! When a member asks for what it misses, and when it repairs what others ask for: request and repair timers, suppressed by what
-//! is heard.
+//! Request timers ([`Asks`]) and repair timers ([`Fixes`]), suppressed by what is heard.
 //!
-//! Contracts speak of the calls so far: timers *fit* a list of calls, each with the arms that it made, where all that
-//! they keep is what the definitions in `specs/` say of this list. They keep no history.
+//! Contracts speak of the calls so far: timers *fit* a list of calls, each with the timers that it set, if all that they keep is what
+//! the definitions in `specs/` say of this list. They keep no history.
 //!
 //! ```
 //! let mut asks = Asks::new(alloc, Tree::new(alloc), 2, 2);
 //! let arms = asks.detect(&missing, &[], &distances, now, &mut words)?; // each name waits for 2 to 4 distances
 //! let again = asks.heard_request(name, &distances, now, &mut words); // another asked: this member needn't
 //! asks.gained(name);
-//! let names = asks.pending(later, Vec::new(alloc))?; // what has run out, to be asked for
+//! let names = asks.pending(later, Vec::new(alloc))?; // what has expired, to be requested
 //! ```
 //!
-//! [`Fixes`] does so with repairs. All times are microseconds; words are 64 bits each, one for each timer that is
-//! set. **What is refused**: want of memory alone, `AllocError`, before any word is used; after `room` for its names a
-//! call isn't.
+//! [`Fixes`] does so with repairs. All times are microseconds. Each timer that is set consumes one random number of 64 bits
+//! ([`Words`]). **Errors**: calls fail only if out of memory, with `AllocError`, before any random number is consumed; after `room` for
+//! its names a call succeeds.
 #![tactic(auto)]
 
 mod arm;

@@ -1,11 +1,11 @@
-//! Words of a list.
+//! Random numbers from a list.
 
 ghost use Rattle.std.specs.Prelude.{◌≡◌};
 
 use crate::words::Words;
 use std::marker::Model;
 
-/// The words of a list, and then 0 for ever. Contracts see the words that are left.
+/// The numbers of a list, and then 0 for ever: for scripts and tests. Contracts see the numbers that are left.
 #[derive(Debug, Drop)]
 pub struct Listed {
     words: Vec<u64>,

@@ -46,7 +46,7 @@ impl Marks {
         }
     }
 
-    /// Makes room for marks of these names. Nothing else changes. Only want of memory refuses it.
+    /// Makes room for marks of these names. Nothing else changes. Fails only if out of memory.
     #[tactic(auto, using(crate::proofs::Marking::keeps_askers, crate::proofs::Marking::keeps_holds, crate::proofs::Marking::marks_hold, crate::proofs::Marking::have_marks, crate::proofs::Marking::had_places))]
     pub fn room(&mut self, names: &[Name]) -> Result<(), AllocError>
         ensures askers { KeepsValues self.old.askers self.new.askers }

@@ -1,4 +1,4 @@
-//! Words of a generator.
+//! A generator of random numbers.
 
 ghost use Rattle.std.specs.Prelude.{◌≡◌};
 ghost use Rattle.srm_timers.specs.Seeds.{words_of};
@@ -9,8 +9,7 @@ use rand_core::utils::NextWord;
 use rand_pcg::Lcg128Xsl64;
 use std::marker::Model;
 
-/// The words of a generator that a number starts: of PCG XSL RR 128/64, in its order. Contracts see the generator's
-/// state and increment.
+/// The generator PCG XSL RR 128/64. Contracts see its state and increment.
 #[derive(Debug, Drop)]
 pub struct Pcg {
     generator: Lcg128Xsl64,
@@ -25,7 +24,7 @@ impl Model for Pcg {
 }
 
 impl Pcg {
-    /// The generator that `seed_from_u64` makes of the number.
+    /// Makes the generator that `seed_from_u64` makes of the seed. Takes no memory.
     #[tactic(auto, unfolding(crate::specs::Seeds::words_of))]
     pub fn new(seed: u64) -> Pcg
         ensures { result ≡ words_of seed }

@@ -1,4 +1,4 @@
-//! Waits of arms.
+//! Waits of timers.
 
 ghost use Rattle.std.specs.Prelude.{◌≡◌, ◌≤◌, ◌+◌, ◌-◌, ◌*◌, ◌%◌, ◌^◌};
 
@@ -6,7 +6,7 @@ use crate::limits::{GREATEST_EXPONENT, GREATEST_TIMER_SETTING, LONGEST_WAIT};
 use crate::words::{Words, wait_between};
 use srm_names::LONGEST_DISTANCE;
 
-/// Chooses a wait by one word: from `first` to `first + second` distances, doubled as often as the exponent says.
+/// Chooses a wait with one random number: from `first` to `first + second` distances, doubled as often as the exponent says.
 pub(crate) fn choose_wait<W: Words>(
     first: u8,
     second: u8,

@@ -1,18 +1,18 @@
-//! Words by which waits are chosen.
+//! The random numbers that choose waits.
 
 ghost use Rattle.std.specs.Prelude.{◌≡◌, ℕ, ◌+◌, ◌-◌, ◌%◌, ◌≤◌, ◌<◌, ◌^◌};
 
-/// Words, of which there is no end.
+/// A source of random numbers of 64 bits that never ends.
 pub trait Words {
     // the word that comes next, and the source after it
     ghost next_word: { Self → ℕ × Self };
 
-    /// Takes the next word.
+    /// Returns the next random number.
     fn word(&mut self) -> u64
         ensures { (result, self.new) ≡ next_word self.old };
 }
 
-/// A wait between two bounds, both in microseconds and both included, by one word.
+/// Returns a wait from `low` to `high` microseconds, both included: `low`, plus the next random number modulo the length of the range.
 pub fn wait_between<W: Words>(low: u64, high: u64, words: &mut W) -> u64
     requires rises { low ≤ high }
     requires small { high < 2 ^ 63 }
