@@ -1,11 +1,11 @@
-//! Why a datagram was not taken.
+//! Why a datagram was ignored.
 
 ghost use Rattle.std.specs.Prelude.{◌≡◌};
 ghost use Rattle.srm_entries.specs.Causes.{cause_number};
 
 use srm_codec::DecodeFault;
 
-/// Why a datagram was not taken.
+/// Why a datagram was ignored.
 #[derive(Clone, Copy, Debug, PartialEq, Eq)]
 pub enum Cause {
     /// Its sender is this member.
@@ -14,7 +14,7 @@ pub enum Cause {
     Gone,
     /// It brings a drawop under a name that is held with another stamp or body.
     Conflict,
-    /// It names pages for which the table has no slots left.
+    /// It names pages that find no slot.
     PageLimit,
     /// It names a number above the last of a source that left, or of this member's own above what it drew; or it is a
     /// farewell that says less than is known.
@@ -29,7 +29,7 @@ pub enum Cause {
 pub const CAUSES: usize = 7;
 
 impl Cause {
-    /// The number that stands for it where causes are printed or counted, from 1.
+    /// Returns its number, 1 to 7, for printing and counting.
     pub fn number(&self) -> u8
         ensures { result ≡ cause_number self.now }
     {
@@ -48,8 +48,8 @@ impl Cause {
 /// What became of a datagram.
 #[derive(Clone, Copy, Debug, PartialEq, Eq)]
 pub enum Outcome {
-    /// What it says counts.
+    /// It was accepted: what it says counts.
     Taken,
-    /// It wasn't taken: nothing but the last moment changed.
+    /// It was ignored: nothing but the last moment changed.
     Ignored(Cause),
 }

@@ -40,12 +40,12 @@ impl Model for Config {
 }
 
 impl Config {
-    /// The settings of member `me` in a roster of the members below `members`, 1 to 32: the session's number, the rate of
-    /// what it sends in bytes a second, 1 to 100,000,000, the depth of its bucket in bytes, 1,051 to 1,000,000, and the
-    /// four timer settings, 0 to 16 each. A request waits from `c1` to `c1 + c2` distances, a repair from `d1` to
-    /// `d1 + d2`. No floor stands under distances: [`Config::with`] takes one.
+    /// Makes the settings of member `me` in a roster of `members`, 1 to 32, numbered from 0. `session` is the session's number, `rate`
+    /// what it may send in bytes a second, 1 to 100,000,000, `depth` that of its bucket in bytes, 1,051 to 1,000,000. A request waits
+    /// from `c1` to `c1 + c2` distances, a repair from `d1` to `d1 + d2`, each setting 0 to 16. [`Config::with`] takes a floor under
+    /// distances too.
     ///
-    /// None where one of them is out of its range, or `me` isn't in the roster.
+    /// Returns `None` if a setting is out of its range, or `me` isn't in the roster.
     pub fn new(
         me: Member,
         members: u8,
@@ -72,10 +72,10 @@ impl Config {
         Config::with(me, members, session, settings)
     }
 
-    /// The settings of member `me` in a roster of the members below `members`, 1 to 32, in the session with this number, and for
-    /// all else these by name. With [`Settings::default`] this is what most members need.
+    /// Makes the settings of member `me` in a roster of `members`, 1 to 32, numbered from 0, in the session with this number. Most
+    /// members take [`Settings::default`] for the rest.
     ///
-    /// None where a setting is out of its range, or `me` isn't in the roster.
+    /// Returns `None` if a setting is out of its range, or `me` isn't in the roster.
     pub fn with(me: Member, members: u8, session: u32, settings: Settings) -> Option<Config>
         ensures known { IsSome result ↔ IsConfig (config_with me members session settings) }
         ensures value { IfSome result (λ config. config ≡ config_with me members session settings) }
@@ -98,14 +98,14 @@ impl Config {
         }
     }
 
-    /// The member that these settings are for.
+    /// Returns the member that these settings are for.
     pub fn me(&self) -> Member
         ensures { result ≡ self.now.me }
     {
         self.me
     }
 
-    /// How many members the roster has.
+    /// Returns how many members the roster has, 1 to 32.
     pub fn members(&self) -> u8
         ensures value { result ≡ self.now.members }
         ensures limit { result ≤ MEMBERS }
@@ -113,14 +113,14 @@ impl Config {
         self.members
     }
 
-    /// The number of the session.
+    /// Returns the number of the session.
     pub fn session(&self) -> u32
         ensures { result ≡ self.now.session }
     {
         self.session
     }
 
-    /// Bytes a second.
+    /// Returns the rate in bytes a second.
     pub fn rate(&self) -> u32
         ensures value { result ≡ self.now.rate }
         ensures least { LEAST_RATE ≤ result }
@@ -129,7 +129,7 @@ impl Config {
         self.rate
     }
 
-    /// Bytes of the bucket.
+    /// Returns the depth of the bucket in bytes.
     pub fn depth(&self) -> u32
         ensures value { result ≡ self.now.depth }
         ensures least { LEAST_DEPTH ≤ result }
@@ -138,7 +138,7 @@ impl Config {
         self.depth
     }
 
-    /// A request waits at least so many distances.
+    /// Returns how many distances a request waits at least.
     pub fn c1(&self) -> u8
         ensures value { result ≡ self.now.c1 }
         ensures range { result ≤ GREATEST_TIMER_SETTING }
@@ -146,7 +146,7 @@ impl Config {
         self.c1
     }
 
-    /// And so many more at most.
+    /// Returns how many distances more a request waits at most.
     pub fn c2(&self) -> u8
         ensures value { result ≡ self.now.c2 }
         ensures range { result ≤ GREATEST_TIMER_SETTING }
@@ -154,7 +154,7 @@ impl Config {
         self.c2
     }
 
-    /// A repair waits at least so many distances.
+    /// Returns how many distances a repair waits at least.
     pub fn d1(&self) -> u8
         ensures value { result ≡ self.now.d1 }
         ensures range { result ≤ GREATEST_TIMER_SETTING }
@@ -162,7 +162,7 @@ impl Config {
         self.d1
     }
 
-    /// And so many more at most.
+    /// Returns how many distances more a repair waits at most.
     pub fn d2(&self) -> u8
         ensures value { result ≡ self.now.d2 }
         ensures range { result ≤ GREATEST_TIMER_SETTING }
@@ -170,7 +170,7 @@ impl Config {
         self.d2
     }
 
-    /// A distance to another member counts as at least so many microseconds: from 1, which is no floor, to 10,000,000.
+    /// Returns the floor under distances to others in microseconds, 1 to 10,000,000.
     pub fn least_distance(&self) -> u64
         ensures value { result ≡ self.now.least_distance }
         ensures shortest { SHORTEST_DISTANCE ≤ result }

@@ -1,4 +1,4 @@
-//! What one call of an agent was given, and what it did.
+//! Entries: what one call of an agent was given, and what it did.
 
 ghost use Rattle.std.specs.Prelude.{◌≡◌};
 ghost use Rattle.std.specs.Option.{option_copied};
@@ -22,14 +22,14 @@ pub enum Input {
     Drew(Page, Bytes),
     /// A datagram came. The verdict says whether it was accepted.
     Heard(Datagram),
-    /// Bytes came that spell no datagram of the session, or any to a member that is gone.
+    /// Bytes came that spell no datagram of the session, or that came to a member that is gone.
     Noise,
     Ticked,
     Showed(Page),
     AskedLeave,
-    /// The next message of a slot, 0 to 7, was asked for.
+    /// The caller asked for the next message of a page slot, 0 to 7.
     Gave(u8),
-    /// The page worker of a slot, 0 to 7, took what comes next of what it was given.
+    /// The page worker of a slot, 0 to 7, took its next message.
     Took(u8),
 }
 
@@ -37,7 +37,7 @@ pub enum Input {
 #[derive(Clone, Copy, Debug, PartialEq, Eq)]
 pub enum Verdict {
     Done,
-    /// What came wasn't accepted. Nothing but the last moment changed.
+    /// The datagram was ignored. Nothing but the last moment changed.
     Ignored(Cause),
     /// Nothing changed, the last moment too.
     Refused(AgentFault),
@@ -49,9 +49,9 @@ pub struct Effects {
     pub drawn: Option<Drawop>,
     /// The timers that were set, in order of name.
     pub arms: Items<Arm>,
-    /// The names whose requests were handed out, in order.
+    /// The names that were requested, in order.
     pub asks: Items<Name>,
-    /// The names whose repairs were handed out, in order.
+    /// The names that were repaired, in order.
     pub fixes: Items<Name>,
     /// What was sent, in this order.
     pub outs: Items<Datagram>,
@@ -62,7 +62,7 @@ pub struct Effects {
 }
 
 impl Effects {
-    /// Whether the farewell was sent and the member is gone. One that is gone sends nothing more.
+    /// Whether the member sent its farewell by this. A gone member sends nothing more.
     pub fn becomes_gone(&self) -> bool
         ensures { result ≡ becomes_gone self.now }
     {
@@ -74,7 +74,7 @@ impl Effects {
 #[derive(Debug, Drop)]
 pub struct Entry {
     pub member: Member,
-    /// The moment that counted, in microseconds. Of a give or a take it is the last one.
+    /// The moment that counted, in microseconds; for a give or a take the last one.
     pub moment: u64,
     pub input: Input,
     pub verdict: Verdict,
@@ -82,7 +82,7 @@ pub struct Entry {
 }
 
 impl Entry {
-    /// An entry without effects, but perhaps a message. It takes no memory.
+    /// Makes an entry without effects, but perhaps with a message. Takes no memory.
     pub fn without_effects(
         alloc: Global,
         member: Member,
@@ -111,7 +111,7 @@ impl Entry {
         }
     }
 
-    /// The datagram that was heard and accepted.
+    /// Returns the datagram, if one was heard and accepted.
     pub fn accepted(&self) -> Option<&Datagram>
         ensures { option_copied result ≡ accepted self.now }
     {

@@ -6,7 +6,7 @@ ghost use Rattle.srm_entries.specs.declared.fault.AgentFault.TheVariants.{Memory
 use std::alloc::AllocError;
 use thiserror::Error;
 
-/// Why an agent refuses a call. What it holds is then as before.
+/// Why an agent refuses a call. Nothing has changed then.
 #[derive(Clone, Copy, Debug, PartialEq, Eq, Error)]
 pub enum AgentFault {
     /// The member is leaving.
@@ -15,16 +15,16 @@ pub enum AgentFault {
     /// The member has left.
     #[error("the member has left")]
     Gone = 2,
-    /// The page isn't in the table, and the table has no slot left.
+    /// The page has no slot, and none is free.
     #[error("the table has no slot for another page")]
     PageLimit = 3,
-    /// The stream has as many drawops as it may.
+    /// The stream has 65,536 drawops.
     #[error("the stream is full")]
     StreamFull = 4,
-    /// The body has too many bytes.
+    /// The body has more than 1,024 bytes.
     #[error("the body is too long")]
     BodyLong = 5,
-    /// Memory ran out.
+    /// Out of memory. It comes after every other cause.
     #[error("out of memory")]
     Memory = 6,
 }

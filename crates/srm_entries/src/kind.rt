@@ -15,7 +15,7 @@ pub enum DatagramKind {
 }
 
 impl DatagramKind {
-    /// The kind of a datagram.
+    /// Returns the kind of a datagram.
     pub fn of(datagram: &Datagram) -> DatagramKind
         ensures { result ≡ kind_of datagram.now }
     {
@@ -27,7 +27,7 @@ impl DatagramKind {
         }
     }
 
-    /// Its word in what `srm world` prints.
+    /// Returns its word in what `srm world` prints.
     pub fn printed(self) -> &'static str {
         match self {
             DatagramKind::Data => "data",

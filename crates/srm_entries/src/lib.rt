@@ -1,8 +1,7 @@
-//! What one member's calls leave behind, and which entry may follow.
+//! The rules of the protocol, as definitions over entries, and the laws that follow from them.
 //!
-//! An *entry* says who, when, what was asked and what was done. The rules of the protocol are said of lists of entries, in
-//! `specs/`: what is held, known and missing after them, which timers run, what may be sent, and so which entry a member may
-//! make next. The laws here hold of every such list.
+//! An *entry* says who called when, with what, and what it did. `specs/` defines what is held, known and missing after a list of
+//! entries, which timers run, what may be sent, and so which entry a member may make next. The laws hold of every such list.
 //!
 //! [`Config`] and [`Settings`] are what a member is made with:
 //!
@@ -11,7 +10,7 @@
 //! let faster = Config::with(me, members, session, Settings { rate: 100_000, ..Settings::default() })?;
 //! ```
 //!
-//! **What is refused.** A setting out of its range, or a member that isn't in the roster: then there is no [`Config`].
+//! **Errors.** There is no [`Config`] for a setting out of its range, or a member that isn't in the roster.
 #![tactic(auto)]
 
 mod cause;

@@ -11,8 +11,8 @@ pub const DEFAULT_DEPTH: u32 = 4 * GREATEST_LENGTH;
 /// Microseconds of a second.
 pub const SECOND: u64 = 1_000_000;
 
-/// Microseconds from the making of a member to its first session message, and from each to the next, at least.
+/// The least time from the making of a member to its first session message, and from each to the next, in microseconds.
 pub const SHORTEST_INTERVAL: u64 = 1_000_000;
 
-/// The session messages of all members together take one part in so many of the rate.
+/// The session messages of all members together take one part of the rate in this many.
 pub const SESSION_SHARE: u64 = 20;

@@ -19,11 +19,11 @@ pub struct Settings {
     pub depth: u32,
     /// A request waits at least so many distances, 0 to 16; by default 2.
     pub c1: u8,
-    /// And so many more at most, 0 to 16; by default 2.
+    /// How many distances more a request waits at most, 0 to 16; by default 2.
     pub c2: u8,
     /// A repair waits at least so many distances, 0 to 16; by default 1.
     pub d1: u8,
-    /// And so many more at most, 0 to 16; by default 1.
+    /// How many distances more a repair waits at most, 0 to 16; by default 1.
     pub d2: u8,
     /// A distance to another member counts as at least so many microseconds, 1 to 10,000,000; by default 1, which is no floor.
     ///

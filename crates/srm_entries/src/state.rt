@@ -15,7 +15,7 @@ pub enum AgentState {
 }
 
 impl AgentState {
-    /// Whether the member has left, by its farewell. One that is only about to leave isn't gone.
+    /// Whether the member has sent its farewell. One that is leaving isn't gone.
     pub fn is_gone(self) -> bool
         ensures { result ≡ is_gone self }
     {
