@@ -52,7 +52,7 @@ impl<X: Wire + Drop> Model for Guard<X> {
 }
 
 impl<X: Wire + Drop> Guard<X> {
-    /// A guard over a wire. Only want of memory refuses it.
+    /// A guard over a wire. Fails only if out of memory.
     pub fn new(
         wire: X,
         alloc: Global,

@@ -20,7 +20,7 @@ pub struct Known {
 }
 
 impl Known {
-    /// Nothing is known, and nothing missing. Only want of memory refuses it.
+    /// Nothing is known, and nothing missing. Fails only if out of memory.
     pub fn new(alloc: Global) -> Result<Known, AllocError> {
         let slots = usize::from(PAGES);
         Ok(Known {
